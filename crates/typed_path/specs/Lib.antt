@@ -1,0 +1,14 @@
+pub mod Dialect
+pub mod Part
+pub mod Prefix
+pub mod Comps
+pub mod Left
+pub mod Same
+pub mod Names
+pub mod Queries
+pub mod Push
+pub mod Places
+pub mod Convert
+pub mod Run
+pub mod Lines
+pub mod Promises

@@ -1,0 +1,60 @@
+-- What the program answers to its input.
+use Rattle.std.specs.Prelude.{ℕ, List, [], ◌∷◌, ◌++◌, Bool, true, false, ◌&&◌, ◌==◌, if◌then◌else◌, codes, length, bytes_eq}
+use Rattle.std.specs.List.{slice_split, flat_map, join_with_byte}
+use Rattle.typed_path.specs.Dialect.{Dialect, unix, windows}
+use Rattle.typed_path.specs.Places.{normal_text}
+
+abbrev pub tab : ℕ
+tab = 9
+
+abbrev pub line_feed : ℕ
+line_feed = 10
+
+-- the pieces of an input behind each of which a line feed stands
+abbrev pub ended : List (List ℕ) → List (List ℕ)
+ended [] = []
+ended (piece ∷ []) = []
+ended (piece ∷ next ∷ pieces) = piece ∷ ended (next ∷ pieces)
+
+-- all pieces but an empty last one
+abbrev pub all_lines : List (List ℕ) → List (List ℕ)
+all_lines [] = []
+all_lines (piece ∷ []) = if length piece == 0 then [] else piece ∷ []
+all_lines (piece ∷ next ∷ pieces) = piece ∷ all_lines (next ∷ pieces)
+
+abbrev pub pieces_of : List ℕ → List (List ℕ)
+pieces_of input = slice_split (λ b. b == line_feed) input
+
+-- the lines of an input that was read to its end
+abbrev pub lines_of : List ℕ → List (List ℕ)
+lines_of input = all_lines (pieces_of input)
+
+-- the complete lines of an input of which more may come
+abbrev pub complete_lines : List ℕ → List (List ℕ)
+complete_lines input = ended (pieces_of input)
+
+abbrev pub fields_of : List ℕ → List (List ℕ)
+fields_of line = slice_split (λ b. b == tab) line
+
+abbrev pub ok_reply : List (List ℕ) → List (List ℕ)
+ok_reply fields = codes "ok" ∷ fields
+
+abbrev pub bad_line : List (List ℕ)
+bad_line = codes "err" ∷ codes "BadLine" ∷ []
+
+-- the fields of the reply to the fields of a line
+abbrev pub reply_fields : List (List ℕ) → List (List ℕ)
+reply_fields (command ∷ dialect ∷ path ∷ []) =
+    if (bytes_eq command (codes "normalize") && bytes_eq dialect (codes "unix")) then ok_reply (normal_text unix path ∷ []) else bad_line
+reply_fields fields = bad_line
+
+-- the reply to a line, with its line feed
+abbrev pub reply : List ℕ → List ℕ
+reply line = join_with_byte tab (reply_fields (fields_of line)) ++ line_feed ∷ []
+
+abbrev pub replies_to : List (List ℕ) → List ℕ
+replies_to lines = flat_map reply lines
+
+-- the replies to a whole input
+abbrev pub answers : List ℕ → List ℕ
+answers input = replies_to (lines_of input)

@@ -1,0 +1,72 @@
+-- What a list of operations makes of a path.
+use Rattle.std.specs.Prelude.{ℕ, ◌+◌, List, [], ◌∷◌, ◌++◌, Bool, true, false, ◌==◌, length, take, map, is_some, unwrap_or, if◌then◌else◌, Option, Some, None}
+use Rattle.typed_path.specs.declared.errors.CheckedPathError.{CheckedPathError}
+use Rattle.typed_path.specs.Dialect.{Dialect, dot}
+use Rattle.typed_path.specs.Part.{Placed}
+use Rattle.typed_path.specs.Comps.{comps}
+use Rattle.typed_path.specs.Left.{last_of}
+use Rattle.typed_path.specs.Names.{stem_of}
+use Rattle.typed_path.specs.Queries.{parent_of, file_name_of}
+use Rattle.typed_path.specs.Push.{push, push_all, fault}
+
+pub data Operation : Type 0 where
+  push_op : List ℕ → Operation
+  push_checked_op : List ℕ → Operation
+  pop_op : Operation
+  set_file_name_op : List ℕ → Operation
+  set_extension_op : List ℕ → Operation
+  clear_op : Operation
+  extend_op : List (List ℕ) → Operation
+
+pub data Response : Type 0 where
+  done : Response
+  flag : Bool → Response
+  refused : CheckedPathError → Response
+
+-- cut to the parent, where there is one
+abbrev pub popped : Dialect → List ℕ → List ℕ
+popped d t = unwrap_or (parent_of d t) t
+
+-- the last component renamed, or a name pushed where none is last
+abbrev pub with_file_name : Dialect → List ℕ → List ℕ → List ℕ
+with_file_name d t name = push d (if is_some (file_name_of d t) then popped d t else t) name
+
+-- an extension and the dot before it; none where it is empty
+abbrev pub dotted : List ℕ → List ℕ
+dotted [] = []
+dotted (b ∷ bs) = dot ∷ b ∷ bs
+
+abbrev pub start_of_last : Option Placed → ℕ
+start_of_last None = 0
+start_of_last (Some c) = c.start
+
+abbrev pub cut_behind_stem : Dialect → List ℕ → Option (List ℕ) → List ℕ → List ℕ
+cut_behind_stem d t None ext = t
+cut_behind_stem d t (Some name) ext = take (start_of_last (last_of (comps d t)) + length (stem_of name)) t ++ dotted ext
+
+-- cut behind the stem, then the new extension; without a file name nothing changes
+abbrev pub with_extension : Dialect → List ℕ → List ℕ → List ℕ
+with_extension d t ext = cut_behind_stem d t (file_name_of d t) ext
+
+abbrev pub unless_refused : List ℕ → Option CheckedPathError → List ℕ → List ℕ × Response
+unless_refused t None u = (u, done)
+unless_refused t (Some f) u = (t, refused f)
+
+-- the text after an operation, and the reply to it
+abbrev pub step : Dialect → List ℕ → Operation → List ℕ × Response
+step d t (push_op p) = (push d t p, done)
+step d t (push_checked_op p) = unless_refused t (fault d p) (push d t p)
+step d t pop_op = (popped d t, flag (is_some (parent_of d t)))
+step d t (set_file_name_op name) = (with_file_name d t name, done)
+step d t (set_extension_op ext) = (with_extension d t ext, flag (is_some (file_name_of d t)))
+step d t clear_op = ([], done)
+step d t (extend_op paths) = (push_all d t paths, done)
+
+-- the text after a list of operations, and the replies
+abbrev pub text_after : Dialect → List ℕ → List Operation → List ℕ
+text_after d t [] = t
+text_after d t (op ∷ ops) = text_after d (step d t op).0 ops
+
+abbrev pub replies : Dialect → List ℕ → List Operation → List Response
+replies d t [] = []
+replies d t (op ∷ ops) = (step d t op).1 ∷ replies d (step d t op).0 ops

@@ -1,0 +1,5 @@
+//! Windows paths.
+
+mod prefix;
+
+pub use prefix::WindowsPrefix;
