@@ -1,1 +1,1 @@
-mod Try
+mod BodyLemmas

@@ -12,3 +12,6 @@ pub mod Convert
 pub mod Run
 pub mod Lines
 pub mod Promises
+pub mod Views
+pub mod Steps
+pub mod CursorViews

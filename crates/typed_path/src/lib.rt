@@ -1,6 +1,7 @@
 //! The paths of Unix and of Windows on every machine.
 #![tactic(auto)]
 
+pub mod constants;
 mod errors;
 mod scan;
 mod windows;

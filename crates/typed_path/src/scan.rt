@@ -1,7 +1,12 @@
 //! Reading a text component by component.
 
-mod separators;
+mod begin;
+mod cursor;
 mod piece;
+mod separators;
+mod step;
 
+pub use begin::Begin;
+pub use cursor::Cursor;
 pub use piece::{Piece, PieceKind};
 pub use separators::Separators;

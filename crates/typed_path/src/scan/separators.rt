@@ -1,5 +1,9 @@
 //! Which bytes separate the components of a text.
 
+ghost use Rattle.std.specs.Prelude.{◌≡◌, ◌≤◌, length};
+ghost use Rattle.std.specs.List.{position_or_len};
+ghost use Rattle.typed_path.specs.Dialect.{is_separator, is_verbatim, root_text};
+
 /// The separators of one text, and with them the way in which it is read.
 #[derive(Clone, Copy, Debug, PartialEq, Eq)]
 pub enum Separators {
@@ -9,4 +13,50 @@ pub enum Separators {
     Backslash,
     /// `/` and `\`: every other Windows text.
     Either,
+}
+
+impl Separators {
+    /// Whether the byte separates components.
+    #[inline]
+    pub fn contains(self, byte: u8) -> bool
+        ensures { result ≡ is_separator self byte }
+    {
+        match self {
+            Separators::Slash => byte == b'/',
+            Separators::Backslash => byte == b'\\',
+            Separators::Either => byte == b'/' || byte == b'\\',
+        }
+    }
+
+    /// Whether a later `.` is a component.
+    #[inline]
+    pub fn is_verbatim(self) -> bool
+        ensures { result ≡ is_verbatim self }
+    {
+        matches!(self, Separators::Backslash)
+    }
+
+    /// How the root is written.
+    #[inline]
+    pub fn root_text(self) -> &'static [u8]
+        ensures { result.now ≡ root_text self }
+    {
+        match self {
+            Separators::Slash => b"/",
+            Separators::Backslash | Separators::Either => b"\\",
+        }
+    }
+
+    /// The place of the first separator, or the length where there is none.
+    pub fn first_in(self, bytes: &[u8]) -> usize
+        ensures within { result ≤ length bytes.now }
+        ensures first { result ≡ position_or_len (is_separator self) bytes.now }
+    {
+        for (at, byte) in bytes.iter().enumerate() {
+            if self.contains(*byte) {
+                return at;
+            }
+        }
+        bytes.len()
+    }
 }

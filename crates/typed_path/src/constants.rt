@@ -1,0 +1,3 @@
+//! The constants of both encodings.
+
+pub mod unix;

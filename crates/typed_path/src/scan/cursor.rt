@@ -1,0 +1,68 @@
+//! The place of a reading from both ends.
+
+ghost use Rattle.std.specs.Prelude.{◌≡◌, ◌≤◌, true, slice_range, length};
+ghost use Rattle.typed_path.specs.Steps.{is_clean};
+
+use crate::scan::begin::Begin;
+use crate::scan::piece::Piece;
+use crate::scan::separators::Separators;
+use crate::scan::step::front_step;
+
+/// The place of a reading of a text: where the components that are left begin and end.
+#[derive(Clone, Copy, Debug)]
+pub struct Cursor<'a> {
+    text: &'a [u8],
+    from: usize,
+    to: usize,
+    begin: Begin,
+    separators: Separators,
+    ghost ordered: { from ≤ to },
+    ghost in_range: { to ≤ length text.now },
+    ghost starts_clean: { is_clean begin separators (slice_range text.now from to) ≡ true },
+}
+
+impl<'a> Cursor<'a> {
+    ghost use Rattle.std.specs.Prelude.{◌≡◌, drop, option_map};
+    ghost use Rattle.typed_path.specs.Comps.{body};
+    ghost use Rattle.typed_path.specs.Left.{slice_after_front};
+    ghost use Rattle.typed_path.specs.Steps.{first_part};
+    ghost use Rattle.typed_path.specs.Views.{part_of};
+    ghost use Rattle.typed_path.specs.CursorViews.{slice_left, items_left};
+
+    /// A reading of a whole text that has no prefix.
+    pub fn new(text: &'a [u8], separators: Separators) -> Cursor<'a>
+        ensures slice { slice_left result ≡ text.now }
+        ensures items { items_left result ≡ body separators 0 text.now }
+    {
+        Cursor {
+            text,
+            from: 0,
+            to: text.len(),
+            begin: Begin::Body,
+            separators,
+        }
+    }
+
+    /// The slice left: from the first component that is left to the last.
+    pub fn as_bytes(&self) -> &'a [u8]
+        ensures { result.now ≡ slice_left self.now }
+    {
+        &self.text[self.from..self.to]
+    }
+
+    /// Takes the first component that is left.
+    pub fn front(&mut self) -> Option<Piece<'a>>
+        ensures taken { option_map part_of result ≡ first_part (items_left self.old) }
+        ensures items { items_left self.new ≡ drop 1 (items_left self.old) }
+        ensures slice { slice_left self.new ≡ slice_after_front (items_left self.old) (slice_left self.old) }
+    {
+        let left = self.as_bytes();
+        if left.is_empty() {
+            return None;
+        }
+        let (piece, taken) = front_step(left, self.separators);
+        self.from += taken;
+        self.begin = Begin::Inside;
+        Some(piece)
+    }
+}

@@ -1,0 +1,70 @@
+//! One component at a time, off a plain slice.
+
+ghost use Rattle.std.specs.Prelude.{◌≡◌, ◌≤◌, ◌<◌, ◌+◌, ◌++◌, ℕ, true, drop, length, IfSome, IfNone};
+ghost use Rattle.typed_path.specs.Comps.{component, first, later_body};
+ghost use Rattle.typed_path.specs.Steps.{body_from, is_clean};
+ghost use Rattle.typed_path.specs.Views.{part_of};
+ghost use Rattle.typed_path.specs.declared.scan.begin.Begin.{Begin};
+
+use crate::scan::piece::{Piece, PieceKind};
+use crate::scan::separators::Separators;
+
+/// How many bytes at the front of what stands behind a component hold none: a separator, or a `.`
+/// with the separator behind it.
+fn blank(text: &[u8], separators: Separators) -> Option<usize>
+    ensures within { IfSome result (λ n. (0 < n) × (n ≤ length text.now)) }
+    ensures skipped { IfSome result (λ n. (at : ℕ) → later_body separators at text.now ≡ later_body separators (at + n) (drop n text.now)) }
+    ensures clean { IfNone result (is_clean Begin.Inside separators text.now ≡ true) }
+{
+    let (first, rest) = text.split_first()?;
+    if separators.contains(*first) {
+        return Some(1);
+    }
+    if *first != b'.' || separators.is_verbatim() {
+        return None;
+    }
+    match rest.first() {
+        None => Some(1),
+        Some(second) if separators.contains(*second) => Some(2),
+        Some(_) => None,
+    }
+}
+
+/// How many bytes stand before the next component, or all where there is none.
+fn skip_blanks(text: &[u8], separators: Separators) -> usize
+    ensures within { result ≤ length text.now }
+    ensures same { (at : ℕ) → later_body separators at text.now ≡ later_body separators (at + result) (drop result text.now) }
+    ensures clean { is_clean Begin.Inside separators (drop result text.now) ≡ true }
+{
+    let mut start = 0;
+    while let Some(skipped) = blank(&text[start..], separators) {
+        start += skipped;
+    }
+    start
+}
+
+/// The component that a segment is, where it is one.
+fn piece_of(segment: &[u8], separators: Separators) -> Piece<'_>
+    ensures { (at : ℕ) → first separators (record { text = segment.now; start = at }) ≡ component (part_of result) at }
+{
+    let (kind, text) = match segment {
+        [] => (PieceKind::RootDir, separators.root_text()),
+        [b'.'] => (PieceKind::CurDir, segment),
+        [b'.', b'.'] => (PieceKind::ParentDir, segment),
+        name => (PieceKind::Normal, name),
+    };
+    Piece { kind, text }
+}
+
+/// The first component of a text that is not empty, and how many bytes stand before the next one.
+pub fn front_step(text: &[u8], separators: Separators) -> (Piece<'_>, usize)
+    requires { 0 < length text.now }
+    ensures within { result.1 ≤ length text.now }
+    ensures first { (begin : Begin) (at : ℕ) → is_clean begin separators text.now ≡ true
+        → body_from begin separators at text.now ≡ component (part_of result.0) at ++ later_body separators (at + result.1) (drop result.1 text.now) }
+    ensures clean { is_clean Begin.Inside separators (drop result.1 text.now) ≡ true }
+{
+    let end = separators.first_in(text);
+    let behind = skip_blanks(&text[end..], separators);
+    (piece_of(&text[..end], separators), end + behind)
+}
