@@ -1,5 +1,5 @@
 -- A body, taken apart at its first separator.
-use Rattle.std.proofs.Common.{◌≡◌, ℕ, ◌+◌, ◌-◌, ◌<◌, ◌≤◌, List, [], ◌∷◌, ◌++◌, Bool, true, false, not, ◌&&◌, ◌||◌, cond, eqb, length, take, drop, get_or, slice_range, refl, sym, ap, ◌∙◌, add-zero, arith, All, ◌⊎◌, inl, inr}
+use Rattle.std.proofs.Common.{◌≡◌, ℕ, ◌+◌, ◌-◌, ◌<◌, ◌≤◌, List, [], ◌∷◌, ◌++◌, Bool, true, false, not, ◌&&◌, ◌||◌, cond, eqb, length, take, drop, get_or, slice_range, refl, sym, ap, ◌∙◌, add-zero, arith, All, inl, inr}
 use Rattle.std.specs.List.{slice_split, flat_map, before_first, after_first, position_or_len}
 use Rattle.std.proofs.lemmas.List.{drop-drop, drop-take, drop_more, drop_all, take_all, length-take-le, length-take, length-drop}
 use Rattle.std.proofs.lemmas.List.Splits.{slice_split-cons_yes, slice_split_none, slice_split_first}
@@ -84,7 +84,7 @@ later_by_tests true dotted verbatim named root current h = cc
 -- the first component, and then those behind it, of a text that begins with one
 pub body_from-first : (begin : Begin) (s : Separators) (at b : ℕ) (bs : List ℕ) → is_clean begin s (b ∷ bs) ≡ true
     → body_from begin s at (b ∷ bs) ≡ first s (record { text = before_first (is_separator s) (b ∷ bs); start = at })
-      ++ later_body s (at + position_or_len (is_separator s) (b ∷ bs)) (drop (position_or_len (is_separator s) (b ∷ bs)) (b ∷ bs))
+    ++ later_body s (at + position_or_len (is_separator s) (b ∷ bs)) (drop (position_or_len (is_separator s) (b ∷ bs)) (b ∷ bs))
 body_from-first Body s at b bs h = body_of-first s at (b ∷ bs)
 body_from-first Inside s at b bs h =
     let name = before_first (is_separator s) (b ∷ bs) in
@@ -98,7 +98,7 @@ first_is_component s g = by_tests (eqb (length g.text) 0) (is_dot g.text) (is_do
   where
     by_tests : (empty dotted twice : Bool) → (p : Part)
         × (cond empty (component (root_part (root_text s)) g.start) (cond dotted (component current_part g.start) (cond twice (component parent_part g.start) (component (name_part g.text) g.start)))
-           ≡ component p g.start)
+        ≡ component p g.start)
     by_tests true dotted twice = (root_part (root_text s), refl)
     by_tests false true twice = (current_part, refl)
     by_tests false false true = (parent_part, refl)
@@ -121,6 +121,7 @@ slice_after_front-first s p at k slice clean = by_rest (drop k slice) refl clean
     by_next : (cs : List Placed) (q : Part) (rest : List Placed) → cs ≡ record { part = q; start = at + k } ∷ rest
         → slice_after_front (record { part = p; start = at } ∷ cs) slice ≡ drop k slice
     by_next cs q rest e = ap (λ ds. slice_after_front (record { part = p; start = at } ∷ ds) slice) e ∙ ap (λ n. drop n slice) (omega arith)
+
     by_rest : (rest : List ℕ) → rest ≡ drop k slice → is_clean Inside s rest ≡ true
         → slice_after_front (component p at ++ later_body s (at + k) rest) slice ≡ drop k slice
     by_rest [] e h = e

@@ -2,8 +2,8 @@
 use Rattle.std.specs.Prelude.{ℕ, List, [], ◌∷◌, Bool, true, false, ◌||◌, ◌==◌, map, slice_index, is_some, if◌then◌else◌, Option, Some, None, Ok, Err}
 use Rattle.std.specs.declared.result.Result.{Result}
 use Rattle.typed_path.specs.declared.errors.CheckedPathError.{CheckedPathError}
-use Rattle.typed_path.specs.Dialect.{Dialect, unix, windows, slash, backslash}
-use Rattle.typed_path.specs.Part.{Kind, prefix, root, current, parent, normal, Part, kinds}
+use Rattle.typed_path.specs.Dialect.{Dialect, unix, windows, backslash, root_of}
+use Rattle.typed_path.specs.Part.{Kind, current, parent, Part, kinds}
 use Rattle.typed_path.specs.Prefix.{prefix_of}
 use Rattle.typed_path.specs.Comps.{parts_of}
 use Rattle.typed_path.specs.Queries.{is_root, is_absolute}
@@ -14,10 +14,6 @@ abbrev pub same_dialect : Dialect → Dialect → Bool
 same_dialect unix unix = true
 same_dialect windows windows = true
 same_dialect d e = false
-
-abbrev pub root_of : Dialect → List ℕ
-root_of unix = slash ∷ []
-root_of windows = backslash ∷ []
 
 -- how a component is written in a dialect: the root, and every prefix but a drive, is its root
 abbrev pub crossed : Dialect → Part → List ℕ

@@ -1,5 +1,5 @@
 -- The two ways of writing a path, and the bytes that separate its components.
-use Rattle.std.specs.Prelude.{ℕ, List, [], ◌∷◌, Bool, true, false, ◌||◌, ◌==◌, nat_eq, if◌then◌else◌}
+use Rattle.std.specs.Prelude.{ℕ, List, [], ◌∷◌, Bool, true, false, ◌||◌, ◌==◌, nat_eq, codes, if◌then◌else◌}
 use Rattle.std.specs.List.{starts_with}
 use Rattle.typed_path.specs.declared.scan.separators.Separators.{Separators}
 use Rattle.typed_path.specs.declared.scan.separators.Separators.TheVariants.{Slash, Backslash, Either}
@@ -49,3 +49,13 @@ abbrev pub root_text : Separators → List ℕ
 root_text Slash = slash ∷ []
 root_text Backslash = backslash ∷ []
 root_text Either = backslash ∷ []
+
+-- how the root is written where a path is put together
+abbrev pub root_of : Dialect → List ℕ
+root_of unix = slash ∷ []
+root_of windows = backslash ∷ []
+
+-- the name of a dialect
+abbrev pub label_of : Dialect → List ℕ
+label_of unix = codes "unix"
+label_of windows = codes "windows"

@@ -1,5 +1,5 @@
 -- What is left of a reading from both ends, and what each end gives.
-use Rattle.std.specs.Prelude.{ℕ, suc, zero, ◌+◌, ◌-◌, List, [], ◌∷◌, ◌++◌, Bool, ◌&&◌, ◌==◌, nat_lt, length, drop, take, reverse, slice_get, slice_range, if◌then◌else◌, Option, Some, None}
+use Rattle.std.specs.Prelude.{ℕ, ◌+◌, ◌-◌, List, [], ◌∷◌, ◌&&◌, ◌==◌, nat_lt, length, drop, take, reverse, slice_get, slice_range, if◌then◌else◌, Option, Some, None}
 use Rattle.std.specs.Option.{option_map, unwrap_or}
 use Rattle.typed_path.specs.Part.{Placed, end_of}
 

@@ -15,3 +15,4 @@ pub mod Promises
 pub mod Views
 pub mod Steps
 pub mod CursorViews
+pub mod PathViews

@@ -1,7 +1,7 @@
 -- What the program answers to its input.
-use Rattle.std.specs.Prelude.{ℕ, List, [], ◌∷◌, ◌++◌, Bool, true, false, ◌&&◌, ◌==◌, if◌then◌else◌, codes, length, bytes_eq}
+use Rattle.std.specs.Prelude.{ℕ, List, [], ◌∷◌, ◌++◌, ◌&&◌, ◌==◌, if◌then◌else◌, codes, length, bytes_eq}
 use Rattle.std.specs.List.{slice_split, flat_map, join_with_byte}
-use Rattle.typed_path.specs.Dialect.{Dialect, unix, windows}
+use Rattle.typed_path.specs.Dialect.{unix}
 use Rattle.typed_path.specs.Places.{normal_text}
 
 abbrev pub tab : ℕ

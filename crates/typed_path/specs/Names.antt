@@ -1,5 +1,5 @@
 -- A file name, and its split at the last dot.
-use Rattle.std.specs.Prelude.{ℕ, List, [], ◌∷◌, Bool, ◌==◌, drop, if◌then◌else◌, Option, Some, None}
+use Rattle.std.specs.Prelude.{ℕ, List, Bool, ◌==◌, drop, if◌then◌else◌, Option, Some, None}
 use Rattle.std.specs.List.{list_any, before_last, after_last}
 use Rattle.typed_path.specs.Dialect.{dot}
 

@@ -1,7 +1,7 @@
 -- Where a path leads: its component list once the parents have taken names away.
 use Rattle.std.specs.Prelude.{ℕ, zero, suc, List, [], ◌∷◌, ◌++◌, Bool, true, false, not, if◌then◌else◌}
 use Rattle.typed_path.specs.Dialect.{Dialect}
-use Rattle.typed_path.specs.Part.{Prefix, Kind, prefix, root, current, parent, normal, Part, kinds, texts}
+use Rattle.typed_path.specs.Part.{Kind, prefix, root, current, parent, normal, Part, kinds, texts}
 use Rattle.typed_path.specs.Comps.{parts_of}
 use Rattle.typed_path.specs.Queries.{is_disk, begins_with_root}
 use Rattle.typed_path.specs.Push.{push_all}

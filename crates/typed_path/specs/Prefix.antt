@@ -1,5 +1,5 @@
 -- The prefix that a Windows text begins with: the first of six cases that matches.
-use Rattle.std.specs.Prelude.{ℕ, ◌+◌, ◌-◌, List, [], ◌∷◌, Bool, false, ◌&&◌, ◌||◌, not, ◌==◌, nat_le, nat_lt, length, if◌then◌else◌, Option, Some, None, option_and_then}
+use Rattle.std.specs.Prelude.{ℕ, ◌+◌, ◌-◌, List, ◌∷◌, Bool, ◌&&◌, ◌||◌, not, ◌==◌, nat_le, nat_lt, length, if◌then◌else◌, Option, Some, None, option_and_then}
 use Rattle.std.specs.List.{before_first, after_first}
 use Rattle.std.specs.Option.{option_or}
 use Rattle.typed_path.specs.declared.scan.separators.Separators.{Separators}
@@ -97,4 +97,4 @@ prefix_of unix text = None
 prefix_of windows text =
     let s = separators windows text in
     option_or (verbatim_unc_case s text) (option_or (verbatim_disk_case text) (option_or (verbatim_case s text)
-        (option_or (device_case text) (option_or (unc_case text) (disk_case text)))))
+    (option_or (device_case text) (option_or (unc_case text) (disk_case text)))))

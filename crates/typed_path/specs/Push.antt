@@ -1,11 +1,11 @@
 -- A path with another pushed onto it.
-use Rattle.std.specs.Prelude.{ℕ, ◌-◌, List, [], ◌∷◌, ◌++◌, Bool, true, false, ◌||◌, ◌==◌, nat_le, not, length, take, slice_index, if◌then◌else◌, Option, Some, None}
-use Rattle.std.specs.List.{count_by, fold, list_any}
+use Rattle.std.specs.Prelude.{ℕ, ◌-◌, List, [], ◌∷◌, ◌++◌, Bool, true, false, ◌||◌, ◌==◌, nat_le, length, take, slice_index, if◌then◌else◌, Option, Some, None}
+use Rattle.std.specs.List.{count_by, fold}
 use Rattle.std.specs.Option.{option_or}
 use Rattle.typed_path.specs.declared.errors.CheckedPathError.{CheckedPathError}
 use Rattle.typed_path.specs.declared.errors.CheckedPathError.TheVariants.{InvalidFilename, PathTraversalAttack, UnexpectedPrefix, UnexpectedRoot}
 use Rattle.typed_path.specs.Dialect.{Dialect, unix, windows, slash, backslash}
-use Rattle.typed_path.specs.Part.{Prefix, disk, Kind, prefix, root, current, parent, normal, Part, kinds}
+use Rattle.typed_path.specs.Part.{disk, Kind, prefix, root, current, parent, normal, Part, kinds}
 use Rattle.typed_path.specs.Prefix.{Found, prefix_of}
 use Rattle.typed_path.specs.Comps.{parts_of}
 use Rattle.typed_path.specs.Queries.{begins_with_root, begins_with_prefix, has_prefix, has_any_verbatim_prefix, is_allowed_name}

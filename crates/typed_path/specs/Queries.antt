@@ -1,10 +1,10 @@
 -- What a path answers, read off its component list.
-use Rattle.std.specs.Prelude.{ℕ, ◌==◌, List, [], ◌∷◌, Bool, true, false, not, ◌||◌, ◌&&◌, length, reverse, if◌then◌else◌, Option, Some, None, option_and_then}
+use Rattle.std.specs.Prelude.{ℕ, ◌==◌, List, ◌∷◌, Bool, true, false, not, ◌||◌, length, if◌then◌else◌, Option, Some, None, option_and_then}
 use Rattle.std.specs.List.{list_any, list_all, starts_with, ends_with}
 use Rattle.std.specs.Option.{option_map}
 use Rattle.std.specs.Str.{bytes_eq}
 use Rattle.typed_path.specs.Dialect.{Dialect, unix, windows, slash, backslash, colon, question}
-use Rattle.typed_path.specs.Part.{Prefix, verbatim, verbatim_unc, verbatim_disk, device_ns, unc, disk, Kind, prefix, root, current, parent, normal, Part, Placed, kinds, texts, parts}
+use Rattle.typed_path.specs.Part.{Prefix, verbatim, verbatim_unc, verbatim_disk, unc, disk, Kind, prefix, root, normal, texts}
 use Rattle.typed_path.specs.Prefix.{is_empty}
 use Rattle.typed_path.specs.Comps.{comps, parts_of}
 use Rattle.typed_path.specs.Left.{left, last_of}

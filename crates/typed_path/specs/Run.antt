@@ -1,5 +1,5 @@
 -- What a list of operations makes of a path.
-use Rattle.std.specs.Prelude.{ℕ, ◌+◌, List, [], ◌∷◌, ◌++◌, Bool, true, false, ◌==◌, length, take, map, is_some, unwrap_or, if◌then◌else◌, Option, Some, None}
+use Rattle.std.specs.Prelude.{ℕ, ◌+◌, List, [], ◌∷◌, ◌++◌, Bool, length, take, is_some, unwrap_or, if◌then◌else◌, Option, Some, None}
 use Rattle.typed_path.specs.declared.errors.CheckedPathError.{CheckedPathError}
 use Rattle.typed_path.specs.Dialect.{Dialect, dot}
 use Rattle.typed_path.specs.Part.{Placed}

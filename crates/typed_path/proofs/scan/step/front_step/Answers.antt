@@ -1,10 +1,10 @@
 use Rattle.std.proofs.Common.{◌≡◌, ℕ, ◌+◌, ◌<◌, ◌++◌, List, [], ◌∷◌, length, take, drop, true, ap, sym, ◌∙◌, add_assoc, arith}
-use Rattle.std.specs.List.{position_or_len, before_first}
+use Rattle.std.specs.List.{position_or_len}
 use Rattle.std.proofs.lemmas.List.{take_rest, drop-drop}
 use Rattle.typed_path.specs.declared.scan.separators.Separators.{Separators}
 use Rattle.typed_path.specs.declared.scan.begin.Begin.{Begin}
 use Rattle.typed_path.specs.Dialect.{is_separator}
-use Rattle.typed_path.specs.Part.{Part, Placed}
+use Rattle.typed_path.specs.Part.{Part}
 use Rattle.typed_path.specs.Comps.{component, first, later_body}
 use Rattle.typed_path.specs.Steps.{body_from, is_clean}
 use Rattle.typed_path.specs.Views.{part_of}
@@ -14,7 +14,7 @@ use Rattle.typed_path.proofs.scan.step.front_step.Goals as goal
 pub returns-clause-first : goal.returns-clause-first
 returns-clause-first c = λ begin at clean.
     first_and_rest begin c.args.separators at c.args.text.now (part_of c.piece_of.result) c.first_in-end.result c.skip_blanks-behind.result
-        c.requires clean c.first_in-end.ensures.first (c.piece_of.ensures at) (rw take_rest at c.skip_blanks-behind.ensures.same (at + c.first_in-end.result))
+    c.requires clean c.first_in-end.ensures.first (c.piece_of.ensures at) (rw take_rest at c.skip_blanks-behind.ensures.same (at + c.first_in-end.result))
   where
     first_and_rest : (begin : Begin) (s : Separators) (at : ℕ) (text : List ℕ) (p : Part) (end blank : ℕ)
         → 0 < length text → is_clean begin s text ≡ true → end ≡ position_or_len (is_separator s) text

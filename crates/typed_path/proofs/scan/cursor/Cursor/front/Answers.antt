@@ -1,10 +1,8 @@
-use Rattle.std.proofs.Common.{◌≡◌, ℕ, ◌+◌, List, slice_range, drop, ap, sym, ◌∙◌, ◌++◌}
-use Rattle.typed_path.specs.Part.{Placed}
+use Rattle.std.proofs.Common.{◌≡◌, ◌+◌, slice_range, drop, ap, sym, ◌∙◌, ◌++◌}
 use Rattle.typed_path.specs.Comps.{later_body, component}
 use Rattle.typed_path.specs.Left.{slice_after_front}
-use Rattle.typed_path.specs.Steps.{is_clean, body_from}
+use Rattle.typed_path.specs.Steps.{body_from}
 use Rattle.typed_path.specs.Views.{part_of}
-use Rattle.typed_path.specs.declared.scan.begin.Begin.TheVariants.{Inside}
 use Rattle.typed_path.proofs.BodyLemmas.{slice_after_front-first, slice_range-later}
 use Rattle.typed_path.proofs.scan.cursor.Cursor.front.Goals as goal
 use Rattle.typed_path.proofs.scan.cursor.Cursor.front.Goals.{After-front_step-taken}
@@ -19,7 +17,7 @@ slice_behind c =
 -- the components before it
 items_before : (c : After-front_step-taken) → body_from c.args.self.now.begin c.args.self.now.separators c.args.self.now.from c.as_bytes-left.result.now
     ≡ component (part_of c.front_step-taken.result.0) c.args.self.now.from
-      ++ later_body c.args.self.now.separators (c.args.self.now.from + c.front_step-taken.result.1) (drop c.front_step-taken.result.1 c.as_bytes-left.result.now)
+    ++ later_body c.args.self.now.separators (c.args.self.now.from + c.front_step-taken.result.1) (drop c.front_step-taken.result.1 c.as_bytes-left.result.now)
 items_before c =
     let v = c.args.self.now in
     c.front_step-taken.ensures.first v.begin v.from (rw c.as_bytes-left.ensures v.starts_clean)

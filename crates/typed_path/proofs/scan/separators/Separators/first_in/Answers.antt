@@ -10,4 +10,4 @@ returns-then-contains-clause-first c =
 pub returns-clause-first : goal.returns-clause-first
 returns-clause-first c =
     sym (position_or_len_is (is_separator c.args.self) c.args.bytes.now (length c.args.bytes.now) 0 (omega arith)
-        (λ k h. c.loop-at.invariant k (omega arith)) (λ h. absurd (omega arith)))
+    (λ k h. c.loop-at.invariant k (omega arith)) (λ h. absurd (omega arith)))

@@ -1,0 +1,11 @@
+-- The answers of the definitions at worked texts, by computation.
+pub mod Words
+pub mod UnixComponents
+pub mod UnixPaths
+pub mod WindowsPrefixes
+pub mod Cuts
+pub mod WindowsComponents
+pub mod WindowsPaths
+pub mod Order
+pub mod Conversions
+pub mod Replies

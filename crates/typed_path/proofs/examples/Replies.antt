@@ -1,0 +1,61 @@
+-- What the program answers to a line, and to a whole input.
+use Rattle.std.specs.Prelude.{◌≡◌, codes, [], refl}
+use Rattle.typed_path.specs.Lines.{reply, answers, complete_lines, replies_to}
+
+-- normal texts
+normal_of_all_at_once : reply (codes "normalize\tunix\tfoo/bar//baz/./asdf/quux/..") ≡ codes "ok\tfoo/bar/baz/asdf\n"
+normal_of_all_at_once = refl
+
+parents_stop_at_the_root : reply (codes "normalize\tunix\t/a/./b/../../..//c") ≡ codes "ok\t/c\n"
+parents_stop_at_the_root = refl
+
+first_parents_vanish : reply (codes "normalize\tunix\t../a") ≡ codes "ok\ta\n"
+first_parents_vanish = refl
+
+normal_of_a_dot : reply (codes "normalize\tunix\t.") ≡ codes "ok\t\n"
+normal_of_a_dot = refl
+
+normal_of_the_empty_path : reply (codes "normalize\tunix\t") ≡ codes "ok\t\n"
+normal_of_the_empty_path = refl
+
+-- bad lines
+windows_is_not_answered : reply (codes "normalize\twindows\ta") ≡ codes "err\tBadLine\n"
+windows_is_not_answered = refl
+
+unknown_dialect : reply (codes "normalize\tmac\ta") ≡ codes "err\tBadLine\n"
+unknown_dialect = refl
+
+empty_line : reply [] ≡ codes "err\tBadLine\n"
+empty_line = refl
+
+no_path : reply (codes "normalize\tunix") ≡ codes "err\tBadLine\n"
+no_path = refl
+
+one_field_too_many : reply (codes "normalize\tunix\ta\tb") ≡ codes "err\tBadLine\n"
+one_field_too_many = refl
+
+carriage_return_is_part_of_a_path : reply (codes "normalize\tunix\ta\r") ≡ codes "ok\ta\r\n"
+carriage_return_is_part_of_a_path = refl
+
+-- inputs
+empty_input : answers [] ≡ []
+empty_input = refl
+
+line_feed_alone : answers (codes "\n") ≡ codes "err\tBadLine\n"
+line_feed_alone = refl
+
+last_line_without_line_feed : answers (codes "normalize\tunix\ta//b\nx") ≡ codes "ok\ta/b\nerr\tBadLine\n"
+last_line_without_line_feed = refl
+
+last_line_with_line_feed : answers (codes "normalize\tunix\ta//b\nx\n") ≡ codes "ok\ta/b\nerr\tBadLine\n"
+last_line_with_line_feed = refl
+
+-- beginnings of an input of which more may come
+line_before_its_line_feed : replies_to (complete_lines (codes "normalize\tunix\ta//b")) ≡ []
+line_before_its_line_feed = refl
+
+line_behind_its_line_feed : replies_to (complete_lines (codes "normalize\tunix\ta//b\n")) ≡ codes "ok\ta/b\n"
+line_behind_its_line_feed = refl
+
+beginning_of_the_next_line : replies_to (complete_lines (codes "normalize\tunix\ta//b\nx")) ≡ codes "ok\ta/b\n"
+beginning_of_the_next_line = refl

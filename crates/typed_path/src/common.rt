@@ -1,0 +1,12 @@
+//! Paths of every encoding.
+
+mod components;
+mod encoding;
+mod normalize;
+mod path;
+mod path_buf;
+
+pub use components::Components;
+pub use encoding::Encoding;
+pub use path::Path;
+pub use path_buf::PathBuf;

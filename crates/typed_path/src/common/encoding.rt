@@ -1,0 +1,44 @@
+//! What every encoding of paths can do.
+
+ghost use Rattle.std.specs.Prelude.{◌≡◌, drop, option_map, OnOk, OnErr};
+ghost use Rattle.typed_path.specs.Dialect.{Dialect, root_of, label_of};
+ghost use Rattle.typed_path.specs.Comps.{comps};
+ghost use Rattle.typed_path.specs.Left.{slice_after_front};
+ghost use Rattle.typed_path.specs.Steps.{first_part};
+ghost use Rattle.typed_path.specs.Views.{part_of};
+ghost use Rattle.typed_path.specs.CursorViews.{slice_left, items_left};
+ghost use Rattle.typed_path.specs.Push as push_spec;
+
+use crate::scan::{Cursor, Piece};
+use std::alloc::AllocError;
+
+/// A way of writing paths.
+///
+/// Code that is generic over the encoding rests on these contracts alone.
+pub trait Encoding {
+    ghost dialect: { Dialect };
+
+    /// The name of the encoding: `unix` or `windows`.
+    fn label() -> &'static str
+        ensures { result.now ≡ label_of dialect };
+
+    /// How the root is written where a path is put together.
+    fn root_text() -> &'static [u8]
+        ensures { result.now ≡ root_of dialect };
+
+    /// A reading of the components of a text.
+    fn cursor(path: &[u8]) -> Cursor<'_>
+        ensures items { items_left result ≡ comps dialect path.now }
+        ensures slice { slice_left result ≡ path.now };
+
+    /// Takes the first component that is left, with the separators behind it.
+    fn front<'a>(cursor: &mut Cursor<'a>) -> Option<Piece<'a>>
+        ensures taken { option_map part_of result ≡ first_part (items_left cursor.old) }
+        ensures items { items_left cursor.new ≡ drop 1 (items_left cursor.old) }
+        ensures slice { slice_left cursor.new ≡ slice_after_front (items_left cursor.old) (slice_left cursor.old) };
+
+    /// Pushes a path onto another. Where memory is refused, the other is as it was.
+    fn push(path: &mut Vec<u8>, other: &[u8]) -> Result<(), AllocError>
+        ensures ok { OnOk result (path.new.items ≡ push_spec.push dialect path.old.items other.now) }
+        ensures err { OnErr result (path.new.items ≡ path.old.items) };
+}

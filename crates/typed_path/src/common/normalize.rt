@@ -1,0 +1,42 @@
+//! The normal text of a path.
+
+use crate::common::encoding::Encoding;
+use crate::common::path::Path;
+use crate::common::path_buf::PathBuf;
+use crate::scan::PieceKind;
+use smallvec::SmallVec;
+use std::alloc::{AllocError, Global};
+
+/// How many names `normalize` remembers without asking for memory.
+const INLINE_NAMES: usize = 32;
+
+impl<'a, T: Encoding> Path<'a, T> {
+    ghost use Rattle.std.specs.Prelude.{◌≡◌, IfOk};
+    ghost use Rattle.typed_path.specs.PathViews.{path_bytes};
+    ghost use Rattle.typed_path.specs.Places.{normal_text};
+
+    /// The path without `.`, and without `..` and the names that these take away.
+    ///
+    /// The components that are left are pushed one by one onto the empty path. A `..` that finds no
+    /// name to take away vanishes.
+    pub fn normalize(self, alloc: Global) -> Result<PathBuf<T>, AllocError>
+        ensures { IfOk result (λ p. p ≡ normal_text T.dialect (path_bytes self.entry)) }
+    {
+        let mut normal = Vec::with_capacity(alloc, self.as_bytes().len() + 1)?;
+        let mut names: SmallVec<&[u8], INLINE_NAMES> = SmallVec::new(alloc);
+        'pieces: for piece in self.components() {
+            match piece.kind {
+                PieceKind::Prefix(_) | PieceKind::RootDir => T::push(&mut normal, piece.text)?,
+                PieceKind::CurDir => {}
+                PieceKind::ParentDir => {
+                    names.pop();
+                }
+                PieceKind::Normal => names.push(piece.text)?,
+            }
+        }
+        'names: for name in names.as_slice() {
+            T::push(&mut normal, name)?;
+        }
+        Ok(PathBuf::from_vec(normal))
+    }
+}

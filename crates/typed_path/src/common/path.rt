@@ -1,0 +1,43 @@
+//! A path that is lent.
+
+use crate::common::components::Components;
+use crate::common::encoding::Encoding;
+use std::marker::PhantomData;
+
+/// A path: a slice of bytes, with the encoding by which it is read.
+#[derive_where(Clone, Copy)]
+pub struct Path<'a, T> {
+    bytes: &'a [u8],
+    encoding: PhantomData<T>,
+}
+
+impl<'a, T: Encoding> Path<'a, T> {
+    ghost use Rattle.std.specs.Prelude.{◌≡◌};
+    ghost use Rattle.typed_path.specs.Comps.{comps};
+    ghost use Rattle.typed_path.specs.PathViews.{path_bytes, components_items, components_slice};
+
+    /// The path of these bytes, whatever they are.
+    pub fn new(bytes: &'a [u8]) -> Path<'a, T>
+        ensures { path_bytes result ≡ bytes.now }
+    {
+        Path {
+            bytes,
+            encoding: PhantomData,
+        }
+    }
+
+    /// The bytes of the path.
+    pub fn as_bytes(self) -> &'a [u8]
+        ensures { result.now ≡ path_bytes self.entry }
+    {
+        self.bytes
+    }
+
+    /// The components of the path, from either end.
+    pub fn components(self) -> Components<'a, T>
+        ensures items { components_items result ≡ comps T.dialect (path_bytes self.entry) }
+        ensures slice { components_slice result ≡ path_bytes self.entry }
+    {
+        Components::new(T::cursor(self.bytes))
+    }
+}

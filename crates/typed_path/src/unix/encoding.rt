@@ -1,0 +1,66 @@
+//! The encoding of Unix paths.
+
+ghost use Rattle.std.specs.Prelude.{◌≡◌, ◌≢◌, [], ◌++◌, OnOk, OnErr};
+ghost use Rattle.typed_path.specs.Dialect.{unix, slash};
+ghost use Rattle.typed_path.specs.Push.{ended_with};
+
+use crate::common::Encoding;
+use crate::scan::{Cursor, Piece, Separators};
+use std::alloc::AllocError;
+
+/// Paths as on Unix: `/` separates, and every other byte belongs to a name.
+#[derive(Clone, Copy, Debug, Default, PartialEq, Eq, PartialOrd, Ord, Hash)]
+pub struct UnixEncoding;
+
+impl Encoding for UnixEncoding {
+    ghost dialect = { unix };
+
+    fn label() -> &'static str {
+        "unix"
+    }
+
+    fn root_text() -> &'static [u8] {
+        b"/"
+    }
+
+    fn cursor(path: &[u8]) -> Cursor<'_> {
+        Cursor::new(path, Separators::Slash)
+    }
+
+    fn front<'a>(cursor: &mut Cursor<'a>) -> Option<Piece<'a>> {
+        cursor.front()
+    }
+
+    fn push(path: &mut Vec<u8>, other: &[u8]) -> Result<(), AllocError> {
+        match other {
+            [] => Ok(()),
+            [b'/', ..] => replace(path, other),
+            _ => append(path, other),
+        }
+    }
+}
+
+/// Puts the bytes of another path in the place of those of a path.
+fn replace(path: &mut Vec<u8>, other: &[u8]) -> Result<(), AllocError>
+    ensures ok { OnOk result (path.new.items ≡ other.now) }
+    ensures err { OnErr result (path.new.items ≡ path.old.items) }
+{
+    path.reserve(other.len().saturating_sub(path.len()))?;
+    path.clear();
+    path.extend_from_slice(other)
+}
+
+/// Puts a name behind a path, with a separator between the two where the path has none at its end.
+fn append(path: &mut Vec<u8>, other: &[u8]) -> Result<(), AllocError>
+    ensures ok { OnOk result (path.new.items ≡ ended_with slash path.old.items ++ other.now) }
+    ensures err { OnErr result (path.new.items ≡ path.old.items) }
+{
+    match path.as_slice() {
+        [] | [.., b'/'] => path.extend_from_slice(other),
+        _ => {
+            path.reserve(other.len() + 1)?;
+            path.push(b'/')?;
+            path.extend_from_slice(other)
+        }
+    }
+}
