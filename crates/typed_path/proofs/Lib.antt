@@ -1,6 +1,9 @@
 mod BodyLemmas
+mod CutLemmas
+mod LineLemmas
 mod SettleLemmas
 mod ShapeLemmas
+mod StreamLemmas
 pub mod JoinLemmas
 pub mod OrderLaws
 pub mod PartLemmas

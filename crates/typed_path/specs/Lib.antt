@@ -16,3 +16,6 @@ pub mod Views
 pub mod Steps
 pub mod CursorViews
 pub mod PathViews
+pub mod Streams
+pub mod Status
+pub mod Fields

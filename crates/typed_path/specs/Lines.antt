@@ -33,6 +33,15 @@ lines_of input = all_lines (pieces_of input)
 abbrev pub complete_lines : List ℕ → List (List ℕ)
 complete_lines input = ended (pieces_of input)
 
+-- what stands behind the last line feed
+abbrev pub last_piece : List (List ℕ) → List ℕ
+last_piece [] = []
+last_piece (piece ∷ []) = piece
+last_piece (piece ∷ next ∷ pieces) = last_piece (next ∷ pieces)
+
+abbrev pub open_line : List ℕ → List ℕ
+open_line input = last_piece (pieces_of input)
+
 abbrev pub fields_of : List ℕ → List (List ℕ)
 fields_of line = slice_split (λ b. b == tab) line
 
@@ -42,15 +51,22 @@ ok_reply fields = codes "ok" ∷ fields
 abbrev pub bad_line : List (List ℕ)
 bad_line = codes "err" ∷ codes "BadLine" ∷ []
 
+-- fields with a tab between, and a line feed
+abbrev pub reply_line : List (List ℕ) → List ℕ
+reply_line fields = join_with_byte tab fields ++ line_feed ∷ []
+
+abbrev pub text_reply : List ℕ → List ℕ
+text_reply text = reply_line (ok_reply (text ∷ []))
+
 -- the fields of the reply to the fields of a line
 abbrev pub reply_fields : List (List ℕ) → List (List ℕ)
 reply_fields (command ∷ dialect ∷ path ∷ []) =
     if (bytes_eq command (codes "normalize") && bytes_eq dialect (codes "unix")) then ok_reply (normal_text unix path ∷ []) else bad_line
 reply_fields fields = bad_line
 
--- the reply to a line, with its line feed
+-- the reply to a line
 abbrev pub reply : List ℕ → List ℕ
-reply line = join_with_byte tab (reply_fields (fields_of line)) ++ line_feed ∷ []
+reply line = reply_line (reply_fields (fields_of line))
 
 abbrev pub replies_to : List (List ℕ) → List ℕ
 replies_to lines = flat_map reply lines

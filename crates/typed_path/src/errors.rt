@@ -1,5 +1,9 @@
 //! The errors of this crate.
 
+ghost use Rattle.std.specs.Prelude.{◌≡◌};
+ghost use Rattle.typed_path.specs.declared.errors.LineError.TheVariants.{OutOfMemory};
+
+use std::alloc::{AllocError, AllocFailed};
 use thiserror::Error;
 
 /// Why a checked push or a checked conversion was refused.
@@ -17,4 +21,34 @@ pub enum CheckedPathError {
     /// A root in the argument.
     #[error("path contains unexpected root")]
     UnexpectedRoot,
+}
+
+/// Why lines were not answered to the end of the input.
+#[derive(Clone, Copy, Debug, PartialEq, Eq, Hash, Error)]
+pub enum LineError {
+    /// The reader failed.
+    #[error("reading failed")]
+    Read,
+    /// The writer failed, or took no byte.
+    #[error("writing failed")]
+    Write,
+    /// Memory was refused.
+    #[error("out of memory")]
+    OutOfMemory,
+}
+
+impl From<AllocError> for LineError {
+    ghost from_gives = { λ _ e. e ≡ OutOfMemory };
+
+    fn from(_refused: AllocError) -> LineError {
+        LineError::OutOfMemory
+    }
+}
+
+impl<T: Drop> From<AllocFailed<T>> for LineError {
+    ghost from_gives = { λ _ e. e ≡ OutOfMemory };
+
+    fn from(_refused: AllocFailed<T>) -> LineError {
+        LineError::OutOfMemory
+    }
 }

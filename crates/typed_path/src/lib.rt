@@ -6,11 +6,13 @@ pub mod constants;
 mod errors;
 pub mod laws;
 mod scan;
+mod script;
 mod unix;
 mod windows;
 
 pub use common::{Components, Encoding, Path, PathBuf};
-pub use errors::CheckedPathError;
+pub use errors::{CheckedPathError, LineError};
 pub use scan::{Cursor, Piece, PieceKind};
+pub use script::{Failed, Sink, Source, StdSink, StdSource, answer_lines, exit_status};
 pub use unix::{UnixEncoding, UnixPath, UnixPathBuf};
 pub use windows::WindowsPrefix;

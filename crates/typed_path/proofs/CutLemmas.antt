@@ -1,0 +1,33 @@
+-- A list cut at the first element that passes a test.
+use Rattle.std.proofs.Common.{◌≡◌, ℕ, zero, suc, ◌+◌, ◌<◌, ◌≤◌, ◌≢◌, List, [], ◌∷◌, ◌++◌, Bool, true, false, cond, length, take, drop, get_or, slice_index, refl, sym, ap, subst, ◌∙◌, All, arith, add-one}
+use Rattle.std.specs.List.{slice_split, onto_first}
+use Rattle.std.proofs.lemmas.List.{drop_more, take-append-drop, get_or_default, get_or-take, length-take-le, take_all}
+use Rattle.std.proofs.lemmas.List.Splits.{slice_split_none, slice_split_at, slice_split-cons_yes, slice_split-cons_no}
+use Rattle.memchr.specs.Find.{Nowhere, NoneBefore, Passes}
+use Rattle.typed_path.specs.Lines.{ended, last_piece, all_lines}
+use Rattle.typed_path.proofs.SplitLemmas.{slice_split-some}
+
+fails : (b : Bool) → ¬ (b ≡ true) → b ≡ false
+fails true h = absurd (h refl)
+fails false h = refl
+
+module _ (p : ℕ → Bool) (text : List ℕ) where
+  -- no element passes
+  none_passes : (n : ℕ) → n ≤ length text → Nowhere (Passes p text) 0 n → All (λ b. p b ≡ false) (take n text)
+  none_passes n within h k d l =
+      let size = length-take-le n text within in
+      let below : k < n = omega arith in
+      fails _ (λ e. h k (omega arith) below (ap p (get_or_default text k 0 d (omega arith) ∙ sym (get_or-take n text k d below)) ∙ e))
+
+  pub split-nowhere : Nowhere (Passes p text) 0 (length text) → slice_split p text ≡ text ∷ []
+  split-nowhere h = slice_split_none p text (subst (λ t. All (λ b. p b ≡ false) t) (take_all (length text) text (omega arith)) (none_passes (length text) (omega arith) h))
+
+  pub split-first : (n : ℕ) → NoneBefore (Passes p text) 0 (length text) n → Passes p text n
+      → (slice_split p text ≡ take n text ∷ slice_split p (drop (n + 1) text)) × (slice_split p (take n text) ≡ take n text ∷ [])
+  split-first n none passes =
+      let within = none.high in
+      let front = none_passes n (omega arith) none.before in (
+        ap (slice_split p) (sym (take-append-drop n text) ∙ ap (λ rest. take n text ++ rest) (drop_more text n 0 within))
+        ∙ slice_split_at p (take n text) (slice_index text n) (drop (n + 1) text) front passes,
+        slice_split_none p (take n text) front,
+      )

@@ -1,0 +1,8 @@
+-- The fields of a line, as the parser of commands tells them.
+use Rattle.std.specs.Prelude.{◌≡◌, ◌≢◌, ℕ, List, [], ◌∷◌, length}
+use Rattle.typed_path.specs.declared.script.lines.Fields.{Fields}
+use Rattle.typed_path.specs.declared.script.lines.Fields.TheVariants.{Three, Other}
+
+abbrev pub AreFields : List (List ℕ) → Fields → Type 0
+AreFields fields (Three first second third) = fields ≡ first.now ∷ second.now ∷ third.now ∷ []
+AreFields fields Other = length fields ≢ 3

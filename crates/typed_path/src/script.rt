@@ -1,0 +1,15 @@
+//! Lines of commands, and the replies to them.
+
+mod answer;
+mod dialogue;
+mod fields;
+mod lines;
+mod status;
+mod std_streams;
+mod streams;
+
+
+pub use answer::answer_lines;
+pub use status::exit_status;
+pub use std_streams::{StdSink, StdSource};
+pub use streams::{Failed, Sink, Source};

@@ -1,0 +1,74 @@
+//! Lines that come in pieces.
+
+ghost use Rattle.std.specs.Prelude.{◌≡◌, [], ◌∷◌};
+ghost use Rattle.typed_path.specs.Lines.{pieces_of};
+
+use crate::script::fields::cut_at;
+use crate::script::lines::put_reply;
+use std::alloc::{AllocError, Global};
+
+/// The replies to the lines that were completed, and the line that was begun.
+#[derive(Drop)]
+pub struct Dialogue {
+    alloc: Global,
+    /// What came behind the last line feed.
+    pub line: Vec<u8>,
+    /// The replies that were not taken away yet.
+    pub replies: Vec<u8>,
+    ghost is_open: { pieces_of line.items ≡ line.items ∷ [] },
+}
+
+impl Dialogue {
+    ghost use Rattle.std.specs.Prelude.{◌≡◌, [], ◌∷◌, ◌++◌, OnOk};
+    ghost use Rattle.typed_path.specs.Lines.{pieces_of, reply, replies_to, complete_lines, open_line, all_lines};
+
+    pub fn new(alloc: Global) -> Dialogue
+        ensures line { result.line.items ≡ [] }
+        ensures replies { result.replies.items ≡ [] }
+    {
+        Dialogue {
+            alloc,
+            line: Vec::new(alloc),
+            replies: Vec::new(alloc),
+        }
+    }
+
+    /// Takes in more input, and answers the lines that it completes.
+    pub fn take_in(&mut self, input: &[u8]) -> Result<(), AllocError>
+        ensures replies { OnOk result (self.new.replies.items
+            ≡ self.old.replies.items ++ replies_to (complete_lines (self.old.line.items ++ input.now))) }
+        ensures line { OnOk result (self.new.line.items ≡ open_line (self.old.line.items ++ input.now)) }
+    {
+        let mut rest = input;
+        'lines: while let Some((piece, behind)) = cut_at(b'\n', rest) {
+            self.complete(piece)?;
+            rest = behind;
+        }
+        self.line.extend_from_slice(rest)
+    }
+
+    /// Answers the line that a piece with no line feed completes.
+    fn complete(&mut self, piece: &[u8]) -> Result<(), AllocError>
+        requires { pieces_of piece.now ≡ piece.now ∷ [] }
+        ensures replies { OnOk result (self.new.replies.items ≡ self.old.replies.items ++ reply (self.old.line.items ++ piece.now)) }
+        ensures line { OnOk result (self.new.line.items ≡ []) }
+    {
+        if self.line.is_empty() {
+            return put_reply(self.alloc, piece, &mut self.replies);
+        }
+        self.line.extend_from_slice(piece)?;
+        put_reply(self.alloc, self.line.as_slice(), &mut self.replies)?;
+        self.line.clear();
+        Ok(())
+    }
+
+    /// Answers the line that the end of the input completes, where there is one.
+    pub fn finish(&mut self) -> Result<(), AllocError>
+        ensures { OnOk result (self.new.replies.items ≡ self.old.replies.items ++ replies_to (all_lines (self.old.line.items ∷ []))) }
+    {
+        if self.line.is_empty() {
+            return Ok(());
+        }
+        put_reply(self.alloc, self.line.as_slice(), &mut self.replies)
+    }
+}
