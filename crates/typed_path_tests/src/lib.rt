@@ -1,0 +1,9 @@
+//! What no clause of `typed_path` says: printed texts, refused memory, streams that fail.
+#![tactic(auto)]
+
+#[cfg(test)]
+mod lines;
+#[cfg(test)]
+mod paths;
+#[cfg(test)]
+mod streams;

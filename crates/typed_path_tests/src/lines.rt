@@ -1,0 +1,159 @@
+//! Replies to lines, in whatever pieces they come and whatever fails.
+
+use crate::streams::{Drops, Pieces};
+use std::alloc::Global;
+use std::io;
+use std::io::Write;
+use std::test::Fail;
+use typed_path::{LineError, StdSink, StdSource, answer_lines, exit_status};
+
+const ALL: usize = usize::MAX;
+
+fn sink(alloc: Global, piece: usize, writes: usize) -> Drops {
+    Drops {
+        taken: Vec::new(alloc),
+        piece,
+        writes,
+        failed: false,
+    }
+}
+
+/// The replies, and how the run ended.
+fn answered(
+    alloc: Global,
+    input: &[u8],
+    piece: usize,
+    until: usize,
+) -> (Vec<u8>, Result<(), LineError>) {
+    let mut reader = Pieces::new(input, piece, until);
+    let mut writer = sink(alloc, ALL, ALL);
+    let outcome = answer_lines(alloc, &mut reader, &mut writer);
+    let Drops {
+        taken,
+        piece: _,
+        writes: _,
+        failed: _,
+    } = writer;
+    (taken, outcome)
+}
+
+#[test]
+fn replies(rt: HostRuntime) -> Result<(), Fail> {
+    let rows: [(&[u8], &[u8]); 12] = [
+        (
+            b"normalize\tunix\tfoo/bar//baz/./asdf/quux/..",
+            b"ok\tfoo/bar/baz/asdf\n",
+        ),
+        (b"normalize\tunix\t/a/./b/../../..//c\n", b"ok\t/c\n"),
+        (b"normalize\tunix\t../a\n", b"ok\ta\n"),
+        (b"normalize\tunix\t.\n", b"ok\t\n"),
+        (b"normalize\tunix\t\n", b"ok\t\n"),
+        (b"normalize\twindows\ta\n", b"err\tBadLine\n"),
+        (b"normalize\tmac\ta\n", b"err\tBadLine\n"),
+        (b"normalize\tunix\ta\tb\n", b"err\tBadLine\n"),
+        (b"\n", b"err\tBadLine\n"),
+        (b"\xff\xfe\r\n\n", b"err\tBadLine\nerr\tBadLine\n"),
+        (
+            b"normalize\tunix\ta/.\r\nnormalize\tunix\t\xff/",
+            b"ok\ta/.\r\nok\t\xff\n",
+        ),
+        (b"", b""),
+    ];
+    for piece in [ALL, 1, 7] {
+        for (input, wanted) in rows {
+            let (written, outcome) = answered(rt.alloc(), input, piece, ALL);
+            assert_eq!(rt; outcome, Ok(()));
+            assert_eq!(rt; written.as_slice(), wanted, "the reply to {input:?}");
+        }
+    }
+    Ok(())
+}
+
+const THREE: &[u8] = b"normalize\tunix\ta//b\nnormalize\tunix\t.\nx";
+
+#[test]
+fn failing_reader(rt: HostRuntime) -> Result<(), Fail> {
+    let rows: [(usize, &[u8]); 3] = [(19, b""), (20, b"ok\ta/b\n"), (37, b"ok\ta/b\nok\t\n")];
+    for (until, wanted) in rows {
+        for piece in [ALL, 1] {
+            let (written, outcome) = answered(rt.alloc(), THREE, piece, until);
+            assert_eq!(rt; outcome, Err(LineError::Read));
+            assert_eq!(rt; written.as_slice(), wanted, "failed after {until} bytes");
+        }
+    }
+    Ok(())
+}
+
+#[test]
+fn failing_writer(rt: HostRuntime) -> Result<(), Fail> {
+    let rows: [(usize, usize, &[u8]); 3] = [(1, 4, b"ok\ta"), (5, 1, b"ok\ta/"), (ALL, 0, b"")];
+    for (piece, writes, wanted) in rows {
+        let mut reader = Pieces::new(THREE, ALL, ALL);
+        let mut writer = sink(rt.alloc(), piece, writes);
+        let outcome = answer_lines(rt.alloc(), &mut reader, &mut writer);
+        assert_eq!(rt; outcome, Err(LineError::Write));
+        assert_eq!(rt; writer.taken.as_slice(), wanted);
+    }
+    Ok(())
+}
+
+/// A writer that takes nothing.
+#[derive(Drop)]
+struct Full;
+
+impl Write for Full {
+    fn write(&mut self, _bytes: &[u8]) -> io::Result<usize> {
+        Ok(0)
+    }
+
+    fn flush(&mut self) -> io::Result<()> {
+        Ok(())
+    }
+}
+
+#[test]
+fn streams_of_std(rt: HostRuntime) -> Result<(), Fail> {
+    let mut reader = StdSource::new(THREE);
+    let mut full = StdSink::new(Full);
+    let outcome = answer_lines(rt.alloc(), &mut reader, &mut full);
+    assert_eq!(rt; outcome, Err(LineError::Write));
+
+    let mut reader = StdSource::new(THREE);
+    let mut written = Vec::new(rt.alloc());
+    {
+        let mut writer = StdSink::new(&mut written);
+        let outcome = answer_lines(rt.alloc(), &mut reader, &mut writer);
+        assert_eq!(rt; outcome, Ok(()));
+    }
+    assert_eq!(rt;
+        written.as_slice(),
+        b"ok\ta/b\nok\t\nerr\tBadLine\n".as_slice()
+    );
+    Ok(())
+}
+
+#[test]
+fn a_line_of_megabytes(rt: HostRuntime) -> Result<(), Fail> {
+    let mut line = Vec::with_capacity(rt.alloc(), 3_000_020)?;
+    line.extend_from_slice(b"normalize\tunix\t")?;
+    for _ in 0..600_000 {
+        line.extend_from_slice(b"a/../")?;
+    }
+    let (written, outcome) = answered(rt.alloc(), line.as_slice(), ALL, ALL);
+    assert_eq!(rt; outcome, Ok(()));
+    assert_eq!(rt; written.as_slice(), b"ok\t\n".as_slice());
+    Ok(())
+}
+
+#[test]
+fn statuses(rt: HostRuntime) {
+    let rows = [
+        (Ok(()), 0),
+        (Err(LineError::Read), 1),
+        (Err(LineError::Write), 1),
+        (Err(LineError::OutOfMemory), 2),
+    ];
+    for (outcome, wanted) in rows {
+        assert_eq!(rt; exit_status(&outcome), wanted);
+    }
+}

@@ -1,0 +1,61 @@
+//! Calls of paths with ample memory, and printed texts.
+
+use std::test::Fail;
+use typed_path::{CheckedPathError, UnixPath, UnixPathBuf};
+
+#[test]
+fn normal_texts(rt: HostRuntime) -> Result<(), Fail> {
+    let rows: [(&[u8], &[u8]); 4] = [
+        (b"foo/bar//baz/./asdf/quux/..", b"foo/bar/baz/asdf"),
+        (b"a//b/.", b"a/b"),
+        (b"/../..", b"/"),
+        (b"", b""),
+    ];
+    for (path, wanted) in rows {
+        let normal = UnixPath::new(path).normalize(rt.alloc())?;
+        assert_eq!(rt; normal.into_vec().as_slice(), wanted);
+    }
+    Ok(())
+}
+
+#[test]
+fn printed_errors(rt: HostRuntime) -> Result<(), Fail> {
+    let rows = [
+        (
+            CheckedPathError::InvalidFilename,
+            "path contains invalid filename",
+        ),
+        (
+            CheckedPathError::PathTraversalAttack,
+            "path attempts to escape original path",
+        ),
+        (
+            CheckedPathError::UnexpectedPrefix,
+            "path contains unexpected prefix",
+        ),
+        (
+            CheckedPathError::UnexpectedRoot,
+            "path contains unexpected root",
+        ),
+    ];
+    for (error, wanted) in rows {
+        assert_eq!(rt; error.to_string(rt.alloc())?.as_str(), wanted);
+    }
+    Ok(())
+}
+
+#[test]
+fn an_owned_path(rt: HostRuntime) -> Result<(), Fail> {
+    let mut path = UnixPathBuf::new(rt.alloc());
+    for (pushed, wanted) in [
+        ("etc", "etc"),
+        ("", "etc"),
+        ("a/", "etc/a/"),
+        ("b", "etc/a/b"),
+        ("/x", "/x"),
+    ] {
+        path.push(UnixPath::new(pushed.as_bytes()))?;
+        assert_eq!(rt; path.as_path().as_bytes(), wanted.as_bytes());
+    }
+    Ok(())
+}
