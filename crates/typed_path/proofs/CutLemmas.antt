@@ -7,7 +7,7 @@ use Rattle.memchr.specs.Find.{Nowhere, NoneBefore, Passes}
 use Rattle.typed_path.specs.Lines.{ended, last_piece, all_lines}
 use Rattle.typed_path.proofs.SplitLemmas.{slice_split-some}
 
-fails : (b : Bool) → ¬ (b ≡ true) → b ≡ false
+pub fails : (b : Bool) → ¬ (b ≡ true) → b ≡ false
 fails true h = absurd (h refl)
 fails false h = refl
 

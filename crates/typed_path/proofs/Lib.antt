@@ -1,5 +1,6 @@
 mod BodyLemmas
 mod CutLemmas
+mod DotLemmas
 mod LineLemmas
 mod SettleLemmas
 mod ShapeLemmas

@@ -1,5 +1,5 @@
 -- What a component is, how it is written, and where it stands.
-use Rattle.std.specs.Prelude.{ℕ, ◌+◌, List, [], ◌∷◌, map, length}
+use Rattle.std.specs.Prelude.{ℕ, ◌+◌, List, [], ◌∷◌, map, length, Bool, true, false}
 use Rattle.typed_path.specs.Dialect.{dot}
 
 -- the prefixes of Windows, with their names; a drive is its letter
@@ -54,3 +54,16 @@ root_part text = record { kind = root; text = text }
 
 abbrev pub prefix_part : Prefix → List ℕ → Part
 prefix_part p raw = record { kind = prefix p; text = raw }
+
+-- which of the kinds it is
+abbrev pub is_name : Kind → Bool
+is_name (normal name) = true
+is_name k = false
+
+abbrev pub is_parent : Kind → Bool
+is_parent parent = true
+is_parent k = false
+
+abbrev pub is_current : Kind → Bool
+is_current current = true
+is_current k = false

@@ -2,12 +2,12 @@
 use Rattle.std.specs.Prelude.{◌≡◌, ◌↔◌, ℕ, List, [], ◌∷◌, ◌++◌, Bool, true, false, not, ◌&&◌, ◌||◌, length, codes, bytes_eq, if◌then◌else◌, Option, Some, None, option_map, sum_by}
 use Rattle.std.specs.List.{flat_map}
 use Rattle.typed_path.specs.Dialect.{Dialect, unix, windows, slash, backslash}
-use Rattle.typed_path.specs.Part.{Prefix, verbatim, verbatim_unc, verbatim_disk, device_ns, unc, disk, Kind, prefix, root, Part, kinds, root_part}
+use Rattle.typed_path.specs.Part.{Prefix, verbatim, verbatim_unc, verbatim_disk, device_ns, unc, disk, Kind, prefix, root, Part, kinds, root_part, is_name}
 use Rattle.typed_path.specs.Prefix.{prefix_of, is_empty}
 use Rattle.typed_path.specs.Comps.{parts_of}
 use Rattle.typed_path.specs.Same.{IsSame}
 use Rattle.typed_path.specs.Queries.{is_valid}
-use Rattle.typed_path.specs.Push.{push, fault, is_name}
+use Rattle.typed_path.specs.Push.{push, fault}
 use Rattle.typed_path.specs.Places.{resolve, place, normal_text}
 
 abbrev pub prefix_kind : Dialect → List ℕ → Option Prefix

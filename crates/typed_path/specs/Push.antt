@@ -5,7 +5,7 @@ use Rattle.std.specs.Option.{option_or}
 use Rattle.typed_path.specs.declared.errors.CheckedPathError.{CheckedPathError}
 use Rattle.typed_path.specs.declared.errors.CheckedPathError.TheVariants.{InvalidFilename, PathTraversalAttack, UnexpectedPrefix, UnexpectedRoot}
 use Rattle.typed_path.specs.Dialect.{Dialect, unix, windows, slash, backslash}
-use Rattle.typed_path.specs.Part.{disk, Kind, prefix, root, current, parent, normal, Part, kinds}
+use Rattle.typed_path.specs.Part.{disk, Kind, prefix, root, current, parent, normal, Part, kinds, is_name, is_parent}
 use Rattle.typed_path.specs.Prefix.{Found, prefix_of}
 use Rattle.typed_path.specs.Comps.{parts_of}
 use Rattle.typed_path.specs.Queries.{begins_with_root, begins_with_prefix, has_prefix, has_any_verbatim_prefix, is_allowed_name}
@@ -23,14 +23,6 @@ push_unix base (b ∷ path) = if b == slash then b ∷ path else ended_with slas
 abbrev pub prefix_alone : List Part → List Part
 prefix_alone [] = []
 prefix_alone (p ∷ ps) = if begins_with_prefix (λ q. true) (p.kind ∷ []) then p ∷ [] else []
-
-abbrev pub is_name : Kind → Bool
-is_name (normal name) = true
-is_name k = false
-
-abbrev pub is_parent : Kind → Bool
-is_parent parent = true
-is_parent k = false
 
 -- a list without a name at its end
 abbrev pub without_last_name : List Part → List Part

@@ -2,6 +2,7 @@
 
 mod components;
 mod encoding;
+mod names;
 mod normalize;
 mod path;
 mod path_buf;

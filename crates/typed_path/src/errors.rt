@@ -6,6 +6,14 @@ ghost use Rattle.typed_path.specs.declared.errors.LineError.TheVariants.{OutOfMe
 use std::alloc::{AllocError, AllocFailed};
 use thiserror::Error;
 
+/// The base is no beginning of the path.
+#[derive(Clone, Copy, Debug, PartialEq, Eq, Hash, Error)]
+#[error("prefix not found")]
+pub struct StripPrefixError;
+
+/// Why a component or a prefix could not be read: one of four texts.
+pub type ParseError = &'static str;
+
 /// Why a checked push or a checked conversion was refused.
 #[derive(Clone, Copy, Debug, PartialEq, Eq, Hash, Error)]
 pub enum CheckedPathError {

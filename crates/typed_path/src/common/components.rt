@@ -14,7 +14,9 @@ pub struct Components<'a, T> {
 impl<'a, T: Encoding> Components<'a, T> {
     ghost use Rattle.std.specs.Prelude.{◌≡◌};
     ghost use Rattle.typed_path.specs.CursorViews.{slice_left, items_left};
-    ghost use Rattle.typed_path.specs.PathViews.{components_items, components_slice};
+    ghost use Rattle.typed_path.specs.Part.{kinds};
+    ghost use Rattle.typed_path.specs.Queries.{is_absolute, has_root};
+    ghost use Rattle.typed_path.specs.PathViews.{components_items, components_slice, components_parts};
 
     /// The components that a reading has left.
     pub(crate) fn new(cursor: Cursor<'a>) -> Components<'a, T>
@@ -25,6 +27,30 @@ impl<'a, T: Encoding> Components<'a, T> {
             cursor,
             encoding: PhantomData,
         }
+    }
+
+    /// The slice left: from the first component that is left to the end of the last.
+    ///
+    /// It is the whole text before the first step, and keeps what stands behind the last component
+    /// until a step from the back. Once all components are taken it is empty.
+    pub fn as_bytes(self) -> &'a [u8]
+        ensures { result.now ≡ components_slice self.entry }
+    {
+        self.cursor.as_bytes()
+    }
+
+    /// Whether the components that are left begin an absolute path.
+    pub fn is_absolute(self) -> bool
+        ensures { result ≡ is_absolute T.dialect (kinds (components_parts self.entry)) }
+    {
+        T::absolute(&self.cursor)
+    }
+
+    /// Whether the components that are left begin with a root, written or implied by a prefix.
+    pub fn has_root(self) -> bool
+        ensures { result ≡ has_root T.dialect (kinds (components_parts self.entry)) }
+    {
+        T::rooted(&self.cursor)
     }
 }
 

@@ -7,6 +7,8 @@ ghost use Rattle.typed_path.specs.Left.{slice_after_front};
 ghost use Rattle.typed_path.specs.Steps.{first_part};
 ghost use Rattle.typed_path.specs.Views.{part_of};
 ghost use Rattle.typed_path.specs.CursorViews.{slice_left, items_left};
+ghost use Rattle.typed_path.specs.Part.{kinds, parts};
+ghost use Rattle.typed_path.specs.Queries.{is_absolute, has_root, is_allowed_name};
 ghost use Rattle.typed_path.specs.Push as push_spec;
 
 use crate::scan::{Cursor, Piece};
@@ -36,6 +38,18 @@ pub trait Encoding {
         ensures taken { option_map part_of result ≡ first_part (items_left cursor.old) }
         ensures items { items_left cursor.new ≡ drop 1 (items_left cursor.old) }
         ensures slice { slice_left cursor.new ≡ slice_after_front (items_left cursor.old) (slice_left cursor.old) };
+
+    /// Whether the components that are left begin an absolute path.
+    fn absolute(cursor: &Cursor<'_>) -> bool
+        ensures { result ≡ is_absolute dialect (kinds (parts (items_left cursor.now))) };
+
+    /// Whether the components that are left begin with a root, written or implied by a prefix.
+    fn rooted(cursor: &Cursor<'_>) -> bool
+        ensures { result ≡ has_root dialect (kinds (parts (items_left cursor.now))) };
+
+    /// Whether the encoding allows a name.
+    fn valid(name: &[u8]) -> bool
+        ensures { result ≡ is_allowed_name dialect name.now };
 
     /// Pushes a path onto another. Where memory is refused, the other is as it was.
     fn push(path: &mut Vec<u8>, other: &[u8]) -> Result<(), AllocError>

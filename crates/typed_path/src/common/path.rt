@@ -12,8 +12,10 @@ pub struct Path<'a, T> {
 }
 
 impl<'a, T: Encoding> Path<'a, T> {
-    ghost use Rattle.std.specs.Prelude.{◌≡◌};
-    ghost use Rattle.typed_path.specs.Comps.{comps};
+    ghost use Rattle.std.specs.Prelude.{◌≡◌, not};
+    ghost use Rattle.typed_path.specs.Part.{kinds};
+    ghost use Rattle.typed_path.specs.Comps.{comps, parts_of};
+    ghost use Rattle.typed_path.specs.Queries.{is_absolute, has_root, is_valid};
     ghost use Rattle.typed_path.specs.PathViews.{path_bytes, components_items, components_slice};
 
     /// The path of these bytes, whatever they are.
@@ -39,5 +41,33 @@ impl<'a, T: Encoding> Path<'a, T> {
         ensures slice { components_slice result ≡ path_bytes self.entry }
     {
         Components::new(T::cursor(self.bytes))
+    }
+
+    /// Whether the path leads to one place, whatever the current directory is.
+    pub fn is_absolute(self) -> bool
+        ensures { result ≡ is_absolute T.dialect (kinds (parts_of T.dialect (path_bytes self.entry))) }
+    {
+        self.components().is_absolute()
+    }
+
+    /// Whether the path is not absolute.
+    pub fn is_relative(self) -> bool
+        ensures { result ≡ not (is_absolute T.dialect (kinds (parts_of T.dialect (path_bytes self.entry)))) }
+    {
+        !self.is_absolute()
+    }
+
+    /// Whether the path begins with a root, written or implied by a prefix.
+    pub fn has_root(self) -> bool
+        ensures { result ≡ has_root T.dialect (kinds (parts_of T.dialect (path_bytes self.entry))) }
+    {
+        self.components().has_root()
+    }
+
+    /// Whether the encoding allows every name of the path.
+    pub fn is_valid(self) -> bool
+        ensures { result ≡ is_valid T.dialect (kinds (parts_of T.dialect (path_bytes self.entry))) }
+    {
+        self.components().all(|piece| piece.is_valid::<T>())
     }
 }

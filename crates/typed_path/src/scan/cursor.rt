@@ -25,6 +25,8 @@ impl<'a> Cursor<'a> {
     ghost use Rattle.std.specs.Prelude.{◌≡◌, drop, option_map};
     ghost use Rattle.typed_path.specs.Comps.{body};
     ghost use Rattle.typed_path.specs.Left.{slice_after_front};
+    ghost use Rattle.typed_path.specs.Part.{kinds, parts};
+    ghost use Rattle.typed_path.specs.Queries.{begins_with_root};
     ghost use Rattle.typed_path.specs.Steps.{first_part};
     ghost use Rattle.typed_path.specs.Views.{part_of};
     ghost use Rattle.typed_path.specs.CursorViews.{slice_left, items_left};
@@ -48,6 +50,19 @@ impl<'a> Cursor<'a> {
         ensures { result.now ≡ slice_left self.now }
     {
         &self.text[self.from..self.to]
+    }
+
+    /// Whether the first component that is left is the root.
+    pub fn begins_with_root(&self) -> bool
+        ensures { result ≡ begins_with_root (kinds (parts (items_left self.now))) }
+    {
+        match self.begin {
+            Begin::Body => match self.as_bytes().first() {
+                Some(byte) => self.separators.contains(*byte),
+                None => false,
+            },
+            Begin::Inside => false,
+        }
     }
 
     /// Takes the first component that is left.

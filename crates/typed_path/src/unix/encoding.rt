@@ -3,8 +3,10 @@
 ghost use Rattle.std.specs.Prelude.{◌≡◌, ◌≢◌, [], ◌++◌, OnOk, OnErr};
 ghost use Rattle.typed_path.specs.Dialect.{unix, slash};
 ghost use Rattle.typed_path.specs.Push.{ended_with};
+ghost use Rattle.typed_path.specs.Queries.{is_disallowed};
 
 use crate::common::Encoding;
+use crate::constants::unix::DISALLOWED_FILENAME_BYTES;
 use crate::scan::{Cursor, Piece, Separators};
 use std::alloc::AllocError;
 
@@ -31,6 +33,18 @@ impl Encoding for UnixEncoding {
         cursor.front()
     }
 
+    fn absolute(cursor: &Cursor<'_>) -> bool {
+        cursor.begins_with_root()
+    }
+
+    fn rooted(cursor: &Cursor<'_>) -> bool {
+        cursor.begins_with_root()
+    }
+
+    fn valid(name: &[u8]) -> bool {
+        !name.iter().any(|byte| is_disallowed(*byte))
+    }
+
     fn push(path: &mut Vec<u8>, other: &[u8]) -> Result<(), AllocError> {
         match other {
             [] => Ok(()),
@@ -38,6 +52,13 @@ impl Encoding for UnixEncoding {
             _ => append(path, other),
         }
     }
+}
+
+/// Whether no name may have the byte.
+fn is_disallowed(byte: u8) -> bool
+    ensures { result ≡ is_disallowed unix byte }
+{
+    DISALLOWED_FILENAME_BYTES.contains(&byte)
 }
 
 /// Puts the bytes of another path in the place of those of a path.
