@@ -19,3 +19,4 @@ pub mod PathViews
 pub mod Streams
 pub mod Status
 pub mod Fields
+pub mod IterViews

@@ -2,6 +2,7 @@
 
 mod components;
 mod encoding;
+mod iter;
 mod names;
 mod normalize;
 mod path;
@@ -9,5 +10,6 @@ mod path_buf;
 
 pub use components::Components;
 pub use encoding::Encoding;
+pub use iter::Iter;
 pub use path::Path;
 pub use path_buf::PathBuf;

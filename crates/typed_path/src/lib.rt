@@ -10,8 +10,8 @@ mod script;
 mod unix;
 mod windows;
 
-pub use common::{Components, Encoding, Path, PathBuf};
-pub use errors::{CheckedPathError, LineError};
+pub use common::{Components, Encoding, Iter, Path, PathBuf};
+pub use errors::{CheckedPathError, LineError, ParseError, StripPrefixError};
 pub use scan::{Cursor, Piece, PieceKind};
 pub use script::{Failed, Sink, Source, StdSink, StdSource, answer_lines, exit_status};
 pub use unix::{UnixEncoding, UnixPath, UnixPathBuf};
