@@ -1,6 +1,11 @@
+mod BackLemmas
 mod BodyLemmas
+mod LastLemmas
+mod LeftLemmas
+mod SegmentLemmas
 mod SettleLemmas
 mod ShapeLemmas
+mod TrimLemmas
 pub mod JoinLemmas
 pub mod OrderLaws
 pub mod PartLemmas

@@ -31,6 +31,10 @@ impl Encoding for UnixEncoding {
         cursor.front()
     }
 
+    fn back<'a>(cursor: &mut Cursor<'a>) -> Option<Piece<'a>> {
+        cursor.back()
+    }
+
     fn push(path: &mut Vec<u8>, other: &[u8]) -> Result<(), AllocError> {
         match other {
             [] => Ok(()),
