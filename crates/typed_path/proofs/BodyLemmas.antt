@@ -7,7 +7,7 @@ use Rattle.std.proofs.lemmas.List.Sums.{prefix_len_passes, prefix_len_stops}
 use Rattle.typed_path.specs.declared.scan.separators.Separators.{Separators}
 use Rattle.typed_path.specs.declared.scan.begin.Begin.{Begin}
 use Rattle.typed_path.specs.declared.scan.begin.Begin.TheVariants.{Body, Inside}
-use Rattle.typed_path.specs.Steps.{body_from, is_clean}
+use Rattle.typed_path.specs.Steps.{body_from, is_clean, counts}
 use Rattle.typed_path.specs.Dialect.{is_separator, is_verbatim, root_text}
 use Rattle.typed_path.specs.Left.{slice_after_front}
 use Rattle.typed_path.specs.Part.{Part, Placed, current_part, parent_part, name_part, root_part}
@@ -73,7 +73,7 @@ module _ (s : Separators) (at : ℕ) (text : List ℕ) where
       ap (body_of s) behind.split
       ∙ ap (λ cs. first s (record { text = before_first (is_separator s) text; start = at }) ++ cs) behind.components
 
--- a later segment that counts is read as a first one
+-- a later segment that counts is read as a first one, by the tests
 later_by_tests : (empty dotted verbatim : Bool) (named root current : List Placed) → not empty && (verbatim || not dotted) ≡ true
     → cond empty [] (cond dotted (cond verbatim current []) named) ≡ cond empty root (cond dotted current named)
 later_by_tests false false verbatim named root current h = refl
@@ -81,16 +81,19 @@ later_by_tests false true true named root current h = refl
 later_by_tests false true false named root current h = cc
 later_by_tests true dotted verbatim named root current h = cc
 
+-- the same, for the segment
+pub later-first : (s : Separators) (g : Segment) → counts s g.text ≡ true → later s g ≡ first s g
+later-first s g h = later_by_tests (eqb (length g.text) 0) (is_dot g.text) (is_verbatim s) (named g) _ _ h
+
 -- the first component, and then those behind it, of a text that begins with one
 pub body_from-first : (begin : Begin) (s : Separators) (at b : ℕ) (bs : List ℕ) → is_clean begin s (b ∷ bs) ≡ true
     → body_from begin s at (b ∷ bs) ≡ first s (record { text = before_first (is_separator s) (b ∷ bs); start = at })
     ++ later_body s (at + position_or_len (is_separator s) (b ∷ bs)) (drop (position_or_len (is_separator s) (b ∷ bs)) (b ∷ bs))
 body_from-first Body s at b bs h = body_of-first s at (b ∷ bs)
 body_from-first Inside s at b bs h =
-    let name = before_first (is_separator s) (b ∷ bs) in
     let n = position_or_len (is_separator s) (b ∷ bs) in
     later_body-first s at (b ∷ bs)
-    ∙ ap (λ cs. cs ++ later_body s (at + n) (drop n (b ∷ bs))) (later_by_tests (eqb (length name) 0) (is_dot name) (is_verbatim s) (named (record { text = name; start = at })) _ _ h)
+    ∙ ap (λ cs. cs ++ later_body s (at + n) (drop n (b ∷ bs))) (later-first s (record { text = before_first (is_separator s) (b ∷ bs); start = at }) h)
 
 -- a first segment is a component at its place
 first_is_component : (s : Separators) (g : Segment) → (p : Part) × (first s g ≡ component p g.start)
@@ -104,14 +107,19 @@ first_is_component s g = by_tests (eqb (length g.text) 0) (is_dot g.text) (is_do
     by_tests false false true = (parent_part, refl)
     by_tests false false false = (name_part g.text, refl)
 
+-- an empty text has no component
+pub body_from-empty : (begin : Begin) (s : Separators) (at : ℕ) → body_from begin s at [] ≡ []
+body_from-empty Body s at = refl
+body_from-empty Inside s at = refl
+
 -- a clean text begins with its first component
-later_body-starts : (s : Separators) (at b : ℕ) (bs : List ℕ) → is_clean Inside s (b ∷ bs) ≡ true
-    → (p : Part) × (cs : List Placed) × (later_body s at (b ∷ bs) ≡ record { part = p; start = at } ∷ cs)
-later_body-starts s at b bs clean =
+pub body_from-starts : (begin : Begin) (s : Separators) (at b : ℕ) (bs : List ℕ) → is_clean begin s (b ∷ bs) ≡ true
+    → (p : Part) × (cs : List Placed) × (body_from begin s at (b ∷ bs) ≡ record { part = p; start = at } ∷ cs)
+body_from-starts begin s at b bs clean =
     let n = position_or_len (is_separator s) (b ∷ bs) in
     let g : Segment = record { text = before_first (is_separator s) (b ∷ bs); start = at } in
     let p = first_is_component s g in
-    (p.0, later_body s (at + n) (drop n (b ∷ bs)), body_from-first Inside s at b bs clean ∙ ap (λ cs. cs ++ later_body s (at + n) (drop n (b ∷ bs))) p.1)
+    (p.0, later_body s (at + n) (drop n (b ∷ bs)), body_from-first begin s at b bs clean ∙ ap (λ cs. cs ++ later_body s (at + n) (drop n (b ∷ bs))) p.1)
 
 -- behind the first component the slice left begins with the next one
 pub slice_after_front-first : (s : Separators) (p : Part) (at k : ℕ) (slice : List ℕ) → is_clean Inside s (drop k slice) ≡ true
@@ -126,7 +134,7 @@ slice_after_front-first s p at k slice clean = by_rest (drop k slice) refl clean
         → slice_after_front (component p at ++ later_body s (at + k) rest) slice ≡ drop k slice
     by_rest [] e h = e
     by_rest (b ∷ bs) e h =
-        let next = later_body-starts s (at + k) b bs h in
+        let next = body_from-starts Inside s (at + k) b bs h in
         by_next (later_body s (at + k) (b ∷ bs)) next.0 next.1 next.2
 
 -- a range of a text that begins later

@@ -1,10 +1,15 @@
+mod BackLemmas
 mod BodyLemmas
 mod CutLemmas
 mod DotLemmas
+mod LastLemmas
+mod LeftLemmas
 mod LineLemmas
+mod SegmentLemmas
 mod SettleLemmas
 mod ShapeLemmas
 mod StreamLemmas
+mod TrimLemmas
 pub mod JoinLemmas
 pub mod OrderLaws
 pub mod PartLemmas

@@ -1,13 +1,14 @@
 -- What is left of a text, by where it begins.
-use Rattle.std.specs.Prelude.{ℕ, List, [], ◌∷◌, Bool, true, not, ◌||◌, ◌&&◌, ◌==◌, length, Option, option_map}
-use Rattle.std.specs.List.{before_first}
+use Rattle.std.specs.Prelude.{ℕ, List, [], ◌∷◌, Bool, true, not, ◌||◌, ◌&&◌, ◌==◌, nat_lt, length, Option, option_map}
+use Rattle.std.specs.Option.{unwrap_or}
+use Rattle.std.specs.List.{before_first, after_last}
 use Rattle.typed_path.specs.declared.scan.separators.Separators.{Separators}
 use Rattle.typed_path.specs.declared.scan.begin.Begin.{Begin}
 use Rattle.typed_path.specs.declared.scan.begin.Begin.TheVariants.{Body, Inside}
 use Rattle.typed_path.specs.Dialect.{is_separator, is_verbatim}
-use Rattle.typed_path.specs.Part.{Part, Placed}
+use Rattle.typed_path.specs.Part.{Part, Placed, end_of}
 use Rattle.typed_path.specs.Comps.{body, later_body, is_dot}
-use Rattle.typed_path.specs.Left.{first_of}
+use Rattle.typed_path.specs.Left.{first_of, last_of}
 
 -- the components of a text that begins at a place
 abbrev pub body_from : Begin → Separators → ℕ → List ℕ → List Placed
@@ -24,5 +25,16 @@ is_clean Body s text = true
 is_clean Inside s [] = true
 is_clean Inside s (b ∷ bs) = counts s (before_first (is_separator s) (b ∷ bs))
 
+-- a text ends with a component: it is one byte long or empty, or its last segment counts
+abbrev pub is_trimmed : Separators → List ℕ → Bool
+is_trimmed s text = nat_lt (length text) 2 || counts s (after_last (is_separator s) text)
+
+-- where the last component ends, or the given place where there is none
+abbrev pub end_from : ℕ → List Placed → ℕ
+end_from at cs = unwrap_or (option_map end_of (last_of cs)) at
+
 abbrev pub first_part : List Placed → Option Part
 first_part cs = option_map (λ c. c.part) (first_of cs)
+
+abbrev pub last_part : List Placed → Option Part
+last_part cs = option_map (λ c. c.part) (last_of cs)

@@ -69,3 +69,15 @@ impl<'a, T: Encoding> Iterator for Components<'a, T> {
         T::front(&mut self.cursor)
     }
 }
+
+impl<'a, T: Encoding> DoubleEndedIterator for Components<'a, T> {
+    ghost use Rattle.std.specs.Iterator.{YieldsLastBy};
+    ghost use Rattle.typed_path.specs.PathViews.{components_parts};
+    ghost use Rattle.typed_path.specs.Views.{part_of};
+
+    ghost next_back_gives = { YieldsLastBy part_of components_parts };
+
+    fn next_back(&mut self) -> Option<Piece<'a>> {
+        T::back(&mut self.cursor)
+    }
+}

@@ -3,8 +3,8 @@
 ghost use Rattle.std.specs.Prelude.{◌≡◌, drop, option_map, OnOk, OnErr};
 ghost use Rattle.typed_path.specs.Dialect.{Dialect, root_of, label_of};
 ghost use Rattle.typed_path.specs.Comps.{comps};
-ghost use Rattle.typed_path.specs.Left.{slice_after_front};
-ghost use Rattle.typed_path.specs.Steps.{first_part};
+ghost use Rattle.typed_path.specs.Left.{but_last, slice_after_front, slice_after_back};
+ghost use Rattle.typed_path.specs.Steps.{first_part, last_part};
 ghost use Rattle.typed_path.specs.Views.{part_of};
 ghost use Rattle.typed_path.specs.CursorViews.{slice_left, items_left};
 ghost use Rattle.typed_path.specs.Part.{kinds, parts};
@@ -38,6 +38,12 @@ pub trait Encoding {
         ensures taken { option_map part_of result ≡ first_part (items_left cursor.old) }
         ensures items { items_left cursor.new ≡ drop 1 (items_left cursor.old) }
         ensures slice { slice_left cursor.new ≡ slice_after_front (items_left cursor.old) (slice_left cursor.old) };
+
+    /// Takes the last component that is left, with the separators before it.
+    fn back<'a>(cursor: &mut Cursor<'a>) -> Option<Piece<'a>>
+        ensures taken { option_map part_of result ≡ last_part (items_left cursor.old) }
+        ensures items { items_left cursor.new ≡ but_last (items_left cursor.old) }
+        ensures slice { slice_left cursor.new ≡ slice_after_back (items_left cursor.old) (slice_left cursor.old) };
 
     /// Whether the components that are left begin an absolute path.
     fn absolute(cursor: &Cursor<'_>) -> bool

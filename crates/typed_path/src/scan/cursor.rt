@@ -6,7 +6,7 @@ ghost use Rattle.typed_path.specs.Steps.{is_clean};
 use crate::scan::begin::Begin;
 use crate::scan::piece::Piece;
 use crate::scan::separators::Separators;
-use crate::scan::step::front_step;
+use crate::scan::step::{back_step, front_step};
 
 /// The place of a reading of a text: where the components that are left begin and end.
 #[derive(Clone, Copy, Debug)]
@@ -24,10 +24,10 @@ pub struct Cursor<'a> {
 impl<'a> Cursor<'a> {
     ghost use Rattle.std.specs.Prelude.{◌≡◌, drop, option_map};
     ghost use Rattle.typed_path.specs.Comps.{body};
-    ghost use Rattle.typed_path.specs.Left.{slice_after_front};
+    ghost use Rattle.typed_path.specs.Left.{but_last, slice_after_front, slice_after_back};
     ghost use Rattle.typed_path.specs.Part.{kinds, parts};
     ghost use Rattle.typed_path.specs.Queries.{begins_with_root};
-    ghost use Rattle.typed_path.specs.Steps.{first_part};
+    ghost use Rattle.typed_path.specs.Steps.{first_part, last_part};
     ghost use Rattle.typed_path.specs.Views.{part_of};
     ghost use Rattle.typed_path.specs.CursorViews.{slice_left, items_left};
 
@@ -78,6 +78,21 @@ impl<'a> Cursor<'a> {
         let (piece, taken) = front_step(left, self.separators);
         self.from += taken;
         self.begin = Begin::Inside;
+        Some(piece)
+    }
+
+    /// Takes the last component that is left.
+    pub fn back(&mut self) -> Option<Piece<'a>>
+        ensures taken { option_map part_of result ≡ last_part (items_left self.old) }
+        ensures items { items_left self.new ≡ but_last (items_left self.old) }
+        ensures slice { slice_left self.new ≡ slice_after_back (items_left self.old) (slice_left self.old) }
+    {
+        let left = self.as_bytes();
+        if left.is_empty() {
+            return None;
+        }
+        let (piece, kept) = back_step(left, self.separators);
+        self.to = self.from + kept;
         Some(piece)
     }
 }

@@ -1,7 +1,7 @@
 //! Which bytes separate the components of a text.
 
 ghost use Rattle.std.specs.Prelude.{◌≡◌, ◌≤◌, length};
-ghost use Rattle.std.specs.List.{position_or_len};
+ghost use Rattle.std.specs.List.{position_or_len, IsAfterLastMatch};
 ghost use Rattle.typed_path.specs.Dialect.{is_separator, is_verbatim, root_text};
 
 /// The separators of one text, and with them the way in which it is read.
@@ -58,5 +58,17 @@ impl Separators {
             }
         }
         bytes.len()
+    }
+
+    /// The place behind the last separator, or 0 where there is none. Reads from the end, and no further than that separator.
+    pub fn last_in(self, bytes: &[u8]) -> usize
+        ensures within { result ≤ length bytes.now }
+        ensures last { IsAfterLastMatch (is_separator self) bytes.now result }
+    {
+        let mut start = bytes.len();
+        while start > 0 && !self.contains(bytes[start - 1]) {
+            start -= 1;
+        }
+        start
     }
 }

@@ -1,8 +1,8 @@
 //! One component at a time, off a plain slice.
 
-ghost use Rattle.std.specs.Prelude.{◌≡◌, ◌≤◌, ◌<◌, ◌+◌, ◌++◌, ℕ, true, drop, length, IfSome, IfNone};
+ghost use Rattle.std.specs.Prelude.{◌≡◌, ◌≤◌, ◌<◌, ◌+◌, ◌++◌, ℕ, true, not, take, drop, length, IfSome, IfNone};
 ghost use Rattle.typed_path.specs.Comps.{component, first, later_body};
-ghost use Rattle.typed_path.specs.Steps.{body_from, is_clean};
+ghost use Rattle.typed_path.specs.Steps.{body_from, is_clean, is_trimmed, end_from};
 ghost use Rattle.typed_path.specs.Views.{part_of};
 ghost use Rattle.typed_path.specs.declared.scan.begin.Begin.{Begin};
 
@@ -67,4 +67,53 @@ pub fn front_step(text: &[u8], separators: Separators) -> (Piece<'_>, usize)
     let end = separators.first_in(text);
     let behind = skip_blanks(&text[end..], separators);
     (piece_of(&text[..end], separators), end + behind)
+}
+
+/// Whether the last byte of a text belongs to no component: it is a separator, or a `.` behind one. A byte that stands
+/// alone belongs to one.
+fn ends_blank(text: &[u8], separators: Separators) -> bool
+    ensures { result ≡ not (is_trimmed separators text.now) }
+{
+    let Some((last, front)) = text.split_last() else {
+        return false;
+    };
+    let Some(before) = front.last() else {
+        return false;
+    };
+    separators.contains(*last)
+        || (*last == b'.' && !separators.is_verbatim() && separators.contains(*before))
+}
+
+/// How many bytes of a text stand up to the end of its last component.
+fn trim_blanks(text: &[u8], separators: Separators) -> usize
+    ensures within { result ≤ length text.now }
+    ensures some { 0 < length text.now → 0 < result }
+    ensures same { (begin : Begin) (at : ℕ) → body_from begin separators at (take result text.now) ≡ body_from begin separators at text.now }
+    ensures clean { (begin : Begin) → is_clean begin separators (take result text.now) ≡ is_clean begin separators text.now }
+    ensures trimmed { is_trimmed separators (take result text.now) ≡ true }
+{
+    let mut end = text.len();
+    'blanks: while ends_blank(&text[..end], separators) {
+        end -= 1;
+    }
+    end
+}
+
+/// The last component of a text that is not empty, and how many bytes stand up to the end of the one before it.
+pub fn back_step(text: &[u8], separators: Separators) -> (Piece<'_>, usize)
+    requires { 0 < length text.now }
+    ensures within { result.1 ≤ length text.now }
+    ensures last { (begin : Begin) (at : ℕ) → is_clean begin separators text.now ≡ true
+        → (place : ℕ) × (body_from begin separators at text.now ≡ body_from begin separators at (take result.1 text.now) ++ component (part_of result.0) place) }
+    ensures ends { (begin : Begin) (at : ℕ) → is_clean begin separators text.now ≡ true
+        → end_from at (body_from begin separators at (take result.1 text.now)) ≡ at + result.1 }
+    ensures clean { (begin : Begin) → is_clean begin separators text.now ≡ true → is_clean begin separators (take result.1 text.now) ≡ true }
+{
+    let last = &text[..trim_blanks(text, separators)];
+    let start = separators.last_in(last);
+    let piece = piece_of(&last[start..], separators);
+    if start == last.len() {
+        return (piece, 0);
+    }
+    (piece, trim_blanks(&last[..start], separators))
 }

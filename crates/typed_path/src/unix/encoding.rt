@@ -33,6 +33,10 @@ impl Encoding for UnixEncoding {
         cursor.front()
     }
 
+    fn back<'a>(cursor: &mut Cursor<'a>) -> Option<Piece<'a>> {
+        cursor.back()
+    }
+
     fn absolute(cursor: &Cursor<'_>) -> bool {
         cursor.begins_with_root()
     }
