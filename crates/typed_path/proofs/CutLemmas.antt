@@ -1,11 +1,9 @@
 -- A list cut at the first element that passes a test.
-use Rattle.std.proofs.Common.{◌≡◌, ℕ, zero, suc, ◌+◌, ◌<◌, ◌≤◌, ◌≢◌, List, [], ◌∷◌, ◌++◌, Bool, true, false, cond, length, take, drop, get_or, slice_index, refl, sym, ap, subst, ◌∙◌, All, arith, add-one}
-use Rattle.std.specs.List.{slice_split, onto_first}
+use Rattle.std.proofs.Common.{◌≡◌, ℕ, ◌+◌, ◌<◌, ◌≤◌, List, [], ◌∷◌, ◌++◌, Bool, true, false, length, take, drop, slice_index, refl, sym, ap, subst, ◌∙◌, All, arith}
+use Rattle.std.specs.List.{slice_split}
 use Rattle.std.proofs.lemmas.List.{drop_more, take-append-drop, get_or_default, get_or-take, length-take-le, take_all}
-use Rattle.std.proofs.lemmas.List.Splits.{slice_split_none, slice_split_at, slice_split-cons_yes, slice_split-cons_no}
+use Rattle.std.proofs.lemmas.List.Splits.{slice_split_none, slice_split_at}
 use Rattle.memchr.specs.Find.{Nowhere, NoneBefore, Passes}
-use Rattle.typed_path.specs.Lines.{ended, last_piece, all_lines}
-use Rattle.typed_path.proofs.SplitLemmas.{slice_split-some}
 
 pub fails : (b : Bool) → ¬ (b ≡ true) → b ≡ false
 fails true h = absurd (h refl)
@@ -28,6 +26,6 @@ module _ (p : ℕ → Bool) (text : List ℕ) where
       let within = none.high in
       let front = none_passes n (omega arith) none.before in (
         ap (slice_split p) (sym (take-append-drop n text) ∙ ap (λ rest. take n text ++ rest) (drop_more text n 0 within))
-        ∙ slice_split_at p (take n text) (slice_index text n) (drop (n + 1) text) front passes,
+            ∙ slice_split_at p (take n text) (slice_index text n) (drop (n + 1) text) front passes,
         slice_split_none p (take n text) front,
       )

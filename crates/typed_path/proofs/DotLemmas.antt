@@ -1,7 +1,7 @@
 -- The last dot of a name.
-use Rattle.std.proofs.Common.{◌≡◌, ℕ, suc, zero, ◌+◌, ◌-◌, ◌<◌, ◌≤◌, List, Bool, true, false, not, cond, length, take, drop, get_or, slice_index, refl, sym, ap, ◌∙◌, All, arith, Option}
+use Rattle.std.proofs.Common.{◌≡◌, ℕ, ◌+◌, ◌-◌, ◌<◌, List, true, false, not, cond, length, take, drop, get_or, ap, ◌∙◌, arith}
 use Rattle.std.specs.Prelude.{Some, None}
-use Rattle.std.specs.List.{list_any, suffix_len, before_last, after_last}
+use Rattle.std.specs.List.{suffix_len, before_last, after_last}
 use Rattle.std.proofs.lemmas.List.{get_or-drop, get_or_default, length-drop}
 use Rattle.std.proofs.lemmas.List.Folds.{list_any_none, list_any_at}
 use Rattle.std.proofs.lemmas.List.Sums.{suffix_len_is}
@@ -34,7 +34,7 @@ module _ (name : List ℕ) where
     behind_last =
         let within = last.high in
         suffix_len_is (λ b. not (is_a_dot b)) name (at + 1) 0 (omega arith) (λ k low high. ap not (fails _ (last.after k low high)))
-            (λ _. ap (λ i. not (is_a_dot (get_or name i 0))) (omega arith) ∙ ap not is_dot)
+        (λ _. ap (λ i. not (is_a_dot (get_or name i 0))) (omega arith) ∙ ap not is_dot)
 
     pub stem-before : stem_of name ≡ take at name
     stem-before =

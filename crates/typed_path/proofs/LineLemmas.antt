@@ -1,8 +1,8 @@
 -- Lines of an input that comes in pieces.
-use Rattle.std.proofs.Common.{◌≡◌, ℕ, ◌+◌, List, [], ◌∷◌, ◌++◌, Bool, true, false, cond, append_assoc, append-nil, eqb, length, refl, sym, ap, subst, ◌∙◌}
-use Rattle.std.specs.List.{slice_split, onto_first, flat_map}
-use Rattle.std.proofs.lemmas.List.Splits.{slice_split-cons_yes, slice_split-cons_no}
-use Rattle.typed_path.specs.Lines.{line_feed, pieces_of, ended, last_piece, all_lines, complete_lines, open_line, lines_of, reply, replies_to, answers}
+use Rattle.std.proofs.Common.{◌≡◌, ℕ, List, [], ◌∷◌, ◌++◌, Bool, true, false, cond, append_assoc, eqb, refl, sym, ap, ◌∙◌}
+use Rattle.std.specs.List.{slice_split, onto_first}
+use Rattle.std.proofs.lemmas.List.Splits.{slice_split-cons_no}
+use Rattle.typed_path.specs.Lines.{line_feed, pieces_of, ended, last_piece, all_lines, complete_lines, open_line, lines_of, reply, replies_to}
 use Rattle.typed_path.proofs.SplitLemmas.{slice_split-some}
 
 ended-cons : (p : List ℕ) (q : List ℕ) (ps qs : List (List ℕ)) → qs ≡ q ∷ ps → ended (p ∷ qs) ≡ p ∷ ended qs
@@ -25,7 +25,7 @@ module _ (p : ℕ → Bool) where
   pieces_behind : (x : ℕ) (u v : List ℕ) (b : Bool) → p x ≡ b → (piece : List ℕ) (pieces : List (List ℕ)) → slice_split p u ≡ piece ∷ pieces
       → slice_split p (u ++ v) ≡ ended (slice_split p u) ++ slice_split p (last_piece (slice_split p u) ++ v)
       → cond b ([] ∷ slice_split p (u ++ v)) (onto_first x (slice_split p (u ++ v)))
-        ≡ ended (cond b ([] ∷ slice_split p u) (onto_first x (slice_split p u))) ++ slice_split p (last_piece (cond b ([] ∷ slice_split p u) (onto_first x (slice_split p u))) ++ v)
+      ≡ ended (cond b ([] ∷ slice_split p u) (onto_first x (slice_split p u))) ++ slice_split p (last_piece (cond b ([] ∷ slice_split p u) (onto_first x (slice_split p u))) ++ v)
   pieces_behind x u v true passes piece pieces some rest =
       ap (λ ps. [] ∷ ps) rest
       ∙ ap (λ ps. ps ++ slice_split p (last_piece (slice_split p u) ++ v)) (sym (ended-cons [] piece pieces (slice_split p u) some))
@@ -77,7 +77,6 @@ lines_of-open input =
 pub replies_to-append : (ls ms : List (List ℕ)) → replies_to (ls ++ ms) ≡ replies_to ls ++ replies_to ms
 replies_to-append [] ms = refl
 replies_to-append (l ∷ ls) ms = ap (λ bs. reply l ++ bs) (replies_to-append ls ms) ∙ sym (append_assoc (reply l) (replies_to ls) (replies_to ms))
-
 
 module _ (p : ℕ → Bool) where
   -- a text with no separator in front of others goes on in their first piece

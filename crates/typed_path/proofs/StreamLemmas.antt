@@ -1,10 +1,10 @@
 -- Bytes that were read and written, step after step.
-use Rattle.std.proofs.Common.{◌≡◌, ◌⊎◌, inl, inr, ℕ, List, [], ◌∷◌, ◌++◌, Bool, true, append_assoc, append-nil, take, length, refl, sym, ap, subst, ◌∙◌}
-use Rattle.std.specs.Prelude.{Option, Some, None, ⊤}
+use Rattle.std.proofs.Common.{◌≡◌, inl, inr, ℕ, List, [], ◌∷◌, ◌++◌, Bool, true, append_assoc, append-nil, take, length, refl, sym, ap, subst, ◌∙◌}
+use Rattle.std.specs.Prelude.{Option, Some, None}
 use Rattle.std.specs.Io.KnownBytes.{Appends, Consumes, IsAtEnd}
 use Rattle.std.proofs.lemmas.List.{take_at}
-use Rattle.typed_path.specs.Lines.{answers, replies_to, complete_lines, open_line, all_lines, lines_of}
-use Rattle.typed_path.specs.Streams.{Streams, streams, KeepsIfTold, IsBeginning, ConsumesIfTold, AppendsIfTold, WritesPart, AnswersAll, StopsReading, StopsWriting, RunsOut}
+use Rattle.typed_path.specs.Lines.{answers, replies_to, complete_lines, open_line, all_lines}
+use Rattle.typed_path.specs.Streams.{Streams, streams, KeepsIfTold, ConsumesIfTold, AppendsIfTold, WritesPart, AnswersAll, StopsWriting, RunsOut}
 use Rattle.typed_path.proofs.LineLemmas.{complete_lines-append, open_line-append, lines_of-open, replies_to-append}
 
 pub Appends-nothing : (told : Option (List ℕ)) → Appends told told []
@@ -102,7 +102,7 @@ module _ {before now : Streams} {line : List ℕ} (r : Reads before now line) wh
   answers_all : replies_to (complete_lines r.read) ++ replies_to (all_lines (line ∷ [])) ≡ answers r.read
   answers_all =
       sym (ap replies_to (lines_of-open r.read) ∙ replies_to-append (complete_lines r.read) (all_lines (open_line r.read ∷ []))
-          ∙ ap (λ l. replies_to (complete_lines r.read) ++ replies_to (all_lines (l ∷ []))) (sym r.begun))
+      ∙ ap (λ l. replies_to (complete_lines r.read) ++ replies_to (all_lines (l ∷ []))) (sym r.begun))
 
   pub Reads-runs_out : (input : Option (List ℕ)) (failed : Bool) (chunk : List ℕ) → Consumes now.input input chunk → failed ≡ now.input_failed
       → RunsOut before (streams input failed now.output now.output_failed)

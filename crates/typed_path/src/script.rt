@@ -8,7 +8,6 @@ mod status;
 mod std_streams;
 mod streams;
 
-
 pub use answer::answer_lines;
 pub use status::exit_status;
 pub use std_streams::{StdSink, StdSource};

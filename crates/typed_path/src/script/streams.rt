@@ -17,7 +17,9 @@ pub struct Failed;
 /// reads may still give bytes.
 pub trait Source {
     ghost remaining: { Self → Option (List ℕ) };
+
     ghost has_failed: { Self → Bool };
+
     ghost bound: { Self → ℕ };
 
     /// Reads into the buffer, and answers how many bytes came. Into a buffer that is not empty, none
@@ -37,6 +39,7 @@ pub trait Source {
 /// It tells the bytes that were written where it can, and whether it has failed.
 pub trait Sink {
     ghost contents: { Self → Option (List ℕ) };
+
     ghost has_failed: { Self → Bool };
 
     /// Writes bytes from the front of the slice, and answers how many: at least one of a slice that

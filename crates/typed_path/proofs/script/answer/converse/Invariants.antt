@@ -9,7 +9,7 @@ invariant-reads g l = record {
       (streams (g.R.Source.remaining l.fn.reader) (g.R.Source.has_failed l.fn.reader) (g.W.Sink.contents l.fn.writer) (g.W.Sink.has_failed l.fn.writer))
       (streams (g.R.Source.remaining l.reader) (g.R.Source.has_failed l.reader) (g.W.Sink.contents l.writer) (g.W.Sink.has_failed l.writer))
       l.dialogue.line.items;
-  no_replies : l.dialogue.replies.items ≡ []
+  no_replies : l.dialogue.replies.items ≡ [];
 }
 
 abbrev pub decreases-reads : goal.decreases-reads

@@ -7,6 +7,6 @@ pub writes-preserved : goal.writes-preserved
 writes-preserved g c = record {
   written = rw (take_rest c.writes.rest.now c.in_ok-count.count)
       (Writes-step (g.W.Sink.contents c.write.new.self) (take c.in_ok-count.count c.writes.rest.now) (drop c.in_ok-count.count c.writes.rest.now)
-          (sym (take-append-drop c.in_ok-count.count c.writes.rest.now)) c.in_ok-count.ensures.bytes c.writes.invariant.written);
+      (sym (take-append-drop c.in_ok-count.count c.writes.rest.now)) c.in_ok-count.ensures.bytes c.writes.invariant.written);
   unfailed = c.in_ok-count.ensures.unfailed ∙ c.writes.invariant.unfailed;
 }

@@ -5,7 +5,7 @@ use Rattle.typed_path.proofs.script.answer.write_all.Given as goal
 abbrev pub invariant-writes : goal.invariant-writes
 invariant-writes g l = record {
   written : Writes (g.W.Sink.contents l.fn.writer) (g.W.Sink.contents l.writer) l.bytes l.rest;
-  unfailed : g.W.Sink.has_failed l.writer ≡ g.W.Sink.has_failed l.fn.writer
+  unfailed : g.W.Sink.has_failed l.writer ≡ g.W.Sink.has_failed l.fn.writer;
 }
 
 abbrev pub decreases-writes : goal.decreases-writes

@@ -1,4 +1,4 @@
-use Rattle.std.proofs.Common.{ℕ, ◌+◌, ◌==◌}
+use Rattle.std.proofs.Common.{◌+◌, ◌==◌}
 use Rattle.std.proofs.lemmas.List.{take_rest}
 use Rattle.typed_path.proofs.CutLemmas.{split-nowhere, split-first}
 use Rattle.typed_path.proofs.script.fields.cut_at.Goals as goal

@@ -1,4 +1,4 @@
-use Rattle.std.proofs.Common.{◌≡◌, List, [], ◌∷◌, ◌&&◌, rules, tests, refl, ap, sym, ◌∙◌}
+use Rattle.std.proofs.Common.{◌≡◌, List, [], ◌∷◌, ◌&&◌, rules, tests, refl, ap, ◌∙◌}
 use Rattle.std.specs.List.{list_all}
 use Rattle.std.proofs.lemmas.Iterator.Consumers.{YieldsList-from_first}
 use Rattle.std.proofs.lemmas.Iterator.Search.{all_from_yields_List}
@@ -19,5 +19,5 @@ pub returns : goal.returns
 returns g c =
     let d = g.T.Encoding.dialect in
     all_from_yields_List (λ p. is_allowed d p.kind) c.all.new.self _ _ c.all.ensures.ran
-        (YieldsList-from_first part_of components_parts (parts_of d (path_bytes c.args.self)) (ap parts c.components.ensures.items)) (λ x b q k. search (rules, tests))
+    (YieldsList-from_first part_of components_parts (parts_of d (path_bytes c.args.self)) (ap parts c.components.ensures.items)) (λ x b q k. search (rules, tests))
     ∙ valid-parts d (parts_of d (path_bytes c.args.self))

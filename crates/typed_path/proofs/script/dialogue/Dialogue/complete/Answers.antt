@@ -1,9 +1,9 @@
-use Rattle.std.proofs.Common.{sym, ap, subst, List, ℕ, ◌≡◌, ◌∷◌, []}
+use Rattle.std.proofs.Common.{sym, subst, ◌≡◌, ◌∷◌, []}
 use Rattle.typed_path.specs.Lines.{pieces_of}
 use Rattle.typed_path.proofs.LineLemmas.{joined-open}
 use Rattle.typed_path.proofs.script.dialogue.Dialogue.complete.Goals as goal
 
 pub invariant_of-self-in-Break-branch-2 : goal.invariant_of-self-in-Break-branch-2
 invariant_of-self-in-Break-branch-2 c = record {
-  is_open = subst (λ line. pieces_of line ≡ line ∷ []) (sym c.in_ok-extend_from_slice.ensures.items) (joined-open c.args.self.now.line.items c.args.self.now.is_open c.args.piece.now c.requires)
+  is_open = subst (λ line. pieces_of line ≡ line ∷ []) (sym c.in_ok-extend_from_slice.ensures.items) (joined-open c.args.self.now.line.items c.args.self.now.is_open c.args.piece.now c.requires);
 }

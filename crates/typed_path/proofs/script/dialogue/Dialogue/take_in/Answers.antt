@@ -31,5 +31,5 @@ lines-preserved c = record {
 
 pub invariant_of-self : goal.invariant_of-self
 invariant_of-self c = record {
-  is_open = still_open c.lines.self.line.items c.lines.rest.now _ _ c.lines.self.is_open c.in_default.ensures.pieces c.extend_from_slice.ensures.items
+  is_open = still_open c.lines.self.line.items c.lines.rest.now _ _ c.lines.self.is_open c.in_default.ensures.pieces c.extend_from_slice.ensures.items;
 }

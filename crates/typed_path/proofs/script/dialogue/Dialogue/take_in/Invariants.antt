@@ -6,7 +6,7 @@ abbrev pub invariant-lines : goal.invariant-lines
 invariant-lines l = record {
   replies : l.self.replies.items ++ replies_to (complete_lines (l.self.line.items ++ l.rest))
       ≡ l.fn.self.replies.items ++ replies_to (complete_lines (l.fn.self.line.items ++ l.fn.input));
-  line : open_line (l.self.line.items ++ l.rest) ≡ open_line (l.fn.self.line.items ++ l.fn.input)
+  line : open_line (l.self.line.items ++ l.rest) ≡ open_line (l.fn.self.line.items ++ l.fn.input);
 }
 
 abbrev pub decreases-lines : goal.decreases-lines
