@@ -20,3 +20,4 @@ pub mod Streams
 pub mod Status
 pub mod Fields
 pub mod IterViews
+pub mod UnixViews

@@ -1,5 +1,6 @@
 //! Paths of every encoding.
 
+mod component;
 mod components;
 mod encoding;
 mod iter;
@@ -8,6 +9,7 @@ mod normalize;
 mod path;
 mod path_buf;
 
+pub use component::Component;
 pub use components::Components;
 pub use encoding::Encoding;
 pub use iter::Iter;

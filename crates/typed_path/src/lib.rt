@@ -10,9 +10,9 @@ mod script;
 mod unix;
 mod windows;
 
-pub use common::{Components, Encoding, Iter, Path, PathBuf};
+pub use common::{Component, Components, Encoding, Iter, Path, PathBuf};
 pub use errors::{CheckedPathError, LineError, ParseError, StripPrefixError};
 pub use scan::{Cursor, Piece, PieceKind};
 pub use script::{Failed, Sink, Source, StdSink, StdSource, answer_lines, exit_status};
-pub use unix::{UnixEncoding, UnixPath, UnixPathBuf};
+pub use unix::{UnixComponent, UnixEncoding, UnixPath, UnixPathBuf};
 pub use windows::WindowsPrefix;

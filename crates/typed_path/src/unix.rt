@@ -1,8 +1,10 @@
 //! Unix paths.
 
+mod component;
 mod encoding;
 
 use crate::common::{Path, PathBuf};
+pub use component::UnixComponent;
 pub use encoding::UnixEncoding;
 
 /// A path that is written as on Unix.

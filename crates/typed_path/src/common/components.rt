@@ -12,7 +12,10 @@ pub struct Components<'a, T> {
 }
 
 impl<'a, T: Encoding> Components<'a, T> {
-    ghost use Rattle.std.specs.Prelude.{◌≡◌};
+    ghost use Rattle.std.specs.Prelude.{◌≡◌, drop, option_map};
+    ghost use Rattle.typed_path.specs.Left.{but_last, slice_after_front, slice_after_back};
+    ghost use Rattle.typed_path.specs.Steps.{first_part, last_part};
+    ghost use Rattle.typed_path.specs.Views.{part_of};
     ghost use Rattle.typed_path.specs.CursorViews.{slice_left, items_left};
     ghost use Rattle.typed_path.specs.Part.{kinds};
     ghost use Rattle.typed_path.specs.Queries.{is_absolute, has_root};
@@ -27,6 +30,24 @@ impl<'a, T: Encoding> Components<'a, T> {
             cursor,
             encoding: PhantomData,
         }
+    }
+
+    /// Takes the first component that is left. It answers none for good once all are taken.
+    pub fn next(&mut self) -> Option<Piece<'a>>
+        ensures taken { option_map part_of result ≡ first_part (components_items self.old) }
+        ensures items { components_items self.new ≡ drop 1 (components_items self.old) }
+        ensures slice { components_slice self.new ≡ slice_after_front (components_items self.old) (components_slice self.old) }
+    {
+        T::front(&mut self.cursor)
+    }
+
+    /// Takes the last component that is left. It answers none for good once all are taken.
+    pub fn next_back(&mut self) -> Option<Piece<'a>>
+        ensures taken { option_map part_of result ≡ last_part (components_items self.old) }
+        ensures items { components_items self.new ≡ but_last (components_items self.old) }
+        ensures slice { components_slice self.new ≡ slice_after_back (components_items self.old) (components_slice self.old) }
+    {
+        T::back(&mut self.cursor)
     }
 
     /// The slice left: from the first component that is left to the end of the last.

@@ -11,8 +11,10 @@ pub struct Iter<'a, T> {
 }
 
 impl<'a, T: Encoding> Iter<'a, T> {
-    ghost use Rattle.std.specs.Prelude.{◌≡◌};
-    ghost use Rattle.typed_path.specs.PathViews.{path_bytes, components_slice};
+    ghost use Rattle.std.specs.Prelude.{◌≡◌, drop, option_map, option_copied};
+    ghost use Rattle.typed_path.specs.Left.{but_last, slice_after_front, slice_after_back};
+    ghost use Rattle.typed_path.specs.PathViews.{path_bytes, components_items, components_slice};
+    ghost use Rattle.typed_path.specs.Steps.{first_part, last_part};
     ghost use Rattle.typed_path.specs.IterViews.{iter_components};
 
     /// The texts of the components that are left.
@@ -20,6 +22,34 @@ impl<'a, T: Encoding> Iter<'a, T> {
         ensures { iter_components result ≡ components.entry }
     {
         Iter { components }
+    }
+
+    /// Takes the text of the first component that is left.
+    pub fn next(&mut self) -> Option<&'a [u8]>
+        ensures taken { option_copied result
+            ≡ option_map (λ p. p.text) (first_part (components_items (iter_components self.old))) }
+        ensures items { components_items (iter_components self.new) ≡ drop 1 (components_items (iter_components self.old)) }
+        ensures slice { components_slice (iter_components self.new)
+            ≡ slice_after_front (components_items (iter_components self.old)) (components_slice (iter_components self.old)) }
+    {
+        match self.components.next() {
+            Some(piece) => Some(piece.text),
+            None => None,
+        }
+    }
+
+    /// Takes the text of the last component that is left.
+    pub fn next_back(&mut self) -> Option<&'a [u8]>
+        ensures taken { option_copied result
+            ≡ option_map (λ p. p.text) (last_part (components_items (iter_components self.old))) }
+        ensures items { components_items (iter_components self.new) ≡ but_last (components_items (iter_components self.old)) }
+        ensures slice { components_slice (iter_components self.new)
+            ≡ slice_after_back (components_items (iter_components self.old)) (components_slice (iter_components self.old)) }
+    {
+        match self.components.next_back() {
+            Some(piece) => Some(piece.text),
+            None => None,
+        }
     }
 
     /// The slice left, as a path.
@@ -41,9 +71,19 @@ impl<'a, T: Encoding> Iterator for Iter<'a, T> {
     ghost remaining = { item_count iter_texts };
 
     fn next(&mut self) -> Option<&'a [u8]> {
-        match self.components.next() {
-            Some(piece) => Some(piece.text),
-            None => None,
-        }
+        let piece = Iterator::next(&mut self.components)?;
+        Some(piece.text)
+    }
+}
+
+impl<'a, T: Encoding> DoubleEndedIterator for Iter<'a, T> {
+    ghost use Rattle.std.specs.Iterator.{YieldsLastRef};
+    ghost use Rattle.typed_path.specs.IterViews.{iter_texts};
+
+    ghost next_back_gives = { YieldsLastRef iter_texts };
+
+    fn next_back(&mut self) -> Option<&'a [u8]> {
+        let piece = DoubleEndedIterator::next_back(&mut self.components)?;
+        Some(piece.text)
     }
 }

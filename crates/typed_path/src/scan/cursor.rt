@@ -32,7 +32,7 @@ impl<'a> Cursor<'a> {
     ghost use Rattle.typed_path.specs.CursorViews.{slice_left, items_left};
 
     /// A reading of a whole text that has no prefix.
-    pub fn new(text: &'a [u8], separators: Separators) -> Cursor<'a>
+    pub(crate) fn new(text: &'a [u8], separators: Separators) -> Cursor<'a>
         ensures slice { slice_left result ≡ text.now }
         ensures items { items_left result ≡ body separators 0 text.now }
     {
@@ -53,7 +53,7 @@ impl<'a> Cursor<'a> {
     }
 
     /// Whether the first component that is left is the root.
-    pub fn begins_with_root(&self) -> bool
+    pub(crate) fn begins_with_root(&self) -> bool
         ensures { result ≡ begins_with_root (kinds (parts (items_left self.now))) }
     {
         match self.begin {
@@ -66,7 +66,7 @@ impl<'a> Cursor<'a> {
     }
 
     /// Takes the first component that is left.
-    pub fn front(&mut self) -> Option<Piece<'a>>
+    pub(crate) fn front(&mut self) -> Option<Piece<'a>>
         ensures taken { option_map part_of result ≡ first_part (items_left self.old) }
         ensures items { items_left self.new ≡ drop 1 (items_left self.old) }
         ensures slice { slice_left self.new ≡ slice_after_front (items_left self.old) (slice_left self.old) }
@@ -82,7 +82,7 @@ impl<'a> Cursor<'a> {
     }
 
     /// Takes the last component that is left.
-    pub fn back(&mut self) -> Option<Piece<'a>>
+    pub(crate) fn back(&mut self) -> Option<Piece<'a>>
         ensures taken { option_map part_of result ≡ last_part (items_left self.old) }
         ensures items { items_left self.new ≡ but_last (items_left self.old) }
         ensures slice { slice_left self.new ≡ slice_after_back (items_left self.old) (slice_left self.old) }

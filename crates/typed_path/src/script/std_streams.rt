@@ -1,6 +1,6 @@
 //! Std's readers and writers as sources and sinks.
 
-ghost use Rattle.std.specs.Prelude.{◌≡◌, false, None, if◌then◌else◌};
+ghost use Rattle.std.specs.Prelude.{◌≡◌, ◌-◌, ◌^◌, false, None, if◌then◌else◌};
 
 use crate::script::streams::{Failed, Sink, Source};
 use std::io::{Read, Write};
@@ -20,6 +20,7 @@ impl<R: Read> StdSource<R> {
     pub fn new(reader: R) -> StdSource<R>
         ensures remaining { ⟦<StdSource<R> as Source>⟧.remaining result ≡ R.remaining reader }
         ensures unfailed { ⟦<StdSource<R> as Source>⟧.has_failed result ≡ false }
+        ensures granted { ⟦<StdSource<R> as Source>⟧.bound result ≡ 2 ^ 64 - 1 }
     {
         StdSource {
             reader,
