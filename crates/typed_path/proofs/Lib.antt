@@ -10,6 +10,7 @@ mod SettleLemmas
 mod ShapeLemmas
 mod StreamLemmas
 mod TrimLemmas
+mod WrittenLemmas
 pub mod JoinLemmas
 pub mod OrderLaws
 pub mod PartLemmas

@@ -21,3 +21,5 @@ pub mod Status
 pub mod Fields
 pub mod IterViews
 pub mod UnixViews
+pub mod UnixParts
+pub mod UnixIterViews

@@ -4,7 +4,7 @@ use Rattle.std.specs.Borrow.{Bor}
 use Rattle.typed_path.specs.declared.unix.component.UnixComponent.{UnixComponent}
 use Rattle.typed_path.specs.declared.unix.component.UnixComponent.TheVariants.{RootDir, CurDir, ParentDir, Normal}
 use Rattle.typed_path.specs.Dialect.{unix, slash}
-use Rattle.typed_path.specs.Part.{Part, Kind, prefix, root, current, parent, normal, root_part, current_part, parent_part, name_part}
+use Rattle.typed_path.specs.Part.{Part, root_part, current_part, parent_part, name_part}
 use Rattle.typed_path.specs.Comps.{parts_of}
 
 abbrev pub unix_part : UnixComponent → Part
@@ -19,11 +19,3 @@ IsUnixReading text reading = MatchResult reading
     (λ component. parts_of unix text ≡ unix_part component ∷ [])
     (λ why. (parts_of unix text ≡ []) × (why.now ≡ codes "no component found")
         ⊎ (1 < length (parts_of unix text)) × (why.now ≡ codes "found more than one component"))
-
--- a kind, as Unix writes it; a prefix is never read there
-abbrev pub written_unix : Kind → Part
-written_unix (prefix p) = current_part
-written_unix root = root_part (slash ∷ [])
-written_unix current = current_part
-written_unix parent = parent_part
-written_unix (normal name) = name_part name

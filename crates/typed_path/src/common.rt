@@ -4,6 +4,7 @@ mod component;
 mod components;
 mod encoding;
 mod iter;
+mod lookups;
 mod names;
 mod normalize;
 mod path;

@@ -1,10 +1,12 @@
 //! Unix paths.
 
 mod component;
+mod components;
 mod encoding;
 
 use crate::common::{Path, PathBuf};
 pub use component::UnixComponent;
+pub use components::UnixComponents;
 pub use encoding::UnixEncoding;
 
 /// A path that is written as on Unix.

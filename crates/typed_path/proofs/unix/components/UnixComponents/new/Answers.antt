@@ -1,0 +1,11 @@
+use Rattle.std.proofs.Common.{ap, subst, sym, ◌≡◌}
+use Rattle.typed_path.specs.Part.{parts}
+use Rattle.typed_path.specs.PathViews.{path_bytes}
+use Rattle.typed_path.specs.UnixParts.{as_written}
+use Rattle.typed_path.proofs.WrittenLemmas.{written-parts_of}
+use Rattle.typed_path.proofs.unix.components.UnixComponents.new.Goals as goal
+
+pub invariant_of-result : goal.invariant_of-result
+invariant_of-result c = record {
+  written = subst (λ cs. parts cs ≡ as_written (parts cs)) (sym c.components.ensures.items) (written-parts_of (path_bytes c.args.path))
+}

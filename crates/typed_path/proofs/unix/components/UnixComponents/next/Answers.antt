@@ -1,0 +1,11 @@
+use Rattle.std.proofs.Common.{subst, sym, ◌≡◌}
+use Rattle.typed_path.specs.Part.{parts}
+use Rattle.typed_path.specs.PathViews.{components_items}
+use Rattle.typed_path.specs.UnixParts.{as_written}
+use Rattle.typed_path.proofs.WrittenLemmas.{written-drop}
+use Rattle.typed_path.proofs.unix.components.UnixComponents.next.Goals as goal
+
+pub invariant_of-self : goal.invariant_of-self
+invariant_of-self c = record {
+  written = subst (λ cs. parts cs ≡ as_written (parts cs)) (sym c.next.ensures.items) (written-drop (components_items c.args.self.now.components) c.args.self.now.written)
+}

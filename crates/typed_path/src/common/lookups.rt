@@ -1,0 +1,68 @@
+//! The parts of a path that are read off its end.
+
+use crate::common::encoding::Encoding;
+use crate::common::iter::Iter;
+use crate::common::names::split_name;
+use crate::common::path::Path;
+use crate::scan::Piece;
+
+impl<'a, T: Encoding> Path<'a, T> {
+    ghost use Rattle.std.specs.Prelude.{◌≡◌, option_map, option_copied};
+    ghost use Rattle.typed_path.specs.Comps.{comps};
+    ghost use Rattle.typed_path.specs.Steps.{last_part};
+    ghost use Rattle.typed_path.specs.Views.{part_of};
+    ghost use Rattle.typed_path.specs.Queries.{parent_of, file_name_of, file_stem_of, extension};
+    ghost use Rattle.typed_path.specs.PathViews.{path_bytes, components_items, components_slice};
+    ghost use Rattle.typed_path.specs.IterViews.{iter_components};
+
+    /// The last component.
+    fn last(self) -> Option<Piece<'a>>
+        ensures { option_map part_of result ≡ last_part (comps T.dialect (path_bytes self.entry)) }
+    {
+        self.components().next_back()
+    }
+
+    /// The path without its last component, or none where there is no component or nothing is above
+    /// the last one.
+    pub fn parent(self) -> Option<Path<'a, T>>
+        ensures { option_map path_bytes result ≡ parent_of T.dialect (path_bytes self.entry) }
+    {
+        let mut components = self.components();
+        let last = components.next_back()?;
+        if last.is_root() {
+            return None;
+        }
+        Some(Path::new(components.as_bytes()))
+    }
+
+    /// The last component, where it is a name.
+    pub fn file_name(self) -> Option<&'a [u8]>
+        ensures { option_copied result ≡ file_name_of T.dialect (path_bytes self.entry) }
+    {
+        let last = self.last()?;
+        if last.is_normal() { Some(last.text) } else { None }
+    }
+
+    /// The file name up to its last dot, or the whole of it where no dot but a first one is there.
+    pub fn file_stem(self) -> Option<&'a [u8]>
+        ensures { option_copied result ≡ file_stem_of T.dialect (path_bytes self.entry) }
+    {
+        let name = self.file_name()?;
+        Some(split_name(name).0)
+    }
+
+    /// What stands in the file name behind its last dot, where that is not its first byte.
+    pub fn extension(self) -> Option<&'a [u8]>
+        ensures { option_copied result ≡ extension T.dialect (path_bytes self.entry) }
+    {
+        split_name(self.file_name()?).1
+    }
+
+    /// The texts of the components, from either end.
+    pub fn iter(self) -> Iter<'a, T>
+        ensures items { components_items (iter_components result) ≡ comps T.dialect (path_bytes self.entry) }
+        ensures slice { components_slice (iter_components result) ≡ path_bytes self.entry }
+    {
+        Iter::new(self.components())
+    }
+}
