@@ -1,15 +1,33 @@
 mod BackLemmas
+mod BodyCuts
 mod BodyLemmas
+mod ComponentCuts
 mod CutLemmas
 mod DotLemmas
 mod LastLemmas
 mod LeftLemmas
 mod LineLemmas
+mod MarkLemmas
+mod NameCuts
+mod NameLemmas
+mod ParentLemmas
+mod PlaceLemmas
+mod PrefixCuts
+mod PrefixLemmas
+mod ReadingLemmas
 mod SegmentLemmas
 mod SettleLemmas
 mod ShapeLemmas
+mod SliceLeft
+mod SliceLemmas
 mod StreamLemmas
+mod StripLemmas
 mod TrimLemmas
+mod UnixJoin
+mod UnixStrip
+mod WidthLemmas
+mod WindowsCuts
+mod WindowsParent
 mod WrittenLemmas
 pub mod JoinLemmas
 pub mod OrderLaws

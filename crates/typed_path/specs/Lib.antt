@@ -23,3 +23,6 @@ pub mod IterViews
 pub mod UnixViews
 pub mod UnixParts
 pub mod UnixIterViews
+pub mod Strip
+pub mod Reading
+pub mod Joins

@@ -9,6 +9,7 @@ mod names;
 mod normalize;
 mod path;
 mod path_buf;
+mod strip;
 
 pub use component::Component;
 pub use components::Components;

@@ -1,9 +1,17 @@
 //! The laws of paths, each as a function that does nothing and ensures the law.
 
-ghost use Rattle.std.specs.Prelude.{◌≡◌, ◌↔◌};
+ghost use Rattle.std.specs.Prelude.{◌≡◌, ◌↔◌, ℕ, ◌+◌, ◌<◌, ◌≤◌, List, [], ◌∷◌, ◌++◌, false, length, Some, None};
+ghost use Rattle.std.specs.List.{list_any};
 ghost use Rattle.std.specs.Cmp.{IsTotalOrder};
 ghost use Rattle.std.specs.declared.cmp.Ordering.{Ordering};
-ghost use Rattle.typed_path.specs.Dialect.{Dialect};
+ghost use Rattle.typed_path.specs.Dialect.{Dialect, dot};
+ghost use Rattle.typed_path.specs.Prefix.{Found, prefix_of};
+ghost use Rattle.typed_path.specs.Comps.{comps};
+ghost use Rattle.typed_path.specs.Left.{Side, reads, left, items_between, but_last};
+ghost use Rattle.typed_path.specs.Reading.{answers_after, items_after, slice_after, fronts, backs, IsWhole, IsLaidOut};
+ghost use Rattle.typed_path.specs.Queries.{parent_of};
+ghost use Rattle.typed_path.specs.Joins.{JoinAppends, StripJoins};
+ghost use Rattle.typed_path.specs.Names.{is_a_dot, stem_of, extension_of};
 ghost use Rattle.typed_path.specs.Same.{IsSame, path_cmp};
 ghost use Rattle.typed_path.specs.Promises.{ReadsAsResolved, StaysNormal, IsCanonical, HashAlike};
 
@@ -47,4 +55,71 @@ pub fn order_agrees_with_equality(path: &[u8], other: &[u8])
 pub fn equal_paths_hash_alike(path: &[u8], other: &[u8])
     ghost d: { Dialect }
     ensures { HashAlike d path.now other.now }
+{}
+
+/// A file name without an extension is its stem; one with an extension is its stem, a dot and the
+/// extension, in which no dot stands; and the stem of a name is not empty.
+pub fn name_is_stem_and_extension(name: &[u8])
+    ensures stem_alone { extension_of name.now ≡ None → stem_of name.now ≡ name.now }
+    ensures stem_and_extension { (extension : List ℕ) → extension_of name.now ≡ Some extension
+        → name.now ≡ stem_of name.now ++ dot ∷ extension }
+    ensures without_dot { (extension : List ℕ) → extension_of name.now ≡ Some extension
+        → list_any is_a_dot extension ≡ false }
+    ensures stem_is_filled { 0 < length name.now → 0 < length (stem_of name.now) }
+{}
+
+/// A prefix takes some bytes of its path, and no more than the path has.
+pub fn prefix_is_within(path: &[u8])
+    ghost d: { Dialect }
+    ensures some_bytes { (f : Found) → prefix_of d path.now ≡ Some f → 0 < f.length }
+    ensures fits { (f : Found) → prefix_of d path.now ≡ Some f → f.length ≤ length path.now }
+{}
+
+/// The components of a path stand in order within it, and the first begins where the path does.
+pub fn components_stand_in_order(path: &[u8])
+    ghost d: { Dialect }
+    ensures { IsLaidOut (comps d path.now) path.now }
+{}
+
+/// Read step by step from both ends, a path answers and leaves what the counts of the steps from
+/// each end tell; once all components are taken, it leaves nothing.
+pub fn steps_agree_with_counts(path: &[u8])
+    ghost d: { Dialect }
+    ensures answers { (sides : List Side)
+        → answers_after (comps d path.now) sides ≡ reads (comps d path.now) sides }
+    ensures items { (sides : List Side) → items_after (comps d path.now) sides
+        ≡ items_between (comps d path.now) (fronts sides) (backs sides) }
+    ensures slice { (sides : List Side) → fronts sides + backs sides ≤ length (comps d path.now)
+        → slice_after (comps d path.now) path.now sides
+        ≡ left (comps d path.now) path.now (fronts sides) (backs sides) }
+    ensures no_items { (sides : List Side) → length (comps d path.now) ≤ fronts sides + backs sides
+        → items_after (comps d path.now) sides ≡ [] }
+    ensures no_slice { (sides : List Side) → 0 < length (comps d path.now)
+        → length (comps d path.now) ≤ fronts sides + backs sides
+        → slice_after (comps d path.now) path.now sides ≡ [] }
+{}
+
+/// What was taken from the front, what is left, and what was taken from the back are together the
+/// list, in order.
+pub fn ends_and_rest_are_the_list(path: &[u8])
+    ghost d: { Dialect }
+    ensures { (i j : ℕ) → IsWhole (comps d path.now) i j }
+{}
+
+/// The list of a parent is the list without its last component, each component at its place.
+pub fn parent_is_the_list_without_its_last(path: &[u8])
+    ghost d: { Dialect }
+    ensures { (parent : List ℕ) → parent_of d path.now ≡ Some parent
+        → comps d parent ≡ but_last (comps d path.now) }
+{}
+
+/// A relative Unix path joined to a base that is not empty is read as the list of the base and,
+/// behind it, that of the path without a current directory at its beginning.
+pub fn join_appends(base: &[u8], path: &[u8])
+    ensures { JoinAppends base.now path.now }
+{}
+
+/// Where a Unix path begins with a base, what is left behind the base, joined to it, equals the path.
+pub fn strip_joins(path: &[u8], base: &[u8])
+    ensures { StripJoins path.now base.now }
 {}

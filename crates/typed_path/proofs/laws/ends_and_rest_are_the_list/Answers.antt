@@ -1,0 +1,6 @@
+use Rattle.typed_path.specs.Comps.{comps}
+use Rattle.typed_path.proofs.ReadingLemmas.{is_whole}
+use Rattle.typed_path.proofs.laws.ends_and_rest_are_the_list.Goals as goal
+
+pub returns : goal.returns
+returns g c = is_whole (comps g.d c.args.path.now)

@@ -1,0 +1,18 @@
+use Rattle.typed_path.specs.Comps.{comps}
+use Rattle.typed_path.proofs.ReadingLemmas.{stepwise_answers, stepwise_items, stepwise_none}
+use Rattle.typed_path.proofs.PlaceLemmas.{comps-laid_out}
+use Rattle.typed_path.proofs.SliceLemmas.{stepwise_slices, stepwise_end}
+use Rattle.typed_path.proofs.laws.steps_agree_with_counts.Goals as goal
+
+pub returns : goal.returns
+returns g c =
+    let t = c.args.path.now in
+    let cs = comps g.d t in
+    let laid = comps-laid_out g.d t in
+    record {
+      answers = stepwise_answers cs;
+      items = stepwise_items cs;
+      slice = λ sides. stepwise_slices cs t sides laid;
+      no_items = stepwise_none cs;
+      no_slice = λ sides. stepwise_end cs t sides laid;
+    }

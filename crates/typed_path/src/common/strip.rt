@@ -1,0 +1,63 @@
+//! Paths that begin or end with another.
+
+use crate::common::encoding::Encoding;
+use crate::common::path::Path;
+use crate::errors::StripPrefixError;
+
+impl<'a, T: Encoding> Path<'a, T> {
+    ghost use Rattle.std.specs.Prelude.{◌≡◌, option_map};
+    ghost use Rattle.typed_path.specs.Queries.{stripped, path_starts_with, path_ends_with};
+    ghost use Rattle.typed_path.specs.PathViews.{path_bytes};
+    ghost use Rattle.typed_path.specs.Strip.{stripped_to};
+
+    /// What is left of the path behind a base, where it begins with the base's components as they
+    /// are written.
+    fn behind(self, base: Path<'_, T>) -> Option<Path<'a, T>>
+        ensures { option_map path_bytes result ≡ stripped T.dialect (path_bytes self.entry) (path_bytes base.entry) }
+    {
+        let mut rest = self.components();
+        let mut wanted = base.components();
+        'pieces: while let Some(piece) = wanted.next() {
+            let own = rest.next()?;
+            if piece.text != own.text {
+                return None;
+            }
+        }
+        Some(Path::new(rest.as_bytes()))
+    }
+
+    /// What is left of the path behind a base.
+    ///
+    /// It is refused exactly where the path does not begin with the base's components, compared as
+    /// they are written.
+    pub fn strip_prefix(self, base: Path<'_, T>) -> Result<Path<'a, T>, StripPrefixError>
+        ensures { stripped_to path_bytes result ≡ stripped T.dialect (path_bytes self.entry) (path_bytes base.entry) }
+    {
+        match self.behind(base) {
+            Some(rest) => Ok(rest),
+            None => Err(StripPrefixError),
+        }
+    }
+
+    /// Whether the path begins with the components of another, as they are written.
+    pub fn starts_with(self, base: Path<'_, T>) -> bool
+        ensures { result ≡ path_starts_with T.dialect (path_bytes self.entry) (path_bytes base.entry) }
+    {
+        self.behind(base).is_some()
+    }
+
+    /// Whether the path ends with the components of another, as they are written.
+    pub fn ends_with(self, end: Path<'_, T>) -> bool
+        ensures { result ≡ path_ends_with T.dialect (path_bytes self.entry) (path_bytes end.entry) }
+    {
+        let mut rest = self.components();
+        let mut wanted = end.components();
+        'pieces: while let Some(piece) = wanted.next_back() {
+            match rest.next_back() {
+                Some(own) if piece.text == own.text => {}
+                _ => return false,
+            }
+        }
+        true
+    }
+}
