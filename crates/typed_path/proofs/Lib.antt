@@ -4,6 +4,7 @@ mod BodyLemmas
 mod ComponentCuts
 mod CutLemmas
 mod DotLemmas
+mod EndLemmas
 mod LastLemmas
 mod LeftLemmas
 mod LineLemmas

@@ -53,9 +53,11 @@ impl<'a, T: Encoding> Path<'a, T> {
         let mut rest = self.components();
         let mut wanted = end.components();
         'pieces: while let Some(piece) = wanted.next_back() {
-            match rest.next_back() {
-                Some(own) if piece.text == own.text => {}
-                _ => return false,
+            let Some(own) = rest.next_back() else {
+                return false;
+            };
+            if piece.text != own.text {
+                return false;
             }
         }
         true
