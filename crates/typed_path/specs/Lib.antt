@@ -26,3 +26,4 @@ pub mod UnixIterViews
 pub mod Strip
 pub mod Reading
 pub mod Joins
+pub mod Ends

@@ -13,6 +13,6 @@ mod windows;
 pub use common::{Component, Components, Encoding, Iter, Path, PathBuf};
 pub use errors::{CheckedPathError, LineError, ParseError, StripPrefixError};
 pub use scan::{Cursor, Piece, PieceKind};
-pub use script::{Failed, Sink, Source, StdSink, StdSource, answer_lines, exit_status};
-pub use unix::{UnixComponent, UnixEncoding, UnixPath, UnixPathBuf};
+pub use script::{End, Failed, Sink, Source, StdSink, StdSource, answer_lines, exit_status, read_ends};
+pub use unix::{UnixComponent, UnixComponents, UnixEncoding, UnixPath, UnixPathBuf};
 pub use windows::WindowsPrefix;

@@ -2,6 +2,7 @@
 
 mod answer;
 mod dialogue;
+mod ends;
 mod fields;
 mod lines;
 mod status;
@@ -9,6 +10,7 @@ mod std_streams;
 mod streams;
 
 pub use answer::answer_lines;
+pub use ends::{End, read_ends};
 pub use status::exit_status;
 pub use std_streams::{StdSink, StdSource};
 pub use streams::{Failed, Sink, Source};

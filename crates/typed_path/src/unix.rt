@@ -3,6 +3,7 @@
 mod component;
 mod components;
 mod encoding;
+mod readings;
 
 use crate::common::{Path, PathBuf};
 pub use component::UnixComponent;

@@ -1,0 +1,48 @@
+//! Components taken from either end, by a list of requests.
+
+ghost use Rattle.std.specs.Prelude.{◌≡◌, ◌++◌, map, option_map, OnOk, OnErr};
+ghost use Rattle.typed_path.specs.Views.{part_of};
+ghost use Rattle.typed_path.specs.PathViews.{components_items, components_slice};
+ghost use Rattle.typed_path.specs.Reading.{answers_after, items_after, slice_after};
+ghost use Rattle.typed_path.specs.Ends.{sides, taken_parts};
+
+use crate::common::{Components, Encoding};
+use crate::scan::Piece;
+use std::alloc::AllocError;
+
+/// From which end of a path a component is asked for.
+#[derive(Clone, Copy, Debug, PartialEq, Eq, PartialOrd, Ord, Hash)]
+pub enum End {
+    /// The first component that is left.
+    Front,
+    /// The last component that is left.
+    Back,
+}
+
+/// Takes one component for each end that is named, and appends the answers: none once all are taken.
+///
+/// All room is found first; where it is refused, nothing changes.
+pub fn read_ends<'a, T: Encoding>(
+    components: &mut Components<'a, T>,
+    ends: &[End],
+    answers: &mut Vec<Option<Piece<'a>>>,
+) -> Result<(), AllocError>
+    ensures answers { OnOk result (map (option_map part_of) answers.new.items
+        ≡ map (option_map part_of) answers.old.items ++ taken_parts (answers_after (components_items components.old) (sides ends.now))) }
+    ensures items { OnOk result (components_items components.new ≡ items_after (components_items components.old) (sides ends.now)) }
+    ensures slice { OnOk result (components_slice components.new
+        ≡ slice_after (components_items components.old) (components_slice components.old) (sides ends.now)) }
+    ensures answers_kept { OnErr result (answers.new.items ≡ answers.old.items) }
+    ensures items_kept { OnErr result (components_items components.new ≡ components_items components.old) }
+    ensures slice_kept { OnErr result (components_slice components.new ≡ components_slice components.old) }
+{
+    answers.reserve(ends.len())?;
+    'ends: for end in ends {
+        let answer = match end {
+            End::Front => components.next(),
+            End::Back => components.next_back(),
+        };
+        answers.push(answer)?;
+    }
+    Ok(())
+}
