@@ -2,6 +2,7 @@ mod BackLemmas
 mod BodyLemmas
 mod CutLemmas
 mod DotLemmas
+mod FieldLemmas
 mod LastLemmas
 mod LeftLemmas
 mod LineLemmas
