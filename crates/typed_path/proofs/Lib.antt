@@ -5,6 +5,7 @@ mod ComponentCuts
 mod CutLemmas
 mod DotLemmas
 mod EndLemmas
+mod FieldLemmas
 mod LastLemmas
 mod LeftLemmas
 mod LineLemmas

@@ -1,7 +1,9 @@
 -- What the program answers to its input.
-use Rattle.std.specs.Prelude.{ℕ, List, [], ◌∷◌, ◌++◌, ◌&&◌, ◌==◌, if◌then◌else◌, codes, length, bytes_eq}
+use Rattle.std.specs.Prelude.{ℕ, List, [], ◌∷◌, ◌++◌, ◌==◌, if◌then◌else◌, codes, length, map, bytes_eq}
 use Rattle.std.specs.List.{slice_split, flat_map, join_with_byte}
 use Rattle.typed_path.specs.Dialect.{unix}
+use Rattle.typed_path.specs.Part.{Prefix, verbatim, verbatim_unc, verbatim_disk, device_ns, unc, disk, Kind, prefix, root, current, parent, normal, Part}
+use Rattle.typed_path.specs.Comps.{parts_of}
 use Rattle.typed_path.specs.Places.{normal_text}
 
 abbrev pub tab : ℕ
@@ -9,6 +11,10 @@ tab = 9
 
 abbrev pub line_feed : ℕ
 line_feed = 10
+
+-- `=`
+abbrev pub equals_sign : ℕ
+equals_sign = 61
 
 -- the pieces of an input behind each of which a line feed stands
 abbrev pub ended : List (List ℕ) → List (List ℕ)
@@ -58,10 +64,40 @@ reply_line fields = join_with_byte tab fields ++ line_feed ∷ []
 abbrev pub text_reply : List ℕ → List ℕ
 text_reply text = reply_line (ok_reply (text ∷ []))
 
+-- what a field calls a prefix
+abbrev pub prefix_name : Prefix → List ℕ
+prefix_name (verbatim name) = codes "Verbatim"
+prefix_name (verbatim_unc server share) = codes "VerbatimUNC"
+prefix_name (verbatim_disk letter) = codes "VerbatimDisk"
+prefix_name (device_ns name) = codes "DeviceNS"
+prefix_name (unc server share) = codes "UNC"
+prefix_name (disk letter) = codes "Disk"
+
+-- what a field calls a kind of component
+abbrev pub kind_name : Kind → List ℕ
+kind_name (prefix p) = prefix_name p
+kind_name root = codes "root"
+kind_name current = codes "current"
+kind_name parent = codes "parent"
+kind_name (normal name) = codes "normal"
+
+-- the field that shows a component: what it is, and how it is written
+abbrev pub component_field : Part → List ℕ
+component_field p = kind_name p.kind ++ equals_sign ∷ p.text
+
+-- the fields that show a list of components
+abbrev pub components_reply : List Part → List (List ℕ)
+components_reply ps = ok_reply (map component_field ps)
+
+-- the fields of the reply to a command on a Unix path
+abbrev pub unix_reply : List ℕ → List ℕ → List (List ℕ)
+unix_reply command path =
+    if bytes_eq command (codes "normalize") then ok_reply (normal_text unix path ∷ [])
+    else (if bytes_eq command (codes "components") then components_reply (parts_of unix path) else bad_line)
+
 -- the fields of the reply to the fields of a line
 abbrev pub reply_fields : List (List ℕ) → List (List ℕ)
-reply_fields (command ∷ dialect ∷ path ∷ []) =
-    if (bytes_eq command (codes "normalize") && bytes_eq dialect (codes "unix")) then ok_reply (normal_text unix path ∷ []) else bad_line
+reply_fields (command ∷ dialect ∷ path ∷ []) = if bytes_eq dialect (codes "unix") then unix_reply command path else bad_line
 reply_fields fields = bad_line
 
 -- the reply to a line

@@ -39,7 +39,7 @@ fn answered(
 
 #[test]
 fn replies(rt: HostRuntime) -> Result<(), Fail> {
-    let rows: [(&[u8], &[u8]); 12] = [
+    let rows: [(&[u8], &[u8]); 16] = [
         (
             b"normalize\tunix\tfoo/bar//baz/./asdf/quux/..",
             b"ok\tfoo/bar/baz/asdf\n",
@@ -48,6 +48,16 @@ fn replies(rt: HostRuntime) -> Result<(), Fail> {
         (b"normalize\tunix\t../a\n", b"ok\ta\n"),
         (b"normalize\tunix\t.\n", b"ok\t\n"),
         (b"normalize\tunix\t\n", b"ok\t\n"),
+        (
+            b"components\tunix\t./a/..\n",
+            b"ok\tcurrent=.\tnormal=a\tparent=..\n",
+        ),
+        (b"components\tunix\t\n", b"ok\n"),
+        (
+            b"components\tunix\t/a/./b//\n",
+            b"ok\troot=/\tnormal=a\tnormal=b\n",
+        ),
+        (b"components\twindows\ta\n", b"err\tBadLine\n"),
         (b"normalize\twindows\ta\n", b"err\tBadLine\n"),
         (b"normalize\tmac\ta\n", b"err\tBadLine\n"),
         (b"normalize\tunix\ta\tb\n", b"err\tBadLine\n"),

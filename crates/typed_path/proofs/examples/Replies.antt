@@ -18,9 +18,31 @@ normal_of_a_dot = refl
 normal_of_the_empty_path : reply (codes "normalize\tunix\t") ≡ codes "ok\t\n"
 normal_of_the_empty_path = refl
 
+-- lists of components
+components_of_a_relative_path : reply (codes "components\tunix\t./a/..") ≡ codes "ok\tcurrent=.\tnormal=a\tparent=..\n"
+components_of_a_relative_path = refl
+
+components_of_an_absolute_path : reply (codes "components\tunix\t/a/./b//") ≡ codes "ok\troot=/\tnormal=a\tnormal=b\n"
+components_of_an_absolute_path = refl
+
+components_of_the_empty_path : reply (codes "components\tunix\t") ≡ codes "ok\n"
+components_of_the_empty_path = refl
+
+components_show_equals_signs : reply (codes "components\tunix\troot=/=") ≡ codes "ok\tnormal=root=\tnormal==\n"
+components_show_equals_signs = refl
+
+components_keep_backslashes : reply (codes "components\tunix\t\\a") ≡ codes "ok\tnormal=\\a\n"
+components_keep_backslashes = refl
+
 -- bad lines
 windows_is_not_answered : reply (codes "normalize\twindows\ta") ≡ codes "err\tBadLine\n"
 windows_is_not_answered = refl
+
+components_of_windows_are_not_shown : reply (codes "components\twindows\ta") ≡ codes "err\tBadLine\n"
+components_of_windows_are_not_shown = refl
+
+unknown_command : reply (codes "component\tunix\ta") ≡ codes "err\tBadLine\n"
+unknown_command = refl
 
 unknown_dialect : reply (codes "normalize\tmac\ta") ≡ codes "err\tBadLine\n"
 unknown_dialect = refl
@@ -43,6 +65,9 @@ empty_input = refl
 
 line_feed_alone : answers (codes "\n") ≡ codes "err\tBadLine\n"
 line_feed_alone = refl
+
+components_behind_another_line : answers (codes "normalize\tunix\ta\ncomponents\tunix\t..") ≡ codes "ok\ta\nok\tparent=..\n"
+components_behind_another_line = refl
 
 last_line_without_line_feed : answers (codes "normalize\tunix\ta//b\nx") ≡ codes "ok\ta/b\nerr\tBadLine\n"
 last_line_without_line_feed = refl

@@ -1,14 +1,22 @@
 //! The replies to lines of commands.
 
-ghost use Rattle.std.specs.Prelude.{◌≡◌, ◌++◌, OnOk};
-ghost use Rattle.typed_path.specs.Lines.{fields_of, reply, text_reply};
+ghost use Rattle.std.specs.Prelude.{◌≡◌, ◌∷◌, ◌++◌, OnOk};
+ghost use Rattle.typed_path.specs.Dialect.{unix};
+ghost use Rattle.typed_path.specs.Comps.{parts_of};
+ghost use Rattle.typed_path.specs.Views.{part_of, prefix_view};
+ghost use Rattle.typed_path.specs.PathViews.{path_bytes};
+ghost use Rattle.typed_path.specs.Lines.{tab, fields_of, reply, reply_line, text_reply, components_reply, unix_reply, bad_line, component_field, kind_name, prefix_name};
 ghost use Rattle.typed_path.specs.Fields.{AreFields};
 
+use crate::scan::{Piece, PieceKind};
 use crate::script::fields::cut_at;
 use crate::unix::UnixPath;
+use crate::windows::WindowsPrefix;
 use std::alloc::{AllocError, Global};
 
 const NORMALIZE: &[u8] = b"normalize";
+
+const COMPONENTS: &[u8] = b"components";
 
 const UNIX: &[u8] = b"unix";
 
@@ -39,12 +47,37 @@ pub fn put_reply(alloc: Global, line: &[u8], replies: &mut Vec<u8>) -> Result<()
     ensures { OnOk result (replies.new.items ≡ replies.old.items ++ reply line.now) }
 {
     match split_fields(line) {
-        Fields::Three(command, encoding, path) if command == NORMALIZE && encoding == UNIX => {
-            let normal = UnixPath::new(path).normalize(alloc)?;
-            put_text(normal.as_path().as_bytes(), replies)
+        Fields::Three(command, encoding, path) if encoding == UNIX => {
+            put_unix_reply(alloc, command, UnixPath::new(path), replies)
         }
-        _ => replies.extend_from_slice(b"err\tBadLine\n"),
+        _ => put_bad_line(replies),
     }
+}
+
+/// Puts the reply to a command on a Unix path behind others.
+fn put_unix_reply(
+    alloc: Global,
+    command: &[u8],
+    path: UnixPath<'_>,
+    replies: &mut Vec<u8>,
+) -> Result<(), AllocError>
+    ensures { OnOk result (replies.new.items ≡ replies.old.items ++ reply_line (unix_reply command.now (path_bytes path.entry))) }
+{
+    if command == NORMALIZE {
+        let normal = path.normalize(alloc)?;
+        return put_text(normal.as_path().as_bytes(), replies);
+    }
+    if command == COMPONENTS {
+        return put_components(path, replies);
+    }
+    put_bad_line(replies)
+}
+
+/// Puts the reply to a line that is no command behind others.
+fn put_bad_line(replies: &mut Vec<u8>) -> Result<(), AllocError>
+    ensures { OnOk result (replies.new.items ≡ replies.old.items ++ reply_line bad_line) }
+{
+    replies.extend_from_slice(b"err\tBadLine\n")
 }
 
 /// Puts the reply that is one text behind others.
@@ -55,4 +88,53 @@ fn put_text(text: &[u8], replies: &mut Vec<u8>) -> Result<(), AllocError>
     replies.extend_from_slice(text)?;
     replies.push(b'\n')?;
     Ok(())
+}
+
+/// Puts the reply that shows the components of a path behind others.
+fn put_components(path: UnixPath<'_>, replies: &mut Vec<u8>) -> Result<(), AllocError>
+    ensures { OnOk result (replies.new.items ≡ replies.old.items ++ reply_line (components_reply (parts_of unix (path_bytes path.entry)))) }
+{
+    replies.extend_from_slice(b"ok")?;
+    'pieces: for piece in path.components() {
+        put_component(piece, replies)?;
+    }
+    replies.push(b'\n')?;
+    Ok(())
+}
+
+/// Puts a tab, and the field that shows a component.
+fn put_component(piece: Piece<'_>, replies: &mut Vec<u8>) -> Result<(), AllocError>
+    ensures { OnOk result (replies.new.items ≡ replies.old.items ++ tab ∷ component_field (part_of piece.entry)) }
+{
+    replies.push(b'\t')?;
+    replies.extend_from_slice(kind_name(piece))?;
+    replies.push(b'=')?;
+    replies.extend_from_slice(piece.text)
+}
+
+/// What a field calls a component.
+fn kind_name(piece: Piece<'_>) -> &'static [u8]
+    ensures { result.now ≡ kind_name (part_of piece.entry).kind }
+{
+    match piece.kind {
+        PieceKind::Prefix(prefix) => prefix_name(prefix),
+        PieceKind::RootDir => b"root",
+        PieceKind::CurDir => b"current",
+        PieceKind::ParentDir => b"parent",
+        PieceKind::Normal => b"normal",
+    }
+}
+
+/// What a field calls a prefix.
+fn prefix_name(prefix: WindowsPrefix<'_>) -> &'static [u8]
+    ensures { result.now ≡ prefix_name (prefix_view prefix.entry) }
+{
+    match prefix {
+        WindowsPrefix::Verbatim(_) => b"Verbatim",
+        WindowsPrefix::VerbatimUNC(_, _) => b"VerbatimUNC",
+        WindowsPrefix::VerbatimDisk(_) => b"VerbatimDisk",
+        WindowsPrefix::DeviceNS(_) => b"DeviceNS",
+        WindowsPrefix::UNC(_, _) => b"UNC",
+        WindowsPrefix::Disk(_) => b"Disk",
+    }
 }

@@ -1,0 +1,25 @@
+use Rattle.std.proofs.Common.{◌≡◌, ◌<◌, List, [], ◌∷◌, drop, length, inr, refl, sym, ap, ◌∙◌, arith}
+use Rattle.std.specs.Prelude.{Some, None}
+use Rattle.std.proofs.lemmas.Option.{same_Some}
+use Rattle.typed_path.specs.Part.{Part, Placed, parts}
+use Rattle.typed_path.specs.Steps.{first_part}
+use Rattle.typed_path.specs.UnixViews.{unix_part}
+use Rattle.typed_path.proofs.unix.readings.UnixComponentTryFromRefSliceU8.try_from.Goals as goal
+
+-- one component and no more
+one : (cs : List Placed) (p : Part) → Some p ≡ first_part cs → None ≡ first_part (drop 1 cs) → parts cs ≡ p ∷ []
+one [] p some none = cc
+one (c ∷ []) p some none = ap (λ q. q ∷ []) (sym (same_Some _ _ some))
+one (c ∷ d ∷ cs) p some none = cc
+
+-- one component, and another
+more : (cs : List Placed) (p q : Part) → Some p ≡ first_part cs → Some q ≡ first_part (drop 1 cs) → 1 < length (parts cs)
+more [] p q some next = cc
+more (c ∷ []) p q some next = cc
+more (c ∷ d ∷ cs) p q some next = omega arith
+
+pub returns-in-None : goal.returns-in-None
+returns-in-None c = ?
+
+pub returns-in-Some-next : goal.returns-in-Some-next
+returns-in-Some-next c = ?
