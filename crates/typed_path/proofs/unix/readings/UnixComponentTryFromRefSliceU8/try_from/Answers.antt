@@ -1,9 +1,12 @@
-use Rattle.std.proofs.Common.{◌≡◌, ◌<◌, List, [], ◌∷◌, drop, length, inr, refl, sym, ap, ◌∙◌, arith}
+use Rattle.std.proofs.Common.{◌≡◌, ◌<◌, List, [], ◌∷◌, drop, length, inr, refl, sym, ap, subst, ◌∙◌, arith}
 use Rattle.std.specs.Prelude.{Some, None}
 use Rattle.std.proofs.lemmas.Option.{same_Some}
 use Rattle.typed_path.specs.Part.{Part, Placed, parts}
 use Rattle.typed_path.specs.Steps.{first_part}
+use Rattle.typed_path.specs.Dialect.{unix}
+use Rattle.typed_path.specs.Comps.{comps}
 use Rattle.typed_path.specs.UnixViews.{unix_part}
+use Rattle.typed_path.specs.UnixIterViews.{unix_items}
 use Rattle.typed_path.proofs.unix.readings.UnixComponentTryFromRefSliceU8.try_from.Goals as goal
 
 -- one component and no more
@@ -19,7 +22,13 @@ more (c ∷ []) p q some next = cc
 more (c ∷ d ∷ cs) p q some next = omega arith
 
 pub returns-in-None : goal.returns-in-None
-returns-in-None c = ?
+returns-in-None c =
+    ap parts (sym (c.new-components.ensures.items ∙ ap (comps unix) c.new.ensures))
+    ∙ one (unix_items c.new-components.result) (unix_part c.in-Some.component) c.in-Some.ensures.taken (c.in-None.ensures.taken ∙ ap first_part c.in-Some.ensures.items)
 
 pub returns-in-Some-next : goal.returns-in-Some-next
-returns-in-Some-next c = ?
+returns-in-Some-next c =
+    let read = ap parts (sym (c.new-components.ensures.items ∙ ap (comps unix) c.new.ensures)) in
+    let two = more (unix_items c.new-components.result) (unix_part c.in-Some.component) (unix_part c.in-Some-next.field-0) c.in-Some.ensures.taken
+        (c.in-Some-next.ensures.taken ∙ ap first_part c.in-Some.ensures.items) in
+    inr (subst (λ ps. 1 < length ps) (sym read) two, refl)
