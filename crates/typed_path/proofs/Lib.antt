@@ -1,3 +1,4 @@
+mod AncestorLemmas
 mod BackLemmas
 mod BodyCuts
 mod BodyLemmas

@@ -1,15 +1,15 @@
 -- A base taken off a path, component by component.
-use Rattle.std.proofs.Common.{◌≡◌, ℕ, zero, suc, ◌+◌, ◌-◌, ◌<◌, ◌≤◌, List, [], ◌∷◌, ◌++◌, Bool, true, false, ◌&&◌, cond, length, drop, take, replicate, refl, sym, ap, subst, ◌∙◌, add-one, arith}
-use Rattle.std.specs.Prelude.{Option, Some, None}
+use Rattle.std.proofs.Common.{◌≡◌, ℕ, zero, suc, ◌+◌, ◌<◌, ◌≤◌, List, [], ◌∷◌, Bool, true, false, ◌&&◌, cond, length, drop, replicate, refl, sym, ap, ◌∙◌, arith}
+use Rattle.std.specs.Prelude.{Some, None}
 use Rattle.std.specs.List.{starts_with}
 use Rattle.std.specs.Str.{bytes_eq}
-use Rattle.std.proofs.lemmas.List.{drop-drop, length-drop, drop_all}
+use Rattle.std.proofs.lemmas.List.{drop-drop, length-drop}
 use Rattle.typed_path.specs.Dialect.{Dialect}
 use Rattle.std.proofs.lemmas.Option.{same_Some}
 use Rattle.typed_path.specs.Part.{Part, Placed, parts, texts}
 use Rattle.typed_path.specs.Steps.{first_part}
 use Rattle.typed_path.specs.Comps.{comps}
-use Rattle.typed_path.specs.Left.{Side, front, left, slice_after_front}
+use Rattle.typed_path.specs.Left.{front, left, slice_after_front}
 use Rattle.typed_path.specs.Reading.{slice_after, fronts, backs}
 use Rattle.typed_path.specs.Queries.{path_starts_with, stripped}
 use Rattle.typed_path.proofs.PlaceLemmas.{comps-laid_out}

@@ -1,16 +1,16 @@
 -- Unix parts are told by their kinds.
-use Rattle.std.proofs.Common.{◌≡◌, ℕ, ◌-◌, List, [], ◌∷◌, ◌++◌, Bool, true, false, cond, eqb, length, map, take, drop, reverse, refl, sym, ap, subst, ◌∙◌}
-use Rattle.std.specs.Prelude.{Option, Some, None, option_map}
+use Rattle.std.proofs.Common.{◌≡◌, ℕ, ◌-◌, List, [], ◌∷◌, ◌++◌, Bool, true, false, cond, eqb, length, take, drop, refl, sym, ap, subst, ◌∙◌}
+use Rattle.std.specs.Prelude.{Some}
 use Rattle.std.specs.List.{flat_map}
 use Rattle.std.proofs.lemmas.List.{take-map, map-append}
 use Rattle.std.proofs.lemmas.Option.{same_Some}
 use Rattle.typed_path.specs.declared.scan.piece.Piece.{Piece}
 use Rattle.typed_path.specs.declared.scan.separators.Separators.TheVariants.{Slash}
-use Rattle.typed_path.specs.Dialect.{unix, is_verbatim, root_text}
+use Rattle.typed_path.specs.Dialect.{unix, root_text}
 use Rattle.typed_path.specs.Part.{Part, Placed, parts, current_part, parent_part, name_part, root_part}
-use Rattle.typed_path.specs.Comps.{Segment, segments, is_dot, is_dot_dot, component, later, first, body_of, body, parts_of}
-use Rattle.typed_path.specs.Left.{but_last, last_of}
-use Rattle.typed_path.specs.Steps.{first_part, last_part}
+use Rattle.typed_path.specs.Comps.{Segment, segments, is_dot, is_dot_dot, component, later, body_of, parts_of}
+use Rattle.typed_path.specs.Left.{but_last}
+use Rattle.typed_path.specs.Steps.{last_part}
 use Rattle.typed_path.specs.Views.{part_of}
 use Rattle.typed_path.specs.UnixParts.{written_unix, as_written}
 use Rattle.typed_path.proofs.LeftLemmas.{last_pushed, last_part-push}

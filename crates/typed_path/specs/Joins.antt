@@ -1,5 +1,5 @@
 -- What a path joined to another is read as.
-use Rattle.std.specs.Prelude.{◌≡◌, ℕ, ◌<◌, List, [], ◌∷◌, ◌++◌, Bool, true, false, length, if◌then◌else◌, Some}
+use Rattle.std.specs.Prelude.{◌≡◌, ℕ, ◌<◌, List, [], ◌∷◌, ◌++◌, false, length, if◌then◌else◌, Some}
 use Rattle.typed_path.specs.Dialect.{unix}
 use Rattle.typed_path.specs.Part.{Part, kinds, is_current}
 use Rattle.typed_path.specs.Comps.{parts_of}

@@ -27,3 +27,5 @@ pub mod Strip
 pub mod Reading
 pub mod Joins
 pub mod Ends
+pub mod Ancestry
+pub mod AncestorViews

@@ -18,4 +18,4 @@ abbrev pub IsUnixReading : List ℕ → Result UnixComponent (Bor (List ℕ)) �
 IsUnixReading text reading = MatchResult reading
     (λ component. parts_of unix text ≡ unix_part component ∷ [])
     (λ why. (parts_of unix text ≡ []) × (why.now ≡ codes "no component found")
-        ⊎ (1 < length (parts_of unix text)) × (why.now ≡ codes "found more than one component"))
+    ⊎ (1 < length (parts_of unix text)) × (why.now ≡ codes "found more than one component"))

@@ -1,5 +1,6 @@
 //! Paths of every encoding.
 
+mod ancestors;
 mod component;
 mod components;
 mod encoding;
@@ -11,6 +12,7 @@ mod path;
 mod path_buf;
 mod strip;
 
+pub use ancestors::Ancestors;
 pub use component::Component;
 pub use components::Components;
 pub use encoding::Encoding;

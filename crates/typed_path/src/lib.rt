@@ -10,9 +10,11 @@ mod script;
 mod unix;
 mod windows;
 
-pub use common::{Component, Components, Encoding, Iter, Path, PathBuf};
+pub use common::{Ancestors, Component, Components, Encoding, Iter, Path, PathBuf};
 pub use errors::{CheckedPathError, LineError, ParseError, StripPrefixError};
 pub use scan::{Cursor, Piece, PieceKind};
-pub use script::{End, Failed, Sink, Source, StdSink, StdSource, answer_lines, exit_status, read_ends};
+pub use script::{
+    End, Failed, Sink, Source, StdSink, StdSource, answer_lines, exit_status, read_ends,
+};
 pub use unix::{UnixComponent, UnixComponents, UnixEncoding, UnixPath, UnixPathBuf};
 pub use windows::WindowsPrefix;

@@ -8,6 +8,7 @@ ghost use Rattle.typed_path.specs.Queries.{is_root as is_root_kind, is_allowed};
 /// A component of a path of one encoding.
 pub trait Component<'a>: Sized {
     ghost dialect: { Dialect };
+
     ghost part: { Self → Part };
 
     /// The text of the component.

@@ -1,5 +1,6 @@
 //! The parts of a path that are read off its end.
 
+use crate::common::ancestors::Ancestors;
 use crate::common::encoding::Encoding;
 use crate::common::iter::Iter;
 use crate::common::names::split_name;
@@ -14,6 +15,8 @@ impl<'a, T: Encoding> Path<'a, T> {
     ghost use Rattle.typed_path.specs.Queries.{parent_of, file_name_of, file_stem_of, extension};
     ghost use Rattle.typed_path.specs.PathViews.{path_bytes, components_items, components_slice};
     ghost use Rattle.typed_path.specs.IterViews.{iter_components};
+    ghost use Rattle.typed_path.specs.Ancestry.{ancestors_of};
+    ghost use Rattle.typed_path.specs.AncestorViews.{ancestors_left};
 
     /// The last component.
     fn last(self) -> Option<Piece<'a>>
@@ -35,12 +38,23 @@ impl<'a, T: Encoding> Path<'a, T> {
         Some(Path::new(components.as_bytes()))
     }
 
+    /// The path, and then each parent of the one before.
+    pub fn ancestors(self) -> Ancestors<'a, T>
+        ensures { ancestors_left T.dialect result ≡ ancestors_of T.dialect (path_bytes self.entry) }
+    {
+        Ancestors::new(self)
+    }
+
     /// The last component, where it is a name.
     pub fn file_name(self) -> Option<&'a [u8]>
         ensures { option_copied result ≡ file_name_of T.dialect (path_bytes self.entry) }
     {
         let last = self.last()?;
-        if last.is_normal() { Some(last.text) } else { None }
+        if last.is_normal() {
+            Some(last.text)
+        } else {
+            None
+        }
     }
 
     /// The file name up to its last dot, or the whole of it where no dot but a first one is there.
@@ -64,5 +78,22 @@ impl<'a, T: Encoding> Path<'a, T> {
         ensures slice { components_slice (iter_components result) ≡ path_bytes self.entry }
     {
         Iter::new(self.components())
+    }
+}
+
+impl<'a, T: Encoding> IntoIterator for Path<'a, T> {
+    ghost use Rattle.std.specs.Prelude.{◌≡◌};
+    ghost use Rattle.typed_path.specs.Comps.{comps};
+    ghost use Rattle.typed_path.specs.PathViews.{path_bytes, components_items};
+    ghost use Rattle.typed_path.specs.IterViews.{iter_components};
+
+    type Item = &'a [u8];
+
+    type IntoIter = Iter<'a, T>;
+
+    ghost into_iter_gives = { λ path iter. components_items (iter_components iter) ≡ comps T.dialect (path_bytes path) };
+
+    fn into_iter(self) -> Iter<'a, T> {
+        self.iter()
     }
 }

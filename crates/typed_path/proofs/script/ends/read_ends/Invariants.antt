@@ -12,5 +12,5 @@ invariant-ends g l = record {
   items : items_after (components_items l.components) (sides (drop l.end-index l.ends)) ≡ items_after (components_items l.fn.components) (sides l.ends);
   slice : slice_after (components_items l.components) (components_slice l.components) (sides (drop l.end-index l.ends))
       ≡ slice_after (components_items l.fn.components) (components_slice l.fn.components) (sides l.ends);
-  room : vec_len l.answers + (length l.ends - l.end-index) ≤ vec_capacity l.answers
+  room : vec_len l.answers + (length l.ends - l.end-index) ≤ vec_capacity l.answers;
 }

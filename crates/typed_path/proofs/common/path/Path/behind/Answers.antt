@@ -31,12 +31,12 @@ returns-in_err-own g c =
 pub returns-then-ne : goal.returns-then-ne
 returns-then-ne g c =
     sym (Strips-differ c.pieces.invariant (part_of c.in-Some.piece) (part_of c.in_ok-own.own) c.in-Some.ensures.taken c.in_ok-own.ensures.taken
-        (not_true _ (sym c.ne.ensures ∙ c.if-ne.true)))
+    (not_true _ (sym c.ne.ensures ∙ c.if-ne.true)))
 
 pub pieces-preserved : goal.pieces-preserved
 pieces-preserved g c =
     Strips-step c.pieces.invariant (part_of c.in-Some.piece) (part_of c.in_ok-own.own) _ _ _ c.in-Some.ensures.taken c.in_ok-own.ensures.taken
-        (not_false _ (sym c.ne.ensures ∙ c.if-ne.false)) c.in_ok-own.ensures.items c.in-Some.ensures.items c.in_ok-own.ensures.slice
+    (not_false _ (sym c.ne.ensures ∙ c.if-ne.false)) c.in_ok-own.ensures.items c.in-Some.ensures.items c.in_ok-own.ensures.slice
 
 pub returns : goal.returns
 returns g c =

@@ -1,5 +1,4 @@
 use Rattle.std.proofs.Common.{◌≡◌, Bool, true, false, not, ◌&&◌, refl, sym, ap, ◌∙◌}
-use Rattle.std.specs.Str.{bytes_eq}
 use Rattle.typed_path.specs.Left.{but_last}
 use Rattle.typed_path.specs.PathViews.{components_items}
 use Rattle.typed_path.specs.Views.{part_of}
@@ -21,9 +20,9 @@ returns-in_default-next_back g c =
 pub returns-then-ne : goal.returns-then-ne
 returns-then-ne g c =
     sym (c.pieces.invariant
-        ∙ ends-step (components_items c.pieces.rest) (components_items c.pieces.wanted) (part_of c.in-Some.piece) (part_of c.in-Some-next_back.own) c.in-Some.ensures.taken c.in-Some-next_back.ensures.taken
-        ∙ ap (λ b. ends (but_last (components_items c.pieces.rest)) (but_last (components_items c.pieces.wanted)) && b) (not_true _ (sym c.ne.ensures ∙ c.if-ne.true))
-        ∙ and_false _)
+    ∙ ends-step (components_items c.pieces.rest) (components_items c.pieces.wanted) (part_of c.in-Some.piece) (part_of c.in-Some-next_back.own) c.in-Some.ensures.taken c.in-Some-next_back.ensures.taken
+    ∙ ap (λ b. ends (but_last (components_items c.pieces.rest)) (but_last (components_items c.pieces.wanted)) && b) (not_true _ (sym c.ne.ensures ∙ c.if-ne.true))
+    ∙ and_false _)
 
 pub pieces-preserved : goal.pieces-preserved
 pieces-preserved g c =

@@ -1,4 +1,4 @@
-use Rattle.std.proofs.Common.{◌≡◌, ◌+◌, ◌<◌, ◌≤◌, ℕ, List, [], ◌∷◌, Bool, true, false, cond, length, refl, sym, ap, subst, ◌∙◌, option_map, arith}
+use Rattle.std.proofs.Common.{◌≡◌, ◌≤◌, ℕ, List, [], ◌∷◌, false, cond, length, sym, ap, ◌∙◌, option_map, arith}
 use Rattle.std.specs.Prelude.{Option, Some, None, option_and_then}
 use Rattle.std.proofs.lemmas.Option.{same_Some}
 use Rattle.typed_path.specs.Dialect.{Dialect}
@@ -8,7 +8,7 @@ use Rattle.typed_path.specs.Left.{back, left, last_of, slice_after_back}
 use Rattle.typed_path.specs.Queries.{is_root, parent_of}
 use Rattle.typed_path.specs.Steps.{last_part}
 use Rattle.typed_path.specs.Views.{part_of}
-use Rattle.typed_path.specs.PathViews.{path_bytes, components_items, components_slice}
+use Rattle.typed_path.specs.PathViews.{path_bytes, components_slice}
 use Rattle.typed_path.proofs.PlaceLemmas.{comps-laid_out}
 use Rattle.typed_path.proofs.SliceLemmas.{stepwise_slices}
 use Rattle.typed_path.proofs.common.path.Path.parent.Goals as goal
@@ -33,6 +33,6 @@ returns g c =
     let d = g.T.Encoding.dialect in
     let t = path_bytes c.args.self in
     ap Some (c.new.ensures ∙ c.as_bytes.ensures ∙ c.in_ok-last.ensures.slice
-        ∙ ap (λ cs. slice_after_back cs (components_slice c.components-components.result)) c.components-components.ensures.items
-        ∙ ap (slice_after_back (comps d t)) c.components-components.ensures.slice)
+    ∙ ap (λ cs. slice_after_back cs (components_slice c.components-components.result)) c.components-components.ensures.items
+    ∙ ap (slice_after_back (comps d t)) c.components-components.ensures.slice)
     ∙ sym (parent_left d t (part_of c.in_ok-last.last) (c.in_ok-last.ensures.taken ∙ ap last_part c.components-components.ensures.items) (sym c.if-is_root.ensures))

@@ -1,4 +1,4 @@
-use Rattle.std.proofs.Common.{ap, subst, sym, ◌≡◌}
+use Rattle.std.proofs.Common.{subst, sym, ◌≡◌}
 use Rattle.typed_path.specs.Part.{parts}
 use Rattle.typed_path.specs.PathViews.{path_bytes}
 use Rattle.typed_path.specs.UnixParts.{as_written}
@@ -7,5 +7,5 @@ use Rattle.typed_path.proofs.unix.components.UnixComponents.new.Goals as goal
 
 pub invariant_of-result : goal.invariant_of-result
 invariant_of-result c = record {
-  written = subst (λ cs. parts cs ≡ as_written (parts cs)) (sym c.components.ensures.items) (written-parts_of (path_bytes c.args.path))
+  written = subst (λ cs. parts cs ≡ as_written (parts cs)) (sym c.components.ensures.items) (written-parts_of (path_bytes c.args.path));
 }

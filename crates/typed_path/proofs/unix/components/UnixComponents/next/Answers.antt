@@ -7,5 +7,5 @@ use Rattle.typed_path.proofs.unix.components.UnixComponents.next.Goals as goal
 
 pub invariant_of-self : goal.invariant_of-self
 invariant_of-self c = record {
-  written = subst (λ cs. parts cs ≡ as_written (parts cs)) (sym c.next.ensures.items) (written-drop (components_items c.args.self.now.components) c.args.self.now.written)
+  written = subst (λ cs. parts cs ≡ as_written (parts cs)) (sym c.next.ensures.items) (written-drop (components_items c.args.self.now.components) c.args.self.now.written);
 }

@@ -7,7 +7,7 @@ use Rattle.typed_path.proofs.unix.components.UnixComponents.next_back.Goals as g
 
 pub invariant_of-self : goal.invariant_of-self
 invariant_of-self c = record {
-  written = subst (λ cs. parts cs ≡ as_written (parts cs)) (sym c.next_back.ensures.items) (written-but_last (components_items c.args.self.now.components) c.args.self.now.written)
+  written = subst (λ cs. parts cs ≡ as_written (parts cs)) (sym c.next_back.ensures.items) (written-but_last (components_items c.args.self.now.components) c.args.self.now.written);
 }
 
 pub unix_component-requires : goal.unix_component-requires

@@ -30,5 +30,5 @@ pub returns-in-Some-next : goal.returns-in-Some-next
 returns-in-Some-next c =
     let read = ap parts (sym (c.new-components.ensures.items ∙ ap (comps unix) c.new.ensures)) in
     let two = more (unix_items c.new-components.result) (unix_part c.in-Some.component) (unix_part c.in-Some-next.field-0) c.in-Some.ensures.taken
-        (c.in-Some-next.ensures.taken ∙ ap first_part c.in-Some.ensures.items) in
+    (c.in-Some-next.ensures.taken ∙ ap first_part c.in-Some.ensures.items) in
     inr (subst (λ ps. 1 < length ps) (sym read) two, refl)
