@@ -1,0 +1,211 @@
+//! Readings from both ends, and what a path answers.
+
+use std::alloc::Global;
+use std::test::Fail;
+use typed_path::{
+    Component, End, ParseError, Path, StripPrefixError, UnixComponent, UnixComponents,
+    UnixEncoding, UnixPath, read_ends,
+};
+
+/// The texts taken from the ends that are named, and the slice left after each.
+fn taken<'a>(
+    alloc: Global,
+    path: &'a [u8],
+    ends: &[End],
+) -> Result<Vec<(Option<&'a [u8]>, &'a [u8])>, Fail> {
+    let mut components = UnixPath::new(path).components();
+    let mut taken = Vec::new(alloc);
+    for end in ends {
+        let piece = match end {
+            End::Front => components.next(),
+            End::Back => components.next_back(),
+        };
+        taken.push((piece.map(|piece| piece.text), components.as_bytes()))?;
+    }
+    Ok(taken)
+}
+
+#[test]
+fn components_from_both_ends(rt: HostRuntime) -> Result<(), Fail> {
+    let back = [End::Back; 5];
+    let turns = [End::Back, End::Front, End::Back, End::Front];
+    let rows: [(&[u8], &[End], &[(Option<&[u8]>, &[u8])]); 5] = [
+        (
+            b"/a/./b//",
+            &turns,
+            &[
+                (Some(b"b"), b"/a"),
+                (Some(b"/"), b"a"),
+                (Some(b"a"), b""),
+                (None, b""),
+            ],
+        ),
+        (
+            b"./a/b/c",
+            &back,
+            &[
+                (Some(b"c"), b"./a/b"),
+                (Some(b"b"), b"./a"),
+                (Some(b"a"), b"."),
+                (Some(b"."), b""),
+                (None, b""),
+            ],
+        ),
+        (b"/././.", &back[..2], &[(Some(b"/"), b""), (None, b"")]),
+        (
+            "日/本//語/".as_bytes(),
+            &back[..2],
+            &[
+                (Some("語".as_bytes()), "日/本".as_bytes()),
+                (Some("本".as_bytes()), "日".as_bytes()),
+            ],
+        ),
+        (b"", &turns[..2], &[(None, b""), (None, b"")]),
+    ];
+    for (path, ends, wanted) in rows {
+        let taken = taken(rt.alloc(), path, ends)?;
+        assert_eq!(rt; taken.as_slice(), wanted, "of {path:?}");
+    }
+    Ok(())
+}
+
+#[test]
+fn read_ends_appends(rt: HostRuntime) -> Result<(), Fail> {
+    let mut components = UnixPath::new(b"/a/./b//").components();
+    let mut answers = Vec::new(rt.alloc());
+    let ends = [End::Back, End::Front, End::Back, End::Front];
+    read_ends(&mut components, &ends, &mut answers)?;
+    let mut texts = Vec::new(rt.alloc());
+    for answer in &answers {
+        texts.push(answer.map(|piece| piece.text))?;
+    }
+    let wanted: [Option<&[u8]>; 4] = [Some(b"b"), Some(b"/"), Some(b"a"), None];
+    assert_eq!(rt; texts.as_slice(), wanted.as_slice());
+    Ok(())
+}
+
+#[test]
+fn bases(rt: HostRuntime) -> Result<(), Fail> {
+    let rows: [(&[u8], &[u8], Option<&[u8]>); 6] = [
+        (b"/a/./b/c", b"/a", Some(b"b/c")),
+        (b"a/b/", b"a/b", Some(b"")),
+        (b"a//b/", b"", Some(b"a//b/")),
+        (b"/a", b"/b", None),
+        (b"a", b"a/b", None),
+        (b"ab/c", b"a", None),
+    ];
+    for (path, base, wanted) in rows {
+        let path = UnixPath::new(path);
+        let base = UnixPath::new(base);
+        let rest = path.strip_prefix(base).ok().map(|rest| rest.as_bytes());
+        assert_eq!(rt; rest, wanted);
+        assert_eq!(rt; path.starts_with(base), wanted.is_some());
+    }
+    for (path, end, wanted) in [
+        ("/a/b", "b", true),
+        ("/a/b", "/b", false),
+        ("/a/b/.", "a/b", true),
+        ("b", "a/b", false),
+    ] {
+        let path = UnixPath::new(path.as_bytes());
+        assert_eq!(rt; path.ends_with(UnixPath::new(end.as_bytes())), wanted);
+    }
+    assert_eq!(rt;
+        StripPrefixError.to_string(rt.alloc())?.as_str(),
+        "prefix not found"
+    );
+    Ok(())
+}
+
+#[test]
+fn names(rt: HostRuntime) {
+    let rows: [(&[u8], Option<&[u8]>, Option<&[u8]>, Option<&[u8]>); 8] = [
+        (b".bashrc", Some(b".bashrc"), Some(b".bashrc"), None),
+        (b"a.", Some(b"a."), Some(b"a"), Some(b"")),
+        (b"..x", Some(b"..x"), Some(b"."), Some(b"x")),
+        (b"...", Some(b"..."), Some(b".."), Some(b"")),
+        (
+            b"/tmp/x.tar.gz/",
+            Some(b"x.tar.gz"),
+            Some(b"x.tar"),
+            Some(b"gz"),
+        ),
+        (b"foo/..", None, None, None),
+        (b"/", None, None, None),
+        (b"", None, None, None),
+    ];
+    for (path, name, stem, extension) in rows {
+        let path = UnixPath::new(path);
+        assert_eq!(rt; path.file_name(), name);
+        assert_eq!(rt; path.file_stem(), stem);
+        assert_eq!(rt; path.extension(), extension);
+    }
+}
+
+#[test]
+fn those_above(rt: HostRuntime) -> Result<(), Fail> {
+    let mut texts = Vec::new(rt.alloc());
+    for path in UnixPath::new(b"/a/b/.").ancestors() {
+        texts.push(path.as_bytes())?;
+    }
+    let wanted: [&[u8]; 3] = [b"/a/b/.", b"/a", b"/"];
+    assert_eq!(rt; texts.as_slice(), wanted.as_slice());
+    Ok(())
+}
+
+#[test]
+fn questions(rt: HostRuntime) {
+    for (path, absolute, valid) in [
+        ("/a", true, true),
+        ("a/\0", false, false),
+        ("./con", false, true),
+        ("", false, true),
+    ] {
+        let path = UnixPath::new(path.as_bytes());
+        assert_eq!(rt; path.is_absolute(), absolute);
+        assert_eq!(rt; path.has_root(), absolute);
+        assert_eq!(rt; path.is_relative(), !absolute);
+        assert_eq!(rt; path.is_valid(), valid);
+    }
+}
+
+#[test]
+fn readings(rt: HostRuntime) {
+    let rows: [(&str, Result<UnixComponent<'_>, ParseError>); 6] = [
+        ("", Err("no component found")),
+        ("/a", Err("found more than one component")),
+        ("/", Ok(UnixComponent::RootDir)),
+        ("a//.", Ok(UnixComponent::Normal(b"a"))),
+        (".", Ok(UnixComponent::CurDir)),
+        ("..", Ok(UnixComponent::ParentDir)),
+    ];
+    for (text, wanted) in rows {
+        assert!(rt; UnixComponent::try_from(text) == wanted);
+        assert!(rt; UnixComponent::try_from(text.as_bytes()) == wanted);
+    }
+    assert!(rt; UnixComponent::try_from(b"/") == Ok(UnixComponent::RootDir));
+}
+
+#[test]
+fn components_of_unix(rt: HostRuntime) -> Result<(), Fail> {
+    let mut components = UnixComponents::new(UnixPath::new(b"/a/../b"));
+    assert_eq!(rt; components.next_back(), Some(UnixComponent::Normal(b"b")));
+    assert_eq!(rt;
+        components.as_path::<UnixEncoding>().as_bytes(),
+        b"/a/..".as_slice()
+    );
+    assert!(rt; components.has_root());
+    let mut texts = Vec::new(rt.alloc());
+    for component in components.rev() {
+        texts.push(component.as_bytes())?;
+    }
+    let wanted: [&[u8]; 3] = [b"..", b"a", b"/"];
+    assert_eq!(rt; texts.as_slice(), wanted.as_slice());
+    let mut names = Vec::new(rt.alloc());
+    for name in Path::<UnixEncoding>::new(b"a/b") {
+        names.push(name)?;
+    }
+    let wanted: [&[u8]; 2] = [b"a", b"b"];
+    assert_eq!(rt; names.as_slice(), wanted.as_slice());
+    Ok(())
+}
