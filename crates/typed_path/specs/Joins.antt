@@ -7,7 +7,6 @@ use Rattle.typed_path.specs.Queries.{is_absolute, stripped}
 use Rattle.typed_path.specs.Push.{push}
 use Rattle.typed_path.specs.Same.{IsSame}
 
--- the current directory
 -- a list without a current directory at its beginning
 abbrev pub without_leading_current : List Part → List Part
 without_leading_current [] = []

@@ -1,70 +1,43 @@
 //! Readings from both ends, and what a path answers.
 
-use std::alloc::Global;
+use std::alloc::{AllocError, Global};
 use std::test::Fail;
 use typed_path::{
     Component, End, ParseError, Path, StripPrefixError, UnixComponent, UnixComponents,
     UnixEncoding, UnixPath, read_ends,
 };
 
-/// The texts taken from the ends that are named, and the slice left after each.
-fn taken<'a>(
-    alloc: Global,
-    path: &'a [u8],
-    ends: &[End],
-) -> Result<Vec<(Option<&'a [u8]>, &'a [u8])>, Fail> {
+/// A line for each end that is named: the text that it gives, or `none`, and the slice left then.
+fn taken(alloc: Global, path: &[u8], ends: &[End]) -> Result<Vec<u8>, AllocError> {
     let mut components = UnixPath::new(path).components();
-    let mut taken = Vec::new(alloc);
+    let mut lines = Vec::new(alloc);
     for end in ends {
         let piece = match end {
             End::Front => components.next(),
             End::Back => components.next_back(),
         };
-        taken.push((piece.map(|piece| piece.text), components.as_bytes()))?;
+        lines.extend_from_slice(piece.map_or(b"none".as_slice(), |piece| piece.text))?;
+        lines.push(b'|')?;
+        lines.extend_from_slice(components.as_bytes())?;
+        lines.push(b'\n')?;
     }
-    Ok(taken)
+    Ok(lines)
 }
 
 #[test]
 fn components_from_both_ends(rt: HostRuntime) -> Result<(), Fail> {
-    let back = [End::Back; 5];
+    let back = [End::Back, End::Back, End::Back, End::Back, End::Back];
     let turns = [End::Back, End::Front, End::Back, End::Front];
-    let rows: [(&[u8], &[End], &[(Option<&[u8]>, &[u8])]); 5] = [
-        (
-            b"/a/./b//",
-            &turns,
-            &[
-                (Some(b"b"), b"/a"),
-                (Some(b"/"), b"a"),
-                (Some(b"a"), b""),
-                (None, b""),
-            ],
-        ),
-        (
-            b"./a/b/c",
-            &back,
-            &[
-                (Some(b"c"), b"./a/b"),
-                (Some(b"b"), b"./a"),
-                (Some(b"a"), b"."),
-                (Some(b"."), b""),
-                (None, b""),
-            ],
-        ),
-        (b"/././.", &back[..2], &[(Some(b"/"), b""), (None, b"")]),
-        (
-            "日/本//語/".as_bytes(),
-            &back[..2],
-            &[
-                (Some("語".as_bytes()), "日/本".as_bytes()),
-                (Some("本".as_bytes()), "日".as_bytes()),
-            ],
-        ),
-        (b"", &turns[..2], &[(None, b""), (None, b"")]),
+    let rows = [
+        ("/a/./b//", turns.as_slice(), "b|/a\n/|a\na|\nnone|\n"),
+        ("./a/b/c", &back, "c|./a/b\nb|./a\na|.\n.|\nnone|\n"),
+        ("/././.", &back[..2], "/|\nnone|\n"),
+        ("日/本//語/", &back[..2], "語|日/本\n本|日\n"),
+        ("", &turns[..2], "none|\nnone|\n"),
     ];
     for (path, ends, wanted) in rows {
-        let taken = taken(rt.alloc(), path, ends)?;
-        assert_eq!(rt; taken.as_slice(), wanted, "of {path:?}");
+        let taken = taken(rt.alloc(), path.as_bytes(), ends)?;
+        assert_eq!(rt; taken.as_slice(), wanted.as_bytes(), "of {path}");
     }
     Ok(())
 }

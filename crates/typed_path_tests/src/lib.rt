@@ -1,4 +1,4 @@
-//! What no clause of `typed_path` says: printed texts, refused memory, streams that fail.
+//! What no clause of `typed_path` says: printed texts, streams that fail, long lines, and rows of known answers.
 #![tactic(auto)]
 
 #[cfg(test)]
