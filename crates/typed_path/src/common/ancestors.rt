@@ -35,12 +35,8 @@ impl<'a, T: Encoding> Iterator for Ancestors<'a, T> {
     ghost remaining = { item_count (ancestors_left T.dialect) };
 
     fn next(&mut self) -> Option<Path<'a, T>> {
-        match self.next {
-            None => None,
-            Some(path) => {
-                self.next = path.parent();
-                Some(path)
-            }
-        }
+        let path = self.next?;
+        self.next = path.parent();
+        Some(path)
     }
 }

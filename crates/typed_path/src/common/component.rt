@@ -1,7 +1,7 @@
 //! The questions that a component of any encoding answers.
 
-ghost use Rattle.std.specs.Prelude.{◌≡◌, ◌==◌, length};
-ghost use Rattle.typed_path.specs.Dialect.{Dialect};
+ghost use Rattle.std.specs.Prelude.{◌≡◌, ◌==◌, [], ◌∷◌, length};
+ghost use Rattle.typed_path.specs.Dialect.{Dialect, root_of, dot};
 ghost use Rattle.typed_path.specs.Part.{Part, root as root_kind, parent as parent_kind, current as current_kind, is_name, is_parent, is_current};
 ghost use Rattle.typed_path.specs.Queries.{is_root as is_root_kind, is_allowed};
 
@@ -45,13 +45,16 @@ pub trait Component<'a>: Sized {
 
     /// The root directory.
     fn root() -> Self
-        ensures { (part result).kind ≡ root_kind };
+        ensures kind { (part result).kind ≡ root_kind }
+        ensures text { (part result).text ≡ root_of dialect };
 
     /// The parent directory.
     fn parent() -> Self
-        ensures { (part result).kind ≡ parent_kind };
+        ensures kind { (part result).kind ≡ parent_kind }
+        ensures text { (part result).text ≡ dot ∷ dot ∷ [] };
 
     /// The current directory.
     fn current() -> Self
-        ensures { (part result).kind ≡ current_kind };
+        ensures kind { (part result).kind ≡ current_kind }
+        ensures text { (part result).text ≡ dot ∷ [] };
 }

@@ -87,7 +87,7 @@ impl<'a, T: Encoding> Iterator for Components<'a, T> {
     ghost remaining = { item_count components_parts };
 
     fn next(&mut self) -> Option<Piece<'a>> {
-        T::front(&mut self.cursor)
+        Components::next(self)
     }
 }
 
@@ -99,6 +99,6 @@ impl<'a, T: Encoding> DoubleEndedIterator for Components<'a, T> {
     ghost next_back_gives = { YieldsLastBy part_of components_parts };
 
     fn next_back(&mut self) -> Option<Piece<'a>> {
-        T::back(&mut self.cursor)
+        Components::next_back(self)
     }
 }

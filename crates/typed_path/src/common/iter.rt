@@ -32,10 +32,8 @@ impl<'a, T: Encoding> Iter<'a, T> {
         ensures slice { components_slice (iter_components self.new)
             ≡ slice_after_front (components_items (iter_components self.old)) (components_slice (iter_components self.old)) }
     {
-        match self.components.next() {
-            Some(piece) => Some(piece.text),
-            None => None,
-        }
+        let piece = self.components.next()?;
+        Some(piece.text)
     }
 
     /// Takes the text of the last component that is left.
@@ -46,10 +44,8 @@ impl<'a, T: Encoding> Iter<'a, T> {
         ensures slice { components_slice (iter_components self.new)
             ≡ slice_after_back (components_items (iter_components self.old)) (components_slice (iter_components self.old)) }
     {
-        match self.components.next_back() {
-            Some(piece) => Some(piece.text),
-            None => None,
-        }
+        let piece = self.components.next_back()?;
+        Some(piece.text)
     }
 
     /// The slice left, as a path.

@@ -84,14 +84,15 @@ impl<'a, T: Encoding> Path<'a, T> {
 impl<'a, T: Encoding> IntoIterator for Path<'a, T> {
     ghost use Rattle.std.specs.Prelude.{◌≡◌};
     ghost use Rattle.typed_path.specs.Comps.{comps};
-    ghost use Rattle.typed_path.specs.PathViews.{path_bytes, components_items};
+    ghost use Rattle.typed_path.specs.PathViews.{path_bytes, components_items, components_slice};
     ghost use Rattle.typed_path.specs.IterViews.{iter_components};
 
     type Item = &'a [u8];
 
     type IntoIter = Iter<'a, T>;
 
-    ghost into_iter_gives = { λ path iter. components_items (iter_components iter) ≡ comps T.dialect (path_bytes path) };
+    ghost into_iter_gives = { λ path iter. components_items (iter_components iter) ≡ comps T.dialect (path_bytes path)
+        × components_slice (iter_components iter) ≡ path_bytes path };
 
     fn into_iter(self) -> Iter<'a, T> {
         self.iter()

@@ -33,10 +33,7 @@ impl<'a, T: Encoding> Path<'a, T> {
     pub fn strip_prefix(self, base: Path<'_, T>) -> Result<Path<'a, T>, StripPrefixError>
         ensures { stripped_to path_bytes result ≡ stripped T.dialect (path_bytes self.entry) (path_bytes base.entry) }
     {
-        match self.behind(base) {
-            Some(rest) => Ok(rest),
-            None => Err(StripPrefixError),
-        }
+        self.behind(base).ok_or(StripPrefixError)
     }
 
     /// Whether the path begins with the components of another, as they are written.

@@ -1,7 +1,7 @@
 //! What is still to be taken at the beginning of a text.
 
 /// Where the slice left of a reading begins.
-#[derive(Clone, Copy, Debug, PartialEq, Eq)]
+#[derive(Clone, Copy, Debug)]
 pub enum Begin {
     /// At the beginning of the body: an empty first segment is the root, and `.` a component.
     Body,

@@ -5,7 +5,7 @@ ghost use Rattle.std.specs.List.{position_or_len, IsAfterLastMatch};
 ghost use Rattle.typed_path.specs.Dialect.{is_separator, is_verbatim, root_text};
 
 /// The separators of one text, and with them the way in which it is read.
-#[derive(Clone, Copy, Debug, PartialEq, Eq)]
+#[derive(Clone, Copy, Debug)]
 pub enum Separators {
     /// `/` alone: a Unix text.
     Slash,

@@ -80,9 +80,8 @@ fn converse<R: Source, W: Sink>(
         (streams (R.remaining reader.new) (R.has_failed reader.new) (W.contents writer.new) (W.has_failed writer.new)) }
 {
     'reads: loop {
-        let count = match reader.read(buffer) {
-            Ok(count) => count,
-            Err(Failed) => return Err(LineError::Read),
+        let Ok(count) = reader.read(buffer) else {
+            return Err(LineError::Read);
         };
         if count == 0 {
             break;
@@ -104,9 +103,7 @@ fn send<W: Sink>(dialogue: &mut Dialogue, writer: &mut W) -> Result<(), LineErro
     ensures part { OnErr result (WritesPart (W.contents writer.old) (W.contents writer.new) dialogue.old.replies.items) }
     ensures failed { OnErr result (W.has_failed writer.new ≡ true) }
 {
-    if write_all(writer, dialogue.replies.as_slice()).is_err() {
-        return Err(LineError::Write);
-    }
+    write_all(writer, dialogue.replies.as_slice()).map_err(|_| LineError::Write)?;
     dialogue.replies.clear();
     Ok(())
 }

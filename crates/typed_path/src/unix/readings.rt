@@ -5,9 +5,10 @@ use crate::errors::ParseError;
 use crate::unix::component::UnixComponent;
 use crate::unix::components::UnixComponents;
 
-/// Reads a text that is one component.
+/// Reads bytes that are one component.
 ///
-/// It is refused with `no component found` or `found more than one component`.
+/// Where they have none they are refused with `no component found`, and where they have two or more
+/// with `found more than one component`.
 impl<'a> TryFrom<&'a [u8]> for UnixComponent<'a> {
     ghost use Rattle.typed_path.specs.UnixViews.{IsUnixReading};
 
@@ -27,6 +28,7 @@ impl<'a> TryFrom<&'a [u8]> for UnixComponent<'a> {
     }
 }
 
+/// Reads an array as the slice of its bytes.
 impl<'a, const N: usize> TryFrom<&'a [u8; N]> for UnixComponent<'a> {
     ghost use Rattle.typed_path.specs.UnixViews.{IsUnixReading};
 
@@ -39,6 +41,7 @@ impl<'a, const N: usize> TryFrom<&'a [u8; N]> for UnixComponent<'a> {
     }
 }
 
+/// Reads a text as the slice of its bytes.
 impl<'a> TryFrom<&'a str> for UnixComponent<'a> {
     ghost use Rattle.typed_path.specs.UnixViews.{IsUnixReading};
 

@@ -1,5 +1,6 @@
 use Rattle.std.proofs.Common.{◌≡◌, ℕ, List, ◌∷◌, length, refl, sym, ap, ◌∙◌, option_map, arith}
 use Rattle.std.specs.Prelude.{Option, Some, None}
+use Rattle.std.specs.ControlFlow.{continue_value}
 use Rattle.std.specs.Iterator.{MakesProgress, item_count}
 use Rattle.typed_path.specs.declared.common.path.Path.{Path}
 use Rattle.typed_path.specs.Dialect.{Dialect}
@@ -18,12 +19,12 @@ progress : {S A : Type 0} (view : A → List ℕ) (rest : S → List (List ℕ))
     → MakesProgress can (item_count rest) s (Some x) t
 progress view rest can all s t x h = record { on = λ finite. (all t, tt, omega (arith, ap length h)); keeps = all t; rests = λ finite. tt }
 
-pub returns-in-Some-clause-steps : goal.returns-in-Some-clause-steps
-returns-in-Some-clause-steps g c =
+pub returns-clause-steps : goal.returns-clause-steps
+returns-clause-steps g c =
     let d = g.T.Encoding.dialect in
-    ap (ancestors_from d) c.in-Some.is ∙ ancestors-step d (path_bytes c.in-Some.path)
-    ∙ ap (λ ts. path_bytes c.in-Some.path ∷ ts) (ap (above d) (sym c.parent-self.ensures) ∙ from-above d c.parent-self.result)
+    ap (ancestors_from d) (c.branch-path.ensures ∙ ap continue_value c.in_ok-path.is) ∙ ancestors-step d (path_bytes c.in_ok-path.path)
+    ∙ ap (λ ts. path_bytes c.in_ok-path.path ∷ ts) (ap (above d) (sym c.parent-self.ensures) ∙ from-above d c.parent-self.result)
 
-pub returns-in-Some-clause-goes : goal.returns-in-Some-clause-goes
-returns-in-Some-clause-goes g c =
-    progress path_bytes (ancestors_left g.T.Encoding.dialect) _ (λ s. tt) _ _ c.in-Some.path (returns-in-Some-clause-steps g c)
+pub returns-clause-goes : goal.returns-clause-goes
+returns-clause-goes g c =
+    progress path_bytes (ancestors_left g.T.Encoding.dialect) _ (λ s. tt) _ _ c.in_ok-path.path (returns-clause-steps g c)

@@ -31,7 +31,7 @@ progress rest can all s t None h = record { on = λ finite. tt; keeps = tt; rest
 progress rest can all s t (Some p) h = record { on = λ finite. (all t, tt, omega (arith, length-append (rest t) (part_of p ∷ []), ap length h)); keeps = all t; rests = λ finite. tt }
 
 pub returns-clause-steps : goal.returns-clause-steps
-returns-clause-steps g c = yields_last c.back.result _ _ c.back.ensures.taken c.back.ensures.items
+returns-clause-steps g c = yields_last c.next_back.result _ _ c.next_back.ensures.taken c.next_back.ensures.items
 
 pub returns-clause-goes : goal.returns-clause-goes
-returns-clause-goes g c = progress components_parts _ (λ s. tt) _ _ c.back.result (returns-clause-steps g c)
+returns-clause-goes g c = progress components_parts _ (λ s. tt) _ _ c.next_back.result (returns-clause-steps g c)

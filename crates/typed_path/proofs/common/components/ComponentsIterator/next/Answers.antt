@@ -10,7 +10,7 @@ some_injective : {A : Type 0} {x y : A} → Some x ≡ Some y → x ≡ y
 some_injective e = cc
 
 pub returns-clause-steps : goal.returns-clause-steps
-returns-clause-steps g c = yields_first c.front.result _ _ c.front.ensures.taken c.front.ensures.items
+returns-clause-steps g c = yields_first c.next.result _ _ c.next.ensures.taken c.next.ensures.items
   where
     yields_first : (r : Option Piece) (old new : List Placed) → option_map part_of r ≡ first_part old → new ≡ drop 1 old
         → MatchOption r ((parts old ≡ []) × (parts new ≡ [])) (λ p. parts old ≡ part_of p ∷ parts new)
