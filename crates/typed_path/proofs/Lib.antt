@@ -3,9 +3,12 @@ mod BackLemmas
 mod BodyCuts
 mod BodyLemmas
 mod ComponentCuts
+mod ContainLemmas
+mod CountLemmas
 mod CutLemmas
 mod DotLemmas
 mod EndLemmas
+mod FaultLemmas
 mod FieldLemmas
 mod LastLemmas
 mod LeftLemmas
@@ -37,5 +40,6 @@ pub mod OrderLaws
 pub mod PartLemmas
 pub mod ResolveLemmas
 pub mod SplitLemmas
+pub mod UnixContained
 pub mod UnixNormal
 pub mod examples

@@ -74,7 +74,7 @@ push_all-read [] read kept = refl
 push_all-read (p ∷ ps) read kept = parts_of-unix (push_all unix [] (texts (p ∷ ps))) ∙ push_all-first p.kind p.text ps read.0 kept.0 read.1 kept.1
 
 -- what the list of a Unix path resolves to is a list as it is read
-resolved-read : (t : List ℕ) → AreRead Slash (resolve (parts_of unix t))
+pub resolved-read : (t : List ℕ) → AreRead Slash (resolve (parts_of unix t))
 resolved-read t = resolve-read Slash (parts_of unix t) (rw (parts_of-unix t) (body_parts-read Slash t))
 
 -- a normal text reads as what the list resolves to

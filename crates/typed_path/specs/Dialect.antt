@@ -38,6 +38,12 @@ abbrev pub separators : Dialect → List ℕ → Separators
 separators unix text = Slash
 separators windows text = if begins_verbatim text then Backslash else Either
 
+-- the dialect of the texts that have these separators
+abbrev pub dialect_of : Separators → Dialect
+dialect_of Slash = unix
+dialect_of Backslash = windows
+dialect_of Either = windows
+
 -- in a text that is read verbatim a `.` is a component everywhere
 abbrev pub is_verbatim : Separators → Bool
 is_verbatim Slash = false

@@ -29,3 +29,5 @@ pub mod Joins
 pub mod Ends
 pub mod Ancestry
 pub mod AncestorViews
+pub mod Checked
+pub mod Depths

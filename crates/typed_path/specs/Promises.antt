@@ -13,11 +13,14 @@ use Rattle.typed_path.specs.Places.{resolve, place, normal_text}
 abbrev pub prefix_kind : Dialect → List ℕ → Option Prefix
 prefix_kind d t = option_map (λ f. f.prefix) (prefix_of d t)
 
--- containment of checked joins: where the prefix stays the base's, the result lies at the base's place, and then the path's names
+-- where the prefix stays the base's, a joined path lies at the base's place, and then the path's names
+abbrev pub LiesWithin : Dialect → List ℕ → List ℕ → List ℕ → Type 0
+LiesWithin d base path joined =
+    prefix_kind d joined ≡ prefix_kind d base → place d joined ≡ place d base ++ kinds (resolve (parts_of d path))
+
+-- containment of checked joins
 abbrev pub IsContained : Dialect → List ℕ → List ℕ → Type 0
-IsContained d base path =
-    fault d path ≡ None → prefix_kind d (push d base path) ≡ prefix_kind d base
-    → place d (push d base path) ≡ place d base ++ kinds (resolve (parts_of d path))
+IsContained d base path = fault d path ≡ None → LiesWithin d base path (push d base path)
 
 abbrev pub keeps_by_prefix : List ℕ → Option Prefix → Bool
 keeps_by_prefix base None =
@@ -34,9 +37,11 @@ abbrev pub keeps_prefix : Dialect → List ℕ → Bool
 keeps_prefix unix base = true
 keeps_prefix windows base = keeps_by_prefix base (prefix_kind windows base)
 
+abbrev pub HasPrefixOf : Dialect → List ℕ → List ℕ → Type 0
+HasPrefixOf d base joined = keeps_prefix d base ≡ true → prefix_kind d joined ≡ prefix_kind d base
+
 abbrev pub KeepsPrefix : Dialect → List ℕ → List ℕ → Type 0
-KeepsPrefix d base path =
-    keeps_prefix d base ≡ true → fault d path ≡ None → prefix_kind d (push d base path) ≡ prefix_kind d base
+KeepsPrefix d base path = fault d path ≡ None → HasPrefixOf d base (push d base path)
 
 -- the canonical form: a normal text of Unix reads as what the list resolves to, stays under a second pass, and is equal to another exactly where both lists resolve alike
 abbrev pub ReadsAsResolved : List ℕ → Type 0

@@ -1,7 +1,6 @@
 //! The errors of this crate.
 
 ghost use Rattle.std.specs.Prelude.{◌≡◌};
-ghost use Rattle.typed_path.specs.declared.errors.LineError.TheVariants.{OutOfMemory};
 
 use std::alloc::{AllocError, AllocFailed};
 use thiserror::Error;
@@ -31,6 +30,37 @@ pub enum CheckedPathError {
     UnexpectedRoot,
 }
 
+/// Why a checked push was not done.
+#[derive(Clone, Copy, Debug, PartialEq, Eq, Hash, Error)]
+pub enum PathError {
+    /// The path that was to be pushed is refused.
+    #[error(transparent)]
+    Checked(CheckedPathError),
+    /// Memory was refused.
+    #[error("out of memory")]
+    OutOfMemory,
+}
+
+impl From<CheckedPathError> for PathError {
+    ghost use Rattle.typed_path.specs.declared.errors.PathError.TheVariants.{Checked};
+
+    ghost from_gives = { λ refusal e. e ≡ Checked refusal };
+
+    fn from(refusal: CheckedPathError) -> PathError {
+        PathError::Checked(refusal)
+    }
+}
+
+impl From<AllocError> for PathError {
+    ghost use Rattle.typed_path.specs.declared.errors.PathError.TheVariants.{OutOfMemory};
+
+    ghost from_gives = { λ _ e. e ≡ OutOfMemory };
+
+    fn from(_refused: AllocError) -> PathError {
+        PathError::OutOfMemory
+    }
+}
+
 /// Why lines were not answered to the end of the input.
 #[derive(Clone, Copy, Debug, PartialEq, Eq, Hash, Error)]
 pub enum LineError {
@@ -46,6 +76,8 @@ pub enum LineError {
 }
 
 impl From<AllocError> for LineError {
+    ghost use Rattle.typed_path.specs.declared.errors.LineError.TheVariants.{OutOfMemory};
+
     ghost from_gives = { λ _ e. e ≡ OutOfMemory };
 
     fn from(_refused: AllocError) -> LineError {
@@ -54,6 +86,8 @@ impl From<AllocError> for LineError {
 }
 
 impl<T: Drop> From<AllocFailed<T>> for LineError {
+    ghost use Rattle.typed_path.specs.declared.errors.LineError.TheVariants.{OutOfMemory};
+
     ghost from_gives = { λ _ e. e ≡ OutOfMemory };
 
     fn from(_refused: AllocFailed<T>) -> LineError {

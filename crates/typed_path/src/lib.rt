@@ -11,7 +11,7 @@ mod unix;
 mod windows;
 
 pub use common::{Ancestors, Component, Components, Encoding, Iter, Path, PathBuf};
-pub use errors::{CheckedPathError, LineError, ParseError, StripPrefixError};
+pub use errors::{CheckedPathError, LineError, ParseError, PathError, StripPrefixError};
 pub use scan::{Cursor, Piece, PieceKind};
 pub use script::{
     End, Failed, Sink, Source, StdSink, StdSource, answer_lines, exit_status, read_ends,

@@ -2,6 +2,7 @@
 
 mod begin;
 mod cursor;
+mod depth;
 mod piece;
 mod separators;
 mod step;

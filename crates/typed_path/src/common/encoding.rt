@@ -1,6 +1,9 @@
 //! What every encoding of paths can do.
 
-ghost use Rattle.std.specs.Prelude.{◌≡◌, drop, option_map, OnOk, OnErr};
+ghost use Rattle.std.specs.Prelude.{◌≡◌, ◌≤◌, ℕ, List, drop, option_map, OnOk, OnErr};
+ghost use Rattle.std.specs.Vec.{vec_capacity};
+ghost use Rattle.typed_path.specs.Checked.{refusal, error_of};
+ghost use Rattle.typed_path.specs.Promises.{HasPrefixOf, LiesWithin};
 ghost use Rattle.typed_path.specs.Dialect.{Dialect, root_of, label_of};
 ghost use Rattle.typed_path.specs.Comps.{comps};
 ghost use Rattle.typed_path.specs.Left.{but_last, slice_after_front, slice_after_back};
@@ -11,13 +14,14 @@ ghost use Rattle.typed_path.specs.Part.{kinds, parts};
 ghost use Rattle.typed_path.specs.Queries.{is_absolute, has_root, is_allowed_name};
 ghost use Rattle.typed_path.specs.Push as push_spec;
 
+use crate::errors::{CheckedPathError, PathError};
 use crate::scan::{Cursor, Piece};
 use std::alloc::AllocError;
 
 /// A way of writing paths.
 ///
 /// Code that is generic over the encoding rests on these contracts alone.
-pub trait Encoding {
+pub trait Encoding: Sized {
     ghost dialect: { Dialect };
 
     /// The name of the encoding: `unix` or `windows`.
@@ -60,5 +64,26 @@ pub trait Encoding {
     /// Pushes a path onto another. Where memory is refused, the other is as it was.
     fn push(path: &mut Vec<u8>, other: &[u8]) -> Result<(), AllocError>
         ensures ok { OnOk result (path.new.items ≡ push_spec.push dialect path.old.items other.now) }
-        ensures err { OnErr result (path.new.items ≡ path.old.items) };
+        ensures err { OnErr result (path.new.items ≡ path.old.items) }
+        ensures room { OnErr result (vec_capacity path.old ≤ vec_capacity path.new) };
+
+    /// Judges a path that is to be pushed, on its own: it is refused for its first component that
+    /// offends. Pushed onto any base, a path that is not refused lies within that base.
+    fn check(path: &[u8]) -> Result<(), CheckedPathError>
+        ensures refused { error_of result ≡ push_spec.fault dialect path.now }
+        ensures prefix { OnOk result ((base : List ℕ) → HasPrefixOf dialect base (push_spec.push dialect base path.now)) }
+        ensures contained { OnOk result ((base : List ℕ) → LiesWithin dialect base path.now (push_spec.push dialect base path.now)) };
+
+    /// Pushes a path onto another, unless the path has a component that offends. Then, and where
+    /// memory is refused, the other is as it was.
+    fn push_checked(path: &mut Vec<u8>, other: &[u8]) -> Result<(), PathError>
+        ensures refused { refusal result ≡ push_spec.fault dialect other.now }
+        ensures ok { OnOk result (path.new.items ≡ push_spec.push dialect path.old.items other.now) }
+        ensures err { OnErr result (path.new.items ≡ path.old.items) }
+        ensures prefix { OnOk result (HasPrefixOf dialect path.old.items path.new.items) }
+        ensures contained { OnOk result (LiesWithin dialect path.old.items other.now path.new.items) }
+    {
+        Self::check(other)?;
+        Ok(Self::push(path, other)?)
+    }
 }

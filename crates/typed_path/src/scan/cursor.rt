@@ -3,7 +3,9 @@
 ghost use Rattle.std.specs.Prelude.{◌≡◌, ◌≤◌, true, slice_range, length};
 ghost use Rattle.typed_path.specs.Steps.{is_clean};
 
+use crate::errors::CheckedPathError;
 use crate::scan::begin::Begin;
+use crate::scan::depth::depth_behind;
 use crate::scan::piece::Piece;
 use crate::scan::separators::Separators;
 use crate::scan::step::{back_step, front_step};
@@ -22,7 +24,7 @@ pub struct Cursor<'a> {
 }
 
 impl<'a> Cursor<'a> {
-    ghost use Rattle.std.specs.Prelude.{◌≡◌, drop, option_map};
+    ghost use Rattle.std.specs.Prelude.{◌≡◌, [], drop, option_map};
     ghost use Rattle.typed_path.specs.Comps.{body};
     ghost use Rattle.typed_path.specs.Left.{but_last, slice_after_front, slice_after_back};
     ghost use Rattle.typed_path.specs.Part.{kinds, parts};
@@ -30,11 +32,15 @@ impl<'a> Cursor<'a> {
     ghost use Rattle.typed_path.specs.Steps.{first_part, last_part};
     ghost use Rattle.typed_path.specs.Views.{part_of};
     ghost use Rattle.typed_path.specs.CursorViews.{slice_left, items_left};
+    ghost use Rattle.typed_path.specs.Checked.{error_of};
+    ghost use Rattle.typed_path.specs.Dialect.{dialect_of};
+    ghost use Rattle.typed_path.specs.Push.{fault_behind};
 
     /// A reading of a whole text that has no prefix.
     pub(crate) fn new(text: &'a [u8], separators: Separators) -> Cursor<'a>
         ensures slice { slice_left result ≡ text.now }
         ensures items { items_left result ≡ body separators 0 text.now }
+        ensures separators { result.separators ≡ separators }
     {
         Cursor {
             text,
@@ -65,11 +71,24 @@ impl<'a> Cursor<'a> {
         }
     }
 
+    /// Judges the components that are left, from the front: the first one that offends is what a
+    /// path of them is refused for when it is to be pushed.
+    pub(crate) fn check(mut self) -> Result<(), CheckedPathError>
+        ensures { error_of result ≡ fault_behind (dialect_of self.entry.separators) [] (kinds (parts (items_left self.entry))) }
+    {
+        let mut depth = 0usize;
+        'pieces: while let Some(piece) = self.front() {
+            depth = depth_behind(piece, depth, self.separators)?;
+        }
+        Ok(())
+    }
+
     /// Takes the first component that is left.
     pub(crate) fn front(&mut self) -> Option<Piece<'a>>
         ensures taken { option_map part_of result ≡ first_part (items_left self.old) }
         ensures items { items_left self.new ≡ drop 1 (items_left self.old) }
         ensures slice { slice_left self.new ≡ slice_after_front (items_left self.old) (slice_left self.old) }
+        ensures separators { self.new.separators ≡ self.old.separators }
     {
         let left = self.as_bytes();
         if left.is_empty() {

@@ -2,7 +2,10 @@
 
 ghost use Rattle.std.specs.Prelude.{◌≡◌, ◌≤◌, length};
 ghost use Rattle.std.specs.List.{position_or_len, IsAfterLastMatch};
-ghost use Rattle.typed_path.specs.Dialect.{is_separator, is_verbatim, root_text};
+ghost use Rattle.typed_path.specs.Dialect.{is_separator, is_verbatim, root_text, dialect_of};
+ghost use Rattle.typed_path.specs.Queries.{is_disallowed, is_allowed_name};
+
+use crate::constants::{unix, windows};
 
 /// The separators of one text, and with them the way in which it is read.
 #[derive(Clone, Copy, Debug)]
@@ -45,6 +48,25 @@ impl Separators {
             Separators::Slash => b"/",
             Separators::Backslash | Separators::Either => b"\\",
         }
+    }
+
+    /// Whether no name of such a text may have the byte.
+    fn is_disallowed(self, byte: u8) -> bool
+        ensures { result ≡ is_disallowed (dialect_of self) byte }
+    {
+        match self {
+            Separators::Slash => unix::DISALLOWED_FILENAME_BYTES.contains(&byte),
+            Separators::Backslash | Separators::Either => {
+                windows::DISALLOWED_FILENAME_BYTES.contains(&byte)
+            }
+        }
+    }
+
+    /// Whether a name of such a text is allowed.
+    pub fn allows(self, name: &[u8]) -> bool
+        ensures { result ≡ is_allowed_name (dialect_of self) name.now }
+    {
+        !name.iter().any(|byte| self.is_disallowed(*byte))
     }
 
     /// The place of the first separator, or the length where there is none.

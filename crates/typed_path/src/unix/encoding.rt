@@ -1,12 +1,12 @@
 //! The encoding of Unix paths.
 
-ghost use Rattle.std.specs.Prelude.{◌≡◌, ◌≢◌, [], ◌++◌, OnOk, OnErr};
+ghost use Rattle.std.specs.Prelude.{◌≡◌, ◌≤◌, ◌≢◌, [], ◌++◌, OnOk, OnErr};
+ghost use Rattle.std.specs.Vec.{vec_capacity};
 ghost use Rattle.typed_path.specs.Dialect.{unix, slash};
 ghost use Rattle.typed_path.specs.Push.{ended_with};
-ghost use Rattle.typed_path.specs.Queries.{is_disallowed};
 
 use crate::common::Encoding;
-use crate::constants::unix::DISALLOWED_FILENAME_BYTES;
+use crate::errors::CheckedPathError;
 use crate::scan::{Cursor, Piece, Separators};
 use std::alloc::AllocError;
 
@@ -46,7 +46,7 @@ impl Encoding for UnixEncoding {
     }
 
     fn valid(name: &[u8]) -> bool {
-        !name.iter().any(|byte| is_disallowed(*byte))
+        Separators::Slash.allows(name)
     }
 
     fn push(path: &mut Vec<u8>, other: &[u8]) -> Result<(), AllocError> {
@@ -56,19 +56,17 @@ impl Encoding for UnixEncoding {
             _ => append(path, other),
         }
     }
-}
 
-/// Whether no name may have the byte.
-fn is_disallowed(byte: u8) -> bool
-    ensures { result ≡ is_disallowed unix byte }
-{
-    DISALLOWED_FILENAME_BYTES.contains(&byte)
+    fn check(path: &[u8]) -> Result<(), CheckedPathError> {
+        Cursor::new(path, Separators::Slash).check()
+    }
 }
 
 /// Puts the bytes of another path in the place of those of a path.
 fn replace(path: &mut Vec<u8>, other: &[u8]) -> Result<(), AllocError>
     ensures ok { OnOk result (path.new.items ≡ other.now) }
     ensures err { OnErr result (path.new.items ≡ path.old.items) }
+    ensures room { OnErr result (vec_capacity path.old ≤ vec_capacity path.new) }
 {
     path.reserve(other.len().saturating_sub(path.len()))?;
     path.clear();
@@ -79,6 +77,7 @@ fn replace(path: &mut Vec<u8>, other: &[u8]) -> Result<(), AllocError>
 fn append(path: &mut Vec<u8>, other: &[u8]) -> Result<(), AllocError>
     ensures ok { OnOk result (path.new.items ≡ ended_with slash path.old.items ++ other.now) }
     ensures err { OnErr result (path.new.items ≡ path.old.items) }
+    ensures room { OnErr result (vec_capacity path.old ≤ vec_capacity path.new) }
 {
     match path.as_slice() {
         [] | [.., b'/'] => path.extend_from_slice(other),

@@ -1,0 +1,54 @@
+use Rattle.std.proofs.Common.{◌≡◌, ◌≤◌, ◌+◌, ◌-◌, List, [], ◌∷◌, drop, length, refl, sym, ap, ◌∙◌, subst, le_refl, arith}
+use Rattle.std.specs.Prelude.{Option, Some, Result, Ok, Err}
+use Rattle.std.proofs.lemmas.List.{length-take-le, length-drop}
+use Rattle.typed_path.specs.Part.{Part, Placed, kinds, parts}
+use Rattle.typed_path.specs.Steps.{first_part}
+use Rattle.typed_path.specs.Dialect.{dialect_of}
+use Rattle.typed_path.specs.CursorViews.{slice_left, items_left}
+use Rattle.typed_path.specs.Views.{part_of}
+use Rattle.typed_path.specs.Push.{fault_behind}
+use Rattle.typed_path.specs.Checked.{error_of}
+use Rattle.std.specs.Result.{IsErrAnd}
+use Rattle.typed_path.specs.Depths.{fault_at}
+use Rattle.typed_path.proofs.CountLemmas.{body_from-count}
+use Rattle.typed_path.proofs.FaultLemmas.{fault_behind-at, taken-first}
+use Rattle.typed_path.proofs.scan.cursor.Cursor.check.Goals as goal
+use Rattle.typed_path.proofs.scan.cursor.Cursor.check.Goals.{After-depth_behind}
+
+pub pieces-init : goal.pieces-init
+pieces-init c = record { fault = fault_behind-at (dialect_of c.args.self.separators) [] 0 (kinds (parts (items_left c.args.self))) refl; deep = omega arith }
+
+pub depth_behind-requires : goal.depth_behind-requires
+depth_behind-requires c =
+    let some = taken-first (items_left c.pieces.self) _ c.in-Some.ensures.taken in
+    let few = body_from-count c.args.self.begin c.args.self.separators c.args.self.from (slice_left c.args.self) in
+    let rest = length-drop c.args.self.from c.args.self.text.now in
+    let size = length-take-le (c.args.self.to - c.args.self.from) (drop c.args.self.from c.args.self.text.now) (omega (arith, rest, c.args.self.ordered, c.args.self.in_range)) in
+    omega (arith, some.1, few, size, c.pieces.invariant.deep)
+
+-- the error that a call passes on
+error-is : {A E : Type 0} (r : Result A E) (e : E) → IsErrAnd r (λ y. y ≡ e) → error_of r ≡ Some e
+error-is (Ok x) e is = absurd is
+error-is (Err y) e is = ap Some is
+
+module _ (c : After-depth_behind) where
+  -- the fault of the whole list, by what this component is
+  step : fault_behind (dialect_of c.args.self.separators) [] (kinds (parts (items_left c.args.self)))
+      ≡ fault_at (dialect_of c.front.new.self.separators) c.pieces.depth ((part_of c.in-Some.piece).kind ∷ kinds (parts (items_left c.front.new.self)))
+  step =
+      c.pieces.invariant.fault
+      ∙ ap (fault_at (dialect_of c.pieces.self.separators) c.pieces.depth) ((taken-first (items_left c.pieces.self) _ c.in-Some.ensures.taken).0 ∙ ap (λ cs. (part_of c.in-Some.piece).kind ∷ kinds (parts cs)) (sym c.in-Some.ensures.items))
+      ∙ ap (λ s. fault_at (dialect_of s) c.pieces.depth ((part_of c.in-Some.piece).kind ∷ kinds (parts (items_left c.front.new.self)))) (sym c.in-Some.ensures.separators)
+
+pub returns-in_err-depth : goal.returns-in_err-depth
+returns-in_err-depth c =
+    error-is c.from_residual.result c.in_err-depth.field-0.0 c.from_residual.ensures.1
+    ∙ sym (step c.before.before.before ∙ c.in_err-depth.ensures.judged (kinds (parts (items_left c.front.new.self))))
+
+pub pieces-preserved : goal.pieces-preserved
+pieces-preserved c =
+    let some = taken-first (items_left c.pieces.self) _ c.in-Some.ensures.taken in
+    record {
+      fault = step c.before.before ∙ c.in_ok-depth.ensures.judged (kinds (parts (items_left c.front.new.self)));
+      deep = omega (arith, some.1, c.pieces.invariant.deep, c.in_ok-depth.ensures.within, ap length c.in-Some.ensures.items);
+    }

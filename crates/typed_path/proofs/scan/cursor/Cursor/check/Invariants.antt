@@ -1,0 +1,17 @@
+use Rattle.std.proofs.Common.{◌≡◌, ◌+◌, ◌≤◌, [], length}
+use Rattle.typed_path.specs.Part.{kinds, parts}
+use Rattle.typed_path.specs.CursorViews.{items_left}
+use Rattle.typed_path.specs.Dialect.{dialect_of}
+use Rattle.typed_path.specs.Push.{fault_behind}
+use Rattle.typed_path.specs.Depths.{fault_at}
+use Rattle.typed_path.proofs.scan.cursor.Cursor.check.Given as goal
+
+abbrev pub invariant-pieces : goal.invariant-pieces
+invariant-pieces l = record {
+  fault : fault_behind (dialect_of l.fn.self.separators) [] (kinds (parts (items_left l.fn.self)))
+      ≡ fault_at (dialect_of l.self.separators) l.depth (kinds (parts (items_left l.self)));
+  deep : l.depth + length (items_left l.self) ≤ length (items_left l.fn.self);
+}
+
+abbrev pub decreases-pieces : goal.decreases-pieces
+decreases-pieces l = length (items_left l.self)

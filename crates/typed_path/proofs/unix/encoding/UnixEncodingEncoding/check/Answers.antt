@@ -1,0 +1,22 @@
+use Rattle.std.proofs.Common.{◌≡◌, ℕ, List, [], OnOk, sym, ap, ◌∙◌}
+use Rattle.std.specs.Prelude.{Result, Ok, Err}
+use Rattle.typed_path.specs.declared.errors.CheckedPathError.{CheckedPathError}
+use Rattle.typed_path.specs.Checked.{error_of}
+use Rattle.typed_path.specs.CursorViews.{items_left}
+use Rattle.typed_path.specs.Dialect.{unix, dialect_of}
+use Rattle.typed_path.specs.Part.{kinds, parts}
+use Rattle.typed_path.specs.Push.{push, fault, fault_behind}
+use Rattle.typed_path.specs.Promises.{LiesWithin}
+use Rattle.typed_path.proofs.UnixContained.{contained}
+use Rattle.typed_path.proofs.unix.encoding.UnixEncodingEncoding.check.Goals as goal
+
+accepted : {A : Type 0} (r : Result A CheckedPathError) (path : List ℕ) → error_of r ≡ fault unix path → OnOk r ((base : List ℕ) → LiesWithin unix base path (push unix base path))
+accepted (Ok x) path e = λ base. contained base path (sym e)
+accepted (Err e) path is = tt
+
+pub returns-clause-contained : goal.returns-clause-contained
+returns-clause-contained c =
+    accepted c.check.result c.args.path.now
+    (c.check.ensures
+    ∙ ap (λ s. fault_behind (dialect_of s) [] (kinds (parts (items_left c.new.result)))) c.new.ensures.separators
+    ∙ ap (λ cs. fault_behind unix [] (kinds (parts cs))) c.new.ensures.items)

@@ -1,0 +1,35 @@
+//! How deep below its base a path leads, judged component by component.
+
+ghost use Rattle.std.specs.Prelude.{◌≡◌, ◌≤◌, ◌<◌, ◌+◌, ◌^◌, List, ◌∷◌, IfOk};
+ghost use Rattle.typed_path.specs.Part.{Kind};
+ghost use Rattle.typed_path.specs.Depths.{fault_at, judged};
+ghost use Rattle.typed_path.specs.Dialect.{dialect_of};
+ghost use Rattle.typed_path.specs.Views.{part_of};
+
+use crate::errors::CheckedPathError;
+use crate::scan::piece::{Piece, PieceKind};
+use crate::scan::separators::Separators;
+
+/// How many names are left behind a component that no parent has taken, where so many were left
+/// before it; or what the component is refused for.
+pub fn depth_behind(
+    piece: Piece<'_>,
+    depth: usize,
+    separators: Separators,
+) -> Result<usize, CheckedPathError>
+    requires { depth + 1 < 2 ^ 64 }
+    ensures within { IfOk result (λ deeper. deeper ≤ depth + 1) }
+    ensures judged { (ks : List Kind) → fault_at (dialect_of separators) depth ((part_of piece.entry).kind ∷ ks)
+        ≡ judged (λ deeper. fault_at (dialect_of separators) deeper ks) result }
+{
+    match piece.kind {
+        PieceKind::Prefix(_) => Err(CheckedPathError::UnexpectedPrefix),
+        PieceKind::RootDir => Err(CheckedPathError::UnexpectedRoot),
+        PieceKind::CurDir => Ok(depth),
+        PieceKind::ParentDir => depth
+            .checked_sub(1)
+            .ok_or(CheckedPathError::PathTraversalAttack),
+        PieceKind::Normal if separators.allows(piece.text) => Ok(depth + 1),
+        PieceKind::Normal => Err(CheckedPathError::InvalidFilename),
+    }
+}
