@@ -16,6 +16,7 @@ mod LineLemmas
 mod MarkLemmas
 mod NameCuts
 mod NameLemmas
+mod NameSpans
 mod ParentLemmas
 mod PlaceLemmas
 mod PrefixCuts

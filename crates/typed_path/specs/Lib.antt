@@ -31,3 +31,5 @@ pub mod Ancestry
 pub mod AncestorViews
 pub mod Checked
 pub mod Depths
+pub mod OwnedViews
+pub mod Texts

@@ -12,12 +12,12 @@ pub struct Components<'a, T> {
 }
 
 impl<'a, T: Encoding> Components<'a, T> {
-    ghost use Rattle.std.specs.Prelude.{◌≡◌, drop, option_map};
-    ghost use Rattle.typed_path.specs.Left.{but_last, slice_after_front, slice_after_back};
+    ghost use Rattle.std.specs.Prelude.{◌≡◌, drop, option_map, Some};
+    ghost use Rattle.typed_path.specs.Left.{but_last, last_of, slice_after_front, slice_after_back};
     ghost use Rattle.typed_path.specs.Steps.{first_part, last_part};
     ghost use Rattle.typed_path.specs.Views.{part_of};
     ghost use Rattle.typed_path.specs.CursorViews.{slice_left, items_left};
-    ghost use Rattle.typed_path.specs.Part.{kinds};
+    ghost use Rattle.typed_path.specs.Part.{Placed, end_of, kinds};
     ghost use Rattle.typed_path.specs.Queries.{is_absolute, has_root};
     ghost use Rattle.typed_path.specs.PathViews.{components_items, components_slice, components_parts};
 
@@ -58,6 +58,13 @@ impl<'a, T: Encoding> Components<'a, T> {
         ensures { result.now ≡ components_slice self.entry }
     {
         self.cursor.as_bytes()
+    }
+
+    /// Where the last component that is left ends in the text.
+    pub(crate) fn last_end(self) -> usize
+        ensures { (last : Placed) → last_of (components_items self.entry) ≡ Some last → result ≡ end_of last }
+    {
+        self.cursor.last_end()
     }
 
     /// Whether the components that are left begin an absolute path.

@@ -8,13 +8,14 @@ use crate::common::path::Path;
 use crate::scan::Piece;
 
 impl<'a, T: Encoding> Path<'a, T> {
-    ghost use Rattle.std.specs.Prelude.{◌≡◌, option_map, option_copied};
+    ghost use Rattle.std.specs.Prelude.{◌≡◌, ◌≤◌, length, option_map, option_copied, IfSome};
     ghost use Rattle.typed_path.specs.Comps.{comps};
     ghost use Rattle.typed_path.specs.Steps.{last_part};
     ghost use Rattle.typed_path.specs.Views.{part_of};
     ghost use Rattle.typed_path.specs.Queries.{parent_of, file_name_of, file_stem_of, extension};
     ghost use Rattle.typed_path.specs.PathViews.{path_bytes, components_items, components_slice};
     ghost use Rattle.typed_path.specs.IterViews.{iter_components};
+    ghost use Rattle.typed_path.specs.Run.{without_file_name, stem_end};
     ghost use Rattle.typed_path.specs.Ancestry.{ancestors_of};
     ghost use Rattle.typed_path.specs.AncestorViews.{ancestors_left};
 
@@ -70,6 +71,30 @@ impl<'a, T: Encoding> Path<'a, T> {
         ensures { option_copied result ≡ extension T.dialect (path_bytes self.entry) }
     {
         split_name(self.file_name()?).1
+    }
+
+    /// The path without its file name, where it has one.
+    pub(crate) fn without_file_name(self) -> Path<'a, T>
+        ensures { path_bytes result ≡ without_file_name T.dialect (path_bytes self.entry) }
+    {
+        let mut components = self.components();
+        match components.next_back() {
+            Some(last) if last.is_normal() => Path::new(components.as_bytes()),
+            _ => self,
+        }
+    }
+
+    /// Where the stem of the file name ends.
+    pub(crate) fn stem_end(self) -> Option<usize>
+        ensures end { result ≡ stem_end T.dialect (path_bytes self.entry) }
+        ensures within { IfSome result (λ end. end ≤ length (path_bytes self.entry)) }
+    {
+        let last = self.last()?;
+        if !last.is_normal() {
+            return None;
+        }
+        let extension = last.text.len() - split_name(last.text).0.len();
+        Some(self.components().last_end() - extension)
     }
 
     /// The texts of the components, from either end.

@@ -1,13 +1,17 @@
 //! A file name, split at its last dot.
 
-ghost use Rattle.std.specs.Prelude.{◌≡◌, option_copied};
+ghost use Rattle.std.specs.Prelude.{◌≡◌, ◌≤◌, ◌+◌, ◌++◌, length, option_copied, OnOk, IsOk};
+ghost use Rattle.std.specs.Vec.{vec_capacity};
+ghost use Rattle.typed_path.specs.Run.{dotted};
 ghost use Rattle.typed_path.specs.Names.{stem_of, extension_of};
 
 use memchr::memrchr;
+use std::alloc::AllocError;
 
 /// The stem of a name and its extension. A dot that is the first byte begins no extension.
 pub fn split_name(name: &[u8]) -> (&[u8], Option<&[u8]>)
     ensures stem { result.0.now ≡ stem_of name.now }
+    ensures shorter { length result.0.now ≤ length name.now }
     ensures extension { option_copied result.1 ≡ extension_of name.now }
 {
     let Some(at) = memrchr(b'.', name) else {
@@ -17,4 +21,16 @@ pub fn split_name(name: &[u8]) -> (&[u8], Option<&[u8]>)
         return (name, None);
     }
     (&name[..at], Some(&name[at + 1..]))
+}
+
+/// Puts an extension behind a stem, with the dot before it; nothing where the extension is empty.
+pub fn put_extension(stem: &mut Vec<u8>, extension: &[u8]) -> Result<(), AllocError>
+    ensures ok { OnOk result (stem.new.items ≡ stem.old.items ++ dotted extension.now) }
+    ensures succeeds { length stem.old.items + length extension.now + 1 ≤ vec_capacity stem.old → IsOk result }
+{
+    if extension.is_empty() {
+        return Ok(());
+    }
+    stem.push(b'.')?;
+    stem.extend_from_slice(extension)
 }

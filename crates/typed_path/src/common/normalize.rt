@@ -20,7 +20,7 @@ impl<'a, T: Encoding> Path<'a, T> {
     /// The components that are left are pushed one by one onto the empty path. A `..` that finds no
     /// name to take away vanishes.
     pub fn normalize(self, alloc: Global) -> Result<PathBuf<T>, AllocError>
-        ensures { IfOk result (λ p. p ≡ normal_text T.dialect (path_bytes self.entry)) }
+        ensures { IfOk result (λ p. p.bytes ≡ normal_text T.dialect (path_bytes self.entry)) }
     {
         let mut normal = Vec::with_capacity(alloc, self.as_bytes().len() + 1)?;
         let mut names: SmallVec<&[u8], INLINE_NAMES> = SmallVec::new(alloc);

@@ -1,9 +1,15 @@
 //! A path that owns its bytes.
 
 use crate::common::encoding::Encoding;
+use crate::common::names::put_extension;
 use crate::common::path::Path;
+use crate::errors::PathError;
+use smallvec::SmallVec;
 use std::alloc::{AllocError, Global};
 use std::marker::{Model, PhantomData};
+
+/// How many bytes of a file name are set aside without asking for memory.
+const INLINE_TAIL: usize = 64;
 
 /// A path that owns its bytes, and grows.
 #[derive(Drop)]
@@ -13,28 +19,60 @@ pub struct PathBuf<T> {
 }
 
 impl<T> Model for PathBuf<T> {
-    ghost use Rattle.std.specs.Prelude.{ℕ, List};
+    ghost use Rattle.std.specs.Vec.{vec_capacity};
+    ghost use Rattle.typed_path.specs.OwnedViews.{Owned};
 
-    ghost Value = { List ℕ };
+    ghost Value = { Owned };
 
-    ghost view = { λ p. p.inner.items };
+    ghost view = { λ p. record { bytes = p.inner.items; capacity = vec_capacity p.inner } };
 }
 
 impl<T: Encoding> PathBuf<T> {
-    ghost use Rattle.std.specs.Prelude.{◌≡◌, [], OnOk, OnErr};
+    ghost use Rattle.std.specs.Prelude.{◌≡◌, ◌≤◌, ◌+◌, [], length, is_some, max, min, IfOk, OnOk, OnErr, IsOk};
+    ghost use Rattle.std.specs.Vec.{vec_capacity};
+    ghost use Rattle.typed_path.specs.Checked.{refusal};
     ghost use Rattle.typed_path.specs.PathViews.{path_bytes};
+    ghost use Rattle.typed_path.specs.Promises.{HasPrefixOf, LiesWithin};
     ghost use Rattle.typed_path.specs.Push as push_spec;
+    ghost use Rattle.typed_path.specs.Queries.{parent_of, file_name_of};
+    ghost use Rattle.typed_path.specs.Run.{popped, with_file_name, with_extension};
 
     /// The empty path.
     pub fn new(alloc: Global) -> PathBuf<T>
-        ensures { result ≡ [] }
+        ensures bytes { result.bytes ≡ [] }
+        ensures capacity { result.capacity ≡ 0 }
     {
         PathBuf::from_vec(Vec::new(alloc))
     }
 
+    /// The empty path, with room for so many bytes.
+    pub fn with_capacity(alloc: Global, capacity: usize) -> Result<PathBuf<T>, AllocError>
+        ensures bytes { IfOk result (λ p. p.bytes ≡ []) }
+        ensures room { IfOk result (λ p. capacity ≤ p.capacity) }
+    {
+        Ok(PathBuf::from_vec(Vec::with_capacity(alloc, capacity)?))
+    }
+
+    /// The path of a copy of these bytes.
+    pub fn from_bytes(alloc: Global, bytes: &[u8]) -> Result<PathBuf<T>, AllocError>
+        ensures { IfOk result (λ p. p.bytes ≡ bytes.now) }
+    {
+        let mut inner = Vec::with_capacity(alloc, bytes.len())?;
+        inner.extend_from_slice(bytes)?;
+        Ok(PathBuf::from_vec(inner))
+    }
+
+    /// The path of a copy of this text.
+    pub fn from_str(alloc: Global, text: &str) -> Result<PathBuf<T>, AllocError>
+        ensures { IfOk result (λ p. p.bytes ≡ text.now) }
+    {
+        PathBuf::from_bytes(alloc, text.as_bytes())
+    }
+
     /// The path of the bytes that a vector holds.
     pub(crate) fn from_vec(inner: Vec<u8>) -> PathBuf<T>
-        ensures { result ≡ inner.items }
+        ensures bytes { result.bytes ≡ inner.items }
+        ensures capacity { result.capacity ≡ vec_capacity inner }
     {
         PathBuf {
             inner,
@@ -44,7 +82,7 @@ impl<T: Encoding> PathBuf<T> {
 
     /// The path, lent.
     pub fn as_path(&self) -> Path<'_, T>
-        ensures { path_bytes result ≡ self.now }
+        ensures { path_bytes result ≡ self.now.bytes }
     {
         Path::new(self.inner.as_slice())
     }
@@ -53,15 +91,152 @@ impl<T: Encoding> PathBuf<T> {
     ///
     /// Where memory is refused the path is as it was.
     pub fn push(&mut self, path: Path<'_, T>) -> Result<(), AllocError>
-        ensures ok { OnOk result (self.new ≡ push_spec.push T.dialect self.old (path_bytes path.entry)) }
-        ensures err { OnErr result (self.new ≡ self.old) }
+        ensures ok { OnOk result (self.new.bytes ≡ push_spec.push T.dialect self.old.bytes (path_bytes path.entry)) }
+        ensures err { OnErr result (self.new.bytes ≡ self.old.bytes) }
     {
         T::push(&mut self.inner, path.as_bytes())
     }
 
+    /// Pushes a path onto this one, unless it has a component that offends: a prefix, a root, a `..`
+    /// that no earlier name of it makes up for, or a name that the encoding does not allow.
+    ///
+    /// Pushed, it lies within this path, as far as this one keeps its prefix. Where it is refused, or
+    /// memory is, the path is as it was; a path that is refused costs no memory.
+    pub fn push_checked(&mut self, path: Path<'_, T>) -> Result<(), PathError>
+        ensures refused { refusal result ≡ push_spec.fault T.dialect (path_bytes path.entry) }
+        ensures ok { OnOk result (self.new.bytes ≡ push_spec.push T.dialect self.old.bytes (path_bytes path.entry)) }
+        ensures err { OnErr result (self.new.bytes ≡ self.old.bytes) }
+        ensures prefix { OnOk result (HasPrefixOf T.dialect self.old.bytes self.new.bytes) }
+        ensures contained { OnOk result (LiesWithin T.dialect self.old.bytes (path_bytes path.entry) self.new.bytes) }
+    {
+        T::push_checked(&mut self.inner, path.as_bytes())
+    }
+
+    /// Cuts the path to its parent, where it has one, and answers whether it has.
+    pub fn pop(&mut self) -> bool
+        ensures bytes { self.new.bytes ≡ popped T.dialect self.old.bytes }
+        ensures flag { result ≡ is_some (parent_of T.dialect self.old.bytes) }
+        ensures capacity { self.new.capacity ≡ self.old.capacity }
+    {
+        let Some(parent) = self.as_path().parent() else {
+            return false;
+        };
+        let kept = parent.as_bytes().len();
+        self.inner.truncate(kept);
+        true
+    }
+
+    /// Gives the path another file name, or pushes the name where it has none.
+    ///
+    /// Where memory is refused the path is as it was.
+    pub fn set_file_name(&mut self, name: &[u8]) -> Result<(), AllocError>
+        ensures ok { OnOk result (self.new.bytes ≡ with_file_name T.dialect self.old.bytes name.now) }
+        ensures err { OnErr result (self.new.bytes ≡ self.old.bytes) }
+    {
+        let kept = self.as_path().without_file_name().as_bytes().len();
+        let alloc = *self.inner.allocator();
+        let tail: SmallVec<u8, INLINE_TAIL> = SmallVec::from_slice(alloc, &self.inner[kept..])?;
+        self.inner.truncate(kept);
+        if let Err(refused) = T::push(&mut self.inner, name) {
+            self.inner.extend_from_slice(tail.as_slice())?;
+            return Err(refused);
+        }
+        Ok(())
+    }
+
+    /// Gives the file name another extension, or takes the extension away where the new one is
+    /// empty, and answers whether there is a file name. Without one nothing changes.
+    ///
+    /// Where memory is refused the path is as it was.
+    pub fn set_extension(&mut self, extension: &[u8]) -> Result<bool, AllocError>
+        ensures ok { OnOk result (self.new.bytes ≡ with_extension T.dialect self.old.bytes extension.now) }
+        ensures flag { IfOk result (λ renamed. renamed ≡ is_some (file_name_of T.dialect self.old.bytes)) }
+        ensures err { OnErr result (self.new.bytes ≡ self.old.bytes) }
+    {
+        let Some(end) = self.as_path().stem_end() else {
+            return Ok(false);
+        };
+        let len = end + extension.len() + 1;
+        self.inner.reserve(len.saturating_sub(self.inner.len()))?;
+        self.inner.truncate(end);
+        put_extension(&mut self.inner, extension)?;
+        Ok(true)
+    }
+
+    /// Makes the path the empty one. It keeps its room.
+    pub fn clear(&mut self)
+        ensures bytes { self.new.bytes ≡ [] }
+        ensures capacity { self.new.capacity ≡ self.old.capacity }
+    {
+        self.inner.clear();
+    }
+
+    /// How many bytes the path has room for, its own among them.
+    pub fn capacity(&self) -> usize
+        ensures { result ≡ self.now.capacity }
+    {
+        self.inner.capacity()
+    }
+
+    /// Finds room for so many bytes more, and perhaps for others behind these.
+    pub fn reserve(&mut self, additional: usize) -> Result<(), AllocError>
+        ensures bytes { self.new.bytes ≡ self.old.bytes }
+        ensures room { OnOk result (length self.new.bytes + additional ≤ self.new.capacity) }
+        ensures capacity { self.old.capacity ≤ self.new.capacity }
+    {
+        self.inner.reserve(additional)
+    }
+
+    /// The same as `reserve`, which answers want of memory too.
+    pub fn try_reserve(&mut self, additional: usize) -> Result<(), AllocError>
+        ensures bytes { self.new.bytes ≡ self.old.bytes }
+        ensures room { OnOk result (length self.new.bytes + additional ≤ self.new.capacity) }
+        ensures capacity { self.old.capacity ≤ self.new.capacity }
+    {
+        self.inner.try_reserve(additional)
+    }
+
+    /// Finds room for so many bytes more, and for no others where room has to be found.
+    pub fn reserve_exact(&mut self, additional: usize) -> Result<(), AllocError>
+        ensures bytes { self.new.bytes ≡ self.old.bytes }
+        ensures room { OnOk result (self.new.capacity ≡ max self.old.capacity (length self.old.bytes + additional)) }
+    {
+        self.inner.reserve_exact(additional)
+    }
+
+    /// The same as `reserve_exact`, which answers want of memory too.
+    pub fn try_reserve_exact(&mut self, additional: usize) -> Result<(), AllocError>
+        ensures bytes { self.new.bytes ≡ self.old.bytes }
+        ensures room { OnOk result (self.new.capacity ≡ max self.old.capacity (length self.old.bytes + additional)) }
+    {
+        self.inner.try_reserve_exact(additional)
+    }
+
+    /// Gives room back that is not used, as far as memory for a smaller block is found.
+    pub fn shrink_to_fit(&mut self) -> Result<(), AllocError>
+        ensures ok { IsOk result }
+        ensures bytes { self.new.bytes ≡ self.old.bytes }
+        ensures capacity { self.new.capacity ≤ self.old.capacity }
+    {
+        self.inner.shrink_to_fit();
+        Ok(())
+    }
+
+    /// Gives room back but for so many bytes, as far as memory for a smaller block is found.
+    pub fn shrink_to(&mut self, min_capacity: usize) -> Result<(), AllocError>
+        ensures ok { IsOk result }
+        ensures bytes { self.new.bytes ≡ self.old.bytes }
+        ensures capacity { self.new.capacity ≤ self.old.capacity }
+        ensures room { min min_capacity self.old.capacity ≤ self.new.capacity }
+    {
+        self.inner.shrink_to(min_capacity);
+        Ok(())
+    }
+
     /// The bytes of the path, with no copy.
     pub fn into_vec(self) -> Vec<u8>
-        ensures { result.items ≡ self }
+        ensures bytes { result.items ≡ self.bytes }
+        ensures capacity { vec_capacity result ≡ self.capacity }
     {
         let PathBuf { inner, encoding: _ } = self;
         inner

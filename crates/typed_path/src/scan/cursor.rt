@@ -8,7 +8,7 @@ use crate::scan::begin::Begin;
 use crate::scan::depth::depth_behind;
 use crate::scan::piece::Piece;
 use crate::scan::separators::Separators;
-use crate::scan::step::{back_step, front_step};
+use crate::scan::step::{back_step, front_step, trim_blanks};
 
 /// The place of a reading of a text: where the components that are left begin and end.
 #[derive(Clone, Copy, Debug)]
@@ -24,10 +24,10 @@ pub struct Cursor<'a> {
 }
 
 impl<'a> Cursor<'a> {
-    ghost use Rattle.std.specs.Prelude.{◌≡◌, [], drop, option_map};
+    ghost use Rattle.std.specs.Prelude.{◌≡◌, [], drop, option_map, Some};
     ghost use Rattle.typed_path.specs.Comps.{body};
-    ghost use Rattle.typed_path.specs.Left.{but_last, slice_after_front, slice_after_back};
-    ghost use Rattle.typed_path.specs.Part.{kinds, parts};
+    ghost use Rattle.typed_path.specs.Left.{but_last, last_of, slice_after_front, slice_after_back};
+    ghost use Rattle.typed_path.specs.Part.{Placed, end_of, kinds, parts};
     ghost use Rattle.typed_path.specs.Queries.{begins_with_root};
     ghost use Rattle.typed_path.specs.Steps.{first_part, last_part};
     ghost use Rattle.typed_path.specs.Views.{part_of};
@@ -69,6 +69,13 @@ impl<'a> Cursor<'a> {
             },
             Begin::Inside => false,
         }
+    }
+
+    /// Where the last component that is left ends in the text.
+    pub(crate) fn last_end(&self) -> usize
+        ensures { (last : Placed) → last_of (items_left self.now) ≡ Some last → result ≡ end_of last }
+    {
+        self.from + trim_blanks(self.as_bytes(), self.separators)
     }
 
     /// Judges the components that are left, from the front: the first one that offends is what a

@@ -85,7 +85,7 @@ fn ends_blank(text: &[u8], separators: Separators) -> bool
 }
 
 /// How many bytes of a text stand up to the end of its last component.
-fn trim_blanks(text: &[u8], separators: Separators) -> usize
+pub fn trim_blanks(text: &[u8], separators: Separators) -> usize
     ensures within { result ≤ length text.now }
     ensures some { 0 < length text.now → 0 < result }
     ensures same { (begin : Begin) (at : ℕ) → body_from begin separators at (take result text.now) ≡ body_from begin separators at text.now }

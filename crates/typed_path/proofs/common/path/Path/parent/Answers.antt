@@ -9,24 +9,8 @@ use Rattle.typed_path.specs.Queries.{is_root, parent_of}
 use Rattle.typed_path.specs.Steps.{last_part}
 use Rattle.typed_path.specs.Views.{part_of}
 use Rattle.typed_path.specs.PathViews.{path_bytes, components_slice}
-use Rattle.typed_path.proofs.PlaceLemmas.{comps-laid_out}
-use Rattle.typed_path.proofs.SliceLemmas.{stepwise_slices}
+use Rattle.typed_path.proofs.ParentLemmas.{parent_left}
 use Rattle.typed_path.proofs.common.path.Path.parent.Goals as goal
-
-filled : (cs : List Placed) (p : Part) → Some p ≡ last_part cs → 1 ≤ length cs
-filled [] p h = cc
-filled (c ∷ cs) p h = omega arith
-
--- the parent behind a last component that is no root
-above : (o : Option Placed) (p : Part) (rest : List ℕ) → Some p ≡ option_map (λ c. c.part) o → is_root p.kind ≡ false
-    → option_and_then (λ last. cond (is_root last.part.kind) None (Some rest)) o ≡ Some rest
-above None p rest h e = cc
-above (Some c) p rest h e = ap (λ b. cond b None (Some rest)) (ap (λ q. is_root q.kind) (sym (same_Some _ _ h)) ∙ e)
-
-parent_left : (d : Dialect) (t : List ℕ) (p : Part) → Some p ≡ last_part (comps d t) → is_root p.kind ≡ false → parent_of d t ≡ Some (slice_after_back (comps d t) t)
-parent_left d t p h e =
-    let some = filled (comps d t) p h in
-    above (last_of (comps d t)) p (left (comps d t) t 0 1) h e ∙ ap Some (sym (stepwise_slices (comps d t) t (back ∷ []) (comps-laid_out d t) (omega arith)))
 
 pub returns : goal.returns
 returns g c =
