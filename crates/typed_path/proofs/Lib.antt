@@ -29,6 +29,7 @@ mod SliceLeft
 mod SliceLemmas
 mod StreamLemmas
 mod StripLemmas
+mod TextLemmas
 mod TrimLemmas
 mod UnixJoin
 mod UnixStrip

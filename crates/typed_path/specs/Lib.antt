@@ -33,3 +33,4 @@ pub mod Checked
 pub mod Depths
 pub mod OwnedViews
 pub mod Texts
+pub mod DisplayViews

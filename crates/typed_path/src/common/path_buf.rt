@@ -14,7 +14,7 @@ const INLINE_TAIL: usize = 64;
 /// A path that owns its bytes, and grows.
 #[derive(Drop)]
 pub struct PathBuf<T> {
-    inner: Vec<u8>,
+    pub(super) inner: Vec<u8>,
     encoding: PhantomData<T>,
 }
 

@@ -1,0 +1,8 @@
+use Rattle.std.proofs.Common.{◌≡◌, ap, ◌∙◌}
+use Rattle.std.specs.Prelude.{option_copied}
+use Rattle.typed_path.specs.Texts.{text_of_bytes}
+use Rattle.typed_path.proofs.TextLemmas.{text_of_bytes-read}
+use Rattle.typed_path.proofs.common.path.Path.to_str.Goals as goal
+
+pub returns : goal.returns
+returns g c = ap option_copied c.ok.ensures.value ∙ text_of_bytes-read _ c.from_utf8.result c.as_bytes.result.now c.from_utf8.ensures.cases ∙ ap text_of_bytes c.as_bytes.ensures

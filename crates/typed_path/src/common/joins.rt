@@ -1,0 +1,75 @@
+//! Owned paths made of lent ones.
+
+use crate::common::encoding::Encoding;
+use crate::common::names::put_extension;
+use crate::common::path::Path;
+use crate::common::path_buf::PathBuf;
+use crate::errors::PathError;
+use std::alloc::{AllocError, Global};
+
+impl<'a, T: Encoding> Path<'a, T> {
+    ghost use Rattle.std.specs.Prelude.{◌≡◌, IfOk};
+    ghost use Rattle.typed_path.specs.Checked.{refusal};
+    ghost use Rattle.typed_path.specs.PathViews.{path_bytes};
+    ghost use Rattle.typed_path.specs.Promises.{HasPrefixOf, LiesWithin};
+    ghost use Rattle.typed_path.specs.Push as push_spec;
+    ghost use Rattle.typed_path.specs.Run as run_spec;
+
+    /// A copy that owns its bytes.
+    pub fn to_path_buf(self, alloc: Global) -> Result<PathBuf<T>, AllocError>
+        ensures { IfOk result (λ p. p.bytes ≡ path_bytes self.entry) }
+    {
+        PathBuf::from_bytes(alloc, self.as_bytes())
+    }
+
+    /// The path with another pushed onto it: an absolute one stands in its place, and with an empty
+    /// one it is a copy.
+    pub fn join(self, alloc: Global, path: Path<'_, T>) -> Result<PathBuf<T>, AllocError>
+        ensures { IfOk result (λ p. p.bytes ≡ push_spec.push T.dialect (path_bytes self.entry) (path_bytes path.entry)) }
+    {
+        let base = self.as_bytes();
+        let other = path.as_bytes();
+        let mut joined = Vec::with_capacity(alloc, base.len() + other.len() + 1)?;
+        joined.extend_from_slice(base)?;
+        T::push(&mut joined, other)?;
+        Ok(PathBuf::from_vec(joined))
+    }
+
+    /// The path with another pushed onto it, unless that has a component that offends: a prefix, a
+    /// root, a `..` that no earlier name of it makes up for, or a name that the encoding does not
+    /// allow.
+    ///
+    /// The answer lies within this path, as far as it keeps the prefix of this one. A path that is
+    /// refused costs no memory.
+    pub fn join_checked(self, alloc: Global, path: Path<'_, T>) -> Result<PathBuf<T>, PathError>
+        ensures refused { refusal result ≡ push_spec.fault T.dialect (path_bytes path.entry) }
+        ensures joined { IfOk result (λ p. p.bytes ≡ push_spec.push T.dialect (path_bytes self.entry) (path_bytes path.entry)) }
+        ensures prefix { IfOk result (λ p. HasPrefixOf T.dialect (path_bytes self.entry) p.bytes) }
+        ensures contained { IfOk result (λ p. LiesWithin T.dialect (path_bytes self.entry) (path_bytes path.entry) p.bytes) }
+    {
+        T::check(path.as_bytes())?;
+        Ok(self.join(alloc, path)?)
+    }
+
+    /// A copy with another file name, or with the name pushed where there is none.
+    pub fn with_file_name(self, alloc: Global, name: &[u8]) -> Result<PathBuf<T>, AllocError>
+        ensures { IfOk result (λ p. p.bytes ≡ run_spec.with_file_name T.dialect (path_bytes self.entry) name.now) }
+    {
+        self.without_file_name().join(alloc, Path::new(name))
+    }
+
+    /// A copy whose file name has another extension, or none where the new one is empty. Without a
+    /// file name it is a mere copy.
+    pub fn with_extension(self, alloc: Global, extension: &[u8]) -> Result<PathBuf<T>, AllocError>
+        ensures { IfOk result (λ p. p.bytes ≡ run_spec.with_extension T.dialect (path_bytes self.entry) extension.now) }
+    {
+        let Some(end) = self.stem_end() else {
+            return self.to_path_buf(alloc);
+        };
+        let stem = &self.as_bytes()[..end];
+        let mut renamed = Vec::with_capacity(alloc, stem.len() + extension.len() + 1)?;
+        renamed.extend_from_slice(stem)?;
+        put_extension(&mut renamed, extension)?;
+        Ok(PathBuf::from_vec(renamed))
+    }
+}

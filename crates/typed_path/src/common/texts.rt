@@ -1,0 +1,89 @@
+//! Paths as texts.
+
+use crate::common::encoding::Encoding;
+use crate::common::path::Path;
+use std::alloc::{AllocError, Global};
+use std::borrow::CowStr;
+use std::fmt;
+use std::str;
+
+/// A path that is to be printed: its text, with U+FFFD where the bytes are none.
+#[derive_where(Clone, Copy)]
+pub struct Display<'a, T> {
+    path: Path<'a, T>,
+}
+
+impl<'a, T: Encoding> Path<'a, T> {
+    ghost use Rattle.std.specs.Prelude.{◌≡◌, IfOk, IsOk, option_copied};
+    ghost use Rattle.std.specs.Str.{IsUtf8};
+    ghost use Rattle.std.specs.Str.Lossy.{utf8_lossy};
+    ghost use Rattle.std.specs.Cow.{cow_str_bytes, IsBorrowedStr};
+    ghost use Rattle.typed_path.specs.PathViews.{path_bytes};
+    ghost use Rattle.typed_path.specs.Texts.{text_of_bytes};
+    ghost use Rattle.typed_path.specs.DisplayViews.{displayed};
+
+    /// The path as a text, where its bytes are UTF-8.
+    pub fn to_str(self) -> Option<&'a str>
+        ensures { option_copied result ≡ text_of_bytes (path_bytes self.entry) }
+    {
+        str::from_utf8(self.as_bytes()).ok()
+    }
+
+    /// The path as a text, with U+FFFD where its bytes are none.
+    ///
+    /// Where they are UTF-8, the text is lent and no memory is asked for.
+    pub fn to_string_lossy(self, alloc: Global) -> Result<CowStr<'a>, AllocError>
+        ensures text { IfOk result (λ text. cow_str_bytes text ≡ utf8_lossy (path_bytes self.entry)) }
+        ensures lent { IsUtf8 (path_bytes self.entry) → IfOk result IsBorrowedStr }
+        ensures succeeds { IsUtf8 (path_bytes self.entry) → IsOk result }
+    {
+        match self.to_str() {
+            Some(text) => Ok(CowStr::Borrowed(text)),
+            None => Ok(CowStr::Owned(String::from_utf8_lossy(alloc, self.as_bytes())?)),
+        }
+    }
+
+    /// The path, to be printed.
+    pub fn display(self) -> Display<'a, T>
+        ensures { displayed result ≡ path_bytes self.entry }
+    {
+        Display { path: self }
+    }
+}
+
+/// Writes bytes as a text, with U+FFFD where they are none.
+fn write_lossy<W: fmt::Write>(bytes: &[u8], f: &mut fmt::Formatter<W>) -> fmt::Result {
+    for chunk in bytes.utf8_chunks() {
+        f.write_str(chunk.valid())?;
+        if !chunk.invalid().is_empty() {
+            f.write_str("\u{FFFD}")?;
+        }
+    }
+    Ok(())
+}
+
+/// Writes the path's text, with U+FFFD where its bytes are none.
+impl<'a, T: Encoding> fmt::Display for Path<'a, T> {
+    ghost use Rattle.typed_path.specs.PathViews.{path_bytes};
+    ghost use Rattle.typed_path.specs.Texts.{text_of_bytes};
+
+    ghost output = { λ path. text_of_bytes (path_bytes path) };
+
+    fn fmt<W: fmt::Write>(&self, f: &mut fmt::Formatter<W>) -> fmt::Result {
+        match self.to_str() {
+            Some(text) => f.pad(text),
+            None => write_lossy(self.as_bytes(), f),
+        }
+    }
+}
+
+impl<'a, T: Encoding> fmt::Display for Display<'a, T> {
+    ghost use Rattle.typed_path.specs.DisplayViews.{displayed};
+    ghost use Rattle.typed_path.specs.Texts.{text_of_bytes};
+
+    ghost output = { λ d. text_of_bytes (displayed d) };
+
+    fn fmt<W: fmt::Write>(&self, f: &mut fmt::Formatter<W>) -> fmt::Result {
+        fmt::Display::fmt(&self.path, f)
+    }
+}
