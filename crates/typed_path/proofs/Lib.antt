@@ -22,6 +22,7 @@ mod PlaceLemmas
 mod PrefixCuts
 mod PrefixLemmas
 mod ReadingLemmas
+mod RunLemmas
 mod SegmentLemmas
 mod SettleLemmas
 mod ShapeLemmas

@@ -34,3 +34,4 @@ pub mod Depths
 pub mod OwnedViews
 pub mod Texts
 pub mod DisplayViews
+pub mod RunViews

@@ -16,7 +16,8 @@ pub use common::{
 pub use errors::{CheckedPathError, LineError, ParseError, PathError, StripPrefixError};
 pub use scan::{Cursor, Piece, PieceKind};
 pub use script::{
-    End, Failed, Sink, Source, StdSink, StdSource, answer_lines, exit_status, read_ends,
+    End, Failed, PathOp, Reply, Sink, Source, StdSink, StdSource, answer_lines, exit_status,
+    read_ends, run_ops,
 };
 pub use unix::{UnixComponent, UnixComponents, UnixEncoding, UnixPath, UnixPathBuf};
 pub use windows::WindowsPrefix;

@@ -5,12 +5,14 @@ mod dialogue;
 mod ends;
 mod fields;
 mod lines;
+mod run;
 mod status;
 mod std_streams;
 mod streams;
 
 pub use answer::answer_lines;
 pub use ends::{End, read_ends};
+pub use run::{PathOp, Reply, run_ops};
 pub use status::exit_status;
 pub use std_streams::{StdSink, StdSource};
 pub use streams::{Failed, Sink, Source};

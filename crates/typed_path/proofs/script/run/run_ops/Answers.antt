@@ -1,0 +1,37 @@
+use Rattle.std.proofs.Common.{◌≡◌, List, [], ◌∷◌, ◌++◌, map, ap, sym, ◌∙◌, append_assoc}
+use Rattle.std.proofs.lemmas.List.{map-append}
+use Rattle.typed_path.specs.declared.script.run.PathOp.TheVariants.{Pop}
+use Rattle.typed_path.specs.declared.script.run.Reply.{Reply}
+use Rattle.typed_path.specs.Run.{Response}
+use Rattle.typed_path.specs.RunViews.{responses_of, response_of}
+use Rattle.typed_path.proofs.RunLemmas.{text_after-more, replies-more, stops, none_taken, on_err}
+use Rattle.typed_path.proofs.script.run.run_ops.Goals as goal
+
+pub returns-in_err-reserve-clause-memory : goal.returns-in_err-reserve-clause-memory
+returns-in_err-reserve-clause-memory g c =
+    let d = g.T.Encoding.dialect in
+    on_err c.from_residual.result
+    (stops d _ c.args.operations.now c.operations.operation-index Pop c.operations-test.true _ _ _ _ c.operations.invariant.text
+    (ap responses_of c.reserve.ensures.items ∙ c.operations.invariant.answered) (none_taken d _ _))
+
+pub returns-in_err-reply-clause-memory : goal.returns-in_err-reply-clause-memory
+returns-in_err-reply-clause-memory g c =
+    let d = g.T.Encoding.dialect in
+    on_err c.from_residual-in_err-reply.result
+    (stops d _ c.args.operations.now c.operations.operation-index _ c.operations-test.true _ _ _ _ c.operations.invariant.text
+    (ap responses_of c.reserve.ensures.items ∙ c.operations.invariant.answered) c.in_err-reply.ensures.memory)
+
+-- the replies with one more
+longer : (old before more : List Response) (items replies : List Reply) (reply : Reply) → replies ≡ items ++ reply ∷ [] → responses_of items ≡ before ++ old → old ++ response_of reply ∷ [] ≡ more
+    → responses_of replies ≡ before ++ more
+longer old before more items replies reply pushed h next =
+    ap responses_of pushed ∙ map-append response_of items (reply ∷ []) ∙ ap (λ rs. rs ++ response_of reply ∷ []) h ∙ append_assoc before old (response_of reply ∷ []) ∙ ap (λ rs. before ++ rs) next
+
+pub operations-preserved : goal.operations-preserved
+operations-preserved g c =
+    let d = g.T.Encoding.dialect in
+    record {
+      text = text_after-more d _ c.args.operations.now c.operations.operation-index _ c.operations-test.true _ _ c.operations.invariant.text c.in_ok-reply.ensures.path;
+      answered = longer _ _ _ _ _ c.in_ok-reply.reply c.in_ok-push.ensures.items (ap responses_of c.reserve.ensures.items ∙ c.operations.invariant.answered)
+          (replies-more d _ c.args.operations.now c.operations.operation-index _ c.operations-test.true _ _ c.operations.invariant.text c.in_ok-reply.ensures.reply);
+    }

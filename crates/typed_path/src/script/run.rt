@@ -1,0 +1,112 @@
+//! Lists of operations on an owned path.
+
+ghost use Rattle.std.specs.Prelude.{◌≡◌, ◌++◌, ℕ, map, take, OnOk, OnErr, IfOk};
+ghost use Rattle.typed_path.specs.Push as push_spec;
+ghost use Rattle.typed_path.specs.Run.{step, text_after, push_checked_op};
+ghost use Rattle.typed_path.specs.Run as run_spec;
+ghost use Rattle.typed_path.specs.RunViews.{operation_of, operations_of, response_of, responses_of, IsPartDone, AreTaken, StopsAt};
+
+use crate::common::{Encoding, Path, PathBuf};
+use crate::errors::{CheckedPathError, PathError};
+use std::alloc::AllocError;
+
+/// An operation on an owned path.
+#[derive(Clone, Copy, Debug)]
+pub enum PathOp<'a> {
+    /// `push` of a path of these bytes.
+    Push(&'a [u8]),
+    /// `push_checked` of a path of these bytes.
+    PushChecked(&'a [u8]),
+    /// `pop`.
+    Pop,
+    /// `set_file_name`.
+    SetFileName(&'a [u8]),
+    /// `set_extension`.
+    SetExtension(&'a [u8]),
+    /// `clear`.
+    Clear,
+    /// `extend` by paths of these bytes.
+    Extend(&'a [&'a [u8]]),
+}
+
+/// What an operation answers.
+#[derive(Clone, Copy, Debug, PartialEq, Eq, Hash)]
+pub enum Reply {
+    /// The operation has no other answer.
+    Done,
+    /// What `pop` and `set_extension` answer.
+    Flag(bool),
+    /// What a checked push was refused for.
+    Refused(CheckedPathError),
+}
+
+/// Does operations on a path in their order, and appends a reply for each.
+///
+/// Room for a reply is found before its operation. Where memory is refused, the replies are those of
+/// the operations done, and the path is the one behind them, with the pushes that an `Extend` had
+/// done.
+pub fn run_ops<T: Encoding>(
+    path: &mut PathBuf<T>,
+    operations: &[PathOp<'_>],
+    replies: &mut Vec<Reply>,
+) -> Result<(), AllocError>
+    ensures path { OnOk result (path.new.bytes ≡ text_after T.dialect path.old.bytes (operations_of operations.now)) }
+    ensures replies { OnOk result (responses_of replies.new.items
+        ≡ responses_of replies.old.items ++ run_spec.replies T.dialect path.old.bytes (operations_of operations.now)) }
+    ensures memory { OnErr result (StopsAt T.dialect path.old.bytes (operations_of operations.now) path.new.bytes
+        (responses_of replies.old.items) (responses_of replies.new.items)) }
+{
+    'operations: for operation in operations {
+        replies.reserve(1)?;
+        let reply = apply(path, *operation)?;
+        replies.push(reply)?;
+    }
+    Ok(())
+}
+
+/// Does one operation on a path. Where memory is refused, only an `Extend` may have pushed some.
+fn apply<T: Encoding>(
+    path: &mut PathBuf<T>,
+    operation: PathOp<'_>,
+) -> Result<Reply, AllocError>
+    ensures path { OnOk result (path.new.bytes ≡ (step T.dialect path.old.bytes (operation_of operation.entry)).0) }
+    ensures reply { IfOk result (λ reply. response_of reply ≡ (step T.dialect path.old.bytes (operation_of operation.entry)).1) }
+    ensures memory { OnErr result (IsPartDone T.dialect path.old.bytes (operation_of operation.entry) path.new.bytes) }
+{
+    match operation {
+        PathOp::Push(other) => path.push(Path::new(other))?,
+        PathOp::PushChecked(other) => return apply_checked(path, other),
+        PathOp::Pop => return Ok(Reply::Flag(path.pop())),
+        PathOp::SetFileName(name) => path.set_file_name(name)?,
+        PathOp::SetExtension(extension) => {
+            return Ok(Reply::Flag(path.set_extension(extension)?));
+        }
+        PathOp::Clear => path.clear(),
+        PathOp::Extend(others) => push_each(path, others)?,
+    }
+    Ok(Reply::Done)
+}
+
+/// Pushes a path that may be refused.
+fn apply_checked<T: Encoding>(path: &mut PathBuf<T>, other: &[u8]) -> Result<Reply, AllocError>
+    ensures path { OnOk result (path.new.bytes ≡ (step T.dialect path.old.bytes (push_checked_op other.now)).0) }
+    ensures reply { IfOk result (λ reply. response_of reply ≡ (step T.dialect path.old.bytes (push_checked_op other.now)).1) }
+    ensures memory { OnErr result (path.new.bytes ≡ path.old.bytes) }
+{
+    match path.push_checked(Path::new(other)) {
+        Ok(()) => Ok(Reply::Done),
+        Err(PathError::Checked(refusal)) => Ok(Reply::Refused(refusal)),
+        Err(PathError::OutOfMemory) => Err(AllocError),
+    }
+}
+
+/// Pushes paths of these bytes one by one. Where memory is refused, those before it stay pushed.
+fn push_each<T: Encoding>(path: &mut PathBuf<T>, others: &[&[u8]]) -> Result<(), AllocError>
+    ensures ok { OnOk result (path.new.bytes ≡ push_spec.push_all T.dialect path.old.bytes (map (λ b. b.now) others.now)) }
+    ensures err { OnErr result (AreTaken T.dialect path.old.bytes (map (λ b. b.now) others.now) path.new.bytes) }
+{
+    'others: for other in others {
+        path.push(Path::new(other))?;
+    }
+    Ok(())
+}
