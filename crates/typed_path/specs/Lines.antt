@@ -1,10 +1,13 @@
 -- What the program answers to its input.
-use Rattle.std.specs.Prelude.{ℕ, List, [], ◌∷◌, ◌++◌, ◌==◌, if◌then◌else◌, codes, length, map, bytes_eq}
+use Rattle.std.specs.Prelude.{ℕ, List, [], ◌∷◌, ◌++◌, ◌==◌, if◌then◌else◌, codes, length, map, bytes_eq, Option, Some, None}
 use Rattle.std.specs.List.{slice_split, flat_map, join_with_byte}
 use Rattle.typed_path.specs.Dialect.{unix}
 use Rattle.typed_path.specs.Part.{Prefix, verbatim, verbatim_unc, verbatim_disk, device_ns, unc, disk, Kind, prefix, root, current, parent, normal, Part}
 use Rattle.typed_path.specs.Comps.{parts_of}
 use Rattle.typed_path.specs.Places.{normal_text}
+use Rattle.typed_path.specs.Push.{push, fault}
+use Rattle.typed_path.specs.declared.errors.CheckedPathError.{CheckedPathError}
+use Rattle.typed_path.specs.declared.errors.CheckedPathError.TheVariants.{InvalidFilename, PathTraversalAttack, UnexpectedPrefix, UnexpectedRoot}
 
 abbrev pub tab : ℕ
 tab = 9
@@ -95,8 +98,27 @@ unix_reply command path =
     if bytes_eq command (codes "normalize") then ok_reply (normal_text unix path ∷ [])
     else (if bytes_eq command (codes "components") then components_reply (parts_of unix path) else bad_line)
 
+-- the name of a refusal
+abbrev pub refusal_name : CheckedPathError → List ℕ
+refusal_name InvalidFilename = codes "InvalidFilename"
+refusal_name PathTraversalAttack = codes "PathTraversalAttack"
+refusal_name UnexpectedPrefix = codes "UnexpectedPrefix"
+refusal_name UnexpectedRoot = codes "UnexpectedRoot"
+
+-- a joined path, unless the path to be joined has a fault
+abbrev pub joined_reply : List ℕ → Option CheckedPathError → List (List ℕ)
+joined_reply joined None = ok_reply (joined ∷ [])
+joined_reply joined (Some refusal) = codes "err" ∷ refusal_name refusal ∷ []
+
+-- the fields of the reply to a command on a Unix base and a path
+abbrev pub unix_join_reply : List ℕ → List ℕ → List ℕ → List (List ℕ)
+unix_join_reply command base path =
+    if bytes_eq command (codes "join") then joined_reply (push unix base path) None
+    else (if bytes_eq command (codes "join_checked") then joined_reply (push unix base path) (fault unix path) else bad_line)
+
 -- the fields of the reply to the fields of a line
 abbrev pub reply_fields : List (List ℕ) → List (List ℕ)
+reply_fields (command ∷ dialect ∷ base ∷ path ∷ []) = if bytes_eq dialect (codes "unix") then unix_join_reply command base path else bad_line
 reply_fields (command ∷ dialect ∷ path ∷ []) = if bytes_eq dialect (codes "unix") then unix_reply command path else bad_line
 reply_fields fields = bad_line
 

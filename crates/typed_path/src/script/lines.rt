@@ -1,13 +1,14 @@
 //! The replies to lines of commands.
 
-ghost use Rattle.std.specs.Prelude.{◌≡◌, ◌∷◌, ◌++◌, OnOk};
+ghost use Rattle.std.specs.Prelude.{◌≡◌, [], ◌∷◌, ◌++◌, Some, OnOk};
 ghost use Rattle.typed_path.specs.Dialect.{unix};
 ghost use Rattle.typed_path.specs.Comps.{parts_of};
 ghost use Rattle.typed_path.specs.Views.{part_of, prefix_view};
 ghost use Rattle.typed_path.specs.PathViews.{path_bytes};
-ghost use Rattle.typed_path.specs.Lines.{tab, fields_of, reply, reply_line, text_reply, components_reply, unix_reply, bad_line, component_field, kind_name, prefix_name};
+ghost use Rattle.typed_path.specs.Lines.{tab, fields_of, reply, reply_line, text_reply, components_reply, unix_reply, unix_join_reply, joined_reply, refusal_name, bad_line, component_field, kind_name, prefix_name};
 ghost use Rattle.typed_path.specs.Fields.{AreFields};
 
+use crate::errors::{CheckedPathError, PathError};
 use crate::scan::{Piece, PieceKind};
 use crate::script::fields::cut_at;
 use crate::unix::UnixPath;
@@ -18,12 +19,17 @@ const NORMALIZE: &[u8] = b"normalize";
 
 const COMPONENTS: &[u8] = b"components";
 
+const JOIN: &[u8] = b"join";
+
+const JOIN_CHECKED: &[u8] = b"join_checked";
+
 const UNIX: &[u8] = b"unix";
 
 /// The fields of a line, where they are as many as a command has.
 #[derive(Clone, Copy)]
 pub enum Fields<'a> {
     Three(&'a [u8], &'a [u8], &'a [u8]),
+    Four(&'a [u8], &'a [u8], &'a [u8], &'a [u8]),
     Other,
 }
 
@@ -33,11 +39,14 @@ fn split_fields(line: &[u8]) -> Fields<'_>
     let Some((first, rest)) = cut_at(b'\t', line) else {
         return Fields::Other;
     };
-    let Some((second, third)) = cut_at(b'\t', rest) else {
+    let Some((second, rest)) = cut_at(b'\t', rest) else {
         return Fields::Other;
     };
-    match cut_at(b'\t', third) {
-        None => Fields::Three(first, second, third),
+    let Some((third, rest)) = cut_at(b'\t', rest) else {
+        return Fields::Three(first, second, rest);
+    };
+    match cut_at(b'\t', rest) {
+        None => Fields::Four(first, second, third, rest),
         Some(_) => Fields::Other,
     }
 }
@@ -49,6 +58,9 @@ pub fn put_reply(alloc: Global, line: &[u8], replies: &mut Vec<u8>) -> Result<()
     match split_fields(line) {
         Fields::Three(command, encoding, path) if encoding == UNIX => {
             put_unix_reply(alloc, command, UnixPath::new(path), replies)
+        }
+        Fields::Four(command, encoding, base, path) if encoding == UNIX => {
+            put_join_reply(alloc, command, UnixPath::new(base), UnixPath::new(path), replies)
         }
         _ => put_bad_line(replies),
     }
@@ -71,6 +83,53 @@ fn put_unix_reply(
         return put_components(path, replies);
     }
     put_bad_line(replies)
+}
+
+/// Puts the reply to a command on a Unix base and a path behind others.
+fn put_join_reply(
+    alloc: Global,
+    command: &[u8],
+    base: UnixPath<'_>,
+    path: UnixPath<'_>,
+    replies: &mut Vec<u8>,
+) -> Result<(), AllocError>
+    ensures { OnOk result (replies.new.items
+        ≡ replies.old.items ++ reply_line (unix_join_reply command.now (path_bytes base.entry) (path_bytes path.entry))) }
+{
+    if command == JOIN {
+        let joined = base.join(alloc, path)?;
+        return put_text(joined.as_path().as_bytes(), replies);
+    }
+    if command == JOIN_CHECKED {
+        return match base.join_checked(alloc, path) {
+            Ok(joined) => put_text(joined.as_path().as_bytes(), replies),
+            Err(PathError::Checked(refusal)) => put_refusal(refusal, replies),
+            Err(PathError::OutOfMemory) => Err(AllocError),
+        };
+    }
+    put_bad_line(replies)
+}
+
+/// Puts the reply that is the name of a refusal behind others.
+fn put_refusal(refusal: CheckedPathError, replies: &mut Vec<u8>) -> Result<(), AllocError>
+    ensures { OnOk result (replies.new.items ≡ replies.old.items ++ reply_line (joined_reply [] (Some refusal))) }
+{
+    replies.extend_from_slice(b"err\t")?;
+    replies.extend_from_slice(refusal_name(refusal))?;
+    replies.push(b'\n')?;
+    Ok(())
+}
+
+/// What a reply calls a refusal.
+fn refusal_name(refusal: CheckedPathError) -> &'static [u8]
+    ensures { result.now ≡ refusal_name refusal }
+{
+    match refusal {
+        CheckedPathError::InvalidFilename => b"InvalidFilename",
+        CheckedPathError::PathTraversalAttack => b"PathTraversalAttack",
+        CheckedPathError::UnexpectedPrefix => b"UnexpectedPrefix",
+        CheckedPathError::UnexpectedRoot => b"UnexpectedRoot",
+    }
 }
 
 /// Puts the reply to a line that is no command behind others.
