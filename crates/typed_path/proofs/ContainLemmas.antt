@@ -1,5 +1,5 @@
 -- Lists put behind one another resolve one by one, where the second takes nothing away from the first.
-use Rattle.std.proofs.Common.{◌≡◌, ℕ, zero, suc, Bool, true, false, not, if◌then◌else◌, List, [], ◌∷◌, ◌++◌, refl, sym, ap, ◌∙◌, append_assoc}
+use Rattle.std.proofs.Common.{◌≡◌, ℕ, zero, suc, false, not, if◌then◌else◌, List, [], ◌∷◌, ◌++◌, refl, sym, ap, ◌∙◌, append_assoc}
 use Rattle.std.proofs.lemmas.List.{map-append}
 use Rattle.typed_path.specs.Part.{Kind, prefix, root, current, parent, normal, Part, kinds}
 use Rattle.typed_path.specs.Joins.{without_leading_current}

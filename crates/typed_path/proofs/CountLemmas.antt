@@ -1,16 +1,18 @@
 -- A text has no more components than bytes.
-use Rattle.std.proofs.Common.{◌≡◌, ℕ, zero, suc, ◌+◌, ◌≤◌, ◌<◌, Bool, true, false, if◌then◌else◌, List, [], ◌∷◌, ◌++◌, length, refl, sym, ap, ◌∙◌, arith, ◌==◌, zero-le, le_refl}
+use Rattle.std.proofs.Common.{◌≡◌, ℕ, ◌+◌, ◌≤◌, ◌<◌, Bool, true, false, if◌then◌else◌, List, [], ◌∷◌, length, drop, Option, Some, None, refl, sym, ap, ◌∙◌, arith, ◌==◌, zero-le}
 use Rattle.std.proofs.lemmas.Bool.{eqb-false}
-use Rattle.std.proofs.lemmas.List.{length-append, length-map}
+use Rattle.std.proofs.lemmas.List.{length-append, length-map, length-drop}
 use Rattle.typed_path.specs.declared.scan.separators.Separators.{Separators}
 use Rattle.typed_path.specs.declared.scan.begin.Begin.{Begin}
 use Rattle.typed_path.specs.declared.scan.begin.Begin.TheVariants.{Body, Inside}
-use Rattle.typed_path.specs.Dialect.{is_separator, is_verbatim}
-use Rattle.typed_path.specs.Part.{Part, Placed, parts, current_part}
-use Rattle.typed_path.specs.Comps.{is_dot, body, later_body}
+use Rattle.typed_path.specs.Dialect.{Dialect, separators, is_separator, is_verbatim}
+use Rattle.typed_path.specs.Prefix.{Found, prefix_of}
+use Rattle.typed_path.specs.Part.{Placed, parts, current_part}
+use Rattle.typed_path.specs.Comps.{is_dot, body, later_body, comps, comps_behind}
 use Rattle.typed_path.specs.Steps.{body_from}
-use Rattle.typed_path.proofs.PartLemmas.{pieces, named_part, later_part, later_parts, first_parts, body_parts, parts-body, parts-later_body}
+use Rattle.typed_path.proofs.PartLemmas.{pieces, named_part, later_part, later_parts, first_parts, parts-body, parts-later_body}
 use Rattle.typed_path.proofs.SplitLemmas.{slice_split-some}
+use Rattle.typed_path.proofs.PrefixLemmas.{prefix-fits}
 use Rattle.typed_path.proofs.WidthLemmas.{width, width-slice_split}
 
 -- a later piece is one component at most, and none where it is empty
@@ -56,3 +58,13 @@ later_body-count s at text =
 pub body_from-count : (begin : Begin) (s : Separators) (at : ℕ) (text : List ℕ) → length (body_from begin s at text) ≤ length text
 body_from-count Body s at text = body-count s at text
 body_from-count Inside s at text = later_body-count s at text
+
+-- so has a whole one, with its prefix
+pub comps-count : (d : Dialect) (t : List ℕ) → length (comps d t) ≤ length t
+comps-count d t = by (prefix_of d t) refl
+  where
+    by : (o : Option Found) → prefix_of d t ≡ o → length (comps_behind (separators d t) t o) ≤ length t
+    by None e = body-count (separators d t) 0 t
+    by (Some f) e =
+        let fits = prefix-fits d t f e in
+        omega (arith, body-count (separators d t) f.length (drop f.length t), length-drop f.length t, fits.filled, fits.fits)

@@ -1,9 +1,8 @@
 -- A path without its file name, and where the stem of the name ends.
-use Rattle.std.proofs.Common.{◌≡◌, ℕ, ◌+◌, ◌-◌, ◌≤◌, Bool, true, false, if◌then◌else◌, List, [], ◌∷◌, ◌++◌, length, take, refl, sym, ap, subst, ◌∙◌, arith, take_all, le_refl}
+use Rattle.std.proofs.Common.{◌≡◌, ℕ, ◌+◌, ◌≤◌, Bool, true, false, if◌then◌else◌, List, [], ◌∷◌, ◌++◌, length, take, refl, sym, ap, subst, ◌∙◌, take_all, le_refl}
 use Rattle.std.specs.Prelude.{Option, Some, None, is_some, unwrap_or, option_and_then, option_map}
 use Rattle.std.proofs.lemmas.Option.{same_Some}
 use Rattle.typed_path.specs.Dialect.{Dialect}
-use Rattle.typed_path.specs.declared.windows.prefix.WindowsPrefix.{WindowsPrefix}
 use Rattle.typed_path.specs.declared.scan.piece.Piece.{Piece}
 use Rattle.typed_path.specs.declared.scan.piece.PieceKind.{PieceKind}
 use Rattle.typed_path.specs.declared.scan.piece.PieceKind.TheVariants.{Prefix, RootDir, CurDir, ParentDir, Normal}

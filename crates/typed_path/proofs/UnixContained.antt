@@ -1,6 +1,6 @@
 -- A checked push on Unix stays within its base.
-use Rattle.std.proofs.Common.{◌≡◌, ℕ, zero, ◌<◌, Bool, true, false, if◌then◌else◌, List, [], ◌∷◌, ◌++◌, length, refl, sym, ap, ◌∙◌, arith, ◌==◌}
-use Rattle.std.specs.Prelude.{Option, Some, None}
+use Rattle.std.proofs.Common.{◌≡◌, ℕ, zero, Bool, true, false, if◌then◌else◌, List, [], ◌∷◌, ◌++◌, refl, sym, ap, ◌∙◌, arith, ◌==◌}
+use Rattle.std.specs.Prelude.{None}
 use Rattle.std.proofs.lemmas.List.{map-append}
 use Rattle.typed_path.specs.declared.scan.separators.Separators.TheVariants.{Slash}
 use Rattle.typed_path.specs.Dialect.{unix, slash}
@@ -8,7 +8,7 @@ use Rattle.typed_path.specs.Part.{Kind, prefix, root, current, parent, normal, P
 use Rattle.typed_path.specs.Comps.{parts_of}
 use Rattle.typed_path.specs.Joins.{without_leading_current}
 use Rattle.typed_path.specs.Push.{push_unix, fault}
-use Rattle.typed_path.specs.Places.{overdraws, resolve, with_implied_root, place}
+use Rattle.typed_path.specs.Places.{resolve, with_implied_root, place}
 use Rattle.typed_path.specs.Promises.{IsContained, KeepsPrefix}
 use Rattle.typed_path.proofs.PartLemmas.{AreRead}
 use Rattle.typed_path.proofs.UnixNormal.{resolved-read}

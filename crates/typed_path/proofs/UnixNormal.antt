@@ -3,12 +3,12 @@ use Rattle.std.proofs.Common.{◌≡◌, ℕ, ◌==◌, true, false, List, [], �
 use Rattle.std.specs.List.{AllByRecursion}
 use Rattle.std.proofs.lemmas.List.Elements.{All-head}
 use Rattle.typed_path.specs.declared.scan.separators.Separators.TheVariants.{Slash}
-use Rattle.typed_path.specs.Dialect.{unix, slash, is_separator}
+use Rattle.typed_path.specs.Dialect.{Dialect, unix, windows, slash, is_separator}
 use Rattle.typed_path.specs.Part.{Kind, prefix, root, normal, Part, kinds, texts, name_part}
 use Rattle.typed_path.specs.Comps.{parts_of}
 use Rattle.typed_path.specs.Push.{ended_with, push_unix, push_all}
-use Rattle.typed_path.specs.Places.{resolve, stays}
-use Rattle.typed_path.specs.Promises.{ReadsAsResolved, StaysNormal, IsCanonical}
+use Rattle.typed_path.specs.Places.{resolve, stays, normal_text}
+use Rattle.typed_path.specs.Promises.{ReadsAsResolved, StaysNormal, IsCanonical, HasNormalForm}
 use Rattle.typed_path.proofs.PartLemmas.{body_parts, parts-body, body_parts-read, IsCleanName, IsLaterPart, IsWritten, IsLater, AreRead, text_by_kind, texts-read}
 use Rattle.typed_path.proofs.JoinLemmas.{later_parts-name, body_parts-name, body_parts-ended}
 use Rattle.typed_path.proofs.ResolveLemmas.{IsKept, resolve-kept, resolve-read, resolve-resolve}
@@ -94,3 +94,8 @@ is_canonical t u = (
   where
     texts_of : (v : List ℕ) → texts (resolve (parts_of unix v)) ≡ map (text_by_kind Slash) (kinds (resolve (parts_of unix v)))
     texts_of v = texts-read Slash (resolve (parts_of unix v)) (resolved-read v)
+
+-- a normal text has the form that its dialect promises
+pub normal_form : (d : Dialect) (t : List ℕ) → HasNormalForm d t (normal_text d t)
+normal_form unix t = record { reads = reads_as_resolved t; stays = stays_normal t; alone = λ u. is_canonical t u }
+normal_form windows t = tt

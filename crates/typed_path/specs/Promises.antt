@@ -1,5 +1,5 @@
 -- The promises that rest on reading a written text again.
-use Rattle.std.specs.Prelude.{◌≡◌, ◌↔◌, ℕ, List, [], ◌∷◌, ◌++◌, Bool, true, false, not, ◌&&◌, ◌||◌, length, codes, bytes_eq, if◌then◌else◌, Option, Some, None, option_map, sum_by}
+use Rattle.std.specs.Prelude.{◌≡◌, ◌↔◌, ℕ, List, [], ◌∷◌, ◌++◌, Bool, true, false, not, ◌&&◌, ◌||◌, length, codes, bytes_eq, if◌then◌else◌, Option, Some, None, option_map, sum_by, ⊤}
 use Rattle.std.specs.List.{flat_map}
 use Rattle.typed_path.specs.Dialect.{Dialect, unix, windows, slash, backslash}
 use Rattle.typed_path.specs.Part.{Prefix, verbatim, verbatim_unc, verbatim_disk, device_ns, unc, disk, Kind, prefix, root, Part, kinds, root_part, is_name}
@@ -52,6 +52,17 @@ StaysNormal t = normal_text unix (normal_text unix t) ≡ normal_text unix t
 
 abbrev pub IsCanonical : List ℕ → List ℕ → Type 0
 IsCanonical t u = (normal_text unix t ≡ normal_text unix u) ↔ (kinds (resolve (parts_of unix t)) ≡ kinds (resolve (parts_of unix u)))
+
+-- the canonical form of a normal text: what it is read as, and that it is the one text of its kind
+pub record IsCanonicalForm (t normal : List ℕ) : Type 0 where
+  pub reads : parts_of unix normal ≡ resolve (parts_of unix t)
+  pub stays : normal_text unix normal ≡ normal
+  pub alone : (u : List ℕ) → (normal ≡ normal_text unix u) ↔ (kinds (resolve (parts_of unix t)) ≡ kinds (resolve (parts_of unix u)))
+
+-- a normal text of Unix has the canonical form
+abbrev pub HasNormalForm : Dialect → List ℕ → List ℕ → Type 0
+HasNormalForm unix t normal = IsCanonicalForm t normal
+HasNormalForm windows t normal = ⊤
 
 -- a list with a root put in where a name stands right behind a verbatim drive
 abbrev pub with_drive_root : List Part → List Part

@@ -75,6 +75,12 @@ pub fn prefix_is_within(path: &[u8])
     ensures fits { (f : Found) → prefix_of d path.now ≡ Some f → f.length ≤ length path.now }
 {}
 
+/// A path has no more components than bytes.
+pub fn list_is_no_longer_than_its_text(path: &[u8])
+    ghost d: { Dialect }
+    ensures { length (comps d path.now) ≤ length path.now }
+{}
+
 /// The components of a path stand in order within it, and the first begins where the path does.
 pub fn components_stand_in_order(path: &[u8])
     ghost d: { Dialect }

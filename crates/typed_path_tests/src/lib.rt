@@ -6,6 +6,8 @@ mod ends;
 #[cfg(test)]
 mod lines;
 #[cfg(test)]
+mod owned;
+#[cfg(test)]
 mod paths;
 #[cfg(test)]
 mod streams;

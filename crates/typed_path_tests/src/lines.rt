@@ -39,7 +39,7 @@ fn answered(
 
 #[test]
 fn replies(rt: HostRuntime) -> Result<(), Fail> {
-    let rows: [(&[u8], &[u8]); 16] = [
+    let rows: [(&[u8], &[u8]); 21] = [
         (
             b"normalize\tunix\tfoo/bar//baz/./asdf/quux/..",
             b"ok\tfoo/bar/baz/asdf\n",
@@ -57,6 +57,20 @@ fn replies(rt: HostRuntime) -> Result<(), Fail> {
             b"components\tunix\t/a/./b//\n",
             b"ok\troot=/\tnormal=a\tnormal=b\n",
         ),
+        (b"join\tunix\t/etc\tabc/../def\n", b"ok\t/etc/abc/../def\n"),
+        (
+            b"join_checked\tunix\t/etc\t..\n",
+            b"err\tPathTraversalAttack\n",
+        ),
+        (
+            b"join_checked\tunix\t/etc\t/sneaky/replacement\n",
+            b"err\tUnexpectedRoot\n",
+        ),
+        (
+            b"join_checked\tunix\tsome/path\tsome/inva\0lid/path\n",
+            b"err\tInvalidFilename\n",
+        ),
+        (b"join_checked\tunix\t..\ta\n", b"ok\t../a\n"),
         (b"components\twindows\ta\n", b"err\tBadLine\n"),
         (b"normalize\twindows\ta\n", b"err\tBadLine\n"),
         (b"normalize\tmac\ta\n", b"err\tBadLine\n"),

@@ -5,9 +5,11 @@ use typed_path::{CheckedPathError, UnixPath, UnixPathBuf};
 
 #[test]
 fn normal_texts(rt: HostRuntime) -> Result<(), Fail> {
-    let rows: [(&[u8], &[u8]); 4] = [
+    let rows: [(&[u8], &[u8]); 6] = [
         (b"foo/bar//baz/./asdf/quux/..", b"foo/bar/baz/asdf"),
         (b"a//b/.", b"a/b"),
+        (b"./a/b", b"a/b"),
+        (b"/a/b", b"/a/b"),
         (b"/../..", b"/"),
         (b"", b""),
     ];

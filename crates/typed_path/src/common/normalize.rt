@@ -14,13 +14,16 @@ impl<'a, T: Encoding> Path<'a, T> {
     ghost use Rattle.std.specs.Prelude.{◌≡◌, IfOk};
     ghost use Rattle.typed_path.specs.PathViews.{path_bytes};
     ghost use Rattle.typed_path.specs.Places.{normal_text};
+    ghost use Rattle.typed_path.specs.Promises.{HasNormalForm};
 
     /// The path without `.`, and without `..` and the names that these take away.
     ///
     /// The components that are left are pushed one by one onto the empty path. A `..` that finds no
-    /// name to take away vanishes.
+    /// name to take away vanishes. On Unix the answer is read as just these components, is its own
+    /// normal text, and is the same, byte for byte, for all paths that lead to the same.
     pub fn normalize(self, alloc: Global) -> Result<PathBuf<T>, AllocError>
-        ensures { IfOk result (λ p. p.bytes ≡ normal_text T.dialect (path_bytes self.entry)) }
+        ensures text { IfOk result (λ p. p.bytes ≡ normal_text T.dialect (path_bytes self.entry)) }
+        ensures form { IfOk result (λ p. HasNormalForm T.dialect (path_bytes self.entry) p.bytes) }
     {
         let mut normal = Vec::with_capacity(alloc, self.as_bytes().len() + 1)?;
         let mut names: SmallVec<&[u8], INLINE_NAMES> = SmallVec::new(alloc);

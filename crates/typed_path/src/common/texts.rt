@@ -4,8 +4,7 @@ use crate::common::encoding::Encoding;
 use crate::common::path::Path;
 use std::alloc::{AllocError, Global};
 use std::borrow::CowStr;
-use std::fmt;
-use std::str;
+use std::{fmt, str};
 
 /// A path that is to be printed: its text, with U+FFFD where the bytes are none.
 #[derive_where(Clone, Copy)]

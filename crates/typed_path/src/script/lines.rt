@@ -60,7 +60,13 @@ pub fn put_reply(alloc: Global, line: &[u8], replies: &mut Vec<u8>) -> Result<()
             put_unix_reply(alloc, command, UnixPath::new(path), replies)
         }
         Fields::Four(command, encoding, base, path) if encoding == UNIX => {
-            put_join_reply(alloc, command, UnixPath::new(base), UnixPath::new(path), replies)
+            put_join_reply(
+                alloc,
+                command,
+                UnixPath::new(base),
+                UnixPath::new(path),
+                replies,
+            )
         }
         _ => put_bad_line(replies),
     }

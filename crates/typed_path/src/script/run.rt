@@ -65,10 +65,7 @@ pub fn run_ops<T: Encoding>(
 }
 
 /// Does one operation on a path. Where memory is refused, only an `Extend` may have pushed some.
-fn apply<T: Encoding>(
-    path: &mut PathBuf<T>,
-    operation: PathOp<'_>,
-) -> Result<Reply, AllocError>
+fn apply<T: Encoding>(path: &mut PathBuf<T>, operation: PathOp<'_>) -> Result<Reply, AllocError>
     ensures path { OnOk result (path.new.bytes ≡ (step T.dialect path.old.bytes (operation_of operation.entry)).0) }
     ensures reply { IfOk result (λ reply. response_of reply ≡ (step T.dialect path.old.bytes (operation_of operation.entry)).1) }
     ensures memory { OnErr result (IsPartDone T.dialect path.old.bytes (operation_of operation.entry) path.new.bytes) }

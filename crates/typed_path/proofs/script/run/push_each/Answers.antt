@@ -1,4 +1,4 @@
-use Rattle.std.proofs.Common.{◌≡◌, ap, ◌∙◌}
+use Rattle.std.proofs.Common.{ap, ◌∙◌}
 use Rattle.typed_path.specs.Push.{push}
 use Rattle.typed_path.proofs.RunLemmas.{push_all-more}
 use Rattle.typed_path.proofs.script.run.push_each.Goals as goal

@@ -1,4 +1,4 @@
-use Rattle.std.proofs.Common.{◌≡◌, ◌++◌, map, take}
+use Rattle.std.proofs.Common.{◌≡◌, ◌++◌, take}
 use Rattle.typed_path.specs.Run.{text_after, replies}
 use Rattle.typed_path.specs.RunViews.{operations_of, responses_of}
 use Rattle.typed_path.proofs.script.run.run_ops.Given as goal

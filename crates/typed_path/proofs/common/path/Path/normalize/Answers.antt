@@ -4,7 +4,7 @@ use Rattle.typed_path.specs.declared.scan.piece.PieceKind.{PieceKind}
 use Rattle.typed_path.specs.declared.scan.piece.PieceKind.TheVariants.{Prefix, CurDir, ParentDir, RootDir}
 use Rattle.typed_path.specs.declared.windows.prefix.WindowsPrefix.{WindowsPrefix}
 use Rattle.std.specs.Prelude.{Option, Some, None, option_to_list, IsSome}
-use Rattle.std.proofs.lemmas.List.{map-append, drop-map, drop_more}
+use Rattle.std.proofs.lemmas.List.{map-append, drop-map, drop_more, drop_all, length-map}
 use Rattle.typed_path.specs.Push.{push, push_all}
 use Rattle.typed_path.specs.PathViews.{path_bytes, components_parts}
 use Rattle.typed_path.specs.Comps.{parts_of}
@@ -13,6 +13,8 @@ use Rattle.typed_path.specs.Dialect.{Dialect}
 use Rattle.typed_path.specs.Part.{Part, parts, parent}
 use Rattle.typed_path.specs.Views.{part_of, kind_view}
 use Rattle.typed_path.proofs.SettleLemmas.{is_head, Comes, comes-current, comes-parent, comes-parent_alone, comes-head, comes-end}
+use Rattle.typed_path.specs.Promises.{HasNormalForm}
+use Rattle.typed_path.proofs.UnixNormal.{normal_form}
 use Rattle.typed_path.proofs.ShapeLemmas.{heads_first-parts_of}
 use Rattle.typed_path.proofs.common.path.Path.normalize.Goals as goal
 
@@ -89,3 +91,12 @@ names-init g c =
 pub names-preserved : goal.names-preserved
 names-preserved g c =
     pushed_next g.T.Encoding.dialect _ _ _ c.as_slice-name-items.result.now c.names.name-index _ c.names-test.true c.in_ok-push.ensures.ok c.names.invariant
+
+pub returns-clause-form : goal.returns-clause-form
+returns-clause-form g c =
+    let d = g.T.Encoding.dialect in
+    let t = path_bytes c.args.self in
+    let names = map (λ n. n.now) c.as_slice-name-items.result.now in
+    let all : drop c.names.name-index names ≡ [] = drop_all c.names.name-index names (omega (arith, c.names-test.false, length-map c.as_slice-name-items.result.now (λ n. n.now))) in
+    let text : c.from_vec.result.bytes ≡ normal_text d t = c.from_vec.ensures.bytes ∙ sym (c.names.invariant ∙ ap (push_all d c.names.normal.items) all) in
+    subst (λ u. HasNormalForm d t u) (sym text) (normal_form d t)

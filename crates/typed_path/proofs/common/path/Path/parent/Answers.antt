@@ -1,11 +1,7 @@
-use Rattle.std.proofs.Common.{◌≡◌, ◌≤◌, ℕ, List, [], ◌∷◌, false, cond, length, sym, ap, ◌∙◌, option_map, arith}
-use Rattle.std.specs.Prelude.{Option, Some, None, option_and_then}
-use Rattle.std.proofs.lemmas.Option.{same_Some}
-use Rattle.typed_path.specs.Dialect.{Dialect}
-use Rattle.typed_path.specs.Part.{Part, Placed}
+use Rattle.std.proofs.Common.{sym, ap, ◌∙◌}
+use Rattle.std.specs.Prelude.{Some}
 use Rattle.typed_path.specs.Comps.{comps}
-use Rattle.typed_path.specs.Left.{back, left, last_of, slice_after_back}
-use Rattle.typed_path.specs.Queries.{is_root, parent_of}
+use Rattle.typed_path.specs.Left.{slice_after_back}
 use Rattle.typed_path.specs.Steps.{last_part}
 use Rattle.typed_path.specs.Views.{part_of}
 use Rattle.typed_path.specs.PathViews.{path_bytes, components_slice}

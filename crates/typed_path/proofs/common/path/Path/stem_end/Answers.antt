@@ -1,8 +1,6 @@
-use Rattle.std.proofs.Common.{◌≡◌, ◌+◌, ◌-◌, List, ℕ, length, sym, ap, ◌∙◌, arith}
-use Rattle.std.specs.Prelude.{Option, Some}
-use Rattle.typed_path.specs.Part.{end_of}
+use Rattle.std.proofs.Common.{◌≡◌, ◌+◌, length, sym, ap, ◌∙◌, arith}
+use Rattle.std.specs.Prelude.{Some}
 use Rattle.typed_path.specs.Left.{last_of}
-use Rattle.typed_path.specs.Names.{stem_of}
 use Rattle.typed_path.specs.PathViews.{path_bytes}
 use Rattle.typed_path.proofs.NameSpans.{HasName, has_name, stem_end-name, last-within}
 use Rattle.typed_path.proofs.common.path.Path.stem_end.Given.{Over}

@@ -1,4 +1,4 @@
-use Rattle.std.proofs.Common.{◌≡◌, ap, ◌∙◌}
+use Rattle.std.proofs.Common.{ap, ◌∙◌}
 use Rattle.std.specs.Prelude.{option_copied}
 use Rattle.typed_path.specs.Texts.{text_of_bytes}
 use Rattle.typed_path.proofs.TextLemmas.{text_of_bytes-read}

@@ -1,5 +1,4 @@
-use Rattle.std.proofs.Common.{◌≡◌, sym, ap, ◌∙◌}
-use Rattle.std.specs.Prelude.{Some, None}
+use Rattle.std.proofs.Common.{sym, ◌∙◌}
 use Rattle.std.proofs.lemmas.Str.{utf8_lossy-IsUtf8}
 use Rattle.typed_path.specs.PathViews.{path_bytes}
 use Rattle.typed_path.proofs.TextLemmas.{text_of_bytes-some, text_of_bytes-is}

@@ -1,4 +1,4 @@
-use Rattle.std.proofs.Common.{◌≡◌, sym, ap, ◌∙◌}
+use Rattle.std.proofs.Common.{sym, ap, ◌∙◌}
 use Rattle.typed_path.specs.Comps.{comps}
 use Rattle.typed_path.specs.Left.{slice_after_back}
 use Rattle.typed_path.specs.Steps.{last_part}

@@ -1,5 +1,5 @@
-use Rattle.std.proofs.Common.{◌≡◌, List, ℕ, length, take, sym, ap, ◌∙◌}
-use Rattle.std.specs.Prelude.{Option, Some, unwrap_or}
+use Rattle.std.proofs.Common.{◌≡◌, length, take, sym, ap, ◌∙◌}
+use Rattle.std.specs.Prelude.{Some, unwrap_or}
 use Rattle.typed_path.specs.Queries.{parent_of}
 use Rattle.typed_path.specs.PathViews.{path_bytes}
 use Rattle.typed_path.proofs.ParentLemmas.{parent-front}

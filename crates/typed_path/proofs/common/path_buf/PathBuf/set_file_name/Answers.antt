@@ -1,6 +1,5 @@
-use Rattle.std.proofs.Common.{◌≡◌, List, ℕ, length, take, sym, ap, ◌∙◌}
+use Rattle.std.proofs.Common.{◌≡◌, length, take, ap, ◌∙◌}
 use Rattle.typed_path.specs.Push.{push}
-use Rattle.typed_path.specs.PathViews.{path_bytes}
 use Rattle.typed_path.specs.Run.{without_file_name}
 use Rattle.typed_path.proofs.NameSpans.{without_file_name-front}
 use Rattle.typed_path.proofs.common.path_buf.PathBuf.set_file_name.Goals as goal
@@ -11,8 +10,8 @@ returns-clause-ok g c =
     let t = c.args.self.now.bytes in
     let kept : c.as_bytes-kept.result.now ≡ without_file_name d t = c.as_bytes-kept.ensures ∙ c.without_file_name.ensures ∙ ap (without_file_name d) c.as_path.ensures in
     let cut : c.truncate.new.self.items ≡ without_file_name d t =
-        c.truncate.ensures.items
-        ∙ ap (λ p. take (length p) c.self.inside.inner.items) kept
-        ∙ ap (λ o. take (length (without_file_name d t)) o.bytes) c.self.view_is
-        ∙ without_file_name-front d t in
+    c.truncate.ensures.items
+    ∙ ap (λ p. take (length p) c.self.inside.inner.items) kept
+    ∙ ap (λ o. take (length (without_file_name d t)) o.bytes) c.self.view_is
+    ∙ without_file_name-front d t in
     c.in_default.ensures.ok ∙ ap (λ base. push d base c.args.name.now) cut

@@ -1,8 +1,7 @@
-use Rattle.std.proofs.Common.{◌≡◌, ◌≤◌, ◌+◌, ◌-◌, List, [], ◌∷◌, drop, length, refl, sym, ap, ◌∙◌, subst, le_refl, arith}
-use Rattle.std.specs.Prelude.{Option, Some, Result, Ok, Err}
+use Rattle.std.proofs.Common.{◌≡◌, ◌-◌, [], ◌∷◌, drop, length, refl, sym, ap, ◌∙◌, arith}
+use Rattle.std.specs.Prelude.{Some, Result, Ok, Err}
 use Rattle.std.proofs.lemmas.List.{length-take-le, length-drop}
-use Rattle.typed_path.specs.Part.{Part, Placed, kinds, parts}
-use Rattle.typed_path.specs.Steps.{first_part}
+use Rattle.typed_path.specs.Part.{kinds, parts}
 use Rattle.typed_path.specs.Dialect.{dialect_of}
 use Rattle.typed_path.specs.CursorViews.{slice_left, items_left}
 use Rattle.typed_path.specs.Views.{part_of}

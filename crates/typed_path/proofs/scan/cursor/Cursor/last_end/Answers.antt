@@ -1,5 +1,5 @@
-use Rattle.std.proofs.Common.{◌≡◌, ℕ, ◌+◌, List, take, sym, ap, ◌∙◌, length, arith}
-use Rattle.std.specs.Prelude.{Option, Some, option_map, unwrap_or}
+use Rattle.std.proofs.Common.{◌≡◌, ℕ, ◌+◌, List, take, sym, ap, ◌∙◌}
+use Rattle.std.specs.Prelude.{Some, option_map, unwrap_or}
 use Rattle.std.proofs.lemmas.List.{length-take-le}
 use Rattle.typed_path.specs.Part.{Placed, end_of}
 use Rattle.typed_path.specs.Left.{last_of}

@@ -1,0 +1,162 @@
+//! Owned paths, with ample memory.
+
+use std::test::Fail;
+use typed_path::{
+    CheckedPathError, PathError, PathOp, Reply, UnixPath, UnixPathBuf, run_ops,
+};
+
+#[test]
+fn checked_pushes(rt: HostRuntime) -> Result<(), Fail> {
+    use CheckedPathError::{InvalidFilename, PathTraversalAttack, UnexpectedRoot};
+    let rows: [(&[u8], &[u8], Result<&[u8], CheckedPathError>); 6] = [
+        (b"/etc", b"..", Err(PathTraversalAttack)),
+        (b"/etc", b"/sneaky/replacement", Err(UnexpectedRoot)),
+        (b"/etc", b"abc/../def", Ok(b"/etc/abc/../def")),
+        (b"some/path", b"some/inva\0lid/path", Err(InvalidFilename)),
+        (b"..", b"a", Ok(b"../a")),
+        (b"a", b"", Ok(b"a")),
+    ];
+    for (base, path, wanted) in rows {
+        let mut pushed = UnixPathBuf::from_bytes(rt.alloc(), base)?;
+        let outcome = pushed.push_checked(UnixPath::new(path));
+        let joined = UnixPath::new(base).join_checked(rt.alloc(), UnixPath::new(path));
+        match wanted {
+            Ok(text) => {
+                assert_eq!(rt; outcome, Ok(()));
+                assert_eq!(rt; pushed.as_path().as_bytes(), text);
+                assert_eq!(rt; joined?.as_path().as_bytes(), text);
+            }
+            Err(refusal) => {
+                assert_eq!(rt; outcome, Err(PathError::Checked(refusal)));
+                assert_eq!(rt; pushed.as_path().as_bytes(), base);
+                assert_eq!(rt; joined.err(), Some(PathError::Checked(refusal)));
+            }
+        }
+    }
+    Ok(())
+}
+
+#[test]
+fn changed_names(rt: HostRuntime) -> Result<(), Fail> {
+    let rows = [
+        ("...", "", true, ".."),
+        ("foo/..", "z", false, "foo/.."),
+        ("/tmp/日本語.txt/", "z", true, "/tmp/日本語.z"),
+        ("a/b.tar.gz", "", true, "a/b.tar"),
+        ("", "z", false, ""),
+    ];
+    for (path, extension, changed, wanted) in rows {
+        let mut owned = UnixPathBuf::from_str(rt.alloc(), path)?;
+        assert_eq!(rt; owned.set_extension(extension.as_bytes())?, changed);
+        assert_eq!(rt; owned.into_vec().as_slice(), wanted.as_bytes());
+        let copy = UnixPath::new(path.as_bytes()).with_extension(rt.alloc(), extension.as_bytes());
+        assert_eq!(rt; copy?.as_path().as_bytes(), wanted.as_bytes());
+    }
+    let long = "a name that is longer than what a change of names keeps at hand, by some bytes";
+    for (path, name, wanted) in [
+        ("a/b", "", "a"),
+        ("a/b/", "c", "a/c"),
+        ("a/..", "b", "a/../b"),
+        (long, "b", "b"),
+    ] {
+        let mut owned = UnixPathBuf::from_str(rt.alloc(), path)?;
+        owned.set_file_name(name.as_bytes())?;
+        assert_eq!(rt; owned.into_vec().as_slice(), wanted.as_bytes());
+        let copy = UnixPath::new(path.as_bytes()).with_file_name(rt.alloc(), name.as_bytes())?;
+        assert_eq!(rt; copy.as_path().as_bytes(), wanted.as_bytes());
+    }
+    Ok(())
+}
+
+#[test]
+fn a_run_of_operations(rt: HostRuntime) -> Result<(), Fail> {
+    let operations = [
+        PathOp::PushChecked(b".."),
+        PathOp::Push(b"a.txt"),
+        PathOp::SetExtension(b"z"),
+        PathOp::SetFileName(b"b"),
+        PathOp::Pop,
+        PathOp::Pop,
+        PathOp::Pop,
+        PathOp::Extend(&[b"x", b"/y", b"z"]),
+    ];
+    let mut path = UnixPathBuf::from_str(rt.alloc(), "/etc")?;
+    let mut replies = Vec::new(rt.alloc());
+    run_ops(&mut path, &operations, &mut replies)?;
+    assert_eq!(rt; path.as_path().as_bytes(), b"/y/z".as_slice());
+    let wanted = [
+        Reply::Refused(CheckedPathError::PathTraversalAttack),
+        Reply::Done,
+        Reply::Flag(true),
+        Reply::Done,
+        Reply::Flag(true),
+        Reply::Flag(true),
+        Reply::Flag(false),
+        Reply::Done,
+    ];
+    assert_eq!(rt; replies.as_slice(), wanted.as_slice());
+    run_ops(&mut path, &[PathOp::Clear], &mut replies)?;
+    assert_eq!(rt; path.as_path().as_bytes(), b"".as_slice());
+    Ok(())
+}
+
+#[test]
+fn room(rt: HostRuntime) -> Result<(), Fail> {
+    let empty = UnixPathBuf::with_capacity(rt.alloc(), 64)?;
+    assert!(rt; empty.capacity() >= 64);
+    for way in ["reserve", "try_reserve", "reserve_exact", "try_reserve_exact"] {
+        let mut path = UnixPathBuf::from_str(rt.alloc(), "/etc")?;
+        match way {
+            "reserve" => path.reserve(64)?,
+            "try_reserve" => path.try_reserve(64)?,
+            "reserve_exact" => path.reserve_exact(64)?,
+            _ => path.try_reserve_exact(64)?,
+        }
+        assert!(rt; path.capacity() >= 68);
+        path.shrink_to(32)?;
+        assert!(rt; path.capacity() >= 32);
+        path.shrink_to_fit()?;
+        assert_eq!(rt; path.as_path().as_bytes(), b"/etc".as_slice());
+    }
+    Ok(())
+}
+
+#[test]
+fn owned_paths_from_other_values(rt: HostRuntime) -> Result<(), Fail> {
+    let names = [UnixPath::new(b"a"), UnixPath::new(b"b/"), UnixPath::new(b"c")];
+    let mut path = UnixPathBuf::from_iter(rt.alloc(), names)?;
+    path.extend([UnixPath::new(b"d")])?;
+    let built: [UnixPathBuf; 5] = [
+        path.clone()?,
+        path,
+        UnixPathBuf::from(Vec::from_slice(rt.alloc(), b"a/b/c/d")?),
+        UnixPathBuf::from(String::from_str(rt.alloc(), "a/b/c/d")?),
+        UnixPath::new(b"a/b/c").join(rt.alloc(), UnixPath::new(b"d"))?,
+    ];
+    for path in built {
+        let copy = path.as_path().to_path_buf(rt.alloc())?;
+        assert_eq!(rt; Vec::from(copy).as_slice(), b"a/b/c/d".as_slice());
+        assert_eq!(rt; path.into_vec().as_slice(), b"a/b/c/d".as_slice());
+    }
+    Ok(())
+}
+
+#[test]
+fn printed_paths(rt: HostRuntime) -> Result<(), Fail> {
+    let rows: [(&[u8], Option<&str>, &str); 4] = [
+        (b"/tmp/a b", Some("/tmp/a b"), "/tmp/a b"),
+        ("日/本".as_bytes(), Some("日/本"), "日/本"),
+        (b"a\xff/b", None, "a\u{FFFD}/b"),
+        (b"", Some(""), ""),
+    ];
+    for (bytes, text, printed) in rows {
+        let path = UnixPath::new(bytes);
+        assert_eq!(rt; path.to_str(), text);
+        assert_eq!(rt; path.to_string_lossy(rt.alloc())?.as_str(), printed);
+        assert_eq!(rt; path.to_string(rt.alloc())?.as_str(), printed);
+        assert_eq!(rt; path.display().to_string(rt.alloc())?.as_str(), printed);
+    }
+    let padded = format!(in rt.alloc(); "{:>4}|", UnixPath::new(b"a"))?;
+    assert_eq!(rt; padded.as_str(), "   a|");
+    Ok(())
+}
