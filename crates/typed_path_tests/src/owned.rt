@@ -1,9 +1,7 @@
 //! Owned paths, with ample memory.
 
 use std::test::Fail;
-use typed_path::{
-    CheckedPathError, PathError, PathOp, Reply, UnixPath, UnixPathBuf, run_ops,
-};
+use typed_path::{CheckedPathError, PathError, PathOp, Reply, UnixPath, UnixPathBuf, run_ops};
 
 #[test]
 fn checked_pushes(rt: HostRuntime) -> Result<(), Fail> {
@@ -104,7 +102,12 @@ fn a_run_of_operations(rt: HostRuntime) -> Result<(), Fail> {
 fn room(rt: HostRuntime) -> Result<(), Fail> {
     let empty = UnixPathBuf::with_capacity(rt.alloc(), 64)?;
     assert!(rt; empty.capacity() >= 64);
-    for way in ["reserve", "try_reserve", "reserve_exact", "try_reserve_exact"] {
+    for way in [
+        "reserve",
+        "try_reserve",
+        "reserve_exact",
+        "try_reserve_exact",
+    ] {
         let mut path = UnixPathBuf::from_str(rt.alloc(), "/etc")?;
         match way {
             "reserve" => path.reserve(64)?,
@@ -123,7 +126,11 @@ fn room(rt: HostRuntime) -> Result<(), Fail> {
 
 #[test]
 fn owned_paths_from_other_values(rt: HostRuntime) -> Result<(), Fail> {
-    let names = [UnixPath::new(b"a"), UnixPath::new(b"b/"), UnixPath::new(b"c")];
+    let names = [
+        UnixPath::new(b"a"),
+        UnixPath::new(b"b/"),
+        UnixPath::new(b"c"),
+    ];
     let mut path = UnixPathBuf::from_iter(rt.alloc(), names)?;
     path.extend([UnixPath::new(b"d")])?;
     let built: [UnixPathBuf; 5] = [

@@ -1,7 +1,7 @@
 //! Calls of paths with ample memory, and printed texts.
 
 use std::test::Fail;
-use typed_path::{CheckedPathError, UnixPath, UnixPathBuf};
+use typed_path::{CheckedPathError, PathError, UnixPath, UnixPathBuf};
 
 #[test]
 fn normal_texts(rt: HostRuntime) -> Result<(), Fail> {
@@ -42,6 +42,8 @@ fn printed_errors(rt: HostRuntime) -> Result<(), Fail> {
     ];
     for (error, wanted) in rows {
         assert_eq!(rt; error.to_string(rt.alloc())?.as_str(), wanted);
+        let refused = PathError::Checked(error).to_string(rt.alloc())?;
+        assert_eq!(rt; refused.as_str(), wanted);
     }
     Ok(())
 }

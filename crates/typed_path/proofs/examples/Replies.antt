@@ -1,5 +1,5 @@
 -- What the program answers to a line, and to a whole input.
-use Rattle.std.specs.Prelude.{◌≡◌, codes, [], refl}
+use Rattle.std.specs.Prelude.{◌≡◌, codes, [], ◌∷◌, ◌++◌, refl}
 use Rattle.typed_path.specs.Lines.{reply, answers, complete_lines, replies_to}
 
 -- normal texts
@@ -34,7 +34,35 @@ components_show_equals_signs = refl
 components_keep_backslashes : reply (codes "components\tunix\t\\a") ≡ codes "ok\tnormal=\\a\n"
 components_keep_backslashes = refl
 
+-- joins
+join_of_a_path_with_a_parent : reply (codes "join\tunix\t/etc\tabc/../def") ≡ codes "ok\t/etc/abc/../def\n"
+join_of_a_path_with_a_parent = refl
+
+join_of_an_absolute_path : reply (codes "join\tunix\ta\t/b") ≡ codes "ok\t/b\n"
+join_of_an_absolute_path = refl
+
+join_of_the_empty_path : reply (codes "join\tunix\ta/\t") ≡ codes "ok\ta/\n"
+join_of_the_empty_path = refl
+
+checked_join_above_its_base : reply (codes "join_checked\tunix\t/etc\t..") ≡ codes "err\tPathTraversalAttack\n"
+checked_join_above_its_base = refl
+
+checked_join_of_an_absolute_path : reply (codes "join_checked\tunix\t/etc\t/sneaky/replacement") ≡ codes "err\tUnexpectedRoot\n"
+checked_join_of_an_absolute_path = refl
+
+checked_join_of_a_disallowed_name : reply (codes "join_checked\tunix\tsome/path\tsome/inva" ++ 0 ∷ codes "lid/path") ≡ codes "err\tInvalidFilename\n"
+checked_join_of_a_disallowed_name = refl
+
+checked_join_onto_a_parent : reply (codes "join_checked\tunix\t..\ta") ≡ codes "ok\t../a\n"
+checked_join_onto_a_parent = refl
+
 -- bad lines
+join_without_a_path : reply (codes "join\tunix\ta") ≡ codes "err\tBadLine\n"
+join_without_a_path = refl
+
+join_of_windows : reply (codes "join\twindows\ta\tb") ≡ codes "err\tBadLine\n"
+join_of_windows = refl
+
 windows_is_not_answered : reply (codes "normalize\twindows\ta") ≡ codes "err\tBadLine\n"
 windows_is_not_answered = refl
 
