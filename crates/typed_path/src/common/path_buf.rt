@@ -212,11 +212,13 @@ impl<T: Encoding> PathBuf<T> {
         self.inner.try_reserve_exact(additional)
     }
 
-    /// Gives room back that is not used, as far as memory for a smaller block is found.
+    /// Gives room back that is not used, as far as memory for a smaller block is found. The empty
+    /// path keeps none.
     pub fn shrink_to_fit(&mut self) -> Result<(), AllocError>
         ensures ok { IsOk result }
         ensures bytes { self.new.bytes ≡ self.old.bytes }
         ensures capacity { self.new.capacity ≤ self.old.capacity }
+        ensures frees { self.old.bytes ≡ [] → self.new.capacity ≡ 0 }
     {
         self.inner.shrink_to_fit();
         Ok(())
@@ -228,6 +230,7 @@ impl<T: Encoding> PathBuf<T> {
         ensures bytes { self.new.bytes ≡ self.old.bytes }
         ensures capacity { self.new.capacity ≤ self.old.capacity }
         ensures room { min min_capacity self.old.capacity ≤ self.new.capacity }
+        ensures frees { self.old.bytes ≡ [] → min_capacity ≡ 0 → self.new.capacity ≡ 0 }
     {
         self.inner.shrink_to(min_capacity);
         Ok(())
