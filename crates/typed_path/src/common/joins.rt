@@ -1,7 +1,7 @@
 //! Owned paths made of lent ones.
 
 use crate::common::encoding::Encoding;
-use crate::common::names::put_extension;
+use crate::common::names::{dotted_len, put_extension};
 use crate::common::path::Path;
 use crate::common::path_buf::PathBuf;
 use crate::errors::PathError;
@@ -67,7 +67,7 @@ impl<'a, T: Encoding> Path<'a, T> {
             return self.to_path_buf(alloc);
         };
         let stem = &self.as_bytes()[..end];
-        let mut renamed = Vec::with_capacity(alloc, stem.len() + extension.len() + 1)?;
+        let mut renamed = Vec::with_capacity(alloc, stem.len() + dotted_len(extension))?;
         renamed.extend_from_slice(stem)?;
         put_extension(&mut renamed, extension)?;
         Ok(PathBuf::from_vec(renamed))

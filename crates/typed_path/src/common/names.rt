@@ -23,10 +23,21 @@ pub fn split_name(name: &[u8]) -> (&[u8], Option<&[u8]>)
     (&name[..at], Some(&name[at + 1..]))
 }
 
+/// How many bytes an extension takes with the dot before it; none where it is empty.
+pub fn dotted_len(extension: &[u8]) -> usize
+    ensures { result ≡ length (dotted extension.now) }
+{
+    if extension.is_empty() {
+        0
+    } else {
+        extension.len() + 1
+    }
+}
+
 /// Puts an extension behind a stem, with the dot before it; nothing where the extension is empty.
 pub fn put_extension(stem: &mut Vec<u8>, extension: &[u8]) -> Result<(), AllocError>
     ensures ok { OnOk result (stem.new.items ≡ stem.old.items ++ dotted extension.now) }
-    ensures succeeds { length stem.old.items + length extension.now + 1 ≤ vec_capacity stem.old → IsOk result }
+    ensures succeeds { length stem.old.items + length (dotted extension.now) ≤ vec_capacity stem.old → IsOk result }
 {
     if extension.is_empty() {
         return Ok(());

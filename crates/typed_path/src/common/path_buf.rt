@@ -1,7 +1,7 @@
 //! A path that owns its bytes.
 
 use crate::common::encoding::Encoding;
-use crate::common::names::put_extension;
+use crate::common::names::{dotted_len, put_extension};
 use crate::common::path::Path;
 use crate::errors::PathError;
 use smallvec::SmallVec;
@@ -156,7 +156,7 @@ impl<T: Encoding> PathBuf<T> {
         let Some(end) = self.as_path().stem_end() else {
             return Ok(false);
         };
-        let len = end + extension.len() + 1;
+        let len = end + dotted_len(extension);
         self.inner.reserve(len.saturating_sub(self.inner.len()))?;
         self.inner.truncate(end);
         put_extension(&mut self.inner, extension)?;
