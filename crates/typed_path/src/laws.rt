@@ -4,16 +4,16 @@ ghost use Rattle.std.specs.Prelude.{◌≡◌, ◌↔◌, ℕ, ◌+◌, ◌<◌,
 ghost use Rattle.std.specs.List.{list_any};
 ghost use Rattle.std.specs.Cmp.{IsTotalOrder};
 ghost use Rattle.std.specs.declared.cmp.Ordering.{Ordering};
-ghost use Rattle.typed_path.specs.Dialect.{Dialect, dot};
-ghost use Rattle.typed_path.specs.Prefix.{Found, prefix_of};
-ghost use Rattle.typed_path.specs.Comps.{comps};
-ghost use Rattle.typed_path.specs.Left.{Side, reads, left, items_between, but_last};
-ghost use Rattle.typed_path.specs.Reading.{answers_after, items_after, slice_after, fronts, backs, IsWhole, IsLaidOut};
-ghost use Rattle.typed_path.specs.Queries.{parent_of};
-ghost use Rattle.typed_path.specs.Joins.{JoinAppends, StripJoins};
-ghost use Rattle.typed_path.specs.Names.{is_a_dot, stem_of, extension_of};
-ghost use Rattle.typed_path.specs.Same.{IsSame, path_cmp};
-ghost use Rattle.typed_path.specs.Promises.{ReadsAsResolved, StaysNormal, IsCanonical, HashAlike};
+ghost use Rattle.typed_path.specs.components.Dialect.{Dialect, dot};
+ghost use Rattle.typed_path.specs.components.Prefix.{Found, prefix_of};
+ghost use Rattle.typed_path.specs.components.Comps.{comps};
+ghost use Rattle.typed_path.specs.readings.Left.{Side, reads, left, items_between, but_last};
+ghost use Rattle.typed_path.specs.readings.Reading.{answers_after, items_after, slice_after, fronts, backs, IsWhole, IsLaidOut};
+ghost use Rattle.typed_path.specs.queries.Queries.{parent_of};
+ghost use Rattle.typed_path.specs.promises.Joins.{JoinAppends, StripJoins};
+ghost use Rattle.typed_path.specs.queries.Names.{is_a_dot, stem_of, extension_of};
+ghost use Rattle.typed_path.specs.order.Same.{IsSame, path_cmp};
+ghost use Rattle.typed_path.specs.promises.Promises.{ReadsAsResolved, StaysNormal, IsCanonical, HashAlike};
 
 /// A normal text of Unix reads as what the list of its path resolves to.
 pub fn normal_reads_as_resolved(path: &[u8])

@@ -1,10 +1,10 @@
 -- Unix texts read from both ends, and what they answer.
 use Rattle.std.specs.Prelude.{◌≡◌, codes, [], ◌∷◌, refl, true, false, Some, None}
-use Rattle.typed_path.specs.Dialect.{unix}
-use Rattle.typed_path.specs.Part.{current_part, parent_part}
-use Rattle.typed_path.specs.Left.{front, back}
-use Rattle.typed_path.specs.Names.{stem_of, extension_of}
-use Rattle.typed_path.specs.Queries.{parent_of, file_name_of, file_stem_of, extension, path_starts_with, path_ends_with, stripped}
+use Rattle.typed_path.specs.components.Dialect.{unix}
+use Rattle.typed_path.specs.components.Part.{current_part, parent_part}
+use Rattle.typed_path.specs.readings.Left.{front, back}
+use Rattle.typed_path.specs.queries.Names.{stem_of, extension_of}
+use Rattle.typed_path.specs.queries.Queries.{parent_of, file_name_of, file_stem_of, extension, path_starts_with, path_ends_with, stripped}
 use Rattle.typed_path.proofs.examples.Words.{unix_parts, unix_root, named, read, rest, absolute, rooted, valid}
 
 -- component lists

@@ -1,9 +1,9 @@
 //! The questions that a component of any encoding answers.
 
 ghost use Rattle.std.specs.Prelude.{◌≡◌, ◌==◌, [], ◌∷◌, length};
-ghost use Rattle.typed_path.specs.Dialect.{Dialect, root_of, dot};
-ghost use Rattle.typed_path.specs.Part.{Part, root as root_kind, parent as parent_kind, current as current_kind, is_name, is_parent, is_current};
-ghost use Rattle.typed_path.specs.Queries.{is_root as is_root_kind, is_allowed};
+ghost use Rattle.typed_path.specs.components.Dialect.{Dialect, root_of, dot};
+ghost use Rattle.typed_path.specs.components.Part.{Part, root as root_kind, parent as parent_kind, current as current_kind, is_name, is_parent, is_current};
+ghost use Rattle.typed_path.specs.queries.Queries.{is_root as is_root_kind, is_allowed};
 
 /// A component of a path of one encoding.
 pub trait Component<'a>: Sized {

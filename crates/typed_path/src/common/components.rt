@@ -13,13 +13,13 @@ pub struct Components<'a, T> {
 
 impl<'a, T: Encoding> Components<'a, T> {
     ghost use Rattle.std.specs.Prelude.{◌≡◌, drop, option_map, Some};
-    ghost use Rattle.typed_path.specs.Left.{but_last, last_of, slice_after_front, slice_after_back};
-    ghost use Rattle.typed_path.specs.Steps.{first_part, last_part};
-    ghost use Rattle.typed_path.specs.Views.{part_of};
-    ghost use Rattle.typed_path.specs.CursorViews.{slice_left, items_left};
-    ghost use Rattle.typed_path.specs.Part.{Placed, end_of, kinds};
-    ghost use Rattle.typed_path.specs.Queries.{is_absolute, has_root};
-    ghost use Rattle.typed_path.specs.PathViews.{components_items, components_slice, components_parts};
+    ghost use Rattle.typed_path.specs.readings.Left.{but_last, last_of, slice_after_front, slice_after_back};
+    ghost use Rattle.typed_path.specs.readings.Steps.{first_part, last_part};
+    ghost use Rattle.typed_path.specs.views.Views.{part_of};
+    ghost use Rattle.typed_path.specs.views.CursorViews.{slice_left, items_left};
+    ghost use Rattle.typed_path.specs.components.Part.{Placed, end_of, kinds};
+    ghost use Rattle.typed_path.specs.queries.Queries.{is_absolute, has_root};
+    ghost use Rattle.typed_path.specs.views.PathViews.{components_items, components_slice, components_parts};
 
     /// The components that a reading has left.
     pub(crate) fn new(cursor: Cursor<'a>) -> Components<'a, T>
@@ -84,8 +84,8 @@ impl<'a, T: Encoding> Components<'a, T> {
 
 impl<'a, T: Encoding> Iterator for Components<'a, T> {
     ghost use Rattle.std.specs.Iterator.{YieldsFirstBy, item_count};
-    ghost use Rattle.typed_path.specs.PathViews.{components_parts};
-    ghost use Rattle.typed_path.specs.Views.{part_of};
+    ghost use Rattle.typed_path.specs.views.PathViews.{components_parts};
+    ghost use Rattle.typed_path.specs.views.Views.{part_of};
 
     type Item = Piece<'a>;
 
@@ -100,8 +100,8 @@ impl<'a, T: Encoding> Iterator for Components<'a, T> {
 
 impl<'a, T: Encoding> DoubleEndedIterator for Components<'a, T> {
     ghost use Rattle.std.specs.Iterator.{YieldsLastBy};
-    ghost use Rattle.typed_path.specs.PathViews.{components_parts};
-    ghost use Rattle.typed_path.specs.Views.{part_of};
+    ghost use Rattle.typed_path.specs.views.PathViews.{components_parts};
+    ghost use Rattle.typed_path.specs.views.Views.{part_of};
 
     ghost next_back_gives = { YieldsLastBy part_of components_parts };
 

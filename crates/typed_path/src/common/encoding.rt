@@ -2,17 +2,17 @@
 
 ghost use Rattle.std.specs.Prelude.{◌≡◌, ◌≤◌, ℕ, List, drop, option_map, OnOk, OnErr};
 ghost use Rattle.std.specs.Vec.{vec_capacity};
-ghost use Rattle.typed_path.specs.Checked.{refusal, error_of};
-ghost use Rattle.typed_path.specs.Promises.{HasPrefixOf, LiesWithin};
-ghost use Rattle.typed_path.specs.Dialect.{Dialect, root_of, label_of};
-ghost use Rattle.typed_path.specs.Comps.{comps};
-ghost use Rattle.typed_path.specs.Left.{but_last, slice_after_front, slice_after_back};
-ghost use Rattle.typed_path.specs.Steps.{first_part, last_part};
-ghost use Rattle.typed_path.specs.Views.{part_of};
-ghost use Rattle.typed_path.specs.CursorViews.{slice_left, items_left};
-ghost use Rattle.typed_path.specs.Part.{kinds, parts};
-ghost use Rattle.typed_path.specs.Queries.{is_absolute, has_root, is_allowed_name};
-ghost use Rattle.typed_path.specs.Push as push_spec;
+ghost use Rattle.typed_path.specs.changes.Checked.{refusal, error_of};
+ghost use Rattle.typed_path.specs.promises.Promises.{HasPrefixOf, LiesWithin};
+ghost use Rattle.typed_path.specs.components.Dialect.{Dialect, root_of, label_of};
+ghost use Rattle.typed_path.specs.components.Comps.{comps};
+ghost use Rattle.typed_path.specs.readings.Left.{but_last, slice_after_front, slice_after_back};
+ghost use Rattle.typed_path.specs.readings.Steps.{first_part, last_part};
+ghost use Rattle.typed_path.specs.views.Views.{part_of};
+ghost use Rattle.typed_path.specs.views.CursorViews.{slice_left, items_left};
+ghost use Rattle.typed_path.specs.components.Part.{kinds, parts};
+ghost use Rattle.typed_path.specs.queries.Queries.{is_absolute, has_root, is_allowed_name};
+ghost use Rattle.typed_path.specs.changes.Push as push_spec;
 
 use crate::errors::{CheckedPathError, PathError};
 use crate::scan::{Cursor, Piece};

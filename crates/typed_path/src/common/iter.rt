@@ -12,10 +12,10 @@ pub struct Iter<'a, T> {
 
 impl<'a, T: Encoding> Iter<'a, T> {
     ghost use Rattle.std.specs.Prelude.{◌≡◌, drop, option_map, option_copied};
-    ghost use Rattle.typed_path.specs.Left.{but_last, slice_after_front, slice_after_back};
-    ghost use Rattle.typed_path.specs.PathViews.{path_bytes, components_items, components_slice};
-    ghost use Rattle.typed_path.specs.Steps.{first_part, last_part};
-    ghost use Rattle.typed_path.specs.IterViews.{iter_components};
+    ghost use Rattle.typed_path.specs.readings.Left.{but_last, slice_after_front, slice_after_back};
+    ghost use Rattle.typed_path.specs.views.PathViews.{path_bytes, components_items, components_slice};
+    ghost use Rattle.typed_path.specs.readings.Steps.{first_part, last_part};
+    ghost use Rattle.typed_path.specs.views.IterViews.{iter_components};
 
     /// The texts of the components that are left.
     pub(crate) fn new(components: Components<'a, T>) -> Iter<'a, T>
@@ -58,7 +58,7 @@ impl<'a, T: Encoding> Iter<'a, T> {
 
 impl<'a, T: Encoding> Iterator for Iter<'a, T> {
     ghost use Rattle.std.specs.Iterator.{YieldsFirstRef, item_count};
-    ghost use Rattle.typed_path.specs.IterViews.{iter_texts};
+    ghost use Rattle.typed_path.specs.views.IterViews.{iter_texts};
 
     type Item = &'a [u8];
 
@@ -74,7 +74,7 @@ impl<'a, T: Encoding> Iterator for Iter<'a, T> {
 
 impl<'a, T: Encoding> DoubleEndedIterator for Iter<'a, T> {
     ghost use Rattle.std.specs.Iterator.{YieldsLastRef};
-    ghost use Rattle.typed_path.specs.IterViews.{iter_texts};
+    ghost use Rattle.typed_path.specs.views.IterViews.{iter_texts};
 
     ghost next_back_gives = { YieldsLastRef iter_texts };
 

@@ -9,11 +9,11 @@ use std::alloc::{AllocError, Global};
 
 impl<'a, T: Encoding> Path<'a, T> {
     ghost use Rattle.std.specs.Prelude.{◌≡◌, IfOk};
-    ghost use Rattle.typed_path.specs.Checked.{refusal};
-    ghost use Rattle.typed_path.specs.PathViews.{path_bytes};
-    ghost use Rattle.typed_path.specs.Promises.{HasPrefixOf, LiesWithin};
-    ghost use Rattle.typed_path.specs.Push as push_spec;
-    ghost use Rattle.typed_path.specs.Run as run_spec;
+    ghost use Rattle.typed_path.specs.changes.Checked.{refusal};
+    ghost use Rattle.typed_path.specs.views.PathViews.{path_bytes};
+    ghost use Rattle.typed_path.specs.promises.Promises.{HasPrefixOf, LiesWithin};
+    ghost use Rattle.typed_path.specs.changes.Push as push_spec;
+    ghost use Rattle.typed_path.specs.changes.Run as run_spec;
 
     /// A copy that owns its bytes.
     pub fn to_path_buf(self, alloc: Global) -> Result<PathBuf<T>, AllocError>

@@ -9,15 +9,15 @@ use crate::scan::Piece;
 
 impl<'a, T: Encoding> Path<'a, T> {
     ghost use Rattle.std.specs.Prelude.{◌≡◌, ◌≤◌, length, option_map, option_copied, IfSome};
-    ghost use Rattle.typed_path.specs.Comps.{comps};
-    ghost use Rattle.typed_path.specs.Steps.{last_part};
-    ghost use Rattle.typed_path.specs.Views.{part_of};
-    ghost use Rattle.typed_path.specs.Queries.{parent_of, file_name_of, file_stem_of, extension};
-    ghost use Rattle.typed_path.specs.PathViews.{path_bytes, components_items, components_slice};
-    ghost use Rattle.typed_path.specs.IterViews.{iter_components};
-    ghost use Rattle.typed_path.specs.Run.{without_file_name, stem_end};
-    ghost use Rattle.typed_path.specs.Ancestry.{ancestors_of};
-    ghost use Rattle.typed_path.specs.AncestorViews.{ancestors_left};
+    ghost use Rattle.typed_path.specs.components.Comps.{comps};
+    ghost use Rattle.typed_path.specs.readings.Steps.{last_part};
+    ghost use Rattle.typed_path.specs.views.Views.{part_of};
+    ghost use Rattle.typed_path.specs.queries.Queries.{parent_of, file_name_of, file_stem_of, extension};
+    ghost use Rattle.typed_path.specs.views.PathViews.{path_bytes, components_items, components_slice};
+    ghost use Rattle.typed_path.specs.views.IterViews.{iter_components};
+    ghost use Rattle.typed_path.specs.changes.Run.{without_file_name, stem_end};
+    ghost use Rattle.typed_path.specs.queries.Ancestry.{ancestors_of};
+    ghost use Rattle.typed_path.specs.views.AncestorViews.{ancestors_left};
 
     /// The last component.
     fn last(self) -> Option<Piece<'a>>
@@ -108,9 +108,9 @@ impl<'a, T: Encoding> Path<'a, T> {
 
 impl<'a, T: Encoding> IntoIterator for Path<'a, T> {
     ghost use Rattle.std.specs.Prelude.{◌≡◌};
-    ghost use Rattle.typed_path.specs.Comps.{comps};
-    ghost use Rattle.typed_path.specs.PathViews.{path_bytes, components_items, components_slice};
-    ghost use Rattle.typed_path.specs.IterViews.{iter_components};
+    ghost use Rattle.typed_path.specs.components.Comps.{comps};
+    ghost use Rattle.typed_path.specs.views.PathViews.{path_bytes, components_items, components_slice};
+    ghost use Rattle.typed_path.specs.views.IterViews.{iter_components};
 
     type Item = &'a [u8];
 

@@ -2,8 +2,8 @@
 
 ghost use Rattle.std.specs.Prelude.{◌≡◌, ◌≤◌, ◌+◌, ◌++◌, length, option_copied, OnOk, IsOk};
 ghost use Rattle.std.specs.Vec.{vec_capacity};
-ghost use Rattle.typed_path.specs.Run.{dotted};
-ghost use Rattle.typed_path.specs.Names.{stem_of, extension_of};
+ghost use Rattle.typed_path.specs.changes.Run.{dotted};
+ghost use Rattle.typed_path.specs.queries.Names.{stem_of, extension_of};
 
 use memchr::memrchr;
 use std::alloc::AllocError;

@@ -12,9 +12,9 @@ const INLINE_NAMES: usize = 32;
 
 impl<'a, T: Encoding> Path<'a, T> {
     ghost use Rattle.std.specs.Prelude.{◌≡◌, IfOk};
-    ghost use Rattle.typed_path.specs.PathViews.{path_bytes};
-    ghost use Rattle.typed_path.specs.Places.{normal_text};
-    ghost use Rattle.typed_path.specs.Promises.{HasNormalForm};
+    ghost use Rattle.typed_path.specs.views.PathViews.{path_bytes};
+    ghost use Rattle.typed_path.specs.places.Places.{normal_text};
+    ghost use Rattle.typed_path.specs.promises.Promises.{HasNormalForm};
 
     /// The path without `.`, and without `..` and the names that these take away.
     ///

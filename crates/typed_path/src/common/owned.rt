@@ -53,8 +53,8 @@ impl<T: Encoding> From<PathBuf<T>> for Vec<u8> {
 /// Pushes paths one by one. Where memory is refused, those before it stay pushed.
 impl<'p, T: Encoding> Extend<Path<'p, T>> for PathBuf<T> {
     ghost use Rattle.std.specs.Prelude.{◌≡◌, map};
-    ghost use Rattle.typed_path.specs.PathViews.{path_bytes};
-    ghost use Rattle.typed_path.specs.Push.{push_all};
+    ghost use Rattle.typed_path.specs.views.PathViews.{path_bytes};
+    ghost use Rattle.typed_path.specs.changes.Push.{push_all};
 
     ghost extend_gives = { λ old paths new. new.bytes ≡ push_all T.dialect old.bytes (map path_bytes paths) };
 
@@ -70,8 +70,8 @@ impl<'p, T: Encoding> Extend<Path<'p, T>> for PathBuf<T> {
 /// The paths pushed one by one onto the empty path.
 impl<'p, T: Encoding> FromIterator<Path<'p, T>> for PathBuf<T> {
     ghost use Rattle.std.specs.Prelude.{◌≡◌, [], map};
-    ghost use Rattle.typed_path.specs.PathViews.{path_bytes};
-    ghost use Rattle.typed_path.specs.Push.{push_all};
+    ghost use Rattle.typed_path.specs.views.PathViews.{path_bytes};
+    ghost use Rattle.typed_path.specs.changes.Push.{push_all};
 
     type Alloc = Global;
 

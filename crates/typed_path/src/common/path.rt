@@ -13,10 +13,10 @@ pub struct Path<'a, T> {
 
 impl<'a, T: Encoding> Path<'a, T> {
     ghost use Rattle.std.specs.Prelude.{◌≡◌, not};
-    ghost use Rattle.typed_path.specs.Part.{kinds};
-    ghost use Rattle.typed_path.specs.Comps.{comps, parts_of};
-    ghost use Rattle.typed_path.specs.Queries.{is_absolute, has_root, is_valid};
-    ghost use Rattle.typed_path.specs.PathViews.{path_bytes, components_items, components_slice};
+    ghost use Rattle.typed_path.specs.components.Part.{kinds};
+    ghost use Rattle.typed_path.specs.components.Comps.{comps, parts_of};
+    ghost use Rattle.typed_path.specs.queries.Queries.{is_absolute, has_root, is_valid};
+    ghost use Rattle.typed_path.specs.views.PathViews.{path_bytes, components_items, components_slice};
 
     /// The path of these bytes, whatever they are.
     pub fn new(bytes: &'a [u8]) -> Path<'a, T>

@@ -20,7 +20,7 @@ pub struct PathBuf<T> {
 
 impl<T> Model for PathBuf<T> {
     ghost use Rattle.std.specs.Vec.{vec_capacity};
-    ghost use Rattle.typed_path.specs.OwnedViews.{Owned};
+    ghost use Rattle.typed_path.specs.views.OwnedViews.{Owned};
 
     ghost Value = { Owned };
 
@@ -30,12 +30,12 @@ impl<T> Model for PathBuf<T> {
 impl<T: Encoding> PathBuf<T> {
     ghost use Rattle.std.specs.Prelude.{◌≡◌, ◌≤◌, ◌+◌, [], length, is_some, max, min, IfOk, OnOk, OnErr, IsOk};
     ghost use Rattle.std.specs.Vec.{vec_capacity};
-    ghost use Rattle.typed_path.specs.Checked.{refusal};
-    ghost use Rattle.typed_path.specs.PathViews.{path_bytes};
-    ghost use Rattle.typed_path.specs.Promises.{HasPrefixOf, LiesWithin};
-    ghost use Rattle.typed_path.specs.Push as push_spec;
-    ghost use Rattle.typed_path.specs.Queries.{parent_of, file_name_of};
-    ghost use Rattle.typed_path.specs.Run.{popped, with_file_name, with_extension};
+    ghost use Rattle.typed_path.specs.changes.Checked.{refusal};
+    ghost use Rattle.typed_path.specs.views.PathViews.{path_bytes};
+    ghost use Rattle.typed_path.specs.promises.Promises.{HasPrefixOf, LiesWithin};
+    ghost use Rattle.typed_path.specs.changes.Push as push_spec;
+    ghost use Rattle.typed_path.specs.queries.Queries.{parent_of, file_name_of};
+    ghost use Rattle.typed_path.specs.changes.Run.{popped, with_file_name, with_extension};
 
     /// The empty path.
     pub fn new(alloc: Global) -> PathBuf<T>

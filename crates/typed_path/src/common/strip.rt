@@ -6,9 +6,9 @@ use crate::errors::StripPrefixError;
 
 impl<'a, T: Encoding> Path<'a, T> {
     ghost use Rattle.std.specs.Prelude.{◌≡◌, option_map};
-    ghost use Rattle.typed_path.specs.Queries.{stripped, path_starts_with, path_ends_with};
-    ghost use Rattle.typed_path.specs.PathViews.{path_bytes};
-    ghost use Rattle.typed_path.specs.Strip.{stripped_to};
+    ghost use Rattle.typed_path.specs.queries.Queries.{stripped, path_starts_with, path_ends_with};
+    ghost use Rattle.typed_path.specs.views.PathViews.{path_bytes};
+    ghost use Rattle.typed_path.specs.queries.Strip.{stripped_to};
 
     /// What is left of the path behind a base, where it begins with the base's components as they
     /// are written.

@@ -17,9 +17,9 @@ impl<'a, T: Encoding> Path<'a, T> {
     ghost use Rattle.std.specs.Str.{IsUtf8};
     ghost use Rattle.std.specs.Str.Lossy.{utf8_lossy};
     ghost use Rattle.std.specs.Cow.{cow_str_bytes, IsBorrowedStr};
-    ghost use Rattle.typed_path.specs.PathViews.{path_bytes};
-    ghost use Rattle.typed_path.specs.Texts.{text_of_bytes};
-    ghost use Rattle.typed_path.specs.DisplayViews.{displayed};
+    ghost use Rattle.typed_path.specs.views.PathViews.{path_bytes};
+    ghost use Rattle.typed_path.specs.queries.Texts.{text_of_bytes};
+    ghost use Rattle.typed_path.specs.views.DisplayViews.{displayed};
 
     /// The path as a text, where its bytes are UTF-8.
     pub fn to_str(self) -> Option<&'a str>
@@ -63,8 +63,8 @@ fn write_lossy<W: fmt::Write>(bytes: &[u8], f: &mut fmt::Formatter<W>) -> fmt::R
 
 /// Writes the path's text, with U+FFFD where its bytes are none.
 impl<'a, T: Encoding> fmt::Display for Path<'a, T> {
-    ghost use Rattle.typed_path.specs.PathViews.{path_bytes};
-    ghost use Rattle.typed_path.specs.Texts.{text_of_bytes};
+    ghost use Rattle.typed_path.specs.views.PathViews.{path_bytes};
+    ghost use Rattle.typed_path.specs.queries.Texts.{text_of_bytes};
 
     ghost output = { λ path. text_of_bytes (path_bytes path) };
 
@@ -77,8 +77,8 @@ impl<'a, T: Encoding> fmt::Display for Path<'a, T> {
 }
 
 impl<'a, T: Encoding> fmt::Display for Display<'a, T> {
-    ghost use Rattle.typed_path.specs.DisplayViews.{displayed};
-    ghost use Rattle.typed_path.specs.Texts.{text_of_bytes};
+    ghost use Rattle.typed_path.specs.views.DisplayViews.{displayed};
+    ghost use Rattle.typed_path.specs.queries.Texts.{text_of_bytes};
 
     ghost output = { λ d. text_of_bytes (displayed d) };
 

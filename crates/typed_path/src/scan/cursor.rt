@@ -1,7 +1,7 @@
 //! The place of a reading from both ends.
 
 ghost use Rattle.std.specs.Prelude.{◌≡◌, ◌≤◌, true, slice_range, length};
-ghost use Rattle.typed_path.specs.Steps.{is_clean};
+ghost use Rattle.typed_path.specs.readings.Steps.{is_clean};
 
 use crate::errors::CheckedPathError;
 use crate::scan::begin::Begin;
@@ -25,16 +25,16 @@ pub struct Cursor<'a> {
 
 impl<'a> Cursor<'a> {
     ghost use Rattle.std.specs.Prelude.{◌≡◌, [], drop, option_map, Some};
-    ghost use Rattle.typed_path.specs.Comps.{body};
-    ghost use Rattle.typed_path.specs.Left.{but_last, last_of, slice_after_front, slice_after_back};
-    ghost use Rattle.typed_path.specs.Part.{Placed, end_of, kinds, parts};
-    ghost use Rattle.typed_path.specs.Queries.{begins_with_root};
-    ghost use Rattle.typed_path.specs.Steps.{first_part, last_part};
-    ghost use Rattle.typed_path.specs.Views.{part_of};
-    ghost use Rattle.typed_path.specs.CursorViews.{slice_left, items_left};
-    ghost use Rattle.typed_path.specs.Checked.{error_of};
-    ghost use Rattle.typed_path.specs.Dialect.{dialect_of};
-    ghost use Rattle.typed_path.specs.Push.{fault_behind};
+    ghost use Rattle.typed_path.specs.components.Comps.{body};
+    ghost use Rattle.typed_path.specs.readings.Left.{but_last, last_of, slice_after_front, slice_after_back};
+    ghost use Rattle.typed_path.specs.components.Part.{Placed, end_of, kinds, parts};
+    ghost use Rattle.typed_path.specs.queries.Queries.{begins_with_root};
+    ghost use Rattle.typed_path.specs.readings.Steps.{first_part, last_part};
+    ghost use Rattle.typed_path.specs.views.Views.{part_of};
+    ghost use Rattle.typed_path.specs.views.CursorViews.{slice_left, items_left};
+    ghost use Rattle.typed_path.specs.changes.Checked.{error_of};
+    ghost use Rattle.typed_path.specs.components.Dialect.{dialect_of};
+    ghost use Rattle.typed_path.specs.changes.Push.{fault_behind};
 
     /// A reading of a whole text that has no prefix.
     pub(crate) fn new(text: &'a [u8], separators: Separators) -> Cursor<'a>

@@ -1,10 +1,10 @@
 //! How deep below its base a path leads, judged component by component.
 
 ghost use Rattle.std.specs.Prelude.{◌≡◌, ◌≤◌, ◌<◌, ◌+◌, ◌^◌, List, ◌∷◌, IfOk};
-ghost use Rattle.typed_path.specs.Part.{Kind};
-ghost use Rattle.typed_path.specs.Depths.{fault_at, judged};
-ghost use Rattle.typed_path.specs.Dialect.{dialect_of};
-ghost use Rattle.typed_path.specs.Views.{part_of};
+ghost use Rattle.typed_path.specs.components.Part.{Kind};
+ghost use Rattle.typed_path.specs.changes.Depths.{fault_at, judged};
+ghost use Rattle.typed_path.specs.components.Dialect.{dialect_of};
+ghost use Rattle.typed_path.specs.views.Views.{part_of};
 
 use crate::errors::CheckedPathError;
 use crate::scan::piece::{Piece, PieceKind};

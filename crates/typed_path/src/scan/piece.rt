@@ -29,9 +29,9 @@ pub struct Piece<'a> {
 
 impl<'a> Piece<'a> {
     ghost use Rattle.std.specs.Prelude.{◌≡◌, ◌==◌, length};
-    ghost use Rattle.typed_path.specs.Queries.{is_root, is_allowed};
-    ghost use Rattle.typed_path.specs.Part.{is_name, is_parent, is_current};
-    ghost use Rattle.typed_path.specs.Views.{part_of};
+    ghost use Rattle.typed_path.specs.queries.Queries.{is_root, is_allowed};
+    ghost use Rattle.typed_path.specs.components.Part.{is_name, is_parent, is_current};
+    ghost use Rattle.typed_path.specs.views.Views.{part_of};
 
     /// The text of the component.
     pub fn as_bytes(self) -> &'a [u8]

@@ -2,8 +2,8 @@
 
 ghost use Rattle.std.specs.Prelude.{◌≡◌, ◌≤◌, length};
 ghost use Rattle.std.specs.List.{position_or_len, IsAfterLastMatch};
-ghost use Rattle.typed_path.specs.Dialect.{is_separator, is_verbatim, root_text, dialect_of};
-ghost use Rattle.typed_path.specs.Queries.{is_disallowed, is_allowed_name};
+ghost use Rattle.typed_path.specs.components.Dialect.{is_separator, is_verbatim, root_text, dialect_of};
+ghost use Rattle.typed_path.specs.queries.Queries.{is_disallowed, is_allowed_name};
 
 use crate::constants::{unix, windows};
 

@@ -1,7 +1,7 @@
 //! Lines that come in pieces.
 
 ghost use Rattle.std.specs.Prelude.{◌≡◌, [], ◌∷◌};
-ghost use Rattle.typed_path.specs.Lines.{pieces_of};
+ghost use Rattle.typed_path.specs.lines.Lines.{pieces_of};
 
 use crate::script::fields::cut_at;
 use crate::script::lines::put_reply;
@@ -20,7 +20,7 @@ pub struct Dialogue {
 
 impl Dialogue {
     ghost use Rattle.std.specs.Prelude.{◌≡◌, [], ◌∷◌, ◌++◌, OnOk};
-    ghost use Rattle.typed_path.specs.Lines.{pieces_of, reply, replies_to, complete_lines, open_line, all_lines};
+    ghost use Rattle.typed_path.specs.lines.Lines.{pieces_of, reply, replies_to, complete_lines, open_line, all_lines};
 
     pub fn new(alloc: Global) -> Dialogue
         ensures line { result.line.items ≡ [] }

@@ -1,10 +1,10 @@
 //! Components taken from either end, by a list of requests.
 
 ghost use Rattle.std.specs.Prelude.{◌≡◌, ◌++◌, map, option_map, OnOk, OnErr};
-ghost use Rattle.typed_path.specs.Views.{part_of};
-ghost use Rattle.typed_path.specs.PathViews.{components_items, components_slice};
-ghost use Rattle.typed_path.specs.Reading.{answers_after, items_after, slice_after};
-ghost use Rattle.typed_path.specs.Ends.{sides, taken_parts};
+ghost use Rattle.typed_path.specs.views.Views.{part_of};
+ghost use Rattle.typed_path.specs.views.PathViews.{components_items, components_slice};
+ghost use Rattle.typed_path.specs.readings.Reading.{answers_after, items_after, slice_after};
+ghost use Rattle.typed_path.specs.readings.Ends.{sides, taken_parts};
 
 use crate::common::{Components, Encoding};
 use crate::scan::Piece;

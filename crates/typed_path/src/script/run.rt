@@ -1,10 +1,10 @@
 //! Lists of operations on an owned path.
 
 ghost use Rattle.std.specs.Prelude.{◌≡◌, ◌++◌, ℕ, map, take, OnOk, OnErr, IfOk};
-ghost use Rattle.typed_path.specs.Push as push_spec;
-ghost use Rattle.typed_path.specs.Run.{step, text_after, push_checked_op};
-ghost use Rattle.typed_path.specs.Run as run_spec;
-ghost use Rattle.typed_path.specs.RunViews.{operation_of, operations_of, response_of, responses_of, IsPartDone, AreTaken, StopsAt};
+ghost use Rattle.typed_path.specs.changes.Push as push_spec;
+ghost use Rattle.typed_path.specs.changes.Run.{step, text_after, push_checked_op};
+ghost use Rattle.typed_path.specs.changes.Run as run_spec;
+ghost use Rattle.typed_path.specs.views.RunViews.{operation_of, operations_of, response_of, responses_of, IsPartDone, AreTaken, StopsAt};
 
 use crate::common::{Encoding, Path, PathBuf};
 use crate::errors::{CheckedPathError, PathError};

@@ -21,8 +21,8 @@ pub enum UnixComponent<'a> {
 
 impl<'a> UnixComponent<'a> {
     ghost use Rattle.std.specs.Prelude.{◌≡◌};
-    ghost use Rattle.typed_path.specs.UnixViews.{unix_part};
-    ghost use Rattle.typed_path.specs.PathViews.{path_bytes};
+    ghost use Rattle.typed_path.specs.views.UnixViews.{unix_part};
+    ghost use Rattle.typed_path.specs.views.PathViews.{path_bytes};
 
     /// The path of this one component, in the encoding that the caller names.
     pub fn as_path<T: Encoding>(self) -> Path<'a, T>
@@ -33,8 +33,8 @@ impl<'a> UnixComponent<'a> {
 }
 
 impl<'a> Component<'a> for UnixComponent<'a> {
-    ghost use Rattle.typed_path.specs.Dialect.{unix};
-    ghost use Rattle.typed_path.specs.UnixViews.{unix_part};
+    ghost use Rattle.typed_path.specs.components.Dialect.{unix};
+    ghost use Rattle.typed_path.specs.views.UnixViews.{unix_part};
 
     ghost dialect = { unix };
 

@@ -1,10 +1,10 @@
 //! The components of a Unix path.
 
 ghost use Rattle.std.specs.Prelude.{◌≡◌};
-ghost use Rattle.typed_path.specs.PathViews.{components_parts};
-ghost use Rattle.typed_path.specs.UnixParts.{as_written, written_unix};
-ghost use Rattle.typed_path.specs.UnixViews.{unix_part};
-ghost use Rattle.typed_path.specs.Views.{part_of};
+ghost use Rattle.typed_path.specs.views.PathViews.{components_parts};
+ghost use Rattle.typed_path.specs.components.UnixParts.{as_written, written_unix};
+ghost use Rattle.typed_path.specs.views.UnixViews.{unix_part};
+ghost use Rattle.typed_path.specs.views.Views.{part_of};
 
 use crate::common::{Components, Encoding, Path};
 use crate::scan::{Piece, PieceKind};
@@ -33,15 +33,15 @@ fn unix_component(piece: Piece<'_>) -> UnixComponent<'_>
 
 impl<'a> UnixComponents<'a> {
     ghost use Rattle.std.specs.Prelude.{◌≡◌, drop, option_map};
-    ghost use Rattle.typed_path.specs.Dialect.{unix};
-    ghost use Rattle.typed_path.specs.Part.{kinds};
-    ghost use Rattle.typed_path.specs.Comps.{comps};
-    ghost use Rattle.typed_path.specs.Left.{but_last, slice_after_front, slice_after_back};
-    ghost use Rattle.typed_path.specs.Steps.{first_part, last_part};
-    ghost use Rattle.typed_path.specs.Queries.{is_absolute, has_root};
-    ghost use Rattle.typed_path.specs.PathViews.{path_bytes};
-    ghost use Rattle.typed_path.specs.UnixViews.{unix_part};
-    ghost use Rattle.typed_path.specs.UnixIterViews.{unix_items, unix_slice, unix_parts};
+    ghost use Rattle.typed_path.specs.components.Dialect.{unix};
+    ghost use Rattle.typed_path.specs.components.Part.{kinds};
+    ghost use Rattle.typed_path.specs.components.Comps.{comps};
+    ghost use Rattle.typed_path.specs.readings.Left.{but_last, slice_after_front, slice_after_back};
+    ghost use Rattle.typed_path.specs.readings.Steps.{first_part, last_part};
+    ghost use Rattle.typed_path.specs.queries.Queries.{is_absolute, has_root};
+    ghost use Rattle.typed_path.specs.views.PathViews.{path_bytes};
+    ghost use Rattle.typed_path.specs.views.UnixViews.{unix_part};
+    ghost use Rattle.typed_path.specs.views.UnixIterViews.{unix_items, unix_slice, unix_parts};
 
     /// The components of a path, from either end.
     pub fn new(path: Path<'a, UnixEncoding>) -> UnixComponents<'a>
@@ -104,8 +104,8 @@ impl<'a> UnixComponents<'a> {
 
 impl<'a> Iterator for UnixComponents<'a> {
     ghost use Rattle.std.specs.Iterator.{YieldsFirstBy, item_count};
-    ghost use Rattle.typed_path.specs.UnixViews.{unix_part};
-    ghost use Rattle.typed_path.specs.UnixIterViews.{unix_parts};
+    ghost use Rattle.typed_path.specs.views.UnixViews.{unix_part};
+    ghost use Rattle.typed_path.specs.views.UnixIterViews.{unix_parts};
 
     type Item = UnixComponent<'a>;
 
@@ -121,8 +121,8 @@ impl<'a> Iterator for UnixComponents<'a> {
 
 impl<'a> DoubleEndedIterator for UnixComponents<'a> {
     ghost use Rattle.std.specs.Iterator.{YieldsLastBy};
-    ghost use Rattle.typed_path.specs.UnixViews.{unix_part};
-    ghost use Rattle.typed_path.specs.UnixIterViews.{unix_parts};
+    ghost use Rattle.typed_path.specs.views.UnixViews.{unix_part};
+    ghost use Rattle.typed_path.specs.views.UnixIterViews.{unix_parts};
 
     ghost next_back_gives = { YieldsLastBy unix_part unix_parts };
 

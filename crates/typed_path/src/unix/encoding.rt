@@ -2,8 +2,8 @@
 
 ghost use Rattle.std.specs.Prelude.{◌≡◌, ◌≤◌, ◌≢◌, [], ◌++◌, OnOk, OnErr};
 ghost use Rattle.std.specs.Vec.{vec_capacity};
-ghost use Rattle.typed_path.specs.Dialect.{unix, slash};
-ghost use Rattle.typed_path.specs.Push.{ended_with};
+ghost use Rattle.typed_path.specs.components.Dialect.{unix, slash};
+ghost use Rattle.typed_path.specs.changes.Push.{ended_with};
 
 use crate::common::Encoding;
 use crate::errors::CheckedPathError;

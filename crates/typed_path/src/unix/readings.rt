@@ -10,7 +10,7 @@ use crate::unix::components::UnixComponents;
 /// Where they have none they are refused with `no component found`, and where they have two or more
 /// with `found more than one component`.
 impl<'a> TryFrom<&'a [u8]> for UnixComponent<'a> {
-    ghost use Rattle.typed_path.specs.UnixViews.{IsUnixReading};
+    ghost use Rattle.typed_path.specs.views.UnixViews.{IsUnixReading};
 
     type Error = ParseError;
 
@@ -30,7 +30,7 @@ impl<'a> TryFrom<&'a [u8]> for UnixComponent<'a> {
 
 /// Reads an array as the slice of its bytes.
 impl<'a, const N: usize> TryFrom<&'a [u8; N]> for UnixComponent<'a> {
-    ghost use Rattle.typed_path.specs.UnixViews.{IsUnixReading};
+    ghost use Rattle.typed_path.specs.views.UnixViews.{IsUnixReading};
 
     type Error = ParseError;
 
@@ -43,7 +43,7 @@ impl<'a, const N: usize> TryFrom<&'a [u8; N]> for UnixComponent<'a> {
 
 /// Reads a text as the slice of its bytes.
 impl<'a> TryFrom<&'a str> for UnixComponent<'a> {
-    ghost use Rattle.typed_path.specs.UnixViews.{IsUnixReading};
+    ghost use Rattle.typed_path.specs.views.UnixViews.{IsUnixReading};
 
     type Error = ParseError;
 

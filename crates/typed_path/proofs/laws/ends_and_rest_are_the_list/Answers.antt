@@ -1,5 +1,5 @@
-use Rattle.typed_path.specs.Comps.{comps}
-use Rattle.typed_path.proofs.ReadingLemmas.{is_whole}
+use Rattle.typed_path.specs.components.Comps.{comps}
+use Rattle.typed_path.proofs.lemmas.readings.ReadingLemmas.{is_whole}
 use Rattle.typed_path.proofs.laws.ends_and_rest_are_the_list.Goals as goal
 
 pub returns : goal.returns

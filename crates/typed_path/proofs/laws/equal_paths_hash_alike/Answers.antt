@@ -1,4 +1,4 @@
-use Rattle.typed_path.proofs.OrderLaws.{hash_alike}
+use Rattle.typed_path.proofs.lemmas.order.OrderLaws.{hash_alike}
 use Rattle.typed_path.proofs.laws.equal_paths_hash_alike.Goals as goal
 
 pub returns : goal.returns

@@ -1,4 +1,4 @@
-use Rattle.typed_path.proofs.UnixJoin.{join_appends}
+use Rattle.typed_path.proofs.lemmas.promises.UnixJoin.{join_appends}
 use Rattle.typed_path.proofs.laws.join_appends.Goals as goal
 
 pub returns : goal.returns

@@ -1,4 +1,4 @@
-use Rattle.typed_path.proofs.UnixNormal.{is_canonical}
+use Rattle.typed_path.proofs.lemmas.promises.UnixNormal.{is_canonical}
 use Rattle.typed_path.proofs.laws.normal_is_canonical.Goals as goal
 
 pub returns : goal.returns

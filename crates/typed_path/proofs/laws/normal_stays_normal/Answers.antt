@@ -1,4 +1,4 @@
-use Rattle.typed_path.proofs.UnixNormal.{stays_normal}
+use Rattle.typed_path.proofs.lemmas.promises.UnixNormal.{stays_normal}
 use Rattle.typed_path.proofs.laws.normal_stays_normal.Goals as goal
 
 pub returns : goal.returns

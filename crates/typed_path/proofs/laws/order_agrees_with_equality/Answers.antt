@@ -1,4 +1,4 @@
-use Rattle.typed_path.proofs.OrderLaws.{IsSame-path_cmp}
+use Rattle.typed_path.proofs.lemmas.order.OrderLaws.{IsSame-path_cmp}
 use Rattle.typed_path.proofs.laws.order_agrees_with_equality.Goals as goal
 
 pub returns : goal.returns

@@ -1,4 +1,4 @@
-use Rattle.typed_path.proofs.UnixStrip.{strip_joins}
+use Rattle.typed_path.proofs.lemmas.promises.UnixStrip.{strip_joins}
 use Rattle.typed_path.proofs.laws.strip_joins.Goals as goal
 
 pub returns : goal.returns

@@ -1,12 +1,12 @@
 use Rattle.std.proofs.Common.{◌≡◌, ℕ, ◌+◌, ◌≤◌, ◌<◌, ◌++◌, List, [], length, take, drop, true, ap, sym, ◌∙◌, arith}
 use Rattle.std.proofs.lemmas.List.{take_rest, take-take, length-take, length-take-le}
-use Rattle.typed_path.specs.Dialect.{is_separator}
-use Rattle.typed_path.specs.Comps.{component}
-use Rattle.typed_path.specs.Views.{part_of}
+use Rattle.typed_path.specs.components.Dialect.{is_separator}
+use Rattle.typed_path.specs.components.Comps.{component}
+use Rattle.typed_path.specs.views.Views.{part_of}
 use Rattle.typed_path.specs.declared.scan.begin.Begin.{Begin}
-use Rattle.typed_path.specs.Steps.{body_from, is_clean, end_from}
-use Rattle.typed_path.proofs.LastLemmas.{IsLastPlace}
-use Rattle.typed_path.proofs.BackLemmas.{IsLast, last-at_end, last-before_end, is_clean-kept, end_from-trimmed}
+use Rattle.typed_path.specs.readings.Steps.{body_from, is_clean, end_from}
+use Rattle.typed_path.proofs.lemmas.lists.LastLemmas.{IsLastPlace}
+use Rattle.typed_path.proofs.lemmas.readings.BackLemmas.{IsLast, last-at_end, last-before_end, is_clean-kept, end_from-trimmed}
 use Rattle.typed_path.proofs.scan.step.back_step.Goals as goal
 use Rattle.typed_path.proofs.scan.step.back_step.Goals.{After-piece_of-piece}
 

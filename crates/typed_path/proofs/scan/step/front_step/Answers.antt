@@ -3,12 +3,12 @@ use Rattle.std.specs.List.{position_or_len}
 use Rattle.std.proofs.lemmas.List.{take_rest, drop-drop}
 use Rattle.typed_path.specs.declared.scan.separators.Separators.{Separators}
 use Rattle.typed_path.specs.declared.scan.begin.Begin.{Begin}
-use Rattle.typed_path.specs.Dialect.{is_separator}
-use Rattle.typed_path.specs.Part.{Part}
-use Rattle.typed_path.specs.Comps.{component, first, later_body}
-use Rattle.typed_path.specs.Steps.{body_from, is_clean}
-use Rattle.typed_path.specs.Views.{part_of}
-use Rattle.typed_path.proofs.BodyLemmas.{body_from-first}
+use Rattle.typed_path.specs.components.Dialect.{is_separator}
+use Rattle.typed_path.specs.components.Part.{Part}
+use Rattle.typed_path.specs.components.Comps.{component, first, later_body}
+use Rattle.typed_path.specs.readings.Steps.{body_from, is_clean}
+use Rattle.typed_path.specs.views.Views.{part_of}
+use Rattle.typed_path.proofs.lemmas.components.BodyLemmas.{body_from-first}
 use Rattle.typed_path.proofs.scan.step.front_step.Goals as goal
 
 pub returns-clause-first : goal.returns-clause-first

@@ -1,6 +1,6 @@
 use Rattle.std.proofs.Common.{◌+◌, ◌==◌}
 use Rattle.std.proofs.lemmas.List.{take_rest}
-use Rattle.typed_path.proofs.CutLemmas.{split-nowhere, split-first}
+use Rattle.typed_path.proofs.lemmas.lists.CutLemmas.{split-nowhere, split-first}
 use Rattle.typed_path.proofs.script.fields.cut_at.Goals as goal
 
 pub returns-in-None-clause-pieces : goal.returns-in-None-clause-pieces

@@ -1,6 +1,6 @@
 use Rattle.std.proofs.Common.{◌<◌, ap, length, ◌==◌, arith}
 use Rattle.std.proofs.lemmas.List.Splits.{length-slice_split}
-use Rattle.typed_path.specs.Lines.{tab, fields_of}
+use Rattle.typed_path.specs.lines.Lines.{tab, fields_of}
 use Rattle.typed_path.proofs.script.lines.split_fields.Goals as goal
 use Rattle.typed_path.proofs.script.lines.split_fields.Goals.{In-Some-cut_at-3}
 

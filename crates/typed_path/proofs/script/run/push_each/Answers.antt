@@ -1,6 +1,6 @@
 use Rattle.std.proofs.Common.{ap, ◌∙◌}
-use Rattle.typed_path.specs.Push.{push}
-use Rattle.typed_path.proofs.RunLemmas.{push_all-more}
+use Rattle.typed_path.specs.changes.Push.{push}
+use Rattle.typed_path.proofs.lemmas.changes.RunLemmas.{push_all-more}
 use Rattle.typed_path.proofs.script.run.push_each.Goals as goal
 
 pub others-preserved : goal.others-preserved

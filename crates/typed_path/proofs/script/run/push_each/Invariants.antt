@@ -1,5 +1,5 @@
 use Rattle.std.proofs.Common.{◌≡◌, map, take}
-use Rattle.typed_path.specs.Push.{push_all}
+use Rattle.typed_path.specs.changes.Push.{push_all}
 use Rattle.typed_path.proofs.script.run.push_each.Given as goal
 
 abbrev pub invariant-others : goal.invariant-others

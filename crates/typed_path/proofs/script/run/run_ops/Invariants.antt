@@ -1,6 +1,6 @@
 use Rattle.std.proofs.Common.{◌≡◌, ◌++◌, take}
-use Rattle.typed_path.specs.Run.{text_after, replies}
-use Rattle.typed_path.specs.RunViews.{operations_of, responses_of}
+use Rattle.typed_path.specs.changes.Run.{text_after, replies}
+use Rattle.typed_path.specs.views.RunViews.{operations_of, responses_of}
 use Rattle.typed_path.proofs.script.run.run_ops.Given as goal
 
 abbrev pub invariant-operations : goal.invariant-operations

@@ -3,10 +3,10 @@ use Rattle.std.specs.Prelude.{Option, Some, None}
 use Rattle.std.specs.ControlFlow.{continue_value}
 use Rattle.std.specs.Iterator.{MakesProgress, item_count}
 use Rattle.typed_path.specs.declared.common.path.Path.{Path}
-use Rattle.typed_path.specs.Dialect.{Dialect}
-use Rattle.typed_path.specs.AncestorViews.{ancestors_from, ancestors_left}
-use Rattle.typed_path.specs.PathViews.{path_bytes}
-use Rattle.typed_path.proofs.AncestorLemmas.{above, ancestors-step}
+use Rattle.typed_path.specs.components.Dialect.{Dialect}
+use Rattle.typed_path.specs.views.AncestorViews.{ancestors_from, ancestors_left}
+use Rattle.typed_path.specs.views.PathViews.{path_bytes}
+use Rattle.typed_path.proofs.lemmas.queries.AncestorLemmas.{above, ancestors-step}
 use Rattle.typed_path.proofs.common.ancestors.AncestorsIterator.next.Goals as goal
 
 -- the paths above, of a path or of its text

@@ -3,12 +3,12 @@ use Rattle.std.specs.Iterator.{MakesProgress, YieldsLastBy, item_count}
 use Rattle.std.proofs.lemmas.Option.{same_Some}
 use Rattle.std.proofs.lemmas.List.{map-append, length-append}
 use Rattle.typed_path.specs.declared.scan.piece.Piece.{Piece}
-use Rattle.typed_path.specs.Part.{Part, Placed, parts}
-use Rattle.typed_path.specs.Left.{but_last}
-use Rattle.typed_path.specs.Steps.{last_part}
-use Rattle.typed_path.specs.Views.{part_of}
-use Rattle.typed_path.specs.PathViews.{components_parts}
-use Rattle.typed_path.proofs.LeftLemmas.{last_part-push, last_pushed}
+use Rattle.typed_path.specs.components.Part.{Part, Placed, parts}
+use Rattle.typed_path.specs.readings.Left.{but_last}
+use Rattle.typed_path.specs.readings.Steps.{last_part}
+use Rattle.typed_path.specs.views.Views.{part_of}
+use Rattle.typed_path.specs.views.PathViews.{components_parts}
+use Rattle.typed_path.proofs.lemmas.readings.LeftLemmas.{last_part-push, last_pushed}
 use Rattle.typed_path.proofs.common.components.ComponentsDoubleEndedIterator.next_back.Goals as goal
 
 -- an item, off the end of a list

@@ -1,9 +1,9 @@
 use Rattle.std.proofs.Common.{◌≡◌, List, [], ◌∷◌, drop, Option, Some, None, refl, ap, sym, ◌∙◌, option_map}
 use Rattle.std.specs.Prelude.{MatchOption}
 use Rattle.typed_path.specs.declared.scan.piece.Piece.{Piece}
-use Rattle.typed_path.specs.Part.{Placed, parts}
-use Rattle.typed_path.specs.Steps.{first_part}
-use Rattle.typed_path.specs.Views.{part_of}
+use Rattle.typed_path.specs.components.Part.{Placed, parts}
+use Rattle.typed_path.specs.readings.Steps.{first_part}
+use Rattle.typed_path.specs.views.Views.{part_of}
 use Rattle.typed_path.proofs.common.components.ComponentsIterator.next.Goals as goal
 
 some_injective : {A : Type 0} {x y : A} → Some x ≡ Some y → x ≡ y

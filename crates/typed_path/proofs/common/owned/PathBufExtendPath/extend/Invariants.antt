@@ -1,6 +1,6 @@
 use Rattle.std.proofs.Common.{◌≡◌, map}
-use Rattle.typed_path.specs.Push.{push_all}
-use Rattle.typed_path.specs.PathViews.{path_bytes}
+use Rattle.typed_path.specs.changes.Push.{push_all}
+use Rattle.typed_path.specs.views.PathViews.{path_bytes}
 use Rattle.typed_path.proofs.common.owned.PathBufExtendPath.extend.Given as goal
 
 abbrev pub invariant-loop-path : goal.invariant-loop-path

@@ -1,10 +1,10 @@
 use Rattle.std.proofs.Common.{◌≡◌, List, [], ◌∷◌, Bool, true, false, not, refl, sym, ap, ◌∙◌, rules, option_map}
 use Rattle.std.specs.Prelude.{Some, None}
-use Rattle.typed_path.specs.Part.{Placed}
-use Rattle.typed_path.specs.Steps.{first_part}
-use Rattle.typed_path.specs.PathViews.{path_bytes}
-use Rattle.typed_path.specs.Views.{part_of}
-use Rattle.typed_path.proofs.StripLemmas.{Strips-start, Strips-end, Strips-short, Strips-differ, Strips-step}
+use Rattle.typed_path.specs.components.Part.{Placed}
+use Rattle.typed_path.specs.readings.Steps.{first_part}
+use Rattle.typed_path.specs.views.PathViews.{path_bytes}
+use Rattle.typed_path.specs.views.Views.{part_of}
+use Rattle.typed_path.proofs.lemmas.queries.StripLemmas.{Strips-start, Strips-end, Strips-short, Strips-differ, Strips-step}
 use Rattle.typed_path.proofs.common.path.Path.behind.Goals as goal
 
 nothing_left : (cs : List Placed) → None ≡ first_part cs → cs ≡ []

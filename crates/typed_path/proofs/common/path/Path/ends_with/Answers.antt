@@ -1,8 +1,8 @@
 use Rattle.std.proofs.Common.{◌≡◌, Bool, true, false, not, ◌&&◌, refl, sym, ap, ◌∙◌}
-use Rattle.typed_path.specs.Left.{but_last}
-use Rattle.typed_path.specs.PathViews.{components_items}
-use Rattle.typed_path.specs.Views.{part_of}
-use Rattle.typed_path.proofs.EndLemmas.{ends, and_false, and_true, ends-nothing, ends-short, ends-step}
+use Rattle.typed_path.specs.readings.Left.{but_last}
+use Rattle.typed_path.specs.views.PathViews.{components_items}
+use Rattle.typed_path.specs.views.Views.{part_of}
+use Rattle.typed_path.proofs.lemmas.queries.EndLemmas.{ends, and_false, and_true, ends-nothing, ends-short, ends-step}
 use Rattle.typed_path.proofs.common.path.Path.ends_with.Goals as goal
 
 not_true : (b : Bool) → not b ≡ true → b ≡ false

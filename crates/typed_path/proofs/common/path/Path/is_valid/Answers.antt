@@ -2,12 +2,12 @@ use Rattle.std.proofs.Common.{◌≡◌, List, [], ◌∷◌, ◌&&◌, rules, t
 use Rattle.std.specs.List.{list_all}
 use Rattle.std.proofs.lemmas.Iterator.Consumers.{YieldsList-from_first}
 use Rattle.std.proofs.lemmas.Iterator.Search.{all_from_yields_List}
-use Rattle.typed_path.specs.Dialect.{Dialect}
-use Rattle.typed_path.specs.Part.{Part, parts, kinds}
-use Rattle.typed_path.specs.Comps.{parts_of}
-use Rattle.typed_path.specs.PathViews.{path_bytes, components_parts}
-use Rattle.typed_path.specs.Queries.{is_allowed, is_valid}
-use Rattle.typed_path.specs.Views.{part_of}
+use Rattle.typed_path.specs.components.Dialect.{Dialect}
+use Rattle.typed_path.specs.components.Part.{Part, parts, kinds}
+use Rattle.typed_path.specs.components.Comps.{parts_of}
+use Rattle.typed_path.specs.views.PathViews.{path_bytes, components_parts}
+use Rattle.typed_path.specs.queries.Queries.{is_allowed, is_valid}
+use Rattle.typed_path.specs.views.Views.{part_of}
 use Rattle.typed_path.proofs.common.path.Path.is_valid.Goals as goal
 
 -- a test of each part's kind

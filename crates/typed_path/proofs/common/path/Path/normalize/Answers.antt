@@ -5,17 +5,17 @@ use Rattle.typed_path.specs.declared.scan.piece.PieceKind.TheVariants.{Prefix, C
 use Rattle.typed_path.specs.declared.windows.prefix.WindowsPrefix.{WindowsPrefix}
 use Rattle.std.specs.Prelude.{Option, Some, None, option_to_list, IsSome}
 use Rattle.std.proofs.lemmas.List.{map-append, drop-map, drop_more, drop_all, length-map}
-use Rattle.typed_path.specs.Push.{push, push_all}
-use Rattle.typed_path.specs.PathViews.{path_bytes, components_parts}
-use Rattle.typed_path.specs.Comps.{parts_of}
-use Rattle.typed_path.specs.Places.{normal_text}
-use Rattle.typed_path.specs.Dialect.{Dialect}
-use Rattle.typed_path.specs.Part.{Part, parts, parent}
-use Rattle.typed_path.specs.Views.{part_of, kind_view}
-use Rattle.typed_path.proofs.SettleLemmas.{is_head, Comes, comes-current, comes-parent, comes-parent_alone, comes-head, comes-end}
-use Rattle.typed_path.specs.Promises.{HasNormalForm}
-use Rattle.typed_path.proofs.UnixNormal.{normal_form}
-use Rattle.typed_path.proofs.ShapeLemmas.{heads_first-parts_of}
+use Rattle.typed_path.specs.changes.Push.{push, push_all}
+use Rattle.typed_path.specs.views.PathViews.{path_bytes, components_parts}
+use Rattle.typed_path.specs.components.Comps.{parts_of}
+use Rattle.typed_path.specs.places.Places.{normal_text}
+use Rattle.typed_path.specs.components.Dialect.{Dialect}
+use Rattle.typed_path.specs.components.Part.{Part, parts, parent}
+use Rattle.typed_path.specs.views.Views.{part_of, kind_view}
+use Rattle.typed_path.proofs.lemmas.places.SettleLemmas.{is_head, Comes, comes-current, comes-parent, comes-parent_alone, comes-head, comes-end}
+use Rattle.typed_path.specs.promises.Promises.{HasNormalForm}
+use Rattle.typed_path.proofs.lemmas.promises.UnixNormal.{normal_form}
+use Rattle.typed_path.proofs.lemmas.components.ShapeLemmas.{heads_first-parts_of}
 use Rattle.typed_path.proofs.common.path.Path.normalize.Goals as goal
 
 -- a piece of a known kind, at the front of what the list comes down to

@@ -1,8 +1,8 @@
 use Rattle.std.proofs.Common.{◌≡◌, map, drop}
-use Rattle.typed_path.specs.Places.{normal_text}
-use Rattle.typed_path.specs.Push.{push_all}
-use Rattle.typed_path.specs.PathViews.{path_bytes, components_parts}
-use Rattle.typed_path.proofs.SettleLemmas.{Comes}
+use Rattle.typed_path.specs.places.Places.{normal_text}
+use Rattle.typed_path.specs.changes.Push.{push_all}
+use Rattle.typed_path.specs.views.PathViews.{path_bytes, components_parts}
+use Rattle.typed_path.proofs.lemmas.places.SettleLemmas.{Comes}
 use Rattle.typed_path.proofs.common.path.Path.normalize.Given as goal
 
 abbrev pub invariant-pieces : goal.invariant-pieces

@@ -1,10 +1,10 @@
 use Rattle.std.proofs.Common.{sym, ap, ◌∙◌}
-use Rattle.typed_path.specs.Comps.{comps}
-use Rattle.typed_path.specs.Left.{slice_after_back}
-use Rattle.typed_path.specs.Steps.{last_part}
-use Rattle.typed_path.specs.Views.{part_of}
-use Rattle.typed_path.specs.PathViews.{path_bytes, components_slice}
-use Rattle.typed_path.proofs.NameSpans.{without_file_name-step}
+use Rattle.typed_path.specs.components.Comps.{comps}
+use Rattle.typed_path.specs.readings.Left.{slice_after_back}
+use Rattle.typed_path.specs.readings.Steps.{last_part}
+use Rattle.typed_path.specs.views.Views.{part_of}
+use Rattle.typed_path.specs.views.PathViews.{path_bytes, components_slice}
+use Rattle.typed_path.proofs.lemmas.changes.NameSpans.{without_file_name-step}
 use Rattle.typed_path.proofs.common.path.Path.without_file_name.Goals as goal
 
 pub returns-in-Some : goal.returns-in-Some

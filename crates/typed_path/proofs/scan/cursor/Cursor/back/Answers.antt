@@ -1,10 +1,10 @@
 use Rattle.std.proofs.Common.{◌≡◌, ℕ, ◌+◌, true, slice_range, take, ap, sym, ◌∙◌, ◌++◌}
-use Rattle.typed_path.specs.Comps.{component}
-use Rattle.typed_path.specs.Left.{but_last, slice_after_back}
-use Rattle.typed_path.specs.Steps.{body_from, is_clean, last_part}
-use Rattle.typed_path.specs.CursorViews.{items_left}
-use Rattle.typed_path.specs.Views.{part_of}
-use Rattle.typed_path.proofs.LeftLemmas.{last_part-push, but_last-push, starts-body_from, slice_after_back-push, slice_range-earlier}
+use Rattle.typed_path.specs.components.Comps.{component}
+use Rattle.typed_path.specs.readings.Left.{but_last, slice_after_back}
+use Rattle.typed_path.specs.readings.Steps.{body_from, is_clean, last_part}
+use Rattle.typed_path.specs.views.CursorViews.{items_left}
+use Rattle.typed_path.specs.views.Views.{part_of}
+use Rattle.typed_path.proofs.lemmas.readings.LeftLemmas.{last_part-push, but_last-push, starts-body_from, slice_after_back-push, slice_range-earlier}
 use Rattle.typed_path.proofs.scan.cursor.Cursor.back.Goals as goal
 use Rattle.typed_path.proofs.scan.cursor.Cursor.back.Goals.{After-back_step-kept}
 

@@ -1,16 +1,16 @@
 use Rattle.std.proofs.Common.{◌≡◌, ◌-◌, [], ◌∷◌, drop, length, refl, sym, ap, ◌∙◌, arith}
 use Rattle.std.specs.Prelude.{Some, Result, Ok, Err}
 use Rattle.std.proofs.lemmas.List.{length-take-le, length-drop}
-use Rattle.typed_path.specs.Part.{kinds, parts}
-use Rattle.typed_path.specs.Dialect.{dialect_of}
-use Rattle.typed_path.specs.CursorViews.{slice_left, items_left}
-use Rattle.typed_path.specs.Views.{part_of}
-use Rattle.typed_path.specs.Push.{fault_behind}
-use Rattle.typed_path.specs.Checked.{error_of}
+use Rattle.typed_path.specs.components.Part.{kinds, parts}
+use Rattle.typed_path.specs.components.Dialect.{dialect_of}
+use Rattle.typed_path.specs.views.CursorViews.{slice_left, items_left}
+use Rattle.typed_path.specs.views.Views.{part_of}
+use Rattle.typed_path.specs.changes.Push.{fault_behind}
+use Rattle.typed_path.specs.changes.Checked.{error_of}
 use Rattle.std.specs.Result.{IsErrAnd}
-use Rattle.typed_path.specs.Depths.{fault_at}
-use Rattle.typed_path.proofs.CountLemmas.{body_from-count}
-use Rattle.typed_path.proofs.FaultLemmas.{fault_behind-at, taken-first}
+use Rattle.typed_path.specs.changes.Depths.{fault_at}
+use Rattle.typed_path.proofs.lemmas.components.CountLemmas.{body_from-count}
+use Rattle.typed_path.proofs.lemmas.changes.FaultLemmas.{fault_behind-at, taken-first}
 use Rattle.typed_path.proofs.scan.cursor.Cursor.check.Goals as goal
 use Rattle.typed_path.proofs.scan.cursor.Cursor.check.Goals.{After-depth_behind}
 

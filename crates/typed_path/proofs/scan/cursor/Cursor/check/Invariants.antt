@@ -1,9 +1,9 @@
 use Rattle.std.proofs.Common.{◌≡◌, ◌+◌, ◌≤◌, [], length}
-use Rattle.typed_path.specs.Part.{kinds, parts}
-use Rattle.typed_path.specs.CursorViews.{items_left}
-use Rattle.typed_path.specs.Dialect.{dialect_of}
-use Rattle.typed_path.specs.Push.{fault_behind}
-use Rattle.typed_path.specs.Depths.{fault_at}
+use Rattle.typed_path.specs.components.Part.{kinds, parts}
+use Rattle.typed_path.specs.views.CursorViews.{items_left}
+use Rattle.typed_path.specs.components.Dialect.{dialect_of}
+use Rattle.typed_path.specs.changes.Push.{fault_behind}
+use Rattle.typed_path.specs.changes.Depths.{fault_at}
 use Rattle.typed_path.proofs.scan.cursor.Cursor.check.Given as goal
 
 abbrev pub invariant-pieces : goal.invariant-pieces

@@ -1,11 +1,11 @@
 use Rattle.std.proofs.Common.{◌≡◌, ℕ, ◌+◌, List, take, sym, ap, ◌∙◌}
 use Rattle.std.specs.Prelude.{Some, option_map, unwrap_or}
 use Rattle.std.proofs.lemmas.List.{length-take-le}
-use Rattle.typed_path.specs.Part.{Placed, end_of}
-use Rattle.typed_path.specs.Left.{last_of}
-use Rattle.typed_path.specs.Steps.{body_from, is_clean, end_from}
-use Rattle.typed_path.specs.CursorViews.{items_left}
-use Rattle.typed_path.proofs.BackLemmas.{end_from-trimmed}
+use Rattle.typed_path.specs.components.Part.{Placed, end_of}
+use Rattle.typed_path.specs.readings.Left.{last_of}
+use Rattle.typed_path.specs.readings.Steps.{body_from, is_clean, end_from}
+use Rattle.typed_path.specs.views.CursorViews.{items_left}
+use Rattle.typed_path.proofs.lemmas.readings.BackLemmas.{end_from-trimmed}
 use Rattle.typed_path.proofs.scan.cursor.Cursor.last_end.Goals as goal
 
 -- where a last component is, it ends the list

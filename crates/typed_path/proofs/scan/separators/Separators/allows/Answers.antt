@@ -1,8 +1,8 @@
 use Rattle.std.proofs.Common.{ap, not, rules, tests}
 use Rattle.std.proofs.lemmas.Iterator.{YieldsList-from_slice}
 use Rattle.std.proofs.lemmas.Iterator.Search.{any_from_yields_List}
-use Rattle.typed_path.specs.Dialect.{dialect_of}
-use Rattle.typed_path.specs.Queries.{is_disallowed}
+use Rattle.typed_path.specs.components.Dialect.{dialect_of}
+use Rattle.typed_path.specs.queries.Queries.{is_disallowed}
 use Rattle.typed_path.proofs.scan.separators.Separators.allows.Goals as goal
 
 pub returns : goal.returns

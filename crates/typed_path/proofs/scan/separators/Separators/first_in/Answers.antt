@@ -1,6 +1,6 @@
 use Rattle.std.proofs.Common.{arith, length, sym}
 use Rattle.std.proofs.lemmas.List.Sums.{position_or_len_is}
-use Rattle.typed_path.specs.Dialect.{is_separator}
+use Rattle.typed_path.specs.components.Dialect.{is_separator}
 use Rattle.typed_path.proofs.scan.separators.Separators.first_in.Goals as goal
 
 pub returns-then-contains-clause-first : goal.returns-then-contains-clause-first

@@ -1,5 +1,5 @@
 use Rattle.std.proofs.Common.{◌≡◌, ℕ, ◌<◌, get_or, false}
-use Rattle.typed_path.specs.Dialect.{is_separator}
+use Rattle.typed_path.specs.components.Dialect.{is_separator}
 use Rattle.typed_path.proofs.scan.separators.Separators.first_in.Given as goal
 
 abbrev pub invariant-loop-at : goal.invariant-loop-at

@@ -1,6 +1,6 @@
 use Rattle.std.proofs.Common.{◌≡◌, ◌≤◌, length, false}
 use Rattle.std.specs.List.{AllWithin}
-use Rattle.typed_path.specs.Dialect.{is_separator}
+use Rattle.typed_path.specs.components.Dialect.{is_separator}
 use Rattle.typed_path.proofs.scan.separators.Separators.last_in.Given as goal
 
 abbrev pub invariant-loop-start : goal.invariant-loop-start

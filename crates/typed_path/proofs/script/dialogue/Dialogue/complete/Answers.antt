@@ -1,6 +1,6 @@
 use Rattle.std.proofs.Common.{sym, subst, ◌≡◌, ◌∷◌, []}
-use Rattle.typed_path.specs.Lines.{pieces_of}
-use Rattle.typed_path.proofs.LineLemmas.{joined-open}
+use Rattle.typed_path.specs.lines.Lines.{pieces_of}
+use Rattle.typed_path.proofs.lemmas.lines.LineLemmas.{joined-open}
 use Rattle.typed_path.proofs.script.dialogue.Dialogue.complete.Goals as goal
 
 pub invariant_of-self-in-Break-branch-2 : goal.invariant_of-self-in-Break-branch-2

@@ -1,8 +1,8 @@
 use Rattle.std.proofs.Common.{subst, sym, ◌≡◌}
-use Rattle.typed_path.specs.Part.{parts}
-use Rattle.typed_path.specs.PathViews.{path_bytes}
-use Rattle.typed_path.specs.UnixParts.{as_written}
-use Rattle.typed_path.proofs.WrittenLemmas.{written-parts_of}
+use Rattle.typed_path.specs.components.Part.{parts}
+use Rattle.typed_path.specs.views.PathViews.{path_bytes}
+use Rattle.typed_path.specs.components.UnixParts.{as_written}
+use Rattle.typed_path.proofs.lemmas.components.WrittenLemmas.{written-parts_of}
 use Rattle.typed_path.proofs.unix.components.UnixComponents.new.Goals as goal
 
 pub invariant_of-result : goal.invariant_of-result

@@ -1,8 +1,8 @@
 use Rattle.std.proofs.Common.{subst, sym, ◌≡◌}
-use Rattle.typed_path.specs.Part.{parts}
-use Rattle.typed_path.specs.PathViews.{components_items}
-use Rattle.typed_path.specs.UnixParts.{as_written}
-use Rattle.typed_path.proofs.WrittenLemmas.{written-drop}
+use Rattle.typed_path.specs.components.Part.{parts}
+use Rattle.typed_path.specs.views.PathViews.{components_items}
+use Rattle.typed_path.specs.components.UnixParts.{as_written}
+use Rattle.typed_path.proofs.lemmas.components.WrittenLemmas.{written-drop}
 use Rattle.typed_path.proofs.unix.components.UnixComponents.next.Goals as goal
 
 pub invariant_of-self : goal.invariant_of-self

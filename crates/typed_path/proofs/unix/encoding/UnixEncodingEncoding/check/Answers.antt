@@ -1,13 +1,13 @@
 use Rattle.std.proofs.Common.{◌≡◌, ℕ, List, [], OnOk, sym, ap, ◌∙◌}
 use Rattle.std.specs.Prelude.{Result, Ok, Err}
 use Rattle.typed_path.specs.declared.errors.CheckedPathError.{CheckedPathError}
-use Rattle.typed_path.specs.Checked.{error_of}
-use Rattle.typed_path.specs.CursorViews.{items_left}
-use Rattle.typed_path.specs.Dialect.{unix, dialect_of}
-use Rattle.typed_path.specs.Part.{kinds, parts}
-use Rattle.typed_path.specs.Push.{push, fault, fault_behind}
-use Rattle.typed_path.specs.Promises.{LiesWithin}
-use Rattle.typed_path.proofs.UnixContained.{contained}
+use Rattle.typed_path.specs.changes.Checked.{error_of}
+use Rattle.typed_path.specs.views.CursorViews.{items_left}
+use Rattle.typed_path.specs.components.Dialect.{unix, dialect_of}
+use Rattle.typed_path.specs.components.Part.{kinds, parts}
+use Rattle.typed_path.specs.changes.Push.{push, fault, fault_behind}
+use Rattle.typed_path.specs.promises.Promises.{LiesWithin}
+use Rattle.typed_path.proofs.lemmas.promises.UnixContained.{contained}
 use Rattle.typed_path.proofs.unix.encoding.UnixEncodingEncoding.check.Goals as goal
 
 accepted : {A : Type 0} (r : Result A CheckedPathError) (path : List ℕ) → error_of r ≡ fault unix path → OnOk r ((base : List ℕ) → LiesWithin unix base path (push unix base path))

@@ -1,12 +1,12 @@
 use Rattle.std.proofs.Common.{◌≡◌, ◌<◌, List, [], ◌∷◌, drop, length, inr, refl, sym, ap, subst, ◌∙◌, arith}
 use Rattle.std.specs.Prelude.{Some, None}
 use Rattle.std.proofs.lemmas.Option.{same_Some}
-use Rattle.typed_path.specs.Part.{Part, Placed, parts}
-use Rattle.typed_path.specs.Steps.{first_part}
-use Rattle.typed_path.specs.Dialect.{unix}
-use Rattle.typed_path.specs.Comps.{comps}
-use Rattle.typed_path.specs.UnixViews.{unix_part}
-use Rattle.typed_path.specs.UnixIterViews.{unix_items}
+use Rattle.typed_path.specs.components.Part.{Part, Placed, parts}
+use Rattle.typed_path.specs.readings.Steps.{first_part}
+use Rattle.typed_path.specs.components.Dialect.{unix}
+use Rattle.typed_path.specs.components.Comps.{comps}
+use Rattle.typed_path.specs.views.UnixViews.{unix_part}
+use Rattle.typed_path.specs.views.UnixIterViews.{unix_items}
 use Rattle.typed_path.proofs.unix.readings.UnixComponentTryFromRefSliceU8.try_from.Goals as goal
 
 -- one component and no more

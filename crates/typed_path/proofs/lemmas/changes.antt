@@ -1,0 +1,5 @@
+-- What changes a path.
+pub mod JoinLemmas
+pub mod FaultLemmas
+pub mod NameSpans
+pub mod RunLemmas

@@ -1,0 +1,75 @@
+-- Unix parts are told by their kinds.
+use Rattle.std.proofs.Common.{◌≡◌, ℕ, ◌-◌, List, [], ◌∷◌, ◌++◌, Bool, true, false, cond, eqb, length, take, drop, refl, sym, ap, subst, ◌∙◌}
+use Rattle.std.specs.Prelude.{Some}
+use Rattle.std.specs.List.{flat_map}
+use Rattle.std.proofs.lemmas.List.{take-map, map-append}
+use Rattle.std.proofs.lemmas.Option.{same_Some}
+use Rattle.typed_path.specs.declared.scan.piece.Piece.{Piece}
+use Rattle.typed_path.specs.declared.scan.separators.Separators.TheVariants.{Slash}
+use Rattle.typed_path.specs.components.Dialect.{unix, root_text}
+use Rattle.typed_path.specs.components.Part.{Part, Placed, parts, current_part, parent_part, name_part, root_part}
+use Rattle.typed_path.specs.components.Comps.{Segment, segments, is_dot, is_dot_dot, component, later, body_of, parts_of}
+use Rattle.typed_path.specs.readings.Left.{but_last}
+use Rattle.typed_path.specs.readings.Steps.{last_part}
+use Rattle.typed_path.specs.views.Views.{part_of}
+use Rattle.typed_path.specs.components.UnixParts.{written_unix, as_written}
+use Rattle.typed_path.proofs.lemmas.readings.LeftLemmas.{last_pushed, last_part-push}
+
+written-cons : (p : Part) (ps : List Part) → p ≡ written_unix p.kind → ps ≡ as_written ps → p ∷ ps ≡ as_written (p ∷ ps)
+written-cons p ps e h = ap (λ q. q ∷ ps) e ∙ ap (λ qs. written_unix p.kind ∷ qs) h
+
+abbrev Written : List Placed → Type 0
+Written cs = parts cs ≡ as_written (parts cs)
+
+written-later : (gs : List Segment) → Written (flat_map (later Slash) gs)
+written-later [] = refl
+written-later (g ∷ gs) = by_tests (eqb (length g.text) 0) (is_dot g.text) (is_dot_dot g.text) (written-later gs)
+  where
+    by_tests : (empty dotted twice : Bool) → Written (flat_map (later Slash) gs)
+        → Written (cond empty [] (cond dotted [] (cond twice (component parent_part g.start) (component (name_part g.text) g.start))) ++ flat_map (later Slash) gs)
+    by_tests true dotted twice h = h
+    by_tests false true twice h = h
+    by_tests false false true h = written-cons parent_part (parts (flat_map (later Slash) gs)) refl h
+    by_tests false false false h = written-cons (name_part g.text) (parts (flat_map (later Slash) gs)) refl h
+
+written-body_of : (gs : List Segment) → Written (body_of Slash gs)
+written-body_of [] = refl
+written-body_of (g ∷ gs) = by_tests (eqb (length g.text) 0) (is_dot g.text) (is_dot_dot g.text)
+  where
+    by_tests : (empty dotted twice : Bool) → Written (cond empty (component (root_part (root_text Slash)) g.start)
+        (cond dotted (component current_part g.start) (cond twice (component parent_part g.start) (component (name_part g.text) g.start))) ++ flat_map (later Slash) gs)
+    by_tests true dotted twice = written-cons (root_part (root_text Slash)) (parts (flat_map (later Slash) gs)) refl (written-later gs)
+    by_tests false true twice = written-cons current_part (parts (flat_map (later Slash) gs)) refl (written-later gs)
+    by_tests false false true = written-cons parent_part (parts (flat_map (later Slash) gs)) refl (written-later gs)
+    by_tests false false false = written-cons (name_part g.text) (parts (flat_map (later Slash) gs)) refl (written-later gs)
+
+-- what Unix reads is told by the kinds
+pub written-parts_of : (text : List ℕ) → parts_of unix text ≡ as_written (parts_of unix text)
+written-parts_of [] = refl
+written-parts_of (b ∷ bs) = written-body_of (segments Slash 0 (b ∷ bs))
+
+-- and stays so as components are taken
+pub written-drop : (cs : List Placed) → parts cs ≡ as_written (parts cs) → parts (drop 1 cs) ≡ as_written (parts (drop 1 cs))
+written-drop [] h = refl
+written-drop (c ∷ cs) h = cc
+
+pub written-but_last : (cs : List Placed) → parts cs ≡ as_written (parts cs) → parts (but_last cs) ≡ as_written (parts (but_last cs))
+written-but_last cs h =
+    sym (take-map (λ c. c.part) n cs) ∙ ap (take n) h ∙ take-map (λ p. written_unix p.kind) n (parts cs) ∙ ap as_written (take-map (λ c. c.part) n cs)
+  where
+    n : ℕ
+    n = length cs - 1
+
+written-end : (ps : List Part) (q : Part) → ps ++ q ∷ [] ≡ as_written (ps ++ q ∷ []) → q ≡ written_unix q.kind
+written-end [] q h = cc
+written-end (p ∷ ps) q h = written-end ps q cc
+
+-- the component taken from the back is written so too
+pub written-last : (p : Piece) (cs : List Placed) → parts cs ≡ as_written (parts cs) → Some (part_of p) ≡ last_part cs → part_of p ≡ written_unix (part_of p).kind
+written-last p [] h e = cc
+written-last p (c ∷ cs) h e =
+    let d = last_pushed c cs in
+    let whole = subst (λ ds. parts ds ≡ as_written (parts ds)) d.1 h in
+    let split = map-append (λ x. x.part) (but_last (c ∷ cs)) (d.0 ∷ []) in
+    let end = written-end (parts (but_last (c ∷ cs))) d.0.part (subst (λ ps. ps ≡ as_written ps) split whole) in
+    subst (λ q. q ≡ written_unix q.kind) (sym (same_Some _ _ (e ∙ ap last_part d.1 ∙ last_part-push (but_last (c ∷ cs)) d.0))) end

@@ -1,0 +1,4 @@
+-- Lines of commands, and streams.
+pub mod LineLemmas
+pub mod FieldLemmas
+pub mod StreamLemmas

@@ -1,0 +1,69 @@
+-- Lists, cut at the last element that passes.
+use Rattle.std.proofs.Common.{◌≡◌, ℕ, ◌+◌, ◌-◌, ◌<◌, ◌≤◌, Bool, true, not, List, [], ◌∷◌, ◌++◌, length, take, drop, get_or, reverse, sym, ap, ◌∙◌, arith}
+use Rattle.std.specs.List.{IsAfterLastMatch, after_last, suffix_len}
+use Rattle.std.proofs.lemmas.Bool.{not-true, not-false, not_from_true, not_from_false}
+use Rattle.std.proofs.lemmas.List.{length-reverse, length-drop, length-take-le, get_or-reverse, get_or-drop, drop_more, take_more, take-append-drop}
+use Rattle.std.proofs.lemmas.List.Sums.{prefix_len_passes, prefix_len_stops, suffix_len_is, suffix_len-le-length}
+use Rattle.typed_path.proofs.lemmas.lists.SplitLemmas.{IsUnseparated}
+
+module _ {X : Type 0} (p : X → Bool) where
+  -- the place behind the last element that passes, or 0
+  pub record IsLastPlace (xs : List X) (start : ℕ) : Type 0 where
+    pub within : start ≤ length xs
+    pub last : IsAfterLastMatch p xs start
+
+  -- each list has such a place
+  pub last_place : (xs : List X) → IsLastPlace xs (length xs - suffix_len (λ x. not (p x)) xs)
+  last_place xs =
+      let q : X → Bool = λ x. not (p x) in
+      let n = suffix_len q xs in
+      let fits : n ≤ length xs = suffix_len-le-length q xs in
+      record {
+        within = omega arith;
+        last = (
+          λ k d low high.
+              let back : length xs - 1 - (length xs - 1 - k) ≡ k = omega arith in
+              not-true _ (rw back at (rw (get_or-reverse xs (length xs - 1 - k) d (omega arith)) at (prefix_len_passes q (reverse xs) (length xs - 1 - k) d (omega arith)))),
+          λ some d.
+              let before : length xs - 1 - n ≡ length xs - n - 1 = omega arith in
+              not-false _ (rw before at (rw (get_or-reverse xs n d (omega arith)) at (prefix_len_stops q (reverse xs) d (omega (arith, length-reverse xs))))),
+        );
+      }
+
+  -- what stands behind it, in the word of std
+  pub after_last-drop : (xs : List X) (start : ℕ) (d : X) → IsLastPlace xs start → after_last p xs ≡ drop start xs
+  after_last-drop xs start d h =
+      let fits = h.within in
+      let size = suffix_len_is (λ x. not (p x)) xs start d h.within (λ k low high. not_from_false _ (h.last.0 k d low high)) (λ some. not_from_true _ (h.last.1 some d)) in
+      ap (λ n. drop n xs) (omega arith)
+
+  -- no element behind it passes
+  pub behind_last-unseparated : (xs : List X) (start : ℕ) → IsLastPlace xs start → IsUnseparated p (drop start xs)
+  behind_last-unseparated xs start h k d low =
+      let fits = h.within in
+      let size = length-drop start xs in
+      rw (get_or-drop start xs k d) (h.last.0 (start + k) d (omega arith) (omega arith))
+
+  -- a list, as what stands before the last element that passes, that element, and what stands behind it
+  pub record IsCut (xs : List X) (start : ℕ) : Type 0 where
+    pub before : List X
+    pub mark : X
+    pub whole : xs ≡ before ++ mark ∷ drop start xs
+    pub front : take start xs ≡ before ++ mark ∷ []
+    pub passes : p mark ≡ true
+    pub counted : length before + 1 ≡ start
+
+  -- so each list is cut where an element passes
+  pub cut_last : (xs : List X) (start : ℕ) (d : X) → IsLastPlace xs start → 0 < start → IsCut xs start
+  cut_last xs start d h some =
+      let fits = h.within in
+      let next : start - 1 + 1 ≡ start = omega arith in
+      let more : drop (start - 1) xs ≡ get_or xs (start - 1) d ∷ drop start xs = rw next at (drop_more xs (start - 1) d (omega arith)) in
+      record {
+        before = take (start - 1) xs;
+        mark = get_or xs (start - 1) d;
+        whole = sym (take-append-drop (start - 1) xs) ∙ ap (λ ys. take (start - 1) xs ++ ys) more;
+        front = rw next at (take_more xs (start - 1) d (omega arith));
+        passes = h.last.1 some d;
+        counted = omega (arith, length-take-le (start - 1) xs (omega arith));
+      }

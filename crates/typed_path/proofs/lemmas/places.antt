@@ -1,0 +1,3 @@
+-- Where a path leads.
+pub mod ResolveLemmas
+pub mod SettleLemmas

@@ -1,0 +1,6 @@
+-- What is promised of paths.
+pub mod UnixNormal
+pub mod ContainLemmas
+pub mod UnixContained
+pub mod UnixJoin
+pub mod UnixStrip

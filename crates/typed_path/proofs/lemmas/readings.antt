@@ -1,0 +1,7 @@
+-- Readings from both ends.
+pub mod BackLemmas
+pub mod TrimLemmas
+pub mod LeftLemmas
+pub mod ReadingLemmas
+pub mod SliceLeft
+pub mod SliceLemmas

@@ -1,0 +1,5 @@
+-- What changes a path.
+pub mod Push
+pub mod Depths
+pub mod Checked
+pub mod Run

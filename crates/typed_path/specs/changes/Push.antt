@@ -1,0 +1,105 @@
+-- A path with another pushed onto it.
+use Rattle.std.specs.Prelude.{ℕ, ◌-◌, List, [], ◌∷◌, ◌++◌, Bool, true, false, ◌||◌, ◌==◌, nat_le, length, take, slice_index, if◌then◌else◌, Option, Some, None}
+use Rattle.std.specs.List.{count_by, fold}
+use Rattle.std.specs.Option.{option_or}
+use Rattle.typed_path.specs.declared.errors.CheckedPathError.{CheckedPathError}
+use Rattle.typed_path.specs.declared.errors.CheckedPathError.TheVariants.{InvalidFilename, PathTraversalAttack, UnexpectedPrefix, UnexpectedRoot}
+use Rattle.typed_path.specs.components.Dialect.{Dialect, unix, windows, slash, backslash}
+use Rattle.typed_path.specs.components.Part.{disk, Kind, prefix, root, current, parent, normal, Part, kinds, is_name, is_parent}
+use Rattle.typed_path.specs.components.Prefix.{Found, prefix_of}
+use Rattle.typed_path.specs.components.Comps.{parts_of}
+use Rattle.typed_path.specs.queries.Queries.{begins_with_root, begins_with_prefix, has_prefix, has_any_verbatim_prefix, is_allowed_name}
+
+-- a text, with the byte at its end unless it is empty or ends with that byte
+abbrev pub ended_with : ℕ → List ℕ → List ℕ
+ended_with b text = if (length text == 0 || slice_index text (length text - 1) == b) then text else text ++ b ∷ []
+
+-- Unix: an empty path changes nothing, an absolute one replaces
+abbrev pub push_unix : List ℕ → List ℕ → List ℕ
+push_unix base [] = base
+push_unix base (b ∷ path) = if b == slash then b ∷ path else ended_with slash base ++ b ∷ path
+
+-- the prefix and nothing else
+abbrev pub prefix_alone : List Part → List Part
+prefix_alone [] = []
+prefix_alone (p ∷ ps) = if begins_with_prefix (λ q. true) (p.kind ∷ []) then p ∷ [] else []
+
+-- a list without a name at its end
+abbrev pub without_last_name : List Part → List Part
+without_last_name [] = []
+without_last_name (p ∷ []) = if is_name p.kind then [] else p ∷ []
+without_last_name (p ∷ q ∷ ps) = p ∷ without_last_name (q ∷ ps)
+
+abbrev pub merge_by_kind : List Part → Part → Kind → List Part
+merge_by_kind ps p root = prefix_alone ps ++ p ∷ []
+merge_by_kind ps p current = ps
+merge_by_kind ps p parent = without_last_name ps
+merge_by_kind ps p k = ps ++ p ∷ []
+
+-- what a verbatim list becomes as it takes another: a root cuts it to its prefix, `.` is passed over, `..` takes a name away
+abbrev pub merged : List Part → List Part → List Part
+merged ps qs = fold (λ rs q. merge_by_kind rs q q.kind) ps qs
+
+-- between two neighbours stands `\`, unless one of them is the root
+abbrev pub joint : Kind → Kind → List ℕ
+joint root l = []
+joint k root = []
+joint k l = backslash ∷ []
+
+-- a list written anew
+abbrev pub spelled : List Part → List ℕ
+spelled [] = []
+spelled (p ∷ []) = p.text
+spelled (p ∷ q ∷ ps) = p.text ++ joint p.kind q.kind ++ spelled (q ∷ ps)
+
+abbrev pub raw_length : Option Found → ℕ
+raw_length None = 0
+raw_length (Some f) = f.length
+
+-- the raw text of the prefix
+abbrev pub raw_prefix : List ℕ → List ℕ
+raw_prefix text = take (raw_length (prefix_of windows text)) text
+
+abbrev pub is_disk_alone : List Kind → Bool
+is_disk_alone (prefix (disk letter) ∷ []) = true
+is_disk_alone ks = false
+
+-- a base, with `\` at its end unless it is empty, ends with it or is a drive alone
+abbrev pub ended_windows : List ℕ → List ℕ
+ended_windows base = if is_disk_alone (kinds (parts_of windows base)) then base else ended_with backslash base
+
+abbrev pub push_behind : List ℕ → List ℕ → List ℕ
+push_behind base path =
+    if begins_with_root (kinds (parts_of windows path)) then raw_prefix base ++ path else ended_windows base ++ path
+
+-- Windows: the first case that holds
+abbrev pub push_windows : List ℕ → List ℕ → List ℕ
+push_windows base [] = base
+push_windows base (b ∷ path) =
+    if has_prefix (kinds (parts_of windows (b ∷ path))) then b ∷ path
+    else (if has_any_verbatim_prefix (kinds (parts_of windows base)) then spelled (merged (parts_of windows base) (parts_of windows (b ∷ path)))
+    else push_behind base (b ∷ path))
+
+abbrev pub push : Dialect → List ℕ → List ℕ → List ℕ
+push unix base path = push_unix base path
+push windows base path = push_windows base path
+
+-- paths pushed one by one
+abbrev pub push_all : Dialect → List ℕ → List (List ℕ) → List ℕ
+push_all d base paths = fold (push d) base paths
+
+-- why a component is refused, by what stands before it
+abbrev pub offence : Dialect → List Kind → Kind → Option CheckedPathError
+offence d before (prefix p) = Some UnexpectedPrefix
+offence d before root = Some UnexpectedRoot
+offence d before current = None
+offence d before parent = if nat_le (count_by is_name before) (count_by is_parent before) then Some PathTraversalAttack else None
+offence d before (normal name) = if is_allowed_name d name then None else Some InvalidFilename
+
+abbrev pub fault_behind : Dialect → List Kind → List Kind → Option CheckedPathError
+fault_behind d before [] = None
+fault_behind d before (k ∷ ks) = option_or (offence d before k) (fault_behind d (before ++ k ∷ []) ks)
+
+-- the error of the first component that offends
+abbrev pub fault : Dialect → List ℕ → Option CheckedPathError
+fault d path = fault_behind d [] (kinds (parts_of d path))

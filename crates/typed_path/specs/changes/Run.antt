@@ -1,0 +1,80 @@
+-- What a list of operations makes of a path.
+use Rattle.std.specs.Prelude.{ℕ, ◌+◌, List, [], ◌∷◌, ◌++◌, Bool, length, take, is_some, unwrap_or, if◌then◌else◌, Option, Some, None, option_map}
+use Rattle.typed_path.specs.declared.errors.CheckedPathError.{CheckedPathError}
+use Rattle.typed_path.specs.components.Dialect.{Dialect, dot}
+use Rattle.typed_path.specs.components.Part.{Placed}
+use Rattle.typed_path.specs.components.Comps.{comps}
+use Rattle.typed_path.specs.readings.Left.{last_of}
+use Rattle.typed_path.specs.queries.Names.{stem_of}
+use Rattle.typed_path.specs.queries.Queries.{parent_of, file_name_of}
+use Rattle.typed_path.specs.changes.Push.{push, push_all, fault}
+
+pub data Operation : Type 0 where
+  push_op : List ℕ → Operation
+  push_checked_op : List ℕ → Operation
+  pop_op : Operation
+  set_file_name_op : List ℕ → Operation
+  set_extension_op : List ℕ → Operation
+  clear_op : Operation
+  extend_op : List (List ℕ) → Operation
+
+pub data Response : Type 0 where
+  done : Response
+  flag : Bool → Response
+  refused : CheckedPathError → Response
+
+-- cut to the parent, where there is one
+abbrev pub popped : Dialect → List ℕ → List ℕ
+popped d t = unwrap_or (parent_of d t) t
+
+-- a path without its file name, where it has one
+abbrev pub without_file_name : Dialect → List ℕ → List ℕ
+without_file_name d t = if is_some (file_name_of d t) then popped d t else t
+
+-- the last component renamed, or a name pushed where none is last
+abbrev pub with_file_name : Dialect → List ℕ → List ℕ → List ℕ
+with_file_name d t name = push d (without_file_name d t) name
+
+-- an extension and the dot before it; none where it is empty
+abbrev pub dotted : List ℕ → List ℕ
+dotted [] = []
+dotted (b ∷ bs) = dot ∷ b ∷ bs
+
+abbrev pub start_of_last : Option Placed → ℕ
+start_of_last None = 0
+start_of_last (Some c) = c.start
+
+-- where the stem of the file name ends
+abbrev pub stem_end : Dialect → List ℕ → Option ℕ
+stem_end d t = option_map (λ name. start_of_last (last_of (comps d t)) + length (stem_of name)) (file_name_of d t)
+
+abbrev pub cut_at : List ℕ → List ℕ → Option ℕ → List ℕ
+cut_at t ext None = t
+cut_at t ext (Some end) = take end t ++ dotted ext
+
+-- cut behind the stem, then the new extension; without a file name nothing changes
+abbrev pub with_extension : Dialect → List ℕ → List ℕ → List ℕ
+with_extension d t ext = cut_at t ext (stem_end d t)
+
+abbrev pub unless_refused : List ℕ → Option CheckedPathError → List ℕ → List ℕ × Response
+unless_refused t None u = (u, done)
+unless_refused t (Some f) u = (t, refused f)
+
+-- the text after an operation, and the reply to it
+abbrev pub step : Dialect → List ℕ → Operation → List ℕ × Response
+step d t (push_op p) = (push d t p, done)
+step d t (push_checked_op p) = unless_refused t (fault d p) (push d t p)
+step d t pop_op = (popped d t, flag (is_some (parent_of d t)))
+step d t (set_file_name_op name) = (with_file_name d t name, done)
+step d t (set_extension_op ext) = (with_extension d t ext, flag (is_some (file_name_of d t)))
+step d t clear_op = ([], done)
+step d t (extend_op paths) = (push_all d t paths, done)
+
+-- the text after a list of operations, and the replies
+abbrev pub text_after : Dialect → List ℕ → List Operation → List ℕ
+text_after d t [] = t
+text_after d t (op ∷ ops) = text_after d (step d t op).0 ops
+
+abbrev pub replies : Dialect → List ℕ → List Operation → List Response
+replies d t [] = []
+replies d t (op ∷ ops) = (step d t op).1 ∷ replies d (step d t op).0 ops

@@ -1,0 +1,2 @@
+-- The other dialect, absolute texts, the derived dialect.
+pub mod Convert

@@ -1,0 +1,57 @@
+-- A path in another dialect, made absolute, and told apart.
+use Rattle.std.specs.Prelude.{ℕ, List, [], ◌∷◌, Bool, true, false, ◌||◌, ◌==◌, map, slice_index, is_some, if◌then◌else◌, Option, Some, None, Ok, Err}
+use Rattle.std.specs.declared.result.Result.{Result}
+use Rattle.typed_path.specs.declared.errors.CheckedPathError.{CheckedPathError}
+use Rattle.typed_path.specs.components.Dialect.{Dialect, unix, windows, backslash, root_of}
+use Rattle.typed_path.specs.components.Part.{Kind, current, parent, Part, kinds}
+use Rattle.typed_path.specs.components.Prefix.{prefix_of}
+use Rattle.typed_path.specs.components.Comps.{parts_of}
+use Rattle.typed_path.specs.queries.Queries.{is_root, is_absolute}
+use Rattle.typed_path.specs.changes.Push.{push, push_all, fault}
+use Rattle.typed_path.specs.places.Places.{normal_text}
+
+abbrev pub same_dialect : Dialect → Dialect → Bool
+same_dialect unix unix = true
+same_dialect windows windows = true
+same_dialect d e = false
+
+-- how a component is written in a dialect: the root, and every prefix but a drive, is its root
+abbrev pub crossed : Dialect → Part → List ℕ
+crossed e p = if is_root p.kind then root_of e else p.text
+
+-- a path in another dialect: its components pushed one by one; in its own it stays as it is
+abbrev pub converted : Dialect → Dialect → List ℕ → List ℕ
+converted d e t = if same_dialect d e then t else push_all e [] (map (crossed e) (parts_of d t))
+
+-- roots, `.` and `..` are never refused
+abbrev pub passes : Kind → Bool
+passes current = true
+passes parent = true
+passes k = is_root k
+
+abbrev pub crossing_fault : Dialect → Part → Option CheckedPathError
+crossing_fault e p = if passes p.kind then None else fault e p.text
+
+abbrev pub push_unless : Dialect → List ℕ → Option CheckedPathError → List ℕ → Result (List ℕ) CheckedPathError
+push_unless e base None path = Ok (push e base path)
+push_unless e base (Some f) path = Err f
+
+abbrev pub push_checked_each : Dialect → Result (List ℕ) CheckedPathError → List Part → Result (List ℕ) CheckedPathError
+push_checked_each e path [] = path
+push_checked_each e (Err f) (p ∷ ps) = Err f
+push_checked_each e (Ok base) (p ∷ ps) = push_checked_each e (push_unless e base (crossing_fault e p) (crossed e p)) ps
+
+-- the same by checked pushes, which has no shortcut for its own dialect and ends at the first fault
+abbrev pub converted_checked : Dialect → Dialect → List ℕ → Result (List ℕ) CheckedPathError
+converted_checked d e t = push_checked_each e (Ok []) (parts_of d t)
+
+-- the absolute text of a path from a directory on this machine; none where the two joined are not absolute
+abbrev pub absolute_from : Dialect → List ℕ → List ℕ → Option (List ℕ)
+absolute_from d directory t =
+    let joined = push d (converted unix d directory) t in
+    if is_absolute d (kinds (parts_of d t)) then Some (normal_text d t)
+    else (if is_absolute d (kinds (parts_of d joined)) then Some (normal_text d joined) else None)
+
+-- which dialect a text looks like
+abbrev pub derived_dialect : List ℕ → Dialect
+derived_dialect t = if (slice_index t 0 == backslash || is_some (prefix_of windows t)) then windows else unix

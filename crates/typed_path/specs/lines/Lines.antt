@@ -1,0 +1,134 @@
+-- What the program answers to its input.
+use Rattle.std.specs.Prelude.{ℕ, List, [], ◌∷◌, ◌++◌, ◌==◌, if◌then◌else◌, codes, length, map, bytes_eq, Option, Some, None}
+use Rattle.std.specs.List.{slice_split, flat_map, join_with_byte}
+use Rattle.typed_path.specs.components.Dialect.{unix}
+use Rattle.typed_path.specs.components.Part.{Prefix, verbatim, verbatim_unc, verbatim_disk, device_ns, unc, disk, Kind, prefix, root, current, parent, normal, Part}
+use Rattle.typed_path.specs.components.Comps.{parts_of}
+use Rattle.typed_path.specs.places.Places.{normal_text}
+use Rattle.typed_path.specs.changes.Push.{push, fault}
+use Rattle.typed_path.specs.declared.errors.CheckedPathError.{CheckedPathError}
+use Rattle.typed_path.specs.declared.errors.CheckedPathError.TheVariants.{InvalidFilename, PathTraversalAttack, UnexpectedPrefix, UnexpectedRoot}
+
+abbrev pub tab : ℕ
+tab = 9
+
+abbrev pub line_feed : ℕ
+line_feed = 10
+
+-- `=`
+abbrev pub equals_sign : ℕ
+equals_sign = 61
+
+-- the pieces of an input behind each of which a line feed stands
+abbrev pub ended : List (List ℕ) → List (List ℕ)
+ended [] = []
+ended (piece ∷ []) = []
+ended (piece ∷ next ∷ pieces) = piece ∷ ended (next ∷ pieces)
+
+-- all pieces but an empty last one
+abbrev pub all_lines : List (List ℕ) → List (List ℕ)
+all_lines [] = []
+all_lines (piece ∷ []) = if length piece == 0 then [] else piece ∷ []
+all_lines (piece ∷ next ∷ pieces) = piece ∷ all_lines (next ∷ pieces)
+
+abbrev pub pieces_of : List ℕ → List (List ℕ)
+pieces_of input = slice_split (λ b. b == line_feed) input
+
+-- the lines of an input that was read to its end
+abbrev pub lines_of : List ℕ → List (List ℕ)
+lines_of input = all_lines (pieces_of input)
+
+-- the complete lines of an input of which more may come
+abbrev pub complete_lines : List ℕ → List (List ℕ)
+complete_lines input = ended (pieces_of input)
+
+-- what stands behind the last line feed
+abbrev pub last_piece : List (List ℕ) → List ℕ
+last_piece [] = []
+last_piece (piece ∷ []) = piece
+last_piece (piece ∷ next ∷ pieces) = last_piece (next ∷ pieces)
+
+abbrev pub open_line : List ℕ → List ℕ
+open_line input = last_piece (pieces_of input)
+
+abbrev pub fields_of : List ℕ → List (List ℕ)
+fields_of line = slice_split (λ b. b == tab) line
+
+abbrev pub ok_reply : List (List ℕ) → List (List ℕ)
+ok_reply fields = codes "ok" ∷ fields
+
+abbrev pub bad_line : List (List ℕ)
+bad_line = codes "err" ∷ codes "BadLine" ∷ []
+
+-- fields with a tab between, and a line feed
+abbrev pub reply_line : List (List ℕ) → List ℕ
+reply_line fields = join_with_byte tab fields ++ line_feed ∷ []
+
+abbrev pub text_reply : List ℕ → List ℕ
+text_reply text = reply_line (ok_reply (text ∷ []))
+
+-- what a field calls a prefix
+abbrev pub prefix_name : Prefix → List ℕ
+prefix_name (verbatim name) = codes "Verbatim"
+prefix_name (verbatim_unc server share) = codes "VerbatimUNC"
+prefix_name (verbatim_disk letter) = codes "VerbatimDisk"
+prefix_name (device_ns name) = codes "DeviceNS"
+prefix_name (unc server share) = codes "UNC"
+prefix_name (disk letter) = codes "Disk"
+
+-- what a field calls a kind of component
+abbrev pub kind_name : Kind → List ℕ
+kind_name (prefix p) = prefix_name p
+kind_name root = codes "root"
+kind_name current = codes "current"
+kind_name parent = codes "parent"
+kind_name (normal name) = codes "normal"
+
+-- the field that shows a component: what it is, and how it is written
+abbrev pub component_field : Part → List ℕ
+component_field p = kind_name p.kind ++ equals_sign ∷ p.text
+
+-- the fields that show a list of components
+abbrev pub components_reply : List Part → List (List ℕ)
+components_reply ps = ok_reply (map component_field ps)
+
+-- the fields of the reply to a command on a Unix path
+abbrev pub unix_reply : List ℕ → List ℕ → List (List ℕ)
+unix_reply command path =
+    if bytes_eq command (codes "normalize") then ok_reply (normal_text unix path ∷ [])
+    else (if bytes_eq command (codes "components") then components_reply (parts_of unix path) else bad_line)
+
+-- the name of a refusal
+abbrev pub refusal_name : CheckedPathError → List ℕ
+refusal_name InvalidFilename = codes "InvalidFilename"
+refusal_name PathTraversalAttack = codes "PathTraversalAttack"
+refusal_name UnexpectedPrefix = codes "UnexpectedPrefix"
+refusal_name UnexpectedRoot = codes "UnexpectedRoot"
+
+-- a joined path, unless the path to be joined has a fault
+abbrev pub joined_reply : List ℕ → Option CheckedPathError → List (List ℕ)
+joined_reply joined None = ok_reply (joined ∷ [])
+joined_reply joined (Some refusal) = codes "err" ∷ refusal_name refusal ∷ []
+
+-- the fields of the reply to a command on a Unix base and a path
+abbrev pub unix_join_reply : List ℕ → List ℕ → List ℕ → List (List ℕ)
+unix_join_reply command base path =
+    if bytes_eq command (codes "join") then joined_reply (push unix base path) None
+    else (if bytes_eq command (codes "join_checked") then joined_reply (push unix base path) (fault unix path) else bad_line)
+
+-- the fields of the reply to the fields of a line
+abbrev pub reply_fields : List (List ℕ) → List (List ℕ)
+reply_fields (command ∷ dialect ∷ base ∷ path ∷ []) = if bytes_eq dialect (codes "unix") then unix_join_reply command base path else bad_line
+reply_fields (command ∷ dialect ∷ path ∷ []) = if bytes_eq dialect (codes "unix") then unix_reply command path else bad_line
+reply_fields fields = bad_line
+
+-- the reply to a line
+abbrev pub reply : List ℕ → List ℕ
+reply line = reply_line (reply_fields (fields_of line))
+
+abbrev pub replies_to : List (List ℕ) → List ℕ
+replies_to lines = flat_map reply lines
+
+-- the replies to a whole input
+abbrev pub answers : List ℕ → List ℕ
+answers input = replies_to (lines_of input)

@@ -1,0 +1,2 @@
+-- Equality and order.
+pub mod Same

@@ -1,0 +1,41 @@
+-- When two component lists are the same, and which is less.
+use Rattle.std.specs.Prelude.{◌≡◌, ℕ, List, [], ◌∷◌}
+use Rattle.std.specs.declared.cmp.Ordering.{Ordering}
+use Rattle.std.specs.Ordering.{nat_cmp}
+use Rattle.std.specs.Cmp.Lexicographic.{slice_cmp}
+use Rattle.typed_path.specs.components.Part.{verbatim, verbatim_unc, verbatim_disk, device_ns, unc, disk, Kind, prefix, root, current, parent, normal, kinds}
+use Rattle.typed_path.specs.components.Dialect.{Dialect}
+use Rattle.typed_path.specs.components.Comps.{parts_of}
+
+abbrev pub rank : ℕ → List ℕ
+rank n = n ∷ []
+
+-- what the order looks at: first the place of the kind among all kinds, then the names
+abbrev pub key : Kind → List (List ℕ)
+key (prefix (verbatim name)) = rank 0 ∷ name ∷ []
+key (prefix (verbatim_unc server share)) = rank 1 ∷ server ∷ share ∷ []
+key (prefix (verbatim_disk letter)) = rank 2 ∷ (letter ∷ []) ∷ []
+key (prefix (device_ns name)) = rank 3 ∷ name ∷ []
+key (prefix (unc server share)) = rank 4 ∷ server ∷ share ∷ []
+key (prefix (disk letter)) = rank 5 ∷ (letter ∷ []) ∷ []
+key root = rank 6 ∷ []
+key current = rank 7 ∷ []
+key parent = rank 8 ∷ []
+key (normal name) = rank 9 ∷ name ∷ []
+
+abbrev pub bytes_cmp : List ℕ → List ℕ → Ordering
+bytes_cmp = slice_cmp nat_cmp
+
+abbrev pub kind_cmp : Kind → Kind → Ordering
+kind_cmp k l = slice_cmp bytes_cmp (key k) (key l)
+
+-- the order of lists: that of the first kinds in which they differ
+abbrev pub kinds_cmp : List Kind → List Kind → Ordering
+kinds_cmp = slice_cmp kind_cmp
+
+-- two texts have the same components, however these are written
+abbrev pub IsSame : Dialect → List ℕ → List ℕ → Type 0
+IsSame d t u = kinds (parts_of d t) ≡ kinds (parts_of d u)
+
+abbrev pub path_cmp : Dialect → List ℕ → List ℕ → Ordering
+path_cmp d t u = kinds_cmp (kinds (parts_of d t)) (kinds (parts_of d u))

@@ -1,0 +1,2 @@
+-- Where a path leads.
+pub mod Places

@@ -1,0 +1,3 @@
+-- What is promised of paths.
+pub mod Promises
+pub mod Joins

@@ -1,0 +1,122 @@
+-- What a path answers, read off its component list.
+use Rattle.std.specs.Prelude.{ℕ, ◌==◌, List, ◌∷◌, Bool, true, false, not, ◌||◌, length, if◌then◌else◌, Option, Some, None, option_and_then}
+use Rattle.std.specs.List.{list_any, list_all, starts_with, ends_with}
+use Rattle.std.specs.Option.{option_map}
+use Rattle.std.specs.Str.{bytes_eq}
+use Rattle.typed_path.specs.components.Dialect.{Dialect, unix, windows, slash, backslash, colon, question}
+use Rattle.typed_path.specs.components.Part.{Prefix, verbatim, verbatim_unc, verbatim_disk, unc, disk, Kind, prefix, root, normal, texts}
+use Rattle.typed_path.specs.components.Prefix.{is_empty}
+use Rattle.typed_path.specs.components.Comps.{comps, parts_of}
+use Rattle.typed_path.specs.readings.Left.{left, last_of}
+use Rattle.typed_path.specs.queries.Names.{stem_of, extension_of}
+
+abbrev pub begins_with_root : List Kind → Bool
+begins_with_root (root ∷ ks) = true
+begins_with_root ks = false
+
+-- absolute: a share that isn't empty, or another prefix and the root behind it
+abbrev pub is_absolute_prefix : Prefix → List Kind → Bool
+is_absolute_prefix (verbatim_unc server share) ks = not (is_empty share)
+is_absolute_prefix (unc server share) ks = not (is_empty share)
+is_absolute_prefix p ks = begins_with_root ks
+
+abbrev pub is_absolute : Dialect → List Kind → Bool
+is_absolute unix ks = begins_with_root ks
+is_absolute windows (prefix p ∷ ks) = is_absolute_prefix p ks
+is_absolute windows ks = false
+
+-- rooted: a drive needs a root behind it, every other prefix has one
+abbrev pub has_root_behind : Prefix → List Kind → Bool
+has_root_behind (disk letter) ks = begins_with_root ks
+has_root_behind (verbatim_disk letter) ks = begins_with_root ks
+has_root_behind p ks = true
+
+abbrev pub has_root : Dialect → List Kind → Bool
+has_root unix ks = begins_with_root ks
+has_root windows (prefix p ∷ ks) = has_root_behind p ks
+has_root windows ks = begins_with_root ks
+
+-- the prefix queries
+abbrev pub first_prefix : List Kind → Option Prefix
+first_prefix (prefix p ∷ ks) = Some p
+first_prefix ks = None
+
+abbrev pub is_verbatim_prefix : Prefix → Bool
+is_verbatim_prefix (verbatim name) = true
+is_verbatim_prefix (verbatim_unc server share) = true
+is_verbatim_prefix (verbatim_disk letter) = true
+is_verbatim_prefix p = false
+
+abbrev pub is_disk : Prefix → Bool
+is_disk (disk letter) = true
+is_disk p = false
+
+abbrev pub begins_with_prefix : (Prefix → Bool) → List Kind → Bool
+begins_with_prefix test (prefix p ∷ ks) = test p
+begins_with_prefix test ks = false
+
+abbrev pub has_prefix : List Kind → Bool
+has_prefix = begins_with_prefix (λ p. true)
+
+abbrev pub has_any_verbatim_prefix : List Kind → Bool
+has_any_verbatim_prefix = begins_with_prefix is_verbatim_prefix
+
+abbrev pub has_implicit_root : List Kind → Bool
+has_implicit_root = begins_with_prefix (λ p. not (is_disk p))
+
+abbrev pub has_physical_root : List Kind → Bool
+has_physical_root (prefix p ∷ ks) = begins_with_root ks
+has_physical_root ks = begins_with_root ks
+
+-- a component behind which nothing is above it: the root, and every prefix but a drive
+abbrev pub is_root : Kind → Bool
+is_root root = true
+is_root (prefix p) = not (is_disk p)
+is_root k = false
+
+-- the parent: the slice left once the last component is taken, unless that is a root
+abbrev pub parent_of : Dialect → List ℕ → Option (List ℕ)
+parent_of d t = option_and_then
+    (λ last. if is_root last.part.kind then None else Some (left (comps d t) t 0 1))
+    (last_of (comps d t))
+
+-- the bytes that no name may have
+abbrev pub is_disallowed : Dialect → ℕ → Bool
+is_disallowed unix b = b == slash || b == 0
+is_disallowed windows b =
+    b == backslash || b == slash || b == colon || b == question || b == 42 || b == 34 || b == 62 || b == 60 || b == 124 || b == 0
+
+abbrev pub is_allowed_name : Dialect → List ℕ → Bool
+is_allowed_name d name = not (list_any (is_disallowed d) name)
+
+abbrev pub is_allowed : Dialect → Kind → Bool
+is_allowed d (normal name) = is_allowed_name d name
+is_allowed d k = true
+
+abbrev pub is_valid : Dialect → List Kind → Bool
+is_valid d ks = list_all (is_allowed d) ks
+
+-- the last component, where it is a name
+abbrev pub name_of : Kind → Option (List ℕ)
+name_of (normal name) = Some name
+name_of k = None
+
+abbrev pub file_name_of : Dialect → List ℕ → Option (List ℕ)
+file_name_of d t = option_and_then (λ last. name_of last.part.kind) (last_of (comps d t))
+
+abbrev pub file_stem_of : Dialect → List ℕ → Option (List ℕ)
+file_stem_of d t = option_map stem_of (file_name_of d t)
+
+abbrev pub extension : Dialect → List ℕ → Option (List ℕ)
+extension d t = option_and_then extension_of (file_name_of d t)
+
+-- a path begins, or ends, with the components of another, as they are written
+abbrev pub path_starts_with : Dialect → List ℕ → List ℕ → Bool
+path_starts_with d t b = starts_with bytes_eq (texts (parts_of d t)) (texts (parts_of d b))
+
+abbrev pub path_ends_with : Dialect → List ℕ → List ℕ → Bool
+path_ends_with d t b = ends_with bytes_eq (texts (parts_of d t)) (texts (parts_of d b))
+
+-- what is left of a path behind a base that it begins with
+abbrev pub stripped : Dialect → List ℕ → List ℕ → Option (List ℕ)
+stripped d t b = if path_starts_with d t b then Some (left (comps d t) t (length (comps d b)) 0) else None

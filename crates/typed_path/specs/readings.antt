@@ -1,0 +1,5 @@
+-- Readings from both ends.
+pub mod Left
+pub mod Reading
+pub mod Ends
+pub mod Steps

@@ -1,0 +1,40 @@
+-- What is left of a text, by where it begins.
+use Rattle.std.specs.Prelude.{ℕ, List, [], ◌∷◌, Bool, true, not, ◌||◌, ◌&&◌, ◌==◌, nat_lt, length, Option, option_map}
+use Rattle.std.specs.Option.{unwrap_or}
+use Rattle.std.specs.List.{before_first, after_last}
+use Rattle.typed_path.specs.declared.scan.separators.Separators.{Separators}
+use Rattle.typed_path.specs.declared.scan.begin.Begin.{Begin}
+use Rattle.typed_path.specs.declared.scan.begin.Begin.TheVariants.{Body, Inside}
+use Rattle.typed_path.specs.components.Dialect.{is_separator, is_verbatim}
+use Rattle.typed_path.specs.components.Part.{Part, Placed, end_of}
+use Rattle.typed_path.specs.components.Comps.{body, later_body, is_dot}
+use Rattle.typed_path.specs.readings.Left.{first_of, last_of}
+
+-- the components of a text that begins at a place
+abbrev pub body_from : Begin → Separators → ℕ → List ℕ → List Placed
+body_from Body s at text = body s at text
+body_from Inside s at text = later_body s at text
+
+-- a later segment that is a component
+abbrev pub counts : Separators → List ℕ → Bool
+counts s name = not (length name == 0) && (is_verbatim s || not (is_dot name))
+
+-- a text is empty or begins with a component
+abbrev pub is_clean : Begin → Separators → List ℕ → Bool
+is_clean Body s text = true
+is_clean Inside s [] = true
+is_clean Inside s (b ∷ bs) = counts s (before_first (is_separator s) (b ∷ bs))
+
+-- a text ends with a component: it is one byte long or empty, or its last segment counts
+abbrev pub is_trimmed : Separators → List ℕ → Bool
+is_trimmed s text = nat_lt (length text) 2 || counts s (after_last (is_separator s) text)
+
+-- where the last component ends, or the given place where there is none
+abbrev pub end_from : ℕ → List Placed → ℕ
+end_from at cs = unwrap_or (option_map end_of (last_of cs)) at
+
+abbrev pub first_part : List Placed → Option Part
+first_part cs = option_map (λ c. c.part) (first_of cs)
+
+abbrev pub last_part : List Placed → Option Part
+last_part cs = option_map (λ c. c.part) (last_of cs)

@@ -1,0 +1,28 @@
+-- What the crate's values are, as pure data.
+use Rattle.std.specs.Prelude.{ℕ, List}
+use Rattle.typed_path.specs.declared.windows.prefix.WindowsPrefix.{WindowsPrefix}
+use Rattle.typed_path.specs.declared.windows.prefix.WindowsPrefix.TheVariants.{Verbatim, VerbatimUNC, VerbatimDisk, DeviceNS, UNC, Disk}
+use Rattle.typed_path.specs.declared.scan.piece.Piece.{Piece}
+use Rattle.typed_path.specs.declared.scan.piece.PieceKind.{PieceKind}
+use Rattle.typed_path.specs.declared.scan.piece.PieceKind.TheVariants.{Prefix, RootDir, CurDir, ParentDir, Normal}
+use Rattle.typed_path.specs.components.Part.{verbatim, verbatim_unc, verbatim_disk, device_ns, unc, disk, Kind, prefix, root, current, parent, normal, Part}
+use Rattle.typed_path.specs.components.Part as part
+
+abbrev pub prefix_view : WindowsPrefix → part.Prefix
+prefix_view (Verbatim name) = verbatim name.now
+prefix_view (VerbatimUNC server share) = verbatim_unc server.now share.now
+prefix_view (VerbatimDisk letter) = verbatim_disk letter
+prefix_view (DeviceNS name) = device_ns name.now
+prefix_view (UNC server share) = unc server.now share.now
+prefix_view (Disk letter) = disk letter
+
+abbrev pub kind_view : PieceKind → List ℕ → Kind
+kind_view (Prefix p) text = prefix (prefix_view p)
+kind_view RootDir text = root
+kind_view CurDir text = current
+kind_view ParentDir text = parent
+kind_view Normal text = normal text
+
+-- the component that a piece is
+abbrev pub part_of : Piece → Part
+part_of p = record { kind = kind_view p.kind p.text.now; text = p.text.now }
