@@ -1,5 +1,6 @@
 -- What changes a path.
 pub mod Push
-pub mod Depths
+pub mod Fault
+pub mod Changes
 pub mod Checked
 pub mod Run

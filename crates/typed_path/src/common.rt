@@ -12,6 +12,7 @@ mod normalize;
 mod owned;
 mod path;
 mod path_buf;
+mod piece;
 mod strip;
 mod texts;
 

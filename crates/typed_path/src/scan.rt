@@ -4,10 +4,12 @@ mod begin;
 mod cursor;
 mod depth;
 mod piece;
+mod prefix;
 mod separators;
 mod step;
 
 pub use begin::Begin;
 pub use cursor::Cursor;
 pub use piece::{Piece, PieceKind};
+pub use prefix::WindowsPrefix;
 pub use separators::Separators;

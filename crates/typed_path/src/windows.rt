@@ -1,5 +1,3 @@
 //! Windows paths.
 
-mod prefix;
-
-pub use prefix::WindowsPrefix;
+pub use crate::scan::WindowsPrefix;

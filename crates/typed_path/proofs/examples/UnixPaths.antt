@@ -3,7 +3,7 @@ use Rattle.std.specs.Prelude.{◌≡◌, ℕ, codes, List, [], ◌∷◌, ◌++�
 use Rattle.typed_path.specs.declared.errors.CheckedPathError.TheVariants.{InvalidFilename, PathTraversalAttack, UnexpectedRoot}
 use Rattle.typed_path.specs.components.Dialect.{unix}
 use Rattle.typed_path.specs.components.Part.{normal}
-use Rattle.typed_path.specs.changes.Push.{fault}
+use Rattle.typed_path.specs.changes.Fault.{fault}
 use Rattle.typed_path.specs.places.Places.{place}
 use Rattle.typed_path.specs.changes.Run.{Operation, push_op, push_checked_op, pop_op, set_file_name_op, set_extension_op, clear_op, extend_op, done, flag, refused, step, text_after, replies}
 use Rattle.typed_path.proofs.examples.Words.{pushed, checked, normalized}

@@ -3,7 +3,7 @@ use Rattle.std.specs.Prelude.{◌≡◌, codes, [], ◌∷◌, refl, true, false
 use Rattle.typed_path.specs.declared.errors.CheckedPathError.TheVariants.{InvalidFilename, PathTraversalAttack, UnexpectedPrefix, UnexpectedRoot}
 use Rattle.typed_path.specs.components.Dialect.{windows}
 use Rattle.typed_path.specs.components.Part.{verbatim, verbatim_disk, unc, disk, prefix, root, normal}
-use Rattle.typed_path.specs.changes.Push.{fault}
+use Rattle.typed_path.specs.changes.Fault.{fault}
 use Rattle.typed_path.specs.places.Places.{place}
 use Rattle.typed_path.specs.promises.Promises.{keeps_prefix}
 use Rattle.typed_path.specs.changes.Run.{pop_op, set_file_name_op, set_extension_op, done, flag, refused, step}

@@ -8,7 +8,7 @@ use Rattle.typed_path.specs.components.Dialect.{Dialect, unix, windows, slash, b
 use Rattle.typed_path.specs.components.Part.{disk, Kind, prefix, root, current, parent, normal, Part, kinds, is_name, is_parent}
 use Rattle.typed_path.specs.components.Prefix.{Found, prefix_of}
 use Rattle.typed_path.specs.components.Comps.{parts_of}
-use Rattle.typed_path.specs.queries.Queries.{begins_with_root, begins_with_prefix, has_prefix, has_any_verbatim_prefix, is_allowed_name}
+use Rattle.typed_path.specs.queries.Queries.{begins_with_root, begins_with_prefix, has_prefix, has_any_verbatim_prefix, is_valid_name}
 
 -- a text, with the byte at its end unless it is empty or ends with that byte
 abbrev pub ended_with : ℕ → List ℕ → List ℕ
@@ -87,19 +87,3 @@ push windows base path = push_windows base path
 -- paths pushed one by one
 abbrev pub push_all : Dialect → List ℕ → List (List ℕ) → List ℕ
 push_all d base paths = fold (push d) base paths
-
--- why a component is refused, by what stands before it
-abbrev pub offence : Dialect → List Kind → Kind → Option CheckedPathError
-offence d before (prefix p) = Some UnexpectedPrefix
-offence d before root = Some UnexpectedRoot
-offence d before current = None
-offence d before parent = if nat_le (count_by is_name before) (count_by is_parent before) then Some PathTraversalAttack else None
-offence d before (normal name) = if is_allowed_name d name then None else Some InvalidFilename
-
-abbrev pub fault_behind : Dialect → List Kind → List Kind → Option CheckedPathError
-fault_behind d before [] = None
-fault_behind d before (k ∷ ks) = option_or (offence d before k) (fault_behind d (before ++ k ∷ []) ks)
-
--- the error of the first component that offends
-abbrev pub fault : Dialect → List ℕ → Option CheckedPathError
-fault d path = fault_behind d [] (kinds (parts_of d path))

@@ -7,7 +7,9 @@ use Rattle.typed_path.specs.components.Comps.{comps}
 use Rattle.typed_path.specs.readings.Left.{last_of}
 use Rattle.typed_path.specs.queries.Names.{stem_of}
 use Rattle.typed_path.specs.queries.Queries.{parent_of, file_name_of}
-use Rattle.typed_path.specs.changes.Push.{push, push_all, fault}
+use Rattle.typed_path.specs.changes.Push.{push, push_all}
+use Rattle.typed_path.specs.changes.Fault.{fault}
+use Rattle.typed_path.specs.changes.Changes.{popped, with_file_name, with_extension}
 
 pub data Operation : Type 0 where
   push_op : List ℕ → Operation
@@ -22,39 +24,6 @@ pub data Response : Type 0 where
   done : Response
   flag : Bool → Response
   refused : CheckedPathError → Response
-
--- cut to the parent, where there is one
-abbrev pub popped : Dialect → List ℕ → List ℕ
-popped d t = unwrap_or (parent_of d t) t
-
--- a path without its file name, where it has one
-abbrev pub without_file_name : Dialect → List ℕ → List ℕ
-without_file_name d t = if is_some (file_name_of d t) then popped d t else t
-
--- the last component renamed, or a name pushed where none is last
-abbrev pub with_file_name : Dialect → List ℕ → List ℕ → List ℕ
-with_file_name d t name = push d (without_file_name d t) name
-
--- an extension and the dot before it; none where it is empty
-abbrev pub dotted : List ℕ → List ℕ
-dotted [] = []
-dotted (b ∷ bs) = dot ∷ b ∷ bs
-
-abbrev pub start_of_last : Option Placed → ℕ
-start_of_last None = 0
-start_of_last (Some c) = c.start
-
--- where the stem of the file name ends
-abbrev pub stem_end : Dialect → List ℕ → Option ℕ
-stem_end d t = option_map (λ name. start_of_last (last_of (comps d t)) + length (stem_of name)) (file_name_of d t)
-
-abbrev pub cut_at : List ℕ → List ℕ → Option ℕ → List ℕ
-cut_at t ext None = t
-cut_at t ext (Some end) = take end t ++ dotted ext
-
--- cut behind the stem, then the new extension; without a file name nothing changes
-abbrev pub with_extension : Dialect → List ℕ → List ℕ → List ℕ
-with_extension d t ext = cut_at t ext (stem_end d t)
 
 abbrev pub unless_refused : List ℕ → Option CheckedPathError → List ℕ → List ℕ × Response
 unless_refused t None u = (u, done)

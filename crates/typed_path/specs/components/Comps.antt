@@ -14,17 +14,17 @@ abbrev pub is_dot_dot : List ℕ → Bool
 is_dot_dot (a ∷ b ∷ []) = a == dot && b == dot
 is_dot_dot bytes = false
 
--- a piece of a text between two separators, and where it begins
+-- what stands between two separators of a text, and where it begins
 pub record Segment : Type 0 where
   pub text : List ℕ
   pub start : ℕ
 
--- pieces that stand one separator apart, the first at the given place
+-- texts that stand one separator apart, the first at the given place
 abbrev pub placed : ℕ → List (List ℕ) → List Segment
 placed at [] = []
-placed at (piece ∷ pieces) = record { text = piece; start = at } ∷ placed (at + length piece + 1) pieces
+placed at (text ∷ texts) = record { text = text; start = at } ∷ placed (at + length text + 1) texts
 
--- the pieces between the separators of a text that begins at the given place
+-- the segments of a text that begins at the given place: what stands between its separators
 abbrev pub segments : Separators → ℕ → List ℕ → List Segment
 segments s at text = placed at (slice_split (is_separator s) text)
 

@@ -7,7 +7,8 @@ use Rattle.typed_path.specs.components.Part.{Kind, current, parent, Part, kinds}
 use Rattle.typed_path.specs.components.Prefix.{prefix_of}
 use Rattle.typed_path.specs.components.Comps.{parts_of}
 use Rattle.typed_path.specs.queries.Queries.{is_root, is_absolute}
-use Rattle.typed_path.specs.changes.Push.{push, push_all, fault}
+use Rattle.typed_path.specs.changes.Push.{push, push_all}
+use Rattle.typed_path.specs.changes.Fault.{fault}
 use Rattle.typed_path.specs.places.Places.{normal_text}
 
 abbrev pub same_dialect : Dialect → Dialect → Bool

@@ -5,7 +5,8 @@ use Rattle.typed_path.specs.components.Dialect.{unix}
 use Rattle.typed_path.specs.components.Part.{Prefix, verbatim, verbatim_unc, verbatim_disk, device_ns, unc, disk, Kind, prefix, root, current, parent, normal, Part}
 use Rattle.typed_path.specs.components.Comps.{parts_of}
 use Rattle.typed_path.specs.places.Places.{normal_text}
-use Rattle.typed_path.specs.changes.Push.{push, fault}
+use Rattle.typed_path.specs.changes.Push.{push}
+use Rattle.typed_path.specs.changes.Fault.{fault}
 use Rattle.typed_path.specs.declared.errors.CheckedPathError.{CheckedPathError}
 use Rattle.typed_path.specs.declared.errors.CheckedPathError.TheVariants.{InvalidFilename, PathTraversalAttack, UnexpectedPrefix, UnexpectedRoot}
 
@@ -19,37 +20,37 @@ line_feed = 10
 abbrev pub equals_sign : ℕ
 equals_sign = 61
 
--- the pieces of an input behind each of which a line feed stands
+-- the lines of an input behind each of which a line feed stands
 abbrev pub ended : List (List ℕ) → List (List ℕ)
 ended [] = []
-ended (piece ∷ []) = []
-ended (piece ∷ next ∷ pieces) = piece ∷ ended (next ∷ pieces)
+ended (line ∷ []) = []
+ended (line ∷ next ∷ lines) = line ∷ ended (next ∷ lines)
 
--- all pieces but an empty last one
+-- all lines but an empty last one
 abbrev pub all_lines : List (List ℕ) → List (List ℕ)
 all_lines [] = []
-all_lines (piece ∷ []) = if length piece == 0 then [] else piece ∷ []
-all_lines (piece ∷ next ∷ pieces) = piece ∷ all_lines (next ∷ pieces)
+all_lines (line ∷ []) = if length line == 0 then [] else line ∷ []
+all_lines (line ∷ next ∷ lines) = line ∷ all_lines (next ∷ lines)
 
-abbrev pub pieces_of : List ℕ → List (List ℕ)
-pieces_of input = slice_split (λ b. b == line_feed) input
+abbrev pub split_lines : List ℕ → List (List ℕ)
+split_lines input = slice_split (λ b. b == line_feed) input
 
 -- the lines of an input that was read to its end
 abbrev pub lines_of : List ℕ → List (List ℕ)
-lines_of input = all_lines (pieces_of input)
+lines_of input = all_lines (split_lines input)
 
 -- the complete lines of an input of which more may come
 abbrev pub complete_lines : List ℕ → List (List ℕ)
-complete_lines input = ended (pieces_of input)
+complete_lines input = ended (split_lines input)
 
 -- what stands behind the last line feed
-abbrev pub last_piece : List (List ℕ) → List ℕ
-last_piece [] = []
-last_piece (piece ∷ []) = piece
-last_piece (piece ∷ next ∷ pieces) = last_piece (next ∷ pieces)
+abbrev pub last_line : List (List ℕ) → List ℕ
+last_line [] = []
+last_line (line ∷ []) = line
+last_line (line ∷ next ∷ lines) = last_line (next ∷ lines)
 
 abbrev pub open_line : List ℕ → List ℕ
-open_line input = last_piece (pieces_of input)
+open_line input = last_line (split_lines input)
 
 abbrev pub fields_of : List ℕ → List (List ℕ)
 fields_of line = slice_split (λ b. b == tab) line

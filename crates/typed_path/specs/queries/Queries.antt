@@ -86,15 +86,15 @@ is_disallowed unix b = b == slash || b == 0
 is_disallowed windows b =
     b == backslash || b == slash || b == colon || b == question || b == 42 || b == 34 || b == 62 || b == 60 || b == 124 || b == 0
 
-abbrev pub is_allowed_name : Dialect → List ℕ → Bool
-is_allowed_name d name = not (list_any (is_disallowed d) name)
+abbrev pub is_valid_name : Dialect → List ℕ → Bool
+is_valid_name d name = not (list_any (is_disallowed d) name)
 
-abbrev pub is_allowed : Dialect → Kind → Bool
-is_allowed d (normal name) = is_allowed_name d name
-is_allowed d k = true
+abbrev pub is_valid_kind : Dialect → Kind → Bool
+is_valid_kind d (normal name) = is_valid_name d name
+is_valid_kind d k = true
 
 abbrev pub is_valid : Dialect → List Kind → Bool
-is_valid d ks = list_all (is_allowed d) ks
+is_valid d ks = list_all (is_valid_kind d) ks
 
 -- the last component, where it is a name
 abbrev pub name_of : Kind → Option (List ℕ)

@@ -1,9 +1,14 @@
--- The views of paths and of their components.
-use Rattle.std.specs.Prelude.{ℕ, List}
+-- The views of paths, of their iterators, and of what prints them.
+use Rattle.std.specs.Prelude.{ℕ, List, [], Option, Some, None}
 use Rattle.typed_path.specs.declared.common.path.Path.{Path}
 use Rattle.typed_path.specs.declared.common.components.Components.{Components}
-use Rattle.typed_path.specs.components.Part.{Part, Placed, parts}
+use Rattle.typed_path.specs.components.Part.{Part, Placed, parts, texts}
 use Rattle.typed_path.specs.views.CursorViews.{slice_left, items_left}
+use Rattle.typed_path.specs.declared.common.iter.Iter.{Iter}
+use Rattle.typed_path.specs.declared.common.ancestors.Ancestors.{Ancestors}
+use Rattle.typed_path.specs.components.Dialect.{Dialect}
+use Rattle.typed_path.specs.queries.Ancestry.{ancestors_of}
+use Rattle.typed_path.specs.declared.common.texts.Display.{Display}
 
 -- the bytes of a path
 abbrev pub path_bytes : {T : Type 0} → Path T → List ℕ
@@ -18,3 +23,27 @@ components_slice c = slice_left c.cursor
 
 abbrev pub components_parts : {T : Type 0} → Components T → List Part
 components_parts c = parts (components_items c)
+
+abbrev pub iter_components : {T : Type 0} → Iter T → Components T
+iter_components i = i.components
+
+abbrev pub iter_items : {T : Type 0} → Iter T → List Placed
+iter_items i = components_items (iter_components i)
+
+abbrev pub iter_slice : {T : Type 0} → Iter T → List ℕ
+iter_slice i = components_slice (iter_components i)
+
+-- the texts of the components left
+abbrev pub iter_texts : {T : Type 0} → Iter T → List (List ℕ)
+iter_texts i = texts (components_parts (iter_components i))
+
+abbrev pub ancestors_from : {T : Type 0} → Dialect → Option (Path T) → List (List ℕ)
+ancestors_from d None = []
+ancestors_from d (Some path) = ancestors_of d (path_bytes path)
+
+-- the texts that are still to come
+abbrev pub ancestors_left : {T : Type 0} → Dialect → Ancestors T → List (List ℕ)
+ancestors_left d a = ancestors_from d a.next
+
+abbrev pub displayed : {T : Type 0} → Display T → List ℕ
+displayed d = path_bytes d.path

@@ -11,9 +11,8 @@ pub struct Ancestors<'a, T> {
 
 impl<'a, T: Encoding> Ancestors<'a, T> {
     ghost use Rattle.std.specs.Prelude.{◌≡◌};
-    ghost use Rattle.typed_path.specs.views.PathViews.{path_bytes};
+    ghost use Rattle.typed_path.specs.views.PathViews.{path_bytes, ancestors_left};
     ghost use Rattle.typed_path.specs.queries.Ancestry.{ancestors_of};
-    ghost use Rattle.typed_path.specs.views.AncestorViews.{ancestors_left};
 
     /// The path and those above it.
     pub(crate) fn new(path: Path<'a, T>) -> Ancestors<'a, T>
@@ -25,8 +24,7 @@ impl<'a, T: Encoding> Ancestors<'a, T> {
 
 impl<'a, T: Encoding> Iterator for Ancestors<'a, T> {
     ghost use Rattle.std.specs.Iterator.{YieldsFirstBy, item_count};
-    ghost use Rattle.typed_path.specs.views.PathViews.{path_bytes};
-    ghost use Rattle.typed_path.specs.views.AncestorViews.{ancestors_left};
+    ghost use Rattle.typed_path.specs.views.PathViews.{path_bytes, ancestors_left};
 
     type Item = Path<'a, T>;
 

@@ -3,7 +3,7 @@
 ghost use Rattle.std.specs.Prelude.{◌≡◌, ◌==◌, [], ◌∷◌, length};
 ghost use Rattle.typed_path.specs.components.Dialect.{Dialect, root_of, dot};
 ghost use Rattle.typed_path.specs.components.Part.{Part, root as root_kind, parent as parent_kind, current as current_kind, is_name, is_parent, is_current};
-ghost use Rattle.typed_path.specs.queries.Queries.{is_root as is_root_kind, is_allowed};
+ghost use Rattle.typed_path.specs.queries.Queries.{is_root as is_root_kind, is_valid_kind};
 
 /// A component of a path of one encoding.
 pub trait Component<'a>: Sized {
@@ -33,7 +33,7 @@ pub trait Component<'a>: Sized {
 
     /// Whether the component is no name, or a name that the encoding allows.
     fn is_valid(&self) -> bool
-        ensures { result ≡ is_allowed dialect (part self.now).kind };
+        ensures { result ≡ is_valid_kind dialect (part self.now).kind };
 
     /// How many bytes the text has.
     fn len(&self) -> usize

@@ -15,7 +15,7 @@ impl<'a, T: Encoding> Components<'a, T> {
     ghost use Rattle.std.specs.Prelude.{◌≡◌, drop, option_map, Some};
     ghost use Rattle.typed_path.specs.readings.Left.{but_last, last_of, slice_after_front, slice_after_back};
     ghost use Rattle.typed_path.specs.readings.Steps.{first_part, last_part};
-    ghost use Rattle.typed_path.specs.views.Views.{part_of};
+    ghost use Rattle.typed_path.specs.views.PieceViews.{part_of};
     ghost use Rattle.typed_path.specs.views.CursorViews.{slice_left, items_left};
     ghost use Rattle.typed_path.specs.components.Part.{Placed, end_of, kinds};
     ghost use Rattle.typed_path.specs.queries.Queries.{is_absolute, has_root};
@@ -85,7 +85,7 @@ impl<'a, T: Encoding> Components<'a, T> {
 impl<'a, T: Encoding> Iterator for Components<'a, T> {
     ghost use Rattle.std.specs.Iterator.{YieldsFirstBy, item_count};
     ghost use Rattle.typed_path.specs.views.PathViews.{components_parts};
-    ghost use Rattle.typed_path.specs.views.Views.{part_of};
+    ghost use Rattle.typed_path.specs.views.PieceViews.{part_of};
 
     type Item = Piece<'a>;
 
@@ -101,7 +101,7 @@ impl<'a, T: Encoding> Iterator for Components<'a, T> {
 impl<'a, T: Encoding> DoubleEndedIterator for Components<'a, T> {
     ghost use Rattle.std.specs.Iterator.{YieldsLastBy};
     ghost use Rattle.typed_path.specs.views.PathViews.{components_parts};
-    ghost use Rattle.typed_path.specs.views.Views.{part_of};
+    ghost use Rattle.typed_path.specs.views.PieceViews.{part_of};
 
     ghost next_back_gives = { YieldsLastBy part_of components_parts };
 

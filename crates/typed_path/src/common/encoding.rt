@@ -8,11 +8,12 @@ ghost use Rattle.typed_path.specs.components.Dialect.{Dialect, root_of, label_of
 ghost use Rattle.typed_path.specs.components.Comps.{comps};
 ghost use Rattle.typed_path.specs.readings.Left.{but_last, slice_after_front, slice_after_back};
 ghost use Rattle.typed_path.specs.readings.Steps.{first_part, last_part};
-ghost use Rattle.typed_path.specs.views.Views.{part_of};
+ghost use Rattle.typed_path.specs.views.PieceViews.{part_of};
 ghost use Rattle.typed_path.specs.views.CursorViews.{slice_left, items_left};
 ghost use Rattle.typed_path.specs.components.Part.{kinds, parts};
-ghost use Rattle.typed_path.specs.queries.Queries.{is_absolute, has_root, is_allowed_name};
+ghost use Rattle.typed_path.specs.queries.Queries.{is_absolute, has_root, is_valid_name};
 ghost use Rattle.typed_path.specs.changes.Push as push_spec;
+ghost use Rattle.typed_path.specs.changes.Fault.{fault};
 
 use crate::errors::{CheckedPathError, PathError};
 use crate::scan::{Cursor, Piece};
@@ -41,13 +42,19 @@ pub trait Encoding: Sized {
     fn front<'a>(cursor: &mut Cursor<'a>) -> Option<Piece<'a>>
         ensures taken { option_map part_of result ≡ first_part (items_left cursor.old) }
         ensures items { items_left cursor.new ≡ drop 1 (items_left cursor.old) }
-        ensures slice { slice_left cursor.new ≡ slice_after_front (items_left cursor.old) (slice_left cursor.old) };
+        ensures slice { slice_left cursor.new ≡ slice_after_front (items_left cursor.old) (slice_left cursor.old) }
+    {
+        cursor.front()
+    }
 
     /// Takes the last component that is left, with the separators before it.
     fn back<'a>(cursor: &mut Cursor<'a>) -> Option<Piece<'a>>
         ensures taken { option_map part_of result ≡ last_part (items_left cursor.old) }
         ensures items { items_left cursor.new ≡ but_last (items_left cursor.old) }
-        ensures slice { slice_left cursor.new ≡ slice_after_back (items_left cursor.old) (slice_left cursor.old) };
+        ensures slice { slice_left cursor.new ≡ slice_after_back (items_left cursor.old) (slice_left cursor.old) }
+    {
+        cursor.back()
+    }
 
     /// Whether the components that are left begin an absolute path.
     fn absolute(cursor: &Cursor<'_>) -> bool
@@ -59,7 +66,7 @@ pub trait Encoding: Sized {
 
     /// Whether the encoding allows a name.
     fn valid(name: &[u8]) -> bool
-        ensures { result ≡ is_allowed_name dialect name.now };
+        ensures { result ≡ is_valid_name dialect name.now };
 
     /// Pushes a path onto another. Where memory is refused, the other is as it was.
     fn push(path: &mut Vec<u8>, other: &[u8]) -> Result<(), AllocError>
@@ -70,14 +77,14 @@ pub trait Encoding: Sized {
     /// Judges a path that is to be pushed, on its own: it is refused for its first component that
     /// offends. Pushed onto any base, a path that is not refused lies within that base.
     fn check(path: &[u8]) -> Result<(), CheckedPathError>
-        ensures refused { error_of result ≡ push_spec.fault dialect path.now }
+        ensures refused { error_of result ≡ fault dialect path.now }
         ensures prefix { OnOk result ((base : List ℕ) → HasPrefixOf dialect base (push_spec.push dialect base path.now)) }
         ensures contained { OnOk result ((base : List ℕ) → LiesWithin dialect base path.now (push_spec.push dialect base path.now)) };
 
     /// Pushes a path onto another, unless the path has a component that offends. Then, and where
     /// memory is refused, the other is as it was.
     fn push_checked(path: &mut Vec<u8>, other: &[u8]) -> Result<(), PathError>
-        ensures refused { refusal result ≡ push_spec.fault dialect other.now }
+        ensures refused { refusal result ≡ fault dialect other.now }
         ensures ok { OnOk result (path.new.items ≡ push_spec.push dialect path.old.items other.now) }
         ensures err { OnErr result (path.new.items ≡ path.old.items) }
         ensures prefix { OnOk result (HasPrefixOf dialect path.old.items path.new.items) }

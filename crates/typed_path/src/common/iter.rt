@@ -13,9 +13,8 @@ pub struct Iter<'a, T> {
 impl<'a, T: Encoding> Iter<'a, T> {
     ghost use Rattle.std.specs.Prelude.{◌≡◌, drop, option_map, option_copied};
     ghost use Rattle.typed_path.specs.readings.Left.{but_last, slice_after_front, slice_after_back};
-    ghost use Rattle.typed_path.specs.views.PathViews.{path_bytes, components_items, components_slice};
+    ghost use Rattle.typed_path.specs.views.PathViews.{path_bytes, iter_components, iter_items, iter_slice};
     ghost use Rattle.typed_path.specs.readings.Steps.{first_part, last_part};
-    ghost use Rattle.typed_path.specs.views.IterViews.{iter_components};
 
     /// The texts of the components that are left.
     pub(crate) fn new(components: Components<'a, T>) -> Iter<'a, T>
@@ -27,10 +26,10 @@ impl<'a, T: Encoding> Iter<'a, T> {
     /// Takes the text of the first component that is left.
     pub fn next(&mut self) -> Option<&'a [u8]>
         ensures taken { option_copied result
-            ≡ option_map (λ p. p.text) (first_part (components_items (iter_components self.old))) }
-        ensures items { components_items (iter_components self.new) ≡ drop 1 (components_items (iter_components self.old)) }
-        ensures slice { components_slice (iter_components self.new)
-            ≡ slice_after_front (components_items (iter_components self.old)) (components_slice (iter_components self.old)) }
+            ≡ option_map (λ p. p.text) (first_part (iter_items self.old)) }
+        ensures items { iter_items self.new ≡ drop 1 (iter_items self.old) }
+        ensures slice { iter_slice self.new
+            ≡ slice_after_front (iter_items self.old) (iter_slice self.old) }
     {
         let piece = self.components.next()?;
         Some(piece.text)
@@ -39,10 +38,10 @@ impl<'a, T: Encoding> Iter<'a, T> {
     /// Takes the text of the last component that is left.
     pub fn next_back(&mut self) -> Option<&'a [u8]>
         ensures taken { option_copied result
-            ≡ option_map (λ p. p.text) (last_part (components_items (iter_components self.old))) }
-        ensures items { components_items (iter_components self.new) ≡ but_last (components_items (iter_components self.old)) }
-        ensures slice { components_slice (iter_components self.new)
-            ≡ slice_after_back (components_items (iter_components self.old)) (components_slice (iter_components self.old)) }
+            ≡ option_map (λ p. p.text) (last_part (iter_items self.old)) }
+        ensures items { iter_items self.new ≡ but_last (iter_items self.old) }
+        ensures slice { iter_slice self.new
+            ≡ slice_after_back (iter_items self.old) (iter_slice self.old) }
     {
         let piece = self.components.next_back()?;
         Some(piece.text)
@@ -50,7 +49,7 @@ impl<'a, T: Encoding> Iter<'a, T> {
 
     /// The slice left, as a path.
     pub fn as_path(self) -> Path<'a, T>
-        ensures { path_bytes result ≡ components_slice (iter_components self.entry) }
+        ensures { path_bytes result ≡ iter_slice self.entry }
     {
         Path::new(self.components.as_bytes())
     }
@@ -58,7 +57,7 @@ impl<'a, T: Encoding> Iter<'a, T> {
 
 impl<'a, T: Encoding> Iterator for Iter<'a, T> {
     ghost use Rattle.std.specs.Iterator.{YieldsFirstRef, item_count};
-    ghost use Rattle.typed_path.specs.views.IterViews.{iter_texts};
+    ghost use Rattle.typed_path.specs.views.PathViews.{iter_texts};
 
     type Item = &'a [u8];
 
@@ -74,7 +73,7 @@ impl<'a, T: Encoding> Iterator for Iter<'a, T> {
 
 impl<'a, T: Encoding> DoubleEndedIterator for Iter<'a, T> {
     ghost use Rattle.std.specs.Iterator.{YieldsLastRef};
-    ghost use Rattle.typed_path.specs.views.IterViews.{iter_texts};
+    ghost use Rattle.typed_path.specs.views.PathViews.{iter_texts};
 
     ghost next_back_gives = { YieldsLastRef iter_texts };
 

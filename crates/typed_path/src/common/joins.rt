@@ -13,7 +13,8 @@ impl<'a, T: Encoding> Path<'a, T> {
     ghost use Rattle.typed_path.specs.views.PathViews.{path_bytes};
     ghost use Rattle.typed_path.specs.promises.Promises.{HasPrefixOf, LiesWithin};
     ghost use Rattle.typed_path.specs.changes.Push as push_spec;
-    ghost use Rattle.typed_path.specs.changes.Run as run_spec;
+    ghost use Rattle.typed_path.specs.changes.Changes.{with_file_name, with_extension};
+    ghost use Rattle.typed_path.specs.changes.Fault.{fault};
 
     /// A copy that owns its bytes.
     pub fn to_path_buf(self, alloc: Global) -> Result<PathBuf<T>, AllocError>
@@ -42,7 +43,7 @@ impl<'a, T: Encoding> Path<'a, T> {
     /// The answer lies within this path, as far as it keeps the prefix of this one. A path that is
     /// refused costs no memory.
     pub fn join_checked(self, alloc: Global, path: Path<'_, T>) -> Result<PathBuf<T>, PathError>
-        ensures refused { refusal result ≡ push_spec.fault T.dialect (path_bytes path.entry) }
+        ensures refused { refusal result ≡ fault T.dialect (path_bytes path.entry) }
         ensures joined { IfOk result (λ p. p.bytes ≡ push_spec.push T.dialect (path_bytes self.entry) (path_bytes path.entry)) }
         ensures prefix { IfOk result (λ p. HasPrefixOf T.dialect (path_bytes self.entry) p.bytes) }
         ensures contained { IfOk result (λ p. LiesWithin T.dialect (path_bytes self.entry) (path_bytes path.entry) p.bytes) }
@@ -53,7 +54,7 @@ impl<'a, T: Encoding> Path<'a, T> {
 
     /// A copy with another file name, or with the name pushed where there is none.
     pub fn with_file_name(self, alloc: Global, name: &[u8]) -> Result<PathBuf<T>, AllocError>
-        ensures { IfOk result (λ p. p.bytes ≡ run_spec.with_file_name T.dialect (path_bytes self.entry) name.now) }
+        ensures { IfOk result (λ p. p.bytes ≡ with_file_name T.dialect (path_bytes self.entry) name.now) }
     {
         self.without_file_name().join(alloc, Path::new(name))
     }
@@ -61,7 +62,7 @@ impl<'a, T: Encoding> Path<'a, T> {
     /// A copy whose file name has another extension, or none where the new one is empty. Without a
     /// file name it is a mere copy.
     pub fn with_extension(self, alloc: Global, extension: &[u8]) -> Result<PathBuf<T>, AllocError>
-        ensures { IfOk result (λ p. p.bytes ≡ run_spec.with_extension T.dialect (path_bytes self.entry) extension.now) }
+        ensures { IfOk result (λ p. p.bytes ≡ with_extension T.dialect (path_bytes self.entry) extension.now) }
     {
         let Some(end) = self.stem_end() else {
             return self.to_path_buf(alloc);

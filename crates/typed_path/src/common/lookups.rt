@@ -11,13 +11,11 @@ impl<'a, T: Encoding> Path<'a, T> {
     ghost use Rattle.std.specs.Prelude.{◌≡◌, ◌≤◌, length, option_map, option_copied, IfSome};
     ghost use Rattle.typed_path.specs.components.Comps.{comps};
     ghost use Rattle.typed_path.specs.readings.Steps.{last_part};
-    ghost use Rattle.typed_path.specs.views.Views.{part_of};
+    ghost use Rattle.typed_path.specs.views.PieceViews.{part_of};
     ghost use Rattle.typed_path.specs.queries.Queries.{parent_of, file_name_of, file_stem_of, extension};
-    ghost use Rattle.typed_path.specs.views.PathViews.{path_bytes, components_items, components_slice};
-    ghost use Rattle.typed_path.specs.views.IterViews.{iter_components};
-    ghost use Rattle.typed_path.specs.changes.Run.{without_file_name, stem_end};
+    ghost use Rattle.typed_path.specs.views.PathViews.{path_bytes, iter_items, iter_slice, ancestors_left};
+    ghost use Rattle.typed_path.specs.changes.Changes.{without_file_name, stem_end};
     ghost use Rattle.typed_path.specs.queries.Ancestry.{ancestors_of};
-    ghost use Rattle.typed_path.specs.views.AncestorViews.{ancestors_left};
 
     /// The last component.
     fn last(self) -> Option<Piece<'a>>
@@ -99,8 +97,8 @@ impl<'a, T: Encoding> Path<'a, T> {
 
     /// The texts of the components, from either end.
     pub fn iter(self) -> Iter<'a, T>
-        ensures items { components_items (iter_components result) ≡ comps T.dialect (path_bytes self.entry) }
-        ensures slice { components_slice (iter_components result) ≡ path_bytes self.entry }
+        ensures items { iter_items result ≡ comps T.dialect (path_bytes self.entry) }
+        ensures slice { iter_slice result ≡ path_bytes self.entry }
     {
         Iter::new(self.components())
     }
@@ -109,15 +107,14 @@ impl<'a, T: Encoding> Path<'a, T> {
 impl<'a, T: Encoding> IntoIterator for Path<'a, T> {
     ghost use Rattle.std.specs.Prelude.{◌≡◌};
     ghost use Rattle.typed_path.specs.components.Comps.{comps};
-    ghost use Rattle.typed_path.specs.views.PathViews.{path_bytes, components_items, components_slice};
-    ghost use Rattle.typed_path.specs.views.IterViews.{iter_components};
+    ghost use Rattle.typed_path.specs.views.PathViews.{path_bytes, iter_items, iter_slice};
 
     type Item = &'a [u8];
 
     type IntoIter = Iter<'a, T>;
 
-    ghost into_iter_gives = { λ path iter. components_items (iter_components iter) ≡ comps T.dialect (path_bytes path)
-        × components_slice (iter_components iter) ≡ path_bytes path };
+    ghost into_iter_gives = { λ path iter. iter_items iter ≡ comps T.dialect (path_bytes path)
+        × iter_slice iter ≡ path_bytes path };
 
     fn into_iter(self) -> Iter<'a, T> {
         self.iter()

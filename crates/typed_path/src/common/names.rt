@@ -2,7 +2,7 @@
 
 ghost use Rattle.std.specs.Prelude.{◌≡◌, ◌≤◌, ◌+◌, ◌++◌, length, option_copied, OnOk, IsOk};
 ghost use Rattle.std.specs.Vec.{vec_capacity};
-ghost use Rattle.typed_path.specs.changes.Run.{dotted};
+ghost use Rattle.typed_path.specs.changes.Changes.{dotted};
 ghost use Rattle.typed_path.specs.queries.Names.{stem_of, extension_of};
 
 use memchr::memrchr;

@@ -34,8 +34,9 @@ impl<T: Encoding> PathBuf<T> {
     ghost use Rattle.typed_path.specs.views.PathViews.{path_bytes};
     ghost use Rattle.typed_path.specs.promises.Promises.{HasPrefixOf, LiesWithin};
     ghost use Rattle.typed_path.specs.changes.Push as push_spec;
+    ghost use Rattle.typed_path.specs.changes.Fault.{fault};
     ghost use Rattle.typed_path.specs.queries.Queries.{parent_of, file_name_of};
-    ghost use Rattle.typed_path.specs.changes.Run.{popped, with_file_name, with_extension};
+    ghost use Rattle.typed_path.specs.changes.Changes.{popped, with_file_name, with_extension};
 
     /// The empty path.
     pub fn new(alloc: Global) -> PathBuf<T>
@@ -103,7 +104,7 @@ impl<T: Encoding> PathBuf<T> {
     /// Pushed, it lies within this path, as far as this one keeps its prefix. Where it is refused, or
     /// memory is, the path is as it was; a path that is refused costs no memory.
     pub fn push_checked(&mut self, path: Path<'_, T>) -> Result<(), PathError>
-        ensures refused { refusal result ≡ push_spec.fault T.dialect (path_bytes path.entry) }
+        ensures refused { refusal result ≡ fault T.dialect (path_bytes path.entry) }
         ensures ok { OnOk result (self.new.bytes ≡ push_spec.push T.dialect self.old.bytes (path_bytes path.entry)) }
         ensures err { OnErr result (self.new.bytes ≡ self.old.bytes) }
         ensures prefix { OnOk result (HasPrefixOf T.dialect self.old.bytes self.new.bytes) }

@@ -17,9 +17,8 @@ impl<'a, T: Encoding> Path<'a, T> {
     ghost use Rattle.std.specs.Str.{IsUtf8};
     ghost use Rattle.std.specs.Str.Lossy.{utf8_lossy};
     ghost use Rattle.std.specs.Cow.{cow_str_bytes, IsBorrowedStr};
-    ghost use Rattle.typed_path.specs.views.PathViews.{path_bytes};
+    ghost use Rattle.typed_path.specs.views.PathViews.{path_bytes, displayed};
     ghost use Rattle.typed_path.specs.queries.Texts.{text_of_bytes};
-    ghost use Rattle.typed_path.specs.views.DisplayViews.{displayed};
 
     /// The path as a text, where its bytes are UTF-8.
     pub fn to_str(self) -> Option<&'a str>
@@ -77,7 +76,7 @@ impl<'a, T: Encoding> fmt::Display for Path<'a, T> {
 }
 
 impl<'a, T: Encoding> fmt::Display for Display<'a, T> {
-    ghost use Rattle.typed_path.specs.views.DisplayViews.{displayed};
+    ghost use Rattle.typed_path.specs.views.PathViews.{displayed};
     ghost use Rattle.typed_path.specs.queries.Texts.{text_of_bytes};
 
     ghost output = { λ d. text_of_bytes (displayed d) };

@@ -30,11 +30,11 @@ impl<'a> Cursor<'a> {
     ghost use Rattle.typed_path.specs.components.Part.{Placed, end_of, kinds, parts};
     ghost use Rattle.typed_path.specs.queries.Queries.{begins_with_root};
     ghost use Rattle.typed_path.specs.readings.Steps.{first_part, last_part};
-    ghost use Rattle.typed_path.specs.views.Views.{part_of};
+    ghost use Rattle.typed_path.specs.views.PieceViews.{part_of};
     ghost use Rattle.typed_path.specs.views.CursorViews.{slice_left, items_left};
     ghost use Rattle.typed_path.specs.changes.Checked.{error_of};
     ghost use Rattle.typed_path.specs.components.Dialect.{dialect_of};
-    ghost use Rattle.typed_path.specs.changes.Push.{fault_behind};
+    ghost use Rattle.typed_path.specs.changes.Fault.{fault_behind};
 
     /// A reading of a whole text that has no prefix.
     pub(crate) fn new(text: &'a [u8], separators: Separators) -> Cursor<'a>

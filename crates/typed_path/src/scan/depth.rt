@@ -2,9 +2,9 @@
 
 ghost use Rattle.std.specs.Prelude.{◌≡◌, ◌≤◌, ◌<◌, ◌+◌, ◌^◌, List, ◌∷◌, IfOk};
 ghost use Rattle.typed_path.specs.components.Part.{Kind};
-ghost use Rattle.typed_path.specs.changes.Depths.{fault_at, judged};
+ghost use Rattle.typed_path.specs.changes.Fault.{fault_at, judged};
 ghost use Rattle.typed_path.specs.components.Dialect.{dialect_of};
-ghost use Rattle.typed_path.specs.views.Views.{part_of};
+ghost use Rattle.typed_path.specs.views.PieceViews.{part_of};
 
 use crate::errors::CheckedPathError;
 use crate::scan::piece::{Piece, PieceKind};
@@ -29,7 +29,7 @@ pub fn depth_behind(
         PieceKind::ParentDir => depth
             .checked_sub(1)
             .ok_or(CheckedPathError::PathTraversalAttack),
-        PieceKind::Normal if separators.allows(piece.text) => Ok(depth + 1),
+        PieceKind::Normal if separators.is_valid_name(piece.text) => Ok(depth + 1),
         PieceKind::Normal => Err(CheckedPathError::InvalidFilename),
     }
 }

@@ -1,7 +1,6 @@
 //! The components that a reading gives.
 
-use crate::common::Encoding;
-use crate::windows::WindowsPrefix;
+use crate::scan::prefix::WindowsPrefix;
 
 /// What a component is.
 #[derive(Clone, Copy, Debug)]
@@ -29,9 +28,9 @@ pub struct Piece<'a> {
 
 impl<'a> Piece<'a> {
     ghost use Rattle.std.specs.Prelude.{◌≡◌, ◌==◌, length};
-    ghost use Rattle.typed_path.specs.queries.Queries.{is_root, is_allowed};
+    ghost use Rattle.typed_path.specs.queries.Queries.{is_root};
     ghost use Rattle.typed_path.specs.components.Part.{is_name, is_parent, is_current};
-    ghost use Rattle.typed_path.specs.views.Views.{part_of};
+    ghost use Rattle.typed_path.specs.views.PieceViews.{part_of};
 
     /// The text of the component.
     pub fn as_bytes(self) -> &'a [u8]
@@ -71,16 +70,6 @@ impl<'a> Piece<'a> {
         ensures { result ≡ is_current (part_of self.entry).kind }
     {
         matches!(self.kind, PieceKind::CurDir)
-    }
-
-    /// Whether the component is no name, or a name that the encoding allows.
-    pub fn is_valid<T: Encoding>(self) -> bool
-        ensures { result ≡ is_allowed T.dialect (part_of self.entry).kind }
-    {
-        match self.kind {
-            PieceKind::Normal => T::valid(self.text),
-            _ => true,
-        }
     }
 
     /// How many bytes the text has.

@@ -3,7 +3,7 @@
 ghost use Rattle.std.specs.Prelude.{◌≡◌, ◌≤◌, length};
 ghost use Rattle.std.specs.List.{position_or_len, IsAfterLastMatch};
 ghost use Rattle.typed_path.specs.components.Dialect.{is_separator, is_verbatim, root_text, dialect_of};
-ghost use Rattle.typed_path.specs.queries.Queries.{is_disallowed, is_allowed_name};
+ghost use Rattle.typed_path.specs.queries.Queries.{is_disallowed, is_valid_name};
 
 use crate::constants::{unix, windows};
 
@@ -63,8 +63,8 @@ impl Separators {
     }
 
     /// Whether a name of such a text is allowed.
-    pub fn allows(self, name: &[u8]) -> bool
-        ensures { result ≡ is_allowed_name (dialect_of self) name.now }
+    pub fn is_valid_name(self, name: &[u8]) -> bool
+        ensures { result ≡ is_valid_name (dialect_of self) name.now }
     {
         !name.iter().any(|byte| self.is_disallowed(*byte))
     }

@@ -1,7 +1,7 @@
 //! Lines that come in pieces.
 
 ghost use Rattle.std.specs.Prelude.{◌≡◌, [], ◌∷◌};
-ghost use Rattle.typed_path.specs.lines.Lines.{pieces_of};
+ghost use Rattle.typed_path.specs.lines.Lines.{split_lines};
 
 use crate::script::fields::cut_at;
 use crate::script::lines::put_reply;
@@ -15,12 +15,12 @@ pub struct Dialogue {
     pub line: Vec<u8>,
     /// The replies that were not taken away yet.
     pub replies: Vec<u8>,
-    ghost is_open: { pieces_of line.items ≡ line.items ∷ [] },
+    ghost is_open: { split_lines line.items ≡ line.items ∷ [] },
 }
 
 impl Dialogue {
     ghost use Rattle.std.specs.Prelude.{◌≡◌, [], ◌∷◌, ◌++◌, OnOk};
-    ghost use Rattle.typed_path.specs.lines.Lines.{pieces_of, reply, replies_to, complete_lines, open_line, all_lines};
+    ghost use Rattle.typed_path.specs.lines.Lines.{split_lines, reply, replies_to, complete_lines, open_line, all_lines};
 
     pub fn new(alloc: Global) -> Dialogue
         ensures line { result.line.items ≡ [] }
@@ -49,7 +49,7 @@ impl Dialogue {
 
     /// Answers the line that a piece with no line feed completes.
     fn complete(&mut self, piece: &[u8]) -> Result<(), AllocError>
-        requires { pieces_of piece.now ≡ piece.now ∷ [] }
+        requires { split_lines piece.now ≡ piece.now ∷ [] }
         ensures replies { OnOk result (self.new.replies.items ≡ self.old.replies.items ++ reply (self.old.line.items ++ piece.now)) }
         ensures line { OnOk result (self.new.line.items ≡ []) }
     {

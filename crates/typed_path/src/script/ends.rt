@@ -1,7 +1,7 @@
 //! Components taken from either end, by a list of requests.
 
 ghost use Rattle.std.specs.Prelude.{◌≡◌, ◌++◌, map, option_map, OnOk, OnErr};
-ghost use Rattle.typed_path.specs.views.Views.{part_of};
+ghost use Rattle.typed_path.specs.views.PieceViews.{part_of};
 ghost use Rattle.typed_path.specs.views.PathViews.{components_items, components_slice};
 ghost use Rattle.typed_path.specs.readings.Reading.{answers_after, items_after, slice_after};
 ghost use Rattle.typed_path.specs.readings.Ends.{sides, taken_parts};

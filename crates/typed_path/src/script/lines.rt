@@ -3,16 +3,15 @@
 ghost use Rattle.std.specs.Prelude.{◌≡◌, [], ◌∷◌, ◌++◌, Some, OnOk};
 ghost use Rattle.typed_path.specs.components.Dialect.{unix};
 ghost use Rattle.typed_path.specs.components.Comps.{parts_of};
-ghost use Rattle.typed_path.specs.views.Views.{part_of, prefix_view};
+ghost use Rattle.typed_path.specs.views.PieceViews.{part_of, prefix_view};
 ghost use Rattle.typed_path.specs.views.PathViews.{path_bytes};
 ghost use Rattle.typed_path.specs.lines.Lines.{tab, fields_of, reply, reply_line, text_reply, components_reply, unix_reply, unix_join_reply, joined_reply, refusal_name, bad_line, component_field, kind_name, prefix_name};
 ghost use Rattle.typed_path.specs.lines.Fields.{AreFields};
 
 use crate::errors::{CheckedPathError, PathError};
-use crate::scan::{Piece, PieceKind};
+use crate::scan::{Piece, PieceKind, WindowsPrefix};
 use crate::script::fields::cut_at;
 use crate::unix::UnixPath;
-use crate::windows::WindowsPrefix;
 use std::alloc::{AllocError, Global};
 
 const NORMALIZE: &[u8] = b"normalize";

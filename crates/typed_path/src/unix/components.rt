@@ -4,7 +4,7 @@ ghost use Rattle.std.specs.Prelude.{◌≡◌};
 ghost use Rattle.typed_path.specs.views.PathViews.{components_parts};
 ghost use Rattle.typed_path.specs.components.UnixParts.{as_written, written_unix};
 ghost use Rattle.typed_path.specs.views.UnixViews.{unix_part};
-ghost use Rattle.typed_path.specs.views.Views.{part_of};
+ghost use Rattle.typed_path.specs.views.PieceViews.{part_of};
 
 use crate::common::{Components, Encoding, Path};
 use crate::scan::{Piece, PieceKind};

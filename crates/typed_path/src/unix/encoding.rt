@@ -7,7 +7,7 @@ ghost use Rattle.typed_path.specs.changes.Push.{ended_with};
 
 use crate::common::Encoding;
 use crate::errors::CheckedPathError;
-use crate::scan::{Cursor, Piece, Separators};
+use crate::scan::{Cursor, Separators};
 use std::alloc::AllocError;
 
 /// Paths as on Unix: `/` separates, and every other byte belongs to a name.
@@ -29,14 +29,6 @@ impl Encoding for UnixEncoding {
         Cursor::new(path, Separators::Slash)
     }
 
-    fn front<'a>(cursor: &mut Cursor<'a>) -> Option<Piece<'a>> {
-        cursor.front()
-    }
-
-    fn back<'a>(cursor: &mut Cursor<'a>) -> Option<Piece<'a>> {
-        cursor.back()
-    }
-
     fn absolute(cursor: &Cursor<'_>) -> bool {
         cursor.begins_with_root()
     }
@@ -46,7 +38,7 @@ impl Encoding for UnixEncoding {
     }
 
     fn valid(name: &[u8]) -> bool {
-        Separators::Slash.allows(name)
+        Separators::Slash.is_valid_name(name)
     }
 
     fn push(path: &mut Vec<u8>, other: &[u8]) -> Result<(), AllocError> {

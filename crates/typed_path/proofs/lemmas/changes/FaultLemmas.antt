@@ -10,10 +10,9 @@ use Rattle.typed_path.specs.declared.errors.CheckedPathError.TheVariants.{Invali
 use Rattle.typed_path.specs.components.Dialect.{Dialect}
 use Rattle.typed_path.specs.components.Part.{Kind, prefix, root, current, parent, normal, is_name, is_parent, Part, Placed, kinds, parts}
 use Rattle.typed_path.specs.readings.Steps.{first_part}
-use Rattle.typed_path.specs.queries.Queries.{is_allowed_name, begins_with_root}
-use Rattle.typed_path.specs.changes.Push.{fault_behind}
+use Rattle.typed_path.specs.queries.Queries.{is_valid_name, begins_with_root}
+use Rattle.typed_path.specs.changes.Fault.{fault_behind, fault_at}
 use Rattle.typed_path.specs.places.Places.{overdraws}
-use Rattle.typed_path.specs.changes.Depths.{fault_at}
 
 -- one more element counted
 count_by-push : {X : Type 0} (p : X → Bool) (xs : List X) (x : X) → count_by p (xs ++ x ∷ []) ≡ count_by p xs + (if p x then 1 else 0)
@@ -35,7 +34,7 @@ fault_behind-at d before (suc depth) (parent ∷ ks) e =
     rw (lt-leb (count_by is_name before) (count_by is_parent before) (omega (arith, e)))
     (fault_behind-at d (before ++ parent ∷ []) depth ks (omega (arith, e, count_by-push is_name before parent, count_by-push is_parent before parent)))
 fault_behind-at d before depth (normal name ∷ ks) e =
-    by (is_allowed_name d name)
+    by (is_valid_name d name)
     (fault_behind-at d (before ++ normal name ∷ []) (suc depth) ks (omega (arith, e, count_by-push is_name before (normal name), count_by-push is_parent before (normal name))))
   where
     by : (b : Bool) → fault_behind d (before ++ normal name ∷ []) ks ≡ fault_at d (suc depth) ks
@@ -51,7 +50,7 @@ fault_at-overdraws d depth (root ∷ ks) e = cc
 fault_at-overdraws d depth (current ∷ ks) e = fault_at-overdraws d depth ks e
 fault_at-overdraws d zero (parent ∷ ks) e = cc
 fault_at-overdraws d (suc depth) (parent ∷ ks) e = fault_at-overdraws d depth ks e
-fault_at-overdraws d depth (normal name ∷ ks) e = fault_at-overdraws d (suc depth) ks (by (is_allowed_name d name) e)
+fault_at-overdraws d depth (normal name ∷ ks) e = fault_at-overdraws d (suc depth) ks (by (is_valid_name d name) e)
   where
     by : (b : Bool) → (if b then fault_at d (suc depth) ks else Some InvalidFilename) ≡ None → fault_at d (suc depth) ks ≡ None
     by true h = h

@@ -11,7 +11,7 @@ use Rattle.typed_path.specs.components.Part.{Part, Placed, parts, current_part, 
 use Rattle.typed_path.specs.components.Comps.{Segment, segments, is_dot, is_dot_dot, component, later, body_of, parts_of}
 use Rattle.typed_path.specs.readings.Left.{but_last}
 use Rattle.typed_path.specs.readings.Steps.{last_part}
-use Rattle.typed_path.specs.views.Views.{part_of}
+use Rattle.typed_path.specs.views.PieceViews.{part_of}
 use Rattle.typed_path.specs.components.UnixParts.{written_unix, as_written}
 use Rattle.typed_path.proofs.lemmas.readings.LeftLemmas.{last_pushed, last_part-push}
 

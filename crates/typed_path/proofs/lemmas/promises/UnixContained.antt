@@ -7,7 +7,8 @@ use Rattle.typed_path.specs.components.Dialect.{unix, slash}
 use Rattle.typed_path.specs.components.Part.{Kind, prefix, root, current, parent, normal, Part, kinds}
 use Rattle.typed_path.specs.components.Comps.{parts_of}
 use Rattle.typed_path.specs.promises.Joins.{without_leading_current}
-use Rattle.typed_path.specs.changes.Push.{push_unix, fault}
+use Rattle.typed_path.specs.changes.Push.{push_unix}
+use Rattle.typed_path.specs.changes.Fault.{fault}
 use Rattle.typed_path.specs.places.Places.{resolve, with_implied_root, place}
 use Rattle.typed_path.specs.promises.Promises.{IsContained, KeepsPrefix}
 use Rattle.typed_path.proofs.lemmas.components.PartLemmas.{AreRead}

@@ -4,8 +4,7 @@ use Rattle.std.specs.ControlFlow.{continue_value}
 use Rattle.std.specs.Iterator.{MakesProgress, item_count}
 use Rattle.typed_path.specs.declared.common.path.Path.{Path}
 use Rattle.typed_path.specs.components.Dialect.{Dialect}
-use Rattle.typed_path.specs.views.AncestorViews.{ancestors_from, ancestors_left}
-use Rattle.typed_path.specs.views.PathViews.{path_bytes}
+use Rattle.typed_path.specs.views.PathViews.{ancestors_from, ancestors_left, path_bytes}
 use Rattle.typed_path.proofs.lemmas.queries.AncestorLemmas.{above, ancestors-step}
 use Rattle.typed_path.proofs.common.ancestors.AncestorsIterator.next.Goals as goal
 

@@ -6,7 +6,7 @@ use Rattle.typed_path.specs.declared.scan.piece.Piece.{Piece}
 use Rattle.typed_path.specs.components.Part.{Part, Placed, parts}
 use Rattle.typed_path.specs.readings.Left.{but_last}
 use Rattle.typed_path.specs.readings.Steps.{last_part}
-use Rattle.typed_path.specs.views.Views.{part_of}
+use Rattle.typed_path.specs.views.PieceViews.{part_of}
 use Rattle.typed_path.specs.views.PathViews.{components_parts}
 use Rattle.typed_path.proofs.lemmas.readings.LeftLemmas.{last_part-push, last_pushed}
 use Rattle.typed_path.proofs.common.components.ComponentsDoubleEndedIterator.next_back.Goals as goal

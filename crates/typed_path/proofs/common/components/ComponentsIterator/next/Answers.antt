@@ -3,7 +3,7 @@ use Rattle.std.specs.Prelude.{MatchOption}
 use Rattle.typed_path.specs.declared.scan.piece.Piece.{Piece}
 use Rattle.typed_path.specs.components.Part.{Placed, parts}
 use Rattle.typed_path.specs.readings.Steps.{first_part}
-use Rattle.typed_path.specs.views.Views.{part_of}
+use Rattle.typed_path.specs.views.PieceViews.{part_of}
 use Rattle.typed_path.proofs.common.components.ComponentsIterator.next.Goals as goal
 
 some_injective : {A : Type 0} {x y : A} → Some x ≡ Some y → x ≡ y

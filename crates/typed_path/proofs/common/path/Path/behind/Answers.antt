@@ -3,7 +3,7 @@ use Rattle.std.specs.Prelude.{Some, None}
 use Rattle.typed_path.specs.components.Part.{Placed}
 use Rattle.typed_path.specs.readings.Steps.{first_part}
 use Rattle.typed_path.specs.views.PathViews.{path_bytes}
-use Rattle.typed_path.specs.views.Views.{part_of}
+use Rattle.typed_path.specs.views.PieceViews.{part_of}
 use Rattle.typed_path.proofs.lemmas.queries.StripLemmas.{Strips-start, Strips-end, Strips-short, Strips-differ, Strips-step}
 use Rattle.typed_path.proofs.common.path.Path.behind.Goals as goal
 

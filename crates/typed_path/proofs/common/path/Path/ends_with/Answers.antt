@@ -1,7 +1,7 @@
 use Rattle.std.proofs.Common.{◌≡◌, Bool, true, false, not, ◌&&◌, refl, sym, ap, ◌∙◌}
 use Rattle.typed_path.specs.readings.Left.{but_last}
 use Rattle.typed_path.specs.views.PathViews.{components_items}
-use Rattle.typed_path.specs.views.Views.{part_of}
+use Rattle.typed_path.specs.views.PieceViews.{part_of}
 use Rattle.typed_path.proofs.lemmas.queries.EndLemmas.{ends, and_false, and_true, ends-nothing, ends-short, ends-step}
 use Rattle.typed_path.proofs.common.path.Path.ends_with.Goals as goal
 

@@ -6,18 +6,18 @@ use Rattle.typed_path.specs.components.Dialect.{Dialect}
 use Rattle.typed_path.specs.components.Part.{Part, parts, kinds}
 use Rattle.typed_path.specs.components.Comps.{parts_of}
 use Rattle.typed_path.specs.views.PathViews.{path_bytes, components_parts}
-use Rattle.typed_path.specs.queries.Queries.{is_allowed, is_valid}
-use Rattle.typed_path.specs.views.Views.{part_of}
+use Rattle.typed_path.specs.queries.Queries.{is_valid_kind, is_valid}
+use Rattle.typed_path.specs.views.PieceViews.{part_of}
 use Rattle.typed_path.proofs.common.path.Path.is_valid.Goals as goal
 
 -- a test of each part's kind
-valid-parts : (d : Dialect) (ps : List Part) → list_all (λ p. is_allowed d p.kind) ps ≡ is_valid d (kinds ps)
+valid-parts : (d : Dialect) (ps : List Part) → list_all (λ p. is_valid_kind d p.kind) ps ≡ is_valid d (kinds ps)
 valid-parts d [] = refl
-valid-parts d (p ∷ ps) = ap (λ b. is_allowed d p.kind && b) (valid-parts d ps)
+valid-parts d (p ∷ ps) = ap (λ b. is_valid_kind d p.kind && b) (valid-parts d ps)
 
 pub returns : goal.returns
 returns g c =
     let d = g.T.Encoding.dialect in
-    all_from_yields_List (λ p. is_allowed d p.kind) c.all.new.self _ _ c.all.ensures.ran
+    all_from_yields_List (λ p. is_valid_kind d p.kind) c.all.new.self _ _ c.all.ensures.ran
     (YieldsList-from_first part_of components_parts (parts_of d (path_bytes c.args.self)) (ap parts c.components.ensures.items)) (λ x b q k. search (rules, tests))
     ∙ valid-parts d (parts_of d (path_bytes c.args.self))

@@ -2,7 +2,7 @@ use Rattle.std.proofs.Common.{◌≡◌, ◌⊎◌, inl, inr, ℕ, ◌+◌, ◌<
 use Rattle.typed_path.specs.declared.scan.piece.Piece.{Piece}
 use Rattle.typed_path.specs.declared.scan.piece.PieceKind.{PieceKind}
 use Rattle.typed_path.specs.declared.scan.piece.PieceKind.TheVariants.{Prefix, CurDir, ParentDir, RootDir}
-use Rattle.typed_path.specs.declared.windows.prefix.WindowsPrefix.{WindowsPrefix}
+use Rattle.typed_path.specs.declared.scan.prefix.WindowsPrefix.{WindowsPrefix}
 use Rattle.std.specs.Prelude.{Option, Some, None, option_to_list, IsSome}
 use Rattle.std.proofs.lemmas.List.{map-append, drop-map, drop_more, drop_all, length-map}
 use Rattle.typed_path.specs.changes.Push.{push, push_all}
@@ -11,7 +11,7 @@ use Rattle.typed_path.specs.components.Comps.{parts_of}
 use Rattle.typed_path.specs.places.Places.{normal_text}
 use Rattle.typed_path.specs.components.Dialect.{Dialect}
 use Rattle.typed_path.specs.components.Part.{Part, parts, parent}
-use Rattle.typed_path.specs.views.Views.{part_of, kind_view}
+use Rattle.typed_path.specs.views.PieceViews.{part_of, kind_view}
 use Rattle.typed_path.proofs.lemmas.places.SettleLemmas.{is_head, Comes, comes-current, comes-parent, comes-parent_alone, comes-head, comes-end}
 use Rattle.typed_path.specs.promises.Promises.{HasNormalForm}
 use Rattle.typed_path.proofs.lemmas.promises.UnixNormal.{normal_form}

@@ -3,7 +3,7 @@ use Rattle.std.specs.Prelude.{Some}
 use Rattle.typed_path.specs.components.Comps.{comps}
 use Rattle.typed_path.specs.readings.Left.{slice_after_back}
 use Rattle.typed_path.specs.readings.Steps.{last_part}
-use Rattle.typed_path.specs.views.Views.{part_of}
+use Rattle.typed_path.specs.views.PieceViews.{part_of}
 use Rattle.typed_path.specs.views.PathViews.{path_bytes, components_slice}
 use Rattle.typed_path.proofs.lemmas.queries.ParentLemmas.{parent_left}
 use Rattle.typed_path.proofs.common.path.Path.parent.Goals as goal

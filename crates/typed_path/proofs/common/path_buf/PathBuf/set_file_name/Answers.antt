@@ -1,6 +1,6 @@
 use Rattle.std.proofs.Common.{◌≡◌, length, take, ap, ◌∙◌}
 use Rattle.typed_path.specs.changes.Push.{push}
-use Rattle.typed_path.specs.changes.Run.{without_file_name}
+use Rattle.typed_path.specs.changes.Changes.{without_file_name}
 use Rattle.typed_path.proofs.lemmas.changes.NameSpans.{without_file_name-front}
 use Rattle.typed_path.proofs.common.path_buf.PathBuf.set_file_name.Goals as goal
 

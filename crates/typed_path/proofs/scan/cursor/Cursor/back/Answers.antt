@@ -3,7 +3,7 @@ use Rattle.typed_path.specs.components.Comps.{component}
 use Rattle.typed_path.specs.readings.Left.{but_last, slice_after_back}
 use Rattle.typed_path.specs.readings.Steps.{body_from, is_clean, last_part}
 use Rattle.typed_path.specs.views.CursorViews.{items_left}
-use Rattle.typed_path.specs.views.Views.{part_of}
+use Rattle.typed_path.specs.views.PieceViews.{part_of}
 use Rattle.typed_path.proofs.lemmas.readings.LeftLemmas.{last_part-push, but_last-push, starts-body_from, slice_after_back-push, slice_range-earlier}
 use Rattle.typed_path.proofs.scan.cursor.Cursor.back.Goals as goal
 use Rattle.typed_path.proofs.scan.cursor.Cursor.back.Goals.{After-back_step-kept}

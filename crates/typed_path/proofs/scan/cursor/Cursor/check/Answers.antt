@@ -4,11 +4,10 @@ use Rattle.std.proofs.lemmas.List.{length-take-le, length-drop}
 use Rattle.typed_path.specs.components.Part.{kinds, parts}
 use Rattle.typed_path.specs.components.Dialect.{dialect_of}
 use Rattle.typed_path.specs.views.CursorViews.{slice_left, items_left}
-use Rattle.typed_path.specs.views.Views.{part_of}
-use Rattle.typed_path.specs.changes.Push.{fault_behind}
+use Rattle.typed_path.specs.views.PieceViews.{part_of}
+use Rattle.typed_path.specs.changes.Fault.{fault_behind, fault_at}
 use Rattle.typed_path.specs.changes.Checked.{error_of}
 use Rattle.std.specs.Result.{IsErrAnd}
-use Rattle.typed_path.specs.changes.Depths.{fault_at}
 use Rattle.typed_path.proofs.lemmas.components.CountLemmas.{body_from-count}
 use Rattle.typed_path.proofs.lemmas.changes.FaultLemmas.{fault_behind-at, taken-first}
 use Rattle.typed_path.proofs.scan.cursor.Cursor.check.Goals as goal

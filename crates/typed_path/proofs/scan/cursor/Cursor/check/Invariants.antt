@@ -2,8 +2,7 @@ use Rattle.std.proofs.Common.{◌≡◌, ◌+◌, ◌≤◌, [], length}
 use Rattle.typed_path.specs.components.Part.{kinds, parts}
 use Rattle.typed_path.specs.views.CursorViews.{items_left}
 use Rattle.typed_path.specs.components.Dialect.{dialect_of}
-use Rattle.typed_path.specs.changes.Push.{fault_behind}
-use Rattle.typed_path.specs.changes.Depths.{fault_at}
+use Rattle.typed_path.specs.changes.Fault.{fault_behind, fault_at}
 use Rattle.typed_path.proofs.scan.cursor.Cursor.check.Given as goal
 
 abbrev pub invariant-pieces : goal.invariant-pieces

@@ -2,7 +2,7 @@ use Rattle.std.proofs.Common.{◌≡◌, ◌+◌, slice_range, drop, ap, sym, �
 use Rattle.typed_path.specs.components.Comps.{later_body, component}
 use Rattle.typed_path.specs.readings.Left.{slice_after_front}
 use Rattle.typed_path.specs.readings.Steps.{body_from}
-use Rattle.typed_path.specs.views.Views.{part_of}
+use Rattle.typed_path.specs.views.PieceViews.{part_of}
 use Rattle.typed_path.proofs.lemmas.components.BodyLemmas.{slice_after_front-first, slice_range-later}
 use Rattle.typed_path.proofs.scan.cursor.Cursor.front.Goals as goal
 use Rattle.typed_path.proofs.scan.cursor.Cursor.front.Goals.{After-front_step-taken}

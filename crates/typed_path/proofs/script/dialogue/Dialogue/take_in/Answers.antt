@@ -1,10 +1,10 @@
 use Rattle.std.proofs.Common.{◌≡◌, ℕ, List, [], ◌∷◌, ◌++◌, Bool, true, false, cond, append_assoc, sym, ap, subst, ◌∙◌}
-use Rattle.typed_path.specs.lines.Lines.{pieces_of, reply, replies_to, complete_lines, open_line}
+use Rattle.typed_path.specs.lines.Lines.{split_lines, reply, replies_to, complete_lines, open_line}
 use Rattle.typed_path.proofs.lemmas.lines.LineLemmas.{joined-open, complete_lines-joined, open_line-joined}
 use Rattle.typed_path.proofs.script.dialogue.Dialogue.take_in.Goals as goal
 
 -- the replies once one more line is complete
-next_replies : (line rest piece behind replies whole : List ℕ) → pieces_of line ≡ line ∷ [] → pieces_of rest ≡ piece ∷ pieces_of behind
+next_replies : (line rest piece behind replies whole : List ℕ) → split_lines line ≡ line ∷ [] → split_lines rest ≡ piece ∷ split_lines behind
     → replies ++ replies_to (complete_lines (line ++ rest)) ≡ whole
     → (replies ++ reply (line ++ piece)) ++ replies_to (complete_lines behind) ≡ whole
 next_replies line rest piece behind replies whole is_open cut h =
@@ -12,10 +12,10 @@ next_replies line rest piece behind replies whole is_open cut h =
     ∙ ap (λ ls. replies ++ replies_to ls) (sym (complete_lines-joined line is_open rest piece behind cut)) ∙ h
 
 -- the line is open where the rest has no line feed, whether memory was found for it or not
-still_open : (line rest new : List ℕ) (found : Bool) → pieces_of line ≡ line ∷ [] → pieces_of rest ≡ rest ∷ [] → new ≡ cond found (line ++ rest) line
-    → pieces_of new ≡ new ∷ []
-still_open line rest new true is_open none e = subst (λ t. pieces_of t ≡ t ∷ []) (sym e) (joined-open line is_open rest none)
-still_open line rest new false is_open none e = subst (λ t. pieces_of t ≡ t ∷ []) (sym e) is_open
+still_open : (line rest new : List ℕ) (found : Bool) → split_lines line ≡ line ∷ [] → split_lines rest ≡ rest ∷ [] → new ≡ cond found (line ++ rest) line
+    → split_lines new ≡ new ∷ []
+still_open line rest new true is_open none e = subst (λ t. split_lines t ≡ t ∷ []) (sym e) (joined-open line is_open rest none)
+still_open line rest new false is_open none e = subst (λ t. split_lines t ≡ t ∷ []) (sym e) is_open
 
 pub lines-preserved : goal.lines-preserved
 lines-preserved c = record {

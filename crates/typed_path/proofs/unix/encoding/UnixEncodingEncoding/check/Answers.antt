@@ -5,7 +5,8 @@ use Rattle.typed_path.specs.changes.Checked.{error_of}
 use Rattle.typed_path.specs.views.CursorViews.{items_left}
 use Rattle.typed_path.specs.components.Dialect.{unix, dialect_of}
 use Rattle.typed_path.specs.components.Part.{kinds, parts}
-use Rattle.typed_path.specs.changes.Push.{push, fault, fault_behind}
+use Rattle.typed_path.specs.changes.Push.{push}
+use Rattle.typed_path.specs.changes.Fault.{fault, fault_behind}
 use Rattle.typed_path.specs.promises.Promises.{LiesWithin}
 use Rattle.typed_path.proofs.lemmas.promises.UnixContained.{contained}
 use Rattle.typed_path.proofs.unix.encoding.UnixEncodingEncoding.check.Goals as goal

@@ -1,7 +1,7 @@
 -- What the crate's values are, as pure data.
 use Rattle.std.specs.Prelude.{ℕ, List}
-use Rattle.typed_path.specs.declared.windows.prefix.WindowsPrefix.{WindowsPrefix}
-use Rattle.typed_path.specs.declared.windows.prefix.WindowsPrefix.TheVariants.{Verbatim, VerbatimUNC, VerbatimDisk, DeviceNS, UNC, Disk}
+use Rattle.typed_path.specs.declared.scan.prefix.WindowsPrefix.{WindowsPrefix}
+use Rattle.typed_path.specs.declared.scan.prefix.WindowsPrefix.TheVariants.{Verbatim, VerbatimUNC, VerbatimDisk, DeviceNS, UNC, Disk}
 use Rattle.typed_path.specs.declared.scan.piece.Piece.{Piece}
 use Rattle.typed_path.specs.declared.scan.piece.PieceKind.{PieceKind}
 use Rattle.typed_path.specs.declared.scan.piece.PieceKind.TheVariants.{Prefix, RootDir, CurDir, ParentDir, Normal}
