@@ -1,14 +1,11 @@
 -- A path with another pushed onto it.
-use Rattle.std.specs.Prelude.{ℕ, ◌-◌, List, [], ◌∷◌, ◌++◌, Bool, true, false, ◌||◌, ◌==◌, nat_le, length, take, slice_index, if◌then◌else◌, Option, Some, None}
-use Rattle.std.specs.List.{count_by, fold}
-use Rattle.std.specs.Option.{option_or}
-use Rattle.typed_path.specs.declared.errors.CheckedPathError.{CheckedPathError}
-use Rattle.typed_path.specs.declared.errors.CheckedPathError.TheVariants.{InvalidFilename, PathTraversalAttack, UnexpectedPrefix, UnexpectedRoot}
+use Rattle.std.specs.Prelude.{◌≡◌, ◌≤◌, ℕ, ◌-◌, List, [], ◌∷◌, ◌++◌, Bool, true, false, ◌||◌, ◌==◌, length, take, slice_index, if◌then◌else◌, Option, Some, None}
+use Rattle.std.specs.List.{fold}
 use Rattle.typed_path.specs.components.Dialect.{Dialect, unix, windows, slash, backslash}
-use Rattle.typed_path.specs.components.Part.{disk, Kind, prefix, root, current, parent, normal, Part, kinds, is_name, is_parent}
+use Rattle.typed_path.specs.components.Part.{disk, Kind, prefix, root, current, parent, Part, kinds, is_name}
 use Rattle.typed_path.specs.components.Prefix.{Found, prefix_of}
 use Rattle.typed_path.specs.components.Comps.{parts_of}
-use Rattle.typed_path.specs.queries.Queries.{begins_with_root, begins_with_prefix, has_prefix, has_any_verbatim_prefix, is_valid_name}
+use Rattle.typed_path.specs.queries.Queries.{begins_with_root, begins_with_prefix, has_prefix, has_any_verbatim_prefix}
 
 -- a text, with the byte at its end unless it is empty or ends with that byte
 abbrev pub ended_with : ℕ → List ℕ → List ℕ
@@ -83,6 +80,15 @@ push_windows base (b ∷ path) =
 abbrev pub push : Dialect → List ℕ → List ℕ → List ℕ
 push unix base path = push_unix base path
 push windows base path = push_windows base path
+
+-- whether a push onto the base spells the base anew, as under a verbatim prefix
+abbrev pub spells_anew : Dialect → List ℕ → Bool
+spells_anew unix base = false
+spells_anew windows base = has_any_verbatim_prefix (kinds (parts_of windows base))
+
+-- a push onto a base that is not spelled anew finds its result within the room
+abbrev pub FitsPush : Dialect → ℕ → List ℕ → List ℕ → Type 0
+FitsPush d room base path = (spells_anew d base ≡ false) × (length (push d base path) ≤ room)
 
 -- paths pushed one by one
 abbrev pub push_all : Dialect → List ℕ → List (List ℕ) → List ℕ

@@ -1,15 +1,11 @@
 -- What a list of operations makes of a path.
-use Rattle.std.specs.Prelude.{ℕ, ◌+◌, List, [], ◌∷◌, ◌++◌, Bool, length, take, is_some, unwrap_or, if◌then◌else◌, Option, Some, None, option_map}
+use Rattle.std.specs.Prelude.{◌≡◌, ◌≤◌, ℕ, List, [], ◌∷◌, Bool, length, is_some, Option, Some, None, ⊤}
 use Rattle.typed_path.specs.declared.errors.CheckedPathError.{CheckedPathError}
-use Rattle.typed_path.specs.components.Dialect.{Dialect, dot}
-use Rattle.typed_path.specs.components.Part.{Placed}
-use Rattle.typed_path.specs.components.Comps.{comps}
-use Rattle.typed_path.specs.readings.Left.{last_of}
-use Rattle.typed_path.specs.queries.Names.{stem_of}
+use Rattle.typed_path.specs.components.Dialect.{Dialect}
 use Rattle.typed_path.specs.queries.Queries.{parent_of, file_name_of}
-use Rattle.typed_path.specs.changes.Push.{push, push_all}
+use Rattle.typed_path.specs.changes.Push.{push, push_all, FitsPush}
 use Rattle.typed_path.specs.changes.Fault.{fault}
-use Rattle.typed_path.specs.changes.Changes.{popped, with_file_name, with_extension}
+use Rattle.typed_path.specs.changes.Changes.{popped, without_file_name, with_file_name, with_extension}
 
 pub data Operation : Type 0 where
   push_op : List ℕ → Operation
@@ -47,3 +43,23 @@ text_after d t (op ∷ ops) = text_after d (step d t op).0 ops
 abbrev pub replies : Dialect → List ℕ → List Operation → List Response
 replies d t [] = []
 replies d t (op ∷ ops) = (step d t op).1 ∷ replies d (step d t op).0 ops
+
+-- there is room for paths that are pushed one by one
+abbrev pub FitsEach : Dialect → ℕ → List ℕ → List (List ℕ) → Type 0
+FitsEach d room t [] = ⊤
+FitsEach d room t (path ∷ paths) = FitsPush d room t path × FitsEach d room (push d t path) paths
+
+-- there is room for what an operation makes of a path
+abbrev pub FitsStep : Dialect → ℕ → List ℕ → Operation → Type 0
+FitsStep d room t (push_op path) = FitsPush d room t path
+FitsStep d room t (push_checked_op path) = fault d path ≡ None → FitsPush d room t path
+FitsStep d room t pop_op = ⊤
+FitsStep d room t (set_file_name_op name) = FitsPush d room (without_file_name d t) name
+FitsStep d room t (set_extension_op ext) = length (with_extension d t ext) ≤ room
+FitsStep d room t clear_op = ⊤
+FitsStep d room t (extend_op paths) = FitsEach d room t paths
+
+-- there is room for what each of a list of operations makes
+abbrev pub FitsAll : Dialect → ℕ → List ℕ → List Operation → Type 0
+FitsAll d room t [] = ⊤
+FitsAll d room t (op ∷ ops) = FitsStep d room t op × FitsAll d room (step d t op).0 ops

@@ -1,6 +1,6 @@
 //! What every encoding of paths can do.
 
-ghost use Rattle.std.specs.Prelude.{◌≡◌, ◌≤◌, ℕ, List, drop, option_map, OnOk, OnErr};
+ghost use Rattle.std.specs.Prelude.{◌≡◌, ◌≤◌, ℕ, List, drop, take, option_map, IsSome, None, IsOk, OnOk, OnErr};
 ghost use Rattle.std.specs.Vec.{vec_capacity};
 ghost use Rattle.typed_path.specs.changes.Checked.{refusal, error_of};
 ghost use Rattle.typed_path.specs.promises.Promises.{HasPrefixOf, LiesWithin};
@@ -13,6 +13,7 @@ ghost use Rattle.typed_path.specs.views.CursorViews.{slice_left, items_left};
 ghost use Rattle.typed_path.specs.components.Part.{kinds, parts};
 ghost use Rattle.typed_path.specs.queries.Queries.{is_absolute, has_root, is_valid_name};
 ghost use Rattle.typed_path.specs.changes.Push as push_spec;
+ghost use Rattle.typed_path.specs.changes.Push.{FitsPush};
 ghost use Rattle.typed_path.specs.changes.Fault.{fault};
 
 use crate::errors::{CheckedPathError, PathError};
@@ -68,11 +69,25 @@ pub trait Encoding: Sized {
     fn valid(name: &[u8]) -> bool
         ensures { result ≡ is_valid_name dialect name.now };
 
+    /// Cuts a path to its first bytes, and pushes another onto what is left. Where memory is
+    /// refused, the path is as it was.
+    fn push_over(path: &mut Vec<u8>, kept: usize, other: &[u8]) -> Result<(), AllocError>
+        ensures ok { OnOk result
+            (path.new.items ≡ push_spec.push dialect (take kept path.old.items) other.now) }
+        ensures err { OnErr result (path.new.items ≡ path.old.items) }
+        ensures capacity { vec_capacity path.old ≤ vec_capacity path.new }
+        ensures succeeds { FitsPush dialect (vec_capacity path.old) (take kept path.old.items) other.now
+            → IsOk result };
+
     /// Pushes a path onto another. Where memory is refused, the other is as it was.
     fn push(path: &mut Vec<u8>, other: &[u8]) -> Result<(), AllocError>
         ensures ok { OnOk result (path.new.items ≡ push_spec.push dialect path.old.items other.now) }
         ensures err { OnErr result (path.new.items ≡ path.old.items) }
-        ensures room { OnErr result (vec_capacity path.old ≤ vec_capacity path.new) };
+        ensures capacity { vec_capacity path.old ≤ vec_capacity path.new }
+        ensures succeeds { FitsPush dialect (vec_capacity path.old) path.old.items other.now → IsOk result }
+    {
+        Self::push_over(path, path.len(), other)
+    }
 
     /// Judges a path that is to be pushed, on its own: it is refused for its first component that
     /// offends. Pushed onto any base, a path that is not refused lies within that base.
@@ -87,6 +102,10 @@ pub trait Encoding: Sized {
         ensures refused { refusal result ≡ fault dialect other.now }
         ensures ok { OnOk result (path.new.items ≡ push_spec.push dialect path.old.items other.now) }
         ensures err { OnErr result (path.new.items ≡ path.old.items) }
+        ensures unchanged { IsSome (refusal result) → path.new ≡ path.old }
+        ensures capacity { vec_capacity path.old ≤ vec_capacity path.new }
+        ensures succeeds { fault dialect other.now ≡ None
+            → FitsPush dialect (vec_capacity path.old) path.old.items other.now → IsOk result }
         ensures prefix { OnOk result (HasPrefixOf dialect path.old.items path.new.items) }
         ensures contained { OnOk result (LiesWithin dialect path.old.items other.now path.new.items) }
     {

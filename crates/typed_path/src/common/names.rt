@@ -37,7 +37,9 @@ pub fn dotted_len(extension: &[u8]) -> usize
 /// Puts an extension behind a stem, with the dot before it; nothing where the extension is empty.
 pub fn put_extension(stem: &mut Vec<u8>, extension: &[u8]) -> Result<(), AllocError>
     ensures ok { OnOk result (stem.new.items ≡ stem.old.items ++ dotted extension.now) }
-    ensures succeeds { length stem.old.items + length (dotted extension.now) ≤ vec_capacity stem.old → IsOk result }
+    ensures capacity { vec_capacity stem.old ≤ vec_capacity stem.new }
+    ensures succeeds { length stem.old.items + length (dotted extension.now) ≤ vec_capacity stem.old
+        → IsOk result }
 {
     if extension.is_empty() {
         return Ok(());

@@ -4,12 +4,8 @@ use crate::common::encoding::Encoding;
 use crate::common::names::{dotted_len, put_extension};
 use crate::common::path::Path;
 use crate::errors::PathError;
-use smallvec::SmallVec;
 use std::alloc::{AllocError, Global};
 use std::marker::{Model, PhantomData};
-
-/// How many bytes of a file name are set aside without asking for memory.
-const INLINE_TAIL: usize = 64;
 
 /// A path that owns its bytes, and grows.
 #[derive(Drop)]
@@ -28,15 +24,16 @@ impl<T> Model for PathBuf<T> {
 }
 
 impl<T: Encoding> PathBuf<T> {
-    ghost use Rattle.std.specs.Prelude.{◌≡◌, ◌≤◌, ◌+◌, [], length, is_some, max, min, IfOk, OnOk, OnErr, IsOk};
+    ghost use Rattle.std.specs.Prelude.{◌≡◌, ◌≤◌, ◌+◌, [], length, is_some, max, min, IsSome, None, IfOk, OnOk, OnErr, IsOk};
     ghost use Rattle.std.specs.Vec.{vec_capacity};
     ghost use Rattle.typed_path.specs.changes.Checked.{refusal};
     ghost use Rattle.typed_path.specs.views.PathViews.{path_bytes};
     ghost use Rattle.typed_path.specs.promises.Promises.{HasPrefixOf, LiesWithin};
     ghost use Rattle.typed_path.specs.changes.Push as push_spec;
+    ghost use Rattle.typed_path.specs.changes.Push.{FitsPush};
     ghost use Rattle.typed_path.specs.changes.Fault.{fault};
     ghost use Rattle.typed_path.specs.queries.Queries.{parent_of, file_name_of};
-    ghost use Rattle.typed_path.specs.changes.Changes.{popped, with_file_name, with_extension};
+    ghost use Rattle.typed_path.specs.changes.Changes.{popped, without_file_name, with_file_name, with_extension};
 
     /// The empty path.
     pub fn new(alloc: Global) -> PathBuf<T>
@@ -49,7 +46,8 @@ impl<T: Encoding> PathBuf<T> {
     /// The empty path, with room for so many bytes.
     pub fn with_capacity(alloc: Global, capacity: usize) -> Result<PathBuf<T>, AllocError>
         ensures bytes { IfOk result (λ p. p.bytes ≡ []) }
-        ensures room { IfOk result (λ p. capacity ≤ p.capacity) }
+        ensures capacity { IfOk result (λ p. p.capacity ≡ capacity) }
+        ensures succeeds { capacity ≡ 0 → IsOk result }
     {
         Ok(PathBuf::from_vec(Vec::with_capacity(alloc, capacity)?))
     }
@@ -90,10 +88,14 @@ impl<T: Encoding> PathBuf<T> {
 
     /// Pushes a path onto this one: an absolute one replaces it, an empty one changes nothing.
     ///
-    /// Where memory is refused the path is as it was.
+    /// Where the result fits the room that there is, memory is not asked for, unless the path is
+    /// spelled anew. Where memory is refused the path is as it was, and has no less room.
     pub fn push(&mut self, path: Path<'_, T>) -> Result<(), AllocError>
         ensures ok { OnOk result (self.new.bytes ≡ push_spec.push T.dialect self.old.bytes (path_bytes path.entry)) }
         ensures err { OnErr result (self.new.bytes ≡ self.old.bytes) }
+        ensures capacity { self.old.capacity ≤ self.new.capacity }
+        ensures succeeds { FitsPush T.dialect self.old.capacity self.old.bytes (path_bytes path.entry)
+            → IsOk result }
     {
         T::push(&mut self.inner, path.as_bytes())
     }
@@ -101,12 +103,17 @@ impl<T: Encoding> PathBuf<T> {
     /// Pushes a path onto this one, unless it has a component that offends: a prefix, a root, a `..`
     /// that no earlier name of it makes up for, or a name that the encoding does not allow.
     ///
-    /// Pushed, it lies within this path, as far as this one keeps its prefix. Where it is refused, or
-    /// memory is, the path is as it was; a path that is refused costs no memory.
+    /// Pushed, it lies within this path, as far as this one keeps its prefix. Where it is refused
+    /// nothing changes, and no memory is asked for; where memory is refused the path is as it was, and
+    /// has no less room.
     pub fn push_checked(&mut self, path: Path<'_, T>) -> Result<(), PathError>
         ensures refused { refusal result ≡ fault T.dialect (path_bytes path.entry) }
         ensures ok { OnOk result (self.new.bytes ≡ push_spec.push T.dialect self.old.bytes (path_bytes path.entry)) }
         ensures err { OnErr result (self.new.bytes ≡ self.old.bytes) }
+        ensures unchanged { IsSome (refusal result) → self.new ≡ self.old }
+        ensures capacity { self.old.capacity ≤ self.new.capacity }
+        ensures succeeds { fault T.dialect (path_bytes path.entry) ≡ None
+            → FitsPush T.dialect self.old.capacity self.old.bytes (path_bytes path.entry) → IsOk result }
         ensures prefix { OnOk result (HasPrefixOf T.dialect self.old.bytes self.new.bytes) }
         ensures contained { OnOk result (LiesWithin T.dialect self.old.bytes (path_bytes path.entry) self.new.bytes) }
     {
@@ -129,30 +136,30 @@ impl<T: Encoding> PathBuf<T> {
 
     /// Gives the path another file name, or pushes the name where it has none.
     ///
-    /// Where memory is refused the path is as it was.
+    /// Where memory is refused the path is as it was, and has no less room.
     pub fn set_file_name(&mut self, name: &[u8]) -> Result<(), AllocError>
         ensures ok { OnOk result (self.new.bytes ≡ with_file_name T.dialect self.old.bytes name.now) }
         ensures err { OnErr result (self.new.bytes ≡ self.old.bytes) }
+        ensures capacity { self.old.capacity ≤ self.new.capacity }
+        ensures succeeds { FitsPush T.dialect self.old.capacity (without_file_name T.dialect self.old.bytes) name.now
+            → IsOk result }
     {
         let kept = self.as_path().without_file_name().as_bytes().len();
-        let alloc = *self.inner.allocator();
-        let tail: SmallVec<u8, INLINE_TAIL> = SmallVec::from_slice(alloc, &self.inner[kept..])?;
-        self.inner.truncate(kept);
-        if let Err(refused) = T::push(&mut self.inner, name) {
-            self.inner.extend_from_slice(tail.as_slice())?;
-            return Err(refused);
-        }
-        Ok(())
+        T::push_over(&mut self.inner, kept, name)
     }
 
     /// Gives the file name another extension, or takes the extension away where the new one is
     /// empty, and answers whether there is a file name. Without one nothing changes.
     ///
-    /// Where memory is refused the path is as it was.
+    /// Where memory is refused the path is as it was, and has no less room.
     pub fn set_extension(&mut self, extension: &[u8]) -> Result<bool, AllocError>
         ensures ok { OnOk result (self.new.bytes ≡ with_extension T.dialect self.old.bytes extension.now) }
         ensures flag { IfOk result (λ renamed. renamed ≡ is_some (file_name_of T.dialect self.old.bytes)) }
         ensures err { OnErr result (self.new.bytes ≡ self.old.bytes) }
+        ensures unchanged { file_name_of T.dialect self.old.bytes ≡ None → self.new ≡ self.old }
+        ensures capacity { self.old.capacity ≤ self.new.capacity }
+        ensures succeeds { length (with_extension T.dialect self.old.bytes extension.now) ≤ self.old.capacity
+            → IsOk result }
     {
         let Some(end) = self.as_path().stem_end() else {
             return Ok(false);
@@ -184,6 +191,8 @@ impl<T: Encoding> PathBuf<T> {
         ensures bytes { self.new.bytes ≡ self.old.bytes }
         ensures room { OnOk result (length self.new.bytes + additional ≤ self.new.capacity) }
         ensures capacity { self.old.capacity ≤ self.new.capacity }
+        ensures err { OnErr result (self.new.capacity ≡ self.old.capacity) }
+        ensures succeeds { length self.old.bytes + additional ≤ self.old.capacity → IsOk result }
     {
         self.inner.reserve(additional)
     }
@@ -193,6 +202,8 @@ impl<T: Encoding> PathBuf<T> {
         ensures bytes { self.new.bytes ≡ self.old.bytes }
         ensures room { OnOk result (length self.new.bytes + additional ≤ self.new.capacity) }
         ensures capacity { self.old.capacity ≤ self.new.capacity }
+        ensures err { OnErr result (self.new.capacity ≡ self.old.capacity) }
+        ensures succeeds { length self.old.bytes + additional ≤ self.old.capacity → IsOk result }
     {
         self.inner.try_reserve(additional)
     }
@@ -200,7 +211,10 @@ impl<T: Encoding> PathBuf<T> {
     /// Finds room for so many bytes more, and for no others where room has to be found.
     pub fn reserve_exact(&mut self, additional: usize) -> Result<(), AllocError>
         ensures bytes { self.new.bytes ≡ self.old.bytes }
-        ensures room { OnOk result (self.new.capacity ≡ max self.old.capacity (length self.old.bytes + additional)) }
+        ensures room { OnOk result
+            (self.new.capacity ≡ max self.old.capacity (length self.old.bytes + additional)) }
+        ensures err { OnErr result (self.new.capacity ≡ self.old.capacity) }
+        ensures succeeds { length self.old.bytes + additional ≤ self.old.capacity → IsOk result }
     {
         self.inner.reserve_exact(additional)
     }
@@ -208,7 +222,10 @@ impl<T: Encoding> PathBuf<T> {
     /// The same as `reserve_exact`, which answers want of memory too.
     pub fn try_reserve_exact(&mut self, additional: usize) -> Result<(), AllocError>
         ensures bytes { self.new.bytes ≡ self.old.bytes }
-        ensures room { OnOk result (self.new.capacity ≡ max self.old.capacity (length self.old.bytes + additional)) }
+        ensures room { OnOk result
+            (self.new.capacity ≡ max self.old.capacity (length self.old.bytes + additional)) }
+        ensures err { OnErr result (self.new.capacity ≡ self.old.capacity) }
+        ensures succeeds { length self.old.bytes + additional ≤ self.old.capacity → IsOk result }
     {
         self.inner.try_reserve_exact(additional)
     }

@@ -1,6 +1,7 @@
 //! Components taken from either end, by a list of requests.
 
-ghost use Rattle.std.specs.Prelude.{◌≡◌, ◌++◌, map, option_map, OnOk, OnErr};
+ghost use Rattle.std.specs.Prelude.{◌≡◌, ◌≤◌, ◌+◌, ◌++◌, length, map, option_map, OnOk, OnErr, IsOk};
+ghost use Rattle.std.specs.Vec.{vec_len, vec_capacity};
 ghost use Rattle.typed_path.specs.views.PieceViews.{part_of};
 ghost use Rattle.typed_path.specs.views.PathViews.{components_items, components_slice};
 ghost use Rattle.typed_path.specs.readings.Reading.{answers_after, items_after, slice_after};
@@ -32,6 +33,8 @@ pub fn read_ends<'a, T: Encoding>(
     ensures items { OnOk result (components_items components.new ≡ items_after (components_items components.old) (sides ends.now)) }
     ensures slice { OnOk result (components_slice components.new
         ≡ slice_after (components_items components.old) (components_slice components.old) (sides ends.now)) }
+    ensures succeeds { vec_len answers.old + length ends.now ≤ vec_capacity answers.old
+        → IsOk result }
     ensures answers_kept { OnErr result (answers.new.items ≡ answers.old.items) }
     ensures items_kept { OnErr result (components_items components.new ≡ components_items components.old) }
     ensures slice_kept { OnErr result (components_slice components.new ≡ components_slice components.old) }

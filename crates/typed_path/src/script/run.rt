@@ -1,8 +1,9 @@
 //! Lists of operations on an owned path.
 
-ghost use Rattle.std.specs.Prelude.{◌≡◌, ◌++◌, ℕ, map, take, OnOk, OnErr, IfOk};
+ghost use Rattle.std.specs.Prelude.{◌≡◌, ◌≤◌, ◌+◌, ◌++◌, ℕ, map, take, length, OnOk, OnErr, IfOk, IsOk};
+ghost use Rattle.std.specs.Vec.{vec_len, vec_capacity};
 ghost use Rattle.typed_path.specs.changes.Push as push_spec;
-ghost use Rattle.typed_path.specs.changes.Run.{step, text_after, push_checked_op};
+ghost use Rattle.typed_path.specs.changes.Run.{step, text_after, push_checked_op, FitsEach, FitsStep, FitsAll};
 ghost use Rattle.typed_path.specs.changes.Run as run_spec;
 ghost use Rattle.typed_path.specs.views.RunViews.{operation_of, operations_of, response_of, responses_of, IsPartDone, AreTaken, StopsAt};
 
@@ -55,6 +56,9 @@ pub fn run_ops<T: Encoding>(
         ≡ responses_of replies.old.items ++ run_spec.replies T.dialect path.old.bytes (operations_of operations.now)) }
     ensures memory { OnErr result (StopsAt T.dialect path.old.bytes (operations_of operations.now) path.new.bytes
         (responses_of replies.old.items) (responses_of replies.new.items)) }
+    ensures succeeds { vec_len replies.old + length operations.now ≤ vec_capacity replies.old
+        → FitsAll T.dialect path.old.capacity path.old.bytes (operations_of operations.now)
+        → IsOk result }
 {
     'operations: for operation in operations {
         replies.reserve(1)?;
@@ -69,6 +73,9 @@ fn apply<T: Encoding>(path: &mut PathBuf<T>, operation: PathOp<'_>) -> Result<Re
     ensures path { OnOk result (path.new.bytes ≡ (step T.dialect path.old.bytes (operation_of operation.entry)).0) }
     ensures reply { IfOk result (λ reply. response_of reply ≡ (step T.dialect path.old.bytes (operation_of operation.entry)).1) }
     ensures memory { OnErr result (IsPartDone T.dialect path.old.bytes (operation_of operation.entry) path.new.bytes) }
+    ensures capacity { path.old.capacity ≤ path.new.capacity }
+    ensures succeeds { FitsStep T.dialect path.old.capacity path.old.bytes (operation_of operation.entry)
+        → IsOk result }
 {
     match operation {
         PathOp::Push(other) => path.push(Path::new(other))?,
@@ -89,6 +96,9 @@ fn apply_checked<T: Encoding>(path: &mut PathBuf<T>, other: &[u8]) -> Result<Rep
     ensures path { OnOk result (path.new.bytes ≡ (step T.dialect path.old.bytes (push_checked_op other.now)).0) }
     ensures reply { IfOk result (λ reply. response_of reply ≡ (step T.dialect path.old.bytes (push_checked_op other.now)).1) }
     ensures memory { OnErr result (path.new.bytes ≡ path.old.bytes) }
+    ensures capacity { path.old.capacity ≤ path.new.capacity }
+    ensures succeeds { FitsStep T.dialect path.old.capacity path.old.bytes (push_checked_op other.now)
+        → IsOk result }
 {
     match path.push_checked(Path::new(other)) {
         Ok(()) => Ok(Reply::Done),
@@ -101,6 +111,9 @@ fn apply_checked<T: Encoding>(path: &mut PathBuf<T>, other: &[u8]) -> Result<Rep
 fn push_each<T: Encoding>(path: &mut PathBuf<T>, others: &[&[u8]]) -> Result<(), AllocError>
     ensures ok { OnOk result (path.new.bytes ≡ push_spec.push_all T.dialect path.old.bytes (map (λ b. b.now) others.now)) }
     ensures err { OnErr result (AreTaken T.dialect path.old.bytes (map (λ b. b.now) others.now) path.new.bytes) }
+    ensures capacity { path.old.capacity ≤ path.new.capacity }
+    ensures succeeds { FitsEach T.dialect path.old.capacity path.old.bytes (map (λ b. b.now) others.now)
+        → IsOk result }
 {
     'others: for other in others {
         path.push(Path::new(other))?;

@@ -1,9 +1,8 @@
 //! The encoding of Unix paths.
 
-ghost use Rattle.std.specs.Prelude.{◌≡◌, ◌≤◌, ◌≢◌, [], ◌++◌, OnOk, OnErr};
+ghost use Rattle.std.specs.Prelude.{◌≡◌, ◌≤◌, ◌+◌, ◌++◌, take, length, IsOk, OnOk, OnErr};
 ghost use Rattle.std.specs.Vec.{vec_capacity};
-ghost use Rattle.typed_path.specs.components.Dialect.{unix, slash};
-ghost use Rattle.typed_path.specs.changes.Push.{ended_with};
+ghost use Rattle.typed_path.specs.components.Dialect.{unix};
 
 use crate::common::Encoding;
 use crate::errors::CheckedPathError;
@@ -41,11 +40,18 @@ impl Encoding for UnixEncoding {
         Separators::Slash.is_valid_name(name)
     }
 
-    fn push(path: &mut Vec<u8>, other: &[u8]) -> Result<(), AllocError> {
+    fn push_over(path: &mut Vec<u8>, kept: usize, other: &[u8]) -> Result<(), AllocError> {
+        let kept = kept.min(path.len());
         match other {
-            [] => Ok(()),
-            [b'/', ..] => replace(path, other),
-            _ => append(path, other),
+            [] => {
+                path.truncate(kept);
+                Ok(())
+            }
+            [b'/', ..] => put_over(path, 0, b"", other),
+            _ => match &path[..kept] {
+                [] | [.., b'/'] => put_over(path, kept, b"", other),
+                _ => put_over(path, kept, b"/", other),
+            },
         }
     }
 
@@ -54,29 +60,24 @@ impl Encoding for UnixEncoding {
     }
 }
 
-/// Puts the bytes of another path in the place of those of a path.
-fn replace(path: &mut Vec<u8>, other: &[u8]) -> Result<(), AllocError>
-    ensures ok { OnOk result (path.new.items ≡ other.now) }
+/// Cuts a path to its first bytes, and puts a separator and another path behind them.
+fn put_over(
+    path: &mut Vec<u8>,
+    kept: usize,
+    separator: &[u8],
+    other: &[u8],
+) -> Result<(), AllocError>
+    requires within { kept ≤ length path.old.items }
+    requires short { length separator.now ≤ 1 }
+    ensures ok { OnOk result
+        (path.new.items ≡ take kept path.old.items ++ separator.now ++ other.now) }
     ensures err { OnErr result (path.new.items ≡ path.old.items) }
-    ensures room { OnErr result (vec_capacity path.old ≤ vec_capacity path.new) }
+    ensures capacity { vec_capacity path.old ≤ vec_capacity path.new }
+    ensures succeeds { kept + length separator.now + length other.now ≤ vec_capacity path.old → IsOk result }
 {
-    path.reserve(other.len().saturating_sub(path.len()))?;
-    path.clear();
+    let len = kept + separator.len() + other.len();
+    path.reserve(len.saturating_sub(path.len()))?;
+    path.truncate(kept);
+    path.extend_from_slice(separator)?;
     path.extend_from_slice(other)
-}
-
-/// Puts a name behind a path, with a separator between the two where the path has none at its end.
-fn append(path: &mut Vec<u8>, other: &[u8]) -> Result<(), AllocError>
-    ensures ok { OnOk result (path.new.items ≡ ended_with slash path.old.items ++ other.now) }
-    ensures err { OnErr result (path.new.items ≡ path.old.items) }
-    ensures room { OnErr result (vec_capacity path.old ≤ vec_capacity path.new) }
-{
-    match path.as_slice() {
-        [] | [.., b'/'] => path.extend_from_slice(other),
-        _ => {
-            path.reserve(other.len() + 1)?;
-            path.push(b'/')?;
-            path.extend_from_slice(other)
-        }
-    }
 }

@@ -1,12 +1,13 @@
 -- Lists of operations, one operation more.
-use Rattle.std.proofs.Common.{◌≡◌, ℕ, ◌+◌, ◌<◌, List, [], ◌∷◌, ◌++◌, map, length, take, drop, get_or, Bor, OnErr, refl, sym, ap, ◌∙◌, arith}
+use Rattle.std.proofs.Common.{◌≡◌, ℕ, ◌+◌, ◌<◌, ◌≤◌, subst, List, [], ◌∷◌, ◌++◌, map, length, take, drop, get_or, Bor, OnErr, refl, sym, ap, ◌∙◌, arith}
 use Rattle.std.specs.Prelude.{Result, Ok, Err}
 use Rattle.std.proofs.lemmas.List.{take-map, drop-map, take_more, drop_more, map-append, length-map}
 use Rattle.std.proofs.lemmas.List.Sums.{fold-append}
 use Rattle.typed_path.specs.declared.script.run.PathOp.{PathOp}
 use Rattle.typed_path.specs.components.Dialect.{Dialect}
-use Rattle.typed_path.specs.changes.Push.{push, push_all}
-use Rattle.typed_path.specs.changes.Run.{Operation, Response, step, text_after, replies}
+use Rattle.typed_path.specs.changes.Push.{push, push_all, FitsPush}
+use Rattle.typed_path.specs.changes.Changes.{without_file_name}
+use Rattle.typed_path.specs.changes.Run.{Operation, push_op, push_checked_op, pop_op, set_file_name_op, set_extension_op, clear_op, extend_op, Response, step, text_after, replies, FitsEach, FitsStep, FitsAll}
 use Rattle.typed_path.specs.views.RunViews.{operation_of, operations_of, pushes_of, first_pushes, AreTaken, StopsAt}
 
 -- a list of images, one longer
@@ -83,3 +84,48 @@ none_taken d t paths = record { pushed = 0; text = refl }
 pub on_err : {A E P : Type 0} (r : Result A E) → P → OnErr r P
 on_err (Ok x) p = tt
 on_err (Err e) p = p
+
+-- room that is enough stays enough where it grows
+pub fits_push-more : (d : Dialect) (room more : ℕ) (t path : List ℕ) → room ≤ more → FitsPush d room t path → FitsPush d more t path
+fits_push-more d room more t path h fits = (fits.0, omega arith)
+
+pub fits_each-more : (d : Dialect) (room more : ℕ) (t : List ℕ) (paths : List (List ℕ)) → room ≤ more → FitsEach d room t paths → FitsEach d more t paths
+fits_each-more d room more t [] h fits = tt
+fits_each-more d room more t (path ∷ paths) h fits = (fits_push-more d room more t path h fits.0, fits_each-more d room more (push d t path) paths h fits.1)
+
+pub fits_step-more : (d : Dialect) (room more : ℕ) (t : List ℕ) (op : Operation) → room ≤ more → FitsStep d room t op → FitsStep d more t op
+fits_step-more d room more t (push_op path) h fits = fits_push-more d room more t path h fits
+fits_step-more d room more t (push_checked_op path) h fits = λ e. fits_push-more d room more t path h (fits e)
+fits_step-more d room more t pop_op h fits = tt
+fits_step-more d room more t (set_file_name_op name) h fits = fits_push-more d room more (without_file_name d t) name h fits
+fits_step-more d room more t (set_extension_op ext) h fits = omega arith
+fits_step-more d room more t clear_op h fits = tt
+fits_step-more d room more t (extend_op paths) h fits = fits_each-more d room more t paths h fits
+
+-- there is room for the next path of a list, and for those behind it
+module _ (d : Dialect) (room : ℕ) (t : List ℕ) (paths : List (Bor (List ℕ))) (i : ℕ) (path : Bor (List ℕ)) (within : i < length paths)
+    (fits : FitsEach d room t (drop i (map (λ b. b.now) paths))) where
+  next_fits : FitsEach d room t (map (λ b. b.now) (get_or paths i path ∷ drop (i + 1) paths))
+  next_fits =
+      let P : List (List ℕ) → Type 0 = λ ps. FitsEach d room t ps in
+      subst P (drop-map (λ b. b.now) i paths ∙ ap (map (λ b. b.now)) (drop_more paths i path within)) fits
+
+  pub fits_each-first : (more : ℕ) (next : List ℕ) → room ≤ more → next ≡ (get_or paths i path).now → FitsPush d more t next
+  fits_each-first more next h e = rw e (fits_push-more d room more t (get_or paths i path).now h next_fits.0)
+
+  pub fits_each-pushed : (new : List ℕ) → new ≡ push d t (get_or paths i path).now → FitsEach d room new (drop (i + 1) (map (λ b. b.now) paths))
+  fits_each-pushed new e = rw (e, drop-map (λ b. b.now) (i + 1) paths) next_fits.1
+
+-- and for the next operation, and those behind it
+module _ (d : Dialect) (room : ℕ) (t : List ℕ) (ops : List PathOp) (i : ℕ) (op : PathOp) (within : i < length ops)
+    (fits : FitsAll d room t (drop i (operations_of ops))) where
+  next_step_fits : FitsAll d room t (operations_of (get_or ops i op ∷ drop (i + 1) ops))
+  next_step_fits =
+      let P : List Operation → Type 0 = λ os. FitsAll d room t os in
+      subst P (drop-map operation_of i ops ∙ ap (map operation_of) (drop_more ops i op within)) fits
+
+  pub fits_all-first : (more : ℕ) → room ≤ more → FitsStep d more t (operation_of (get_or ops i op))
+  fits_all-first more h = fits_step-more d room more t (operation_of (get_or ops i op)) h next_step_fits.0
+
+  pub fits_all-stepped : (new : List ℕ) → new ≡ (step d t (operation_of (get_or ops i op))).0 → FitsAll d room new (drop (i + 1) (operations_of ops))
+  fits_all-stepped new e = rw (e, drop-map operation_of (i + 1) ops) next_step_fits.1

@@ -1,10 +1,10 @@
-use Rattle.std.proofs.Common.{◌≡◌, List, [], ◌∷◌, ◌++◌, ap, ◌∙◌, append_assoc}
+use Rattle.std.proofs.Common.{◌≡◌, List, [], ◌∷◌, ◌++◌, ap, ◌∙◌, append_assoc, arith}
 use Rattle.std.proofs.lemmas.List.{map-append}
 use Rattle.typed_path.specs.declared.script.run.PathOp.TheVariants.{Pop}
 use Rattle.typed_path.specs.declared.script.run.Reply.{Reply}
 use Rattle.typed_path.specs.changes.Run.{Response}
 use Rattle.typed_path.specs.views.RunViews.{responses_of, response_of}
-use Rattle.typed_path.proofs.lemmas.changes.RunLemmas.{text_after-more, replies-more, stops, none_taken, on_err}
+use Rattle.typed_path.proofs.lemmas.changes.RunLemmas.{text_after-more, replies-more, stops, none_taken, on_err, fits_all-first, fits_all-stepped}
 use Rattle.typed_path.proofs.script.run.run_ops.Goals as goal
 
 pub returns-in_err-reserve-clause-memory : goal.returns-in_err-reserve-clause-memory
@@ -27,6 +27,17 @@ longer : (old before more : List Response) (items replies : List Reply) (reply :
 longer old before more items replies reply pushed h next =
     ap responses_of pushed ∙ map-append response_of items (reply ∷ []) ∙ ap (λ rs. rs ++ response_of reply ∷ []) h ∙ append_assoc before old (response_of reply ∷ []) ∙ ap (λ rs. before ++ rs) next
 
+pub returns-in_err-reserve-clause-succeeds : goal.returns-in_err-reserve-clause-succeeds
+returns-in_err-reserve-clause-succeeds g c = λ room whole.
+    let fits = c.operations.invariant.replies_fit room in
+    let ok = rw c.in_err-reserve.was at (c.reserve.ensures.succeeds (omega (arith, c.operations-test.true))) in cc
+
+pub returns-in_err-reply-clause-succeeds : goal.returns-in_err-reply-clause-succeeds
+returns-in_err-reply-clause-succeeds g c = λ room whole.
+    let d = g.T.Encoding.dialect in
+    let fits = fits_all-first d _ _ c.args.operations.now c.operations.operation-index _ c.operations-test.true (c.operations.invariant.fits whole) _ c.operations.invariant.room in
+    let ok = rw c.in_err-reply.was at (c.apply.ensures.succeeds fits) in cc
+
 pub operations-preserved : goal.operations-preserved
 operations-preserved g c =
     let d = g.T.Encoding.dialect in
@@ -34,4 +45,7 @@ operations-preserved g c =
       text = text_after-more d _ c.args.operations.now c.operations.operation-index _ c.operations-test.true _ _ c.operations.invariant.text c.in_ok-reply.ensures.path;
       answered = longer _ _ _ _ _ c.in_ok-reply.reply c.in_ok-push.ensures.items (ap responses_of c.reserve.ensures.items ∙ c.operations.invariant.answered)
           (replies-more d _ c.args.operations.now c.operations.operation-index _ c.operations-test.true _ _ c.operations.invariant.text c.in_ok-reply.ensures.reply);
+      room = omega (arith, c.operations.invariant.room, c.in_ok-reply.ensures.capacity);
+      fits = λ whole. fits_all-stepped d _ _ c.args.operations.now c.operations.operation-index _ c.operations-test.true (c.operations.invariant.fits whole) _ c.in_ok-reply.ensures.path;
+      replies_fit = λ room. omega (arith, c.operations.invariant.replies_fit room, c.in_ok-push.ensures.len, c.push.ensures.capacity, c.reserve.ensures.len, c.reserve.ensures.capacity);
     }

@@ -1,17 +1,26 @@
-use Rattle.std.proofs.Common.{◌≡◌, length, take, ap, ◌∙◌}
-use Rattle.typed_path.specs.changes.Push.{push}
+use Rattle.std.proofs.Common.{◌≡◌, List, ℕ, length, take, ap, ◌∙◌}
 use Rattle.typed_path.specs.changes.Changes.{without_file_name}
+use Rattle.typed_path.specs.components.Dialect.{Dialect}
 use Rattle.typed_path.proofs.lemmas.changes.NameSpans.{without_file_name-front}
 use Rattle.typed_path.proofs.common.path_buf.PathBuf.set_file_name.Goals as goal
+
+-- the bytes that are kept are those of the path without its file name
+kept_is : (d : Dialect) (kept bytes t : List ℕ) → kept ≡ without_file_name d t → bytes ≡ t
+    → take (length kept) bytes ≡ without_file_name d t
+kept_is d kept bytes t h e = rw h (rw e (without_file_name-front d t))
 
 pub returns-clause-ok : goal.returns-clause-ok
 returns-clause-ok g c =
     let d = g.T.Encoding.dialect in
-    let t = c.args.self.now.bytes in
-    let kept : c.as_bytes-kept.result.now ≡ without_file_name d t = c.as_bytes-kept.ensures ∙ c.without_file_name.ensures ∙ ap (without_file_name d) c.as_path.ensures in
-    let cut : c.truncate.new.self.items ≡ without_file_name d t =
-    c.truncate.ensures.items
-    ∙ ap (λ p. take (length p) c.self.inside.inner.items) kept
-    ∙ ap (λ o. take (length (without_file_name d t)) o.bytes) c.self.view_is
-    ∙ without_file_name-front d t in
-    c.in_default.ensures.ok ∙ ap (λ base. push d base c.args.name.now) cut
+    let kept : c.as_bytes-kept.result.now ≡ without_file_name d c.args.self.now.bytes =
+    c.as_bytes-kept.ensures ∙ c.without_file_name.ensures ∙ ap (without_file_name d) c.as_path.ensures in
+    rw (kept_is d _ _ _ kept (ap (λ o. o.bytes) c.self.view_is)) at c.push_over.ensures.ok
+
+pub returns-clause-succeeds : goal.returns-clause-succeeds
+returns-clause-succeeds g c =
+    let d = g.T.Encoding.dialect in
+    let kept : c.as_bytes-kept.result.now ≡ without_file_name d c.args.self.now.bytes =
+    c.as_bytes-kept.ensures ∙ c.without_file_name.ensures ∙ ap (without_file_name d) c.as_path.ensures in
+    let room = ap (λ o. o.capacity) c.self.view_is in
+    let succeeds = rw (kept_is d _ _ _ kept (ap (λ o. o.bytes) c.self.view_is)) at c.push_over.ensures.succeeds in
+    λ fits. succeeds (fits.0, rw room fits.1)
