@@ -1,2 +1,3 @@
--- Equality and order.
+-- Equality, order and hashing.
 pub mod Same
+pub mod Words

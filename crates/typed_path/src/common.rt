@@ -3,6 +3,7 @@
 mod ancestors;
 mod component;
 mod components;
+mod debug;
 mod encoding;
 mod iter;
 mod joins;

@@ -1,10 +1,11 @@
 //! The laws of paths, each as a function that does nothing and ensures the law.
 
-ghost use Rattle.std.specs.Prelude.{◌≡◌, ◌↔◌, ℕ, ◌+◌, ◌<◌, ◌≤◌, List, [], ◌∷◌, ◌++◌, false, length, Some, None};
+ghost use Rattle.std.specs.Prelude.{◌≡◌, ◌↔◌, ℕ, ◌+◌, ◌<◌, ◌≤◌, List, [], ◌∷◌, ◌++◌, true, false, length, Some, None};
 ghost use Rattle.std.specs.List.{list_any};
 ghost use Rattle.std.specs.Cmp.{IsTotalOrder};
 ghost use Rattle.std.specs.declared.cmp.Ordering.{Ordering};
-ghost use Rattle.typed_path.specs.components.Dialect.{Dialect, dot};
+ghost use Rattle.typed_path.specs.components.Dialect.{Dialect, dot, slash};
+ghost use Rattle.typed_path.specs.components.Part.{Placed};
 ghost use Rattle.typed_path.specs.components.Prefix.{Found, prefix_of};
 ghost use Rattle.typed_path.specs.components.Comps.{comps};
 ghost use Rattle.typed_path.specs.readings.Left.{Side, reads, left, items_between, but_last};
@@ -12,8 +13,17 @@ ghost use Rattle.typed_path.specs.readings.Reading.{answers_after, items_after, 
 ghost use Rattle.typed_path.specs.queries.Queries.{parent_of};
 ghost use Rattle.typed_path.specs.promises.Joins.{JoinAppends, StripJoins};
 ghost use Rattle.typed_path.specs.queries.Names.{is_a_dot, stem_of, extension_of};
-ghost use Rattle.typed_path.specs.order.Same.{IsSame, path_cmp};
+ghost use Rattle.typed_path.specs.order.Same.{IsSame, path_cmp, kind_cmp};
+ghost use Rattle.typed_path.specs.views.UnixViews.{unix_part};
+ghost use Rattle.typed_path.specs.order.Words.{unix_words};
 ghost use Rattle.typed_path.specs.promises.Promises.{ReadsAsResolved, StaysNormal, IsCanonical, HashAlike};
+
+use crate::constants::unix::{
+    CURRENT_DIR, CURRENT_DIR_STR, DISALLOWED_FILENAME_BYTES, DISALLOWED_FILENAME_CHARS, PARENT_DIR,
+    PARENT_DIR_STR, SEPARATOR, SEPARATOR_STR,
+};
+use crate::unix::UnixComponent;
+use std::hash::Hash;
 
 /// A normal text of Unix reads as what the list of its path resolves to.
 pub fn normal_reads_as_resolved(path: &[u8])
@@ -87,29 +97,32 @@ pub fn components_stand_in_order(path: &[u8])
     ensures { IsLaidOut (comps d path.now) path.now }
 {}
 
-/// Read step by step from both ends, a path answers and leaves what the counts of the steps from
-/// each end tell; once all components are taken, it leaves nothing.
+/// Read step by step from both ends, a list of components answers and leaves what the counts of the
+/// steps from each end tell, whether it is that of a whole text or what is left of one. So does the
+/// slice, also where some components were taken before; once all are taken, nothing is left.
 pub fn steps_agree_with_counts(path: &[u8])
     ghost d: { Dialect }
-    ensures answers { (sides : List Side)
-        → answers_after (comps d path.now) sides ≡ reads (comps d path.now) sides }
-    ensures items { (sides : List Side) → items_after (comps d path.now) sides
-        ≡ items_between (comps d path.now) (fronts sides) (backs sides) }
+    ensures answers { (cs : List Placed) (sides : List Side) → answers_after cs sides ≡ reads cs sides }
+    ensures items { (cs : List Placed) (sides : List Side)
+        → items_after cs sides ≡ items_between cs (fronts sides) (backs sides) }
     ensures slice { (sides : List Side) → fronts sides + backs sides ≤ length (comps d path.now)
         → slice_after (comps d path.now) path.now sides
         ≡ left (comps d path.now) path.now (fronts sides) (backs sides) }
-    ensures no_items { (sides : List Side) → length (comps d path.now) ≤ fronts sides + backs sides
-        → items_after (comps d path.now) sides ≡ [] }
+    ensures half_read { (i j : ℕ) (sides : List Side)
+        → i + fronts sides + (j + backs sides) ≤ length (comps d path.now)
+        → slice_after (items_between (comps d path.now) i j) (left (comps d path.now) path.now i j) sides
+        ≡ left (comps d path.now) path.now (i + fronts sides) (j + backs sides) }
+    ensures no_items { (cs : List Placed) (sides : List Side)
+        → length cs ≤ fronts sides + backs sides → items_after cs sides ≡ [] }
     ensures no_slice { (sides : List Side) → 0 < length (comps d path.now)
         → length (comps d path.now) ≤ fronts sides + backs sides
         → slice_after (comps d path.now) path.now sides ≡ [] }
 {}
 
-/// What was taken from the front, what is left, and what was taken from the back are together the
-/// list, in order.
-pub fn ends_and_rest_are_the_list(path: &[u8])
-    ghost d: { Dialect }
-    ensures { (i j : ℕ) → IsWhole (comps d path.now) i j }
+/// What was taken from the front of a list of components, what is left, and what was taken from the
+/// back are together the list, in order.
+pub fn ends_and_rest_are_the_list()
+    ensures { (cs : List Placed) (i j : ℕ) → IsWhole cs i j }
 {}
 
 /// The list of a parent is the list without its last component, each component at its place.
@@ -128,4 +141,26 @@ pub fn join_appends(base: &[u8], path: &[u8])
 /// Where a Unix path begins with a base, what is left behind the base, joined to it, equals the path.
 pub fn strip_joins(path: &[u8], base: &[u8])
     ensures { StripJoins path.now base.now }
+{}
+
+/// Single components of Unix are equal, compare and hash as their kinds say.
+pub fn unix_components_compare_by_kind<'a>(one: UnixComponent<'a>, other: UnixComponent<'a>)
+    ensures equality { (⟦<UnixComponent<'a> as PartialEq>⟧.eq one.entry other.entry ≡ true)
+        ↔ ((unix_part one.entry).kind ≡ (unix_part other.entry).kind) }
+    ensures order { ⟦<UnixComponent<'a> as Ord>⟧.cmp one.entry other.entry
+        ≡ kind_cmp (unix_part one.entry).kind (unix_part other.entry).kind }
+    ensures hash { ⟦<UnixComponent<'a> as Hash>⟧.hash_input one.entry
+        ≡ unix_words (unix_part one.entry).kind }
+{}
+
+/// The constants of Unix have these values.
+pub fn unix_constants_are_these()
+    ensures separator { SEPARATOR ≡ slash }
+    ensures separator_text { SEPARATOR_STR.now ≡ slash ∷ [] }
+    ensures parent { PARENT_DIR.now ≡ dot ∷ dot ∷ [] }
+    ensures parent_text { PARENT_DIR_STR.now ≡ dot ∷ dot ∷ [] }
+    ensures current { CURRENT_DIR.now ≡ dot ∷ [] }
+    ensures current_text { CURRENT_DIR_STR.now ≡ dot ∷ [] }
+    ensures disallowed_bytes { DISALLOWED_FILENAME_BYTES ≡ slash ∷ 0 ∷ [] }
+    ensures disallowed_characters { DISALLOWED_FILENAME_CHARS ≡ slash ∷ 0 ∷ [] }
 {}

@@ -17,5 +17,6 @@ pub use script::{
     End, Failed, PathOp, Reply, Sink, Source, StdSink, StdSource, answer_lines, exit_status,
     read_ends, run_ops,
 };
+pub use std::borrow::CowStr;
 pub use unix::{UnixComponent, UnixComponents, UnixEncoding, UnixPath, UnixPathBuf};
 pub use windows::WindowsPrefix;

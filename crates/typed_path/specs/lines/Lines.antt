@@ -1,7 +1,7 @@
 -- What the program answers to its input.
 use Rattle.std.specs.Prelude.{ℕ, List, [], ◌∷◌, ◌++◌, ◌==◌, if◌then◌else◌, codes, length, map, bytes_eq, Option, Some, None}
 use Rattle.std.specs.List.{slice_split, flat_map, join_with_byte}
-use Rattle.typed_path.specs.components.Dialect.{unix}
+use Rattle.typed_path.specs.components.Dialect.{Dialect, unix}
 use Rattle.typed_path.specs.components.Part.{Prefix, verbatim, verbatim_unc, verbatim_disk, device_ns, unc, disk, Kind, prefix, root, current, parent, normal, Part}
 use Rattle.typed_path.specs.components.Comps.{parts_of}
 use Rattle.typed_path.specs.places.Places.{normal_text}
@@ -93,11 +93,11 @@ component_field p = kind_name p.kind ++ equals_sign ∷ p.text
 abbrev pub components_reply : List Part → List (List ℕ)
 components_reply ps = ok_reply (map component_field ps)
 
--- the fields of the reply to a command on a Unix path
-abbrev pub unix_reply : List ℕ → List ℕ → List (List ℕ)
-unix_reply command path =
-    if bytes_eq command (codes "normalize") then ok_reply (normal_text unix path ∷ [])
-    else (if bytes_eq command (codes "components") then components_reply (parts_of unix path) else bad_line)
+-- the fields of the reply to a command on a path
+abbrev pub reply_in : Dialect → List ℕ → List ℕ → List (List ℕ)
+reply_in d command path =
+    if bytes_eq command (codes "normalize") then ok_reply (normal_text d path ∷ [])
+    else (if bytes_eq command (codes "components") then components_reply (parts_of d path) else bad_line)
 
 -- the name of a refusal
 abbrev pub refusal_name : CheckedPathError → List ℕ
@@ -111,16 +111,16 @@ abbrev pub joined_reply : List ℕ → Option CheckedPathError → List (List �
 joined_reply joined None = ok_reply (joined ∷ [])
 joined_reply joined (Some refusal) = codes "err" ∷ refusal_name refusal ∷ []
 
--- the fields of the reply to a command on a Unix base and a path
-abbrev pub unix_join_reply : List ℕ → List ℕ → List ℕ → List (List ℕ)
-unix_join_reply command base path =
-    if bytes_eq command (codes "join") then joined_reply (push unix base path) None
-    else (if bytes_eq command (codes "join_checked") then joined_reply (push unix base path) (fault unix path) else bad_line)
+-- the fields of the reply to a command on a base and a path
+abbrev pub join_reply_in : Dialect → List ℕ → List ℕ → List ℕ → List (List ℕ)
+join_reply_in d command base path =
+    if bytes_eq command (codes "join") then joined_reply (push d base path) None
+    else (if bytes_eq command (codes "join_checked") then joined_reply (push d base path) (fault d path) else bad_line)
 
 -- the fields of the reply to the fields of a line
 abbrev pub reply_fields : List (List ℕ) → List (List ℕ)
-reply_fields (command ∷ dialect ∷ base ∷ path ∷ []) = if bytes_eq dialect (codes "unix") then unix_join_reply command base path else bad_line
-reply_fields (command ∷ dialect ∷ path ∷ []) = if bytes_eq dialect (codes "unix") then unix_reply command path else bad_line
+reply_fields (command ∷ dialect ∷ base ∷ path ∷ []) = if bytes_eq dialect (codes "unix") then join_reply_in unix command base path else bad_line
+reply_fields (command ∷ dialect ∷ path ∷ []) = if bytes_eq dialect (codes "unix") then reply_in unix command path else bad_line
 reply_fields fields = bad_line
 
 -- the reply to a line

@@ -6,7 +6,7 @@ use Rattle.typed_path.specs.components.Part.{Prefix, verbatim, verbatim_unc, ver
 use Rattle.typed_path.specs.components.Prefix.{prefix_of, is_empty}
 use Rattle.typed_path.specs.components.Comps.{parts_of}
 use Rattle.typed_path.specs.order.Same.{IsSame}
-use Rattle.typed_path.specs.queries.Queries.{is_valid}
+use Rattle.typed_path.specs.queries.Queries.{have_allowed_bytes}
 use Rattle.typed_path.specs.changes.Push.{push}
 use Rattle.typed_path.specs.changes.Fault.{fault}
 use Rattle.typed_path.specs.places.Places.{resolve, place, normal_text}
@@ -79,7 +79,7 @@ abbrev pub is_verbatim_unc_name : Option Prefix → Bool
 is_verbatim_unc_name (Some (verbatim name)) = bytes_eq name (codes "UNC")
 is_verbatim_unc_name p = false
 
--- the stable form: a Windows text whose names are allowed, and whose prefix is not the verbatim one named `UNC`
+-- the stable form: a Windows text whose names have allowed bytes, and whose prefix is not the verbatim one named `UNC`
 pub record IsStable (t : List ℕ) : Type 0 where
   pub reads : parts_of windows (normal_text windows t) ≡ with_drive_root (resolve (parts_of windows t))
   pub same_place : place windows (normal_text windows t) ≡ place windows t
@@ -87,7 +87,7 @@ pub record IsStable (t : List ℕ) : Type 0 where
 
 abbrev pub StaysStable : List ℕ → Type 0
 StaysStable t =
-    is_valid windows (kinds (parts_of windows t)) ≡ true → is_verbatim_unc_name (prefix_kind windows t) ≡ false → IsStable t
+    have_allowed_bytes windows (kinds (parts_of windows t)) ≡ true → is_verbatim_unc_name (prefix_kind windows t) ≡ false → IsStable t
 
 -- what a path feeds to a hasher
 pub data Word : Type 0 where

@@ -86,8 +86,11 @@ is_disallowed unix b = b == slash || b == 0
 is_disallowed windows b =
     b == backslash || b == slash || b == colon || b == question || b == 42 || b == 34 || b == 62 || b == 60 || b == 124 || b == 0
 
+abbrev pub has_allowed_bytes : Dialect → List ℕ → Bool
+has_allowed_bytes d name = not (list_any (is_disallowed d) name)
+
 abbrev pub is_valid_name : Dialect → List ℕ → Bool
-is_valid_name d name = not (list_any (is_disallowed d) name)
+is_valid_name d name = has_allowed_bytes d name
 
 abbrev pub is_valid_kind : Dialect → Kind → Bool
 is_valid_kind d (normal name) = is_valid_name d name
@@ -95,6 +98,14 @@ is_valid_kind d k = true
 
 abbrev pub is_valid : Dialect → List Kind → Bool
 is_valid d ks = list_all (is_valid_kind d) ks
+
+-- no name has a byte that no name may have, whatever else a valid name must be
+abbrev pub have_allowed_bytes : Dialect → List Kind → Bool
+have_allowed_bytes d ks = list_all has_allowed ks
+  where
+    has_allowed : Kind → Bool
+    has_allowed (normal name) = has_allowed_bytes d name
+    has_allowed k = true
 
 -- the last component, where it is a name
 abbrev pub name_of : Kind → Option (List ℕ)

@@ -2,6 +2,7 @@
 
 use crate::common::encoding::Encoding;
 use crate::common::path::Path;
+use std::iter::FusedIterator;
 
 /// A path, and then each parent of the one before.
 #[derive_where(Clone, Copy)]
@@ -11,7 +12,7 @@ pub struct Ancestors<'a, T> {
 
 impl<'a, T: Encoding> Ancestors<'a, T> {
     ghost use Rattle.std.specs.Prelude.{◌≡◌};
-    ghost use Rattle.typed_path.specs.views.PathViews.{path_bytes, ancestors_left};
+    ghost use Rattle.typed_path.specs.views.PathViews.{path_bytes, ancestors_from, ancestors_left};
     ghost use Rattle.typed_path.specs.queries.Ancestry.{ancestors_of};
 
     /// The path and those above it.
@@ -19,6 +20,13 @@ impl<'a, T: Encoding> Ancestors<'a, T> {
         ensures { ancestors_left T.dialect result ≡ ancestors_of T.dialect (path_bytes path.entry) }
     {
         Ancestors { next: Some(path) }
+    }
+
+    /// The path that comes next, where one does.
+    pub(crate) fn path(self) -> Option<Path<'a, T>>
+        ensures { ancestors_from T.dialect result ≡ ancestors_left T.dialect self.entry }
+    {
+        self.next
     }
 }
 
@@ -38,3 +46,5 @@ impl<'a, T: Encoding> Iterator for Ancestors<'a, T> {
         Some(path)
     }
 }
+
+impl<'a, T: Encoding> FusedIterator for Ancestors<'a, T> {}

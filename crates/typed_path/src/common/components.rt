@@ -2,6 +2,7 @@
 
 use crate::common::encoding::Encoding;
 use crate::scan::{Cursor, Piece};
+use std::iter::FusedIterator;
 use std::marker::PhantomData;
 
 /// The components of a path that are left to be read.
@@ -109,3 +110,5 @@ impl<'a, T: Encoding> DoubleEndedIterator for Components<'a, T> {
         Components::next_back(self)
     }
 }
+
+impl<'a, T: Encoding> FusedIterator for Components<'a, T> {}

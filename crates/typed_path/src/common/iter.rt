@@ -3,6 +3,7 @@
 use crate::common::components::Components;
 use crate::common::encoding::Encoding;
 use crate::common::path::Path;
+use std::iter::FusedIterator;
 
 /// The texts of the components that are left to be read.
 #[derive_where(Clone, Copy)]
@@ -82,3 +83,5 @@ impl<'a, T: Encoding> DoubleEndedIterator for Iter<'a, T> {
         Some(piece.text)
     }
 }
+
+impl<'a, T: Encoding> FusedIterator for Iter<'a, T> {}

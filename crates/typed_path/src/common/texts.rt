@@ -75,6 +75,18 @@ impl<'a, T: Encoding> fmt::Display for Path<'a, T> {
     }
 }
 
+impl<'a, T: Encoding> Display<'a, T> {
+    ghost use Rattle.std.specs.Prelude.{◌≡◌};
+    ghost use Rattle.typed_path.specs.views.PathViews.{path_bytes, displayed};
+
+    /// The path that is to be printed.
+    pub(crate) fn path(self) -> Path<'a, T>
+        ensures { path_bytes result ≡ displayed self.entry }
+    {
+        self.path
+    }
+}
+
 impl<'a, T: Encoding> fmt::Display for Display<'a, T> {
     ghost use Rattle.typed_path.specs.views.PathViews.{displayed};
     ghost use Rattle.typed_path.specs.queries.Texts.{text_of_bytes};

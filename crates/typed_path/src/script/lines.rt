@@ -1,13 +1,13 @@
 //! The replies to lines of commands.
 
 ghost use Rattle.std.specs.Prelude.{◌≡◌, [], ◌∷◌, ◌++◌, Some, OnOk};
-ghost use Rattle.typed_path.specs.components.Dialect.{unix};
 ghost use Rattle.typed_path.specs.components.Comps.{parts_of};
 ghost use Rattle.typed_path.specs.views.PieceViews.{part_of, prefix_view};
 ghost use Rattle.typed_path.specs.views.PathViews.{path_bytes};
-ghost use Rattle.typed_path.specs.lines.Lines.{tab, fields_of, reply, reply_line, text_reply, components_reply, unix_reply, unix_join_reply, joined_reply, refusal_name, bad_line, component_field, kind_name, prefix_name};
+ghost use Rattle.typed_path.specs.lines.Lines.{tab, fields_of, reply, reply_line, text_reply, components_reply, reply_in, join_reply_in, joined_reply, refusal_name, bad_line, component_field, kind_name, prefix_name};
 ghost use Rattle.typed_path.specs.lines.Fields.{AreFields};
 
+use crate::common::{Encoding, Path};
 use crate::errors::{CheckedPathError, PathError};
 use crate::scan::{Piece, PieceKind, WindowsPrefix};
 use crate::script::fields::cut_at;
@@ -56,7 +56,7 @@ pub fn put_reply(alloc: Global, line: &[u8], replies: &mut Vec<u8>) -> Result<()
 {
     match split_fields(line) {
         Fields::Three(command, encoding, path) if encoding == UNIX => {
-            put_unix_reply(alloc, command, UnixPath::new(path), replies)
+            put_path_reply(alloc, command, UnixPath::new(path), replies)
         }
         Fields::Four(command, encoding, base, path) if encoding == UNIX => {
             put_join_reply(
@@ -71,14 +71,14 @@ pub fn put_reply(alloc: Global, line: &[u8], replies: &mut Vec<u8>) -> Result<()
     }
 }
 
-/// Puts the reply to a command on a Unix path behind others.
-fn put_unix_reply(
+/// Puts the reply to a command on a path behind others.
+fn put_path_reply<T: Encoding>(
     alloc: Global,
     command: &[u8],
-    path: UnixPath<'_>,
+    path: Path<'_, T>,
     replies: &mut Vec<u8>,
 ) -> Result<(), AllocError>
-    ensures { OnOk result (replies.new.items ≡ replies.old.items ++ reply_line (unix_reply command.now (path_bytes path.entry))) }
+    ensures { OnOk result (replies.new.items ≡ replies.old.items ++ reply_line (reply_in T.dialect command.now (path_bytes path.entry))) }
 {
     if command == NORMALIZE {
         let normal = path.normalize(alloc)?;
@@ -90,16 +90,16 @@ fn put_unix_reply(
     put_bad_line(replies)
 }
 
-/// Puts the reply to a command on a Unix base and a path behind others.
-fn put_join_reply(
+/// Puts the reply to a command on a base and a path behind others.
+fn put_join_reply<T: Encoding>(
     alloc: Global,
     command: &[u8],
-    base: UnixPath<'_>,
-    path: UnixPath<'_>,
+    base: Path<'_, T>,
+    path: Path<'_, T>,
     replies: &mut Vec<u8>,
 ) -> Result<(), AllocError>
     ensures { OnOk result (replies.new.items
-        ≡ replies.old.items ++ reply_line (unix_join_reply command.now (path_bytes base.entry) (path_bytes path.entry))) }
+        ≡ replies.old.items ++ reply_line (join_reply_in T.dialect command.now (path_bytes base.entry) (path_bytes path.entry))) }
 {
     if command == JOIN {
         let joined = base.join(alloc, path)?;
@@ -155,8 +155,8 @@ fn put_text(text: &[u8], replies: &mut Vec<u8>) -> Result<(), AllocError>
 }
 
 /// Puts the reply that shows the components of a path behind others.
-fn put_components(path: UnixPath<'_>, replies: &mut Vec<u8>) -> Result<(), AllocError>
-    ensures { OnOk result (replies.new.items ≡ replies.old.items ++ reply_line (components_reply (parts_of unix (path_bytes path.entry)))) }
+fn put_components<T: Encoding>(path: Path<'_, T>, replies: &mut Vec<u8>) -> Result<(), AllocError>
+    ensures { OnOk result (replies.new.items ≡ replies.old.items ++ reply_line (components_reply (parts_of T.dialect (path_bytes path.entry)))) }
 {
     replies.extend_from_slice(b"ok")?;
     'pieces: for piece in path.components() {

@@ -1,6 +1,8 @@
 //! Std's readers and writers as sources and sinks.
 
-ghost use Rattle.std.specs.Prelude.{◌≡◌, ◌-◌, ◌^◌, false, None, if◌then◌else◌};
+ghost use Rattle.std.specs.Prelude.{◌≡◌, ◌<◌, ◌≤◌, ◌-◌, ◌^◌, true, false, None, if◌then◌else◌, length, take, IfOk, OnOk, OnErr};
+ghost use Rattle.std.specs.Io.KnownBytes.{Consumes, IsAtEnd};
+ghost use Rattle.typed_path.specs.lines.Streams.{KeepsIfTold};
 
 use crate::script::streams::{Failed, Sink, Source};
 use std::io::{Read, Write};
@@ -37,7 +39,18 @@ impl<R: Read> Source for StdSource<R> {
 
     ghost bound = { λ s. s.granted };
 
-    fn read(&mut self, buffer: &mut [u8]) -> Result<usize, Failed> {
+    /// Takes one of the reads that are granted, where one is left.
+    fn read(&mut self, buffer: &mut [u8]) -> Result<usize, Failed>
+        ensures count { IfOk result (λ n. n ≤ length buffer.new) }
+        ensures bytes { IfOk result
+            (λ n. Consumes (⟦<StdSource<R> as Source>⟧.remaining self.old) (⟦<StdSource<R> as Source>⟧.remaining self.new) (take n buffer.new)) }
+        ensures end { IfOk result (λ n. n ≡ 0 → 0 < length buffer.new → IsAtEnd (⟦<StdSource<R> as Source>⟧.remaining self.new)) }
+        ensures nearer { IfOk result (λ n. 0 < n → ⟦<StdSource<R> as Source>⟧.bound self.new < ⟦<StdSource<R> as Source>⟧.bound self.old) }
+        ensures granted { ⟦<StdSource<R> as Source>⟧.bound self.new ≡ ⟦<StdSource<R> as Source>⟧.bound self.old - 1 }
+        ensures unfailed { OnOk result (⟦<StdSource<R> as Source>⟧.has_failed self.new ≡ ⟦<StdSource<R> as Source>⟧.has_failed self.old) }
+        ensures failed { OnErr result (⟦<StdSource<R> as Source>⟧.has_failed self.new ≡ true) }
+        ensures kept { OnErr result (KeepsIfTold (⟦<StdSource<R> as Source>⟧.remaining self.old) (⟦<StdSource<R> as Source>⟧.remaining self.new)) }
+    {
         if self.granted == 0 {
             self.failed = true;
             return Err(Failed);

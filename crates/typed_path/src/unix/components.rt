@@ -10,6 +10,8 @@ use crate::common::{Components, Encoding, Path};
 use crate::scan::{Piece, PieceKind};
 use crate::unix::component::UnixComponent;
 use crate::unix::encoding::UnixEncoding;
+use std::fmt;
+use std::iter::FusedIterator;
 
 /// The components of a Unix path that are left to be read.
 #[derive(Clone, Copy)]
@@ -129,5 +131,28 @@ impl<'a> DoubleEndedIterator for UnixComponents<'a> {
     fn next_back(&mut self) -> Option<UnixComponent<'a>> {
         let piece = DoubleEndedIterator::next_back(&mut self.components)?;
         Some(unix_component(piece))
+    }
+}
+
+impl<'a> FusedIterator for UnixComponents<'a> {}
+
+/// The components that are left, as a list.
+#[derive(Clone, Copy)]
+struct Listed<'a> {
+    components: UnixComponents<'a>,
+}
+
+impl<'a> fmt::Debug for Listed<'a> {
+    fn fmt<W: fmt::Write>(&self, f: &mut fmt::Formatter<W>) -> fmt::Result {
+        f.debug_list().entries(self.components).finish()
+    }
+}
+
+impl<'a> fmt::Debug for UnixComponents<'a> {
+    fn fmt<W: fmt::Write>(&self, f: &mut fmt::Formatter<W>) -> fmt::Result {
+        let components = *self;
+        f.debug_tuple("UnixComponents")
+            .field(&Listed { components })
+            .finish()
     }
 }

@@ -8,10 +8,22 @@ use crate::common::Encoding;
 use crate::errors::CheckedPathError;
 use crate::scan::{Cursor, Separators};
 use std::alloc::AllocError;
+use std::fmt;
 
 /// Paths as on Unix: `/` separates, and every other byte belongs to a name.
 #[derive(Clone, Copy, Debug, Default, PartialEq, Eq, PartialOrd, Ord, Hash)]
 pub struct UnixEncoding;
+
+/// Prints the name of the type.
+impl fmt::Display for UnixEncoding {
+    ghost use Rattle.std.specs.Prelude.{codes, Some};
+
+    ghost output = { λ _. Some (codes "UnixEncoding") };
+
+    fn fmt<W: fmt::Write>(&self, f: &mut fmt::Formatter<W>) -> fmt::Result {
+        f.pad("UnixEncoding")
+    }
+}
 
 impl Encoding for UnixEncoding {
     ghost dialect = { unix };

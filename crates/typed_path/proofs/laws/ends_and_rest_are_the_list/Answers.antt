@@ -1,6 +1,5 @@
-use Rattle.typed_path.specs.components.Comps.{comps}
 use Rattle.typed_path.proofs.lemmas.readings.ReadingLemmas.{is_whole}
 use Rattle.typed_path.proofs.laws.ends_and_rest_are_the_list.Goals as goal
 
 pub returns : goal.returns
-returns g c = is_whole (comps g.d c.args.path.now)
+returns c = is_whole

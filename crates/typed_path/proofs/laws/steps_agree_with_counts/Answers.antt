@@ -1,7 +1,7 @@
 use Rattle.typed_path.specs.components.Comps.{comps}
 use Rattle.typed_path.proofs.lemmas.readings.ReadingLemmas.{stepwise_answers, stepwise_items, stepwise_none}
 use Rattle.typed_path.proofs.lemmas.components.PlaceLemmas.{comps-laid_out}
-use Rattle.typed_path.proofs.lemmas.readings.SliceLemmas.{stepwise_slices, stepwise_end}
+use Rattle.typed_path.proofs.lemmas.readings.SliceLemmas.{slice_after-left, stepwise_slices, stepwise_end}
 use Rattle.typed_path.proofs.laws.steps_agree_with_counts.Goals as goal
 
 pub returns : goal.returns
@@ -10,9 +10,10 @@ returns g c =
     let cs = comps g.d t in
     let laid = comps-laid_out g.d t in
     record {
-      answers = stepwise_answers cs;
-      items = stepwise_items cs;
+      answers = stepwise_answers;
+      items = stepwise_items;
       slice = λ sides. stepwise_slices cs t sides laid;
-      no_items = stepwise_none cs;
+      half_read = slice_after-left cs t laid;
+      no_items = stepwise_none;
       no_slice = λ sides. stepwise_end cs t sides laid;
     }

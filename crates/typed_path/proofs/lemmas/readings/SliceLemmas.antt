@@ -114,7 +114,7 @@ module _ (cs : List Placed) (text : List ℕ) (laid : IsLaidOut cs text) where
       ]
 
   -- while the steps take components only, they leave what is left of as many
-  slice_after-left : (i j : ℕ) (sides : List Side) → i + fronts sides + (j + backs sides) ≤ length cs → slice_after (items_between cs i j) (left cs text i j) sides ≡ left cs text (i + fronts sides) (j + backs sides)
+  pub slice_after-left : (i j : ℕ) (sides : List Side) → i + fronts sides + (j + backs sides) ≤ length cs → slice_after (items_between cs i j) (left cs text i j) sides ≡ left cs text (i + fronts sides) (j + backs sides)
   slice_after-left i j [] fits = ap₂ (left cs text) (sym (add-zero i)) (sym (add-zero j))
   slice_after-left i j (front ∷ sides) fits =
       ap₂ (λ ds slice. slice_after ds slice sides) (between-front cs i j) (front_step i j (omega arith))

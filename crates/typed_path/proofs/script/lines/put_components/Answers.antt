@@ -1,6 +1,5 @@
 use Rattle.std.proofs.Common.{◌≡◌, ℕ, List, [], ◌∷◌, ◌++◌, append-nil, append_assoc, sym, ap, ◌∙◌}
 use Rattle.std.specs.Prelude.{codes}
-use Rattle.typed_path.specs.components.Dialect.{unix}
 use Rattle.typed_path.specs.components.Part.{Part}
 use Rattle.typed_path.specs.components.Comps.{parts_of}
 use Rattle.typed_path.specs.views.PathViews.{path_bytes}
@@ -18,4 +17,4 @@ all_shown old new replies left ps none ended h =
     ∙ ap (λ bs. old ++ (bs ++ line_feed ∷ [])) (sym (join_with_byte-map tab component_field (codes "ok") ps))
 
 pub returns : goal.returns
-returns c = all_shown _ _ _ _ (parts_of unix (path_bytes c.args.path)) c.in-None.ensures.steps.0 c.in_ok-push.ensures.items c.pieces.invariant
+returns g c = all_shown _ _ _ _ (parts_of g.T.Encoding.dialect (path_bytes c.args.path)) c.in-None.ensures.steps.0 c.in_ok-push.ensures.items c.pieces.invariant
