@@ -1,5 +1,6 @@
 -- What a text is made of.
 pub mod BodyLemmas
+pub mod SegmentViews
 pub mod SegmentLemmas
 pub mod PartLemmas
 pub mod WrittenLemmas

@@ -32,16 +32,18 @@ abbrev pub after_two : List ℕ → Option (List ℕ)
 after_two (a ∷ b ∷ rest) = if (is_separator Either a && is_separator Either b) then Some rest else None
 after_two bytes = None
 
+-- what stands behind four bytes, each of which passes its test
+abbrev pub after_four : (ℕ → Bool) → (ℕ → Bool) → (ℕ → Bool) → (ℕ → Bool) → List ℕ → Option (List ℕ)
+after_four p q r s (a ∷ b ∷ c ∷ d ∷ rest) = if (p a && q b && r c && s d) then Some rest else None
+after_four p q r s bytes = None
+
 -- what stands behind two separators, the byte `sign` and a separator
 abbrev pub after_mark : ℕ → List ℕ → Option (List ℕ)
-after_mark sign (a ∷ b ∷ c ∷ d ∷ rest) =
-    if (is_separator Either a && is_separator Either b && c == sign && is_separator Either d) then Some rest else None
-after_mark sign bytes = None
+after_mark sign text = after_four (is_separator Either) (is_separator Either) (λ b. b == sign) (is_separator Either) text
 
 -- what stands behind `UNC` in capitals and a separator
 abbrev pub after_unc : Separators → List ℕ → Option (List ℕ)
-after_unc s (a ∷ b ∷ c ∷ d ∷ rest) = if (a == 85 && b == 78 && c == 67 && is_separator s d) then Some rest else None
-after_unc s bytes = None
+after_unc s text = after_four (λ b. b == 85) (λ b. b == 78) (λ b. b == 67) (is_separator s) text
 
 abbrev pub is_empty : List ℕ → Bool
 is_empty bytes = length bytes == 0

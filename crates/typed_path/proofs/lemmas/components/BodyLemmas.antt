@@ -11,8 +11,9 @@ use Rattle.typed_path.specs.readings.Steps.{body_from, is_clean, counts}
 use Rattle.typed_path.specs.components.Dialect.{is_separator, is_verbatim, root_text}
 use Rattle.typed_path.specs.readings.Left.{slice_after_front}
 use Rattle.typed_path.specs.components.Part.{Part, Placed, current_part, parent_part, name_part, root_part}
-use Rattle.typed_path.specs.components.Comps.{Segment, placed, segments, later, first, later_body, body_of, named, is_dot, is_dot_dot, component}
-use Rattle.std.proofs.lemmas.Bool.{cases_lt}
+use Rattle.typed_path.specs.components.Comps.{Segment, placed, segments, later, first, later_body, body_of, named, is_dot, component}
+use Rattle.std.proofs.lemmas.Bool.{cases_lt, not-true, not-false}
+use Rattle.typed_path.proofs.lemmas.components.SegmentViews.{Seen, empty, passed_dot, kept_dot, dot_dot, word, seen}
 
 -- a separator at the front of what stands behind a component is nothing
 pub later_body-separator : (s : Separators) (at x : ℕ) (xs : List ℕ) → is_separator s x ≡ true → later_body s at (x ∷ xs) ≡ later_body s (at + 1) xs
@@ -26,17 +27,9 @@ record Behind (s : Separators) (at : ℕ) (text : List ℕ) : Type 0 where
   pub split : segments s at text ≡ record { text = before_first (is_separator s) text; start = at } ∷ rest
   pub components : flat_map (later s) rest ≡ later_body s (at + position_or_len (is_separator s) text) (drop (position_or_len (is_separator s) text) text)
 
-not_true : (b : Bool) → not b ≡ true → b ≡ false
-not_true true h = cc
-not_true false h = refl
-
-not_false : (b : Bool) → not b ≡ false → b ≡ true
-not_false true h = refl
-not_false false h = cc
-
 module _ (s : Separators) (at : ℕ) (text : List ℕ) where
   none_separates : length text ≤ position_or_len (is_separator s) text → All (λ b. is_separator s b ≡ false) text
-  none_separates h k d l = not_true _ (prefix_len_passes (λ b. not (is_separator s b)) text k d (omega arith))
+  none_separates h k d l = not-true _ (prefix_len_passes (λ b. not (is_separator s b)) text k d (omega arith))
 
   behind_last : length text ≤ position_or_len (is_separator s) text → Behind s at text
   behind_last h = record {
@@ -53,7 +46,7 @@ module _ (s : Separators) (at : ℕ) (text : List ℕ) where
     components =
         let n = position_or_len (is_separator s) text in
         ap (λ m. flat_map (later s) (placed (at + m + 1) (slice_split (is_separator s) (after_first (is_separator s) text)))) (length-take-le n text (omega arith))
-        ∙ sym (later_body-separator s (at + n) (get_or text n 0) (drop (n + 1) text) (not_false _ (prefix_len_stops (λ b. not (is_separator s b)) text 0 h)))
+        ∙ sym (later_body-separator s (at + n) (get_or text n 0) (drop (n + 1) text) (not-false _ (prefix_len_stops (λ b. not (is_separator s b)) text 0 h)))
         ∙ ap (later_body s (at + n)) (sym (drop_more text n 0 h));
   }
 
@@ -97,15 +90,14 @@ body_from-first Inside s at b bs h =
 
 -- a first segment is a component at its place
 first_is_component : (s : Separators) (g : Segment) → (p : Part) × (first s g ≡ component p g.start)
-first_is_component s g = by_tests (eqb (length g.text) 0) (is_dot g.text) (is_dot_dot g.text)
+first_is_component s g = by (later s g) (first s g) (seen s g)
   where
-    by_tests : (empty dotted twice : Bool) → (p : Part)
-        × (cond empty (component (root_part (root_text s)) g.start) (cond dotted (component current_part g.start) (cond twice (component parent_part g.start) (component (name_part g.text) g.start)))
-        ≡ component p g.start)
-    by_tests true dotted twice = (root_part (root_text s), refl)
-    by_tests false true twice = (current_part, refl)
-    by_tests false false true = (parent_part, refl)
-    by_tests false false false = (name_part g.text, refl)
+    by : (own front : List Placed) → Seen s g own front → (p : Part) × (front ≡ component p g.start)
+    by _ _ (empty e) = (root_part (root_text s), refl)
+    by _ _ (passed_dot e) = (current_part, refl)
+    by _ _ (kept_dot e) = (current_part, refl)
+    by _ _ (dot_dot e) = (parent_part, refl)
+    by _ _ (word e) = (name_part g.text, refl)
 
 -- an empty text has no component
 pub body_from-empty : (begin : Begin) (s : Separators) (at : ℕ) → body_from begin s at [] ≡ []

@@ -1,30 +1,18 @@
 -- Where the components of a text begin and end, and what is read of the text before or behind such a place.
-use Rattle.std.proofs.Common.{◌≡◌, ℕ, zero, suc, ◌+◌, ◌<◌, ◌≤◌, ◌==◌, Bool, true, false, cond, List, [], ◌∷◌, ◌++◌, ◌⊎◌, inl, inr, length, take, drop, flat_map, refl, sym, ap, ap₂, ◌∙◌, add-zero, eqb-true, arith}
+use Rattle.std.proofs.Common.{◌≡◌, ℕ, zero, suc, ◌+◌, ◌<◌, ◌≤◌, ◌==◌, false, List, [], ◌∷◌, ◌++◌, ◌⊎◌, inl, inr, length, take, drop, flat_map, refl, sym, ap, ap₂, ◌∙◌, add-zero, ne_eqb, arith}
 use Rattle.typed_path.specs.declared.scan.separators.Separators.{Separators}
 use Rattle.typed_path.specs.declared.scan.separators.Separators.TheVariants.{Slash, Backslash, Either}
-use Rattle.typed_path.specs.components.Dialect.{is_verbatim, root_text}
+use Rattle.typed_path.specs.components.Dialect.{root_text}
 use Rattle.typed_path.specs.components.Part.{Part, Placed, current_part, parent_part, name_part, root_part}
-use Rattle.typed_path.specs.components.Comps.{Segment, placed, later, first, is_dot, is_dot_dot, component, named}
+use Rattle.typed_path.specs.components.Comps.{Segment, placed, later, first, component}
 use Rattle.typed_path.specs.readings.Left.{start_at, end_at}
 use Rattle.typed_path.specs.readings.Reading.{AreInOrder}
+use Rattle.typed_path.proofs.lemmas.components.SegmentViews.{Seen, empty, passed_dot, kept_dot, dot_dot, word, seen}
 use Rattle.typed_path.proofs.lemmas.lists.WidthLemmas.{width}
 
 -- the components of later pieces
 abbrev pub laid : Separators → ℕ → List (List ℕ) → List Placed
 laid s at pieces = flat_map (later s) (placed at pieces)
-
--- `.` is one byte
-is_dot-length : (text : List ℕ) → is_dot text ≡ true → length text ≡ 1
-is_dot-length [] h = cc
-is_dot-length (a ∷ []) h = refl
-is_dot-length (a ∷ b ∷ text) h = cc
-
--- `..` is two
-is_dot_dot-length : (text : List ℕ) → is_dot_dot text ≡ true → length text ≡ 2
-is_dot_dot-length [] h = cc
-is_dot_dot-length (a ∷ []) h = cc
-is_dot_dot-length (a ∷ b ∷ []) h = refl
-is_dot_dot-length (a ∷ b ∷ c ∷ text) h = cc
 
 -- a component that takes its whole segment, which is not empty
 pub record TakesSegment (g : Segment) (cs : List Placed) : Type 0 where
@@ -33,35 +21,30 @@ pub record TakesSegment (g : Segment) (cs : List Placed) : Type 0 where
   pub size : length part.text ≡ length g.text
   pub filled : (length g.text == 0) ≡ false
 
--- a segment that is neither empty nor `.` gives a component of its length
-named_takes : (g : Segment) → (length g.text == 0) ≡ false → TakesSegment g (named g)
-named_takes g filled = by (is_dot_dot g.text) refl
-  where
-    by : (twice : Bool) → is_dot_dot g.text ≡ twice → TakesSegment g (cond twice (component parent_part g.start) (component (name_part g.text) g.start))
-    by true e = record { part = parent_part; is = refl; size = sym (is_dot_dot-length g.text e); filled = filled }
-    by false e = record { part = name_part g.text; is = refl; size = refl; filled = filled }
+filled_by : (g : Segment) (n : ℕ) → length g.text ≡ n → 0 < n → (length g.text == 0) ≡ false
+filled_by g n e some = ne_eqb (length g.text) 0 (λ h. omega arith)
 
 -- a later segment is no component, or one that takes the whole segment
 later_takes : (s : Separators) (g : Segment) → (later s g ≡ []) ⊎ TakesSegment g (later s g)
-later_takes s g = by (length g.text == 0) refl (is_dot g.text) refl (is_verbatim s)
+later_takes s g = by (later s g) (first s g) (seen s g)
   where
-    by : (empty : Bool) → (length g.text == 0) ≡ empty → (dotted : Bool) → is_dot g.text ≡ dotted → (verbatim : Bool)
-        → (cond empty [] (cond dotted (cond verbatim (component current_part g.start) []) (named g)) ≡ []) ⊎ TakesSegment g (cond empty [] (cond dotted (cond verbatim (component current_part g.start) []) (named g)))
-    by true e dotted f verbatim = inl refl
-    by false e true f true = inr (record { part = current_part; is = refl; size = sym (is_dot-length g.text f); filled = e })
-    by false e true f false = inl refl
-    by false e false f verbatim = inr (named_takes g e)
+    by : (own front : List Placed) → Seen s g own front → (own ≡ []) ⊎ TakesSegment g own
+    by _ _ (empty e) = inl refl
+    by _ _ (passed_dot e) = inl refl
+    by _ _ (kept_dot e) = inr (record { part = current_part; is = refl; size = sym e; filled = filled_by g 1 e (omega arith) })
+    by _ _ (dot_dot e) = inr (record { part = parent_part; is = refl; size = sym e; filled = filled_by g 2 e (omega arith) })
+    by _ _ (word e) = inr (record { part = name_part g.text; is = refl; size = refl; filled = e })
 
 -- a first segment is one component, which takes the whole segment, or is the root in place of an empty one
 pub first_takes : (s : Separators) (g : Segment) → TakesSegment g (first s g) ⊎ ((length g.text ≡ 0) × (first s g ≡ component (root_part (root_text s)) g.start))
-first_takes s g = by (length g.text == 0) refl (is_dot g.text) refl
+first_takes s g = by (later s g) (first s g) (seen s g)
   where
-    by : (empty : Bool) → (length g.text == 0) ≡ empty → (dotted : Bool) → is_dot g.text ≡ dotted
-        → TakesSegment g (cond empty (component (root_part (root_text s)) g.start) (cond dotted (component current_part g.start) (named g)))
-        ⊎ ((length g.text ≡ 0) × (cond empty (component (root_part (root_text s)) g.start) (cond dotted (component current_part g.start) (named g)) ≡ component (root_part (root_text s)) g.start))
-    by true e dotted f = inr (eqb-true _ 0 e, refl)
-    by false e true f = inl (record { part = current_part; is = refl; size = sym (is_dot-length g.text f); filled = e })
-    by false e false f = inl (named_takes g e)
+    by : (own front : List Placed) → Seen s g own front → TakesSegment g front ⊎ ((length g.text ≡ 0) × (front ≡ component (root_part (root_text s)) g.start))
+    by _ _ (empty e) = inr (e, refl)
+    by _ _ (passed_dot e) = inl (record { part = current_part; is = refl; size = sym e; filled = filled_by g 1 e (omega arith) })
+    by _ _ (kept_dot e) = inl (record { part = current_part; is = refl; size = sym e; filled = filled_by g 1 e (omega arith) })
+    by _ _ (dot_dot e) = inl (record { part = parent_part; is = refl; size = sym e; filled = filled_by g 2 e (omega arith) })
+    by _ _ (word e) = inl (record { part = name_part g.text; is = refl; size = refl; filled = e })
 
 -- the root is one byte
 pub root_text-length : (s : Separators) → length (root_text s) ≡ 1

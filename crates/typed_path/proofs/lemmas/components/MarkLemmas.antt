@@ -1,8 +1,10 @@
 -- The marks that a Windows prefix begins with, in a text that is cut behind them.
-use Rattle.std.proofs.Common.{◌≡◌, ℕ, zero, suc, ◌+◌, ◌<◌, ◌≤◌, Bool, true, false, if◌then◌else◌, List, [], ◌∷◌, ◌⊎◌, inl, inr, length, take, drop, Option, Some, None, option_and_then, option_map, refl, sym, ap, ◌∙◌, add_assoc, arith, length-take}
+use Rattle.std.proofs.Common.{◌≡◌, ℕ, zero, suc, ◌+◌, ◌<◌, ◌≤◌, ◌==◌, Bool, true, false, if◌then◌else◌, List, [], ◌∷◌, ◌⊎◌, inl, inr, length, take, drop, Option, Some, None, option_and_then, option_map, refl, sym, ap, ◌∙◌, add_assoc, arith, length-take}
 use Rattle.std.proofs.lemmas.List.{drop-drop}
 use Rattle.typed_path.specs.declared.scan.separators.Separators.{Separators}
-use Rattle.typed_path.specs.components.Prefix.{drive, after_two, after_mark, after_unc}
+use Rattle.typed_path.specs.declared.scan.separators.Separators.TheVariants.{Either}
+use Rattle.typed_path.specs.components.Dialect.{is_separator}
+use Rattle.typed_path.specs.components.Prefix.{drive, after_two, after_four, after_mark, after_unc}
 use Rattle.typed_path.proofs.lemmas.components.PrefixLemmas.{and_then-some, where-some}
 
 -- nothing, or the front of what there was
@@ -25,49 +27,38 @@ test_cut : (b : Bool) (text : List ℕ) (m : ℕ) → IsFront (if b then Some te
 test_cut true text m = inr (text, m, refl, refl)
 test_cut false text m = inl refl
 
--- a text of fewer than four bytes has no mark
-after_mark-short : (sign : ℕ) (text : List ℕ) → length text < 4 → after_mark sign text ≡ None
-after_mark-short sign (a ∷ b ∷ c ∷ d ∷ text) h = absurd (omega arith)
-after_mark-short sign text h = refl
+-- what stands behind four bytes
+module _ (p q r s : ℕ → Bool) where
+  after_four-short : (text : List ℕ) → length text < 4 → after_four p q r s text ≡ None
+  after_four-short (a ∷ b ∷ c ∷ d ∷ text) h = absurd (omega arith)
+  after_four-short text h = refl
 
--- a mark has four bytes
+  pub after_four-reads : ReadsMark 4 (after_four p q r s)
+  after_four-reads = record {
+    whole = λ text rest m e. let size : 4 + m ≡ suc (suc (suc (suc m))) = omega arith in ap (λ n. after_four p q r s (take n text)) size ∙ whole text rest m e;
+    cut = cut;
+    behind = behind;
+  }
+    where
+      whole : (text rest : List ℕ) (m : ℕ) → after_four p q r s text ≡ Some rest → after_four p q r s (take (suc (suc (suc (suc m)))) text) ≡ Some (take m rest)
+      whole (a ∷ b ∷ c ∷ d ∷ text) rest m e = by_test _ text rest m e
+      whole text rest m e = cc
+
+      behind : (text rest : List ℕ) → after_four p q r s text ≡ Some rest → drop 4 text ≡ rest
+      behind (a ∷ b ∷ c ∷ d ∷ text) rest e = (where-some _ text rest e).1
+      behind text rest e = cc
+
+      cut : (text : List ℕ) (e : ℕ) → IsFront (after_four p q r s text) (after_four p q r s (take e text))
+      cut (a ∷ b ∷ c ∷ d ∷ text) (suc (suc (suc (suc m)))) = test_cut _ text m
+      cut (a ∷ b ∷ c ∷ d ∷ text) e = inl refl
+      cut text e = inl (after_four-short (take e text) (omega (arith, length-take e text)))
+
+-- a mark is four bytes, and so is `UNC` with its separator
 pub after_mark-reads : (sign : ℕ) → ReadsMark 4 (after_mark sign)
-after_mark-reads sign = record { whole = λ text rest m e. let size : 4 + m ≡ suc (suc (suc (suc m))) = omega arith in ap (λ n. after_mark sign (take n text)) size ∙ whole text rest m e; cut = cut; behind = behind }
-  where
-    whole : (text rest : List ℕ) (m : ℕ) → after_mark sign text ≡ Some rest → after_mark sign (take (suc (suc (suc (suc m)))) text) ≡ Some (take m rest)
-    whole (a ∷ b ∷ c ∷ d ∷ text) rest m e = by_test _ text rest m e
-    whole text rest m e = cc
+after_mark-reads sign = after_four-reads (is_separator Either) (is_separator Either) (λ b. b == sign) (is_separator Either)
 
-    behind : (text rest : List ℕ) → after_mark sign text ≡ Some rest → drop 4 text ≡ rest
-    behind (a ∷ b ∷ c ∷ d ∷ text) rest e = (where-some _ text rest e).1
-    behind text rest e = cc
-
-    cut : (text : List ℕ) (e : ℕ) → IsFront (after_mark sign text) (after_mark sign (take e text))
-    cut (a ∷ b ∷ c ∷ d ∷ text) (suc (suc (suc (suc m)))) = test_cut _ text m
-    cut (a ∷ b ∷ c ∷ d ∷ text) e = inl refl
-    cut text e = inl (after_mark-short sign (take e text) (omega (arith, length-take e text)))
-
--- a text of fewer than four bytes has no `UNC`
-after_unc-short : (s : Separators) (text : List ℕ) → length text < 4 → after_unc s text ≡ None
-after_unc-short s (a ∷ b ∷ c ∷ d ∷ text) h = absurd (omega arith)
-after_unc-short s text h = refl
-
--- `UNC` and its separator are four bytes
 pub after_unc-reads : (s : Separators) → ReadsMark 4 (after_unc s)
-after_unc-reads s = record { whole = λ text rest m e. let size : 4 + m ≡ suc (suc (suc (suc m))) = omega arith in ap (λ n. after_unc s (take n text)) size ∙ whole text rest m e; cut = cut; behind = behind }
-  where
-    whole : (text rest : List ℕ) (m : ℕ) → after_unc s text ≡ Some rest → after_unc s (take (suc (suc (suc (suc m)))) text) ≡ Some (take m rest)
-    whole (a ∷ b ∷ c ∷ d ∷ text) rest m e = by_test _ text rest m e
-    whole text rest m e = cc
-
-    behind : (text rest : List ℕ) → after_unc s text ≡ Some rest → drop 4 text ≡ rest
-    behind (a ∷ b ∷ c ∷ d ∷ text) rest e = (where-some _ text rest e).1
-    behind text rest e = cc
-
-    cut : (text : List ℕ) (e : ℕ) → IsFront (after_unc s text) (after_unc s (take e text))
-    cut (a ∷ b ∷ c ∷ d ∷ text) (suc (suc (suc (suc m)))) = test_cut _ text m
-    cut (a ∷ b ∷ c ∷ d ∷ text) e = inl refl
-    cut text e = inl (after_unc-short s (take e text) (omega (arith, length-take e text)))
+after_unc-reads s = after_four-reads (λ b. b == 85) (λ b. b == 78) (λ b. b == 67) (is_separator s)
 
 -- a text of fewer than two bytes has no two separators
 after_two-short : (text : List ℕ) → length text < 2 → after_two text ≡ None

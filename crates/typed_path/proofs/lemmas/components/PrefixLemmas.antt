@@ -1,5 +1,5 @@
 -- How many bytes a prefix takes: more than none, and no more than the text has.
-use Rattle.std.proofs.Common.{◌≡◌, ℕ, ◌+◌, ◌<◌, ◌≤◌, Bool, true, false, not, if◌then◌else◌, nat_lt, List, ◌∷◌, length, Option, Some, None, option_and_then, refl, ap, arith, length-take, length-drop}
+use Rattle.std.proofs.Common.{◌≡◌, ℕ, ◌+◌, ◌<◌, ◌≤◌, ◌==◌, Bool, true, false, not, if◌then◌else◌, nat_lt, List, ◌∷◌, length, Option, Some, None, option_and_then, refl, ap, arith, length-take, length-drop}
 use Rattle.std.specs.Option.{option_or}
 use Rattle.std.specs.List.{position_or_len, after_first}
 use Rattle.std.proofs.lemmas.Bool.{cond_both, ltb-true}
@@ -7,7 +7,7 @@ use Rattle.std.proofs.lemmas.List.Sums.{prefix_len-le-length}
 use Rattle.typed_path.specs.declared.scan.separators.Separators.{Separators}
 use Rattle.typed_path.specs.declared.scan.separators.Separators.TheVariants.{Either}
 use Rattle.typed_path.specs.components.Dialect.{Dialect, unix, windows, separators, is_separator, question, dot}
-use Rattle.typed_path.specs.components.Prefix.{Found, is_empty, drive, after_two, after_mark, after_unc, name, second_name, names_length, verbatim_unc_case, verbatim_disk_case, verbatim_case, device_case, unc_case, disk_case, prefix_of}
+use Rattle.typed_path.specs.components.Prefix.{Found, is_empty, drive, after_two, after_four, after_mark, after_unc, name, second_name, names_length, verbatim_unc_case, verbatim_disk_case, verbatim_case, device_case, unc_case, disk_case, prefix_of}
 
 -- what a value behind an option tells
 pub and_then-some : {A B : Type 0} (g : A → Option B) (o : Option A) (y : B) → option_and_then g o ≡ Some y → (x : A) × (o ≡ Some x) × (g x ≡ Some y)
@@ -29,14 +29,15 @@ pub some_is : {A : Type 0} {x y : A} → Some x ≡ Some y → x ≡ y
 some_is e = cc
 
 -- a mark is four bytes
-after_mark-size : (sign : ℕ) (text rest : List ℕ) → after_mark sign text ≡ Some rest → length text ≡ 4 + length rest
-after_mark-size sign (a ∷ b ∷ c ∷ d ∷ text) rest e = omega (arith, ap length (where-some _ text rest e).1)
-after_mark-size sign text rest e = cc
+after_four-size : (p q r s : ℕ → Bool) (text rest : List ℕ) → after_four p q r s text ≡ Some rest → length text ≡ 4 + length rest
+after_four-size p q r s (a ∷ b ∷ c ∷ d ∷ text) rest e = omega (arith, ap length (where-some _ text rest e).1)
+after_four-size p q r s text rest e = cc
 
--- `UNC` and its separator are four bytes
+after_mark-size : (sign : ℕ) (text rest : List ℕ) → after_mark sign text ≡ Some rest → length text ≡ 4 + length rest
+after_mark-size sign text rest e = after_four-size (is_separator Either) (is_separator Either) (λ b. b == sign) (is_separator Either) text rest e
+
 after_unc-size : (s : Separators) (text rest : List ℕ) → after_unc s text ≡ Some rest → length text ≡ 4 + length rest
-after_unc-size s (a ∷ b ∷ c ∷ d ∷ text) rest e = omega (arith, ap length (where-some _ text rest e).1)
-after_unc-size s text rest e = cc
+after_unc-size s text rest e = after_four-size (λ b. b == 85) (λ b. b == 78) (λ b. b == 67) (is_separator s) text rest e
 
 -- two separators are two bytes
 after_two-size : (text rest : List ℕ) → after_two text ≡ Some rest → length text ≡ 2 + length rest

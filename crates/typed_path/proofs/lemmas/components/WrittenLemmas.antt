@@ -1,5 +1,5 @@
 -- Unix parts are told by their kinds.
-use Rattle.std.proofs.Common.{◌≡◌, ℕ, ◌-◌, List, [], ◌∷◌, ◌++◌, Bool, true, false, cond, eqb, length, take, drop, refl, sym, ap, subst, ◌∙◌}
+use Rattle.std.proofs.Common.{◌≡◌, ℕ, ◌-◌, List, [], ◌∷◌, ◌++◌, length, take, drop, refl, sym, ap, subst, ◌∙◌}
 use Rattle.std.specs.Prelude.{Some}
 use Rattle.std.specs.List.{flat_map}
 use Rattle.std.proofs.lemmas.List.{take-map, map-append}
@@ -8,11 +8,12 @@ use Rattle.typed_path.specs.declared.scan.piece.Piece.{Piece}
 use Rattle.typed_path.specs.declared.scan.separators.Separators.TheVariants.{Slash}
 use Rattle.typed_path.specs.components.Dialect.{unix, root_text}
 use Rattle.typed_path.specs.components.Part.{Part, Placed, parts, current_part, parent_part, name_part, root_part}
-use Rattle.typed_path.specs.components.Comps.{Segment, segments, is_dot, is_dot_dot, component, later, body_of, parts_of}
+use Rattle.typed_path.specs.components.Comps.{Segment, segments, first, later, body_of, parts_of}
 use Rattle.typed_path.specs.readings.Left.{but_last}
 use Rattle.typed_path.specs.readings.Steps.{last_part}
 use Rattle.typed_path.specs.views.PieceViews.{part_of}
 use Rattle.typed_path.specs.components.UnixParts.{written_unix, as_written}
+use Rattle.typed_path.proofs.lemmas.components.SegmentViews.{Seen, empty, passed_dot, kept_dot, dot_dot, word, seen}
 use Rattle.typed_path.proofs.lemmas.readings.LeftLemmas.{last_pushed, last_part-push}
 
 written-cons : (p : Part) (ps : List Part) → p ≡ written_unix p.kind → ps ≡ as_written ps → p ∷ ps ≡ as_written (p ∷ ps)
@@ -23,25 +24,25 @@ Written cs = parts cs ≡ as_written (parts cs)
 
 written-later : (gs : List Segment) → Written (flat_map (later Slash) gs)
 written-later [] = refl
-written-later (g ∷ gs) = by_tests (eqb (length g.text) 0) (is_dot g.text) (is_dot_dot g.text) (written-later gs)
+written-later (g ∷ gs) = by (later Slash g) (first Slash g) (seen Slash g) (written-later gs)
   where
-    by_tests : (empty dotted twice : Bool) → Written (flat_map (later Slash) gs)
-        → Written (cond empty [] (cond dotted [] (cond twice (component parent_part g.start) (component (name_part g.text) g.start))) ++ flat_map (later Slash) gs)
-    by_tests true dotted twice h = h
-    by_tests false true twice h = h
-    by_tests false false true h = written-cons parent_part (parts (flat_map (later Slash) gs)) refl h
-    by_tests false false false h = written-cons (name_part g.text) (parts (flat_map (later Slash) gs)) refl h
+    by : (own front : List Placed) → Seen Slash g own front → Written (flat_map (later Slash) gs) → Written (own ++ flat_map (later Slash) gs)
+    by _ _ (empty e) h = h
+    by _ _ (passed_dot e) h = h
+    by _ _ (kept_dot e) h = written-cons current_part (parts (flat_map (later Slash) gs)) refl h
+    by _ _ (dot_dot e) h = written-cons parent_part (parts (flat_map (later Slash) gs)) refl h
+    by _ _ (word e) h = written-cons (name_part g.text) (parts (flat_map (later Slash) gs)) refl h
 
 written-body_of : (gs : List Segment) → Written (body_of Slash gs)
 written-body_of [] = refl
-written-body_of (g ∷ gs) = by_tests (eqb (length g.text) 0) (is_dot g.text) (is_dot_dot g.text)
+written-body_of (g ∷ gs) = by (later Slash g) (first Slash g) (seen Slash g)
   where
-    by_tests : (empty dotted twice : Bool) → Written (cond empty (component (root_part (root_text Slash)) g.start)
-        (cond dotted (component current_part g.start) (cond twice (component parent_part g.start) (component (name_part g.text) g.start))) ++ flat_map (later Slash) gs)
-    by_tests true dotted twice = written-cons (root_part (root_text Slash)) (parts (flat_map (later Slash) gs)) refl (written-later gs)
-    by_tests false true twice = written-cons current_part (parts (flat_map (later Slash) gs)) refl (written-later gs)
-    by_tests false false true = written-cons parent_part (parts (flat_map (later Slash) gs)) refl (written-later gs)
-    by_tests false false false = written-cons (name_part g.text) (parts (flat_map (later Slash) gs)) refl (written-later gs)
+    by : (own front : List Placed) → Seen Slash g own front → Written (front ++ flat_map (later Slash) gs)
+    by _ _ (empty e) = written-cons (root_part (root_text Slash)) (parts (flat_map (later Slash) gs)) refl (written-later gs)
+    by _ _ (passed_dot e) = written-cons current_part (parts (flat_map (later Slash) gs)) refl (written-later gs)
+    by _ _ (kept_dot e) = written-cons current_part (parts (flat_map (later Slash) gs)) refl (written-later gs)
+    by _ _ (dot_dot e) = written-cons parent_part (parts (flat_map (later Slash) gs)) refl (written-later gs)
+    by _ _ (word e) = written-cons (name_part g.text) (parts (flat_map (later Slash) gs)) refl (written-later gs)
 
 -- what Unix reads is told by the kinds
 pub written-parts_of : (text : List ℕ) → parts_of unix text ≡ as_written (parts_of unix text)

@@ -1,13 +1,10 @@
 -- A list cut at the first element that passes a test.
-use Rattle.std.proofs.Common.{◌≡◌, ℕ, ◌+◌, ◌<◌, ◌≤◌, List, [], ◌∷◌, ◌++◌, Bool, true, false, length, take, drop, slice_index, refl, sym, ap, subst, ◌∙◌, All, arith}
+use Rattle.std.proofs.Common.{◌≡◌, ℕ, ◌+◌, ◌<◌, ◌≤◌, List, [], ◌∷◌, ◌++◌, Bool, false, length, take, drop, slice_index, sym, ap, subst, ◌∙◌, All, arith}
 use Rattle.std.specs.List.{slice_split}
 use Rattle.std.proofs.lemmas.List.{drop_more, take-append-drop, get_or_default, get_or-take, length-take-le, take_all}
 use Rattle.std.proofs.lemmas.List.Splits.{slice_split_none, slice_split_at}
+use Rattle.std.proofs.lemmas.Bool.{false_from_ne_true}
 use Rattle.memchr.specs.Find.{Nowhere, NoneBefore, Passes}
-
-pub fails : (b : Bool) → ¬ (b ≡ true) → b ≡ false
-fails true h = absurd (h refl)
-fails false h = refl
 
 module _ (p : ℕ → Bool) (text : List ℕ) where
   -- no element passes
@@ -15,7 +12,7 @@ module _ (p : ℕ → Bool) (text : List ℕ) where
   none_passes n within h k d l =
       let size = length-take-le n text within in
       let below : k < n = omega arith in
-      fails _ (λ e. h k (omega arith) below (ap p (get_or_default text k 0 d (omega arith) ∙ sym (get_or-take n text k d below)) ∙ e))
+      false_from_ne_true _ (λ e. h k (omega arith) below (ap p (get_or_default text k 0 d (omega arith) ∙ sym (get_or-take n text k d below)) ∙ e))
 
   pub split-nowhere : Nowhere (Passes p text) 0 (length text) → slice_split p text ≡ text ∷ []
   split-nowhere h = slice_split_none p text (subst (λ t. All (λ b. p b ≡ false) t) (take_all (length text) text (omega arith)) (none_passes (length text) (omega arith) h))

@@ -2,6 +2,7 @@
 use Rattle.std.proofs.Common.{◌≡◌, ℕ, zero, suc, List, [], ◌∷◌, ◌++◌, Bool, true, false, not, ◌&&◌, cond, map, append_assoc, append-nil, refl, ap, sym, ◌∙◌}
 use Rattle.std.proofs.lemmas.List.{map-append}
 use Rattle.std.specs.List.{list_all}
+use Rattle.std.proofs.lemmas.Bool.{and_parts}
 use Rattle.typed_path.specs.components.Dialect.{Dialect}
 use Rattle.typed_path.specs.changes.Push.{push, push_all}
 use Rattle.typed_path.specs.components.Part.{Kind, prefix, root, current, parent, normal, Part, kinds, texts, name_part}
@@ -65,14 +66,6 @@ abbrev pub heads_first : List Kind → Bool
 heads_first [] = true
 heads_first (k ∷ ks) = cond (is_head k) (heads_first ks) (no_heads ks)
 
-and_left : (a b : Bool) → a && b ≡ true → a ≡ true
-and_left true b h = refl
-and_left false b h = cc
-
-and_right : (a b : Bool) → a && b ≡ true → b ≡ true
-and_right true b h = h
-and_right false b h = cc
-
 pub no_heads-first : (ks : List Kind) → no_heads ks ≡ true → heads_first ks ≡ true
 no_heads-first [] h = refl
 no_heads-first (k ∷ ks) h = by_head (is_head k) h
@@ -82,19 +75,19 @@ no_heads-first (k ∷ ks) h = by_head (is_head k) h
     by_head false e = e
 
 no_heads-without : (ks : List Kind) (k : Kind) (ls : List Kind) → no_heads (ks ++ k ∷ ls) ≡ true → no_heads (ks ++ ls) ≡ true
-no_heads-without [] k ls h = and_right _ _ h
+no_heads-without [] k ls h = (and_parts _ _ h).1
 no_heads-without (l ∷ ks) k ls h =
-    let head = and_left (not (is_head l)) _ h in
-    let rest = no_heads-without ks k ls (and_right (not (is_head l)) _ h) in
+    let head = (and_parts (not (is_head l)) _ h).0 in
+    let rest = no_heads-without ks k ls (and_parts (not (is_head l)) _ h).1 in
     ap (λ b. b && no_heads (ks ++ ls)) head ∙ rest
 
 no_heads-at : (ks : List Kind) (k : Kind) (ls : List Kind) → no_heads (ks ++ k ∷ ls) ≡ true → is_head k ≡ false
-no_heads-at [] k ls h = by_head (is_head k) (and_left _ _ h)
+no_heads-at [] k ls h = by_head (is_head k) (and_parts _ _ h).0
   where
     by_head : (b : Bool) → not b ≡ true → b ≡ false
     by_head true e = cc
     by_head false e = refl
-no_heads-at (l ∷ ks) k ls h = no_heads-at ks k ls (and_right (not (is_head l)) _ h)
+no_heads-at (l ∷ ks) k ls h = no_heads-at ks k ls (and_parts (not (is_head l)) _ h).1
 
 heads_first-without : (ks : List Kind) (k : Kind) (ls : List Kind) → heads_first (ks ++ k ∷ ls) ≡ true → heads_first (ks ++ ls) ≡ true
 heads_first-without [] k ls h = by_head (is_head k) h

@@ -5,6 +5,7 @@ use Rattle.std.specs.List.{ends_with}
 use Rattle.std.specs.Str.{bytes_eq}
 use Rattle.std.proofs.lemmas.List.{map-append, length-append, drop-append-le, drop_all}
 use Rattle.std.proofs.lemmas.Option.{same_Some}
+use Rattle.std.proofs.Math.Bool.{and-false, and-true, and_assoc}
 use Rattle.typed_path.specs.components.Part.{Part, Placed, parts, texts}
 use Rattle.typed_path.specs.readings.Left.{but_last}
 use Rattle.typed_path.specs.readings.Steps.{last_part}
@@ -13,18 +14,6 @@ use lib.Pointwise.{pointwise}
 
 abbrev pub ends : List Placed → List Placed → Bool
 ends rest wanted = ends_with bytes_eq (texts (parts rest)) (texts (parts wanted))
-
-pub and_false : (b : Bool) → b && false ≡ false
-and_false true = refl
-and_false false = refl
-
-pub and_true : (b : Bool) → b && true ≡ b
-and_true true = refl
-and_true false = refl
-
-and_assoc : (a b c : Bool) → (a && b) && c ≡ a && (b && c)
-and_assoc true b c = refl
-and_assoc false b c = refl
 
 module _ {X : Type 0} (eq : X → X → Bool) where
   pointwise-longer : (xs : List X) (x : X) → pointwise eq [] (xs ++ x ∷ []) ≡ false
@@ -37,9 +26,9 @@ module _ {X : Type 0} (eq : X → X → Bool) where
 
   -- two lists are alike where their last elements are, and those before
   pub pointwise-push : (xs ys : List X) (x y : X) → pointwise eq (xs ++ x ∷ []) (ys ++ y ∷ []) ≡ (pointwise eq xs ys && eq x y)
-  pointwise-push [] [] x y = and_true (eq x y)
-  pointwise-push [] (z ∷ zs) x y = ap (λ b. eq x z && b) (pointwise-longer zs y) ∙ and_false (eq x z)
-  pointwise-push (w ∷ ws) [] x y = ap (λ b. eq w y && b) (pointwise-shorter ws x) ∙ and_false (eq w y)
+  pointwise-push [] [] x y = and-true (eq x y)
+  pointwise-push [] (z ∷ zs) x y = ap (λ b. eq x z && b) (pointwise-longer zs y) ∙ and-false (eq x z)
+  pointwise-push (w ∷ ws) [] x y = ap (λ b. eq w y && b) (pointwise-shorter ws x) ∙ and-false (eq w y)
   pointwise-push (w ∷ ws) (z ∷ zs) x y = ap (λ b. eq w z && b) (pointwise-push ws zs x y) ∙ sym (and_assoc (eq w z) (pointwise eq ws zs) (eq x y))
 
   -- the end of a list

@@ -1,5 +1,6 @@
-use Rattle.std.proofs.Common.{◌≡◌, List, [], ◌∷◌, Bool, true, false, not, refl, sym, ap, ◌∙◌, rules, option_map}
+use Rattle.std.proofs.Common.{◌≡◌, List, [], ◌∷◌, refl, sym, ap, ◌∙◌, rules, option_map}
 use Rattle.std.specs.Prelude.{Some, None}
+use Rattle.std.proofs.lemmas.Bool.{not-true, not-false}
 use Rattle.typed_path.specs.components.Part.{Placed}
 use Rattle.typed_path.specs.readings.Steps.{first_part}
 use Rattle.typed_path.specs.views.PathViews.{path_bytes}
@@ -15,14 +16,6 @@ pub pieces-init : goal.pieces-init
 pieces-init g c =
     Strips-start g.T.Encoding.dialect (path_bytes c.args.self) (path_bytes c.args.base) _ _ _ c.components-rest.ensures.items c.components-wanted.ensures.items c.components-rest.ensures.slice
 
-not_true : (b : Bool) → not b ≡ true → b ≡ false
-not_true true h = cc
-not_true false h = refl
-
-not_false : (b : Bool) → not b ≡ false → b ≡ true
-not_false true h = refl
-not_false false h = cc
-
 pub returns-in_err-own : goal.returns-in_err-own
 returns-in_err-own g c =
     let none : option_map path_bytes c.from_residual.result ≡ None = search rules in
@@ -31,12 +24,12 @@ returns-in_err-own g c =
 pub returns-then-ne : goal.returns-then-ne
 returns-then-ne g c =
     sym (Strips-differ c.pieces.invariant (part_of c.in-Some.piece) (part_of c.in_ok-own.own) c.in-Some.ensures.taken c.in_ok-own.ensures.taken
-    (not_true _ (sym c.ne.ensures ∙ c.if-ne.true)))
+    (not-true _ (sym c.ne.ensures ∙ c.if-ne.true)))
 
 pub pieces-preserved : goal.pieces-preserved
 pieces-preserved g c =
     Strips-step c.pieces.invariant (part_of c.in-Some.piece) (part_of c.in_ok-own.own) _ _ _ c.in-Some.ensures.taken c.in_ok-own.ensures.taken
-    (not_false _ (sym c.ne.ensures ∙ c.if-ne.false)) c.in_ok-own.ensures.items c.in-Some.ensures.items c.in_ok-own.ensures.slice
+    (not-false _ (sym c.ne.ensures ∙ c.if-ne.false)) c.in_ok-own.ensures.items c.in-Some.ensures.items c.in_ok-own.ensures.slice
 
 pub returns : goal.returns
 returns g c =
