@@ -61,6 +61,16 @@ impl From<AllocError> for PathError {
     }
 }
 
+impl<T: Drop> From<AllocFailed<T>> for PathError {
+    ghost use Rattle.typed_path.specs.declared.errors.PathError.TheVariants.{OutOfMemory};
+
+    ghost from_gives = { λ _ e. e ≡ OutOfMemory };
+
+    fn from(_refused: AllocFailed<T>) -> PathError {
+        PathError::OutOfMemory
+    }
+}
+
 /// Why lines were not answered to the end of the input.
 #[derive(Clone, Copy, Debug, PartialEq, Eq, Hash, Error)]
 pub enum LineError {

@@ -3,9 +3,9 @@
 use crate::streams::{Drops, Pieces};
 use std::alloc::Global;
 use std::io;
-use std::io::Write;
+use std::io::{Read, Write};
 use std::test::Fail;
-use typed_path::{LineError, StdSink, StdSource, answer_lines, exit_status};
+use typed_path::{LineError, Sink, Source, StdSink, StdSource, answer_lines, exit_status};
 
 const ALL: usize = usize::MAX;
 
@@ -133,6 +133,63 @@ impl Write for Full {
     fn flush(&mut self) -> io::Result<()> {
         Ok(())
     }
+}
+
+/// A writer that takes one byte a call.
+#[derive(Drop)]
+struct Slow {
+    taken: Vec<u8>,
+}
+
+impl Write for Slow {
+    fn write(&mut self, bytes: &[u8]) -> io::Result<usize> {
+        let Some(byte) = bytes.first() else {
+            return Ok(0);
+        };
+        match self.taken.push(*byte) {
+            Ok(()) => Ok(1),
+            Err(_) => Ok(0),
+        }
+    }
+
+    fn flush(&mut self) -> io::Result<()> {
+        Ok(())
+    }
+}
+
+/// A reader that gives one byte a call.
+#[derive(Drop)]
+struct Trickle<'a> {
+    bytes: &'a [u8],
+}
+
+impl Read for Trickle<'_> {
+    fn read(&mut self, buffer: &mut [u8]) -> io::Result<usize> {
+        let count = self.bytes.len().min(buffer.len()).min(1);
+        buffer[..count].copy_from_slice(&self.bytes[..count]);
+        self.bytes = &self.bytes[count..];
+        Ok(count)
+    }
+}
+
+#[test]
+fn streams_of_one_byte(rt: HostRuntime) -> Result<(), Fail> {
+    let mut reader = StdSource::new(Trickle { bytes: b"ab" });
+    let mut buffer = [0u8; 4];
+    for wanted in [Ok(1), Ok(1), Ok(0)] {
+        assert_eq!(rt; reader.read(&mut buffer), wanted);
+    }
+
+    let mut writer = StdSink::new(Slow {
+        taken: Vec::new(rt.alloc()),
+    });
+    assert_eq!(rt; Sink::write(&mut writer, b"abc"), Ok(1));
+    assert_eq!(rt; Sink::write(&mut writer, b""), Ok(0));
+
+    let mut reader = StdSource::new(Trickle { bytes: THREE });
+    let outcome = answer_lines(rt.alloc(), &mut reader, &mut writer);
+    assert_eq!(rt; outcome, Ok(()));
+    Ok(())
 }
 
 #[test]

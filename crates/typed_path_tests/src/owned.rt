@@ -1,7 +1,10 @@
 //! Owned paths, with ample memory.
 
 use std::test::Fail;
-use typed_path::{CheckedPathError, PathError, PathOp, Reply, UnixPath, UnixPathBuf, run_ops};
+use typed_path::{
+    CheckedPathError, PathError, PathOp, Reply, UnixComponents, UnixEncoding, UnixPath,
+    UnixPathBuf, run_ops,
+};
 
 #[test]
 fn checked_pushes(rt: HostRuntime) -> Result<(), Fail> {
@@ -50,7 +53,7 @@ fn changed_names(rt: HostRuntime) -> Result<(), Fail> {
         let copy = UnixPath::new(path.as_bytes()).with_extension(rt.alloc(), extension.as_bytes());
         assert_eq!(rt; copy?.as_path().as_bytes(), wanted.as_bytes());
     }
-    let long = "a name that is longer than what a change of names keeps at hand, by some bytes";
+    let long = "a name that is much longer than the one that comes in its place, by many bytes";
     for (path, name, wanted) in [
         ("a/b", "", "a"),
         ("a/b/", "c", "a/c"),
@@ -165,5 +168,43 @@ fn printed_paths(rt: HostRuntime) -> Result<(), Fail> {
     }
     let padded = format!(in rt.alloc(); "{:>4}|", UnixPath::new(b"a"))?;
     assert_eq!(rt; padded.as_str(), "   a|");
+    Ok(())
+}
+
+#[test]
+fn texts_for_programmers(rt: HostRuntime) -> Result<(), Fail> {
+    let alloc = rt.alloc();
+    let path = UnixPath::new(b"/a");
+    let owned = path.to_path_buf(alloc)?;
+    let rows = [
+        (
+            format!(in alloc; "{path:?}")?,
+            "Path { _encoding: \"unix\", inner: [47, 97] }",
+        ),
+        (
+            format!(in alloc; "{owned:?}")?,
+            "PathBuf { _encoding: \"unix\", inner: [47, 97] }",
+        ),
+        (
+            format!(in alloc; "{:?}", path.display())?,
+            "Path { _encoding: \"unix\", inner: [47, 97] }",
+        ),
+        (
+            format!(in alloc; "{:?}", UnixComponents::new(path))?,
+            "UnixComponents([RootDir, Normal([97])])",
+        ),
+        (
+            format!(in alloc; "{:?}", path.iter())?,
+            "Iter([[47], [97]])",
+        ),
+        (
+            format!(in alloc; "{:?}", path.ancestors())?,
+            "Ancestors { next: Some(Path { _encoding: \"unix\", inner: [47, 97] }) }",
+        ),
+        (format!(in alloc; "{UnixEncoding}")?, "UnixEncoding"),
+    ];
+    for (printed, wanted) in rows {
+        assert_eq!(rt; printed.as_str(), wanted);
+    }
     Ok(())
 }

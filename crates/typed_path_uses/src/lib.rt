@@ -1,0 +1,10 @@
+//! Callers of `typed_path`, each with what it promises to its own callers.
+#![tactic(auto)]
+
+mod extractor;
+mod tidy;
+mod walk;
+
+pub use extractor::{target, targets};
+pub use tidy::{are_one, key};
+pub use walk::listing;
