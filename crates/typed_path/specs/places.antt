@@ -1,2 +1,3 @@
 -- Where a path leads.
 pub mod Places
+pub mod Rows

@@ -1,3 +1,4 @@
 -- Where a path leads.
 pub mod ResolveLemmas
 pub mod SettleLemmas
+pub mod RowLemmas

@@ -18,7 +18,7 @@ pub parts_of-unix : (t : List ℕ) → parts_of unix t ≡ body_parts Slash t
 parts_of-unix t = parts-body Slash 0 t
 
 -- a name pushed onto a text stands behind a separator
-push_unix-name : (base name : List ℕ) → IsCleanName Slash name → push_unix base name ≡ ended_with slash base ++ name
+pub push_unix-name : (base name : List ℕ) → IsCleanName Slash name → push_unix base name ≡ ended_with slash base ++ name
 push_unix-name base [] clean = cc
 push_unix-name base (b ∷ bs) clean = rw (All-head (λ c. is_separator Slash c ≡ false) b bs clean.unseparated)
 

@@ -1,0 +1,190 @@
+-- The normal text of Unix, written row by row.
+use Rattle.std.proofs.Common.{◌≡◌, ◌⊎◌, inl, inr, ℕ, zero, suc, ◌+◌, ◌-◌, ◌<◌, ◌≤◌, ◌==◌, ◌||◌, Bool, true, false, cond, List, [], ◌∷◌, ◌++◌, map, length, take, slice_index, fold, refl, sym, ap, ap₂, ◌∙◌, append_assoc, append-nil, take_all, subst, arith, ne_eqb, eqb-true, get_or}
+use Rattle.std.specs.List.{slice_split, onto_first, AllByRecursion}
+use Rattle.std.proofs.lemmas.List.{length-append, length-take, get_or-append-add}
+use Rattle.std.proofs.lemmas.List.Splits.{slice_split-cons_yes, slice_split-cons_no}
+use Rattle.std.proofs.lemmas.Bool.{cond-false, or_from, false_from_ne_true, eqb-false}
+use Rattle.typed_path.specs.declared.scan.separators.Separators.TheVariants.{Slash}
+use Rattle.typed_path.specs.components.Dialect.{Dialect, unix, slash, is_separator}
+use Rattle.typed_path.specs.components.Part.{Part, Kind, current, parent, normal, root, prefix, name_part, current_part, parent_part, root_part, kinds, parts, texts}
+use Rattle.typed_path.specs.components.Comps.{Segment, component, first, is_dot, is_dot_dot, parts_of}
+use Rattle.typed_path.specs.changes.Push.{ended_with, push_unix, push_all}
+use Rattle.typed_path.specs.places.Places.{normal_text, resolve}
+use Rattle.typed_path.specs.places.Rows.{rows, IsHead, AreRows, settled, names_left}
+use Rattle.typed_path.proofs.lemmas.lists.SplitLemmas.{IsUnseparated, slice_split-some, slice_split-unseparated, AllByRecursion-append}
+use Rattle.typed_path.proofs.lemmas.components.PartLemmas.{pieces, named_part, later_part, later_parts, first_parts, body_parts, IsCleanName}
+use Rattle.typed_path.proofs.lemmas.places.SettleLemmas.{heads_first, Comes, comes-current, comes-parent, comes-parent_alone, comes-name, comes-head, comes-end}
+use Rattle.typed_path.proofs.lemmas.components.ShapeLemmas.{heads_first-parts_of}
+use Rattle.typed_path.proofs.lemmas.promises.UnixNormal.{parts_of-unix, push_unix-name}
+
+-- a list that is not empty, as what stands before its last element, and that
+pub data Ended {X : Type 0} : List X → Type 0 where
+  none : Ended []
+  some : (xs : List X) (x : X) → Ended (xs ++ x ∷ [])
+
+pub ended : {X : Type 0} (xs : List X) → Ended xs
+ended [] = none
+ended {X} (x ∷ xs) = by xs (ended xs)
+  where
+    by : (ys : List X) → Ended ys → Ended (x ∷ ys)
+    by _ none = some [] x
+    by _ (some ys y) = some (x ∷ ys) y
+
+take-ended : {X : Type 0} (xs : List X) (x : X) → take (length (xs ++ x ∷ []) - 1) (xs ++ x ∷ []) ≡ xs
+take-ended [] x = refl
+take-ended (y ∷ xs) x =
+    let size : length (y ∷ (xs ++ x ∷ [])) - 1 ≡ suc (length (xs ++ x ∷ []) - 1) = omega (arith, length-append xs (x ∷ [])) in
+    ap (λ n. take n (y ∷ (xs ++ x ∷ []))) size ∙ ap (λ ys. y ∷ ys) (take-ended xs x)
+
+pub rows-append : (ms ns : List (List ℕ)) → rows (ms ++ ns) ≡ rows ms ++ rows ns
+rows-append [] ns = refl
+rows-append (m ∷ ms) ns = ap (λ bs. (m ++ slash ∷ []) ++ bs) (rows-append ms ns) ∙ sym (append_assoc (m ++ slash ∷ []) (rows ms) (rows ns))
+
+-- one more segment settles one more component, where the segment is a later one
+comes-settled : {goal head : List ℕ} (names : List (List ℕ)) (segment : List ℕ) (ps : List Part) → Comes unix goal head names (later_part Slash segment ++ ps) → Comes unix goal head (settled names segment) ps
+comes-settled {goal} {head} names segment ps h = by (length segment == 0) (is_dot segment) (is_dot_dot segment) h
+  where
+    parent_ends : (ns : List (List ℕ)) → Ended ns → Comes unix goal head ns (parent_part ∷ ps) → Comes unix goal head (take (length ns - 1) ns) ps
+    parent_ends _ none h = comes-parent_alone h
+    parent_ends _ (some ns n) h = subst (λ ms. Comes unix goal head ms ps) (sym (take-ended ns n)) (comes-parent n h)
+
+    by : (empty dotted twice : Bool)
+        → Comes unix goal head names (cond empty [] (cond dotted [] (cond twice parent_part (name_part segment) ∷ [])) ++ ps)
+        → Comes unix goal head (cond (empty || dotted) names (cond twice (take (length names - 1) names) (names ++ segment ∷ []))) ps
+    by true dotted twice h = h
+    by false true twice h = h
+    by false false true h = parent_ends names (ended names) h
+    by false false false h = comes-name h
+
+-- so the names that are left are the text's, pushed one by one
+comes-left : {goal head : List ℕ} (segments : List (List ℕ)) (names : List (List ℕ)) → Comes unix goal head names (later_parts Slash segments) → goal ≡ push_all unix head (fold settled names segments)
+comes-left [] names h = comes-end h
+comes-left (segment ∷ segments) names h = comes-left segments (settled names segment) (comes-settled names segment (later_parts Slash segments) h)
+
+comes-whole : (text : List ℕ) → Comes unix (normal_text unix text) [] [] (body_parts Slash text)
+comes-whole text = record {
+  written = ap (λ ps. push_all unix [] (texts (resolve ps))) (parts_of-unix text);
+  heads = ap (λ ps. heads_first (kinds ps)) (sym (parts_of-unix text)) ∙ heads_first-parts_of unix text;
+}
+
+-- a text that begins with the root: what stands behind it is settled onto the root
+comes-root : (rest : List ℕ) → Comes unix (normal_text unix (slash ∷ rest)) (slash ∷ []) [] (later_parts Slash (pieces Slash rest))
+comes-root rest =
+    let P : List (List ℕ) → Type 0 = λ segments. Comes unix (normal_text unix (slash ∷ rest)) [] [] (first_parts Slash segments) in
+    comes-head refl (subst P (slice_split-cons_yes (is_separator Slash) slash rest refl) (comes-whole (slash ∷ rest)))
+
+-- any other text: all of it is settled onto nothing
+comes-relative : (text : List ℕ) → ((rest : List ℕ) → text ≡ slash ∷ rest → ⊥) → Comes unix (normal_text unix text) [] [] (later_parts Slash (pieces Slash text))
+comes-relative [] relative = comes-whole []
+comes-relative (b ∷ bs) relative =
+    let some = slice_split-some (is_separator Slash) bs in
+    let apart : is_separator Slash b ≡ false = false_from_ne_true _ (λ e. relative bs (ap (λ c. c ∷ bs) (eqb-true b slash e))) in
+    let split : pieces Slash (b ∷ bs) ≡ (b ∷ some.0) ∷ some.1 = slice_split-cons_no (is_separator Slash) b bs apart ∙ ap (onto_first b) some.2 in
+    let P : List (List ℕ) → Type 0 = λ segments. Comes unix (normal_text unix (b ∷ bs)) [] [] (first_parts Slash segments) in
+    let Q : List (List ℕ) → Type 0 = λ segments. Comes unix (normal_text unix (b ∷ bs)) [] [] (later_parts Slash segments) in
+    subst Q (sym split) (by (length (b ∷ some.0) == 0) (ne_eqb (suc (length some.0)) 0 (λ e. cc)) (is_dot (b ∷ some.0)) (named_part (b ∷ some.0)) (later_parts Slash some.1) (subst P split (comes-whole (b ∷ bs))))
+  where
+    by : (empty : Bool) → empty ≡ false → (dotted : Bool) (named : Part) (ps : List Part)
+        → Comes unix (normal_text unix (b ∷ bs)) [] [] (cond empty (root_part (slash ∷ [])) (cond dotted current_part named) ∷ ps)
+        → Comes unix (normal_text unix (b ∷ bs)) [] [] (cond empty [] (cond dotted [] (named ∷ [])) ++ ps)
+    by true e dotted named ps h = cc
+    by false e true named ps h = comes-current h
+    by false e false named ps h = h
+
+-- a name ends with no separator
+ended_with-name : (front name : List ℕ) → IsCleanName Slash name → ended_with slash (front ++ name) ≡ (front ++ name) ++ slash ∷ []
+ended_with-name front name clean =
+    let some : 0 < length name = grind (arith, eqb-false, clean.filled) in
+    let size = length-append front name in
+    let place : length (front ++ name) - 1 ≡ length front + (length name - 1) = omega arith in
+    let last : slice_index (front ++ name) (length (front ++ name) - 1) ≡ get_or name (length name - 1) 0 = ap (λ i. get_or (front ++ name) i 0) place ∙ get_or-append-add front name (length name - 1) 0 in
+    let apart : (slice_index (front ++ name) (length (front ++ name) - 1) == slash) ≡ false = ap (λ b. b == slash) last ∙ clean.unseparated (length name - 1) 0 (omega arith) in
+    cond-false _ (front ++ name) ((front ++ name) ++ slash ∷ []) (or_from _ _ (ne_eqb (length (front ++ name)) 0 (λ e. omega arith)) apart)
+
+-- names pushed behind a name are its row and theirs, without the last separator
+push_all-rows : (front name : List ℕ) (names : List (List ℕ)) → IsCleanName Slash name → AllByRecursion (IsCleanName Slash) names
+    → push_all unix (front ++ name) names ++ slash ∷ [] ≡ ((front ++ name) ++ slash ∷ []) ++ rows names
+push_all-rows front name [] clean each = sym (append-nil ((front ++ name) ++ slash ∷ []))
+push_all-rows front name (next ∷ names) clean each =
+    let base = (front ++ name) ++ slash ∷ [] in
+    ap (λ text. push_all unix text names ++ slash ∷ []) (push_unix-name (front ++ name) next each.0 ∙ ap (λ text. text ++ next) (ended_with-name front name clean))
+    ∙ push_all-rows base next names each.0 each.1
+    ∙ ap (λ text. text ++ rows names) (append_assoc base next (slash ∷ []))
+    ∙ append_assoc base (next ++ slash ∷ []) (rows names)
+
+-- a head ends as it is
+ended_with-head : (head : List ℕ) → IsHead head → ended_with slash head ≡ head
+ended_with-head head (inl e) = rw e
+ended_with-head head (inr e) = rw e
+
+-- the rows of a text without their last separator are its names pushed one by one
+pub pushed-rows : (head name : List ℕ) (names : List (List ℕ)) → IsHead head → IsCleanName Slash name → AllByRecursion (IsCleanName Slash) names
+    → push_all unix head (name ∷ names) ++ slash ∷ [] ≡ head ++ rows (name ∷ names)
+pushed-rows head name names is clean each =
+    ap (λ text. push_all unix text names ++ slash ∷ []) (push_unix-name head name clean ∙ ap (λ text. text ++ name) (ended_with-head head is))
+    ∙ push_all-rows head name names clean each
+    ∙ ap (λ text. text ++ rows names) (append_assoc head name (slash ∷ []))
+    ∙ append_assoc head (name ++ slash ∷ []) (rows names)
+
+-- what holds of each element but the last
+all-front : {X : Type 0} (P : X → Type 0) (xs ys : List X) → AllByRecursion P (xs ++ ys) → AllByRecursion P xs
+all-front P [] ys each = tt
+all-front P (x ∷ xs) ys each = (each.0, all-front P xs ys each.1)
+
+all-but_last : {X : Type 0} (P : X → Type 0) (xs : List X) → AllByRecursion P xs → AllByRecursion P (take (length xs - 1) xs)
+all-but_last {X} P xs each = by xs (ended xs) each
+  where
+    by : (ys : List X) → Ended ys → AllByRecursion P ys → AllByRecursion P (take (length ys - 1) ys)
+    by _ none h = tt
+    by _ (some ys y) h = subst (λ zs. AllByRecursion P zs) (sym (take-ended ys y)) (all-front P ys (y ∷ []) h)
+
+-- what holds of names, and of a segment that is one, holds once it is settled
+module _ (P : List ℕ → Type 0) where
+  pub settled-each : (names : List (List ℕ)) (segment : List ℕ) → ((length segment == 0) ≡ false → is_dot segment ≡ false → is_dot_dot segment ≡ false → P segment)
+      → AllByRecursion P names → AllByRecursion P (settled names segment)
+  settled-each names segment own each = by (length segment == 0) refl (is_dot segment) refl (is_dot_dot segment) refl
+    where
+      by : (empty : Bool) → (length segment == 0) ≡ empty → (dotted : Bool) → is_dot segment ≡ dotted → (twice : Bool) → is_dot_dot segment ≡ twice
+          → AllByRecursion P (cond (empty || dotted) names (cond twice (take (length names - 1) names) (names ++ segment ∷ [])))
+      by true e dotted f twice g = each
+      by false e true f twice g = each
+      by false e false f true g = all-but_last P names each
+      by false e false f false g = AllByRecursion-append P names (segment ∷ []) each (own e f g, tt)
+
+-- the names that are left of a text are clean
+left-clean : (segments : List (List ℕ)) (names : List (List ℕ)) → AllByRecursion (IsUnseparated (is_separator Slash)) segments
+    → AllByRecursion (IsCleanName Slash) names → AllByRecursion (IsCleanName Slash) (fold settled names segments)
+left-clean [] names segmented each = each
+left-clean (segment ∷ segments) names segmented each =
+    left-clean segments (settled names segment) segmented.1
+    (settled-each (IsCleanName Slash) names segment (λ e f g. record { filled = e; no_dot = f; no_dot_dot = g; unseparated = segmented.0 }) each)
+
+-- a text of rows, without its last separator where it has names, is the normal text
+pub record IsNormal (goal head text : List ℕ) : Type 0 where
+  pub named : length head < length text → goal ≡ take (length text - 1) text
+  pub alone : length text ≤ length head → goal ≡ text
+
+rows_normal : (goal head text : List ℕ) (names : List (List ℕ)) → IsHead head → AllByRecursion (IsCleanName Slash) names
+    → goal ≡ push_all unix head names → text ≡ head ++ rows names → IsNormal goal head text
+rows_normal goal head text [] is each written e = record {
+  named = λ more. absurd (omega (arith, ap length (e ∙ append-nil head)));
+  alone = λ _. written ∙ sym (append-nil head) ∙ sym e;
+}
+rows_normal goal head text (name ∷ names) is each written e =
+    let whole : goal ++ slash ∷ [] ≡ text = ap (λ t. t ++ slash ∷ []) written ∙ pushed-rows head name names is each.0 each.1 ∙ sym e in
+    let some : 0 < length name = grind (arith, eqb-false, each.0.filled) in
+    record {
+      named = λ more. sym (take-ended goal slash) ∙ ap (λ t. take (length t - 1) t) whole;
+      alone = λ fits. absurd (omega (arith, ap length e, length-append head (rows (name ∷ names)), length-append (name ++ slash ∷ []) (rows names), length-append name (slash ∷ [])));
+    }
+
+pub written_normal : (goal head rest text : List ℕ) → IsHead head → Comes unix goal head [] (later_parts Slash (pieces Slash rest)) → text ≡ head ++ rows (names_left rest) → IsNormal goal head text
+written_normal goal head rest text is comes e =
+    rows_normal goal head text (names_left rest) is (left-clean (pieces Slash rest) [] (slice_split-unseparated (is_separator Slash) rest) tt) (comes-left (pieces Slash rest) [] comes) e
+
+-- the normal text of a Unix path, from the names that are left behind its root
+pub root_normal : (rest text : List ℕ) → text ≡ slash ∷ [] ++ rows (names_left rest) → IsNormal (normal_text unix (slash ∷ rest)) (slash ∷ []) text
+root_normal rest text e = written_normal (normal_text unix (slash ∷ rest)) (slash ∷ []) rest text (inr refl) (comes-root rest) e
+
+pub relative_normal : (path text : List ℕ) → ((rest : List ℕ) → path ≡ slash ∷ rest → ⊥) → text ≡ rows (names_left path) → IsNormal (normal_text unix path) [] text
+relative_normal path text relative e = written_normal (normal_text unix path) [] path text (inl refl) (comes-relative path relative) e
