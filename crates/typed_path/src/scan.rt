@@ -2,6 +2,7 @@
 
 mod begin;
 mod cursor;
+mod cut;
 mod depth;
 mod piece;
 mod prefix;
@@ -10,6 +11,8 @@ mod step;
 
 pub use begin::Begin;
 pub use cursor::Cursor;
+pub use cut::cut_at;
 pub use piece::{Piece, PieceKind};
 pub use prefix::WindowsPrefix;
 pub use separators::Separators;
+pub use step::piece_of;

@@ -3,7 +3,6 @@
 mod answer;
 mod dialogue;
 mod ends;
-mod fields;
 mod lines;
 mod run;
 mod status;

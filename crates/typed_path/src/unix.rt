@@ -3,6 +3,7 @@
 mod component;
 mod components;
 mod encoding;
+mod normal;
 mod readings;
 
 use crate::common::{Path, PathBuf};

@@ -2,3 +2,4 @@
 pub mod ResolveLemmas
 pub mod SettleLemmas
 pub mod RowLemmas
+pub mod RowSteps

@@ -12,6 +12,11 @@ rows names = flat_map (λ name. name ++ slash ∷ []) names
 abbrev pub IsHead : List ℕ → Type 0
 IsHead head = (head ≡ []) ⊎ (head ≡ slash ∷ [])
 
+-- a path is a root and the rest, or begins with no separator
+abbrev pub IsParted : List ℕ → List ℕ → List ℕ → Type 0
+IsParted path head rest =
+    ((head ≡ slash ∷ []) × (path ≡ slash ∷ rest)) ⊎ ((head ≡ []) × (rest ≡ path) × ((others : List ℕ) → path ≡ slash ∷ others → ⊥))
+
 -- a text of rows, in whose names no separator stands
 pub record AreRows (text head : List ℕ) (names : List (List ℕ)) : Type 0 where
   pub is_head : IsHead head

@@ -1,6 +1,6 @@
 //! What every encoding of paths can do.
 
-ghost use Rattle.std.specs.Prelude.{◌≡◌, ◌≤◌, ℕ, List, drop, take, option_map, IsSome, None, IsOk, OnOk, OnErr};
+ghost use Rattle.std.specs.Prelude.{◌≡◌, ◌≤◌, ℕ, List, drop, take, option_map, IsSome, None, IsOk, IfOk, OnOk, OnErr};
 ghost use Rattle.std.specs.Vec.{vec_capacity};
 ghost use Rattle.typed_path.specs.changes.Checked.{refusal, error_of};
 ghost use Rattle.typed_path.specs.promises.Promises.{HasPrefixOf, LiesWithin};
@@ -12,13 +12,14 @@ ghost use Rattle.typed_path.specs.views.PieceViews.{part_of};
 ghost use Rattle.typed_path.specs.views.CursorViews.{slice_left, items_left};
 ghost use Rattle.typed_path.specs.components.Part.{kinds, parts};
 ghost use Rattle.typed_path.specs.queries.Queries.{is_absolute, has_root, is_valid_name};
+ghost use Rattle.typed_path.specs.places.Places.{normal_text};
 ghost use Rattle.typed_path.specs.changes.Push as push_spec;
 ghost use Rattle.typed_path.specs.changes.Push.{FitsPush};
 ghost use Rattle.typed_path.specs.changes.Fault.{fault};
 
 use crate::errors::{CheckedPathError, PathError};
 use crate::scan::{Cursor, Piece};
-use std::alloc::AllocError;
+use std::alloc::{AllocError, Global};
 
 /// A way of writing paths.
 ///
@@ -88,6 +89,10 @@ pub trait Encoding: Sized {
     {
         Self::push_over(path, path.len(), other)
     }
+
+    /// The normal text of a path: what its list resolves to, pushed one by one onto the empty path.
+    fn normal(alloc: Global, path: &[u8]) -> Result<Vec<u8>, AllocError>
+        ensures { IfOk result (λ text. text.items ≡ normal_text dialect path.now) };
 
     /// Judges a path that is to be pushed, on its own: it is refused for its first component that
     /// offends. Pushed onto any base, a path that is not refused lies within that base.

@@ -3,12 +3,7 @@
 use crate::common::encoding::Encoding;
 use crate::common::path::Path;
 use crate::common::path_buf::PathBuf;
-use crate::scan::PieceKind;
-use smallvec::SmallVec;
 use std::alloc::{AllocError, Global};
-
-/// How many names `normalize` remembers without asking for memory.
-const INLINE_NAMES: usize = 32;
 
 impl<'a, T: Encoding> Path<'a, T> {
     ghost use Rattle.std.specs.Prelude.{◌≡◌, IfOk};
@@ -25,21 +20,6 @@ impl<'a, T: Encoding> Path<'a, T> {
         ensures text { IfOk result (λ p. p.bytes ≡ normal_text T.dialect (path_bytes self.entry)) }
         ensures form { IfOk result (λ p. HasNormalForm T.dialect (path_bytes self.entry) p.bytes) }
     {
-        let mut normal = Vec::with_capacity(alloc, self.as_bytes().len() + 1)?;
-        let mut names: SmallVec<&[u8], INLINE_NAMES> = SmallVec::new(alloc);
-        'pieces: for piece in self.components() {
-            match piece.kind {
-                PieceKind::Prefix(_) | PieceKind::RootDir => T::push(&mut normal, piece.text)?,
-                PieceKind::CurDir => {}
-                PieceKind::ParentDir => {
-                    names.pop();
-                }
-                PieceKind::Normal => names.push(piece.text)?,
-            }
-        }
-        'names: for name in names.as_slice() {
-            T::push(&mut normal, name)?;
-        }
-        Ok(PathBuf::from_vec(normal))
+        Ok(PathBuf::from_vec(T::normal(alloc, self.as_bytes())?))
     }
 }

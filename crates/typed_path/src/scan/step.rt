@@ -44,7 +44,7 @@ fn skip_blanks(text: &[u8], separators: Separators) -> usize
 }
 
 /// The component that a segment is, where it is one.
-fn piece_of(segment: &[u8], separators: Separators) -> Piece<'_>
+pub fn piece_of(segment: &[u8], separators: Separators) -> Piece<'_>
     ensures { (at : ℕ) → first separators (record { text = segment.now; start = at }) ≡ component (part_of result) at }
 {
     let (kind, text) = match segment {

@@ -3,7 +3,7 @@
 ghost use Rattle.std.specs.Prelude.{◌≡◌, [], ◌∷◌};
 ghost use Rattle.typed_path.specs.lines.Lines.{split_lines};
 
-use crate::script::fields::cut_at;
+use crate::scan::cut_at;
 use crate::script::lines::put_reply;
 use std::alloc::{AllocError, Global};
 

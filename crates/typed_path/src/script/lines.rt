@@ -9,8 +9,7 @@ ghost use Rattle.typed_path.specs.lines.Fields.{AreFields};
 
 use crate::common::{Encoding, Path};
 use crate::errors::{CheckedPathError, PathError};
-use crate::scan::{Piece, PieceKind, WindowsPrefix};
-use crate::script::fields::cut_at;
+use crate::scan::{Piece, PieceKind, WindowsPrefix, cut_at};
 use crate::unix::UnixPath;
 use std::alloc::{AllocError, Global};
 

@@ -7,7 +7,8 @@ ghost use Rattle.typed_path.specs.components.Dialect.{unix};
 use crate::common::Encoding;
 use crate::errors::CheckedPathError;
 use crate::scan::{Cursor, Separators};
-use std::alloc::AllocError;
+use crate::unix::normal::normal;
+use std::alloc::{AllocError, Global};
 use std::fmt;
 
 /// Paths as on Unix: `/` separates, and every other byte belongs to a name.
@@ -65,6 +66,10 @@ impl Encoding for UnixEncoding {
                 _ => put_over(path, kept, b"/", other),
             },
         }
+    }
+
+    fn normal(alloc: Global, path: &[u8]) -> Result<Vec<u8>, AllocError> {
+        normal(alloc, path)
     }
 
     fn check(path: &[u8]) -> Result<(), CheckedPathError> {

@@ -1,16 +1,16 @@
 -- The normal text of Unix, written row by row.
-use Rattle.std.proofs.Common.{◌≡◌, ◌⊎◌, inl, inr, ℕ, zero, suc, ◌+◌, ◌-◌, ◌<◌, ◌≤◌, ◌==◌, ◌||◌, Bool, true, false, cond, List, [], ◌∷◌, ◌++◌, map, length, take, slice_index, fold, refl, sym, ap, ap₂, ◌∙◌, append_assoc, append-nil, take_all, subst, arith, ne_eqb, eqb-true, get_or}
-use Rattle.std.specs.List.{slice_split, onto_first, AllByRecursion}
-use Rattle.std.proofs.lemmas.List.{length-append, length-take, get_or-append-add}
+use Rattle.std.proofs.Common.{◌≡◌, inl, inr, ℕ, suc, ◌+◌, ◌-◌, ◌<◌, ◌≤◌, ◌==◌, ◌||◌, Bool, true, false, cond, List, [], ◌∷◌, ◌++◌, length, take, slice_index, fold, refl, sym, ap, ◌∙◌, append_assoc, append-nil, subst, arith, ne_eqb, eqb-true, get_or}
+use Rattle.std.specs.List.{onto_first, AllByRecursion}
+use Rattle.std.proofs.lemmas.List.{length-append, get_or-append-add}
 use Rattle.std.proofs.lemmas.List.Splits.{slice_split-cons_yes, slice_split-cons_no}
 use Rattle.std.proofs.lemmas.Bool.{cond-false, or_from, false_from_ne_true, eqb-false}
 use Rattle.typed_path.specs.declared.scan.separators.Separators.TheVariants.{Slash}
-use Rattle.typed_path.specs.components.Dialect.{Dialect, unix, slash, is_separator}
-use Rattle.typed_path.specs.components.Part.{Part, Kind, current, parent, normal, root, prefix, name_part, current_part, parent_part, root_part, kinds, parts, texts}
-use Rattle.typed_path.specs.components.Comps.{Segment, component, first, is_dot, is_dot_dot, parts_of}
-use Rattle.typed_path.specs.changes.Push.{ended_with, push_unix, push_all}
+use Rattle.typed_path.specs.components.Dialect.{unix, slash, is_separator}
+use Rattle.typed_path.specs.components.Part.{Part, name_part, current_part, parent_part, root_part, kinds, texts}
+use Rattle.typed_path.specs.components.Comps.{is_dot, is_dot_dot}
+use Rattle.typed_path.specs.changes.Push.{ended_with, push_all}
 use Rattle.typed_path.specs.places.Places.{normal_text, resolve}
-use Rattle.typed_path.specs.places.Rows.{rows, IsHead, AreRows, settled, names_left}
+use Rattle.typed_path.specs.places.Rows.{rows, IsHead, settled, names_left}
 use Rattle.typed_path.proofs.lemmas.lists.SplitLemmas.{IsUnseparated, slice_split-some, slice_split-unseparated, AllByRecursion-append}
 use Rattle.typed_path.proofs.lemmas.components.PartLemmas.{pieces, named_part, later_part, later_parts, first_parts, body_parts, IsCleanName}
 use Rattle.typed_path.proofs.lemmas.places.SettleLemmas.{heads_first, Comes, comes-current, comes-parent, comes-parent_alone, comes-name, comes-head, comes-end}
@@ -30,7 +30,7 @@ ended {X} (x ∷ xs) = by xs (ended xs)
     by _ none = some [] x
     by _ (some ys y) = some (x ∷ ys) y
 
-take-ended : {X : Type 0} (xs : List X) (x : X) → take (length (xs ++ x ∷ []) - 1) (xs ++ x ∷ []) ≡ xs
+pub take-ended : {X : Type 0} (xs : List X) (x : X) → take (length (xs ++ x ∷ []) - 1) (xs ++ x ∷ []) ≡ xs
 take-ended [] x = refl
 take-ended (y ∷ xs) x =
     let size : length (y ∷ (xs ++ x ∷ [])) - 1 ≡ suc (length (xs ++ x ∷ []) - 1) = omega (arith, length-append xs (x ∷ [])) in

@@ -1,7 +1,7 @@
 use Rattle.std.proofs.Common.{◌+◌, ◌==◌}
 use Rattle.std.proofs.lemmas.List.{take_rest}
 use Rattle.typed_path.proofs.lemmas.lists.CutLemmas.{split-nowhere, split-first}
-use Rattle.typed_path.proofs.script.fields.cut_at.Goals as goal
+use Rattle.typed_path.proofs.scan.cut.cut_at.Goals as goal
 
 pub returns-in-None-clause-pieces : goal.returns-in-None-clause-pieces
 returns-in-None-clause-pieces c = split-nowhere (λ b. b == c.args.byte) c.args.text.now c.in-None.ensures

@@ -1,0 +1,34 @@
+use Rattle.std.proofs.Common.{◌≡◌, List, [], ◌∷◌, ℕ, ◌++◌, ◌⊎◌, inl, inr, ap, sym, ◌∙◌}
+use Rattle.typed_path.specs.declared.scan.piece.PieceKind.{PieceKind}
+use Rattle.typed_path.specs.declared.scan.piece.PieceKind.TheVariants.{Prefix, RootDir, CurDir}
+use Rattle.typed_path.specs.declared.scan.prefix.WindowsPrefix.{WindowsPrefix}
+use Rattle.typed_path.specs.components.Dialect.{slash}
+use Rattle.typed_path.specs.views.PieceViews.{part_of, kind_view}
+use Rattle.typed_path.specs.places.Rows.{rows}
+use Rattle.typed_path.proofs.lemmas.places.RowSteps.{settled_by, by_kind, rows-more}
+use Rattle.typed_path.proofs.unix.normal.settle.Goals as goal
+
+pub returns-in-ParentDir : goal.returns-in-ParentDir
+returns-in-ParentDir c = λ head names size are.
+    let kind = settled_by names c.args.segment.now (part_of c.piece_of.result) (c.piece_of.ensures 0) ∙ ap (λ k. by_kind names c.args.segment.now (kind_view k c.piece_of.result.text.now)) c.in-ParentDir.is in
+    c.drop_name.ensures head names size are ∙ ap (λ ns. head ++ rows ns) (sym kind)
+
+pub returns-in_ok-push-in-Normal : goal.returns-in_ok-push-in-Normal
+returns-in_ok-push-in-Normal c = λ head names size are.
+    let kind = settled_by names c.args.segment.now (part_of c.piece_of.result) (c.piece_of.ensures 0) ∙ ap (λ k. by_kind names c.args.segment.now (kind_view k c.piece_of.result.text.now)) c.in-Normal.is in
+    c.in_ok-push-in-Normal.ensures.items
+    ∙ ap (λ bs. bs ++ slash ∷ []) (c.in_ok-extend_from_slice-in-Normal.ensures.items ∙ ap (λ bs. bs ++ c.args.segment.now) are.is)
+    ∙ sym (rows-more head names c.args.segment.now)
+    ∙ ap (λ ns. head ++ rows ns) (sym kind)
+
+-- every other piece leaves the names as they are
+other : (k : PieceKind) (text segment : List ℕ) (names : List (List ℕ)) → ((x : WindowsPrefix) × (k ≡ Prefix x)) ⊎ ((k ≡ RootDir) ⊎ (k ≡ CurDir)) → by_kind names segment (kind_view k text) ≡ names
+other k text segment names (inl h) = ap (λ l. by_kind names segment (kind_view l text)) h.1
+other k text segment names (inr (inl h)) = ap (λ l. by_kind names segment (kind_view l text)) h
+other k text segment names (inr (inr h)) = ap (λ l. by_kind names segment (kind_view l text)) h
+
+pub returns-in-Prefix : goal.returns-in-Prefix
+returns-in-Prefix c = λ head names size are.
+    let kind = settled_by names c.args.segment.now (part_of c.piece_of.result) (c.piece_of.ensures 0)
+    ∙ other c.piece_of.result.kind c.piece_of.result.text.now c.args.segment.now names c.in-Prefix.is in
+    are.is ∙ ap (λ ns. head ++ rows ns) (sym kind)
