@@ -3,6 +3,7 @@
 mod begin;
 mod cursor;
 mod depth;
+mod lanes;
 mod piece;
 mod prefix;
 mod separators;

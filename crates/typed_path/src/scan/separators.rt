@@ -6,6 +6,7 @@ ghost use Rattle.typed_path.specs.components.Dialect.{is_separator, is_verbatim,
 ghost use Rattle.typed_path.specs.queries.Queries.{is_disallowed, is_valid_name};
 
 use crate::constants::{unix, windows};
+use crate::scan::lanes::{first_between, last_between};
 
 /// The separators of one text, and with them the way in which it is read.
 #[derive(Clone, Copy, Debug)]
@@ -70,27 +71,20 @@ impl Separators {
     }
 
     /// The place of the first separator, or the length where there is none.
+    #[inline(always)]
     pub fn first_in(self, bytes: &[u8]) -> usize
         ensures within { result ≤ length bytes.now }
         ensures first { result ≡ position_or_len (is_separator self) bytes.now }
     {
-        for (at, byte) in bytes.iter().enumerate() {
-            if self.contains(*byte) {
-                return at;
-            }
-        }
-        bytes.len()
+        first_between(bytes, 0, bytes.len(), self)
     }
 
     /// The place behind the last separator, or 0 where there is none. Reads from the end, and no further than that separator.
+    #[inline(always)]
     pub fn last_in(self, bytes: &[u8]) -> usize
         ensures within { result ≤ length bytes.now }
         ensures last { IsAfterLastMatch (is_separator self) bytes.now result }
     {
-        let mut start = bytes.len();
-        while start > 0 && !self.contains(bytes[start - 1]) {
-            start -= 1;
-        }
-        start
+        last_between(bytes, 0, bytes.len(), self)
     }
 }
