@@ -21,7 +21,7 @@ pub enum Separators {
 
 impl Separators {
     /// Whether the byte separates components.
-    #[inline]
+    #[inline(always)]
     pub fn contains(self, byte: u8) -> bool
         ensures { result ≡ is_separator self byte }
     {
@@ -33,7 +33,7 @@ impl Separators {
     }
 
     /// Whether a later `.` is a component.
-    #[inline]
+    #[inline(always)]
     pub fn is_verbatim(self) -> bool
         ensures { result ≡ is_verbatim self }
     {
@@ -41,7 +41,7 @@ impl Separators {
     }
 
     /// How the root is written.
-    #[inline]
+    #[inline(always)]
     pub fn root_text(self) -> &'static [u8]
         ensures { result.now ≡ root_text self }
     {

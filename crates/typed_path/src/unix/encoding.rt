@@ -25,6 +25,7 @@ impl Encoding for UnixEncoding {
         b"/"
     }
 
+    #[inline(always)]
     fn cursor(path: &[u8]) -> Cursor<'_> {
         Cursor::new(path, Separators::Slash)
     }
