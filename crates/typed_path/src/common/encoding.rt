@@ -39,7 +39,6 @@ pub trait Encoding: Sized {
         ensures slice { slice_left result ≡ path.now };
 
     /// Takes the first component that is left, with the separators behind it.
-    #[inline(always)]
     fn front<'a>(cursor: &mut Cursor<'a>) -> Option<Piece<'a>>
         ensures taken { option_map part_of result ≡ first_part (items_left cursor.old) }
         ensures items { items_left cursor.new ≡ drop 1 (items_left cursor.old) }
@@ -49,7 +48,6 @@ pub trait Encoding: Sized {
     }
 
     /// Takes the last component that is left, with the separators before it.
-    #[inline(always)]
     fn back<'a>(cursor: &mut Cursor<'a>) -> Option<Piece<'a>>
         ensures taken { option_map part_of result ≡ last_part (items_left cursor.old) }
         ensures items { items_left cursor.new ≡ but_last (items_left cursor.old) }

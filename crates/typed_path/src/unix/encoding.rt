@@ -7,7 +7,7 @@ ghost use Rattle.typed_path.specs.changes.Push.{ended_with};
 
 use crate::common::Encoding;
 use crate::errors::CheckedPathError;
-use crate::scan::{Cursor, Separators};
+use crate::scan::{Cursor, Piece, Separators};
 use std::alloc::AllocError;
 
 /// Paths as on Unix: `/` separates, and every other byte belongs to a name.
@@ -28,6 +28,17 @@ impl Encoding for UnixEncoding {
     #[inline(always)]
     fn cursor(path: &[u8]) -> Cursor<'_> {
         Cursor::new(path, Separators::Slash)
+    }
+
+    // A default body keeps its hint to itself, so both steps stand here too.
+    #[inline(always)]
+    fn front<'a>(cursor: &mut Cursor<'a>) -> Option<Piece<'a>> {
+        cursor.front()
+    }
+
+    #[inline(always)]
+    fn back<'a>(cursor: &mut Cursor<'a>) -> Option<Piece<'a>> {
+        cursor.back()
     }
 
     fn absolute(cursor: &Cursor<'_>) -> bool {
