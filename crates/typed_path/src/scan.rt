@@ -1,5 +1,6 @@
 //! Reading a text component by component.
 
+mod base;
 mod begin;
 mod cursor;
 mod depth;
@@ -9,6 +10,7 @@ mod prefix;
 mod separators;
 mod step;
 
+pub use base::base_end;
 pub use begin::Begin;
 pub use cursor::Cursor;
 pub use piece::{Piece, PieceKind};

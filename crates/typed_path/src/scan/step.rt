@@ -33,7 +33,7 @@ fn blank(text: &[u8], separators: Separators) -> Option<usize>
 
 /// How many bytes stand before the next component, or all where there is none.
 #[inline(always)]
-fn skip_blanks(text: &[u8], separators: Separators) -> usize
+pub fn skip_blanks(text: &[u8], separators: Separators) -> usize
     ensures within { result ≤ length text.now }
     ensures same { (at : ℕ) → later_body separators at text.now ≡ later_body separators (at + result) (drop result text.now) }
     ensures clean { is_clean Begin.Inside separators (drop result text.now) ≡ true }

@@ -7,7 +7,7 @@ ghost use Rattle.typed_path.specs.changes.Push.{ended_with};
 
 use crate::common::Encoding;
 use crate::errors::CheckedPathError;
-use crate::scan::{Cursor, Piece, Separators};
+use crate::scan::{Cursor, Piece, Separators, base_end};
 use std::alloc::AllocError;
 
 /// Paths as on Unix: `/` separates, and every other byte belongs to a name.
@@ -47,6 +47,12 @@ impl Encoding for UnixEncoding {
 
     fn rooted(cursor: &Cursor<'_>) -> bool {
         cursor.begins_with_root()
+    }
+
+    #[inline]
+    fn behind<'a>(path: &'a [u8], base: &[u8]) -> Option<&'a [u8]> {
+        let end = base_end(path, base, Separators::Slash)?;
+        Some(&path[end..])
     }
 
     fn valid(name: &[u8]) -> bool {
