@@ -87,9 +87,10 @@ impl<'a> Cursor<'a> {
     pub(crate) fn check(mut self) -> Result<(), CheckedPathError>
         ensures { error_of result ≡ fault_behind (dialect_of self.entry.separators) [] (kinds (parts (items_left self.entry))) }
     {
+        let allowed = self.separators.allows_names_of(self.as_bytes());
         let mut depth = 0usize;
         'pieces: while let Some(piece) = self.front() {
-            depth = depth_behind(piece, depth, self.separators)?;
+            depth = depth_behind(piece, depth, self.separators, allowed)?;
         }
         Ok(())
     }

@@ -1,12 +1,14 @@
 //! Which bytes separate the components of a text.
 
-ghost use Rattle.std.specs.Prelude.{◌≡◌, ◌≤◌, length};
+ghost use Rattle.std.specs.Prelude.{◌≡◌, ◌≤◌, length, IsTrue};
 ghost use Rattle.std.specs.List.{position_or_len, IsAfterLastMatch};
 ghost use Rattle.typed_path.specs.components.Dialect.{is_separator, is_verbatim, root_text, dialect_of};
 ghost use Rattle.typed_path.specs.queries.Queries.{is_disallowed, is_valid_name};
+ghost use Rattle.typed_path.specs.changes.Checked.{SeparatesDisallowed};
 
 use crate::constants::{unix, windows};
 use crate::scan::lanes::{first_between, last_between};
+use memchr::memchr;
 
 /// The separators of one text, and with them the way in which it is read.
 #[derive(Clone, Copy, Debug)]
@@ -68,6 +70,17 @@ impl Separators {
         ensures { result ≡ is_valid_name (dialect_of self) name.now }
     {
         !name.iter().any(|byte| self.is_disallowed(*byte))
+    }
+
+    /// Whether one look at the bytes tells that each name of such a text is allowed. False says
+    /// nothing.
+    pub fn allows_names_of(self, bytes: &[u8]) -> bool
+        ensures { IsTrue result → SeparatesDisallowed self bytes.now }
+    {
+        match self {
+            Separators::Slash => memchr(b'\0', bytes).is_none(),
+            Separators::Backslash | Separators::Either => false,
+        }
     }
 
     /// The place of the first separator, or the length where there is none.
