@@ -40,15 +40,15 @@ mask-or p q n a b g h = record {
     either false false i j m e f g = omega arith
 
 -- the highest bit of a number, and those above it
-pub bit_at-highest : (mask k : ℕ) → 2 ^ k ≤ mask → mask < 2 * 2 ^ k → bit_at mask k ≡ 1
-bit_at-highest mask k low high =
+pub highest_is_set : (mask k : ℕ) → 2 ^ k ≤ mask → mask < 2 * 2 ^ k → bit_at mask k ≡ 1
+highest_is_set mask k low high =
     let p = pow_pos k in
     let below : mask / 2 ^ k < 2 = (div-lt_iff_lt-mul p).1 high in
     let above : 1 ≤ mask / 2 ^ k = (le-div_iff_mul-le p).1 (omega arith) in
     omega arith
 
-pub bit_at-above : (mask j k : ℕ) → mask < 2 * 2 ^ j → j < k → bit_at mask k ≡ 0
-bit_at-above mask j k high l = ap (λ x. x % 2) (div-eq_of_lt (omega (arith, two-pow-succ j, pow_mono {i = suc j} {j = k} (omega arith))))
+pub clear_above : (mask j k : ℕ) → mask < 2 * 2 ^ j → j < k → bit_at mask k ≡ 0
+clear_above mask j k high l = ap (λ x. x % 2) (div-eq_of_lt (omega (arith, two-pow-succ j, pow_mono {i = suc j} {j = k} (omega arith))))
 
 -- ---- a block of places, and its mask
 module _ (q : ℕ → Bool) (at n mask : ℕ) (marks : IsMask (λ k. q (at + k)) n mask) where
