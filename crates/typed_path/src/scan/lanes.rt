@@ -1,4 +1,4 @@
-//! Separators found 32 bytes at a time.
+//! Separators found by blocks of 32 bytes, of 16 and of 8.
 
 ghost use Rattle.std.specs.Prelude.{◌≡◌, ◌≢◌, ◌≤◌, ◌<◌, ◌+◌, ◌==◌, ℕ, length, slice_index};
 ghost use Rattle.std.specs.Int.{bit_at};
@@ -7,30 +7,29 @@ ghost use Rattle.typed_path.specs.readings.Masks.{IsMask, separates, IsFirstSepa
 use crate::scan::separators::Separators;
 use std::simd::prelude::*;
 
-/// How many bytes are looked at together.
-const LANES: usize = 32;
-
-/// Which of the bytes behind a place are the given one: a bit for each, the lowest for the first.
+/// Which of the bytes of a block are the given one: a bit for each, the lowest for the first.
 #[inline(always)]
-fn marks_of(text: &[u8], at: usize, byte: u8) -> u64
-    requires { at + 32 ≤ length text.now }
-    ensures { IsMask (λ k. slice_index text.now (at + k) == byte) 32 result }
+fn marks_of<const N: usize>(text: &[u8], at: usize, byte: u8) -> u64
+    requires lanes { (0 < N) × (N ≤ 64) }
+    requires in_range { at + N ≤ length text.now }
+    ensures { IsMask (λ k. slice_index text.now (at + k) == byte) N result }
 {
-    u8x32::from_slice(&text[at..])
-        .simd_eq(u8x32::splat(byte))
+    Simd::<u8, N>::from_slice(&text[at..])
+        .simd_eq(Simd::splat(byte))
         .to_bitmask()
 }
 
-/// Which of the bytes behind a place are separators.
+/// Which of the bytes of a block are separators.
 #[inline(always)]
-fn marks_at(text: &[u8], at: usize, separators: Separators) -> u64
-    requires { at + 32 ≤ length text.now }
-    ensures { IsMask (λ k. separates separators text.now (at + k)) 32 result }
+fn marks_at<const N: usize>(text: &[u8], at: usize, separators: Separators) -> u64
+    requires lanes { (0 < N) × (N ≤ 64) }
+    requires in_range { at + N ≤ length text.now }
+    ensures { IsMask (λ k. separates separators text.now (at + k)) N result }
 {
     match separators {
-        Separators::Slash => marks_of(text, at, b'/'),
-        Separators::Backslash => marks_of(text, at, b'\\'),
-        Separators::Either => marks_of(text, at, b'/') | marks_of(text, at, b'\\'),
+        Separators::Slash => marks_of::<N>(text, at, b'/'),
+        Separators::Backslash => marks_of::<N>(text, at, b'\\'),
+        Separators::Either => marks_of::<N>(text, at, b'/') | marks_of::<N>(text, at, b'\\'),
     }
 }
 
@@ -85,6 +84,57 @@ fn last_by_one(text: &[u8], from: usize, to: usize, separators: Separators) -> u
     at
 }
 
+/// The place of the first separator of a block, or its end where there is none.
+#[inline(always)]
+fn first_in_block<const N: usize>(text: &[u8], at: usize, separators: Separators) -> usize
+    requires lanes { (0 < N) × (N ≤ 64) }
+    requires in_range { at + N ≤ length text.now }
+    ensures { IsFirstSeparator separators text.now at (at + N) result }
+{
+    let marks = marks_at::<N>(text, at, separators);
+    if marks == 0 {
+        return at + N;
+    }
+    at + lowest(marks)
+}
+
+/// The place behind the last separator of a block, or its beginning where there is none.
+#[inline(always)]
+fn last_in_block<const N: usize>(text: &[u8], at: usize, separators: Separators) -> usize
+    requires lanes { (0 < N) × (N ≤ 64) }
+    requires in_range { at + N ≤ length text.now }
+    ensures { IsBehindLastSeparator separators text.now at (at + N) result }
+{
+    let marks = marks_at::<N>(text, at, separators);
+    if marks == 0 {
+        return at;
+    }
+    at + highest(marks) + 1
+}
+
+/// The first separator of a range, where a block of N bytes comes first.
+#[inline(always)]
+fn first_by_block<const N: usize>(
+    text: &[u8],
+    from: usize,
+    to: usize,
+    separators: Separators,
+) -> usize
+    requires lanes { (0 < N) × (N ≤ 64) }
+    requires ordered { from ≤ to }
+    requires in_range { to ≤ length text.now }
+    ensures { IsFirstSeparator separators text.now from to result }
+{
+    if to - from < N {
+        return first_by_one(text, from, to, separators);
+    }
+    let found = first_in_block::<N>(text, from, separators);
+    if found < from + N {
+        return found;
+    }
+    first_by_one(text, found, to, separators)
+}
+
 /// The place of the first separator of a range, or the end of the range where there is none.
 #[inline(always)]
 pub fn first_between(text: &[u8], from: usize, to: usize, separators: Separators) -> usize
@@ -93,14 +143,44 @@ pub fn first_between(text: &[u8], from: usize, to: usize, separators: Separators
     ensures { IsFirstSeparator separators text.now from to result }
 {
     let mut at = from;
-    while LANES <= to - at {
-        let marks = marks_at(text, at, separators);
-        if marks != 0 {
-            return at + lowest(marks);
+    while 32 <= to - at {
+        let found = first_in_block::<32>(text, at, separators);
+        if found < at + 32 {
+            return found;
         }
-        at += LANES;
+        at += 32;
     }
-    first_by_one(text, at, to, separators)
+    if to - at < 16 {
+        return first_by_block::<8>(text, at, to, separators);
+    }
+    let found = first_in_block::<16>(text, at, separators);
+    if found < at + 16 {
+        return found;
+    }
+    first_by_block::<8>(text, at + 16, to, separators)
+}
+
+/// The place behind the last separator of a range, where a block of N bytes comes first.
+#[inline(always)]
+fn last_by_block<const N: usize>(
+    text: &[u8],
+    from: usize,
+    to: usize,
+    separators: Separators,
+) -> usize
+    requires lanes { (0 < N) × (N ≤ 64) }
+    requires ordered { from ≤ to }
+    requires in_range { to ≤ length text.now }
+    ensures { IsBehindLastSeparator separators text.now from to result }
+{
+    if to - from < N {
+        return last_by_one(text, from, to, separators);
+    }
+    let found = last_in_block::<N>(text, to - N, separators);
+    if to - N < found {
+        return found;
+    }
+    last_by_one(text, from, found, separators)
 }
 
 /// The place behind the last separator of a range, or its beginning where there is none.
@@ -111,12 +191,19 @@ pub fn last_between(text: &[u8], from: usize, to: usize, separators: Separators)
     ensures { IsBehindLastSeparator separators text.now from to result }
 {
     let mut at = to;
-    while LANES <= at - from {
-        let marks = marks_at(text, at - LANES, separators);
-        if marks != 0 {
-            return at - LANES + highest(marks) + 1;
+    while 32 <= at - from {
+        let found = last_in_block::<32>(text, at - 32, separators);
+        if at - 32 < found {
+            return found;
         }
-        at -= LANES;
+        at -= 32;
     }
-    last_by_one(text, from, at, separators)
+    if at - from < 16 {
+        return last_by_block::<8>(text, from, at, separators);
+    }
+    let found = last_in_block::<16>(text, at - 16, separators);
+    if at - 16 < found {
+        return found;
+    }
+    last_by_block::<8>(text, from, at - 16, separators)
 }

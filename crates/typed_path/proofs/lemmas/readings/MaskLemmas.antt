@@ -1,5 +1,5 @@
 -- What masks say of places, and searches of a range put together from what was seen of it.
-use Rattle.std.proofs.Common.{◌≡◌, ℕ, suc, ◌+◌, ◌-◌, ◌*◌, ◌^◌, ◌/◌, ◌%◌, ◌≤◌, ◌<◌, List, Bool, true, false, ◌||◌, ◌⊎◌, max, cond, length, get_or, map, refl, sym, ap, ◌∙◌, arith, bit_or, ⊎_elim, pow_pos, pow_mono, div-lt_iff_lt-mul, le-div_iff_mul-le}
+use Rattle.std.proofs.Common.{◌≡◌, ℕ, suc, ◌+◌, ◌-◌, ◌*◌, ◌^◌, ◌/◌, ◌%◌, ◌≤◌, ◌<◌, List, Bool, true, false, ◌||◌, max, cond, length, get_or, map, refl, sym, ap, ◌∙◌, arith, bit_or, ⊎_elim, pow_pos, pow_mono, div-lt_iff_lt-mul, le-div_iff_mul-le}
 use Rattle.std.specs.Int.{bit_at}
 use Rattle.std.specs.Slice.Scan.{HoldsNowhere, IsFirstPlace, IsLastPlace}
 use Rattle.std.specs.Simd.Lanes.{mask_l}
@@ -97,36 +97,3 @@ module _ (q : ℕ → Bool) (at n mask : ℕ) (marks : IsMask (λ k. q (at + k))
           hit = λ _. ap q (omega arith) ∙ found.1;
         },
       )
-
--- ---- ranges behind one another
-module _ (q : ℕ → Bool) where
-  pub nowhere-then : (i j l : ℕ) → HoldsNowhere q i j → HoldsNowhere q j l → HoldsNowhere q i l
-  nowhere-then i j l front back k low high = ⊎_elim (λ below. front k low below) (λ from. back k from high) (cases_lt k j)
-
-  -- one place more
-  pub nowhere-one : (i : ℕ) → q i ≡ false → HoldsNowhere q i (i + 1)
-  nowhere-one i fails k low high = ap q (omega arith) ∙ fails
-
-  -- a first place behind a range that has none, in a part of what is left
-  pub first-behind : (from at middle to r : ℕ) → from ≤ at → middle ≤ to → HoldsNowhere q from at → IsFirstPlace q at middle r → (r < middle) ⊎ (middle ≡ to) → IsFirstPlace q from to r
-  first-behind from at middle to r low high none found inside =
-      let a = found.low in
-      let b = found.high in
-      record {
-        low = omega arith;
-        high = omega arith;
-        before = nowhere-then from at r none found.before;
-        hit = λ l. found.hit (⊎_elim (λ short. short) (λ same. omega arith) inside);
-      }
-
-  -- a last place before a range that has none, in a part of what is left
-  pub last-before : (from middle at to r : ℕ) → at ≤ to → from ≤ middle → HoldsNowhere q at to → IsLastPlace q middle at r → (middle < r) ⊎ (middle ≡ from) → IsLastPlace q from to r
-  last-before from middle at to r high low none found inside =
-      let a = found.low in
-      let b = found.high in
-      record {
-        low = omega arith;
-        high = omega arith;
-        after = nowhere-then r at to found.after none;
-        hit = λ l. found.hit (⊎_elim (λ short. short) (λ same. omega arith) inside);
-      }

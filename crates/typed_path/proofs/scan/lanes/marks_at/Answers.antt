@@ -4,6 +4,6 @@ use Rattle.typed_path.proofs.lemmas.readings.MaskLemmas.{mask-or}
 use Rattle.typed_path.proofs.scan.lanes.marks_at.Goals as goal
 
 pub returns-in-Either : goal.returns-in-Either
-returns-in-Either c =
-    subst (λ s. IsMask (λ k. separates s c.args.text.now (c.args.at + k)) 32 (bit_or c.marks_of-in-Either.result c.marks_of-in-Either-2.result)) (sym c.in-Either.is)
-    (mask-or _ _ 32 _ _ c.marks_of-in-Either.ensures c.marks_of-in-Either-2.ensures)
+returns-in-Either g c =
+    subst (λ s. IsMask (λ k. separates s c.args.text.now (c.args.at + k)) g.row.N (bit_or c.marks_of-in-Either.result c.marks_of-in-Either-2.result)) (sym c.in-Either.is)
+    (mask-or _ _ g.row.N _ _ c.marks_of-in-Either.ensures c.marks_of-in-Either-2.ensures)
