@@ -3,3 +3,4 @@ pub mod Left
 pub mod Reading
 pub mod Ends
 pub mod Steps
+pub mod Masks

@@ -2,6 +2,7 @@
 pub mod PieceViews
 pub mod CursorViews
 pub mod PathViews
+pub mod ReversedViews
 pub mod UnixViews
 pub mod UnixIterViews
 pub mod OwnedViews

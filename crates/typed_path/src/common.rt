@@ -14,6 +14,7 @@ mod owned;
 mod path;
 mod path_buf;
 mod piece;
+mod reversed;
 mod strip;
 mod texts;
 
@@ -24,4 +25,5 @@ pub use encoding::Encoding;
 pub use iter::Iter;
 pub use path::Path;
 pub use path_buf::PathBuf;
+pub use reversed::Reversed;
 pub use texts::Display;

@@ -10,7 +10,9 @@ mod script;
 mod unix;
 mod windows;
 
-pub use common::{Ancestors, Component, Components, Display, Encoding, Iter, Path, PathBuf};
+pub use common::{
+    Ancestors, Component, Components, Display, Encoding, Iter, Path, PathBuf, Reversed,
+};
 pub use errors::{CheckedPathError, LineError, ParseError, PathError, StripPrefixError};
 pub use scan::{Cursor, Piece, PieceKind};
 pub use script::{

@@ -1,14 +1,17 @@
 //! Reading a text component by component.
 
+mod base;
 mod begin;
 mod cursor;
 mod cut;
 mod depth;
+mod lanes;
 mod piece;
 mod prefix;
 mod separators;
 mod step;
 
+pub use base::base_end;
 pub use begin::Begin;
 pub use cursor::Cursor;
 pub use cut::cut_at;

@@ -3,6 +3,7 @@
 
 #[cfg(test)]
 mod ends;
+mod lanes;
 #[cfg(test)]
 mod lines;
 #[cfg(test)]

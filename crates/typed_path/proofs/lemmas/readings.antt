@@ -5,3 +5,4 @@ pub mod LeftLemmas
 pub mod ReadingLemmas
 pub mod SliceLeft
 pub mod SliceLemmas
+pub mod MaskLemmas

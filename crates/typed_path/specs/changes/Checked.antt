@@ -1,8 +1,13 @@
 -- What a checked call was refused for.
-use Rattle.std.specs.Prelude.{Result, Ok, Err, Option, Some, None}
+use Rattle.std.specs.Prelude.{◌≡◌, ℕ, List, true, Result, Ok, Err, Option, Some, None}
+use Rattle.std.specs.List.{All, AllByRecursion}
+use Rattle.typed_path.specs.declared.scan.separators.Separators.{Separators}
 use Rattle.typed_path.specs.declared.errors.CheckedPathError.{CheckedPathError}
 use Rattle.typed_path.specs.declared.errors.PathError.{PathError}
 use Rattle.typed_path.specs.declared.errors.PathError.TheVariants.{Checked, OutOfMemory}
+use Rattle.typed_path.specs.components.Dialect.{Dialect, dialect_of, is_separator}
+use Rattle.typed_path.specs.components.Part.{Kind}
+use Rattle.typed_path.specs.queries.Queries.{is_disallowed, is_valid_kind}
 
 -- the refusal of a path; none where the call succeeds, and where memory is refused
 abbrev pub refusal : {A : Type 0} → Result A PathError → Option CheckedPathError
@@ -14,3 +19,11 @@ refusal (Err OutOfMemory) = None
 abbrev pub error_of : {A E : Type 0} → Result A E → Option E
 error_of (Ok x) = None
 error_of (Err e) = Some e
+
+-- each byte of a text that no name may have is a separator
+abbrev pub SeparatesDisallowed : Separators → List ℕ → Type 0
+SeparatesDisallowed s text = All (λ b. is_disallowed (dialect_of s) b ≡ true → is_separator s b ≡ true) text
+
+-- each name of a list is allowed
+abbrev pub AllowsEach : Dialect → List Kind → Type 0
+AllowsEach d ks = AllByRecursion (λ k. is_valid_kind d k ≡ true) ks

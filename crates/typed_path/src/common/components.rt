@@ -1,6 +1,7 @@
 //! The components of a path.
 
 use crate::common::encoding::Encoding;
+use crate::common::reversed::Reversed;
 use crate::scan::{Cursor, Piece};
 use std::iter::FusedIterator;
 use std::marker::PhantomData;
@@ -21,8 +22,10 @@ impl<'a, T: Encoding> Components<'a, T> {
     ghost use Rattle.typed_path.specs.components.Part.{Placed, end_of, kinds};
     ghost use Rattle.typed_path.specs.queries.Queries.{is_absolute, has_root};
     ghost use Rattle.typed_path.specs.views.PathViews.{components_items, components_slice, components_parts};
+    ghost use Rattle.typed_path.specs.views.ReversedViews.{reversed_source};
 
     /// The components that a reading has left.
+    #[inline(always)]
     pub(crate) fn new(cursor: Cursor<'a>) -> Components<'a, T>
         ensures items { components_items result ≡ items_left cursor.entry }
         ensures slice { components_slice result ≡ slice_left cursor.entry }
@@ -34,6 +37,7 @@ impl<'a, T: Encoding> Components<'a, T> {
     }
 
     /// Takes the first component that is left. It answers none for good once all are taken.
+    #[inline(always)]
     pub fn next(&mut self) -> Option<Piece<'a>>
         ensures taken { option_map part_of result ≡ first_part (components_items self.old) }
         ensures items { components_items self.new ≡ drop 1 (components_items self.old) }
@@ -43,6 +47,7 @@ impl<'a, T: Encoding> Components<'a, T> {
     }
 
     /// Takes the last component that is left. It answers none for good once all are taken.
+    #[inline(always)]
     pub fn next_back(&mut self) -> Option<Piece<'a>>
         ensures taken { option_map part_of result ≡ last_part (components_items self.old) }
         ensures items { components_items self.new ≡ but_last (components_items self.old) }
@@ -51,10 +56,19 @@ impl<'a, T: Encoding> Components<'a, T> {
         T::back(&mut self.cursor)
     }
 
+    /// The components that are left, from the last to the first.
+    #[inline(always)]
+    pub fn rev(self) -> Reversed<Components<'a, T>>
+        ensures { reversed_source result ≡ self.entry }
+    {
+        Reversed::new(self)
+    }
+
     /// The slice left: from the first component that is left to the end of the last.
     ///
     /// It is the whole text before the first step, and keeps what stands behind the last component
     /// until a step from the back. Once all components are taken it is empty.
+    #[inline(always)]
     pub fn as_bytes(self) -> &'a [u8]
         ensures { result.now ≡ components_slice self.entry }
     {
@@ -62,6 +76,7 @@ impl<'a, T: Encoding> Components<'a, T> {
     }
 
     /// Where the last component that is left ends in the text.
+    #[inline(always)]
     pub(crate) fn last_end(self) -> usize
         ensures { (last : Placed) → last_of (components_items self.entry) ≡ Some last → result ≡ end_of last }
     {
@@ -94,6 +109,7 @@ impl<'a, T: Encoding> Iterator for Components<'a, T> {
 
     ghost remaining = { item_count components_parts };
 
+    #[inline(always)]
     fn next(&mut self) -> Option<Piece<'a>> {
         Components::next(self)
     }
@@ -106,6 +122,7 @@ impl<'a, T: Encoding> DoubleEndedIterator for Components<'a, T> {
 
     ghost next_back_gives = { YieldsLastBy part_of components_parts };
 
+    #[inline(always)]
     fn next_back(&mut self) -> Option<Piece<'a>> {
         Components::next_back(self)
     }

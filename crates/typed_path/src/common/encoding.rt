@@ -1,6 +1,6 @@
 //! What every encoding of paths can do.
 
-ghost use Rattle.std.specs.Prelude.{◌≡◌, ◌≤◌, ℕ, List, drop, take, option_map, IsSome, None, IsOk, IfOk, OnOk, OnErr};
+ghost use Rattle.std.specs.Prelude.{◌≡◌, ◌≤◌, ℕ, List, drop, take, option_map, IsSome, Some, None, IsOk, IfOk, IfSome, OnOk, OnErr};
 ghost use Rattle.std.specs.Vec.{vec_capacity};
 ghost use Rattle.typed_path.specs.changes.Checked.{refusal, error_of};
 ghost use Rattle.typed_path.specs.promises.Promises.{HasPrefixOf, LiesWithin};
@@ -11,7 +11,7 @@ ghost use Rattle.typed_path.specs.readings.Steps.{first_part, last_part};
 ghost use Rattle.typed_path.specs.views.PieceViews.{part_of};
 ghost use Rattle.typed_path.specs.views.CursorViews.{slice_left, items_left};
 ghost use Rattle.typed_path.specs.components.Part.{kinds, parts};
-ghost use Rattle.typed_path.specs.queries.Queries.{is_absolute, has_root, is_valid_name};
+ghost use Rattle.typed_path.specs.queries.Queries.{is_absolute, has_root, is_valid_name, stripped};
 ghost use Rattle.typed_path.specs.places.Places.{normal_text};
 ghost use Rattle.typed_path.specs.changes.Push as push_spec;
 ghost use Rattle.typed_path.specs.changes.Push.{FitsPush};
@@ -65,6 +65,14 @@ pub trait Encoding: Sized {
     /// Whether the components that are left begin with a root, written or implied by a prefix.
     fn rooted(cursor: &Cursor<'_>) -> bool
         ensures { result ≡ has_root dialect (kinds (parts (items_left cursor.now))) };
+
+    /// What is left of a path behind a base, where the bytes of the two tell, with no reading of
+    /// either. None says nothing.
+    fn behind<'a>(_path: &'a [u8], _base: &[u8]) -> Option<&'a [u8]>
+        ensures { IfSome result (λ rest. stripped dialect _path.now _base.now ≡ Some rest.now) }
+    {
+        None
+    }
 
     /// Whether the encoding allows a name.
     fn valid(name: &[u8]) -> bool

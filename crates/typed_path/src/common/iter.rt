@@ -3,6 +3,7 @@
 use crate::common::components::Components;
 use crate::common::encoding::Encoding;
 use crate::common::path::Path;
+use crate::common::reversed::Reversed;
 use std::iter::FusedIterator;
 
 /// The texts of the components that are left to be read.
@@ -15,9 +16,11 @@ impl<'a, T: Encoding> Iter<'a, T> {
     ghost use Rattle.std.specs.Prelude.{◌≡◌, drop, option_map, option_copied};
     ghost use Rattle.typed_path.specs.readings.Left.{but_last, slice_after_front, slice_after_back};
     ghost use Rattle.typed_path.specs.views.PathViews.{path_bytes, iter_components, iter_items, iter_slice};
+    ghost use Rattle.typed_path.specs.views.ReversedViews.{reversed_source};
     ghost use Rattle.typed_path.specs.readings.Steps.{first_part, last_part};
 
     /// The texts of the components that are left.
+    #[inline(always)]
     pub(crate) fn new(components: Components<'a, T>) -> Iter<'a, T>
         ensures { iter_components result ≡ components.entry }
     {
@@ -25,6 +28,7 @@ impl<'a, T: Encoding> Iter<'a, T> {
     }
 
     /// Takes the text of the first component that is left.
+    #[inline(always)]
     pub fn next(&mut self) -> Option<&'a [u8]>
         ensures taken { option_copied result
             ≡ option_map (λ p. p.text) (first_part (iter_items self.old)) }
@@ -37,6 +41,7 @@ impl<'a, T: Encoding> Iter<'a, T> {
     }
 
     /// Takes the text of the last component that is left.
+    #[inline(always)]
     pub fn next_back(&mut self) -> Option<&'a [u8]>
         ensures taken { option_copied result
             ≡ option_map (λ p. p.text) (last_part (iter_items self.old)) }
@@ -46,6 +51,14 @@ impl<'a, T: Encoding> Iter<'a, T> {
     {
         let piece = self.components.next_back()?;
         Some(piece.text)
+    }
+
+    /// The texts that are left, from the last to the first.
+    #[inline(always)]
+    pub fn rev(self) -> Reversed<Iter<'a, T>>
+        ensures { reversed_source result ≡ self.entry }
+    {
+        Reversed::new(self)
     }
 
     /// The slice left, as a path.
@@ -66,6 +79,7 @@ impl<'a, T: Encoding> Iterator for Iter<'a, T> {
 
     ghost remaining = { item_count iter_texts };
 
+    #[inline(always)]
     fn next(&mut self) -> Option<&'a [u8]> {
         let piece = Iterator::next(&mut self.components)?;
         Some(piece.text)
@@ -78,6 +92,7 @@ impl<'a, T: Encoding> DoubleEndedIterator for Iter<'a, T> {
 
     ghost next_back_gives = { YieldsLastRef iter_texts };
 
+    #[inline(always)]
     fn next_back(&mut self) -> Option<&'a [u8]> {
         let piece = DoubleEndedIterator::next_back(&mut self.components)?;
         Some(piece.text)

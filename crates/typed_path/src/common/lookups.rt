@@ -96,6 +96,7 @@ impl<'a, T: Encoding> Path<'a, T> {
     }
 
     /// The texts of the components, from either end.
+    #[inline(always)]
     pub fn iter(self) -> Iter<'a, T>
         ensures items { iter_items result ≡ comps T.dialect (path_bytes self.entry) }
         ensures slice { iter_slice result ≡ path_bytes self.entry }

@@ -19,6 +19,7 @@ impl<'a, T: Encoding> Path<'a, T> {
     ghost use Rattle.typed_path.specs.views.PathViews.{path_bytes, components_items, components_slice};
 
     /// The path of these bytes, whatever they are.
+    #[inline(always)]
     pub fn new(bytes: &'a [u8]) -> Path<'a, T>
         ensures { path_bytes result ≡ bytes.now }
     {
@@ -29,6 +30,7 @@ impl<'a, T: Encoding> Path<'a, T> {
     }
 
     /// The bytes of the path.
+    #[inline(always)]
     pub fn as_bytes(self) -> &'a [u8]
         ensures { result.now ≡ path_bytes self.entry }
     {
@@ -36,6 +38,7 @@ impl<'a, T: Encoding> Path<'a, T> {
     }
 
     /// The components of the path, from either end.
+    #[inline(always)]
     pub fn components(self) -> Components<'a, T>
         ensures items { components_items result ≡ comps T.dialect (path_bytes self.entry) }
         ensures slice { components_slice result ≡ path_bytes self.entry }

@@ -11,8 +11,18 @@ impl<'a, T: Encoding> Path<'a, T> {
     ghost use Rattle.typed_path.specs.queries.Strip.{stripped_to};
 
     /// What is left of the path behind a base, where it begins with the base's components as they
-    /// are written.
+    /// are written. The bytes are asked first.
     fn behind(self, base: Path<'_, T>) -> Option<Path<'a, T>>
+        ensures { option_map path_bytes result ≡ stripped T.dialect (path_bytes self.entry) (path_bytes base.entry) }
+    {
+        match T::behind(self.as_bytes(), base.as_bytes()) {
+            Some(rest) => Some(Path::new(rest)),
+            None => self.behind_by_components(base),
+        }
+    }
+
+    /// The same, component by component.
+    fn behind_by_components(self, base: Path<'_, T>) -> Option<Path<'a, T>>
         ensures { option_map path_bytes result ≡ stripped T.dialect (path_bytes self.entry) (path_bytes base.entry) }
     {
         let mut rest = self.components();

@@ -37,6 +37,7 @@ impl<'a> Cursor<'a> {
     ghost use Rattle.typed_path.specs.changes.Fault.{fault_behind};
 
     /// A reading of a whole text that has no prefix.
+    #[inline(always)]
     pub(crate) fn new(text: &'a [u8], separators: Separators) -> Cursor<'a>
         ensures slice { slice_left result ≡ text.now }
         ensures items { items_left result ≡ body separators 0 text.now }
@@ -52,6 +53,7 @@ impl<'a> Cursor<'a> {
     }
 
     /// The slice left: from the first component that is left to the last.
+    #[inline(always)]
     pub fn as_bytes(&self) -> &'a [u8]
         ensures { result.now ≡ slice_left self.now }
     {
@@ -59,6 +61,7 @@ impl<'a> Cursor<'a> {
     }
 
     /// Whether the first component that is left is the root.
+    #[inline(always)]
     pub(crate) fn begins_with_root(&self) -> bool
         ensures { result ≡ begins_with_root (kinds (parts (items_left self.now))) }
     {
@@ -72,6 +75,7 @@ impl<'a> Cursor<'a> {
     }
 
     /// Where the last component that is left ends in the text.
+    #[inline(always)]
     pub(crate) fn last_end(&self) -> usize
         ensures { (last : Placed) → last_of (items_left self.now) ≡ Some last → result ≡ end_of last }
     {
@@ -83,14 +87,16 @@ impl<'a> Cursor<'a> {
     pub(crate) fn check(mut self) -> Result<(), CheckedPathError>
         ensures { error_of result ≡ fault_behind (dialect_of self.entry.separators) [] (kinds (parts (items_left self.entry))) }
     {
+        let allowed = self.separators.allows_names_of(self.as_bytes());
         let mut depth = 0usize;
         'pieces: while let Some(piece) = self.front() {
-            depth = depth_behind(piece, depth, self.separators)?;
+            depth = depth_behind(piece, depth, self.separators, allowed)?;
         }
         Ok(())
     }
 
     /// Takes the first component that is left.
+    #[inline(always)]
     pub(crate) fn front(&mut self) -> Option<Piece<'a>>
         ensures taken { option_map part_of result ≡ first_part (items_left self.old) }
         ensures items { items_left self.new ≡ drop 1 (items_left self.old) }
@@ -108,6 +114,7 @@ impl<'a> Cursor<'a> {
     }
 
     /// Takes the last component that is left.
+    #[inline(always)]
     pub(crate) fn back(&mut self) -> Option<Piece<'a>>
         ensures taken { option_map part_of result ≡ last_part (items_left self.old) }
         ensures items { items_left self.new ≡ but_last (items_left self.old) }

@@ -1,9 +1,10 @@
 //! How deep below its base a path leads, judged component by component.
 
-ghost use Rattle.std.specs.Prelude.{◌≡◌, ◌≤◌, ◌<◌, ◌+◌, ◌^◌, List, ◌∷◌, IfOk};
+ghost use Rattle.std.specs.Prelude.{◌≡◌, ◌≤◌, ◌<◌, ◌+◌, ◌^◌, List, ◌∷◌, IfOk, IsTrue, true};
 ghost use Rattle.typed_path.specs.components.Part.{Kind};
 ghost use Rattle.typed_path.specs.changes.Fault.{fault_at, judged};
 ghost use Rattle.typed_path.specs.components.Dialect.{dialect_of};
+ghost use Rattle.typed_path.specs.queries.Queries.{is_valid_kind};
 ghost use Rattle.typed_path.specs.views.PieceViews.{part_of};
 
 use crate::errors::CheckedPathError;
@@ -11,13 +12,16 @@ use crate::scan::piece::{Piece, PieceKind};
 use crate::scan::separators::Separators;
 
 /// How many names are left behind a component that no parent has taken, where so many were left
-/// before it; or what the component is refused for.
+/// before it; or what the component is refused for. A name that is known to be allowed is not
+/// looked at.
 pub fn depth_behind(
     piece: Piece<'_>,
     depth: usize,
     separators: Separators,
+    allowed: bool,
 ) -> Result<usize, CheckedPathError>
-    requires { depth + 1 < 2 ^ 64 }
+    requires fits { depth + 1 < 2 ^ 64 }
+    requires allowed { IsTrue allowed → is_valid_kind (dialect_of separators) (part_of piece).kind ≡ true }
     ensures within { IfOk result (λ deeper. deeper ≤ depth + 1) }
     ensures judged { (ks : List Kind) → fault_at (dialect_of separators) depth ((part_of piece.entry).kind ∷ ks)
         ≡ judged (λ deeper. fault_at (dialect_of separators) deeper ks) result }
@@ -29,7 +33,7 @@ pub fn depth_behind(
         PieceKind::ParentDir => depth
             .checked_sub(1)
             .ok_or(CheckedPathError::PathTraversalAttack),
-        PieceKind::Normal if separators.is_valid_name(piece.text) => Ok(depth + 1),
+        PieceKind::Normal if allowed || separators.is_valid_name(piece.text) => Ok(depth + 1),
         PieceKind::Normal => Err(CheckedPathError::InvalidFilename),
     }
 }

@@ -1,11 +1,14 @@
 //! Which bytes separate the components of a text.
 
-ghost use Rattle.std.specs.Prelude.{◌≡◌, ◌≤◌, length};
+ghost use Rattle.std.specs.Prelude.{◌≡◌, ◌≤◌, length, IsTrue};
 ghost use Rattle.std.specs.List.{position_or_len, IsAfterLastMatch};
 ghost use Rattle.typed_path.specs.components.Dialect.{is_separator, is_verbatim, root_text, dialect_of};
 ghost use Rattle.typed_path.specs.queries.Queries.{is_disallowed, is_valid_name};
+ghost use Rattle.typed_path.specs.changes.Checked.{SeparatesDisallowed};
 
 use crate::constants::{unix, windows};
+use crate::scan::lanes::{first_between, last_between};
+use memchr::memchr;
 
 /// The separators of one text, and with them the way in which it is read.
 #[derive(Clone, Copy, Debug)]
@@ -20,7 +23,7 @@ pub enum Separators {
 
 impl Separators {
     /// Whether the byte separates components.
-    #[inline]
+    #[inline(always)]
     pub fn contains(self, byte: u8) -> bool
         ensures { result ≡ is_separator self byte }
     {
@@ -32,7 +35,7 @@ impl Separators {
     }
 
     /// Whether a later `.` is a component.
-    #[inline]
+    #[inline(always)]
     pub fn is_verbatim(self) -> bool
         ensures { result ≡ is_verbatim self }
     {
@@ -40,7 +43,7 @@ impl Separators {
     }
 
     /// How the root is written.
-    #[inline]
+    #[inline(always)]
     pub fn root_text(self) -> &'static [u8]
         ensures { result.now ≡ root_text self }
     {
@@ -69,28 +72,32 @@ impl Separators {
         !name.iter().any(|byte| self.is_disallowed(*byte))
     }
 
+    /// Whether one look at the bytes tells that each name of such a text is allowed. False says
+    /// nothing.
+    pub fn allows_names_of(self, bytes: &[u8]) -> bool
+        ensures { IsTrue result → SeparatesDisallowed self bytes.now }
+    {
+        match self {
+            Separators::Slash => memchr(b'\0', bytes).is_none(),
+            Separators::Backslash | Separators::Either => false,
+        }
+    }
+
     /// The place of the first separator, or the length where there is none.
+    #[inline(always)]
     pub fn first_in(self, bytes: &[u8]) -> usize
         ensures within { result ≤ length bytes.now }
         ensures first { result ≡ position_or_len (is_separator self) bytes.now }
     {
-        for (at, byte) in bytes.iter().enumerate() {
-            if self.contains(*byte) {
-                return at;
-            }
-        }
-        bytes.len()
+        first_between(bytes, 0, bytes.len(), self)
     }
 
     /// The place behind the last separator, or 0 where there is none. Reads from the end, and no further than that separator.
+    #[inline(always)]
     pub fn last_in(self, bytes: &[u8]) -> usize
         ensures within { result ≤ length bytes.now }
         ensures last { IsAfterLastMatch (is_separator self) bytes.now result }
     {
-        let mut start = bytes.len();
-        while start > 0 && !self.contains(bytes[start - 1]) {
-            start -= 1;
-        }
-        start
+        last_between(bytes, 0, bytes.len(), self)
     }
 }

@@ -11,6 +11,7 @@ use crate::scan::separators::Separators;
 
 /// How many bytes at the front of what stands behind a component hold none: a separator, or a `.`
 /// with the separator behind it.
+#[inline(always)]
 fn blank(text: &[u8], separators: Separators) -> Option<usize>
     ensures within { IfSome result (λ n. (0 < n) × (n ≤ length text.now)) }
     ensures skipped { IfSome result (λ n. (at : ℕ) → later_body separators at text.now ≡ later_body separators (at + n) (drop n text.now)) }
@@ -31,7 +32,8 @@ fn blank(text: &[u8], separators: Separators) -> Option<usize>
 }
 
 /// How many bytes stand before the next component, or all where there is none.
-fn skip_blanks(text: &[u8], separators: Separators) -> usize
+#[inline(always)]
+pub fn skip_blanks(text: &[u8], separators: Separators) -> usize
     ensures within { result ≤ length text.now }
     ensures same { (at : ℕ) → later_body separators at text.now ≡ later_body separators (at + result) (drop result text.now) }
     ensures clean { is_clean Begin.Inside separators (drop result text.now) ≡ true }
@@ -44,6 +46,7 @@ fn skip_blanks(text: &[u8], separators: Separators) -> usize
 }
 
 /// The component that a segment is, where it is one.
+#[inline(always)]
 pub fn piece_of(segment: &[u8], separators: Separators) -> Piece<'_>
     ensures { (at : ℕ) → first separators (record { text = segment.now; start = at }) ≡ component (part_of result) at }
 {
@@ -57,6 +60,7 @@ pub fn piece_of(segment: &[u8], separators: Separators) -> Piece<'_>
 }
 
 /// The first component of a text that is not empty, and how many bytes stand before the next one.
+#[inline(always)]
 pub fn front_step(text: &[u8], separators: Separators) -> (Piece<'_>, usize)
     requires { 0 < length text.now }
     ensures within { result.1 ≤ length text.now }
@@ -71,6 +75,7 @@ pub fn front_step(text: &[u8], separators: Separators) -> (Piece<'_>, usize)
 
 /// Whether the last byte of a text belongs to no component: it is a separator, or a `.` behind one. A byte that stands
 /// alone belongs to one.
+#[inline(always)]
 fn ends_blank(text: &[u8], separators: Separators) -> bool
     ensures { result ≡ not (is_trimmed separators text.now) }
 {
@@ -85,6 +90,7 @@ fn ends_blank(text: &[u8], separators: Separators) -> bool
 }
 
 /// How many bytes of a text stand up to the end of its last component.
+#[inline(always)]
 pub fn trim_blanks(text: &[u8], separators: Separators) -> usize
     ensures within { result ≤ length text.now }
     ensures some { 0 < length text.now → 0 < result }
@@ -100,6 +106,7 @@ pub fn trim_blanks(text: &[u8], separators: Separators) -> usize
 }
 
 /// The last component of a text that is not empty, and how many bytes stand up to the end of the one before it.
+#[inline(always)]
 pub fn back_step(text: &[u8], separators: Separators) -> (Piece<'_>, usize)
     requires { 0 < length text.now }
     ensures within { result.1 ≤ length text.now }

@@ -6,7 +6,7 @@ ghost use Rattle.typed_path.specs.components.UnixParts.{as_written, written_unix
 ghost use Rattle.typed_path.specs.views.UnixViews.{unix_part};
 ghost use Rattle.typed_path.specs.views.PieceViews.{part_of};
 
-use crate::common::{Components, Encoding, Path};
+use crate::common::{Components, Encoding, Path, Reversed};
 use crate::scan::{Piece, PieceKind};
 use crate::unix::component::UnixComponent;
 use crate::unix::encoding::UnixEncoding;
@@ -21,6 +21,7 @@ pub struct UnixComponents<'a> {
 }
 
 /// The component that a piece of a Unix path is.
+#[inline(always)]
 fn unix_component(piece: Piece<'_>) -> UnixComponent<'_>
     requires { part_of piece ≡ written_unix (part_of piece).kind }
     ensures { unix_part result ≡ part_of piece.entry }
@@ -42,10 +43,12 @@ impl<'a> UnixComponents<'a> {
     ghost use Rattle.typed_path.specs.readings.Steps.{first_part, last_part};
     ghost use Rattle.typed_path.specs.queries.Queries.{is_absolute, has_root};
     ghost use Rattle.typed_path.specs.views.PathViews.{path_bytes};
+    ghost use Rattle.typed_path.specs.views.ReversedViews.{reversed_source};
     ghost use Rattle.typed_path.specs.views.UnixViews.{unix_part};
     ghost use Rattle.typed_path.specs.views.UnixIterViews.{unix_items, unix_slice, unix_parts};
 
     /// The components of a path, from either end.
+    #[inline(always)]
     pub fn new(path: Path<'a, UnixEncoding>) -> UnixComponents<'a>
         ensures items { unix_items result ≡ comps unix (path_bytes path.entry) }
         ensures slice { unix_slice result ≡ path_bytes path.entry }
@@ -56,6 +59,7 @@ impl<'a> UnixComponents<'a> {
     }
 
     /// Takes the first component that is left. It answers none for good once all are taken.
+    #[inline(always)]
     pub fn next(&mut self) -> Option<UnixComponent<'a>>
         ensures taken { option_map unix_part result ≡ first_part (unix_items self.old) }
         ensures items { unix_items self.new ≡ drop 1 (unix_items self.old) }
@@ -66,6 +70,7 @@ impl<'a> UnixComponents<'a> {
     }
 
     /// Takes the last component that is left. It answers none for good once all are taken.
+    #[inline(always)]
     pub fn next_back(&mut self) -> Option<UnixComponent<'a>>
         ensures taken { option_map unix_part result ≡ last_part (unix_items self.old) }
         ensures items { unix_items self.new ≡ but_last (unix_items self.old) }
@@ -73,6 +78,14 @@ impl<'a> UnixComponents<'a> {
     {
         let piece = self.components.next_back()?;
         Some(unix_component(piece))
+    }
+
+    /// The components that are left, from the last to the first.
+    #[inline(always)]
+    pub fn rev(self) -> Reversed<UnixComponents<'a>>
+        ensures { reversed_source result ≡ self.entry }
+    {
+        Reversed::new(self)
     }
 
     /// The slice left: from the first component that is left to the end of the last.
@@ -115,6 +128,7 @@ impl<'a> Iterator for UnixComponents<'a> {
 
     ghost remaining = { item_count unix_parts };
 
+    #[inline(always)]
     fn next(&mut self) -> Option<UnixComponent<'a>> {
         let piece = Iterator::next(&mut self.components)?;
         Some(unix_component(piece))
@@ -128,6 +142,7 @@ impl<'a> DoubleEndedIterator for UnixComponents<'a> {
 
     ghost next_back_gives = { YieldsLastBy unix_part unix_parts };
 
+    #[inline(always)]
     fn next_back(&mut self) -> Option<UnixComponent<'a>> {
         let piece = DoubleEndedIterator::next_back(&mut self.components)?;
         Some(unix_component(piece))

@@ -6,7 +6,7 @@ ghost use Rattle.typed_path.specs.components.Dialect.{unix};
 
 use crate::common::Encoding;
 use crate::errors::CheckedPathError;
-use crate::scan::{Cursor, Separators};
+use crate::scan::{Cursor, Piece, Separators, base_end};
 use crate::unix::normal::normal;
 use std::alloc::{AllocError, Global};
 use std::fmt;
@@ -37,8 +37,20 @@ impl Encoding for UnixEncoding {
         b"/"
     }
 
+    #[inline(always)]
     fn cursor(path: &[u8]) -> Cursor<'_> {
         Cursor::new(path, Separators::Slash)
+    }
+
+    // A default body keeps its hint to itself, so both steps stand here too.
+    #[inline(always)]
+    fn front<'a>(cursor: &mut Cursor<'a>) -> Option<Piece<'a>> {
+        cursor.front()
+    }
+
+    #[inline(always)]
+    fn back<'a>(cursor: &mut Cursor<'a>) -> Option<Piece<'a>> {
+        cursor.back()
     }
 
     fn absolute(cursor: &Cursor<'_>) -> bool {
@@ -47,6 +59,12 @@ impl Encoding for UnixEncoding {
 
     fn rooted(cursor: &Cursor<'_>) -> bool {
         cursor.begins_with_root()
+    }
+
+    #[inline]
+    fn behind<'a>(path: &'a [u8], base: &[u8]) -> Option<&'a [u8]> {
+        let end = base_end(path, base, Separators::Slash)?;
+        Some(&path[end..])
     }
 
     fn valid(name: &[u8]) -> bool {

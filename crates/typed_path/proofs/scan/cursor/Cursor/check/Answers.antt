@@ -1,12 +1,15 @@
-use Rattle.std.proofs.Common.{◌≡◌, ◌-◌, [], ◌∷◌, drop, length, refl, sym, ap, ◌∙◌, arith}
-use Rattle.std.specs.Prelude.{Some, Result, Ok, Err}
+use Rattle.std.proofs.Common.{◌≡◌, ◌-◌, List, [], ◌∷◌, drop, length, true, refl, sym, ap, subst, ◌∙◌, arith}
+use Rattle.std.specs.Prelude.{Some, None, Result, Ok, Err}
 use Rattle.std.proofs.lemmas.List.{length-take-le, length-drop}
-use Rattle.typed_path.specs.components.Part.{kinds, parts}
+use Rattle.typed_path.specs.components.Part.{Placed, kinds, parts}
 use Rattle.typed_path.specs.components.Dialect.{dialect_of}
 use Rattle.typed_path.specs.views.CursorViews.{slice_left, items_left}
+use Rattle.typed_path.specs.readings.Steps.{first_part}
 use Rattle.typed_path.specs.views.PieceViews.{part_of}
 use Rattle.typed_path.specs.changes.Fault.{fault_behind, fault_at}
-use Rattle.typed_path.specs.changes.Checked.{error_of}
+use Rattle.typed_path.specs.changes.Checked.{error_of, SeparatesDisallowed, AllowsEach}
+use Rattle.typed_path.specs.queries.Queries.{is_valid_kind}
+use Rattle.typed_path.proofs.lemmas.changes.AllowedLemmas.{allowed-body_from}
 use Rattle.std.specs.Result.{IsErrAnd}
 use Rattle.typed_path.proofs.lemmas.components.CountLemmas.{body_from-count}
 use Rattle.typed_path.proofs.lemmas.changes.FaultLemmas.{fault_behind-at, taken-first}
@@ -14,7 +17,13 @@ use Rattle.typed_path.proofs.scan.cursor.Cursor.check.Goals as goal
 use Rattle.typed_path.proofs.scan.cursor.Cursor.check.Goals.{After-depth_behind}
 
 pub pieces-init : goal.pieces-init
-pieces-init c = record { fault = fault_behind-at (dialect_of c.args.self.separators) [] 0 (kinds (parts (items_left c.args.self))) refl; deep = omega arith }
+pieces-init c =
+    let own = c.args.self in
+    record {
+      fault = fault_behind-at (dialect_of own.separators) [] 0 (kinds (parts (items_left own))) refl;
+      allowed = λ told. allowed-body_from own.begin own.separators own.from (slice_left own) (subst (SeparatesDisallowed own.separators) c.as_bytes.ensures (c.allows_names_of-allowed.ensures told));
+      deep = omega arith;
+    }
 
 pub depth_behind-requires : goal.depth_behind-requires
 depth_behind-requires c =
@@ -22,7 +31,12 @@ depth_behind-requires c =
     let few = body_from-count c.args.self.begin c.args.self.separators c.args.self.from (slice_left c.args.self) in
     let rest = length-drop c.args.self.from c.args.self.text.now in
     let size = length-take-le (c.args.self.to - c.args.self.from) (drop c.args.self.from c.args.self.text.now) (omega (arith, rest, c.args.self.ordered, c.args.self.in_range)) in
-    omega (arith, some.1, few, size, c.pieces.invariant.deep)
+    record {
+      fits = omega (arith, some.1, few, size, c.pieces.invariant.deep);
+      allowed = λ told.
+          subst (λ s. is_valid_kind (dialect_of s) (part_of c.in-Some.piece).kind ≡ true) (sym c.in-Some.ensures.separators)
+          (subst (AllowsEach (dialect_of c.pieces.self.separators)) some.0 (c.pieces.invariant.allowed told)).0;
+    }
 
 -- the error that a call passes on
 error-is : {A E : Type 0} (r : Result A E) (e : E) → IsErrAnd r (λ y. y ≡ e) → error_of r ≡ Some e
@@ -48,5 +62,19 @@ pieces-preserved c =
     let some = taken-first (items_left c.pieces.self) _ c.in-Some.ensures.taken in
     record {
       fault = step c.before.before ∙ c.in_ok-depth.ensures.judged (kinds (parts (items_left c.front.new.self)));
+      allowed = λ told.
+          subst (λ s. AllowsEach (dialect_of s) (kinds (parts (items_left c.front.new.self)))) (sym c.in-Some.ensures.separators)
+          (subst (λ cs. AllowsEach (dialect_of c.pieces.self.separators) (kinds (parts cs))) (sym c.in-Some.ensures.items)
+          (subst (AllowsEach (dialect_of c.pieces.self.separators)) some.0 (c.pieces.invariant.allowed told)).1);
       deep = omega (arith, some.1, c.pieces.invariant.deep, c.in_ok-depth.ensures.within, ap length c.in-Some.ensures.items);
     }
+
+-- no component is left
+nothing_left : (cs : List Placed) → None ≡ first_part cs → cs ≡ []
+nothing_left [] e = refl
+nothing_left (c ∷ cs) e = cc
+
+pub returns : goal.returns
+returns c =
+    sym (c.pieces.invariant.fault
+    ∙ ap (λ cs. fault_at (dialect_of c.pieces.self.separators) c.pieces.depth (kinds (parts cs))) (nothing_left _ c.in_default.ensures.taken))

@@ -1,7 +1,7 @@
 use Rattle.std.proofs.Common.{length}
 use Rattle.typed_path.specs.views.PathViews.{path_bytes, components_items, components_slice}
 use Rattle.typed_path.proofs.lemmas.queries.StripLemmas.{Strips}
-use Rattle.typed_path.proofs.common.path.Path.behind.Given as goal
+use Rattle.typed_path.proofs.common.path.Path.behind_by_components.Given as goal
 
 abbrev pub invariant-pieces : goal.invariant-pieces
 invariant-pieces g l =

@@ -6,7 +6,7 @@ use Rattle.typed_path.specs.readings.Steps.{first_part}
 use Rattle.typed_path.specs.views.PathViews.{path_bytes}
 use Rattle.typed_path.specs.views.PieceViews.{part_of}
 use Rattle.typed_path.proofs.lemmas.queries.StripLemmas.{Strips-start, Strips-end, Strips-short, Strips-differ, Strips-step}
-use Rattle.typed_path.proofs.common.path.Path.behind.Goals as goal
+use Rattle.typed_path.proofs.common.path.Path.behind_by_components.Goals as goal
 
 nothing_left : (cs : List Placed) → None ≡ first_part cs → cs ≡ []
 nothing_left [] h = refl

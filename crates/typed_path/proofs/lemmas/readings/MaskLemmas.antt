@@ -1,0 +1,99 @@
+-- What masks say of places, and searches of a range put together from what was seen of it.
+use Rattle.std.proofs.Common.{◌≡◌, ℕ, suc, ◌+◌, ◌-◌, ◌*◌, ◌^◌, ◌/◌, ◌%◌, ◌≤◌, ◌<◌, List, Bool, true, false, ◌||◌, max, cond, length, get_or, map, refl, sym, ap, ◌∙◌, arith, bit_or, ⊎_elim, pow_pos, pow_mono, div-lt_iff_lt-mul, le-div_iff_mul-le}
+use Rattle.std.specs.Int.{bit_at}
+use Rattle.std.specs.Slice.Scan.{HoldsNowhere, IsFirstPlace, IsLastPlace}
+use Rattle.std.specs.Simd.Lanes.{mask_l}
+use Rattle.std.proofs.Math.Nat.{two-pow-succ, div-eq_of_lt}
+use Rattle.std.proofs.lemmas.Bool.{cases_lt}
+use Rattle.std.proofs.lemmas.List.{get_or-map, get_or_past, length-map}
+use Rattle.std.proofs.lemmas.Nat.Bits.{bit_at-zero, bit_at_or}
+use Rattle.std.proofs.lemmas.Simd.{bit_mask_l, length-chunk, get_or-chunk}
+use Rattle.typed_path.specs.readings.Masks.{IsMask}
+use lib.Lanes.{chunk}
+
+-- ---- masks
+
+-- the mask of a comparison of the bytes from a place on
+pub mask-chunk : (f : ℕ → Bool) (at n : ℕ) (xs : List ℕ) → at + n ≤ length xs → IsMask (λ k. f (get_or xs (at + k) 0)) n (mask_l (map f (chunk at n xs)))
+mask-chunk f at n xs fits =
+    let long = length-chunk at n xs fits in
+    record {
+      within = λ k l.
+          bit_mask_l (map f (chunk at n xs)) k
+          ∙ ap (λ b. cond b 1 0) (get_or-map f (chunk at n xs) k 0 false (omega arith) ∙ ap f (get_or-chunk at n xs k 0 l));
+      beyond = λ k l.
+          bit_mask_l (map f (chunk at n xs)) k
+          ∙ ap (λ b. cond b 1 0) (get_or_past (map f (chunk at n xs)) k false (omega (arith, length-map (chunk at n xs) f)));
+    }
+
+-- the mask of either of two tests
+pub mask-or : (p q : ℕ → Bool) (n a b : ℕ) → IsMask p n a → IsMask q n b → IsMask (λ k. p k || q k) n (bit_or a b)
+mask-or p q n a b g h = record {
+  within = λ k l. either (p k) (q k) (bit_at a k) (bit_at b k) _ (bit_at_or a b k) (g.within k l) (h.within k l);
+  beyond = λ k l. omega (arith, bit_at_or a b k, g.beyond k l, h.beyond k l);
+}
+  where
+    either : (x y : Bool) (i j m : ℕ) → m ≡ max i j → i ≡ cond x 1 0 → j ≡ cond y 1 0 → m ≡ cond (x || y) 1 0
+    either true true i j m e f g = omega arith
+    either true false i j m e f g = omega arith
+    either false true i j m e f g = omega arith
+    either false false i j m e f g = omega arith
+
+-- the highest bit of a number, and those above it
+pub highest_is_set : (mask k : ℕ) → 2 ^ k ≤ mask → mask < 2 * 2 ^ k → bit_at mask k ≡ 1
+highest_is_set mask k low high =
+    let p = pow_pos k in
+    let below : mask / 2 ^ k < 2 = (div-lt_iff_lt-mul p).1 high in
+    let above : 1 ≤ mask / 2 ^ k = (le-div_iff_mul-le p).1 (omega arith) in
+    omega arith
+
+pub clear_above : (mask j k : ℕ) → mask < 2 * 2 ^ j → j < k → bit_at mask k ≡ 0
+clear_above mask j k high l = ap (λ x. x % 2) (div-eq_of_lt (omega (arith, two-pow-succ j, pow_mono {i = suc j} {j = k} (omega arith))))
+
+-- ---- a block of places, and its mask
+module _ (q : ℕ → Bool) (at n mask : ℕ) (marks : IsMask (λ k. q (at + k)) n mask) where
+  -- a bit that is set
+  block-set : (k : ℕ) → bit_at mask k ≡ 1 → (k < n) × (q (at + k) ≡ true)
+  block-set k set =
+      ⊎_elim (λ l. (l, is_set (q (at + k)) (sym (marks.within k l) ∙ set))) (λ l. absurd (omega (arith, marks.beyond k l))) (cases_lt k n)
+    where
+      is_set : (b : Bool) → cond {A = ℕ} b 1 0 ≡ 1 → b ≡ true
+      is_set true e = refl
+      is_set false e = absurd (omega arith)
+
+  -- one that is not
+  block-clear : (k : ℕ) → at ≤ k → k < at + n → bit_at mask (k - at) ≡ 0 → q k ≡ false
+  block-clear k low high clear =
+      let same : at + (k - at) ≡ k = omega arith in
+      is_clear (q k) (sym (marks.within (k - at) (omega arith) ∙ ap (λ j. cond (q j) 1 0) same) ∙ clear)
+    where
+      is_clear : (b : Bool) → cond {A = ℕ} b 1 0 ≡ 0 → b ≡ false
+      is_clear true e = absurd (omega arith)
+      is_clear false e = refl
+
+  -- no bit is set
+  pub block-none : mask ≡ 0 → HoldsNowhere q at (at + n)
+  block-none none k low high = block-clear k low high (ap (λ m. bit_at m (k - at)) none ∙ bit_at-zero (k - at))
+
+  -- the lowest bit
+  pub block-first : (low : ℕ) → bit_at mask low ≡ 1 → ((k : ℕ) → k < low → bit_at mask k ≡ 0) → (low < n) × IsFirstPlace q at (at + n) (at + low)
+  block-first low set below =
+      let found = block-set low set in
+      let short = found.0 in (
+        short,
+        record { low = omega arith; high = omega arith; before = λ k l g. block-clear k l (omega arith) (below (k - at) (omega arith)); hit = λ _. found.1 },
+      )
+
+  -- the highest bit
+  pub block-last : (high : ℕ) → bit_at mask high ≡ 1 → ((k : ℕ) → high < k → bit_at mask k ≡ 0) → (high < n) × IsLastPlace q at (at + n) (at + high + 1)
+  block-last high set above =
+      let found = block-set high set in
+      let short = found.0 in (
+        short,
+        record {
+          low = omega arith;
+          high = omega arith;
+          after = λ k l g. block-clear k (omega arith) g (above (k - at) (omega arith));
+          hit = λ _. ap q (omega arith) ∙ found.1;
+        },
+      )

@@ -1,0 +1,6 @@
+-- The view of an iterator that is read from its end.
+use Rattle.typed_path.specs.declared.common.reversed.Reversed.{Reversed}
+
+-- the iterator that it reads
+abbrev pub reversed_source : {I : Type 0} → Reversed I → I
+reversed_source r = r.source
