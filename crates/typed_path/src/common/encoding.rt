@@ -68,8 +68,8 @@ pub trait Encoding: Sized {
 
     /// What is left of a path behind a base, where the bytes of the two tell, with no reading of
     /// either. None says nothing.
-    fn behind<'a>(_path: &'a [u8], _base: &[u8]) -> Option<&'a [u8]>
-        ensures { IfSome result (λ rest. stripped dialect _path.now _base.now ≡ Some rest.now) }
+    fn behind<'a>(path: &'a [u8], base: &[u8]) -> Option<&'a [u8]>
+        ensures { IfSome result (λ rest. stripped dialect path.now base.now ≡ Some rest.now) }
     {
         None
     }

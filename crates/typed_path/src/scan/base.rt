@@ -13,7 +13,8 @@ use crate::scan::step::skip_blanks;
 #[inline(always)]
 fn is_border(front: &[u8], rest: &[u8], separators: Separators) -> bool
     ensures { IsTrue result → 0 < length front.now
-        → body separators 0 (front.now ++ rest.now) ≡ body separators 0 front.now ++ later_body separators (length front.now) rest.now }
+        → body separators 0 (front.now ++ rest.now)
+        ≡ body separators 0 front.now ++ later_body separators (length front.now) rest.now }
 {
     let Some((last, _)) = front.split_last() else {
         return true;
@@ -30,8 +31,10 @@ fn is_border(front: &[u8], rest: &[u8], separators: Separators) -> bool
 pub fn base_end(text: &[u8], base: &[u8], separators: Separators) -> Option<usize>
     ensures within { IfSome result (λ n. n ≤ length text.now) }
     ensures some { IfSome result (λ n. 0 < length base.now) }
-    ensures items { IfSome result (λ n. body separators 0 text.now ≡ body separators 0 base.now ++ later_body separators n (drop n text.now)) }
-    ensures clean { IfSome result (λ n. is_clean Begin.Inside separators (drop n text.now) ≡ true) }
+    ensures items { IfSome result (λ n. body separators 0 text.now
+        ≡ body separators 0 base.now ++ later_body separators n (drop n text.now)) }
+    ensures clean { IfSome result (λ n.
+        is_clean Begin.Inside separators (drop n text.now) ≡ true) }
 {
     if base.is_empty() || !text.starts_with(base) {
         return None;

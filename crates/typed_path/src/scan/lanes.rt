@@ -46,7 +46,7 @@ fn lowest(mask: u64) -> usize
 
 /// The highest bit that is set.
 #[inline(always)]
-#[tactic(auto, using(crate::proofs::lemmas::readings::MaskLemmas::highest_is_set, crate::proofs::lemmas::readings::MaskLemmas::clear_above,))]
+#[tactic(auto, using(crate::proofs::lemmas::readings::MaskLemmas::highest_is_set, crate::proofs::lemmas::readings::MaskLemmas::clear_above))]
 fn highest(mask: u64) -> usize
     requires { mask ≢ 0 }
     ensures within { result < 64 }
