@@ -5,14 +5,14 @@ use crate::common::path::Path;
 use crate::common::path_buf::PathBuf;
 use std::alloc::{AllocError, Global};
 
-/// A copy of the bytes, in the memory of the same allocator.
+/// A copy of the bytes, all at once, in the memory of the same allocator.
 impl<T: Encoding> Clone for PathBuf<T> {
     ghost use Rattle.std.specs.Prelude.{◌≡◌};
 
     ghost is_clone = { λ path copy. copy.bytes ≡ path.bytes };
 
     fn clone(&self) -> Result<PathBuf<T>, AllocError> {
-        Ok(PathBuf::from_vec(self.inner.clone()?))
+        PathBuf::from_bytes(*self.inner.allocator(), self.inner.as_slice())
     }
 }
 
