@@ -4,7 +4,7 @@ ghost use Rattle.std.specs.Prelude.{◌≡◌, [], ◌∷◌, ◌++◌, Some, On
 ghost use Rattle.typed_path.specs.components.Comps.{parts_of};
 ghost use Rattle.typed_path.specs.views.PieceViews.{part_of, prefix_view};
 ghost use Rattle.typed_path.specs.views.PathViews.{path_bytes};
-ghost use Rattle.typed_path.specs.lines.Lines.{tab, fields_of, reply, reply_line, text_reply, components_reply, reply_in, join_reply_in, joined_reply, refusal_name, bad_line, component_field, kind_name, prefix_name};
+ghost use Rattle.typed_path.specs.lines.Lines.{tab, equals_sign, fields_of, reply, reply_line, text_reply, components_reply, reply_in, join_reply_in, joined_reply, refusal_name, bad_line, component_field, kind_name, prefix_name};
 ghost use Rattle.typed_path.specs.lines.Fields.{AreFields};
 
 use crate::common::{Encoding, Path};
@@ -169,35 +169,33 @@ fn put_components<T: Encoding>(path: Path<'_, T>, replies: &mut Vec<u8>) -> Resu
 fn put_component(piece: Piece<'_>, replies: &mut Vec<u8>) -> Result<(), AllocError>
     ensures { OnOk result (replies.new.items ≡ replies.old.items ++ tab ∷ component_field (part_of piece.entry)) }
 {
-    replies.push(b'\t')?;
-    replies.extend_from_slice(kind_name(piece))?;
-    replies.push(b'=')?;
+    replies.extend_from_slice(label(piece))?;
     replies.extend_from_slice(piece.text)
 }
 
-/// What a field calls a component.
-fn kind_name(piece: Piece<'_>) -> &'static [u8]
-    ensures { result.now ≡ kind_name (part_of piece.entry).kind }
+/// A tab, what a field calls a component, and an equals sign.
+fn label(piece: Piece<'_>) -> &'static [u8]
+    ensures { result.now ≡ tab ∷ kind_name (part_of piece.entry).kind ++ equals_sign ∷ [] }
 {
     match piece.kind {
-        PieceKind::Prefix(prefix) => prefix_name(prefix),
-        PieceKind::RootDir => b"root",
-        PieceKind::CurDir => b"current",
-        PieceKind::ParentDir => b"parent",
-        PieceKind::Normal => b"normal",
+        PieceKind::Prefix(prefix) => prefix_label(prefix),
+        PieceKind::RootDir => b"\troot=",
+        PieceKind::CurDir => b"\tcurrent=",
+        PieceKind::ParentDir => b"\tparent=",
+        PieceKind::Normal => b"\tnormal=",
     }
 }
 
-/// What a field calls a prefix.
-fn prefix_name(prefix: WindowsPrefix<'_>) -> &'static [u8]
-    ensures { result.now ≡ prefix_name (prefix_view prefix.entry) }
+/// A tab, what a field calls a prefix, and an equals sign.
+fn prefix_label(prefix: WindowsPrefix<'_>) -> &'static [u8]
+    ensures { result.now ≡ tab ∷ prefix_name (prefix_view prefix.entry) ++ equals_sign ∷ [] }
 {
     match prefix {
-        WindowsPrefix::Verbatim(_) => b"Verbatim",
-        WindowsPrefix::VerbatimUNC(_, _) => b"VerbatimUNC",
-        WindowsPrefix::VerbatimDisk(_) => b"VerbatimDisk",
-        WindowsPrefix::DeviceNS(_) => b"DeviceNS",
-        WindowsPrefix::UNC(_, _) => b"UNC",
-        WindowsPrefix::Disk(_) => b"Disk",
+        WindowsPrefix::Verbatim(_) => b"\tVerbatim=",
+        WindowsPrefix::VerbatimUNC(_, _) => b"\tVerbatimUNC=",
+        WindowsPrefix::VerbatimDisk(_) => b"\tVerbatimDisk=",
+        WindowsPrefix::DeviceNS(_) => b"\tDeviceNS=",
+        WindowsPrefix::UNC(_, _) => b"\tUNC=",
+        WindowsPrefix::Disk(_) => b"\tDisk=",
     }
 }
