@@ -1,117 +1,128 @@
 //! The replies to lines of commands.
 
-ghost use Rattle.std.specs.Prelude.{◌≡◌, [], ◌∷◌, ◌++◌, Some, OnOk};
+ghost use Rattle.std.specs.Prelude.{◌≡◌, [], ◌∷◌, ◌++◌, Some, OnOk, IfSome, IfNone};
 ghost use Rattle.typed_path.specs.components.Comps.{parts_of};
 ghost use Rattle.typed_path.specs.views.PieceViews.{part_of, prefix_view};
 ghost use Rattle.typed_path.specs.views.PathViews.{path_bytes};
-ghost use Rattle.typed_path.specs.lines.Lines.{tab, equals_sign, fields_of, reply, reply_line, text_reply, components_reply, reply_in, join_reply_in, joined_reply, refusal_name, bad_line, component_field, kind_name, prefix_name};
-ghost use Rattle.typed_path.specs.lines.Fields.{AreFields};
+ghost use Rattle.typed_path.specs.lines.Lines.{tab, equals_sign, fields_of, reply, reply_fields, reply_line, text_reply, components_reply, reply_in, join_reply_in, joined_reply, refusal_name, bad_line, component_field, kind_name, prefix_name};
+ghost use Rattle.typed_path.specs.lines.Commands.{command_name, texts_reply};
 
 use crate::common::{Encoding, Path};
 use crate::errors::{CheckedPathError, PathError};
-use crate::scan::{Piece, PieceKind, WindowsPrefix, cut_at};
-use crate::unix::UnixPath;
+use crate::scan::{Piece, PieceKind, WindowsPrefix, cut_at, text_behind};
+use crate::unix::UnixEncoding;
 use std::alloc::{AllocError, Global};
 
-const NORMALIZE: &[u8] = b"normalize";
-
-const COMPONENTS: &[u8] = b"components";
-
-const JOIN: &[u8] = b"join";
-
-const JOIN_CHECKED: &[u8] = b"join_checked";
-
-const UNIX: &[u8] = b"unix";
-
-/// The fields of a line, where they are as many as a command has.
+/// What a line asks for.
 #[derive(Clone, Copy)]
-pub enum Fields<'a> {
-    Three(&'a [u8], &'a [u8], &'a [u8]),
-    Four(&'a [u8], &'a [u8], &'a [u8], &'a [u8]),
-    Other,
+pub enum Command {
+    Normalize,
+    Components,
+    Join,
+    JoinChecked,
 }
 
-fn split_fields(line: &[u8]) -> Fields<'_>
-    ensures { AreFields (fields_of line.now) result }
+/// The command that a line begins with, and what stands behind its tab.
+fn command_of(line: &[u8]) -> Option<(Command, &[u8])>
+    ensures some { IfSome result (λ found. fields_of line.now ≡ command_name found.0 ∷ fields_of found.1.now) }
+    ensures none { IfNone result (reply_fields (fields_of line.now) ≡ bad_line) }
 {
-    let Some((first, rest)) = cut_at(b'\t', line) else {
-        return Fields::Other;
-    };
-    let Some((second, rest)) = cut_at(b'\t', rest) else {
-        return Fields::Other;
-    };
-    let Some((third, rest)) = cut_at(b'\t', rest) else {
-        return Fields::Three(first, second, rest);
-    };
-    match cut_at(b'\t', rest) {
-        None => Fields::Four(first, second, third, rest),
-        Some(_) => Fields::Other,
+    if let Some(rest) = text_behind(b"normalize\t", line) {
+        return Some((Command::Normalize, rest));
     }
+    if let Some(rest) = text_behind(b"components\t", line) {
+        return Some((Command::Components, rest));
+    }
+    if let Some(rest) = text_behind(b"join\t", line) {
+        return Some((Command::Join, rest));
+    }
+    if let Some(rest) = text_behind(b"join_checked\t", line) {
+        return Some((Command::JoinChecked, rest));
+    }
+    None
 }
 
 /// Puts the reply to a line behind others.
 pub fn put_reply(alloc: Global, line: &[u8], replies: &mut Vec<u8>) -> Result<(), AllocError>
     ensures { OnOk result (replies.new.items ≡ replies.old.items ++ reply line.now) }
 {
-    match split_fields(line) {
-        Fields::Three(command, encoding, path) if encoding == UNIX => {
-            put_path_reply(alloc, command, UnixPath::new(path), replies)
-        }
-        Fields::Four(command, encoding, base, path) if encoding == UNIX => {
-            put_join_reply(
-                alloc,
-                command,
-                UnixPath::new(base),
-                UnixPath::new(path),
-                replies,
-            )
-        }
-        _ => put_bad_line(replies),
+    let Some((command, rest)) = command_of(line) else {
+        return put_bad_line(replies);
+    };
+    let Some(texts) = text_behind(b"unix\t", rest) else {
+        return put_bad_line(replies);
+    };
+    put_command::<UnixEncoding>(alloc, command, texts, replies)
+}
+
+/// Puts the reply to a command on texts with a tab between behind others.
+fn put_command<T: Encoding>(
+    alloc: Global,
+    command: Command,
+    texts: &[u8],
+    replies: &mut Vec<u8>,
+) -> Result<(), AllocError>
+    ensures { OnOk result (replies.new.items
+        ≡ replies.old.items ++ reply_line (texts_reply T.dialect (command_name command) (fields_of texts.now))) }
+{
+    let Some((base, path)) = cut_at(b'\t', texts) else {
+        return put_path_reply(alloc, command, Path::<T>::new(texts), replies);
+    };
+    match cut_at(b'\t', path) {
+        None => put_join_reply(
+            alloc,
+            command,
+            Path::<T>::new(base),
+            Path::<T>::new(path),
+            replies,
+        ),
+        Some(_) => put_bad_line(replies),
     }
 }
 
 /// Puts the reply to a command on a path behind others.
 fn put_path_reply<T: Encoding>(
     alloc: Global,
-    command: &[u8],
+    command: Command,
     path: Path<'_, T>,
     replies: &mut Vec<u8>,
 ) -> Result<(), AllocError>
-    ensures { OnOk result (replies.new.items ≡ replies.old.items ++ reply_line (reply_in T.dialect command.now (path_bytes path.entry))) }
+    ensures { OnOk result (replies.new.items
+        ≡ replies.old.items ++ reply_line (reply_in T.dialect (command_name command) (path_bytes path.entry))) }
 {
-    if command == NORMALIZE {
-        let normal = path.normalize(alloc)?;
-        return put_text(normal.as_path().as_bytes(), replies);
+    match command {
+        Command::Normalize => {
+            let normal = path.normalize(alloc)?;
+            put_text(normal.as_path().as_bytes(), replies)
+        }
+        Command::Components => put_components(path, replies),
+        Command::Join | Command::JoinChecked => put_bad_line(replies),
     }
-    if command == COMPONENTS {
-        return put_components(path, replies);
-    }
-    put_bad_line(replies)
 }
 
 /// Puts the reply to a command on a base and a path behind others.
 fn put_join_reply<T: Encoding>(
     alloc: Global,
-    command: &[u8],
+    command: Command,
     base: Path<'_, T>,
     path: Path<'_, T>,
     replies: &mut Vec<u8>,
 ) -> Result<(), AllocError>
     ensures { OnOk result (replies.new.items
-        ≡ replies.old.items ++ reply_line (join_reply_in T.dialect command.now (path_bytes base.entry) (path_bytes path.entry))) }
+        ≡ replies.old.items ++ reply_line (join_reply_in T.dialect (command_name command) (path_bytes base.entry) (path_bytes path.entry))) }
 {
-    if command == JOIN {
-        let joined = base.join(alloc, path)?;
-        return put_text(joined.as_path().as_bytes(), replies);
-    }
-    if command == JOIN_CHECKED {
-        return match base.join_checked(alloc, path) {
+    match command {
+        Command::Join => {
+            let joined = base.join(alloc, path)?;
+            put_text(joined.as_path().as_bytes(), replies)
+        }
+        Command::JoinChecked => match base.join_checked(alloc, path) {
             Ok(joined) => put_text(joined.as_path().as_bytes(), replies),
             Err(PathError::Checked(refusal)) => put_refusal(refusal, replies),
             Err(PathError::OutOfMemory) => Err(AllocError),
-        };
+        },
+        Command::Normalize | Command::Components => put_bad_line(replies),
     }
-    put_bad_line(replies)
 }
 
 /// Puts the reply that is the name of a refusal behind others.
