@@ -2,16 +2,17 @@
 
 ghost use Rattle.std.specs.Prelude.{◌≡◌, [], ◌∷◌, ◌++◌, Some, OnOk, IfSome, IfNone};
 ghost use Rattle.typed_path.specs.components.Comps.{parts_of};
+ghost use Rattle.typed_path.specs.changes.Push.{push};
 ghost use Rattle.typed_path.specs.views.PieceViews.{part_of, prefix_view};
 ghost use Rattle.typed_path.specs.views.PathViews.{path_bytes};
 ghost use Rattle.typed_path.specs.lines.Lines.{tab, equals_sign, fields_of, reply, reply_fields, reply_line, text_reply, components_reply, reply_in, join_reply_in, joined_reply, refusal_name, bad_line, component_field, kind_name, prefix_name};
 ghost use Rattle.typed_path.specs.lines.Commands.{command_name, texts_reply};
 
 use crate::common::{Encoding, Path};
-use crate::errors::{CheckedPathError, PathError};
+use crate::errors::CheckedPathError;
 use crate::scan::{Piece, PieceKind, WindowsPrefix, cut_at, text_behind};
 use crate::unix::UnixEncoding;
-use std::alloc::{AllocError, Global};
+use std::alloc::AllocError;
 
 /// What a line asks for.
 #[derive(Clone, Copy)]
@@ -43,7 +44,13 @@ fn command_of(line: &[u8]) -> Option<(Command, &[u8])>
 }
 
 /// Puts the reply to a line behind others.
-pub fn put_reply(alloc: Global, line: &[u8], replies: &mut Vec<u8>) -> Result<(), AllocError>
+///
+/// The scratch is room that is used again from line to line; what stands in it is lost.
+pub fn put_reply(
+    line: &[u8],
+    scratch: &mut Vec<u8>,
+    replies: &mut Vec<u8>,
+) -> Result<(), AllocError>
     ensures { OnOk result (replies.new.items ≡ replies.old.items ++ reply line.now) }
 {
     let Some((command, rest)) = command_of(line) else {
@@ -52,77 +59,86 @@ pub fn put_reply(alloc: Global, line: &[u8], replies: &mut Vec<u8>) -> Result<()
     let Some(texts) = text_behind(b"unix\t", rest) else {
         return put_bad_line(replies);
     };
-    put_command::<UnixEncoding>(alloc, command, texts, replies)
+    put_command::<UnixEncoding>(command, texts, scratch, replies)
 }
 
 /// Puts the reply to a command on texts with a tab between behind others.
 fn put_command<T: Encoding>(
-    alloc: Global,
     command: Command,
     texts: &[u8],
+    scratch: &mut Vec<u8>,
     replies: &mut Vec<u8>,
 ) -> Result<(), AllocError>
     ensures { OnOk result (replies.new.items
         ≡ replies.old.items ++ reply_line (texts_reply T.dialect (command_name command) (fields_of texts.now))) }
 {
     let Some((base, path)) = cut_at(b'\t', texts) else {
-        return put_path_reply(alloc, command, Path::<T>::new(texts), replies);
+        return put_path_reply::<T>(command, texts, replies);
     };
     match cut_at(b'\t', path) {
-        None => put_join_reply(
-            alloc,
-            command,
-            Path::<T>::new(base),
-            Path::<T>::new(path),
-            replies,
-        ),
+        None => put_join_reply::<T>(command, base, path, scratch, replies),
         Some(_) => put_bad_line(replies),
     }
 }
 
 /// Puts the reply to a command on a path behind others.
 fn put_path_reply<T: Encoding>(
-    alloc: Global,
     command: Command,
-    path: Path<'_, T>,
+    path: &[u8],
     replies: &mut Vec<u8>,
 ) -> Result<(), AllocError>
     ensures { OnOk result (replies.new.items
-        ≡ replies.old.items ++ reply_line (reply_in T.dialect (command_name command) (path_bytes path.entry))) }
+        ≡ replies.old.items ++ reply_line (reply_in T.dialect (command_name command) path.now)) }
 {
     match command {
         Command::Normalize => {
-            let normal = path.normalize(alloc)?;
-            put_text(normal.as_path().as_bytes(), replies)
+            replies.extend_from_slice(b"ok\t")?;
+            T::put_normal(replies, path)?;
+            replies.push(b'\n')?;
+            Ok(())
         }
-        Command::Components => put_components(path, replies),
+        Command::Components => put_components(Path::<T>::new(path), replies),
         Command::Join | Command::JoinChecked => put_bad_line(replies),
     }
 }
 
 /// Puts the reply to a command on a base and a path behind others.
 fn put_join_reply<T: Encoding>(
-    alloc: Global,
     command: Command,
-    base: Path<'_, T>,
-    path: Path<'_, T>,
+    base: &[u8],
+    path: &[u8],
+    scratch: &mut Vec<u8>,
     replies: &mut Vec<u8>,
 ) -> Result<(), AllocError>
     ensures { OnOk result (replies.new.items
-        ≡ replies.old.items ++ reply_line (join_reply_in T.dialect (command_name command) (path_bytes base.entry) (path_bytes path.entry))) }
+        ≡ replies.old.items ++ reply_line (join_reply_in T.dialect (command_name command) base.now path.now)) }
 {
     match command {
-        Command::Join => {
-            let joined = base.join(alloc, path)?;
-            put_text(joined.as_path().as_bytes(), replies)
-        }
-        Command::JoinChecked => match base.join_checked(alloc, path) {
-            Ok(joined) => put_text(joined.as_path().as_bytes(), replies),
-            Err(PathError::Checked(refusal)) => put_refusal(refusal, replies),
-            Err(PathError::OutOfMemory) => Err(AllocError),
+        Command::Join => put_joined::<T>(base, path, scratch, replies),
+        Command::JoinChecked => match T::check(path) {
+            Ok(()) => put_joined::<T>(base, path, scratch, replies),
+            Err(refusal) => put_refusal(refusal, replies),
         },
         Command::Normalize | Command::Components => put_bad_line(replies),
     }
+}
+
+/// Puts the reply that is a path pushed onto a base behind others. They are joined in the scratch.
+fn put_joined<T: Encoding>(
+    base: &[u8],
+    path: &[u8],
+    scratch: &mut Vec<u8>,
+    replies: &mut Vec<u8>,
+) -> Result<(), AllocError>
+    ensures { OnOk result (replies.new.items ≡ replies.old.items ++ text_reply (push T.dialect base.now path.now)) }
+{
+    scratch.clear();
+    scratch.extend_from_slice(base)?;
+    T::push(scratch, path)?;
+    replies.extend_from_slice(b"ok\t")?;
+    replies.extend_from_slice(scratch.as_slice())?;
+    replies.push(b'\n')?;
+    Ok(())
 }
 
 /// Puts the reply that is the name of a refusal behind others.
@@ -152,16 +168,6 @@ fn put_bad_line(replies: &mut Vec<u8>) -> Result<(), AllocError>
     ensures { OnOk result (replies.new.items ≡ replies.old.items ++ reply_line bad_line) }
 {
     replies.extend_from_slice(b"err\tBadLine\n")
-}
-
-/// Puts the reply that is one text behind others.
-fn put_text(text: &[u8], replies: &mut Vec<u8>) -> Result<(), AllocError>
-    ensures { OnOk result (replies.new.items ≡ replies.old.items ++ text_reply text.now) }
-{
-    replies.extend_from_slice(b"ok\t")?;
-    replies.extend_from_slice(text)?;
-    replies.push(b'\n')?;
-    Ok(())
 }
 
 /// Puts the reply that shows the components of a path behind others.
