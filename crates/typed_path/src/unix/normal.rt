@@ -5,7 +5,7 @@ ghost use Rattle.typed_path.specs.components.Dialect.{unix};
 ghost use Rattle.typed_path.specs.places.Places.{normal_text};
 ghost use Rattle.typed_path.specs.places.Rows.{rows, settled, names_left, AreRows, IsParted};
 
-use crate::scan::{PieceKind, Separators, cut_at, piece_of};
+use crate::scan::{PieceKind, Separators, cut_at_separator, piece_of};
 use std::alloc::AllocError;
 
 /// Puts the normal text of a path behind a text, in one pass.
@@ -58,7 +58,7 @@ fn settle_all(text: &mut Vec<u8>, len: usize, path: &[u8]) -> Result<(), AllocEr
     ensures long { len ≤ length text.new.items }
 {
     let mut rest = path;
-    'segments: while let Some((segment, behind)) = cut_at(b'/', rest) {
+    'segments: while let Some((segment, behind)) = cut_at_separator(Separators::Slash, rest) {
         settle(text, len, segment)?;
         rest = behind;
     }
