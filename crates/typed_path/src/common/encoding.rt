@@ -1,6 +1,6 @@
 //! What every encoding of paths can do.
 
-ghost use Rattle.std.specs.Prelude.{◌≡◌, ◌≤◌, ℕ, List, drop, take, option_map, IsSome, Some, None, IsOk, IfOk, IfSome, OnOk, OnErr};
+ghost use Rattle.std.specs.Prelude.{◌≡◌, ◌≤◌, ◌++◌, ℕ, List, drop, take, option_map, IsSome, Some, None, IsOk, IfOk, IfSome, OnOk, OnErr};
 ghost use Rattle.std.specs.Vec.{vec_capacity};
 ghost use Rattle.typed_path.specs.changes.Checked.{refusal, error_of};
 ghost use Rattle.typed_path.specs.promises.Promises.{HasPrefixOf, LiesWithin};
@@ -98,9 +98,20 @@ pub trait Encoding: Sized {
         Self::push_over(path, path.len(), other)
     }
 
-    /// The normal text of a path: what its list resolves to, pushed one by one onto the empty path.
+    /// Puts the normal text of a path behind a text: what its list resolves to, pushed one by one onto
+    /// the empty path. Where memory is refused, the text is as it was.
+    fn put_normal(text: &mut Vec<u8>, path: &[u8]) -> Result<(), AllocError>
+        ensures ok { OnOk result (text.new.items ≡ text.old.items ++ normal_text dialect path.now) }
+        ensures err { OnErr result (text.new.items ≡ text.old.items) };
+
+    /// The normal text of a path, for which memory is asked once where it is no longer than the path.
     fn normal(alloc: Global, path: &[u8]) -> Result<Vec<u8>, AllocError>
-        ensures { IfOk result (λ text. text.items ≡ normal_text dialect path.now) };
+        ensures { IfOk result (λ text. text.items ≡ normal_text dialect path.now) }
+    {
+        let mut text = Vec::with_capacity(alloc, path.len() + 1)?;
+        Self::put_normal(&mut text, path)?;
+        Ok(text)
+    }
 
     /// Judges a path that is to be pushed, on its own: it is refused for its first component that
     /// offends. Pushed onto any base, a path that is not refused lies within that base.

@@ -1,8 +1,10 @@
-//! Texts cut at single bytes.
+//! Texts cut at single bytes, at separators, and behind a beginning.
 
-ghost use Rattle.std.specs.Prelude.{◌≡◌, ◌<◌, ◌==◌, [], ◌∷◌, length, MatchOption, IfSome};
+ghost use Rattle.std.specs.Prelude.{◌≡◌, ◌≢◌, ◌<◌, ◌==◌, List, ℕ, [], ◌∷◌, ◌++◌, length, MatchOption, IfSome};
 ghost use Rattle.std.specs.List.{slice_split};
+ghost use Rattle.typed_path.specs.components.Dialect.{is_separator};
 
+use crate::scan::separators::Separators;
 use memchr::memchr;
 
 /// What stands before the first such byte, and what stands behind it.
@@ -17,4 +19,38 @@ pub fn cut_at(byte: u8, text: &[u8]) -> Option<(&[u8], &[u8])>
         None => None,
         Some(at) => Some((&text[..at], &text[at + 1..])),
     }
+}
+
+/// What stands before the first separator, and what stands behind it.
+#[inline(always)]
+pub fn cut_at_separator(separators: Separators, text: &[u8]) -> Option<(&[u8], &[u8])>
+    ensures pieces { MatchOption result
+        (slice_split (is_separator separators) text.now ≡ text.now ∷ [])
+        (λ cut. slice_split (is_separator separators) text.now
+        ≡ cut.0.now ∷ slice_split (is_separator separators) cut.1.now) }
+    ensures open { IfSome result (λ cut. slice_split (is_separator separators) cut.0.now ≡ cut.0.now ∷ []) }
+    ensures shorter { IfSome result (λ cut. length cut.1.now < length text.now) }
+{
+    let at = separators.first_in(text);
+    if at < text.len() {
+        return Some((&text[..at], &text[at + 1..]));
+    }
+    None
+}
+
+/// What stands behind a beginning of a text, where the text begins so.
+#[inline(always)]
+pub fn text_behind<'a>(beginning: &[u8], text: &'a [u8]) -> Option<&'a [u8]>
+    ensures { MatchOption result
+        ((rest : List ℕ) → text.now ≢ beginning.now ++ rest)
+        (λ rest. text.now ≡ beginning.now ++ rest.now) }
+{
+    let len = beginning.len();
+    if text.len() < len {
+        return None;
+    }
+    if beginning == &text[..len] {
+        return Some(&text[len..]);
+    }
+    None
 }

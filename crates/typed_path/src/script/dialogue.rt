@@ -10,11 +10,12 @@ use std::alloc::{AllocError, Global};
 /// The replies to the lines that were completed, and the line that was begun.
 #[derive(Drop)]
 pub struct Dialogue {
-    alloc: Global,
     /// What came behind the last line feed.
     pub line: Vec<u8>,
     /// The replies that were not taken away yet.
     pub replies: Vec<u8>,
+    /// Room in which paths are joined, used again from line to line.
+    scratch: Vec<u8>,
     ghost is_open: { split_lines line.items ≡ line.items ∷ [] },
 }
 
@@ -27,9 +28,9 @@ impl Dialogue {
         ensures replies { result.replies.items ≡ [] }
     {
         Dialogue {
-            alloc,
             line: Vec::new(alloc),
             replies: Vec::new(alloc),
+            scratch: Vec::new(alloc),
         }
     }
 
@@ -54,10 +55,10 @@ impl Dialogue {
         ensures line { OnOk result (self.new.line.items ≡ []) }
     {
         if self.line.is_empty() {
-            return put_reply(self.alloc, piece, &mut self.replies);
+            return put_reply(piece, &mut self.scratch, &mut self.replies);
         }
         self.line.extend_from_slice(piece)?;
-        put_reply(self.alloc, self.line.as_slice(), &mut self.replies)?;
+        put_reply(self.line.as_slice(), &mut self.scratch, &mut self.replies)?;
         self.line.clear();
         Ok(())
     }
@@ -69,6 +70,6 @@ impl Dialogue {
         if self.line.is_empty() {
             return Ok(());
         }
-        put_reply(self.alloc, self.line.as_slice(), &mut self.replies)
+        put_reply(self.line.as_slice(), &mut self.scratch, &mut self.replies)
     }
 }
