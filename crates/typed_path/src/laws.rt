@@ -102,7 +102,8 @@ pub fn components_stand_in_order(path: &[u8])
 /// slice, also where some components were taken before; once all are taken, nothing is left.
 pub fn steps_agree_with_counts(path: &[u8])
     ghost d: { Dialect }
-    ensures answers { (cs : List Placed) (sides : List Side) → answers_after cs sides ≡ reads cs sides }
+    ensures answers { (cs : List Placed) (sides : List Side) → answers_after cs sides
+        ≡ reads cs sides }
     ensures items { (cs : List Placed) (sides : List Side)
         → items_after cs sides ≡ items_between cs (fronts sides) (backs sides) }
     ensures slice { (sides : List Side) → fronts sides + backs sides ≤ length (comps d path.now)
@@ -110,7 +111,8 @@ pub fn steps_agree_with_counts(path: &[u8])
         ≡ left (comps d path.now) path.now (fronts sides) (backs sides) }
     ensures half_read { (i j : ℕ) (sides : List Side)
         → i + fronts sides + (j + backs sides) ≤ length (comps d path.now)
-        → slice_after (items_between (comps d path.now) i j) (left (comps d path.now) path.now i j) sides
+        → slice_after (items_between (comps d path.now) i j)
+            (left (comps d path.now) path.now i j) sides
         ≡ left (comps d path.now) path.now (i + fronts sides) (j + backs sides) }
     ensures no_items { (cs : List Placed) (sides : List Side)
         → length cs ≤ fronts sides + backs sides → items_after cs sides ≡ [] }

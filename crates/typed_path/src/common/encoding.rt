@@ -44,7 +44,8 @@ pub trait Encoding: Sized {
     fn front<'a>(cursor: &mut Cursor<'a>) -> Option<Piece<'a>>
         ensures taken { option_map part_of result ≡ first_part (items_left cursor.old) }
         ensures items { items_left cursor.new ≡ drop 1 (items_left cursor.old) }
-        ensures slice { slice_left cursor.new ≡ slice_after_front (items_left cursor.old) (slice_left cursor.old) }
+        ensures slice { slice_left cursor.new
+            ≡ slice_after_front (items_left cursor.old) (slice_left cursor.old) }
     {
         cursor.front()
     }
@@ -53,7 +54,8 @@ pub trait Encoding: Sized {
     fn back<'a>(cursor: &mut Cursor<'a>) -> Option<Piece<'a>>
         ensures taken { option_map part_of result ≡ last_part (items_left cursor.old) }
         ensures items { items_left cursor.new ≡ but_last (items_left cursor.old) }
-        ensures slice { slice_left cursor.new ≡ slice_after_back (items_left cursor.old) (slice_left cursor.old) }
+        ensures slice { slice_left cursor.new
+            ≡ slice_after_back (items_left cursor.old) (slice_left cursor.old) }
     {
         cursor.back()
     }
@@ -85,15 +87,18 @@ pub trait Encoding: Sized {
             (path.new.items ≡ push_spec.push dialect (take kept path.old.items) other.now) }
         ensures err { OnErr result (path.new.items ≡ path.old.items) }
         ensures capacity { vec_capacity path.old ≤ vec_capacity path.new }
-        ensures succeeds { FitsPush dialect (vec_capacity path.old) (take kept path.old.items) other.now
+        ensures succeeds { FitsPush dialect (vec_capacity path.old)
+            (take kept path.old.items) other.now
             → IsOk result };
 
     /// Pushes a path onto another. Where memory is refused, the other is as it was.
     fn push(path: &mut Vec<u8>, other: &[u8]) -> Result<(), AllocError>
-        ensures ok { OnOk result (path.new.items ≡ push_spec.push dialect path.old.items other.now) }
+        ensures ok { OnOk result
+            (path.new.items ≡ push_spec.push dialect path.old.items other.now) }
         ensures err { OnErr result (path.new.items ≡ path.old.items) }
         ensures capacity { vec_capacity path.old ≤ vec_capacity path.new }
-        ensures succeeds { FitsPush dialect (vec_capacity path.old) path.old.items other.now → IsOk result }
+        ensures succeeds { FitsPush dialect (vec_capacity path.old) path.old.items other.now
+            → IsOk result }
     {
         Self::push_over(path, path.len(), other)
     }
@@ -117,21 +122,25 @@ pub trait Encoding: Sized {
     /// offends. Pushed onto any base, a path that is not refused lies within that base.
     fn check(path: &[u8]) -> Result<(), CheckedPathError>
         ensures refused { error_of result ≡ fault dialect path.now }
-        ensures prefix { OnOk result ((base : List ℕ) → HasPrefixOf dialect base (push_spec.push dialect base path.now)) }
-        ensures contained { OnOk result ((base : List ℕ) → LiesWithin dialect base path.now (push_spec.push dialect base path.now)) };
+        ensures prefix { OnOk result
+            ((base : List ℕ) → HasPrefixOf dialect base (push_spec.push dialect base path.now)) }
+        ensures contained { OnOk result ((base : List ℕ)
+            → LiesWithin dialect base path.now (push_spec.push dialect base path.now)) };
 
     /// Pushes a path onto another, unless the path has a component that offends. Then, and where
     /// memory is refused, the other is as it was.
     fn push_checked(path: &mut Vec<u8>, other: &[u8]) -> Result<(), PathError>
         ensures refused { refusal result ≡ fault dialect other.now }
-        ensures ok { OnOk result (path.new.items ≡ push_spec.push dialect path.old.items other.now) }
+        ensures ok { OnOk result
+            (path.new.items ≡ push_spec.push dialect path.old.items other.now) }
         ensures err { OnErr result (path.new.items ≡ path.old.items) }
         ensures unchanged { IsSome (refusal result) → path.new ≡ path.old }
         ensures capacity { vec_capacity path.old ≤ vec_capacity path.new }
         ensures succeeds { fault dialect other.now ≡ None
             → FitsPush dialect (vec_capacity path.old) path.old.items other.now → IsOk result }
         ensures prefix { OnOk result (HasPrefixOf dialect path.old.items path.new.items) }
-        ensures contained { OnOk result (LiesWithin dialect path.old.items other.now path.new.items) }
+        ensures contained { OnOk result
+            (LiesWithin dialect path.old.items other.now path.new.items) }
     {
         Self::check(other)?;
         Ok(Self::push(path, other)?)

@@ -77,7 +77,8 @@ impl<'a> Cursor<'a> {
     /// Where the last component that is left ends in the text.
     #[inline(always)]
     pub(crate) fn last_end(&self) -> usize
-        ensures { (last : Placed) → last_of (items_left self.now) ≡ Some last → result ≡ end_of last }
+        ensures { (last : Placed) → last_of (items_left self.now) ≡ Some last → result
+            ≡ end_of last }
     {
         self.from + trim_blanks(self.as_bytes(), self.separators)
     }
@@ -85,7 +86,8 @@ impl<'a> Cursor<'a> {
     /// Judges the components that are left, from the front: the first one that offends is what a
     /// path of them is refused for when it is to be pushed.
     pub(crate) fn check(mut self) -> Result<(), CheckedPathError>
-        ensures { error_of result ≡ fault_behind (dialect_of self.entry.separators) [] (kinds (parts (items_left self.entry))) }
+        ensures { error_of result ≡ fault_behind (dialect_of self.entry.separators) []
+            (kinds (parts (items_left self.entry))) }
     {
         let allowed = self.separators.allows_names_of(self.as_bytes());
         let mut depth = 0usize;
@@ -100,7 +102,8 @@ impl<'a> Cursor<'a> {
     pub(crate) fn front(&mut self) -> Option<Piece<'a>>
         ensures taken { option_map part_of result ≡ first_part (items_left self.old) }
         ensures items { items_left self.new ≡ drop 1 (items_left self.old) }
-        ensures slice { slice_left self.new ≡ slice_after_front (items_left self.old) (slice_left self.old) }
+        ensures slice { slice_left self.new
+            ≡ slice_after_front (items_left self.old) (slice_left self.old) }
         ensures separators { self.new.separators ≡ self.old.separators }
     {
         let left = self.as_bytes();
@@ -118,7 +121,8 @@ impl<'a> Cursor<'a> {
     pub(crate) fn back(&mut self) -> Option<Piece<'a>>
         ensures taken { option_map part_of result ≡ last_part (items_left self.old) }
         ensures items { items_left self.new ≡ but_last (items_left self.old) }
-        ensures slice { slice_left self.new ≡ slice_after_back (items_left self.old) (slice_left self.old) }
+        ensures slice { slice_left self.new
+            ≡ slice_after_back (items_left self.old) (slice_left self.old) }
     {
         let left = self.as_bytes();
         if left.is_empty() {

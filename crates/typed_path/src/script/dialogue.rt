@@ -37,8 +37,10 @@ impl Dialogue {
     /// Takes in more input, and answers the lines that it completes.
     pub fn take_in(&mut self, input: &[u8]) -> Result<(), AllocError>
         ensures replies { OnOk result (self.new.replies.items
-            ≡ self.old.replies.items ++ replies_to (complete_lines (self.old.line.items ++ input.now))) }
-        ensures line { OnOk result (self.new.line.items ≡ open_line (self.old.line.items ++ input.now)) }
+            ≡ self.old.replies.items
+                ++ replies_to (complete_lines (self.old.line.items ++ input.now))) }
+        ensures line { OnOk result
+            (self.new.line.items ≡ open_line (self.old.line.items ++ input.now)) }
     {
         let mut rest = input;
         'lines: while let Some((piece, behind)) = cut_at(b'\n', rest) {
@@ -51,7 +53,8 @@ impl Dialogue {
     /// Answers the line that a piece with no line feed completes.
     fn complete(&mut self, piece: &[u8]) -> Result<(), AllocError>
         requires { split_lines piece.now ≡ piece.now ∷ [] }
-        ensures replies { OnOk result (self.new.replies.items ≡ self.old.replies.items ++ reply (self.old.line.items ++ piece.now)) }
+        ensures replies { OnOk result (self.new.replies.items
+            ≡ self.old.replies.items ++ reply (self.old.line.items ++ piece.now)) }
         ensures line { OnOk result (self.new.line.items ≡ []) }
     {
         if self.line.is_empty() {
@@ -65,7 +68,8 @@ impl Dialogue {
 
     /// Answers the line that the end of the input completes, where there is one.
     pub fn finish(&mut self) -> Result<(), AllocError>
-        ensures { OnOk result (self.new.replies.items ≡ self.old.replies.items ++ replies_to (all_lines (self.old.line.items ∷ []))) }
+        ensures { OnOk result (self.new.replies.items
+            ≡ self.old.replies.items ++ replies_to (all_lines (self.old.line.items ∷ []))) }
     {
         if self.line.is_empty() {
             return Ok(());

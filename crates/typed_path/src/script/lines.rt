@@ -25,7 +25,8 @@ pub enum Command {
 
 /// The command that a line begins with, and what stands behind its tab.
 fn command_of(line: &[u8]) -> Option<(Command, &[u8])>
-    ensures some { IfSome result (λ found. fields_of line.now ≡ command_name found.0 ∷ fields_of found.1.now) }
+    ensures some { IfSome result
+        (λ found. fields_of line.now ≡ command_name found.0 ∷ fields_of found.1.now) }
     ensures none { IfNone result (reply_fields (fields_of line.now) ≡ bad_line) }
 {
     if let Some(rest) = text_behind(b"normalize\t", line) {
@@ -70,7 +71,8 @@ fn put_command<T: Encoding>(
     replies: &mut Vec<u8>,
 ) -> Result<(), AllocError>
     ensures { OnOk result (replies.new.items
-        ≡ replies.old.items ++ reply_line (texts_reply T.dialect (command_name command) (fields_of texts.now))) }
+        ≡ replies.old.items ++ reply_line
+            (texts_reply T.dialect (command_name command) (fields_of texts.now))) }
 {
     let Some((base, path)) = cut_at(b'\t', texts) else {
         return put_path_reply::<T>(command, texts, replies);
@@ -111,7 +113,8 @@ fn put_join_reply<T: Encoding>(
     replies: &mut Vec<u8>,
 ) -> Result<(), AllocError>
     ensures { OnOk result (replies.new.items
-        ≡ replies.old.items ++ reply_line (join_reply_in T.dialect (command_name command) base.now path.now)) }
+        ≡ replies.old.items ++ reply_line
+            (join_reply_in T.dialect (command_name command) base.now path.now)) }
 {
     match command {
         Command::Join => put_joined::<T>(base, path, scratch, replies),
@@ -130,7 +133,8 @@ fn put_joined<T: Encoding>(
     scratch: &mut Vec<u8>,
     replies: &mut Vec<u8>,
 ) -> Result<(), AllocError>
-    ensures { OnOk result (replies.new.items ≡ replies.old.items ++ text_reply (push T.dialect base.now path.now)) }
+    ensures { OnOk result
+        (replies.new.items ≡ replies.old.items ++ text_reply (push T.dialect base.now path.now)) }
 {
     scratch.clear();
     scratch.extend_from_slice(base)?;
@@ -143,7 +147,8 @@ fn put_joined<T: Encoding>(
 
 /// Puts the reply that is the name of a refusal behind others.
 fn put_refusal(refusal: CheckedPathError, replies: &mut Vec<u8>) -> Result<(), AllocError>
-    ensures { OnOk result (replies.new.items ≡ replies.old.items ++ reply_line (joined_reply [] (Some refusal))) }
+    ensures { OnOk result
+        (replies.new.items ≡ replies.old.items ++ reply_line (joined_reply [] (Some refusal))) }
 {
     replies.extend_from_slice(b"err\t")?;
     replies.extend_from_slice(refusal_name(refusal))?;
@@ -172,7 +177,8 @@ fn put_bad_line(replies: &mut Vec<u8>) -> Result<(), AllocError>
 
 /// Puts the reply that shows the components of a path behind others.
 fn put_components<T: Encoding>(path: Path<'_, T>, replies: &mut Vec<u8>) -> Result<(), AllocError>
-    ensures { OnOk result (replies.new.items ≡ replies.old.items ++ reply_line (components_reply (parts_of T.dialect (path_bytes path.entry)))) }
+    ensures { OnOk result (replies.new.items ≡ replies.old.items
+        ++ reply_line (components_reply (parts_of T.dialect (path_bytes path.entry)))) }
 {
     replies.extend_from_slice(b"ok")?;
     'pieces: for piece in path.components() {
@@ -184,7 +190,8 @@ fn put_components<T: Encoding>(path: Path<'_, T>, replies: &mut Vec<u8>) -> Resu
 
 /// Puts a tab, and the field that shows a component.
 fn put_component(piece: Piece<'_>, replies: &mut Vec<u8>) -> Result<(), AllocError>
-    ensures { OnOk result (replies.new.items ≡ replies.old.items ++ tab ∷ component_field (part_of piece.entry)) }
+    ensures { OnOk result
+        (replies.new.items ≡ replies.old.items ++ tab ∷ component_field (part_of piece.entry)) }
 {
     replies.extend_from_slice(label(piece))?;
     replies.extend_from_slice(piece.text)

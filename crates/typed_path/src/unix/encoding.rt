@@ -108,7 +108,8 @@ fn put_over(
         (path.new.items ≡ take kept path.old.items ++ separator.now ++ other.now) }
     ensures err { OnErr result (path.new.items ≡ path.old.items) }
     ensures capacity { vec_capacity path.old ≤ vec_capacity path.new }
-    ensures succeeds { kept + length separator.now + length other.now ≤ vec_capacity path.old → IsOk result }
+    ensures succeeds { kept + length separator.now + length other.now ≤ vec_capacity path.old
+        → IsOk result }
 {
     let len = kept + separator.len() + other.len();
     path.reserve(len.saturating_sub(path.len()))?;
