@@ -112,7 +112,7 @@ pub fn steps_agree_with_counts(path: &[u8])
     ensures half_read { (i j : ℕ) (sides : List Side)
         → i + fronts sides + (j + backs sides) ≤ length (comps d path.now)
         → slice_after (items_between (comps d path.now) i j)
-            (left (comps d path.now) path.now i j) sides
+        (left (comps d path.now) path.now i j) sides
         ≡ left (comps d path.now) path.now (i + fronts sides) (j + backs sides) }
     ensures no_items { (cs : List Placed) (sides : List Side)
         → length cs ≤ fronts sides + backs sides → items_after cs sides ≡ [] }

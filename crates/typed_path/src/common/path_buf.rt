@@ -117,7 +117,7 @@ impl<T: Encoding> PathBuf<T> {
         ensures capacity { self.old.capacity ≤ self.new.capacity }
         ensures succeeds { fault T.dialect (path_bytes path.entry) ≡ None
             → FitsPush T.dialect self.old.capacity self.old.bytes (path_bytes path.entry)
-                → IsOk result }
+            → IsOk result }
         ensures prefix { OnOk result (HasPrefixOf T.dialect self.old.bytes self.new.bytes) }
         ensures contained { OnOk result
             (LiesWithin T.dialect self.old.bytes (path_bytes path.entry) self.new.bytes) }

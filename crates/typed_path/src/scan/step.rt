@@ -69,8 +69,8 @@ pub fn front_step(text: &[u8], separators: Separators) -> (Piece<'_>, usize)
     ensures within { result.1 ≤ length text.now }
     ensures first { (begin : Begin) (at : ℕ) → is_clean begin separators text.now ≡ true
         → body_from begin separators at text.now
-            ≡ component (part_of result.0) at
-                ++ later_body separators (at + result.1) (drop result.1 text.now) }
+        ≡ component (part_of result.0) at
+        ++ later_body separators (at + result.1) (drop result.1 text.now) }
     ensures clean { is_clean Begin.Inside separators (drop result.1 text.now) ≡ true }
 {
     let end = separators.first_in(text);
@@ -119,8 +119,8 @@ pub fn back_step(text: &[u8], separators: Separators) -> (Piece<'_>, usize)
     ensures within { result.1 ≤ length text.now }
     ensures last { (begin : Begin) (at : ℕ) → is_clean begin separators text.now ≡ true
         → (place : ℕ) × (body_from begin separators at text.now
-            ≡ body_from begin separators at (take result.1 text.now)
-                ++ component (part_of result.0) place) }
+        ≡ body_from begin separators at (take result.1 text.now)
+        ++ component (part_of result.0) place) }
     ensures ends { (begin : Begin) (at : ℕ) → is_clean begin separators text.now ≡ true
         → end_from at (body_from begin separators at (take result.1 text.now)) ≡ at + result.1 }
     ensures clean { (begin : Begin) → is_clean begin separators text.now ≡ true

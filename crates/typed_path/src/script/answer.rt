@@ -42,24 +42,24 @@ pub fn answer_lines<R: Source, W: Sink>(
 ) -> Result<(), LineError>
     ensures ok { OnOk result (AnswersAll
         (streams (R.remaining reader.old) (R.has_failed reader.old)
-            (W.contents writer.old) (W.has_failed writer.old))
+        (W.contents writer.old) (W.has_failed writer.old))
         (streams (R.remaining reader.new) (R.has_failed reader.new)
-            (W.contents writer.new) (W.has_failed writer.new))) }
+        (W.contents writer.new) (W.has_failed writer.new))) }
     ensures read { IsErrOf result LineError.Read → StopsReading
         (streams (R.remaining reader.old) (R.has_failed reader.old)
-            (W.contents writer.old) (W.has_failed writer.old))
+        (W.contents writer.old) (W.has_failed writer.old))
         (streams (R.remaining reader.new) (R.has_failed reader.new)
-            (W.contents writer.new) (W.has_failed writer.new)) }
+        (W.contents writer.new) (W.has_failed writer.new)) }
     ensures write { IsErrOf result LineError.Write → StopsWriting
         (streams (R.remaining reader.old) (R.has_failed reader.old)
-            (W.contents writer.old) (W.has_failed writer.old))
+        (W.contents writer.old) (W.has_failed writer.old))
         (streams (R.remaining reader.new) (R.has_failed reader.new)
-            (W.contents writer.new) (W.has_failed writer.new)) }
+        (W.contents writer.new) (W.has_failed writer.new)) }
     ensures memory { IsErrOf result LineError.OutOfMemory → RunsOut
         (streams (R.remaining reader.old) (R.has_failed reader.old)
-            (W.contents writer.old) (W.has_failed writer.old))
+        (W.contents writer.old) (W.has_failed writer.old))
         (streams (R.remaining reader.new) (R.has_failed reader.new)
-            (W.contents writer.new) (W.has_failed writer.new)) }
+        (W.contents writer.new) (W.has_failed writer.new)) }
 {
     let mut chunk = vec![in alloc; 0u8; CHUNK]?;
     let mut dialogue = Dialogue::new(alloc);
@@ -78,24 +78,24 @@ fn converse<R: Source, W: Sink>(
     requires no_replies { dialogue.old.replies.items ≡ [] }
     ensures ok { OnOk result (AnswersAll
         (streams (R.remaining reader.old) (R.has_failed reader.old)
-            (W.contents writer.old) (W.has_failed writer.old))
+        (W.contents writer.old) (W.has_failed writer.old))
         (streams (R.remaining reader.new) (R.has_failed reader.new)
-            (W.contents writer.new) (W.has_failed writer.new))) }
+        (W.contents writer.new) (W.has_failed writer.new))) }
     ensures read { IsErrOf result LineError.Read → StopsReading
         (streams (R.remaining reader.old) (R.has_failed reader.old)
-            (W.contents writer.old) (W.has_failed writer.old))
+        (W.contents writer.old) (W.has_failed writer.old))
         (streams (R.remaining reader.new) (R.has_failed reader.new)
-            (W.contents writer.new) (W.has_failed writer.new)) }
+        (W.contents writer.new) (W.has_failed writer.new)) }
     ensures write { IsErrOf result LineError.Write → StopsWriting
         (streams (R.remaining reader.old) (R.has_failed reader.old)
-            (W.contents writer.old) (W.has_failed writer.old))
+        (W.contents writer.old) (W.has_failed writer.old))
         (streams (R.remaining reader.new) (R.has_failed reader.new)
-            (W.contents writer.new) (W.has_failed writer.new)) }
+        (W.contents writer.new) (W.has_failed writer.new)) }
     ensures memory { IsErrOf result LineError.OutOfMemory → RunsOut
         (streams (R.remaining reader.old) (R.has_failed reader.old)
-            (W.contents writer.old) (W.has_failed writer.old))
+        (W.contents writer.old) (W.has_failed writer.old))
         (streams (R.remaining reader.new) (R.has_failed reader.new)
-            (W.contents writer.new) (W.has_failed writer.new)) }
+        (W.contents writer.new) (W.has_failed writer.new)) }
 {
     'reads: loop {
         let Ok(count) = reader.read(buffer) else {

@@ -38,7 +38,7 @@ impl Dialogue {
     pub fn take_in(&mut self, input: &[u8]) -> Result<(), AllocError>
         ensures replies { OnOk result (self.new.replies.items
             ≡ self.old.replies.items
-                ++ replies_to (complete_lines (self.old.line.items ++ input.now))) }
+            ++ replies_to (complete_lines (self.old.line.items ++ input.now))) }
         ensures line { OnOk result
             (self.new.line.items ≡ open_line (self.old.line.items ++ input.now)) }
     {

@@ -55,7 +55,7 @@ pub fn run_ops<T: Encoding>(
         (path.new.bytes ≡ text_after T.dialect path.old.bytes (operations_of operations.now)) }
     ensures replies { OnOk result (responses_of replies.new.items
         ≡ responses_of replies.old.items
-            ++ run_spec.replies T.dialect path.old.bytes (operations_of operations.now)) }
+        ++ run_spec.replies T.dialect path.old.bytes (operations_of operations.now)) }
     ensures memory { OnErr result
         (StopsAt T.dialect path.old.bytes (operations_of operations.now) path.new.bytes
         (responses_of replies.old.items) (responses_of replies.new.items)) }

@@ -44,12 +44,12 @@ impl<R: Read> Source for StdSource<R> {
         ensures count { IfOk result (λ n. n ≤ length buffer.new) }
         ensures bytes { IfOk result
             (λ n. Consumes (⟦<StdSource<R> as Source>⟧.remaining self.old)
-                (⟦<StdSource<R> as Source>⟧.remaining self.new) (take n buffer.new)) }
+            (⟦<StdSource<R> as Source>⟧.remaining self.new) (take n buffer.new)) }
         ensures end { IfOk result (λ n. n ≡ 0 → 0 < length buffer.new
             → IsAtEnd (⟦<StdSource<R> as Source>⟧.remaining self.new)) }
         ensures nearer { IfOk result (λ n. 0 < n
             → ⟦<StdSource<R> as Source>⟧.bound self.new
-                < ⟦<StdSource<R> as Source>⟧.bound self.old) }
+            < ⟦<StdSource<R> as Source>⟧.bound self.old) }
         ensures granted { ⟦<StdSource<R> as Source>⟧.bound self.new
             ≡ ⟦<StdSource<R> as Source>⟧.bound self.old - 1 }
         ensures unfailed { OnOk result (⟦<StdSource<R> as Source>⟧.has_failed self.new
