@@ -2,10 +2,11 @@
 
 ghost use Rattle.std.specs.Prelude.{◌≡◌, ◌≢◌, ◌<◌, ◌==◌, List, ℕ, [], ◌∷◌, ◌++◌, length, MatchOption, IfSome};
 ghost use Rattle.std.specs.List.{slice_split};
+ghost use Rattle.memchr.specs.Find.{IsFirstByte, is_byte};
 ghost use Rattle.typed_path.specs.components.Dialect.{is_separator};
 
 use crate::scan::separators::Separators;
-use memchr::memchr;
+use memchr::{memchr, memchr_iter};
 
 /// What stands before the first such byte, and what stands behind it.
 pub fn cut_at(byte: u8, text: &[u8]) -> Option<(&[u8], &[u8])>
@@ -20,6 +21,29 @@ pub fn cut_at(byte: u8, text: &[u8]) -> Option<(&[u8], &[u8])>
         None => None,
         Some(at) => Some((&text[..at], &text[at + 1..])),
     }
+}
+
+/// The same, where the next such byte is likely to be near: the bytes at the front are looked at
+/// before the rest is searched in wide steps.
+pub fn cut_near(byte: u8, text: &[u8]) -> Option<(&[u8], &[u8])>
+    ensures pieces { MatchOption result
+        (slice_split (λ b. b == byte) text.now ≡ text.now ∷ [])
+        (λ cut. slice_split (λ b. b == byte) text.now ≡ cut.0.now ∷ slice_split (λ b. b == byte) cut.1.now) }
+    ensures open { IfSome result (λ cut. slice_split (λ b. b == byte) cut.0.now ≡ cut.0.now ∷ []) }
+    ensures shorter { IfSome result (λ cut. length cut.1.now < length text.now) }
+{
+    match find_near(byte, text) {
+        None => None,
+        Some(at) => Some((&text[..at], &text[at + 1..])),
+    }
+}
+
+/// The first such byte of a text.
+#[inline(always)]
+fn find_near(byte: u8, text: &[u8]) -> Option<usize>
+    ensures { IsFirstByte (is_byte byte) text.now result }
+{
+    memchr_iter(byte, text).next()
 }
 
 /// What stands before the first separator, and what stands behind it.
