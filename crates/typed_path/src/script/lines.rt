@@ -25,7 +25,8 @@ pub enum Command {
 
 /// The command that a line begins with, and what stands behind its tab.
 fn command_of(line: &[u8]) -> Option<(Command, &[u8])>
-    ensures some { IfSome result (λ found. fields_of line.now ≡ command_name found.0 ∷ fields_of found.1.now) }
+    ensures some { IfSome result
+        (λ found. fields_of line.now ≡ command_name found.0 ∷ fields_of found.1.now) }
     ensures none { IfNone result (reply_fields (fields_of line.now) ≡ bad_line) }
 {
     if let Some(rest) = text_behind(b"normalize\t", line) {
@@ -69,8 +70,8 @@ fn put_command<T: Encoding>(
     scratch: &mut Vec<u8>,
     replies: &mut Vec<u8>,
 ) -> Result<(), AllocError>
-    ensures { OnOk result (replies.new.items
-        ≡ replies.old.items ++ reply_line (texts_reply T.dialect (command_name command) (fields_of texts.now))) }
+    ensures { OnOk result (replies.new.items ≡ replies.old.items
+        ++ reply_line (texts_reply T.dialect (command_name command) (fields_of texts.now))) }
 {
     let Some((base, path)) = cut_at(b'\t', texts) else {
         return put_path_reply::<T>(command, texts, replies);
@@ -110,8 +111,8 @@ fn put_join_reply<T: Encoding>(
     scratch: &mut Vec<u8>,
     replies: &mut Vec<u8>,
 ) -> Result<(), AllocError>
-    ensures { OnOk result (replies.new.items
-        ≡ replies.old.items ++ reply_line (join_reply_in T.dialect (command_name command) base.now path.now)) }
+    ensures { OnOk result (replies.new.items ≡ replies.old.items
+        ++ reply_line (join_reply_in T.dialect (command_name command) base.now path.now)) }
 {
     match command {
         Command::Join => put_joined::<T>(base, path, scratch, replies),
@@ -130,7 +131,8 @@ fn put_joined<T: Encoding>(
     scratch: &mut Vec<u8>,
     replies: &mut Vec<u8>,
 ) -> Result<(), AllocError>
-    ensures { OnOk result (replies.new.items ≡ replies.old.items ++ text_reply (push T.dialect base.now path.now)) }
+    ensures { OnOk result
+        (replies.new.items ≡ replies.old.items ++ text_reply (push T.dialect base.now path.now)) }
 {
     scratch.clear();
     scratch.extend_from_slice(base)?;
