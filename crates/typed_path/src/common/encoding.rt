@@ -103,13 +103,13 @@ pub trait Encoding: Sized {
         Self::push_over(path, path.len(), other)
     }
 
-    /// Puts the normal text of a path behind a text: what its list resolves to, pushed one by one onto
-    /// the empty path. Where memory is refused, the text is as it was.
+    /// Puts the normal text of a path behind a text: what its list resolves to, pushed one by one
+    /// onto the empty path. Where memory is refused, the text is as it was.
     fn put_normal(text: &mut Vec<u8>, path: &[u8]) -> Result<(), AllocError>
         ensures ok { OnOk result (text.new.items ≡ text.old.items ++ normal_text dialect path.now) }
         ensures err { OnErr result (text.new.items ≡ text.old.items) };
 
-    /// The normal text of a path, for which memory is asked once where it is no longer than the path.
+    /// The normal text of a path, in room for one byte more than the path has.
     fn normal(alloc: Global, path: &[u8]) -> Result<Vec<u8>, AllocError>
         ensures { IfOk result (λ text. text.items ≡ normal_text dialect path.now) }
     {

@@ -28,7 +28,8 @@ pub fn cut_at(byte: u8, text: &[u8]) -> Option<(&[u8], &[u8])>
 pub fn cut_near(byte: u8, text: &[u8]) -> Option<(&[u8], &[u8])>
     ensures pieces { MatchOption result
         (slice_split (λ b. b == byte) text.now ≡ text.now ∷ [])
-        (λ cut. slice_split (λ b. b == byte) text.now ≡ cut.0.now ∷ slice_split (λ b. b == byte) cut.1.now) }
+        (λ cut. slice_split (λ b. b == byte) text.now
+        ≡ cut.0.now ∷ slice_split (λ b. b == byte) cut.1.now) }
     ensures open { IfSome result (λ cut. slice_split (λ b. b == byte) cut.0.now ≡ cut.0.now ∷ []) }
     ensures shorter { IfSome result (λ cut. length cut.1.now < length text.now) }
 {

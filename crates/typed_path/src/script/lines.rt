@@ -70,9 +70,8 @@ fn put_command<T: Encoding>(
     scratch: &mut Vec<u8>,
     replies: &mut Vec<u8>,
 ) -> Result<(), AllocError>
-    ensures { OnOk result (replies.new.items
-        ≡ replies.old.items ++ reply_line
-        (texts_reply T.dialect (command_name command) (fields_of texts.now))) }
+    ensures { OnOk result (replies.new.items ≡ replies.old.items
+        ++ reply_line (texts_reply T.dialect (command_name command) (fields_of texts.now))) }
 {
     let Some((base, path)) = cut_at(b'\t', texts) else {
         return put_path_reply::<T>(command, texts, replies);
@@ -112,9 +111,8 @@ fn put_join_reply<T: Encoding>(
     scratch: &mut Vec<u8>,
     replies: &mut Vec<u8>,
 ) -> Result<(), AllocError>
-    ensures { OnOk result (replies.new.items
-        ≡ replies.old.items ++ reply_line
-        (join_reply_in T.dialect (command_name command) base.now path.now)) }
+    ensures { OnOk result (replies.new.items ≡ replies.old.items
+        ++ reply_line (join_reply_in T.dialect (command_name command) base.now path.now)) }
 {
     match command {
         Command::Join => put_joined::<T>(base, path, scratch, replies),
