@@ -1,7 +1,7 @@
 //! What every encoding of paths can do.
 
-ghost use Rattle.std.specs.Prelude.{◌≡◌, ◌≤◌, ◌++◌, ℕ, List, drop, take, option_map, IsSome, Some, None, IsOk, IfOk, IfSome, OnOk, OnErr};
-ghost use Rattle.std.specs.Vec.{vec_capacity};
+ghost use Rattle.std.specs.Prelude.{◌≡◌, ◌≤◌, ◌<◌, ◌+◌, ◌++◌, length, ℕ, List, drop, take, option_map, IsSome, Some, None, IsOk, IfOk, IfSome, OnOk, OnErr};
+ghost use Rattle.std.specs.Vec.{vec_len, vec_capacity};
 ghost use Rattle.typed_path.specs.changes.Checked.{refusal, error_of};
 ghost use Rattle.typed_path.specs.promises.Promises.{HasPrefixOf, LiesWithin};
 ghost use Rattle.typed_path.specs.components.Dialect.{Dialect, root_of, label_of};
@@ -104,10 +104,14 @@ pub trait Encoding: Sized {
     }
 
     /// Puts the normal text of a path behind a text: what its list resolves to, pushed one by one
-    /// onto the empty path. Where memory is refused, the text is as it was.
+    /// onto the empty path. Where memory is refused, the text is as it was. Where there is room for
+    /// the whole path and a byte more behind the text, it succeeds.
     fn put_normal(text: &mut Vec<u8>, path: &[u8]) -> Result<(), AllocError>
         ensures ok { OnOk result (text.new.items ≡ text.old.items ++ normal_text dialect path.now) }
-        ensures err { OnErr result (text.new.items ≡ text.old.items) };
+        ensures err { OnErr result (text.new.items ≡ text.old.items) }
+        ensures capacity { vec_capacity text.old ≤ vec_capacity text.new }
+        ensures succeeds { vec_len text.old + length path.now < vec_capacity text.old
+            → IsOk result };
 
     /// The normal text of a path, in room for one byte more than the path has.
     fn normal(alloc: Global, path: &[u8]) -> Result<Vec<u8>, AllocError>

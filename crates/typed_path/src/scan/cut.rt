@@ -1,6 +1,6 @@
 //! Texts cut at single bytes, at separators, and behind a beginning.
 
-ghost use Rattle.std.specs.Prelude.{◌≡◌, ◌≢◌, ◌<◌, ◌==◌, List, ℕ, [], ◌∷◌, ◌++◌, length, MatchOption, IfSome};
+ghost use Rattle.std.specs.Prelude.{◌≡◌, ◌≢◌, ◌<◌, ◌+◌, ◌==◌, List, ℕ, [], ◌∷◌, ◌++◌, length, MatchOption, IfSome};
 ghost use Rattle.std.specs.List.{slice_split};
 ghost use Rattle.memchr.specs.Find.{IsFirstByte, is_byte};
 ghost use Rattle.typed_path.specs.components.Dialect.{is_separator};
@@ -56,7 +56,7 @@ pub fn cut_at_separator(separators: Separators, text: &[u8]) -> Option<(&[u8], &
         ≡ cut.0.now ∷ slice_split (is_separator separators) cut.1.now) }
     ensures open { IfSome result
         (λ cut. slice_split (is_separator separators) cut.0.now ≡ cut.0.now ∷ []) }
-    ensures shorter { IfSome result (λ cut. length cut.1.now < length text.now) }
+    ensures sizes { IfSome result (λ cut. length text.now ≡ length cut.0.now + 1 + length cut.1.now) }
 {
     let at = separators.first_in(text);
     if at < text.len() {

@@ -1,6 +1,7 @@
 //! The normal text of a Unix path.
 
-ghost use Rattle.std.specs.Prelude.{◌≡◌, ◌<◌, ◌≤◌, ◌-◌, ◌++◌, ℕ, List, [], take, length, OnOk, OnErr};
+ghost use Rattle.std.specs.Prelude.{◌≡◌, ◌<◌, ◌≤◌, ◌-◌, ◌++◌, ℕ, List, [], take, length, ◌+◌, IsOk, OnOk, OnErr};
+ghost use Rattle.std.specs.Vec.{vec_len, vec_capacity};
 ghost use Rattle.typed_path.specs.components.Dialect.{unix};
 ghost use Rattle.typed_path.specs.places.Places.{normal_text};
 ghost use Rattle.typed_path.specs.places.Rows.{rows, settled, names_left, AreRows, IsParted};
@@ -15,6 +16,8 @@ use std::alloc::AllocError;
 pub fn put_normal(text: &mut Vec<u8>, path: &[u8]) -> Result<(), AllocError>
     ensures ok { OnOk result (text.new.items ≡ text.old.items ++ normal_text unix path.now) }
     ensures err { OnErr result (text.new.items ≡ text.old.items) }
+    ensures capacity { vec_capacity text.old ≤ vec_capacity text.new }
+    ensures succeeds { vec_len text.old + length path.now < vec_capacity text.old → IsOk result }
 {
     let len = text.len();
     let (root, rest) = split_root(path);
@@ -40,6 +43,7 @@ fn split_root(path: &[u8]) -> (&[u8], &[u8])
 
 /// Takes the separator behind the last name off, where a name stands behind the first bytes.
 fn drop_separator(text: &mut Vec<u8>, len: usize)
+    ensures capacity { vec_capacity text.new ≡ vec_capacity text.old }
     ensures named { len < length text.old.items
         → text.new.items ≡ take (length text.old.items - 1) text.old.items }
     ensures alone { length text.old.items ≤ len → text.new.items ≡ text.old.items }
@@ -56,6 +60,8 @@ fn settle_all(text: &mut Vec<u8>, len: usize, path: &[u8]) -> Result<(), AllocEr
         → text.new.items ≡ head ++ rows (names_left path.now)) }
     ensures kept { take len text.new.items ≡ take len text.old.items }
     ensures long { len ≤ length text.new.items }
+    ensures capacity { vec_capacity text.old ≤ vec_capacity text.new }
+    ensures succeeds { vec_len text.old + length path.now < vec_capacity text.old → IsOk result }
 {
     let mut rest = path;
     'segments: while let Some((segment, behind)) = cut_at_separator(Separators::Slash, rest) {
@@ -73,6 +79,9 @@ fn settle(text: &mut Vec<u8>, len: usize, segment: &[u8]) -> Result<(), AllocErr
         → text.new.items ≡ head ++ rows (settled names segment.now)) }
     ensures kept { take len text.new.items ≡ take len text.old.items }
     ensures long { len ≤ length text.new.items }
+    ensures room { vec_len text.new ≤ vec_len text.old + length segment.now + 1 }
+    ensures capacity { vec_capacity text.old ≤ vec_capacity text.new }
+    ensures succeeds { vec_len text.old + length segment.now < vec_capacity text.old → IsOk result }
 {
     match piece_of(segment, Separators::Slash).kind {
         PieceKind::ParentDir => drop_name(text, len),
@@ -93,6 +102,8 @@ fn drop_name(text: &mut Vec<u8>, len: usize)
         → text.new.items ≡ head ++ rows (take (length names - 1) names) }
     ensures kept { take len text.new.items ≡ take len text.old.items }
     ensures long { len ≤ length text.new.items }
+    ensures room { vec_len text.new ≤ vec_len text.old }
+    ensures capacity { vec_capacity text.new ≡ vec_capacity text.old }
 {
     if len < text.len() {
         let start = Separators::Slash.last_in(&text[len..text.len() - 1]);

@@ -1,10 +1,10 @@
-use Rattle.std.proofs.Common.{OnOk, refl, ◌∙◌}
+use Rattle.std.proofs.Common.{OnOk, arith, refl, ◌∙◌}
 use Rattle.std.specs.Prelude.{Result, Ok, Err}
 use Rattle.typed_path.proofs.lemmas.places.RowSteps.{standing-start, standing-step, standing-end}
 use Rattle.typed_path.proofs.unix.normal.settle_all.Goals as goal
 
 pub segments-init : goal.segments-init
-segments-init c = record { standing = λ head size are. standing-start _ head c.args.path.now are; kept = refl; long = c.requires }
+segments-init c = record { standing = λ head size are. standing-start _ head c.args.path.now are; kept = refl; long = c.requires; capacity = omega arith; room = λ fits. fits }
 
 pub segments-preserved : goal.segments-preserved
 segments-preserved c = record {
@@ -13,6 +13,8 @@ segments-preserved c = record {
       (λ names. c.in_ok-settle.ensures.ok head names size) (c.segments.invariant.standing head size are);
   kept = c.settle.ensures.kept ∙ c.segments.invariant.kept;
   long = c.settle.ensures.long;
+  capacity = omega (arith, c.segments.invariant.capacity, c.settle.ensures.capacity);
+  room = λ fits. omega (arith, c.segments.invariant.room fits, c.settle.ensures.room, c.settle.ensures.capacity, c.in-Some.ensures.sizes);
 }
 
 -- what holds on success of one thing holds of what follows from it
