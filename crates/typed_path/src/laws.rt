@@ -26,7 +26,10 @@ use crate::constants::unix::{
 };
 use crate::unix::UnixComponent;
 use std::hash::Hash;
-pub use windows::windows_constants_are_these;
+pub use windows::{
+    windows_components_compare_by_kind, windows_constants_are_these,
+    windows_prefix_components_compare_by_kind, windows_prefixes_compare_by_kind,
+};
 
 /// A normal text of Unix reads as what the list of its path resolves to.
 pub fn normal_reads_as_resolved(path: &[u8])

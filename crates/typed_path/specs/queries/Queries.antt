@@ -4,7 +4,7 @@ use Rattle.std.specs.List.{list_any, list_all, starts_with, ends_with}
 use Rattle.std.specs.Option.{option_map}
 use Rattle.std.specs.Str.{bytes_eq}
 use Rattle.typed_path.specs.components.Dialect.{Dialect, unix, windows, slash, backslash, colon, question}
-use Rattle.typed_path.specs.components.Part.{Prefix, verbatim, verbatim_unc, verbatim_disk, device_ns, unc, disk, Kind, prefix, root, normal, texts}
+use Rattle.typed_path.specs.components.Part.{Prefix, verbatim, verbatim_unc, verbatim_disk, device_ns, unc, disk, Kind, prefix, root, normal, Part, texts}
 use Rattle.typed_path.specs.components.Prefix.{is_empty}
 use Rattle.typed_path.specs.components.Comps.{comps, parts_of}
 use Rattle.typed_path.specs.readings.Left.{left, last_of}
@@ -67,6 +67,19 @@ has_implicit_root = begins_with_prefix (λ p. not (is_disk p))
 abbrev pub has_physical_root : List Kind → Bool
 has_physical_root (prefix p ∷ ks) = begins_with_root ks
 has_physical_root ks = begins_with_root ks
+
+-- the prefix that a single component is
+abbrev pub is_prefix : Kind → Bool
+is_prefix (prefix p) = true
+is_prefix k = false
+
+abbrev pub prefix_in : Kind → Option Prefix
+prefix_in (prefix p) = Some p
+prefix_in k = None
+
+-- a component, where it is a prefix
+abbrev pub prefix_part_in : Part → Option Part
+prefix_part_in p = if is_prefix p.kind then Some p else None
 
 -- a prefix of one kind alone
 abbrev pub has_verbatim_prefix : List Kind → Bool
