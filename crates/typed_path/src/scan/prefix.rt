@@ -10,8 +10,8 @@ use crate::scan::separators::Separators;
 
 /// What a Windows path may begin with, before its root.
 ///
-/// The names are slices of the path's text; a drive letter is raised to ASCII upper case. The order is
-/// that of the kinds below, and then that of the names and letters.
+/// The names are slices of the path's text; a drive letter is raised to ASCII upper case. The order
+/// is that of the kinds below, and then that of the names and letters.
 #[derive(Clone, Copy, Debug, PartialEq, Eq, PartialOrd, Ord, Hash)]
 pub enum WindowsPrefix<'a> {
     /// `\\?\name`

@@ -7,8 +7,8 @@ use crate::windows::prefix::WindowsPrefixComponent;
 
 /// A component of a Windows path.
 ///
-/// The order is prefixes by kind, the root, the current directory, the parent directory, and names by
-/// their bytes.
+/// The order is prefixes by kind, the root, the current directory, the parent directory, and names
+/// by their bytes.
 #[derive(Clone, Copy, Debug, PartialEq, Eq, PartialOrd, Ord, Hash)]
 pub enum WindowsComponent<'a> {
     /// The prefix, as `C:` or `\\server\share`.
@@ -46,7 +46,8 @@ impl<'a> WindowsComponent<'a> {
 
     /// The prefix with its text, where the component is one.
     pub fn prefix(self) -> Option<WindowsPrefixComponent<'a>>
-        ensures { option_map prefix_component_part result ≡ prefix_part_in (windows_part self.entry) }
+        ensures { option_map prefix_component_part result
+            ≡ prefix_part_in (windows_part self.entry) }
     {
         match self {
             WindowsComponent::Prefix(component) => Some(component),
