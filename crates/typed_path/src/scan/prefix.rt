@@ -81,10 +81,13 @@ fn after_mark(sign: u8, text: &[u8]) -> Option<&[u8]>
     ensures rest { option_copied result ≡ after_mark sign text.now }
     ensures length { IfSome result (λ rest. length rest.now + 4 ≡ length text.now) }
 {
-    match text {
-        [a, b, c, d, rest @ ..] if separates(*a) && separates(*b) && *c == sign && separates(*d) =>
-            { Some(rest) }
-        _ => None,
+    let [a, b, c, d, rest @ ..] = text else {
+        return None;
+    };
+    if separates(*a) && separates(*b) && *c == sign && separates(*d) {
+        Some(rest)
+    } else {
+        None
     }
 }
 
