@@ -18,12 +18,18 @@ ghost use Rattle.typed_path.specs.views.UnixViews.{unix_part};
 ghost use Rattle.typed_path.specs.order.Words.{unix_words};
 ghost use Rattle.typed_path.specs.promises.Promises.{ReadsAsResolved, StaysNormal, IsCanonical, HashAlike};
 
+mod windows;
+
 use crate::constants::unix::{
     CURRENT_DIR, CURRENT_DIR_STR, DISALLOWED_FILENAME_BYTES, DISALLOWED_FILENAME_CHARS, PARENT_DIR,
     PARENT_DIR_STR, SEPARATOR, SEPARATOR_STR,
 };
 use crate::unix::UnixComponent;
 use std::hash::Hash;
+pub use windows::{
+    windows_components_compare_by_kind, windows_constants_are_these,
+    windows_prefix_components_compare_by_kind, windows_prefixes_compare_by_kind,
+};
 
 /// A normal text of Unix reads as what the list of its path resolves to.
 pub fn normal_reads_as_resolved(path: &[u8])
