@@ -56,7 +56,8 @@ pub fn cut_at_separator(separators: Separators, text: &[u8]) -> Option<(&[u8], &
         ≡ cut.0.now ∷ slice_split (is_separator separators) cut.1.now) }
     ensures open { IfSome result
         (λ cut. slice_split (is_separator separators) cut.0.now ≡ cut.0.now ∷ []) }
-    ensures sizes { IfSome result (λ cut. length text.now ≡ length cut.0.now + 1 + length cut.1.now) }
+    ensures sizes { IfSome result
+        (λ cut. length text.now ≡ length cut.0.now + 1 + length cut.1.now) }
 {
     let at = separators.first_in(text);
     if at < text.len() {
