@@ -2,6 +2,7 @@
 
 mod base;
 mod begin;
+mod body;
 mod cursor;
 mod cut;
 mod depth;
@@ -16,6 +17,6 @@ pub use begin::Begin;
 pub use cursor::Cursor;
 pub use cut::cut_at;
 pub use piece::{Piece, PieceKind};
-pub use prefix::WindowsPrefix;
+pub use prefix::{Found, WindowsPrefix};
 pub use separators::Separators;
 pub use step::piece_of;

@@ -18,3 +18,12 @@ pub enum WindowsPrefix<'a> {
     /// `C:`
     Disk(u8),
 }
+
+/// A prefix that a text begins with, and how many bytes of the text it takes.
+#[derive(Clone, Copy, Debug)]
+pub struct Found<'a> {
+    /// What it is.
+    pub kind: WindowsPrefix<'a>,
+    /// How long its raw text is.
+    pub length: usize,
+}
