@@ -3,6 +3,7 @@ pub mod Words
 pub mod UnixComponents
 pub mod UnixPaths
 pub mod WindowsPrefixes
+pub mod SinglePrefixes
 pub mod Cuts
 pub mod WindowsComponents
 pub mod WindowsPaths

@@ -1,5 +1,5 @@
 -- Lines of commands, and streams.
 pub mod Lines
-pub mod Fields
+pub mod Commands
 pub mod Streams
 pub mod Status

@@ -6,5 +6,6 @@ pub mod PathViews
 pub mod ReversedViews
 pub mod UnixViews
 pub mod UnixIterViews
+pub mod WindowsViews
 pub mod OwnedViews
 pub mod RunViews

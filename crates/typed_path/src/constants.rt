@@ -1,4 +1,4 @@
 //! The constants of both encodings.
 
 pub mod unix;
-pub(crate) mod windows;
+pub mod windows;

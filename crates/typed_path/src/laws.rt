@@ -18,12 +18,18 @@ ghost use Rattle.typed_path.specs.views.UnixViews.{unix_part};
 ghost use Rattle.typed_path.specs.order.Words.{unix_words};
 ghost use Rattle.typed_path.specs.promises.Promises.{ReadsAsResolved, StaysNormal, IsCanonical, HashAlike};
 
+mod windows;
+
 use crate::constants::unix::{
     CURRENT_DIR, CURRENT_DIR_STR, DISALLOWED_FILENAME_BYTES, DISALLOWED_FILENAME_CHARS, PARENT_DIR,
     PARENT_DIR_STR, SEPARATOR, SEPARATOR_STR,
 };
 use crate::unix::UnixComponent;
 use std::hash::Hash;
+pub use windows::{
+    windows_components_compare_by_kind, windows_constants_are_these,
+    windows_prefix_components_compare_by_kind, windows_prefixes_compare_by_kind,
+};
 
 /// A normal text of Unix reads as what the list of its path resolves to.
 pub fn normal_reads_as_resolved(path: &[u8])
@@ -102,7 +108,8 @@ pub fn components_stand_in_order(path: &[u8])
 /// slice, also where some components were taken before; once all are taken, nothing is left.
 pub fn steps_agree_with_counts(path: &[u8])
     ghost d: { Dialect }
-    ensures answers { (cs : List Placed) (sides : List Side) → answers_after cs sides ≡ reads cs sides }
+    ensures answers { (cs : List Placed) (sides : List Side) → answers_after cs sides
+        ≡ reads cs sides }
     ensures items { (cs : List Placed) (sides : List Side)
         → items_after cs sides ≡ items_between cs (fronts sides) (backs sides) }
     ensures slice { (sides : List Side) → fronts sides + backs sides ≤ length (comps d path.now)
@@ -110,7 +117,8 @@ pub fn steps_agree_with_counts(path: &[u8])
         ≡ left (comps d path.now) path.now (fronts sides) (backs sides) }
     ensures half_read { (i j : ℕ) (sides : List Side)
         → i + fronts sides + (j + backs sides) ≤ length (comps d path.now)
-        → slice_after (items_between (comps d path.now) i j) (left (comps d path.now) path.now i j) sides
+        → slice_after (items_between (comps d path.now) i j)
+        (left (comps d path.now) path.now i j) sides
         ≡ left (comps d path.now) path.now (i + fronts sides) (j + backs sides) }
     ensures no_items { (cs : List Placed) (sides : List Side)
         → length cs ≤ fronts sides + backs sides → items_after cs sides ≡ [] }

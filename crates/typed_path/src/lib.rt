@@ -21,4 +21,4 @@ pub use script::{
 };
 pub use std::borrow::CowStr;
 pub use unix::{UnixComponent, UnixComponents, UnixEncoding, UnixPath, UnixPathBuf};
-pub use windows::WindowsPrefix;
+pub use windows::{WindowsComponent, WindowsPrefix, WindowsPrefixComponent};

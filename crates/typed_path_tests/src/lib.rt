@@ -11,4 +11,6 @@ mod owned;
 #[cfg(test)]
 mod paths;
 #[cfg(test)]
+mod prefixes;
+#[cfg(test)]
 mod streams;

@@ -12,7 +12,8 @@ use typed_path::{PathError, UnixPath, UnixPathBuf};
 /// Where an entry is unpacked: at the place of the base, and then at the names that the entry's own
 /// name leads to. A name that would lead out of the base is refused by name.
 pub fn target(alloc: Global, base: UnixPath<'_>, name: &[u8]) -> Result<UnixPathBuf, PathError>
-    ensures { IfOk result (λ p. place unix p.bytes ≡ place_within (path_bytes base.entry) name.now) }
+    ensures { IfOk result
+        (λ p. place unix p.bytes ≡ place_within (path_bytes base.entry) name.now) }
 {
     base.join_checked(alloc, UnixPath::new(name))
 }
@@ -23,7 +24,8 @@ pub fn targets(
     base: UnixPath<'_>,
     names: &[&[u8]],
 ) -> Result<Vec<UnixPathBuf>, PathError>
-    ensures { IfOk result (λ ps. places ps.items ≡ places_within (path_bytes base.entry) names.now) }
+    ensures { IfOk result
+        (λ ps. places ps.items ≡ places_within (path_bytes base.entry) names.now) }
 {
     let mut targets = Vec::with_capacity(alloc, names.len())?;
     'names: for name in names {

@@ -1,4 +1,5 @@
 -- Lines of commands, and streams.
 pub mod LineLemmas
 pub mod FieldLemmas
+pub mod CommandLemmas
 pub mod StreamLemmas

@@ -1,5 +1,6 @@
 -- Lists in general.
 pub mod SplitLemmas
 pub mod CutLemmas
+pub mod FoundLemmas
 pub mod LastLemmas
 pub mod WidthLemmas

@@ -1,7 +1,7 @@
 -- What a single component feeds to a hasher.
 use Rattle.std.specs.Prelude.{[], ◌++◌, pos}
 use Rattle.std.specs.Hash.{HashWrites, isize, slice, u8}
-use Rattle.typed_path.specs.components.Part.{Kind, prefix, root, current, parent, normal}
+use Rattle.typed_path.specs.components.Part.{Prefix, verbatim, verbatim_unc, verbatim_disk, device_ns, unc, disk, Kind, prefix, root, current, parent, normal}
 
 -- a component of Unix: the place of its kind among those of Unix, and the name
 abbrev pub unix_words : Kind → HashWrites
@@ -10,3 +10,20 @@ unix_words root = isize (pos 0)
 unix_words current = isize (pos 1)
 unix_words parent = isize (pos 2)
 unix_words (normal name) = isize (pos 3) ++ slice u8 name
+
+-- a prefix: the place of its kind among the prefixes, and its names or its letter
+abbrev pub prefix_words : Prefix → HashWrites
+prefix_words (verbatim name) = isize (pos 0) ++ slice u8 name
+prefix_words (verbatim_unc server share) = isize (pos 1) ++ (slice u8 server ++ slice u8 share)
+prefix_words (verbatim_disk letter) = isize (pos 2) ++ u8 letter
+prefix_words (device_ns name) = isize (pos 3) ++ slice u8 name
+prefix_words (unc server share) = isize (pos 4) ++ (slice u8 server ++ slice u8 share)
+prefix_words (disk letter) = isize (pos 5) ++ u8 letter
+
+-- a component of Windows: the place of its kind among those of Windows, and the prefix or the name
+abbrev pub windows_words : Kind → HashWrites
+windows_words (prefix p) = isize (pos 0) ++ prefix_words p
+windows_words root = isize (pos 1)
+windows_words current = isize (pos 2)
+windows_words parent = isize (pos 3)
+windows_words (normal name) = isize (pos 4) ++ slice u8 name

@@ -1,4 +1,4 @@
--- The normal text of Unix as it is written: a root or nothing, and then each name with a separator behind it.
+-- The normal text of Unix as it is written behind a text: a root or nothing, and then each name with a separator behind it.
 use Rattle.std.specs.Prelude.{◌≡◌, ◌⊎◌, ℕ, ◌-◌, List, [], ◌∷◌, ◌++◌, false, ◌||◌, ◌==◌, length, take, if◌then◌else◌}
 use Rattle.std.specs.List.{flat_map, fold, slice_split, All, AllByRecursion}
 use Rattle.typed_path.specs.declared.scan.separators.Separators.TheVariants.{Slash}
@@ -17,9 +17,8 @@ abbrev pub IsParted : List ℕ → List ℕ → List ℕ → Type 0
 IsParted path head rest =
     ((head ≡ slash ∷ []) × (path ≡ slash ∷ rest)) ⊎ ((head ≡ []) × (rest ≡ path) × ((others : List ℕ) → path ≡ slash ∷ others → ⊥))
 
--- a text of rows, in whose names no separator stands
+-- a text of rows behind a head, in whose names no separator stands
 pub record AreRows (text head : List ℕ) (names : List (List ℕ)) : Type 0 where
-  pub is_head : IsHead head
   pub unseparated : AllByRecursion (λ name. All (λ b. is_separator Slash b ≡ false) name) names
   pub is : text ≡ head ++ rows names
 

@@ -1,10 +1,10 @@
 -- What a path answers, read off its component list.
-use Rattle.std.specs.Prelude.{ℕ, ◌==◌, List, ◌∷◌, Bool, true, false, not, ◌||◌, length, if◌then◌else◌, Option, Some, None, option_and_then}
+use Rattle.std.specs.Prelude.{ℕ, ◌+◌, ◌==◌, List, [], ◌∷◌, codes, Bool, true, false, not, ◌||◌, length, if◌then◌else◌, Option, Some, None, option_and_then}
 use Rattle.std.specs.List.{list_any, list_all, starts_with, ends_with}
 use Rattle.std.specs.Option.{option_map}
 use Rattle.std.specs.Str.{bytes_eq}
 use Rattle.typed_path.specs.components.Dialect.{Dialect, unix, windows, slash, backslash, colon, question}
-use Rattle.typed_path.specs.components.Part.{Prefix, verbatim, verbatim_unc, verbatim_disk, unc, disk, Kind, prefix, root, normal, texts}
+use Rattle.typed_path.specs.components.Part.{Prefix, verbatim, verbatim_unc, verbatim_disk, device_ns, unc, disk, Kind, prefix, root, normal, Part, texts}
 use Rattle.typed_path.specs.components.Prefix.{is_empty}
 use Rattle.typed_path.specs.components.Comps.{comps, parts_of}
 use Rattle.typed_path.specs.readings.Left.{left, last_of}
@@ -68,6 +68,57 @@ abbrev pub has_physical_root : List Kind → Bool
 has_physical_root (prefix p ∷ ks) = begins_with_root ks
 has_physical_root ks = begins_with_root ks
 
+-- the prefix that a single component is
+abbrev pub is_prefix : Kind → Bool
+is_prefix (prefix p) = true
+is_prefix k = false
+
+abbrev pub prefix_in : Kind → Option Prefix
+prefix_in (prefix p) = Some p
+prefix_in k = None
+
+-- a component, where it is a prefix
+abbrev pub prefix_part_in : Part → Option Part
+prefix_part_in p = if is_prefix p.kind then Some p else None
+
+-- a prefix of one kind alone
+abbrev pub has_verbatim_prefix : List Kind → Bool
+has_verbatim_prefix (prefix (verbatim name) ∷ ks) = true
+has_verbatim_prefix ks = false
+
+abbrev pub has_verbatim_unc_prefix : List Kind → Bool
+has_verbatim_unc_prefix (prefix (verbatim_unc server share) ∷ ks) = true
+has_verbatim_unc_prefix ks = false
+
+abbrev pub has_verbatim_disk_prefix : List Kind → Bool
+has_verbatim_disk_prefix (prefix (verbatim_disk letter) ∷ ks) = true
+has_verbatim_disk_prefix ks = false
+
+abbrev pub has_device_ns_prefix : List Kind → Bool
+has_device_ns_prefix (prefix (device_ns name) ∷ ks) = true
+has_device_ns_prefix ks = false
+
+abbrev pub has_unc_prefix : List Kind → Bool
+has_unc_prefix (prefix (unc server share) ∷ ks) = true
+has_unc_prefix ks = false
+
+abbrev pub has_disk_prefix : List Kind → Bool
+has_disk_prefix (prefix (disk letter) ∷ ks) = true
+has_disk_prefix ks = false
+
+-- how many bytes a share adds to its server
+abbrev pub share_length : List ℕ → ℕ
+share_length share = if is_empty share then 0 else 1 + length share
+
+-- how many bytes a prefix has: the mark and the names, and a separator before a share that is not empty
+abbrev pub prefix_length : Prefix → ℕ
+prefix_length (verbatim name) = 4 + length name
+prefix_length (verbatim_unc server share) = 8 + length server + share_length share
+prefix_length (verbatim_disk letter) = 6
+prefix_length (device_ns name) = 4 + length name
+prefix_length (unc server share) = 2 + length server + share_length share
+prefix_length (disk letter) = 2
+
 -- a component behind which nothing is above it: the root, and every prefix but a drive
 abbrev pub is_root : Kind → Bool
 is_root root = true
@@ -85,6 +136,15 @@ abbrev pub is_disallowed : Dialect → ℕ → Bool
 is_disallowed unix b = b == slash || b == 0
 is_disallowed windows b =
     b == backslash || b == slash || b == colon || b == question || b == 42 || b == 34 || b == 62 || b == 60 || b == 124 || b == 0
+
+-- the names that stand for devices
+abbrev pub reserved_names : List (List ℕ)
+reserved_names =
+    codes "CON" ∷ codes "PRN" ∷ codes "AUX" ∷ codes "NUL"
+    ∷ codes "COM1" ∷ codes "COM2" ∷ codes "COM3" ∷ codes "COM4" ∷ codes "COM5"
+    ∷ codes "COM6" ∷ codes "COM7" ∷ codes "COM8" ∷ codes "COM9" ∷ codes "COM0"
+    ∷ codes "LPT1" ∷ codes "LPT2" ∷ codes "LPT3" ∷ codes "LPT4" ∷ codes "LPT5"
+    ∷ codes "LPT6" ∷ codes "LPT7" ∷ codes "LPT8" ∷ codes "LPT9" ∷ codes "LPT0" ∷ []
 
 abbrev pub has_allowed_bytes : Dialect → List ℕ → Bool
 has_allowed_bytes d name = not (list_any (is_disallowed d) name)

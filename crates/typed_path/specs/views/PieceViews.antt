@@ -2,11 +2,13 @@
 use Rattle.std.specs.Prelude.{ℕ, List}
 use Rattle.typed_path.specs.declared.scan.prefix.WindowsPrefix.{WindowsPrefix}
 use Rattle.typed_path.specs.declared.scan.prefix.WindowsPrefix.TheVariants.{Verbatim, VerbatimUNC, VerbatimDisk, DeviceNS, UNC, Disk}
+use Rattle.typed_path.specs.declared.scan.prefix.Found.{Found}
 use Rattle.typed_path.specs.declared.scan.piece.Piece.{Piece}
 use Rattle.typed_path.specs.declared.scan.piece.PieceKind.{PieceKind}
 use Rattle.typed_path.specs.declared.scan.piece.PieceKind.TheVariants.{Prefix, RootDir, CurDir, ParentDir, Normal}
 use Rattle.typed_path.specs.components.Part.{verbatim, verbatim_unc, verbatim_disk, device_ns, unc, disk, Kind, prefix, root, current, parent, normal, Part}
 use Rattle.typed_path.specs.components.Part as part
+use Rattle.typed_path.specs.components.Prefix as definitions
 
 abbrev pub prefix_view : WindowsPrefix → part.Prefix
 prefix_view (Verbatim name) = verbatim name.now
@@ -15,6 +17,10 @@ prefix_view (VerbatimDisk letter) = verbatim_disk letter
 prefix_view (DeviceNS name) = device_ns name.now
 prefix_view (UNC server share) = unc server.now share.now
 prefix_view (Disk letter) = disk letter
+
+-- the prefix that was found, and how many bytes its raw text has
+abbrev pub found_of : Found → definitions.Found
+found_of f = record { prefix = prefix_view f.kind; length = f.length }
 
 abbrev pub kind_view : PieceKind → List ℕ → Kind
 kind_view (Prefix p) text = prefix (prefix_view p)

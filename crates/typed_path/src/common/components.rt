@@ -41,7 +41,8 @@ impl<'a, T: Encoding> Components<'a, T> {
     pub fn next(&mut self) -> Option<Piece<'a>>
         ensures taken { option_map part_of result ≡ first_part (components_items self.old) }
         ensures items { components_items self.new ≡ drop 1 (components_items self.old) }
-        ensures slice { components_slice self.new ≡ slice_after_front (components_items self.old) (components_slice self.old) }
+        ensures slice { components_slice self.new
+            ≡ slice_after_front (components_items self.old) (components_slice self.old) }
     {
         T::front(&mut self.cursor)
     }
@@ -51,7 +52,8 @@ impl<'a, T: Encoding> Components<'a, T> {
     pub fn next_back(&mut self) -> Option<Piece<'a>>
         ensures taken { option_map part_of result ≡ last_part (components_items self.old) }
         ensures items { components_items self.new ≡ but_last (components_items self.old) }
-        ensures slice { components_slice self.new ≡ slice_after_back (components_items self.old) (components_slice self.old) }
+        ensures slice { components_slice self.new
+            ≡ slice_after_back (components_items self.old) (components_slice self.old) }
     {
         T::back(&mut self.cursor)
     }
@@ -78,7 +80,8 @@ impl<'a, T: Encoding> Components<'a, T> {
     /// Where the last component that is left ends in the text.
     #[inline(always)]
     pub(crate) fn last_end(self) -> usize
-        ensures { (last : Placed) → last_of (components_items self.entry) ≡ Some last → result ≡ end_of last }
+        ensures { (last : Placed) → last_of (components_items self.entry) ≡ Some last → result
+            ≡ end_of last }
     {
         self.cursor.last_end()
     }

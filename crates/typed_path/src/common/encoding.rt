@@ -1,7 +1,7 @@
 //! What every encoding of paths can do.
 
-ghost use Rattle.std.specs.Prelude.{◌≡◌, ◌≤◌, ℕ, List, drop, take, option_map, IsSome, Some, None, IsOk, IfOk, IfSome, OnOk, OnErr};
-ghost use Rattle.std.specs.Vec.{vec_capacity};
+ghost use Rattle.std.specs.Prelude.{◌≡◌, ◌≤◌, ◌<◌, ◌+◌, ◌++◌, length, ℕ, List, drop, take, option_map, IsSome, Some, None, IsOk, IfOk, IfSome, OnOk, OnErr};
+ghost use Rattle.std.specs.Vec.{vec_len, vec_capacity};
 ghost use Rattle.typed_path.specs.changes.Checked.{refusal, error_of};
 ghost use Rattle.typed_path.specs.promises.Promises.{HasPrefixOf, LiesWithin};
 ghost use Rattle.typed_path.specs.components.Dialect.{Dialect, root_of, label_of};
@@ -44,7 +44,8 @@ pub trait Encoding: Sized {
     fn front<'a>(cursor: &mut Cursor<'a>) -> Option<Piece<'a>>
         ensures taken { option_map part_of result ≡ first_part (items_left cursor.old) }
         ensures items { items_left cursor.new ≡ drop 1 (items_left cursor.old) }
-        ensures slice { slice_left cursor.new ≡ slice_after_front (items_left cursor.old) (slice_left cursor.old) }
+        ensures slice { slice_left cursor.new
+            ≡ slice_after_front (items_left cursor.old) (slice_left cursor.old) }
     {
         cursor.front()
     }
@@ -53,7 +54,8 @@ pub trait Encoding: Sized {
     fn back<'a>(cursor: &mut Cursor<'a>) -> Option<Piece<'a>>
         ensures taken { option_map part_of result ≡ last_part (items_left cursor.old) }
         ensures items { items_left cursor.new ≡ but_last (items_left cursor.old) }
-        ensures slice { slice_left cursor.new ≡ slice_after_back (items_left cursor.old) (slice_left cursor.old) }
+        ensures slice { slice_left cursor.new
+            ≡ slice_after_back (items_left cursor.old) (slice_left cursor.old) }
     {
         cursor.back()
     }
@@ -85,42 +87,64 @@ pub trait Encoding: Sized {
             (path.new.items ≡ push_spec.push dialect (take kept path.old.items) other.now) }
         ensures err { OnErr result (path.new.items ≡ path.old.items) }
         ensures capacity { vec_capacity path.old ≤ vec_capacity path.new }
-        ensures succeeds { FitsPush dialect (vec_capacity path.old) (take kept path.old.items) other.now
+        ensures succeeds { FitsPush dialect (vec_capacity path.old)
+            (take kept path.old.items) other.now
             → IsOk result };
 
     /// Pushes a path onto another. Where memory is refused, the other is as it was.
     fn push(path: &mut Vec<u8>, other: &[u8]) -> Result<(), AllocError>
-        ensures ok { OnOk result (path.new.items ≡ push_spec.push dialect path.old.items other.now) }
+        ensures ok { OnOk result
+            (path.new.items ≡ push_spec.push dialect path.old.items other.now) }
         ensures err { OnErr result (path.new.items ≡ path.old.items) }
         ensures capacity { vec_capacity path.old ≤ vec_capacity path.new }
-        ensures succeeds { FitsPush dialect (vec_capacity path.old) path.old.items other.now → IsOk result }
+        ensures succeeds { FitsPush dialect (vec_capacity path.old) path.old.items other.now
+            → IsOk result }
     {
         Self::push_over(path, path.len(), other)
     }
 
-    /// The normal text of a path: what its list resolves to, pushed one by one onto the empty path.
+    /// Puts the normal text of a path behind a text: what its list resolves to, pushed one by one
+    /// onto the empty path. Where memory is refused, the text is as it was. Where there is room for
+    /// the whole path and a byte more behind the text, it succeeds.
+    fn put_normal(text: &mut Vec<u8>, path: &[u8]) -> Result<(), AllocError>
+        ensures ok { OnOk result (text.new.items ≡ text.old.items ++ normal_text dialect path.now) }
+        ensures err { OnErr result (text.new.items ≡ text.old.items) }
+        ensures capacity { vec_capacity text.old ≤ vec_capacity text.new }
+        ensures succeeds { vec_len text.old + length path.now < vec_capacity text.old
+            → IsOk result };
+
+    /// The normal text of a path, in room for one byte more than the path has.
     fn normal(alloc: Global, path: &[u8]) -> Result<Vec<u8>, AllocError>
-        ensures { IfOk result (λ text. text.items ≡ normal_text dialect path.now) };
+        ensures { IfOk result (λ text. text.items ≡ normal_text dialect path.now) }
+    {
+        let mut text = Vec::with_capacity(alloc, path.len() + 1)?;
+        Self::put_normal(&mut text, path)?;
+        Ok(text)
+    }
 
     /// Judges a path that is to be pushed, on its own: it is refused for its first component that
     /// offends. Pushed onto any base, a path that is not refused lies within that base.
     fn check(path: &[u8]) -> Result<(), CheckedPathError>
         ensures refused { error_of result ≡ fault dialect path.now }
-        ensures prefix { OnOk result ((base : List ℕ) → HasPrefixOf dialect base (push_spec.push dialect base path.now)) }
-        ensures contained { OnOk result ((base : List ℕ) → LiesWithin dialect base path.now (push_spec.push dialect base path.now)) };
+        ensures prefix { OnOk result
+            ((base : List ℕ) → HasPrefixOf dialect base (push_spec.push dialect base path.now)) }
+        ensures contained { OnOk result ((base : List ℕ)
+            → LiesWithin dialect base path.now (push_spec.push dialect base path.now)) };
 
     /// Pushes a path onto another, unless the path has a component that offends. Then, and where
     /// memory is refused, the other is as it was.
     fn push_checked(path: &mut Vec<u8>, other: &[u8]) -> Result<(), PathError>
         ensures refused { refusal result ≡ fault dialect other.now }
-        ensures ok { OnOk result (path.new.items ≡ push_spec.push dialect path.old.items other.now) }
+        ensures ok { OnOk result
+            (path.new.items ≡ push_spec.push dialect path.old.items other.now) }
         ensures err { OnErr result (path.new.items ≡ path.old.items) }
         ensures unchanged { IsSome (refusal result) → path.new ≡ path.old }
         ensures capacity { vec_capacity path.old ≤ vec_capacity path.new }
         ensures succeeds { fault dialect other.now ≡ None
             → FitsPush dialect (vec_capacity path.old) path.old.items other.now → IsOk result }
         ensures prefix { OnOk result (HasPrefixOf dialect path.old.items path.new.items) }
-        ensures contained { OnOk result (LiesWithin dialect path.old.items other.now path.new.items) }
+        ensures contained { OnOk result
+            (LiesWithin dialect path.old.items other.now path.new.items) }
     {
         Self::check(other)?;
         Ok(Self::push(path, other)?)

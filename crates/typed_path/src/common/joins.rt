@@ -26,7 +26,8 @@ impl<'a, T: Encoding> Path<'a, T> {
     /// The path with another pushed onto it: an absolute one stands in its place, and with an empty
     /// one it is a copy.
     pub fn join(self, alloc: Global, path: Path<'_, T>) -> Result<PathBuf<T>, AllocError>
-        ensures { IfOk result (λ p. p.bytes ≡ push_spec.push T.dialect (path_bytes self.entry) (path_bytes path.entry)) }
+        ensures { IfOk result (λ p. p.bytes
+            ≡ push_spec.push T.dialect (path_bytes self.entry) (path_bytes path.entry)) }
     {
         let base = self.as_bytes();
         let other = path.as_bytes();
@@ -44,9 +45,11 @@ impl<'a, T: Encoding> Path<'a, T> {
     /// refused costs no memory.
     pub fn join_checked(self, alloc: Global, path: Path<'_, T>) -> Result<PathBuf<T>, PathError>
         ensures refused { refusal result ≡ fault T.dialect (path_bytes path.entry) }
-        ensures joined { IfOk result (λ p. p.bytes ≡ push_spec.push T.dialect (path_bytes self.entry) (path_bytes path.entry)) }
+        ensures joined { IfOk result (λ p. p.bytes
+            ≡ push_spec.push T.dialect (path_bytes self.entry) (path_bytes path.entry)) }
         ensures prefix { IfOk result (λ p. HasPrefixOf T.dialect (path_bytes self.entry) p.bytes) }
-        ensures contained { IfOk result (λ p. LiesWithin T.dialect (path_bytes self.entry) (path_bytes path.entry) p.bytes) }
+        ensures contained { IfOk result
+            (λ p. LiesWithin T.dialect (path_bytes self.entry) (path_bytes path.entry) p.bytes) }
     {
         T::check(path.as_bytes())?;
         Ok(self.join(alloc, path)?)
@@ -54,7 +57,8 @@ impl<'a, T: Encoding> Path<'a, T> {
 
     /// A copy with another file name, or with the name pushed where there is none.
     pub fn with_file_name(self, alloc: Global, name: &[u8]) -> Result<PathBuf<T>, AllocError>
-        ensures { IfOk result (λ p. p.bytes ≡ with_file_name T.dialect (path_bytes self.entry) name.now) }
+        ensures { IfOk result
+            (λ p. p.bytes ≡ with_file_name T.dialect (path_bytes self.entry) name.now) }
     {
         self.without_file_name().join(alloc, Path::new(name))
     }
@@ -62,7 +66,8 @@ impl<'a, T: Encoding> Path<'a, T> {
     /// A copy whose file name has another extension, or none where the new one is empty. Without a
     /// file name it is a mere copy.
     pub fn with_extension(self, alloc: Global, extension: &[u8]) -> Result<PathBuf<T>, AllocError>
-        ensures { IfOk result (λ p. p.bytes ≡ with_extension T.dialect (path_bytes self.entry) extension.now) }
+        ensures { IfOk result
+            (λ p. p.bytes ≡ with_extension T.dialect (path_bytes self.entry) extension.now) }
     {
         let Some(end) = self.stem_end() else {
             return self.to_path_buf(alloc);

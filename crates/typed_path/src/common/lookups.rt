@@ -18,6 +18,7 @@ impl<'a, T: Encoding> Path<'a, T> {
     ghost use Rattle.typed_path.specs.queries.Ancestry.{ancestors_of};
 
     /// The last component.
+    #[inline(always)]
     fn last(self) -> Option<Piece<'a>>
         ensures { option_map part_of result ≡ last_part (comps T.dialect (path_bytes self.entry)) }
     {

@@ -5,14 +5,14 @@ use crate::common::path::Path;
 use crate::common::path_buf::PathBuf;
 use std::alloc::{AllocError, Global};
 
-/// A copy of the bytes, in the memory of the same allocator.
+/// A copy of the bytes, all at once, in the memory of the same allocator.
 impl<T: Encoding> Clone for PathBuf<T> {
     ghost use Rattle.std.specs.Prelude.{◌≡◌};
 
     ghost is_clone = { λ path copy. copy.bytes ≡ path.bytes };
 
     fn clone(&self) -> Result<PathBuf<T>, AllocError> {
-        Ok(PathBuf::from_vec(self.inner.clone()?))
+        PathBuf::from_bytes(*self.inner.allocator(), self.inner.as_slice())
     }
 }
 
@@ -56,7 +56,8 @@ impl<'p, T: Encoding> Extend<Path<'p, T>> for PathBuf<T> {
     ghost use Rattle.typed_path.specs.views.PathViews.{path_bytes};
     ghost use Rattle.typed_path.specs.changes.Push.{push_all};
 
-    ghost extend_gives = { λ old paths new. new.bytes ≡ push_all T.dialect old.bytes (map path_bytes paths) };
+    ghost extend_gives = { λ old paths new. new.bytes
+        ≡ push_all T.dialect old.bytes (map path_bytes paths) };
 
     fn extend<U: IntoIterator<Item = Path<'p, T>>>(&mut self, paths: U) -> Result<(), AllocError> {
         let mut rest = paths.into_iter();
@@ -75,7 +76,8 @@ impl<'p, T: Encoding> FromIterator<Path<'p, T>> for PathBuf<T> {
 
     type Alloc = Global;
 
-    ghost from_iter_gives = { λ paths path. path.bytes ≡ push_all T.dialect [] (map path_bytes paths) };
+    ghost from_iter_gives = { λ paths path. path.bytes
+        ≡ push_all T.dialect [] (map path_bytes paths) };
 
     fn from_iter<U: IntoIterator<Item = Path<'p, T>>>(
         alloc: Global,

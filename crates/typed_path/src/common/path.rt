@@ -48,14 +48,16 @@ impl<'a, T: Encoding> Path<'a, T> {
 
     /// Whether the path leads to one place, whatever the current directory is.
     pub fn is_absolute(self) -> bool
-        ensures { result ≡ is_absolute T.dialect (kinds (parts_of T.dialect (path_bytes self.entry))) }
+        ensures { result ≡ is_absolute T.dialect
+            (kinds (parts_of T.dialect (path_bytes self.entry))) }
     {
         self.components().is_absolute()
     }
 
     /// Whether the path is not absolute.
     pub fn is_relative(self) -> bool
-        ensures { result ≡ not (is_absolute T.dialect (kinds (parts_of T.dialect (path_bytes self.entry)))) }
+        ensures { result ≡ not
+            (is_absolute T.dialect (kinds (parts_of T.dialect (path_bytes self.entry)))) }
     {
         !self.is_absolute()
     }

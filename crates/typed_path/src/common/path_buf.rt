@@ -91,10 +91,12 @@ impl<T: Encoding> PathBuf<T> {
     /// Where the result fits the room that there is, memory is not asked for, unless the path is
     /// spelled anew. Where memory is refused the path is as it was, and has no less room.
     pub fn push(&mut self, path: Path<'_, T>) -> Result<(), AllocError>
-        ensures ok { OnOk result (self.new.bytes ≡ push_spec.push T.dialect self.old.bytes (path_bytes path.entry)) }
+        ensures ok { OnOk result
+            (self.new.bytes ≡ push_spec.push T.dialect self.old.bytes (path_bytes path.entry)) }
         ensures err { OnErr result (self.new.bytes ≡ self.old.bytes) }
         ensures capacity { self.old.capacity ≤ self.new.capacity }
-        ensures succeeds { FitsPush T.dialect self.old.capacity self.old.bytes (path_bytes path.entry)
+        ensures succeeds { FitsPush T.dialect self.old.capacity self.old.bytes
+            (path_bytes path.entry)
             → IsOk result }
     {
         T::push(&mut self.inner, path.as_bytes())
@@ -108,14 +110,17 @@ impl<T: Encoding> PathBuf<T> {
     /// has no less room.
     pub fn push_checked(&mut self, path: Path<'_, T>) -> Result<(), PathError>
         ensures refused { refusal result ≡ fault T.dialect (path_bytes path.entry) }
-        ensures ok { OnOk result (self.new.bytes ≡ push_spec.push T.dialect self.old.bytes (path_bytes path.entry)) }
+        ensures ok { OnOk result
+            (self.new.bytes ≡ push_spec.push T.dialect self.old.bytes (path_bytes path.entry)) }
         ensures err { OnErr result (self.new.bytes ≡ self.old.bytes) }
         ensures unchanged { IsSome (refusal result) → self.new ≡ self.old }
         ensures capacity { self.old.capacity ≤ self.new.capacity }
         ensures succeeds { fault T.dialect (path_bytes path.entry) ≡ None
-            → FitsPush T.dialect self.old.capacity self.old.bytes (path_bytes path.entry) → IsOk result }
+            → FitsPush T.dialect self.old.capacity self.old.bytes (path_bytes path.entry)
+            → IsOk result }
         ensures prefix { OnOk result (HasPrefixOf T.dialect self.old.bytes self.new.bytes) }
-        ensures contained { OnOk result (LiesWithin T.dialect self.old.bytes (path_bytes path.entry) self.new.bytes) }
+        ensures contained { OnOk result
+            (LiesWithin T.dialect self.old.bytes (path_bytes path.entry) self.new.bytes) }
     {
         T::push_checked(&mut self.inner, path.as_bytes())
     }
@@ -138,10 +143,12 @@ impl<T: Encoding> PathBuf<T> {
     ///
     /// Where memory is refused the path is as it was, and has no less room.
     pub fn set_file_name(&mut self, name: &[u8]) -> Result<(), AllocError>
-        ensures ok { OnOk result (self.new.bytes ≡ with_file_name T.dialect self.old.bytes name.now) }
+        ensures ok { OnOk result
+            (self.new.bytes ≡ with_file_name T.dialect self.old.bytes name.now) }
         ensures err { OnErr result (self.new.bytes ≡ self.old.bytes) }
         ensures capacity { self.old.capacity ≤ self.new.capacity }
-        ensures succeeds { FitsPush T.dialect self.old.capacity (without_file_name T.dialect self.old.bytes) name.now
+        ensures succeeds { FitsPush T.dialect self.old.capacity
+            (without_file_name T.dialect self.old.bytes) name.now
             → IsOk result }
     {
         let kept = self.as_path().without_file_name().as_bytes().len();
@@ -153,12 +160,15 @@ impl<T: Encoding> PathBuf<T> {
     ///
     /// Where memory is refused the path is as it was, and has no less room.
     pub fn set_extension(&mut self, extension: &[u8]) -> Result<bool, AllocError>
-        ensures ok { OnOk result (self.new.bytes ≡ with_extension T.dialect self.old.bytes extension.now) }
-        ensures flag { IfOk result (λ renamed. renamed ≡ is_some (file_name_of T.dialect self.old.bytes)) }
+        ensures ok { OnOk result
+            (self.new.bytes ≡ with_extension T.dialect self.old.bytes extension.now) }
+        ensures flag { IfOk result
+            (λ renamed. renamed ≡ is_some (file_name_of T.dialect self.old.bytes)) }
         ensures err { OnErr result (self.new.bytes ≡ self.old.bytes) }
         ensures unchanged { file_name_of T.dialect self.old.bytes ≡ None → self.new ≡ self.old }
         ensures capacity { self.old.capacity ≤ self.new.capacity }
-        ensures succeeds { length (with_extension T.dialect self.old.bytes extension.now) ≤ self.old.capacity
+        ensures succeeds { length (with_extension T.dialect self.old.bytes extension.now)
+            ≤ self.old.capacity
             → IsOk result }
     {
         let Some(end) = self.as_path().stem_end() else {

@@ -26,7 +26,8 @@ impl<I: DoubleEndedIterator> Iterator for Reversed<I> {
 
     ghost can_next = { λ s. I.can_next_back (reversed_source s) };
 
-    ghost next_gives = { λ s item t. I.next_back_gives (reversed_source s) item (reversed_source t) };
+    ghost next_gives = { λ s item t. I.next_back_gives (reversed_source s) item
+        (reversed_source t) };
 
     ghost remaining = { λ s. I.remaining (reversed_source s) };
 
@@ -41,7 +42,8 @@ impl<I: DoubleEndedIterator> DoubleEndedIterator for Reversed<I> {
 
     ghost can_next_back = { λ s. I.can_next (reversed_source s) };
 
-    ghost next_back_gives = { λ s item t. I.next_gives (reversed_source s) item (reversed_source t) };
+    ghost next_back_gives = { λ s item t. I.next_gives (reversed_source s) item
+        (reversed_source t) };
 
     #[inline(always)]
     fn next_back(&mut self) -> Option<I::Item> {

@@ -13,7 +13,8 @@ impl<'a, T: Encoding> Path<'a, T> {
     /// What is left of the path behind a base, where it begins with the base's components as they
     /// are written. The bytes are asked first.
     fn behind(self, base: Path<'_, T>) -> Option<Path<'a, T>>
-        ensures { option_map path_bytes result ≡ stripped T.dialect (path_bytes self.entry) (path_bytes base.entry) }
+        ensures { option_map path_bytes result
+            ≡ stripped T.dialect (path_bytes self.entry) (path_bytes base.entry) }
     {
         match T::behind(self.as_bytes(), base.as_bytes()) {
             Some(rest) => Some(Path::new(rest)),
@@ -23,7 +24,8 @@ impl<'a, T: Encoding> Path<'a, T> {
 
     /// The same, component by component.
     fn behind_by_components(self, base: Path<'_, T>) -> Option<Path<'a, T>>
-        ensures { option_map path_bytes result ≡ stripped T.dialect (path_bytes self.entry) (path_bytes base.entry) }
+        ensures { option_map path_bytes result
+            ≡ stripped T.dialect (path_bytes self.entry) (path_bytes base.entry) }
     {
         let mut rest = self.components();
         let mut wanted = base.components();
@@ -41,14 +43,16 @@ impl<'a, T: Encoding> Path<'a, T> {
     /// It is refused exactly where the path does not begin with the base's components, compared as
     /// they are written.
     pub fn strip_prefix(self, base: Path<'_, T>) -> Result<Path<'a, T>, StripPrefixError>
-        ensures { stripped_to path_bytes result ≡ stripped T.dialect (path_bytes self.entry) (path_bytes base.entry) }
+        ensures { stripped_to path_bytes result
+            ≡ stripped T.dialect (path_bytes self.entry) (path_bytes base.entry) }
     {
         self.behind(base).ok_or(StripPrefixError)
     }
 
     /// Whether the path begins with the components of another, as they are written.
     pub fn starts_with(self, base: Path<'_, T>) -> bool
-        ensures { result ≡ path_starts_with T.dialect (path_bytes self.entry) (path_bytes base.entry) }
+        ensures { result ≡ path_starts_with T.dialect (path_bytes self.entry)
+            (path_bytes base.entry) }
     {
         self.behind(base).is_some()
     }

@@ -31,7 +31,8 @@ impl<'a, T: Encoding> Path<'a, T> {
     ///
     /// Where they are UTF-8, the text is lent and no memory is asked for.
     pub fn to_string_lossy(self, alloc: Global) -> Result<CowStr<'a>, AllocError>
-        ensures text { IfOk result (λ text. cow_str_bytes text ≡ utf8_lossy (path_bytes self.entry)) }
+        ensures text { IfOk result
+            (λ text. cow_str_bytes text ≡ utf8_lossy (path_bytes self.entry)) }
         ensures lent { IsUtf8 (path_bytes self.entry) → IfOk result IsBorrowedStr }
         ensures succeeds { IsUtf8 (path_bytes self.entry) → IsOk result }
     {

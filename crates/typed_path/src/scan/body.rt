@@ -88,7 +88,8 @@ impl<'a> Body<'a> {
     /// Judges the components that are left, from the front: the first one that offends is what a
     /// path of them is refused for when it is to be pushed.
     pub fn check(mut self) -> Result<(), CheckedPathError>
-        ensures { error_of result ≡ fault_behind (dialect_of self.entry.separators) [] (kinds (parts (body_items self.entry))) }
+        ensures { error_of result ≡ fault_behind (dialect_of self.entry.separators) []
+            (kinds (parts (body_items self.entry))) }
     {
         let allowed = self.separators.allows_names_of(self.as_bytes());
         let mut depth = 0usize;
@@ -103,7 +104,8 @@ impl<'a> Body<'a> {
     pub fn front(&mut self) -> Option<Piece<'a>>
         ensures taken { option_map part_of result ≡ first_part (body_items self.old) }
         ensures items { body_items self.new ≡ drop 1 (body_items self.old) }
-        ensures slice { body_slice self.new ≡ slice_after_front (body_items self.old) (body_slice self.old) }
+        ensures slice { body_slice self.new
+            ≡ slice_after_front (body_items self.old) (body_slice self.old) }
         ensures separators { self.new.separators ≡ self.old.separators }
     {
         let left = self.as_bytes();
@@ -121,7 +123,8 @@ impl<'a> Body<'a> {
     pub fn back(&mut self) -> Option<Piece<'a>>
         ensures taken { option_map part_of result ≡ last_part (body_items self.old) }
         ensures items { body_items self.new ≡ but_last (body_items self.old) }
-        ensures slice { body_slice self.new ≡ slice_after_back (body_items self.old) (body_slice self.old) }
+        ensures slice { body_slice self.new
+            ≡ slice_after_back (body_items self.old) (body_slice self.old) }
         ensures text { self.new.text ≡ self.old.text }
         ensures from { self.new.from ≡ self.old.from }
         ensures shorter { self.new.to ≤ self.old.to }

@@ -46,11 +46,16 @@ impl<'a> Cursor<'a> {
 
     /// A reading of a whole text that begins with a prefix.
     #[inline(always)]
-    pub(crate) fn with_prefix(text: &'a [u8], prefix: Found<'a>, separators: Separators) -> Cursor<'a>
+    pub(crate) fn with_prefix(
+        text: &'a [u8],
+        prefix: Found<'a>,
+        separators: Separators,
+    ) -> Cursor<'a>
         requires { prefix.length ≤ length text.now }
         ensures slice { slice_left result ≡ text.now }
         ensures items { items_left result
-            ≡ component (prefix_part (prefix_view prefix.entry.kind) (take prefix.entry.length text.now)) 0
+            ≡ component (prefix_part (prefix_view prefix.entry.kind)
+            (take prefix.entry.length text.now)) 0
             ++ body separators prefix.entry.length (drop prefix.entry.length text.now) }
     {
         Cursor {
@@ -73,7 +78,8 @@ impl<'a> Cursor<'a> {
     /// The prefix, where it is still to be taken.
     #[inline(always)]
     pub(crate) fn prefix(&self) -> Option<WindowsPrefix<'a>>
-        ensures { option_map prefix_view result ≡ first_prefix (kinds (parts (items_left self.now))) }
+        ensures { option_map prefix_view result
+            ≡ first_prefix (kinds (parts (items_left self.now))) }
     {
         match self.prefix {
             Some(found) => Some(found.kind),
@@ -100,7 +106,8 @@ impl<'a> Cursor<'a> {
     /// Where the last component that is left ends in the text.
     #[inline(always)]
     pub(crate) fn last_end(&self) -> usize
-        ensures { (last : Placed) → last_of (items_left self.now) ≡ Some last → result ≡ end_of last }
+        ensures { (last : Placed) → last_of (items_left self.now) ≡ Some last → result
+            ≡ end_of last }
     {
         self.body.last_end()
     }

@@ -24,7 +24,8 @@ pub fn depth_behind(
     requires allowed { IsTrue allowed
         → is_valid_kind (dialect_of separators) (part_of piece).kind ≡ true }
     ensures within { IfOk result (λ deeper. deeper ≤ depth + 1) }
-    ensures judged { (ks : List Kind) → fault_at (dialect_of separators) depth ((part_of piece.entry).kind ∷ ks)
+    ensures judged { (ks : List Kind)
+        → fault_at (dialect_of separators) depth ((part_of piece.entry).kind ∷ ks)
         ≡ judged (λ deeper. fault_at (dialect_of separators) deeper ks) result }
 {
     match piece.kind {

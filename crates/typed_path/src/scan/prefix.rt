@@ -1,9 +1,18 @@
-//! The prefixes of Windows paths.
+//! The prefixes of Windows paths: which one a text begins with.
+
+ghost use Rattle.std.specs.Prelude.{◌≡◌, ◌≤◌, ◌+◌, true, false, length, None, option_map, option_copied, IfSome, MatchOption};
+ghost use Rattle.typed_path.specs.components.Dialect.{windows, is_separator};
+ghost use Rattle.typed_path.specs.components.Prefix.{is_drive_letter, drive, after_two, after_mark, after_unc, name, second_name, names_length, is_empty, verbatim_unc_case, verbatim_disk_case, verbatim_case, device_case, unc_case, disk_case, prefix_of};
+ghost use Rattle.typed_path.specs.declared.scan.separators.Separators.{Separators};
+ghost use Rattle.typed_path.specs.views.PieceViews.{found_of};
+
+use crate::scan::separators::Separators;
 
 /// What a Windows path may begin with, before its root.
 ///
-/// The names are slices of the path's text; a drive letter is raised to ASCII upper case.
-#[derive(Clone, Copy, Debug)]
+/// The names are slices of the path's text; a drive letter is raised to ASCII upper case. The order
+/// is that of the kinds below, and then that of the names and letters.
+#[derive(Clone, Copy, Debug, PartialEq, Eq, PartialOrd, Ord, Hash)]
 pub enum WindowsPrefix<'a> {
     /// `\\?\name`
     Verbatim(&'a [u8]),
@@ -19,11 +28,204 @@ pub enum WindowsPrefix<'a> {
     Disk(u8),
 }
 
-/// A prefix that a text begins with, and how many bytes of the text it takes.
+/// A prefix, and how many bytes its raw text has.
 #[derive(Clone, Copy, Debug)]
 pub struct Found<'a> {
-    /// What it is.
+    /// The prefix.
     pub kind: WindowsPrefix<'a>,
-    /// How long its raw text is.
+    /// How many bytes of the path it takes.
     pub length: usize,
+}
+
+/// The letter of a text that begins with a drive, raised to ASCII upper case.
+fn drive(text: &[u8]) -> Option<u8>
+    ensures { result ≡ drive text.now }
+{
+    match text {
+        [letter, b':', ..] if is_drive_letter(*letter) => Some(letter.to_ascii_uppercase()),
+        _ => None,
+    }
+}
+
+/// Whether a byte is an ASCII letter, or one of the letters among the bytes from 128 on.
+fn is_drive_letter(byte: u8) -> bool
+    ensures { result ≡ is_drive_letter byte }
+{
+    match byte {
+        b'A'..=b'Z' | b'a'..=b'z' | 0xAA | 0xB5 | 0xBA => true,
+        0xD7 | 0xF7 => false,
+        _ => 0xC0 <= byte,
+    }
+}
+
+/// Whether the byte is one of both separators.
+fn separates(byte: u8) -> bool
+    ensures { result ≡ is_separator Separators.Either byte }
+{
+    Separators::Either.contains(byte)
+}
+
+/// What stands behind two separators.
+fn after_two(text: &[u8]) -> Option<&[u8]>
+    ensures rest { option_copied result ≡ after_two text.now }
+    ensures length { IfSome result (λ rest. length rest.now + 2 ≡ length text.now) }
+{
+    match text {
+        [a, b, rest @ ..] if separates(*a) && separates(*b) => Some(rest),
+        _ => None,
+    }
+}
+
+/// What stands behind two separators, the byte `sign` and a separator.
+fn after_mark(sign: u8, text: &[u8]) -> Option<&[u8]>
+    ensures rest { option_copied result ≡ after_mark sign text.now }
+    ensures length { IfSome result (λ rest. length rest.now + 4 ≡ length text.now) }
+{
+    let [a, b, c, d, rest @ ..] = text else {
+        return None;
+    };
+    if separates(*a) && separates(*b) && *c == sign && separates(*d) {
+        Some(rest)
+    } else {
+        None
+    }
+}
+
+/// What stands behind `UNC` in capitals and a separator.
+fn after_unc(separators: Separators, text: &[u8]) -> Option<&[u8]>
+    ensures rest { option_copied result ≡ after_unc separators text.now }
+    ensures length { IfSome result (λ rest. length rest.now + 4 ≡ length text.now) }
+{
+    match text {
+        [b'U', b'N', b'C', d, rest @ ..] if separators.contains(*d) => Some(rest),
+        _ => None,
+    }
+}
+
+/// The name that a text begins with, up to the next separator or the end.
+fn name(separators: Separators, text: &[u8]) -> &[u8]
+    ensures { result.now ≡ name separators text.now }
+{
+    &text[..separators.first_in(text)]
+}
+
+/// The two names that a text begins with, and how many bytes they take, or none where the first is
+/// empty.
+fn names(separators: Separators, text: &[u8]) -> Option<(&[u8], &[u8], usize)>
+    ensures filled { MatchOption result (is_empty (name separators text.now) ≡ true)
+        (λ names. is_empty (name separators text.now) ≡ false) }
+    ensures first { IfSome result (λ names. names.0.now ≡ name separators text.now) }
+    ensures second { IfSome result (λ names. names.1.now ≡ second_name separators text.now) }
+    ensures length { IfSome result (λ names. names.2 ≡ names_length separators text.now) }
+    ensures within { IfSome result (λ names. names.2 ≤ length text.now) }
+{
+    let end = separators.first_in(text);
+    if end == 0 {
+        return None;
+    }
+    if end == text.len() {
+        return Some((text, &[], end));
+    }
+    let second = name(separators, &text[end + 1..]);
+    Some((&text[..end], second, end + 1 + second.len()))
+}
+
+/// `\\?\UNC\server\share`
+fn verbatim_unc(separators: Separators, text: &[u8]) -> Option<Found<'_>>
+    ensures { option_map found_of result ≡ verbatim_unc_case separators text.now }
+{
+    let rest = after_unc(separators, after_mark(b'?', text)?)?;
+    let (server, share, length) = names(separators, rest)?;
+    Some(Found {
+        kind: WindowsPrefix::VerbatimUNC(server, share),
+        length: 8 + length,
+    })
+}
+
+/// `\\?\C:`
+fn verbatim_disk(text: &[u8]) -> Option<Found<'_>>
+    ensures { option_map found_of result ≡ verbatim_disk_case text.now }
+{
+    let letter = drive(after_mark(b'?', text)?)?;
+    Some(Found {
+        kind: WindowsPrefix::VerbatimDisk(letter),
+        length: 6,
+    })
+}
+
+/// `\\?\name`, where the name may be empty if a separator follows.
+fn verbatim(separators: Separators, text: &[u8]) -> Option<Found<'_>>
+    ensures { option_map found_of result ≡ verbatim_case separators text.now }
+{
+    let rest = after_mark(b'?', text)?;
+    if rest.is_empty() {
+        return None;
+    }
+    let name = name(separators, rest);
+    Some(Found {
+        kind: WindowsPrefix::Verbatim(name),
+        length: 4 + name.len(),
+    })
+}
+
+/// `\\.\name`
+fn device(text: &[u8]) -> Option<Found<'_>>
+    ensures { option_map found_of result ≡ device_case text.now }
+{
+    let name = name(Separators::Either, after_mark(b'.', text)?);
+    if name.is_empty() {
+        return None;
+    }
+    Some(Found {
+        kind: WindowsPrefix::DeviceNS(name),
+        length: 4 + name.len(),
+    })
+}
+
+/// `\\server\share`
+fn unc(text: &[u8]) -> Option<Found<'_>>
+    ensures { option_map found_of result ≡ unc_case text.now }
+{
+    let (server, share, length) = names(Separators::Either, after_two(text)?)?;
+    Some(Found {
+        kind: WindowsPrefix::UNC(server, share),
+        length: 2 + length,
+    })
+}
+
+/// `C:`
+fn disk(text: &[u8]) -> Option<Found<'_>>
+    ensures { option_map found_of result ≡ disk_case text.now }
+{
+    let letter = drive(text)?;
+    Some(Found {
+        kind: WindowsPrefix::Disk(letter),
+        length: 2,
+    })
+}
+
+/// Whether the first two bytes allow a prefix.
+fn may_begin_with_prefix(text: &[u8]) -> bool
+    ensures { result ≡ false → prefix_of windows text.now ≡ None }
+{
+    match text {
+        [first, second, ..] => separates(*first) || *second == b':',
+        _ => false,
+    }
+}
+
+/// The prefix that a Windows text begins with: the first of the six cases that matches.
+pub fn find_prefix(text: &[u8]) -> Option<Found<'_>>
+    ensures { option_map found_of result ≡ prefix_of windows text.now }
+{
+    if !may_begin_with_prefix(text) {
+        return None;
+    }
+    let separators = Separators::of_windows(text);
+    verbatim_unc(separators, text)
+        .or_else(|| verbatim_disk(text))
+        .or_else(|| verbatim(separators, text))
+        .or_else(|| device(text))
+        .or_else(|| unc(text))
+        .or_else(|| disk(text))
 }

@@ -2,7 +2,7 @@
 
 ghost use Rattle.std.specs.Prelude.{◌≡◌, ◌≤◌, length, IsTrue};
 ghost use Rattle.std.specs.List.{position_or_len, IsAfterLastMatch};
-ghost use Rattle.typed_path.specs.components.Dialect.{is_separator, is_verbatim, root_text, dialect_of};
+ghost use Rattle.typed_path.specs.components.Dialect.{windows, separators, is_separator, is_verbatim, root_text, dialect_of};
 ghost use Rattle.typed_path.specs.queries.Queries.{is_disallowed, is_valid_name};
 ghost use Rattle.typed_path.specs.changes.Checked.{SeparatesDisallowed};
 
@@ -22,6 +22,18 @@ pub enum Separators {
 }
 
 impl Separators {
+    /// The separators of a Windows text.
+    #[inline]
+    pub fn of_windows(text: &[u8]) -> Separators
+        ensures { result ≡ separators windows text.now }
+    {
+        if text.starts_with(br"\\?\") {
+            Separators::Backslash
+        } else {
+            Separators::Either
+        }
+    }
+
     /// Whether the byte separates components.
     #[inline(always)]
     pub fn contains(self, byte: u8) -> bool

@@ -14,7 +14,8 @@ use crate::scan::separators::Separators;
 #[inline(always)]
 fn blank(text: &[u8], separators: Separators) -> Option<usize>
     ensures within { IfSome result (λ n. (0 < n) × (n ≤ length text.now)) }
-    ensures skipped { IfSome result (λ n. (at : ℕ) → later_body separators at text.now ≡ later_body separators (at + n) (drop n text.now)) }
+    ensures skipped { IfSome result (λ n. (at : ℕ) → later_body separators at text.now
+        ≡ later_body separators (at + n) (drop n text.now)) }
     ensures clean { IfNone result (is_clean Begin.Inside separators text.now ≡ true) }
 {
     let (first, rest) = text.split_first()?;
@@ -35,7 +36,8 @@ fn blank(text: &[u8], separators: Separators) -> Option<usize>
 #[inline(always)]
 pub fn skip_blanks(text: &[u8], separators: Separators) -> usize
     ensures within { result ≤ length text.now }
-    ensures same { (at : ℕ) → later_body separators at text.now ≡ later_body separators (at + result) (drop result text.now) }
+    ensures same { (at : ℕ) → later_body separators at text.now
+        ≡ later_body separators (at + result) (drop result text.now) }
     ensures clean { is_clean Begin.Inside separators (drop result text.now) ≡ true }
 {
     let mut start = 0;
@@ -48,7 +50,8 @@ pub fn skip_blanks(text: &[u8], separators: Separators) -> usize
 /// The component that a segment is, where it is one.
 #[inline(always)]
 pub fn piece_of(segment: &[u8], separators: Separators) -> Piece<'_>
-    ensures { (at : ℕ) → first separators (record { text = segment.now; start = at }) ≡ component (part_of result) at }
+    ensures { (at : ℕ) → first separators (record { text = segment.now; start = at })
+        ≡ component (part_of result) at }
 {
     let (kind, text) = match segment {
         [] => (PieceKind::RootDir, separators.root_text()),
@@ -65,7 +68,9 @@ pub fn front_step(text: &[u8], separators: Separators) -> (Piece<'_>, usize)
     requires { 0 < length text.now }
     ensures within { result.1 ≤ length text.now }
     ensures first { (begin : Begin) (at : ℕ) → is_clean begin separators text.now ≡ true
-        → body_from begin separators at text.now ≡ component (part_of result.0) at ++ later_body separators (at + result.1) (drop result.1 text.now) }
+        → body_from begin separators at text.now
+        ≡ component (part_of result.0) at
+        ++ later_body separators (at + result.1) (drop result.1 text.now) }
     ensures clean { is_clean Begin.Inside separators (drop result.1 text.now) ≡ true }
 {
     let end = separators.first_in(text);
@@ -94,8 +99,10 @@ fn ends_blank(text: &[u8], separators: Separators) -> bool
 pub fn trim_blanks(text: &[u8], separators: Separators) -> usize
     ensures within { result ≤ length text.now }
     ensures some { 0 < length text.now → 0 < result }
-    ensures same { (begin : Begin) (at : ℕ) → body_from begin separators at (take result text.now) ≡ body_from begin separators at text.now }
-    ensures clean { (begin : Begin) → is_clean begin separators (take result text.now) ≡ is_clean begin separators text.now }
+    ensures same { (begin : Begin) (at : ℕ) → body_from begin separators at (take result text.now)
+        ≡ body_from begin separators at text.now }
+    ensures clean { (begin : Begin) → is_clean begin separators (take result text.now)
+        ≡ is_clean begin separators text.now }
     ensures trimmed { is_trimmed separators (take result text.now) ≡ true }
 {
     let mut end = text.len();
@@ -111,10 +118,13 @@ pub fn back_step(text: &[u8], separators: Separators) -> (Piece<'_>, usize)
     requires { 0 < length text.now }
     ensures within { result.1 ≤ length text.now }
     ensures last { (begin : Begin) (at : ℕ) → is_clean begin separators text.now ≡ true
-        → (place : ℕ) × (body_from begin separators at text.now ≡ body_from begin separators at (take result.1 text.now) ++ component (part_of result.0) place) }
+        → (place : ℕ) × (body_from begin separators at text.now
+        ≡ body_from begin separators at (take result.1 text.now)
+        ++ component (part_of result.0) place) }
     ensures ends { (begin : Begin) (at : ℕ) → is_clean begin separators text.now ≡ true
         → end_from at (body_from begin separators at (take result.1 text.now)) ≡ at + result.1 }
-    ensures clean { (begin : Begin) → is_clean begin separators text.now ≡ true → is_clean begin separators (take result.1 text.now) ≡ true }
+    ensures clean { (begin : Begin) → is_clean begin separators text.now ≡ true
+        → is_clean begin separators (take result.1 text.now) ≡ true }
 {
     let last = &text[..trim_blanks(text, separators)];
     let start = separators.last_in(last);

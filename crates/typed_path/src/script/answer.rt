@@ -14,9 +14,11 @@ const CHUNK: usize = 65_536;
 
 /// Writes all the bytes.
 fn write_all<W: Sink>(writer: &mut W, bytes: &[u8]) -> Result<(), Failed>
-    ensures written { OnOk result (Appends (W.contents writer.old) (W.contents writer.new) bytes.now) }
+    ensures written { OnOk result
+        (Appends (W.contents writer.old) (W.contents writer.new) bytes.now) }
     ensures unfailed { OnOk result (W.has_failed writer.new ≡ W.has_failed writer.old) }
-    ensures part { OnErr result (WritesPart (W.contents writer.old) (W.contents writer.new) bytes.now) }
+    ensures part { OnErr result
+        (WritesPart (W.contents writer.old) (W.contents writer.new) bytes.now) }
     ensures failed { OnErr result (W.has_failed writer.new ≡ true) }
 {
     let mut rest = bytes;
@@ -39,17 +41,25 @@ pub fn answer_lines<R: Source, W: Sink>(
     writer: &mut W,
 ) -> Result<(), LineError>
     ensures ok { OnOk result (AnswersAll
-        (streams (R.remaining reader.old) (R.has_failed reader.old) (W.contents writer.old) (W.has_failed writer.old))
-        (streams (R.remaining reader.new) (R.has_failed reader.new) (W.contents writer.new) (W.has_failed writer.new))) }
+        (streams (R.remaining reader.old) (R.has_failed reader.old)
+        (W.contents writer.old) (W.has_failed writer.old))
+        (streams (R.remaining reader.new) (R.has_failed reader.new)
+        (W.contents writer.new) (W.has_failed writer.new))) }
     ensures read { IsErrOf result LineError.Read → StopsReading
-        (streams (R.remaining reader.old) (R.has_failed reader.old) (W.contents writer.old) (W.has_failed writer.old))
-        (streams (R.remaining reader.new) (R.has_failed reader.new) (W.contents writer.new) (W.has_failed writer.new)) }
+        (streams (R.remaining reader.old) (R.has_failed reader.old)
+        (W.contents writer.old) (W.has_failed writer.old))
+        (streams (R.remaining reader.new) (R.has_failed reader.new)
+        (W.contents writer.new) (W.has_failed writer.new)) }
     ensures write { IsErrOf result LineError.Write → StopsWriting
-        (streams (R.remaining reader.old) (R.has_failed reader.old) (W.contents writer.old) (W.has_failed writer.old))
-        (streams (R.remaining reader.new) (R.has_failed reader.new) (W.contents writer.new) (W.has_failed writer.new)) }
+        (streams (R.remaining reader.old) (R.has_failed reader.old)
+        (W.contents writer.old) (W.has_failed writer.old))
+        (streams (R.remaining reader.new) (R.has_failed reader.new)
+        (W.contents writer.new) (W.has_failed writer.new)) }
     ensures memory { IsErrOf result LineError.OutOfMemory → RunsOut
-        (streams (R.remaining reader.old) (R.has_failed reader.old) (W.contents writer.old) (W.has_failed writer.old))
-        (streams (R.remaining reader.new) (R.has_failed reader.new) (W.contents writer.new) (W.has_failed writer.new)) }
+        (streams (R.remaining reader.old) (R.has_failed reader.old)
+        (W.contents writer.old) (W.has_failed writer.old))
+        (streams (R.remaining reader.new) (R.has_failed reader.new)
+        (W.contents writer.new) (W.has_failed writer.new)) }
 {
     let mut chunk = vec![in alloc; 0u8; CHUNK]?;
     let mut dialogue = Dialogue::new(alloc);
@@ -67,17 +77,25 @@ fn converse<R: Source, W: Sink>(
     requires no_line { dialogue.old.line.items ≡ [] }
     requires no_replies { dialogue.old.replies.items ≡ [] }
     ensures ok { OnOk result (AnswersAll
-        (streams (R.remaining reader.old) (R.has_failed reader.old) (W.contents writer.old) (W.has_failed writer.old))
-        (streams (R.remaining reader.new) (R.has_failed reader.new) (W.contents writer.new) (W.has_failed writer.new))) }
+        (streams (R.remaining reader.old) (R.has_failed reader.old)
+        (W.contents writer.old) (W.has_failed writer.old))
+        (streams (R.remaining reader.new) (R.has_failed reader.new)
+        (W.contents writer.new) (W.has_failed writer.new))) }
     ensures read { IsErrOf result LineError.Read → StopsReading
-        (streams (R.remaining reader.old) (R.has_failed reader.old) (W.contents writer.old) (W.has_failed writer.old))
-        (streams (R.remaining reader.new) (R.has_failed reader.new) (W.contents writer.new) (W.has_failed writer.new)) }
+        (streams (R.remaining reader.old) (R.has_failed reader.old)
+        (W.contents writer.old) (W.has_failed writer.old))
+        (streams (R.remaining reader.new) (R.has_failed reader.new)
+        (W.contents writer.new) (W.has_failed writer.new)) }
     ensures write { IsErrOf result LineError.Write → StopsWriting
-        (streams (R.remaining reader.old) (R.has_failed reader.old) (W.contents writer.old) (W.has_failed writer.old))
-        (streams (R.remaining reader.new) (R.has_failed reader.new) (W.contents writer.new) (W.has_failed writer.new)) }
+        (streams (R.remaining reader.old) (R.has_failed reader.old)
+        (W.contents writer.old) (W.has_failed writer.old))
+        (streams (R.remaining reader.new) (R.has_failed reader.new)
+        (W.contents writer.new) (W.has_failed writer.new)) }
     ensures memory { IsErrOf result LineError.OutOfMemory → RunsOut
-        (streams (R.remaining reader.old) (R.has_failed reader.old) (W.contents writer.old) (W.has_failed writer.old))
-        (streams (R.remaining reader.new) (R.has_failed reader.new) (W.contents writer.new) (W.has_failed writer.new)) }
+        (streams (R.remaining reader.old) (R.has_failed reader.old)
+        (W.contents writer.old) (W.has_failed writer.old))
+        (streams (R.remaining reader.new) (R.has_failed reader.new)
+        (W.contents writer.new) (W.has_failed writer.new)) }
 {
     'reads: loop {
         let Ok(count) = reader.read(buffer) else {
@@ -95,12 +113,14 @@ fn converse<R: Source, W: Sink>(
 
 /// Writes the replies of a dialogue, and takes them away.
 fn send<W: Sink>(dialogue: &mut Dialogue, writer: &mut W) -> Result<(), LineError>
-    ensures written { OnOk result (Appends (W.contents writer.old) (W.contents writer.new) dialogue.old.replies.items) }
+    ensures written { OnOk result
+        (Appends (W.contents writer.old) (W.contents writer.new) dialogue.old.replies.items) }
     ensures emptied { OnOk result (dialogue.new.replies.items ≡ []) }
     ensures line { dialogue.new.line.items ≡ dialogue.old.line.items }
     ensures unfailed { OnOk result (W.has_failed writer.new ≡ W.has_failed writer.old) }
     ensures error { IfErr result (λ e. e ≡ LineError.Write) }
-    ensures part { OnErr result (WritesPart (W.contents writer.old) (W.contents writer.new) dialogue.old.replies.items) }
+    ensures part { OnErr result
+        (WritesPart (W.contents writer.old) (W.contents writer.new) dialogue.old.replies.items) }
     ensures failed { OnErr result (W.has_failed writer.new ≡ true) }
 {
     write_all(writer, dialogue.replies.as_slice()).map_err(|_| LineError::Write)?;

@@ -3,18 +3,19 @@
 ghost use Rattle.std.specs.Prelude.{◌≡◌, [], ◌∷◌};
 ghost use Rattle.typed_path.specs.lines.Lines.{split_lines};
 
-use crate::scan::cut_at;
+use crate::scan::cut_near;
 use crate::script::lines::put_reply;
 use std::alloc::{AllocError, Global};
 
 /// The replies to the lines that were completed, and the line that was begun.
 #[derive(Drop)]
 pub struct Dialogue {
-    alloc: Global,
     /// What came behind the last line feed.
     pub line: Vec<u8>,
     /// The replies that were not taken away yet.
     pub replies: Vec<u8>,
+    /// Room in which paths are joined, used again from line to line.
+    scratch: Vec<u8>,
     ghost is_open: { split_lines line.items ≡ line.items ∷ [] },
 }
 
@@ -27,20 +28,22 @@ impl Dialogue {
         ensures replies { result.replies.items ≡ [] }
     {
         Dialogue {
-            alloc,
             line: Vec::new(alloc),
             replies: Vec::new(alloc),
+            scratch: Vec::new(alloc),
         }
     }
 
     /// Takes in more input, and answers the lines that it completes.
     pub fn take_in(&mut self, input: &[u8]) -> Result<(), AllocError>
         ensures replies { OnOk result (self.new.replies.items
-            ≡ self.old.replies.items ++ replies_to (complete_lines (self.old.line.items ++ input.now))) }
-        ensures line { OnOk result (self.new.line.items ≡ open_line (self.old.line.items ++ input.now)) }
+            ≡ self.old.replies.items
+            ++ replies_to (complete_lines (self.old.line.items ++ input.now))) }
+        ensures line { OnOk result
+            (self.new.line.items ≡ open_line (self.old.line.items ++ input.now)) }
     {
         let mut rest = input;
-        'lines: while let Some((piece, behind)) = cut_at(b'\n', rest) {
+        'lines: while let Some((piece, behind)) = cut_near(b'\n', rest) {
             self.complete(piece)?;
             rest = behind;
         }
@@ -50,25 +53,27 @@ impl Dialogue {
     /// Answers the line that a piece with no line feed completes.
     fn complete(&mut self, piece: &[u8]) -> Result<(), AllocError>
         requires { split_lines piece.now ≡ piece.now ∷ [] }
-        ensures replies { OnOk result (self.new.replies.items ≡ self.old.replies.items ++ reply (self.old.line.items ++ piece.now)) }
+        ensures replies { OnOk result (self.new.replies.items
+            ≡ self.old.replies.items ++ reply (self.old.line.items ++ piece.now)) }
         ensures line { OnOk result (self.new.line.items ≡ []) }
     {
         if self.line.is_empty() {
-            return put_reply(self.alloc, piece, &mut self.replies);
+            return put_reply(piece, &mut self.scratch, &mut self.replies);
         }
         self.line.extend_from_slice(piece)?;
-        put_reply(self.alloc, self.line.as_slice(), &mut self.replies)?;
+        put_reply(self.line.as_slice(), &mut self.scratch, &mut self.replies)?;
         self.line.clear();
         Ok(())
     }
 
     /// Answers the line that the end of the input completes, where there is one.
     pub fn finish(&mut self) -> Result<(), AllocError>
-        ensures { OnOk result (self.new.replies.items ≡ self.old.replies.items ++ replies_to (all_lines (self.old.line.items ∷ []))) }
+        ensures { OnOk result (self.new.replies.items
+            ≡ self.old.replies.items ++ replies_to (all_lines (self.old.line.items ∷ []))) }
     {
         if self.line.is_empty() {
             return Ok(());
         }
-        put_reply(self.alloc, self.line.as_slice(), &mut self.replies)
+        put_reply(self.line.as_slice(), &mut self.scratch, &mut self.replies)
     }
 }

@@ -29,15 +29,20 @@ pub fn read_ends<'a, T: Encoding>(
     answers: &mut Vec<Option<Piece<'a>>>,
 ) -> Result<(), AllocError>
     ensures answers { OnOk result (map (option_map part_of) answers.new.items
-        ≡ map (option_map part_of) answers.old.items ++ taken_parts (answers_after (components_items components.old) (sides ends.now))) }
-    ensures items { OnOk result (components_items components.new ≡ items_after (components_items components.old) (sides ends.now)) }
+        ≡ map (option_map part_of) answers.old.items
+        ++ taken_parts (answers_after (components_items components.old) (sides ends.now))) }
+    ensures items { OnOk result (components_items components.new
+        ≡ items_after (components_items components.old) (sides ends.now)) }
     ensures slice { OnOk result (components_slice components.new
-        ≡ slice_after (components_items components.old) (components_slice components.old) (sides ends.now)) }
+        ≡ slice_after (components_items components.old) (components_slice components.old)
+        (sides ends.now)) }
     ensures succeeds { vec_len answers.old + length ends.now ≤ vec_capacity answers.old
         → IsOk result }
     ensures answers_kept { OnErr result (answers.new.items ≡ answers.old.items) }
-    ensures items_kept { OnErr result (components_items components.new ≡ components_items components.old) }
-    ensures slice_kept { OnErr result (components_slice components.new ≡ components_slice components.old) }
+    ensures items_kept { OnErr result
+        (components_items components.new ≡ components_items components.old) }
+    ensures slice_kept { OnErr result
+        (components_slice components.new ≡ components_slice components.old) }
 {
     answers.reserve(ends.len())?;
     'ends: for end in ends {

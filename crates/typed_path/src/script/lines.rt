@@ -1,122 +1,152 @@
 //! The replies to lines of commands.
 
-ghost use Rattle.std.specs.Prelude.{◌≡◌, [], ◌∷◌, ◌++◌, Some, OnOk};
+ghost use Rattle.std.specs.Prelude.{◌≡◌, [], ◌∷◌, ◌++◌, Some, OnOk, IfSome, IfNone};
 ghost use Rattle.typed_path.specs.components.Comps.{parts_of};
+ghost use Rattle.typed_path.specs.changes.Push.{push};
 ghost use Rattle.typed_path.specs.views.PieceViews.{part_of, prefix_view};
 ghost use Rattle.typed_path.specs.views.PathViews.{path_bytes};
-ghost use Rattle.typed_path.specs.lines.Lines.{tab, fields_of, reply, reply_line, text_reply, components_reply, reply_in, join_reply_in, joined_reply, refusal_name, bad_line, component_field, kind_name, prefix_name};
-ghost use Rattle.typed_path.specs.lines.Fields.{AreFields};
+ghost use Rattle.typed_path.specs.lines.Lines.{tab, equals_sign, fields_of, reply, reply_fields, reply_line, text_reply, components_reply, reply_in, join_reply_in, joined_reply, refusal_name, bad_line, component_field, kind_name, prefix_name};
+ghost use Rattle.typed_path.specs.lines.Commands.{command_name, texts_reply};
 
 use crate::common::{Encoding, Path};
-use crate::errors::{CheckedPathError, PathError};
-use crate::scan::{Piece, PieceKind, WindowsPrefix, cut_at};
-use crate::unix::UnixPath;
-use std::alloc::{AllocError, Global};
+use crate::errors::CheckedPathError;
+use crate::scan::{Piece, PieceKind, WindowsPrefix, cut_at, text_behind};
+use crate::unix::UnixEncoding;
+use std::alloc::AllocError;
 
-const NORMALIZE: &[u8] = b"normalize";
-
-const COMPONENTS: &[u8] = b"components";
-
-const JOIN: &[u8] = b"join";
-
-const JOIN_CHECKED: &[u8] = b"join_checked";
-
-const UNIX: &[u8] = b"unix";
-
-/// The fields of a line, where they are as many as a command has.
+/// What a line asks for.
 #[derive(Clone, Copy)]
-pub enum Fields<'a> {
-    Three(&'a [u8], &'a [u8], &'a [u8]),
-    Four(&'a [u8], &'a [u8], &'a [u8], &'a [u8]),
-    Other,
+pub enum Command {
+    Normalize,
+    Components,
+    Join,
+    JoinChecked,
 }
 
-fn split_fields(line: &[u8]) -> Fields<'_>
-    ensures { AreFields (fields_of line.now) result }
+/// The command that a line begins with, and what stands behind its tab.
+fn command_of(line: &[u8]) -> Option<(Command, &[u8])>
+    ensures some { IfSome result
+        (λ found. fields_of line.now ≡ command_name found.0 ∷ fields_of found.1.now) }
+    ensures none { IfNone result (reply_fields (fields_of line.now) ≡ bad_line) }
 {
-    let Some((first, rest)) = cut_at(b'\t', line) else {
-        return Fields::Other;
-    };
-    let Some((second, rest)) = cut_at(b'\t', rest) else {
-        return Fields::Other;
-    };
-    let Some((third, rest)) = cut_at(b'\t', rest) else {
-        return Fields::Three(first, second, rest);
-    };
-    match cut_at(b'\t', rest) {
-        None => Fields::Four(first, second, third, rest),
-        Some(_) => Fields::Other,
+    if let Some(rest) = text_behind(b"normalize\t", line) {
+        return Some((Command::Normalize, rest));
     }
+    if let Some(rest) = text_behind(b"components\t", line) {
+        return Some((Command::Components, rest));
+    }
+    if let Some(rest) = text_behind(b"join\t", line) {
+        return Some((Command::Join, rest));
+    }
+    if let Some(rest) = text_behind(b"join_checked\t", line) {
+        return Some((Command::JoinChecked, rest));
+    }
+    None
 }
 
 /// Puts the reply to a line behind others.
-pub fn put_reply(alloc: Global, line: &[u8], replies: &mut Vec<u8>) -> Result<(), AllocError>
+///
+/// The scratch is room that is used again from line to line; what stands in it is lost.
+pub fn put_reply(
+    line: &[u8],
+    scratch: &mut Vec<u8>,
+    replies: &mut Vec<u8>,
+) -> Result<(), AllocError>
     ensures { OnOk result (replies.new.items ≡ replies.old.items ++ reply line.now) }
 {
-    match split_fields(line) {
-        Fields::Three(command, encoding, path) if encoding == UNIX => {
-            put_path_reply(alloc, command, UnixPath::new(path), replies)
-        }
-        Fields::Four(command, encoding, base, path) if encoding == UNIX => {
-            put_join_reply(
-                alloc,
-                command,
-                UnixPath::new(base),
-                UnixPath::new(path),
-                replies,
-            )
-        }
-        _ => put_bad_line(replies),
+    let Some((command, rest)) = command_of(line) else {
+        return put_bad_line(replies);
+    };
+    let Some(texts) = text_behind(b"unix\t", rest) else {
+        return put_bad_line(replies);
+    };
+    put_command::<UnixEncoding>(command, texts, scratch, replies)
+}
+
+/// Puts the reply to a command on texts with a tab between behind others.
+fn put_command<T: Encoding>(
+    command: Command,
+    texts: &[u8],
+    scratch: &mut Vec<u8>,
+    replies: &mut Vec<u8>,
+) -> Result<(), AllocError>
+    ensures { OnOk result (replies.new.items ≡ replies.old.items
+        ++ reply_line (texts_reply T.dialect (command_name command) (fields_of texts.now))) }
+{
+    let Some((base, path)) = cut_at(b'\t', texts) else {
+        return put_path_reply::<T>(command, texts, replies);
+    };
+    match cut_at(b'\t', path) {
+        None => put_join_reply::<T>(command, base, path, scratch, replies),
+        Some(_) => put_bad_line(replies),
     }
 }
 
 /// Puts the reply to a command on a path behind others.
 fn put_path_reply<T: Encoding>(
-    alloc: Global,
-    command: &[u8],
-    path: Path<'_, T>,
+    command: Command,
+    path: &[u8],
     replies: &mut Vec<u8>,
 ) -> Result<(), AllocError>
-    ensures { OnOk result (replies.new.items ≡ replies.old.items ++ reply_line (reply_in T.dialect command.now (path_bytes path.entry))) }
+    ensures { OnOk result (replies.new.items
+        ≡ replies.old.items ++ reply_line (reply_in T.dialect (command_name command) path.now)) }
 {
-    if command == NORMALIZE {
-        let normal = path.normalize(alloc)?;
-        return put_text(normal.as_path().as_bytes(), replies);
+    match command {
+        Command::Normalize => {
+            replies.extend_from_slice(b"ok\t")?;
+            T::put_normal(replies, path)?;
+            replies.push(b'\n')?;
+            Ok(())
+        }
+        Command::Components => put_components(Path::<T>::new(path), replies),
+        Command::Join | Command::JoinChecked => put_bad_line(replies),
     }
-    if command == COMPONENTS {
-        return put_components(path, replies);
-    }
-    put_bad_line(replies)
 }
 
 /// Puts the reply to a command on a base and a path behind others.
 fn put_join_reply<T: Encoding>(
-    alloc: Global,
-    command: &[u8],
-    base: Path<'_, T>,
-    path: Path<'_, T>,
+    command: Command,
+    base: &[u8],
+    path: &[u8],
+    scratch: &mut Vec<u8>,
     replies: &mut Vec<u8>,
 ) -> Result<(), AllocError>
-    ensures { OnOk result (replies.new.items
-        ≡ replies.old.items ++ reply_line (join_reply_in T.dialect command.now (path_bytes base.entry) (path_bytes path.entry))) }
+    ensures { OnOk result (replies.new.items ≡ replies.old.items
+        ++ reply_line (join_reply_in T.dialect (command_name command) base.now path.now)) }
 {
-    if command == JOIN {
-        let joined = base.join(alloc, path)?;
-        return put_text(joined.as_path().as_bytes(), replies);
+    match command {
+        Command::Join => put_joined::<T>(base, path, scratch, replies),
+        Command::JoinChecked => match T::check(path) {
+            Ok(()) => put_joined::<T>(base, path, scratch, replies),
+            Err(refusal) => put_refusal(refusal, replies),
+        },
+        Command::Normalize | Command::Components => put_bad_line(replies),
     }
-    if command == JOIN_CHECKED {
-        return match base.join_checked(alloc, path) {
-            Ok(joined) => put_text(joined.as_path().as_bytes(), replies),
-            Err(PathError::Checked(refusal)) => put_refusal(refusal, replies),
-            Err(PathError::OutOfMemory) => Err(AllocError),
-        };
-    }
-    put_bad_line(replies)
+}
+
+/// Puts the reply that is a path pushed onto a base behind others. They are joined in the scratch.
+fn put_joined<T: Encoding>(
+    base: &[u8],
+    path: &[u8],
+    scratch: &mut Vec<u8>,
+    replies: &mut Vec<u8>,
+) -> Result<(), AllocError>
+    ensures { OnOk result
+        (replies.new.items ≡ replies.old.items ++ text_reply (push T.dialect base.now path.now)) }
+{
+    scratch.clear();
+    scratch.extend_from_slice(base)?;
+    T::push(scratch, path)?;
+    replies.extend_from_slice(b"ok\t")?;
+    replies.extend_from_slice(scratch.as_slice())?;
+    replies.push(b'\n')?;
+    Ok(())
 }
 
 /// Puts the reply that is the name of a refusal behind others.
 fn put_refusal(refusal: CheckedPathError, replies: &mut Vec<u8>) -> Result<(), AllocError>
-    ensures { OnOk result (replies.new.items ≡ replies.old.items ++ reply_line (joined_reply [] (Some refusal))) }
+    ensures { OnOk result
+        (replies.new.items ≡ replies.old.items ++ reply_line (joined_reply [] (Some refusal))) }
 {
     replies.extend_from_slice(b"err\t")?;
     replies.extend_from_slice(refusal_name(refusal))?;
@@ -143,19 +173,10 @@ fn put_bad_line(replies: &mut Vec<u8>) -> Result<(), AllocError>
     replies.extend_from_slice(b"err\tBadLine\n")
 }
 
-/// Puts the reply that is one text behind others.
-fn put_text(text: &[u8], replies: &mut Vec<u8>) -> Result<(), AllocError>
-    ensures { OnOk result (replies.new.items ≡ replies.old.items ++ text_reply text.now) }
-{
-    replies.extend_from_slice(b"ok\t")?;
-    replies.extend_from_slice(text)?;
-    replies.push(b'\n')?;
-    Ok(())
-}
-
 /// Puts the reply that shows the components of a path behind others.
 fn put_components<T: Encoding>(path: Path<'_, T>, replies: &mut Vec<u8>) -> Result<(), AllocError>
-    ensures { OnOk result (replies.new.items ≡ replies.old.items ++ reply_line (components_reply (parts_of T.dialect (path_bytes path.entry)))) }
+    ensures { OnOk result (replies.new.items ≡ replies.old.items
+        ++ reply_line (components_reply (parts_of T.dialect (path_bytes path.entry)))) }
 {
     replies.extend_from_slice(b"ok")?;
     'pieces: for piece in path.components() {
@@ -167,37 +188,36 @@ fn put_components<T: Encoding>(path: Path<'_, T>, replies: &mut Vec<u8>) -> Resu
 
 /// Puts a tab, and the field that shows a component.
 fn put_component(piece: Piece<'_>, replies: &mut Vec<u8>) -> Result<(), AllocError>
-    ensures { OnOk result (replies.new.items ≡ replies.old.items ++ tab ∷ component_field (part_of piece.entry)) }
+    ensures { OnOk result
+        (replies.new.items ≡ replies.old.items ++ tab ∷ component_field (part_of piece.entry)) }
 {
-    replies.push(b'\t')?;
-    replies.extend_from_slice(kind_name(piece))?;
-    replies.push(b'=')?;
+    replies.extend_from_slice(label(piece))?;
     replies.extend_from_slice(piece.text)
 }
 
-/// What a field calls a component.
-fn kind_name(piece: Piece<'_>) -> &'static [u8]
-    ensures { result.now ≡ kind_name (part_of piece.entry).kind }
+/// A tab, what a field calls a component, and an equals sign.
+fn label(piece: Piece<'_>) -> &'static [u8]
+    ensures { result.now ≡ tab ∷ kind_name (part_of piece.entry).kind ++ equals_sign ∷ [] }
 {
     match piece.kind {
-        PieceKind::Prefix(prefix) => prefix_name(prefix),
-        PieceKind::RootDir => b"root",
-        PieceKind::CurDir => b"current",
-        PieceKind::ParentDir => b"parent",
-        PieceKind::Normal => b"normal",
+        PieceKind::Prefix(prefix) => prefix_label(prefix),
+        PieceKind::RootDir => b"\troot=",
+        PieceKind::CurDir => b"\tcurrent=",
+        PieceKind::ParentDir => b"\tparent=",
+        PieceKind::Normal => b"\tnormal=",
     }
 }
 
-/// What a field calls a prefix.
-fn prefix_name(prefix: WindowsPrefix<'_>) -> &'static [u8]
-    ensures { result.now ≡ prefix_name (prefix_view prefix.entry) }
+/// A tab, what a field calls a prefix, and an equals sign.
+fn prefix_label(prefix: WindowsPrefix<'_>) -> &'static [u8]
+    ensures { result.now ≡ tab ∷ prefix_name (prefix_view prefix.entry) ++ equals_sign ∷ [] }
 {
     match prefix {
-        WindowsPrefix::Verbatim(_) => b"Verbatim",
-        WindowsPrefix::VerbatimUNC(_, _) => b"VerbatimUNC",
-        WindowsPrefix::VerbatimDisk(_) => b"VerbatimDisk",
-        WindowsPrefix::DeviceNS(_) => b"DeviceNS",
-        WindowsPrefix::UNC(_, _) => b"UNC",
-        WindowsPrefix::Disk(_) => b"Disk",
+        WindowsPrefix::Verbatim(_) => b"\tVerbatim=",
+        WindowsPrefix::VerbatimUNC(_, _) => b"\tVerbatimUNC=",
+        WindowsPrefix::VerbatimDisk(_) => b"\tVerbatimDisk=",
+        WindowsPrefix::DeviceNS(_) => b"\tDeviceNS=",
+        WindowsPrefix::UNC(_, _) => b"\tUNC=",
+        WindowsPrefix::Disk(_) => b"\tDisk=",
     }
 }

@@ -51,10 +51,13 @@ pub fn run_ops<T: Encoding>(
     operations: &[PathOp<'_>],
     replies: &mut Vec<Reply>,
 ) -> Result<(), AllocError>
-    ensures path { OnOk result (path.new.bytes ≡ text_after T.dialect path.old.bytes (operations_of operations.now)) }
+    ensures path { OnOk result
+        (path.new.bytes ≡ text_after T.dialect path.old.bytes (operations_of operations.now)) }
     ensures replies { OnOk result (responses_of replies.new.items
-        ≡ responses_of replies.old.items ++ run_spec.replies T.dialect path.old.bytes (operations_of operations.now)) }
-    ensures memory { OnErr result (StopsAt T.dialect path.old.bytes (operations_of operations.now) path.new.bytes
+        ≡ responses_of replies.old.items
+        ++ run_spec.replies T.dialect path.old.bytes (operations_of operations.now)) }
+    ensures memory { OnErr result
+        (StopsAt T.dialect path.old.bytes (operations_of operations.now) path.new.bytes
         (responses_of replies.old.items) (responses_of replies.new.items)) }
     ensures succeeds { vec_len replies.old + length operations.now ≤ vec_capacity replies.old
         → FitsAll T.dialect path.old.capacity path.old.bytes (operations_of operations.now)
@@ -70,11 +73,15 @@ pub fn run_ops<T: Encoding>(
 
 /// Does one operation on a path. Where memory is refused, only an `Extend` may have pushed some.
 fn apply<T: Encoding>(path: &mut PathBuf<T>, operation: PathOp<'_>) -> Result<Reply, AllocError>
-    ensures path { OnOk result (path.new.bytes ≡ (step T.dialect path.old.bytes (operation_of operation.entry)).0) }
-    ensures reply { IfOk result (λ reply. response_of reply ≡ (step T.dialect path.old.bytes (operation_of operation.entry)).1) }
-    ensures memory { OnErr result (IsPartDone T.dialect path.old.bytes (operation_of operation.entry) path.new.bytes) }
+    ensures path { OnOk result
+        (path.new.bytes ≡ (step T.dialect path.old.bytes (operation_of operation.entry)).0) }
+    ensures reply { IfOk result (λ reply. response_of reply
+        ≡ (step T.dialect path.old.bytes (operation_of operation.entry)).1) }
+    ensures memory { OnErr result
+        (IsPartDone T.dialect path.old.bytes (operation_of operation.entry) path.new.bytes) }
     ensures capacity { path.old.capacity ≤ path.new.capacity }
-    ensures succeeds { FitsStep T.dialect path.old.capacity path.old.bytes (operation_of operation.entry)
+    ensures succeeds { FitsStep T.dialect path.old.capacity path.old.bytes
+        (operation_of operation.entry)
         → IsOk result }
 {
     match operation {
@@ -93,11 +100,14 @@ fn apply<T: Encoding>(path: &mut PathBuf<T>, operation: PathOp<'_>) -> Result<Re
 
 /// Pushes a path that may be refused.
 fn apply_checked<T: Encoding>(path: &mut PathBuf<T>, other: &[u8]) -> Result<Reply, AllocError>
-    ensures path { OnOk result (path.new.bytes ≡ (step T.dialect path.old.bytes (push_checked_op other.now)).0) }
-    ensures reply { IfOk result (λ reply. response_of reply ≡ (step T.dialect path.old.bytes (push_checked_op other.now)).1) }
+    ensures path { OnOk result
+        (path.new.bytes ≡ (step T.dialect path.old.bytes (push_checked_op other.now)).0) }
+    ensures reply { IfOk result (λ reply. response_of reply
+        ≡ (step T.dialect path.old.bytes (push_checked_op other.now)).1) }
     ensures memory { OnErr result (path.new.bytes ≡ path.old.bytes) }
     ensures capacity { path.old.capacity ≤ path.new.capacity }
-    ensures succeeds { FitsStep T.dialect path.old.capacity path.old.bytes (push_checked_op other.now)
+    ensures succeeds { FitsStep T.dialect path.old.capacity path.old.bytes
+        (push_checked_op other.now)
         → IsOk result }
 {
     match path.push_checked(Path::new(other)) {
@@ -109,10 +119,13 @@ fn apply_checked<T: Encoding>(path: &mut PathBuf<T>, other: &[u8]) -> Result<Rep
 
 /// Pushes paths of these bytes one by one. Where memory is refused, those before it stay pushed.
 fn push_each<T: Encoding>(path: &mut PathBuf<T>, others: &[&[u8]]) -> Result<(), AllocError>
-    ensures ok { OnOk result (path.new.bytes ≡ push_spec.push_all T.dialect path.old.bytes (map (λ b. b.now) others.now)) }
-    ensures err { OnErr result (AreTaken T.dialect path.old.bytes (map (λ b. b.now) others.now) path.new.bytes) }
+    ensures ok { OnOk result (path.new.bytes
+        ≡ push_spec.push_all T.dialect path.old.bytes (map (λ b. b.now) others.now)) }
+    ensures err { OnErr result
+        (AreTaken T.dialect path.old.bytes (map (λ b. b.now) others.now) path.new.bytes) }
     ensures capacity { path.old.capacity ≤ path.new.capacity }
-    ensures succeeds { FitsEach T.dialect path.old.capacity path.old.bytes (map (λ b. b.now) others.now)
+    ensures succeeds { FitsEach T.dialect path.old.capacity path.old.bytes
+        (map (λ b. b.now) others.now)
         → IsOk result }
 {
     'others: for other in others {

@@ -43,13 +43,20 @@ impl<R: Read> Source for StdSource<R> {
     fn read(&mut self, buffer: &mut [u8]) -> Result<usize, Failed>
         ensures count { IfOk result (λ n. n ≤ length buffer.new) }
         ensures bytes { IfOk result
-            (λ n. Consumes (⟦<StdSource<R> as Source>⟧.remaining self.old) (⟦<StdSource<R> as Source>⟧.remaining self.new) (take n buffer.new)) }
-        ensures end { IfOk result (λ n. n ≡ 0 → 0 < length buffer.new → IsAtEnd (⟦<StdSource<R> as Source>⟧.remaining self.new)) }
-        ensures nearer { IfOk result (λ n. 0 < n → ⟦<StdSource<R> as Source>⟧.bound self.new < ⟦<StdSource<R> as Source>⟧.bound self.old) }
-        ensures granted { ⟦<StdSource<R> as Source>⟧.bound self.new ≡ ⟦<StdSource<R> as Source>⟧.bound self.old - 1 }
-        ensures unfailed { OnOk result (⟦<StdSource<R> as Source>⟧.has_failed self.new ≡ ⟦<StdSource<R> as Source>⟧.has_failed self.old) }
+            (λ n. Consumes (⟦<StdSource<R> as Source>⟧.remaining self.old)
+            (⟦<StdSource<R> as Source>⟧.remaining self.new) (take n buffer.new)) }
+        ensures end { IfOk result (λ n. n ≡ 0 → 0 < length buffer.new
+            → IsAtEnd (⟦<StdSource<R> as Source>⟧.remaining self.new)) }
+        ensures nearer { IfOk result (λ n. 0 < n
+            → ⟦<StdSource<R> as Source>⟧.bound self.new
+            < ⟦<StdSource<R> as Source>⟧.bound self.old) }
+        ensures granted { ⟦<StdSource<R> as Source>⟧.bound self.new
+            ≡ ⟦<StdSource<R> as Source>⟧.bound self.old - 1 }
+        ensures unfailed { OnOk result (⟦<StdSource<R> as Source>⟧.has_failed self.new
+            ≡ ⟦<StdSource<R> as Source>⟧.has_failed self.old) }
         ensures failed { OnErr result (⟦<StdSource<R> as Source>⟧.has_failed self.new ≡ true) }
-        ensures kept { OnErr result (KeepsIfTold (⟦<StdSource<R> as Source>⟧.remaining self.old) (⟦<StdSource<R> as Source>⟧.remaining self.new)) }
+        ensures kept { OnErr result (KeepsIfTold (⟦<StdSource<R> as Source>⟧.remaining self.old)
+            (⟦<StdSource<R> as Source>⟧.remaining self.new)) }
     {
         if self.granted == 0 {
             self.failed = true;

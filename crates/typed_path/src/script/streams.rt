@@ -26,8 +26,10 @@ pub trait Source {
     /// come only at the end. A failure moves no byte.
     fn read(&mut self, buffer: &mut [u8]) -> Result<usize, Failed>
         ensures count { IfOk result (λ n. n ≤ length buffer.new) }
-        ensures bytes { IfOk result (λ n. Consumes (remaining self.old) (remaining self.new) (take n buffer.new)) }
-        ensures end { IfOk result (λ n. n ≡ 0 → 0 < length buffer.new → IsAtEnd (remaining self.new)) }
+        ensures bytes { IfOk result
+            (λ n. Consumes (remaining self.old) (remaining self.new) (take n buffer.new)) }
+        ensures end { IfOk result
+            (λ n. n ≡ 0 → 0 < length buffer.new → IsAtEnd (remaining self.new)) }
         ensures nearer { IfOk result (λ n. 0 < n → bound self.new < bound self.old) }
         ensures unfailed { OnOk result (has_failed self.new ≡ has_failed self.old) }
         ensures failed { OnErr result (has_failed self.new ≡ true) }
@@ -47,7 +49,8 @@ pub trait Sink {
     fn write(&mut self, bytes: &[u8]) -> Result<usize, Failed>
         ensures count { IfOk result (λ n. n ≤ length bytes.now) }
         ensures some { IfOk result (λ n. 0 < length bytes.now → 0 < n) }
-        ensures bytes { IfOk result (λ n. Appends (contents self.old) (contents self.new) (take n bytes.now)) }
+        ensures bytes { IfOk result
+            (λ n. Appends (contents self.old) (contents self.new) (take n bytes.now)) }
         ensures unfailed { OnOk result (has_failed self.new ≡ has_failed self.old) }
         ensures failed { OnErr result (has_failed self.new ≡ true) }
         ensures kept { OnErr result (KeepsIfTold (contents self.old) (contents self.new)) };

@@ -63,7 +63,8 @@ impl<'a> UnixComponents<'a> {
     pub fn next(&mut self) -> Option<UnixComponent<'a>>
         ensures taken { option_map unix_part result ≡ first_part (unix_items self.old) }
         ensures items { unix_items self.new ≡ drop 1 (unix_items self.old) }
-        ensures slice { unix_slice self.new ≡ slice_after_front (unix_items self.old) (unix_slice self.old) }
+        ensures slice { unix_slice self.new
+            ≡ slice_after_front (unix_items self.old) (unix_slice self.old) }
     {
         let piece = self.components.next()?;
         Some(unix_component(piece))
@@ -74,7 +75,8 @@ impl<'a> UnixComponents<'a> {
     pub fn next_back(&mut self) -> Option<UnixComponent<'a>>
         ensures taken { option_map unix_part result ≡ last_part (unix_items self.old) }
         ensures items { unix_items self.new ≡ but_last (unix_items self.old) }
-        ensures slice { unix_slice self.new ≡ slice_after_back (unix_items self.old) (unix_slice self.old) }
+        ensures slice { unix_slice self.new
+            ≡ slice_after_back (unix_items self.old) (unix_slice self.old) }
     {
         let piece = self.components.next_back()?;
         Some(unix_component(piece))

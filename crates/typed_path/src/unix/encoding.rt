@@ -7,8 +7,8 @@ ghost use Rattle.typed_path.specs.components.Dialect.{unix};
 use crate::common::Encoding;
 use crate::errors::CheckedPathError;
 use crate::scan::{Cursor, Piece, Separators, base_end};
-use crate::unix::normal::normal;
-use std::alloc::{AllocError, Global};
+use crate::unix::normal::put_normal;
+use std::alloc::AllocError;
 use std::fmt;
 
 /// Paths as on Unix: `/` separates, and every other byte belongs to a name.
@@ -86,8 +86,8 @@ impl Encoding for UnixEncoding {
         }
     }
 
-    fn normal(alloc: Global, path: &[u8]) -> Result<Vec<u8>, AllocError> {
-        normal(alloc, path)
+    fn put_normal(text: &mut Vec<u8>, path: &[u8]) -> Result<(), AllocError> {
+        put_normal(text, path)
     }
 
     fn check(path: &[u8]) -> Result<(), CheckedPathError> {
@@ -108,7 +108,8 @@ fn put_over(
         (path.new.items ≡ take kept path.old.items ++ separator.now ++ other.now) }
     ensures err { OnErr result (path.new.items ≡ path.old.items) }
     ensures capacity { vec_capacity path.old ≤ vec_capacity path.new }
-    ensures succeeds { kept + length separator.now + length other.now ≤ vec_capacity path.old → IsOk result }
+    ensures succeeds { kept + length separator.now + length other.now ≤ vec_capacity path.old
+        → IsOk result }
 {
     let len = kept + separator.len() + other.len();
     path.reserve(len.saturating_sub(path.len()))?;

@@ -1,26 +1,34 @@
 //! The normal text of a Unix path.
 
-ghost use Rattle.std.specs.Prelude.{◌≡◌, ◌<◌, ◌≤◌, ◌-◌, ◌++◌, ℕ, List, [], take, length, OnOk, IfOk};
+ghost use Rattle.std.specs.Prelude.{◌≡◌, ◌<◌, ◌≤◌, ◌-◌, ◌++◌, ℕ, List, [], take, length, ◌+◌, IsOk, OnOk, OnErr};
+ghost use Rattle.std.specs.Vec.{vec_len, vec_capacity};
 ghost use Rattle.typed_path.specs.components.Dialect.{unix};
 ghost use Rattle.typed_path.specs.places.Places.{normal_text};
 ghost use Rattle.typed_path.specs.places.Rows.{rows, settled, names_left, AreRows, IsParted};
 
-use crate::scan::{PieceKind, Separators, cut_at, piece_of};
-use std::alloc::{AllocError, Global};
+use crate::scan::{PieceKind, Separators, cut_at_separator, piece_of};
+use std::alloc::AllocError;
 
-/// The normal text of a path, in one pass.
+/// Puts the normal text of a path behind a text, in one pass.
 ///
 /// Each name is put behind the ones before it with a separator behind it, and a `..` takes the last
-/// one off again; at the end the last separator goes.
-pub fn normal(alloc: Global, path: &[u8]) -> Result<Vec<u8>, AllocError>
-    ensures { IfOk result (λ text. text.items ≡ normal_text unix path.now) }
+/// one off again; at the end the last separator goes. Where memory is refused, all of it goes.
+pub fn put_normal(text: &mut Vec<u8>, path: &[u8]) -> Result<(), AllocError>
+    ensures ok { OnOk result (text.new.items ≡ text.old.items ++ normal_text unix path.now) }
+    ensures err { OnErr result (text.new.items ≡ text.old.items) }
+    ensures capacity { vec_capacity text.old ≤ vec_capacity text.new }
+    ensures succeeds { vec_len text.old + length path.now < vec_capacity text.old → IsOk result }
 {
+    let len = text.len();
     let (root, rest) = split_root(path);
-    let mut normal = Vec::with_capacity(alloc, path.len() + 1)?;
-    normal.extend_from_slice(root)?;
-    settle_all(&mut normal, root.len(), rest)?;
-    drop_separator(&mut normal, root.len());
-    Ok(normal)
+    text.extend_from_slice(root)?;
+    let head = text.len();
+    if let Err(refused) = settle_all(text, head, rest) {
+        text.truncate(len);
+        return Err(refused);
+    }
+    drop_separator(text, head);
+    Ok(())
 }
 
 /// The root of a path, or nothing, and what stands behind it.
@@ -33,41 +41,53 @@ fn split_root(path: &[u8]) -> (&[u8], &[u8])
     }
 }
 
-/// Takes the separator behind the last name off, where a name stands.
-fn drop_separator(normal: &mut Vec<u8>, root: usize)
-    ensures named { root < length normal.old.items
-        → normal.new.items ≡ take (length normal.old.items - 1) normal.old.items }
-    ensures alone { length normal.old.items ≤ root → normal.new.items ≡ normal.old.items }
+/// Takes the separator behind the last name off, where a name stands behind the first bytes.
+fn drop_separator(text: &mut Vec<u8>, len: usize)
+    ensures capacity { vec_capacity text.new ≡ vec_capacity text.old }
+    ensures named { len < length text.old.items
+        → text.new.items ≡ take (length text.old.items - 1) text.old.items }
+    ensures alone { length text.old.items ≤ len → text.new.items ≡ text.old.items }
 {
-    if root < normal.len() {
-        normal.pop();
+    if len < text.len() {
+        text.pop();
     }
 }
 
-/// Puts the names that are left of a text behind a root or nothing.
-fn settle_all(normal: &mut Vec<u8>, root: usize, text: &[u8]) -> Result<(), AllocError>
-    ensures { OnOk result ((head : List ℕ) → length head ≡ root → AreRows normal.old.items head []
-        → normal.new.items ≡ head ++ rows (names_left text.now)) }
+/// Puts the names that are left of a path behind the first bytes of a text.
+fn settle_all(text: &mut Vec<u8>, len: usize, path: &[u8]) -> Result<(), AllocError>
+    requires { len ≤ length text.old.items }
+    ensures ok { OnOk result ((head : List ℕ) → length head ≡ len → AreRows text.old.items head []
+        → text.new.items ≡ head ++ rows (names_left path.now)) }
+    ensures kept { take len text.new.items ≡ take len text.old.items }
+    ensures long { len ≤ length text.new.items }
+    ensures capacity { vec_capacity text.old ≤ vec_capacity text.new }
+    ensures succeeds { vec_len text.old + length path.now < vec_capacity text.old → IsOk result }
 {
-    let mut rest = text;
-    'segments: while let Some((segment, behind)) = cut_at(b'/', rest) {
-        settle(normal, root, segment)?;
+    let mut rest = path;
+    'segments: while let Some((segment, behind)) = cut_at_separator(Separators::Slash, rest) {
+        settle(text, len, segment)?;
         rest = behind;
     }
-    settle(normal, root, rest)
+    settle(text, len, rest)
 }
 
 /// Settles one more segment behind the names that stand.
-fn settle(normal: &mut Vec<u8>, root: usize, segment: &[u8]) -> Result<(), AllocError>
-    ensures { OnOk result ((head : List ℕ) (names : List (List ℕ)) → length head ≡ root
-        → AreRows normal.old.items head names
-        → normal.new.items ≡ head ++ rows (settled names segment.now)) }
+fn settle(text: &mut Vec<u8>, len: usize, segment: &[u8]) -> Result<(), AllocError>
+    requires { len ≤ length text.old.items }
+    ensures ok { OnOk result ((head : List ℕ) (names : List (List ℕ)) → length head ≡ len
+        → AreRows text.old.items head names
+        → text.new.items ≡ head ++ rows (settled names segment.now)) }
+    ensures kept { take len text.new.items ≡ take len text.old.items }
+    ensures long { len ≤ length text.new.items }
+    ensures room { vec_len text.new ≤ vec_len text.old + length segment.now + 1 }
+    ensures capacity { vec_capacity text.old ≤ vec_capacity text.new }
+    ensures succeeds { vec_len text.old + length segment.now < vec_capacity text.old → IsOk result }
 {
     match piece_of(segment, Separators::Slash).kind {
-        PieceKind::ParentDir => drop_name(normal, root),
+        PieceKind::ParentDir => drop_name(text, len),
         PieceKind::Normal => {
-            normal.extend_from_slice(segment)?;
-            normal.push(b'/')?;
+            text.extend_from_slice(segment)?;
+            text.push(b'/')?;
         }
         PieceKind::Prefix(_) | PieceKind::RootDir | PieceKind::CurDir => {}
     }
@@ -75,13 +95,18 @@ fn settle(normal: &mut Vec<u8>, root: usize, segment: &[u8]) -> Result<(), Alloc
 }
 
 /// Takes the last name off, and the separator behind it, where a name stands.
-fn drop_name(normal: &mut Vec<u8>, root: usize)
-    ensures { (head : List ℕ) (names : List (List ℕ)) → length head ≡ root
-        → AreRows normal.old.items head names
-        → normal.new.items ≡ head ++ rows (take (length names - 1) names) }
+fn drop_name(text: &mut Vec<u8>, len: usize)
+    requires { len ≤ length text.old.items }
+    ensures dropped { (head : List ℕ) (names : List (List ℕ)) → length head ≡ len
+        → AreRows text.old.items head names
+        → text.new.items ≡ head ++ rows (take (length names - 1) names) }
+    ensures kept { take len text.new.items ≡ take len text.old.items }
+    ensures long { len ≤ length text.new.items }
+    ensures room { vec_len text.new ≤ vec_len text.old }
+    ensures capacity { vec_capacity text.new ≡ vec_capacity text.old }
 {
-    if root < normal.len() {
-        let start = Separators::Slash.last_in(&normal[..normal.len() - 1]);
-        normal.truncate(start);
+    if len < text.len() {
+        let start = Separators::Slash.last_in(&text[len..text.len() - 1]);
+        text.truncate(len + start);
     }
 }

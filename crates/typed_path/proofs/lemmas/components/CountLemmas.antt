@@ -1,15 +1,16 @@
 -- A text has no more components than bytes.
-use Rattle.std.proofs.Common.{◌≡◌, ℕ, ◌+◌, ◌≤◌, ◌<◌, Bool, true, false, if◌then◌else◌, List, [], ◌∷◌, length, drop, Option, Some, None, refl, sym, ap, ◌∙◌, arith, ◌==◌, zero-le}
+use Rattle.std.proofs.Common.{◌≡◌, ℕ, ◌+◌, ◌≤◌, ◌<◌, Bool, true, false, if◌then◌else◌, List, [], ◌∷◌, length, drop, Option, Some, None, refl, sym, ap, subst, ◌∙◌, arith, ◌==◌, zero-le}
 use Rattle.std.proofs.lemmas.Bool.{eqb-false}
 use Rattle.std.proofs.lemmas.List.{length-append, length-map, length-drop}
 use Rattle.typed_path.specs.declared.scan.separators.Separators.{Separators}
 use Rattle.typed_path.specs.declared.scan.begin.Begin.{Begin}
 use Rattle.typed_path.specs.declared.scan.begin.Begin.TheVariants.{Body, Inside}
-use Rattle.typed_path.specs.components.Dialect.{Dialect, separators, is_separator, is_verbatim}
+use Rattle.typed_path.specs.components.Dialect.{Dialect, windows, separators, is_separator, is_verbatim}
 use Rattle.typed_path.specs.components.Prefix.{Found, prefix_of}
 use Rattle.typed_path.specs.components.Part.{Placed, parts, current_part}
-use Rattle.typed_path.specs.components.Comps.{is_dot, body, later_body, comps, comps_behind}
+use Rattle.typed_path.specs.components.Comps.{is_dot, body, later_body, comps, comps_behind, parts_of}
 use Rattle.typed_path.specs.readings.Steps.{body_from}
+use Rattle.typed_path.proofs.lemmas.components.BodyCuts.{body-filled}
 use Rattle.typed_path.proofs.lemmas.components.PartLemmas.{pieces, named_part, later_part, later_parts, first_parts, parts-body, parts-later_body}
 use Rattle.typed_path.proofs.lemmas.lists.SplitLemmas.{slice_split-some}
 use Rattle.typed_path.proofs.lemmas.components.PrefixLemmas.{prefix-fits}
@@ -68,3 +69,14 @@ comps-count d t = by (prefix_of d t) refl
     by (Some f) e =
         let fits = prefix-fits d t f e in
         omega (arith, body-count (separators d t) f.length (drop f.length t), length-drop f.length t, fits.filled, fits.fits)
+
+-- where more stands behind the prefix, there is another component
+filled-count : (s : Separators) (at : ℕ) (text : List ℕ) → 0 < length text → 0 < length (parts (body s at text))
+filled-count s at [] filled = absurd (omega arith)
+filled-count s at (b ∷ bs) filled = omega (arith, body-filled s at b bs, length-parts (body s at (b ∷ bs)))
+
+pub behind-count : (text : List ℕ) (f : Found) → Some f ≡ prefix_of windows text → f.length < length text → 1 < length (parts_of windows text)
+behind-count text f found less =
+    let s = separators windows text in
+    let behind = filled-count s f.length (drop f.length text) (omega (arith, length-drop f.length text)) in
+    subst (λ o. 1 < length (parts (comps_behind s text o))) found (omega (arith, behind))

@@ -1,8 +1,9 @@
 -- A list cut at the first element that passes a test.
 use Rattle.std.proofs.Common.{◌≡◌, ℕ, ◌+◌, ◌<◌, ◌≤◌, List, [], ◌∷◌, ◌++◌, Bool, false, length, take, drop, slice_index, sym, ap, subst, ◌∙◌, All, arith}
-use Rattle.std.specs.List.{slice_split}
+use Rattle.std.specs.List.{slice_split, position_or_len}
 use Rattle.std.proofs.lemmas.List.{drop_more, take-append-drop, get_or_default, get_or-take, length-take-le, take_all}
-use Rattle.std.proofs.lemmas.List.Splits.{slice_split_none, slice_split_at}
+use Rattle.std.proofs.lemmas.List.Splits.{slice_split_none, slice_split_at, slice_split_first}
+use Rattle.std.proofs.lemmas.List.Sums.{fails_before_first}
 use Rattle.std.proofs.lemmas.Bool.{false_from_ne_true}
 use Rattle.memchr.specs.Find.{Nowhere, NoneBefore, Passes}
 
@@ -26,3 +27,18 @@ module _ (p : ℕ → Bool) (text : List ℕ) where
             ∙ slice_split_at p (take n text) (slice_index text n) (drop (n + 1) text) front passes,
         slice_split_none p (take n text) front,
       )
+
+  -- the same, by the place of the first element that passes
+  fails_before : (n : ℕ) → n ≡ position_or_len p text → n ≤ length text → All (λ b. p b ≡ false) (take n text)
+  fails_before n is within k d l =
+      let size = length-take-le n text within in
+      ap p (get_or-take n text k d (omega arith)) ∙ fails_before_first p text k d (omega arith)
+
+  pub split-none_passes : length text ≤ position_or_len p text → slice_split p text ≡ text ∷ []
+  split-none_passes h = slice_split_none p text (λ k d l. fails_before_first p text k d (omega arith))
+
+  pub split-at_first : (n : ℕ) → n ≡ position_or_len p text → n < length text → slice_split p text ≡ take n text ∷ slice_split p (drop (n + 1) text)
+  split-at_first n is within = rw is (slice_split_first p text 0 (omega arith))
+
+  pub open-at_first : (n : ℕ) → n ≡ position_or_len p text → n < length text → slice_split p (take n text) ≡ take n text ∷ []
+  open-at_first n is within = slice_split_none p (take n text) (fails_before n is (omega arith))

@@ -1,15 +1,15 @@
 -- A text of rows as one more segment comes.
-use Rattle.std.proofs.Common.{◌≡◌, inl, inr, ℕ, ◌-◌, ◌<◌, ◌≤◌, ◌==◌, ◌||◌, Bool, true, false, cond, List, [], ◌∷◌, ◌++◌, length, take, get_or, fold, refl, sym, ap, ◌∙◌, append_assoc, append-nil, subst, arith}
+use Rattle.std.proofs.Common.{◌≡◌, inl, inr, ℕ, ◌+◌, ◌-◌, ◌<◌, ◌≤◌, ◌==◌, ◌||◌, Bool, true, false, cond, List, [], ◌∷◌, ◌++◌, length, take, drop, get_or, fold, refl, sym, ap, ◌∙◌, append_assoc, append-nil, subst, arith}
 use Rattle.std.specs.List.{slice_split, AllByRecursion, IsAfterLastMatch}
-use Rattle.std.proofs.lemmas.List.{length-append, take_at, get_or_append_left}
-use Rattle.std.proofs.Math.Seq.{get_or-append_seam, get_or-append_right}
+use Rattle.std.proofs.lemmas.List.{length-append, take_at, drop_at, get_or_append_left}
+use Rattle.std.proofs.Math.Seq.{get_or-append_seam, get_or-append_right, take-append-add}
 use Rattle.std.proofs.lemmas.Bool.{cases_lt}
 use Rattle.typed_path.specs.declared.scan.separators.Separators.TheVariants.{Slash}
 use Rattle.typed_path.specs.components.Dialect.{unix, slash, is_separator}
 use Rattle.typed_path.specs.components.Part.{Part, Placed, Kind, current, parent, normal, name_part, current_part, parent_part, root_part}
 use Rattle.typed_path.specs.components.Comps.{component, first, is_dot, is_dot_dot}
 use Rattle.typed_path.specs.places.Places.{normal_text}
-use Rattle.typed_path.specs.places.Rows.{rows, IsHead, IsParted, AreRows, settled, names_left}
+use Rattle.typed_path.specs.places.Rows.{rows, IsParted, AreRows, settled, names_left}
 use Rattle.typed_path.proofs.lemmas.lists.SplitLemmas.{IsUnseparated, slice_split-unseparated}
 use Rattle.typed_path.proofs.lemmas.places.RowLemmas.{IsNormal, root_normal, relative_normal, Ended, none, some, ended, take-ended, rows-append, settled-each}
 
@@ -20,17 +20,16 @@ rows-more head names name =
     ∙ sym (append_assoc head (rows names) (name ++ slash ∷ []))
     ∙ sym (append_assoc (head ++ rows names) name (slash ∷ []))
 
--- a text of rows ends with a separator, where it is not empty
-ends_separated : (head : List ℕ) (names : List (List ℕ)) → IsHead head → 0 < length (head ++ rows names) → get_or (head ++ rows names) (length (head ++ rows names) - 1) 0 ≡ slash
-ends_separated head names is filled = by names (ended names) is filled
+-- rows end with a separator, where there are any
+ends_separated : (names : List (List ℕ)) → 0 < length (rows names) → get_or (rows names) (length (rows names) - 1) 0 ≡ slash
+ends_separated names filled = by names (ended names) filled
   where
     last : (front text : List ℕ) → text ≡ front ++ slash ∷ [] → get_or text (length text - 1) 0 ≡ slash
     last front text e = ap (λ t. get_or t (length t - 1) 0) e ∙ ap (λ n. get_or (front ++ slash ∷ []) n 0) (omega (arith, length-append front (slash ∷ []))) ∙ get_or-append_seam front slash [] 0
 
-    by : (ns : List (List ℕ)) → Ended ns → IsHead head → 0 < length (head ++ rows ns) → get_or (head ++ rows ns) (length (head ++ rows ns) - 1) 0 ≡ slash
-    by _ none (inl e) h = absurd (omega (arith, ap length (append-nil head ∙ e)))
-    by _ none (inr e) h = last [] (head ++ []) (append-nil head ∙ e)
-    by _ (some ns n) is h = last ((head ++ rows ns) ++ n) (head ++ rows (ns ++ n ∷ [])) (rows-more head ns n)
+    by : (ns : List (List ℕ)) → Ended ns → 0 < length (rows ns) → get_or (rows ns) (length (rows ns) - 1) 0 ≡ slash
+    by _ none h = absurd (omega arith)
+    by _ (some ns n) h = last (rows ns ++ n) (rows (ns ++ n ∷ [])) (rows-more [] ns n)
 
 apart : false ≡ true → ⊥
 apart h = cc
@@ -50,25 +49,28 @@ last_row front name start ends unseparated within last = elim (cases_lt start (l
   ]
 ]
 
--- the last name taken off a text of rows
-pub name_dropped : (text head : List ℕ) (names : List (List ℕ)) (start : ℕ) → AreRows text head names → length head < length text
-    → start ≤ length (take (length text - 1) text) → IsAfterLastMatch (is_separator Slash) (take (length text - 1) text) start
-    → take start text ≡ head ++ rows (take (length names - 1) names)
-name_dropped text head names start are filled within last = by names (ended names) are.unseparated are.is
+-- the last name taken off a text of rows, by the place behind the last separator between the head and the end
+pub name_dropped : (text head cut : List ℕ) (names : List (List ℕ)) (n start : ℕ) → length head ≡ n → AreRows text head names → n < length text
+    → cut ≡ take (length text - 1 - n) (drop n text) → start ≤ length cut → IsAfterLastMatch (is_separator Slash) cut start
+    → take (n + start) text ≡ head ++ rows (take (length names - 1) names)
+name_dropped text head cut names n start head_size are filled is within last = by names (ended names) are.unseparated are.is
   where
-    by : (ns : List (List ℕ)) → Ended ns → AllByRecursion (IsUnseparated (is_separator Slash)) ns → text ≡ head ++ rows ns → take start text ≡ head ++ rows (take (length ns - 1) ns)
+    by : (ns : List (List ℕ)) → Ended ns → AllByRecursion (IsUnseparated (is_separator Slash)) ns → text ≡ head ++ rows ns → take (n + start) text ≡ head ++ rows (take (length ns - 1) ns)
     by _ none each e = absurd (omega (arith, ap length (e ∙ append-nil head)))
-    by _ (some ns n) each e =
-        let front = head ++ rows ns in
-        let whole : text ≡ (front ++ n) ++ slash ∷ [] = e ∙ rows-more head ns n in
-        let cut : take (length text - 1) text ≡ front ++ n = ap (λ t. take (length t - 1) t) whole ∙ take-ended (front ++ n) slash in
+    by _ (some ns name) each e =
+        let front = rows ns in
+        let whole : text ≡ head ++ ((front ++ name) ++ slash ∷ []) = e ∙ ap (λ t. head ++ t) (rows-more [] ns name) in
+        let behind : drop n text ≡ (front ++ name) ++ slash ∷ [] = ap (drop n) whole ∙ drop_at head ((front ++ name) ++ slash ∷ []) n head_size in
+        let size : length (front ++ name) ≡ length text - 1 - n =
+        omega (arith, ap length whole, length-append head ((front ++ name) ++ slash ∷ []), length-append (front ++ name) (slash ∷ [])) in
+        let cut_is : cut ≡ front ++ name = is ∙ ap (take (length text - 1 - n)) behind ∙ take_at (front ++ name) (slash ∷ []) _ size in
         let P : List ℕ → Type 0 = λ t. start ≤ length t in
         let Q : List ℕ → Type 0 = λ t. IsAfterLastMatch (is_separator Slash) t start in
-        let place = last_row front n start (ends_separated head ns are.is_head) (last_of ns n each) (subst P cut within) (subst Q cut last) in
-        ap (λ m. take m text) place
-        ∙ ap (take (length front)) (whole ∙ append_assoc front n (slash ∷ []))
-        ∙ take_at front (n ++ slash ∷ []) (length front) refl
-        ∙ ap (λ ms. head ++ rows ms) (sym (take-ended ns n))
+        let place = last_row front name start (ends_separated ns) (last_of ns name each) (subst P cut_is within) (subst Q cut_is last) in
+        ap (λ m. take (n + m) text) place
+        ∙ ap (take (n + length front)) (whole ∙ ap (λ t. head ++ t) (append_assoc front name (slash ∷ [])) ∙ sym (append_assoc head front (name ++ slash ∷ [])))
+        ∙ take_at (head ++ front) (name ++ slash ∷ []) (n + length front) (length-append head front ∙ ap (λ k. k + length front) head_size)
+        ∙ ap (λ ms. head ++ rows ms) (sym (take-ended ns name))
       where
         last_of : (ms : List (List ℕ)) (m : List ℕ) → AllByRecursion (IsUnseparated (is_separator Slash)) (ms ++ m ∷ []) → IsUnseparated (is_separator Slash) m
         last_of [] m each = each.0
@@ -123,7 +125,6 @@ standing-step text new head rest behind segment whole split alone settles stands
     record {
       names = settled stands.names segment;
       rows = record {
-        is_head = stands.rows.is_head;
         unseparated = settled-each (IsUnseparated (is_separator Slash)) stands.names segment (λ e f g. unseparated) stands.rows.unseparated;
         is = settles stands.names stands.rows;
       };
@@ -136,10 +137,9 @@ pub standing-end : (text new head rest whole : List ℕ) → slice_split (is_sep
 standing-end text new head rest whole split settles stands =
     settles stands.names stands.rows ∙ ap (λ ns. head ++ rows ns) (sym (stands.left ∙ ap (fold settled stands.names) split))
 
--- no name stands behind a root or nothing at first
-pub parted-start : (path head rest : List ℕ) → IsParted path head rest → AreRows head head []
-parted-start path head rest (inl at) = record { is_head = inr at.0; unseparated = tt; is = sym (append-nil head) }
-parted-start path head rest (inr at) = record { is_head = inl at.0; unseparated = tt; is = sym (append-nil head) }
+-- no name stands behind a head at first
+pub rows-start : (head : List ℕ) → AreRows head head []
+rows-start head = record { unseparated = tt; is = sym (append-nil head) }
 
 -- the names that are left, without the last separator, are the normal text
 parted-normal : (path head rest text : List ℕ) → IsParted path head rest → text ≡ head ++ rows (names_left rest) → IsNormal (normal_text unix path) head text
@@ -147,10 +147,22 @@ parted-normal path head rest text (inl at) e = rw (at.0, at.1) (root_normal rest
 parted-normal path head rest text (inr at) e =
     rw at.0 (relative_normal path text at.2 (e ∙ ap (λ h. h ++ rows (names_left rest)) at.0 ∙ ap (λ r. rows (names_left r)) at.1))
 
--- what is left once that separator is gone is the normal text
-pub parted-end : (path head rest text new : List ℕ) → IsParted path head rest → text ≡ head ++ rows (names_left rest)
-    → (length head < length text → new ≡ take (length text - 1) text) → (length text ≤ length head → new ≡ text) → new ≡ normal_text unix path
-parted-end path head rest text new parted e named alone = elim (cases_lt (length head) (length text)) [
-  | inl more ↦ named more ∙ sym ((parted-normal path head rest text parted e).named more)
-  | inr fits ↦ alone fits ∙ sym ((parted-normal path head rest text parted e).alone fits)
-]
+-- what is left behind a text once that separator is gone is the normal text
+pub parted-end : (path before head rest text new : List ℕ) → IsParted path head rest → text ≡ (before ++ head) ++ rows (names_left rest)
+    → (length (before ++ head) < length text → new ≡ take (length text - 1) text) → (length text ≤ length (before ++ head) → new ≡ text)
+    → new ≡ before ++ normal_text unix path
+parted-end path before head rest text new parted e named alone =
+    let own = head ++ rows (names_left rest) in
+    let whole : text ≡ before ++ own = e ∙ append_assoc before head (rows (names_left rest)) in
+    let sizes = length-append before head in
+    let size : length text ≡ length before + length own = ap length whole ∙ length-append before own in
+    let is = parted-normal path head rest own parted refl in
+    elim (cases_lt (length head) (length own)) [
+      | inl more ↦
+          named (omega arith)
+          ∙ ap (take (length text - 1)) whole
+          ∙ ap (λ n. take n (before ++ own)) (omega arith)
+          ∙ take-append-add before own (length own - 1)
+          ∙ ap (λ t. before ++ t) (sym (is.named more))
+      | inr fits ↦ alone (omega arith) ∙ whole ∙ ap (λ t. before ++ t) (sym (is.alone fits))
+    ]

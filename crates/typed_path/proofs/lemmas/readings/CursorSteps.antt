@@ -29,13 +29,13 @@ module _ (c : Cursor) (f : Found) (e : c.prefix ≡ Some f) where
   items_left-pending =
       ap (λ p. prefix_left p (start_left p c.body.from) (slice_range c.body.text.now (start_left p c.body.from) c.body.to) (body_items c.body)) e
       ∙ ap (λ raw. record { part = prefix_part (prefix_view f.kind) raw; start = c.body.from - f.length } ∷ body_items c.body)
-          (prefix-text c.body.text.now c.body.from c.body.to f.length pending-fits c.body.ordered c.body.in_range)
+      (prefix-text c.body.text.now c.body.from c.body.to f.length pending-fits c.body.ordered c.body.in_range)
 
   -- the prefix ends where the body begins
   pub prefix_before-end : end_of (prefix_before f c.body.text.now c.body.from) ≡ c.body.from
   prefix_before-end =
       let raw = ap length (sym (prefix-text c.body.text.now c.body.from c.body.to f.length pending-fits c.body.ordered c.body.in_range))
-          ∙ prefix-length c.body.text.now c.body.from c.body.to f.length pending-fits c.body.ordered c.body.in_range in
+      ∙ prefix-length c.body.text.now c.body.from c.body.to f.length pending-fits c.body.ordered c.body.in_range in
       let fits = pending-fits in
       omega (arith, raw)
 
@@ -43,7 +43,7 @@ module _ (c : Cursor) (f : Found) (e : c.prefix ≡ Some f) where
   pub slice_behind-prefix : body_slice c.body ≡ slice_after_front (items_left c) (slice_left c)
   slice_behind-prefix =
       prefix_taken c.body.text.now c.body.from c.body.to f.length pending-fits c.body.ordered c.body.in_range c.body.begin c.body.separators
-          (prefix_part (prefix_view f.kind) (slice_range c.body.text.now (c.body.from - f.length) c.body.from)) c.body.starts_clean
+      (prefix_part (prefix_view f.kind) (slice_range c.body.text.now (c.body.from - f.length) c.body.from)) c.body.starts_clean
       ∙ ap₂ slice_after_front (sym items_left-pending) (sym slice_left-pending)
 
   -- where the last component ends
@@ -85,7 +85,7 @@ module _ (c m : Cursor) (f : Found) (e : c.prefix ≡ Some f) (g : m.prefix ≡ 
         ∙ ap₂ (λ t n. slice_range t.now (n - f.length) m.body.to) text from
         ∙ whole-earlier c.body.text.now c.body.from c.body.to f.length fits c.body.ordered c.body.in_range m.body.to shorter low
         ∙ sym (slice_after_back-behind (prefix_before f c.body.text.now c.body.from) filled.0 filled.1 c.body.from m.body.to
-            (slice_range c.body.text.now (c.body.from - f.length) c.body.to) (prefix_before-end c f e) (end ∙ ap (λ cs. end_from c.body.from (but_last cs)) filled.2))
+        (slice_range c.body.text.now (c.body.from - f.length) c.body.to) (prefix_before-end c f e) (end ∙ ap (λ cs. end_from c.body.from (but_last cs)) filled.2))
         ∙ ap₂ slice_after_back (sym (items_left-pending c f e ∙ ap (λ cs. prefix_before f c.body.text.now c.body.from ∷ cs) filled.2)) (sym (slice_left-pending c f e))
 
   -- no component of the body was left, so the prefix is the last

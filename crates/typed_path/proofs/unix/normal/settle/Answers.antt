@@ -8,13 +8,13 @@ use Rattle.typed_path.specs.places.Rows.{rows}
 use Rattle.typed_path.proofs.lemmas.places.RowSteps.{settled_by, by_kind, rows-more}
 use Rattle.typed_path.proofs.unix.normal.settle.Goals as goal
 
-pub returns-in-ParentDir : goal.returns-in-ParentDir
-returns-in-ParentDir c = λ head names size are.
+pub returns-in-ParentDir-clause-ok : goal.returns-in-ParentDir-clause-ok
+returns-in-ParentDir-clause-ok c = λ head names size are.
     let kind = settled_by names c.args.segment.now (part_of c.piece_of.result) (c.piece_of.ensures 0) ∙ ap (λ k. by_kind names c.args.segment.now (kind_view k c.piece_of.result.text.now)) c.in-ParentDir.is in
-    c.drop_name.ensures head names size are ∙ ap (λ ns. head ++ rows ns) (sym kind)
+    c.drop_name.ensures.dropped head names size are ∙ ap (λ ns. head ++ rows ns) (sym kind)
 
-pub returns-in_ok-push-in-Normal : goal.returns-in_ok-push-in-Normal
-returns-in_ok-push-in-Normal c = λ head names size are.
+pub returns-in_ok-push-in-Normal-clause-ok : goal.returns-in_ok-push-in-Normal-clause-ok
+returns-in_ok-push-in-Normal-clause-ok c = λ head names size are.
     let kind = settled_by names c.args.segment.now (part_of c.piece_of.result) (c.piece_of.ensures 0) ∙ ap (λ k. by_kind names c.args.segment.now (kind_view k c.piece_of.result.text.now)) c.in-Normal.is in
     c.in_ok-push-in-Normal.ensures.items
     ∙ ap (λ bs. bs ++ slash ∷ []) (c.in_ok-extend_from_slice-in-Normal.ensures.items ∙ ap (λ bs. bs ++ c.args.segment.now) are.is)
@@ -27,8 +27,8 @@ other k text segment names (inl h) = ap (λ l. by_kind names segment (kind_view 
 other k text segment names (inr (inl h)) = ap (λ l. by_kind names segment (kind_view l text)) h
 other k text segment names (inr (inr h)) = ap (λ l. by_kind names segment (kind_view l text)) h
 
-pub returns-in-Prefix : goal.returns-in-Prefix
-returns-in-Prefix c = λ head names size are.
+pub returns-in-Prefix-clause-ok : goal.returns-in-Prefix-clause-ok
+returns-in-Prefix-clause-ok c = λ head names size are.
     let kind = settled_by names c.args.segment.now (part_of c.piece_of.result) (c.piece_of.ensures 0)
     ∙ other c.piece_of.result.kind c.piece_of.result.text.now c.args.segment.now names c.in-Prefix.is in
     are.is ∙ ap (λ ns. head ++ rows ns) (sym kind)

@@ -1,23 +1,29 @@
-use Rattle.std.proofs.Common.{OnOk}
+use Rattle.std.proofs.Common.{OnOk, arith, refl, ◌∙◌}
 use Rattle.std.specs.Prelude.{Result, Ok, Err}
 use Rattle.typed_path.proofs.lemmas.places.RowSteps.{standing-start, standing-step, standing-end}
 use Rattle.typed_path.proofs.unix.normal.settle_all.Goals as goal
 
 pub segments-init : goal.segments-init
-segments-init c = λ head size are. standing-start _ head c.args.text.now are
+segments-init c = record { standing = λ head size are. standing-start _ head c.args.path.now are; kept = refl; long = c.requires; capacity = omega arith; room = λ fits. fits }
 
 pub segments-preserved : goal.segments-preserved
-segments-preserved c = λ head size are.
-    standing-step _ _ head _ _ c.in-Some.segment.now c.args.text.now c.in-Some.ensures.pieces c.in-Some.ensures.open
-    (λ names. c.in_ok-settle.ensures head names size) (c.segments.invariant head size are)
+segments-preserved c = record {
+  standing = λ head size are.
+      standing-step _ _ head _ _ c.in-Some.segment.now c.args.path.now c.in-Some.ensures.pieces c.in-Some.ensures.open
+      (λ names. c.in_ok-settle.ensures.ok head names size) (c.segments.invariant.standing head size are);
+  kept = c.settle.ensures.kept ∙ c.segments.invariant.kept;
+  long = c.settle.ensures.long;
+  capacity = omega (arith, c.segments.invariant.capacity, c.settle.ensures.capacity);
+  room = λ fits. omega (arith, c.segments.invariant.room fits, c.settle.ensures.room, c.settle.ensures.capacity, c.in-Some.ensures.sizes);
+}
 
 -- what holds on success of one thing holds of what follows from it
 on_ok : {A E : Type 0} {P Q : Type 0} (r : Result A E) → (P → Q) → OnOk r P → OnOk r Q
 on_ok (Ok x) f p = f p
 on_ok (Err e) f p = tt
 
-pub returns : goal.returns
-returns c =
+pub returns-clause-ok : goal.returns-clause-ok
+returns-clause-ok c =
     on_ok c.settle-2.result
-    (λ settles head size are. standing-end _ _ head _ c.args.text.now c.in_default.ensures.pieces (λ names. settles head names size) (c.segments.invariant head size are))
-    c.settle-2.ensures
+    (λ settles head size are. standing-end _ _ head _ c.args.path.now c.in_default.ensures.pieces (λ names. settles head names size) (c.segments.invariant.standing head size are))
+    c.settle-2.ensures.ok

@@ -1,0 +1,602 @@
+//! Times the calls of `typed_path` beside those of `std::path`, in turns and in one run, and prints
+//! Markdown tables: nanoseconds a call, the least of all rounds, and the ratio.
+//!
+//! It is linked with the static library of `crates/typed_path_bench`. Both peers are called by a
+//! pointer, so that neither is built into the loop, and both have to answer the same. The first
+//! argument says how often all calls are timed, from the first to the last; where there is a second,
+//! only calls are timed whose label has it.
+
+use std::ffi::OsStr;
+use std::hint::black_box;
+use std::ops::Range;
+use std::os::unix::ffi::OsStrExt;
+use std::path::{Component, Path, PathBuf};
+use std::time::Instant;
+
+/// How often a call is timed in a sweep over all calls, the peers in turns.
+const ROUNDS: usize = 10;
+
+/// How many paths a corpus has.
+const PATHS: usize = 1000;
+
+/// Onto what paths are joined.
+const BASE: &[u8] = b"/srv/files";
+
+/// A path that is pushed, and a file name.
+const NAME: &[u8] = b"other.rs";
+
+const EXTENSION: &[u8] = b"txt";
+
+// The calls here: a slice is passed as a pointer and a length, and an allocator as nothing.
+
+type One = unsafe extern "C" fn(*const u8, usize) -> usize;
+type Two = unsafe extern "C" fn(*const u8, usize, *const u8, usize) -> usize;
+type Room = unsafe extern "C" fn(*const u8, usize, *const usize, usize, *const u8, usize) -> usize;
+
+macro_rules! exports {
+    ($parameters:tt: $($name:ident)*) => {
+        unsafe extern "C" {
+            $(fn $name $parameters -> usize;)*
+        }
+    };
+}
+
+exports!((path: *const u8, len: usize):
+    bench_walk bench_walk_back bench_next bench_next_back bench_texts bench_zip bench_peekable
+    bench_ahead bench_chain bench_map bench_filter bench_collect bench_ancestors bench_last bench_parent
+    bench_file_name bench_extension bench_to_path_buf bench_normalize);
+
+exports!((path: *const u8, len: usize, other: *const u8, other_len: usize):
+    bench_starts_with bench_strip_prefix bench_ends_with bench_join bench_join_checked
+    bench_with_file_name bench_with_extension);
+
+exports!((texts: *const u8, len: usize, ends: *const usize, count: usize, other: *const u8, other_len: usize):
+    bench_room_lay bench_room_push bench_room_pop bench_room_file_name bench_room_extension
+    bench_room_clone);
+
+// The calls of std. A walk adds up the lengths of the texts, an answer is its length.
+
+fn len(text: impl AsRef<OsStr>) -> usize {
+    text.as_ref().len()
+}
+
+fn sum<T: AsRef<OsStr>>(texts: impl Iterator<Item = T>) -> usize {
+    let mut sum = 0usize;
+    for text in texts {
+        sum = sum.wrapping_add(len(text));
+    }
+    sum
+}
+
+fn std_next(path: &Path) -> usize {
+    let mut sum = 0usize;
+    let mut components = path.components();
+    while let Some(piece) = components.next() {
+        sum = sum.wrapping_add(len(piece));
+    }
+    sum
+}
+
+fn std_next_back(path: &Path) -> usize {
+    let mut sum = 0usize;
+    let mut components = path.components();
+    while let Some(piece) = components.next_back() {
+        sum = sum.wrapping_add(len(piece));
+    }
+    sum
+}
+
+fn std_zip(path: &Path) -> usize {
+    let mut sum = 0usize;
+    for (piece, other) in path.components().zip(path.components()) {
+        sum = sum.wrapping_add(len(piece)).wrapping_add(len(other));
+    }
+    sum
+}
+
+fn std_peekable(path: &Path) -> usize {
+    let mut sum = 0usize;
+    let mut components = path.components().peekable();
+    while let Some(piece) = components.next() {
+        let following = components.peek().map_or(0, len);
+        sum = sum.wrapping_add(len(piece)).wrapping_add(following);
+    }
+    sum
+}
+
+fn std_filter(path: &Path) -> usize {
+    sum(path.components().filter(|piece| matches!(piece, Component::Normal(_))))
+}
+
+/// The length of a path that was made, which may not be left unmade.
+fn made(path: PathBuf) -> usize {
+    len(black_box(path.as_path()))
+}
+
+fn std_ahead(path: &Path) -> usize {
+    let mut sum = 0usize;
+    let mut components = path.components();
+    while let Some(piece) = components.next() {
+        let following = components.clone().next().map_or(0, len);
+        sum = sum.wrapping_add(len(piece)).wrapping_add(following);
+    }
+    sum
+}
+
+/// By hand, since std has no such call.
+fn std_normalize(path: &Path) -> usize {
+    let mut normal = PathBuf::with_capacity(len(path));
+    for piece in path.components() {
+        match piece {
+            Component::CurDir => {}
+            Component::ParentDir => {
+                normal.pop();
+            }
+            _ => normal.push(piece),
+        }
+    }
+    made(normal)
+}
+
+fn std_room(paths: &Texts, count: usize, other: &Path, change: fn(&mut PathBuf, &Path) -> usize) -> usize {
+    let mut path = PathBuf::with_capacity(paths.text.len() + len(other) + 1);
+    let mut sum = 0usize;
+    for at in 0..count {
+        path.clear();
+        path.push(path_of(paths.at(at)));
+        sum = sum.wrapping_add(change(&mut path, other));
+    }
+    sum
+}
+
+// The corpus.
+
+/// Numbers from a fixed seed, which look as if they were drawn.
+struct Draw(u64);
+
+impl Draw {
+    fn below(&mut self, count: usize) -> usize {
+        self.0 ^= self.0 << 13;
+        self.0 ^= self.0 >> 7;
+        self.0 ^= self.0 << 17;
+        (self.0 >> 11) as usize % count
+    }
+
+    fn within(&mut self, lengths: Range<usize>) -> usize {
+        lengths.start + self.below(lengths.len())
+    }
+
+    /// A name that begins with a letter, with a dot here and there.
+    fn name(&mut self, lengths: Range<usize>) -> Vec<u8> {
+        let bytes = b"abcdefghijklmnopqrstuvwxyz0123456789_-.";
+        let len = self.within(lengths);
+        (0..len).map(|at| bytes[self.below(if at == 0 { 26 } else { bytes.len() })]).collect()
+    }
+
+    /// So many names of 2 to 20 bytes.
+    fn names(&mut self, count: usize) -> Vec<u8> {
+        let names: Vec<_> = (0..count).map(|_| self.name(2..21)).collect();
+        names.join(&b'/')
+    }
+}
+
+/// Texts side by side, and where each of them stands.
+#[derive(Default)]
+struct Texts {
+    text: Vec<u8>,
+    places: Vec<Range<usize>>,
+    ends: Vec<usize>,
+}
+
+impl Texts {
+    fn push(&mut self, text: &[u8]) {
+        let start = self.text.len();
+        self.text.extend_from_slice(text);
+        self.places.push(start..self.text.len());
+        self.ends.push(self.text.len());
+    }
+
+    fn at(&self, at: usize) -> &[u8] {
+        &self.text[self.places[at].clone()]
+    }
+}
+
+fn path_of(text: &[u8]) -> &Path {
+    Path::new(OsStr::from_bytes(text))
+}
+
+/// Paths of one sort, and what is asked of them.
+struct Corpus {
+    label: &'static str,
+    /// How many of the paths are taken for a call that reads a path as a whole.
+    few: usize,
+    paths: Texts,
+    /// Without a root.
+    relative: Texts,
+    /// The first half of the names.
+    half: Texts,
+    /// The same, with another last byte.
+    late: Texts,
+    /// The same, with a separator written twice.
+    otherwise: Texts,
+    /// The names behind the first half.
+    end: Texts,
+    /// With `.`, `..` and doubled separators here and there.
+    dotted: Texts,
+}
+
+impl Corpus {
+    fn new(label: &'static str, few: usize, paths: Texts, draw: &mut Draw) -> Corpus {
+        let mut corpus = Corpus {
+            label,
+            few,
+            paths,
+            relative: Texts::default(),
+            half: Texts::default(),
+            late: Texts::default(),
+            otherwise: Texts::default(),
+            end: Texts::default(),
+            dotted: Texts::default(),
+        };
+        for at in 0..few {
+            let path = corpus.paths.at(at);
+            let separators: Vec<_> = (1..path.len()).filter(|at| path[*at] == b'/').collect();
+            let (half, end) = path.split_at(separators[separators.len() / 2]);
+            let mut late = half.to_vec();
+            *late.last_mut().unwrap() = b'#';
+            let mut otherwise = half.to_vec();
+            otherwise.insert(separators[0], b'/');
+            let mut dotted = Vec::new();
+            for byte in path {
+                dotted.push(*byte);
+                if *byte == b'/' {
+                    let more: &[u8] = match draw.below(8) {
+                        0 => b"../",
+                        1 => b"./",
+                        2 => b"/",
+                        _ => b"",
+                    };
+                    dotted.extend_from_slice(more);
+                }
+            }
+            corpus.relative.push(path.strip_prefix(b"/").unwrap_or(path));
+            corpus.half.push(half);
+            corpus.late.push(&late);
+            corpus.otherwise.push(&otherwise);
+            corpus.end.push(&end[1..]);
+            corpus.dotted.push(&dotted);
+        }
+        corpus
+    }
+
+    fn made(label: &'static str, few: usize, draw: &mut Draw, make: fn(&mut Draw) -> Vec<u8>) -> Corpus {
+        let mut paths = Texts::default();
+        for _ in 0..PATHS {
+            paths.push(&make(draw));
+        }
+        Corpus::new(label, few, paths, draw)
+    }
+
+    /// The bytes, the names and the like of a path that is taken as a whole, on average.
+    fn mean(&self, count: impl Fn(&[u8]) -> usize) -> f64 {
+        let sum: usize = (0..self.few).map(|at| count(self.paths.at(at))).sum();
+        sum as f64 / self.few as f64
+    }
+}
+
+/// One path of 1 MiB, as a whole and in a thousand beginnings that end at other places.
+fn long(text: &[u8], draw: &mut Draw) -> Corpus {
+    let mut paths = Texts { text: text.to_vec(), ..Texts::default() };
+    for at in 0..PATHS {
+        let end = text.len() - 17 * at;
+        paths.places.push(0..end);
+        paths.ends.push(end);
+    }
+    Corpus::new("1 MiB", 1, paths, draw)
+}
+
+/// A text of 1 MiB, in paths of so many bytes. Their ends are trimmed, since what std leaves behind a
+/// base is.
+fn cut(label: &'static str, text: &[u8], len: usize, draw: &mut Draw) -> Corpus {
+    let mut paths = Texts::default();
+    for path in text.chunks(len) {
+        paths.push(path.strip_suffix(b"/").unwrap_or(path));
+    }
+    let few = paths.places.len();
+    Corpus::new(label, few, paths, draw)
+}
+
+// The calls that are timed.
+
+type Peer<'a> = Box<dyn Fn() -> usize + 'a>;
+
+/// What a call reads.
+#[derive(Clone, Copy, PartialEq)]
+enum Reads {
+    /// The components of the path, each for itself.
+    Components,
+    /// The path as a whole.
+    Whole,
+    /// The end of the path alone.
+    End,
+}
+
+/// A call on a corpus: what is timed, and the least times by now.
+struct Row<'a> {
+    label: &'static str,
+    reads: Reads,
+    calls: usize,
+    peers: [Option<Peer<'a>>; 2],
+    least: [f64; 2],
+}
+
+impl Row<'_> {
+    fn time(&mut self) {
+        for (peer, least) in self.peers.iter().zip(&mut self.least) {
+            if let Some(peer) = peer {
+                let start = Instant::now();
+                black_box(peer());
+                *least = least.min(start.elapsed().as_nanos() as f64 / self.calls as f64);
+            }
+        }
+    }
+
+    /// Both peers answer the same.
+    fn check(&self, corpus: &str) {
+        if let [Some(ours), Some(theirs)] = &self.peers {
+            assert_eq!(ours(), theirs(), "{} on {corpus}", self.label);
+        }
+    }
+}
+
+/// A call for each of so many paths.
+fn each<'a>(count: usize, call: impl Fn(usize) -> usize + 'a) -> Option<Peer<'a>> {
+    Some(Box::new(move || (0..count).fold(0, |sum, at| sum.wrapping_add(black_box(call(at))))))
+}
+
+/// Rows of one kind of call on a corpus.
+struct Kind<'a> {
+    corpus: &'a Corpus,
+    reads: Reads,
+}
+
+impl<'a> Kind<'a> {
+    fn row(&self, label: &'static str, ours: Option<Peer<'a>>, theirs: Option<Peer<'a>>) -> Row<'a> {
+        Row { label, reads: self.reads, calls: self.calls(), peers: [ours, theirs], least: [f64::MAX; 2] }
+    }
+
+    fn calls(&self) -> usize {
+        if self.reads == Reads::End { self.corpus.paths.places.len() } else { self.corpus.few }
+    }
+
+    /// A call on a path.
+    fn one(&self, label: &'static str, paths: &'a Texts, ours: One, theirs: fn(&Path) -> usize) -> Row<'a> {
+        self.row(
+            label,
+            each(self.calls(), move |at| unsafe { ours(paths.at(at).as_ptr(), paths.at(at).len()) }),
+            each(self.calls(), move |at| theirs(path_of(paths.at(at)))),
+        )
+    }
+
+    /// A call on a path and another text. Where std has no such call it is timed alone.
+    fn two(
+        &self,
+        label: &'static str,
+        texts: impl Fn(usize) -> (&'a [u8], &'a [u8]) + Copy + 'a,
+        ours: Two,
+        theirs: Option<fn(&Path, &Path) -> usize>,
+    ) -> Row<'a> {
+        self.row(
+            label,
+            each(self.calls(), move |at| {
+                let (path, other) = texts(at);
+                unsafe { ours(path.as_ptr(), path.len(), other.as_ptr(), other.len()) }
+            }),
+            theirs.and_then(|theirs| {
+                each(self.calls(), move |at| {
+                    let (path, other) = texts(at);
+                    theirs(path_of(path), path_of(other))
+                })
+            }),
+        )
+    }
+
+    /// A change of a path that has room, into which each path is laid before.
+    fn room(
+        &self,
+        label: &'static str,
+        other: &'a [u8],
+        ours: Room,
+        theirs: fn(&mut PathBuf, &Path) -> usize,
+    ) -> Row<'a> {
+        let (paths, count) = (&self.corpus.paths, self.calls());
+        self.row(
+            label,
+            Some(Box::new(move || unsafe {
+                ours(paths.text.as_ptr(), paths.text.len(), paths.ends.as_ptr(), count, other.as_ptr(), other.len())
+            })),
+            Some(Box::new(move || std_room(paths, count, path_of(other), theirs))),
+        )
+    }
+}
+
+fn rows(corpus: &Corpus) -> Vec<Row<'_>> {
+    let paths = &corpus.paths;
+    let walk = Kind { corpus, reads: Reads::Components };
+    let whole = Kind { corpus, reads: Reads::Whole };
+    let end = Kind { corpus, reads: Reads::End };
+    let half = |at| (paths.at(at), corpus.half.at(at));
+    let late = |at| (paths.at(at), corpus.late.at(at));
+    let otherwise = |at| (paths.at(at), corpus.otherwise.at(at));
+    let joined = |at| (BASE, corpus.relative.at(at));
+    vec![
+        walk.one("`for` over `components()`", paths, bench_walk, |path| sum(path.components())),
+        walk.one("`for` over `components().rev()`", paths, bench_walk_back, |path| sum(path.components().rev())),
+        walk.one("`next`", paths, bench_next, std_next),
+        walk.one("`next_back`", paths, bench_next_back, std_next_back),
+        walk.one("`for` over `iter()`", paths, bench_texts, |path| sum(path.iter())),
+        walk.one("`zip` of two", paths, bench_zip, std_zip),
+        walk.one("`peekable`", paths, bench_peekable, std_peekable),
+        walk.one("`next`, and `next` of a copy", paths, bench_ahead, std_ahead),
+        walk.one("`chain` of two", paths, bench_chain, |path| sum(path.components().chain(path.components()))),
+        walk.one("`map` and `fold`", paths, bench_map, |path| path.components().map(len).fold(0, usize::wrapping_add)),
+        walk.one("`for` over `filter`", paths, bench_filter, std_filter),
+        walk.one("`collect`", paths, bench_collect, |path| black_box(path.components().collect::<Vec<_>>()).len()),
+        walk.one("`for` over `ancestors()`", paths, bench_ancestors, |path| sum(path.ancestors())),
+        end.one("last component", paths, bench_last, |path| path.components().next_back().map_or(1, len)),
+        end.one("`parent`", paths, bench_parent, |path| path.parent().map_or(1, len)),
+        end.one("`file_name`", paths, bench_file_name, |path| path.file_name().map_or(1, len)),
+        end.one("`extension`", paths, bench_extension, |path| path.extension().map_or(1, len)),
+        whole.two("`starts_with` of the first half", half, bench_starts_with, Some(starts_with)),
+        whole.two("`starts_with`, differs late", late, bench_starts_with, Some(starts_with)),
+        whole.two("`starts_with`, written otherwise", otherwise, bench_starts_with, Some(starts_with)),
+        whole.two("`strip_prefix` of the first half", half, bench_strip_prefix, Some(strip_prefix)),
+        whole.two("`strip_prefix`, differs late", late, bench_strip_prefix, Some(strip_prefix)),
+        whole.two("`strip_prefix`, written otherwise", otherwise, bench_strip_prefix, Some(strip_prefix)),
+        whole.two(
+            "`ends_with` of the second half",
+            |at| (paths.at(at), corpus.end.at(at)),
+            bench_ends_with,
+            Some(|path, end| usize::from(path.ends_with(end))),
+        ),
+        whole.one("`to_path_buf`", paths, bench_to_path_buf, |path| made(path.to_path_buf())),
+        whole.two("`join` onto a base", joined, bench_join, Some(|base, path| made(base.join(path)))),
+        whole.two("`join_checked` onto a base", joined, bench_join_checked, None),
+        whole.two(
+            "`with_file_name`",
+            |at| (paths.at(at), NAME),
+            bench_with_file_name,
+            Some(|path, name| made(path.with_file_name(name))),
+        ),
+        whole.two(
+            "`with_extension`",
+            |at| (paths.at(at), EXTENSION),
+            bench_with_extension,
+            Some(|path, extension| made(path.with_extension(extension))),
+        ),
+        whole.one("`normalize`", paths, bench_normalize, std_normalize),
+        whole.one("`normalize`, with dots", &corpus.dotted, bench_normalize, std_normalize),
+        whole.room("`clear` and `push` of the path", NAME, bench_room_lay, |path, _| len(path)),
+        whole.room("the same, `push` of a name", NAME, bench_room_push, |path, name| {
+            path.push(name);
+            len(path)
+        }),
+        whole.room("the same, `pop`", NAME, bench_room_pop, |path, _| {
+            path.pop();
+            len(path)
+        }),
+        whole.room("the same, `set_file_name`", NAME, bench_room_file_name, |path, name| {
+            path.set_file_name(name);
+            len(path)
+        }),
+        whole.room("the same, `set_extension`", EXTENSION, bench_room_extension, |path, extension| {
+            path.set_extension(extension);
+            len(path)
+        }),
+        whole.room("the same, `clone`", NAME, bench_room_clone, |path, _| made(path.clone())),
+    ]
+}
+
+fn starts_with(path: &Path, base: &Path) -> usize {
+    usize::from(path.starts_with(base))
+}
+
+fn strip_prefix(path: &Path, base: &Path) -> usize {
+    path.strip_prefix(base).map_or(1, len)
+}
+
+// What is printed.
+
+/// Nanoseconds: with a tenth below 100, and else with commas between thousands.
+fn shown(nanoseconds: f64) -> String {
+    if nanoseconds < 99.95 {
+        return format!("{nanoseconds:.1}");
+    }
+    let digits = format!("{nanoseconds:.0}");
+    let groups: Vec<_> = digits.as_bytes().rchunks(3).rev().map(String::from_utf8_lossy).collect();
+    groups.join(",")
+}
+
+/// The times of both peers, each divided, and their ratio.
+fn cell(row: &Row, by: f64) -> String {
+    let [ours, theirs] = row.least;
+    if row.peers[1].is_none() {
+        return shown(ours / by);
+    }
+    format!("{} / {} ({:.2})", shown(ours / by), shown(theirs / by), ours / theirs)
+}
+
+fn line(cells: impl IntoIterator<Item = String>) {
+    println!("| {} |", cells.into_iter().collect::<Vec<_>>().join(" | "));
+}
+
+fn head(first: &str, corpora: &[Corpus]) {
+    line(std::iter::once(first.to_string()).chain(corpora.iter().map(|corpus| corpus.label.to_string())));
+    println!("|---|{}", "---|".repeat(corpora.len()));
+}
+
+fn main() {
+    let sweeps: usize = std::env::args().nth(1).map_or(5, |sweeps| sweeps.parse().unwrap());
+    let word = std::env::args().nth(2).unwrap_or_default();
+    let mut draw = Draw(0x9E37_79B9_7F4A_7C15);
+    let mut text = draw.names(110_000);
+    text.truncate(1 << 20);
+    let corpora = [
+        Corpus::made("short", PATHS, &mut draw, |draw| {
+            let name = String::from_utf8(draw.name(3..13)).unwrap();
+            format!("/usr/lib/lib{name}.so.{}", 1 + draw.below(9)).into_bytes()
+        }),
+        Corpus::made("usual", PATHS, &mut draw, |draw| draw.names(7)),
+        Corpus::made("deep", PATHS / 10, &mut draw, |draw| [b"/", draw.names(1000).as_slice()].concat()),
+        long(&text, &mut draw),
+    ];
+    let pieces = [cut("1 KiB", &text, 1 << 10, &mut draw), cut("32 KiB", &text, 1 << 15, &mut draw)];
+    let asked = |corpus| rows(corpus).into_iter().filter(|row| row.label.contains(&word)).collect::<Vec<_>>();
+    let mut tables: Vec<_> = corpora.iter().chain(&pieces).map(asked).collect();
+    for (corpus, rows) in corpora.iter().chain(&pieces).zip(&tables) {
+        rows.iter().for_each(|row| row.check(corpus.label));
+    }
+    for _ in 0..sweeps {
+        for row in tables.iter_mut().flatten() {
+            for _ in 0..ROUNDS {
+                row.time();
+            }
+        }
+    }
+
+    for corpus in &corpora {
+        println!(
+            "{}: {} paths, of which {} for a call that reads a path as a whole; {} bytes and {} components on average",
+            corpus.label,
+            corpus.paths.places.len(),
+            corpus.few,
+            shown(corpus.mean(<[u8]>::len)),
+            shown(corpus.mean(|path| path_of(path).components().count())),
+        );
+    }
+    println!("\nNanoseconds a call, here / std (ratio):\n");
+    head("Call", &corpora);
+    for at in 0..tables[0].len() {
+        let cells = tables[..corpora.len()].iter().map(|rows| cell(&rows[at], 1.0));
+        line(std::iter::once(tables[0][at].label.to_string()).chain(cells));
+    }
+    println!("\nNanoseconds a component, here / std (ratio):\n");
+    head("Walk", &corpora);
+    for at in (0..tables[0].len()).filter(|at| tables[0][*at].reads == Reads::Components) {
+        let cells = corpora
+            .iter()
+            .zip(&tables)
+            .map(|(corpus, rows)| cell(&rows[at], corpus.mean(|path| path_of(path).components().count())));
+        line(std::iter::once(tables[0][at].label.to_string()).chain(cells));
+    }
+    println!("\nPicoseconds a byte here, over the same bytes in paths of three lengths:\n");
+    line(["Call", "1 KiB", "32 KiB", "1 MiB", "1 MiB : 1 KiB"].map(String::from));
+    println!("|---|---|---|---|---|");
+    let (kilo, some, mega) = (&tables[4], &tables[5], &tables[3]);
+    for at in (0..kilo.len()).filter(|at| kilo[*at].reads != Reads::End) {
+        let of = |row: &Row, corpus: &Corpus| 1000.0 * row.least[0] / corpus.mean(<[u8]>::len);
+        let bytes = [of(&kilo[at], &pieces[0]), of(&some[at], &pieces[1]), of(&mega[at], &corpora[3])];
+        let ratio = format!("{:.2}", bytes[2] / bytes[0]);
+        line([kilo[at].label.to_string()].into_iter().chain(bytes.map(shown)).chain([ratio]));
+    }
+}

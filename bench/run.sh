@@ -1,0 +1,21 @@
+#!/usr/bin/env bash
+# Times the calls of the library beside those of Rust's std::path: builds the static library of
+# crates/typed_path_bench, links bench/main.rs with it in a folder of its own, and runs it on one core.
+# Prints Markdown tables, for docs/PERFORMANCE.md.
+#
+# bench/run.sh [SWEEPS [WORD]]: how often all calls are timed, and what the labels of these have.
+set -euo pipefail
+top=$(cd "$(dirname "$0")/.." && pwd)
+kit=$(cd "$(dirname "$(readlink -f "$(command -v rt)")")/.." && pwd)
+folder=$(mktemp -d)
+trap 'rm -rf "$folder"' EXIT
+
+(cd "$top/crates/typed_path_bench" && rt lib > "$folder/proved")
+rustc --edition 2024 -C opt-level=3 -C target-cpu=x86-64-v2 -o "$folder/bench" "$top/bench/main.rs" \
+    -L "native=$top/crates/typed_path_bench/out" -l static=typed_path_bench \
+    -L "native=$kit/c" -l static=libc_c
+
+# Ahead of other work, where that is allowed.
+ahead=(nice -n -5)
+"${ahead[@]}" true 2> "$folder/refused" && [ ! -s "$folder/refused" ] || ahead=()
+"${ahead[@]}" taskset -c "$(($(nproc) - 1))" "$folder/bench" "$@"

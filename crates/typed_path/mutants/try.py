@@ -1,0 +1,128 @@
+#!/usr/bin/env python3
+"""Tries wrong bodies of this crate: `rt check` has to refuse each.
+
+Without names it tries all the edits beside this file. They are tried in N temporary copies of the
+repository at once, in each copy one after the other, over what earlier checks kept in out/. The
+repository itself is not changed.
+
+Exit status: 0 where all were refused, 1 where one was not, 2 where not all could be tried.
+"""
+
+import argparse
+import pathlib
+import queue
+import shutil
+import subprocess
+import sys
+import tempfile
+import threading
+import time
+
+HERE = pathlib.Path(__file__).resolve().parent
+CRATE = HERE.parent
+TOP = CRATE.parent.parent
+
+REFUSED = "refused"
+OUTCOMES = {
+    REFUSED: "",
+    "PROVED": "a contract to strengthen",
+    "NOT READ": "it did not reach the prover",
+    "NOT APPLIED": "an old text does not stand once in its file",
+}
+
+
+def edited(edit, crate):
+    """The texts that an edit makes of the crate's files, by their paths, or what hinders it."""
+    path, old, texts = None, None, {}
+    for line in edit.read_text().split("\n"):
+        word, _, text = line.partition(":")
+        text = text.removeprefix(" ")
+        if word == "file":
+            path = crate / text.strip()
+        elif word == "old":
+            old = text
+        elif word == "new":
+            if not old or path is None or not path.is_file():
+                return {}, "a new text with no old one, or with no file"
+            made = texts.get(path) or path.read_text()
+            if made.count(old) != 1:
+                return {}, f"{made.count(old)} times in {path.relative_to(crate)}: {old.strip()}"
+            texts[path], old = made.replace(old, text), None
+    return texts, "" if texts else "no pair of texts"
+
+
+def check(crate):
+    """The exit status of a check, and what it said."""
+    ran = subprocess.run(["rt", "check"], cwd=crate, stdin=subprocess.DEVNULL, stdout=subprocess.PIPE, stderr=subprocess.STDOUT, text=True)
+    return ran.returncode, ran.stdout
+
+
+def judged(edit, crate, logs):
+    """What a check says of a copy of the crate with the edit, and why. The copy is as before then."""
+    texts, hindrance = edited(edit, crate)
+    if hindrance:
+        return "NOT APPLIED", hindrance
+    kept = {path: path.read_text() for path in texts}
+    for path, text in texts.items():
+        path.write_text(text)
+    status, said = check(crate)
+    for path, text in kept.items():
+        path.write_text(text)
+    if logs:
+        (logs / f"{edit.stem}.txt").write_text(said)
+    if status == 0:
+        return "PROVED", ""
+    # a check that stops at an error of the code does not say this
+    if status == 1 and "\nlogic=not-proved" in said:
+        return REFUSED, ""
+    return "NOT READ", next((line for line in said.split("\n") if ": error" in line), f"exit status {status}")
+
+
+def work(copy, edits, outcomes, logs):
+    """Tries edits in one copy of the repository until none is left."""
+    shutil.copytree(TOP, copy, ignore=shutil.ignore_patterns(".git"), symlinks=True)
+    crate = copy / CRATE.relative_to(TOP)
+    if check(crate)[0] != 0:
+        print("the crate is not proved with no edit: see rt check", flush=True)
+        return
+    while True:
+        try:
+            edit = edits.get_nowait()
+        except queue.Empty:
+            return
+        outcomes[edit], why = judged(edit, crate, logs)
+        print(f"{edit.stem}: {outcomes[edit]}{', ' if why else ''}{why}", flush=True)
+
+
+def main():
+    words = argparse.ArgumentParser(description=__doc__, formatter_class=argparse.RawDescriptionHelpFormatter)
+    words.add_argument("--jobs", type=int, default=2, metavar="N", help="how many copies: 2 where it is left out")
+    words.add_argument("--logs", type=pathlib.Path, metavar="FOLDER", help="keep what each check said in FOLDER/NAME.txt")
+    words.add_argument("names", type=pathlib.Path, nargs="*", default=[HERE], help="edits, or folders of edits")
+    given = words.parse_args()
+    if given.logs:
+        given.logs.mkdir(parents=True, exist_ok=True)
+    named = [edit for name in given.names for edit in (sorted(name.glob("*.edit")) if name.is_dir() else [name])]
+    edits, outcomes, begun = queue.Queue(), {}, time.time()
+    for edit in named:
+        edits.put(edit)
+    with tempfile.TemporaryDirectory(prefix="mutants-") as room:
+        copies = [pathlib.Path(room, str(n)) for n in range(min(given.jobs, len(named)))]
+        threads = [threading.Thread(target=work, args=(copy, edits, outcomes, given.logs)) for copy in copies]
+        for thread in threads:
+            thread.start()
+        for thread in threads:
+            thread.join()
+    print(f"{len(outcomes)} of {len(named)} edits tried in {time.time() - begun:.0f} s")
+    for outcome, meaning in OUTCOMES.items():
+        found = sorted(edit.stem for edit, it in outcomes.items() if it == outcome)
+        print(f"{len(found)} {outcome}{': ' if meaning else ''}{meaning}")
+        if outcome != REFUSED:
+            print("".join(f"  {name}\n" for name in found), end="")
+    if len(outcomes) < len(named):
+        return 2
+    return 0 if set(outcomes.values()) <= {REFUSED} else 1
+
+
+if __name__ == "__main__":
+    sys.exit(main())

@@ -1,0 +1,72 @@
+//! The laws of single values of Windows.
+
+ghost use Rattle.std.specs.Prelude.{◌≡◌, ◌↔◌, true, IfSome, [], ◌∷◌, ◌++◌, codes, map};
+ghost use Rattle.typed_path.specs.components.Dialect.{dot, slash, backslash};
+ghost use Rattle.typed_path.specs.components.Part.{prefix};
+ghost use Rattle.typed_path.specs.queries.Queries.{prefix_in, reserved_names};
+ghost use Rattle.typed_path.specs.order.Same.{kind_cmp};
+ghost use Rattle.typed_path.specs.order.Words.{prefix_words, windows_words};
+ghost use Rattle.typed_path.specs.views.PieceViews.{prefix_view};
+ghost use Rattle.typed_path.specs.views.WindowsViews.{prefix_component_part, windows_part};
+
+use crate::constants::windows::{
+    ALT_SEPARATOR, ALT_SEPARATOR_STR, CURRENT_DIR, CURRENT_DIR_STR, DISALLOWED_FILENAME_BYTES,
+    DISALLOWED_FILENAME_CHARS, PARENT_DIR, PARENT_DIR_STR, RESERVED_DEVICE_NAMES,
+    RESERVED_DEVICE_NAMES_STR, SEPARATOR, SEPARATOR_STR,
+};
+use crate::windows::{WindowsComponent, WindowsPrefix, WindowsPrefixComponent};
+use std::hash::Hash;
+
+/// The constants of Windows have these values.
+pub fn windows_constants_are_these()
+    ensures separator { SEPARATOR ≡ backslash }
+    ensures separator_text { SEPARATOR_STR.now ≡ backslash ∷ [] }
+    ensures other_separator { ALT_SEPARATOR ≡ slash }
+    ensures other_separator_text { ALT_SEPARATOR_STR.now ≡ slash ∷ [] }
+    ensures parent { PARENT_DIR.now ≡ dot ∷ dot ∷ [] }
+    ensures parent_text { PARENT_DIR_STR.now ≡ dot ∷ dot ∷ [] }
+    ensures current { CURRENT_DIR.now ≡ dot ∷ [] }
+    ensures current_text { CURRENT_DIR_STR.now ≡ dot ∷ [] }
+    ensures disallowed_bytes { DISALLOWED_FILENAME_BYTES.now ≡ codes "\\/:?*\"><|" ++ 0 ∷ [] }
+    ensures disallowed_characters { DISALLOWED_FILENAME_CHARS.now ≡ codes "\\/:?*\"><|" ++ 0 ∷ [] }
+    ensures reserved { map (λ name. name.now) RESERVED_DEVICE_NAMES.now ≡ reserved_names }
+    ensures reserved_texts { map (λ name. name.now) RESERVED_DEVICE_NAMES_STR.now
+        ≡ reserved_names }
+{}
+
+/// Prefixes of Windows are equal, compare and hash as their kinds and names say.
+pub fn windows_prefixes_compare_by_kind<'a>(one: WindowsPrefix<'a>, other: WindowsPrefix<'a>)
+    ensures equality { (⟦<WindowsPrefix<'a> as PartialEq>⟧.eq one.entry other.entry ≡ true)
+        ↔ (prefix_view one.entry ≡ prefix_view other.entry) }
+    ensures order { ⟦<WindowsPrefix<'a> as Ord>⟧.cmp one.entry other.entry
+        ≡ kind_cmp (prefix (prefix_view one.entry)) (prefix (prefix_view other.entry)) }
+    ensures hash { ⟦<WindowsPrefix<'a> as Hash>⟧.hash_input one.entry
+        ≡ prefix_words (prefix_view one.entry) }
+{}
+
+/// Prefixes with their texts are equal, compare and hash as their kinds say, however they are
+/// written.
+pub fn windows_prefix_components_compare_by_kind<'a>(
+    one: WindowsPrefixComponent<'a>,
+    other: WindowsPrefixComponent<'a>,
+)
+    ensures equality { (⟦<WindowsPrefixComponent<'a> as PartialEq>⟧.eq one.entry other.entry ≡ true)
+        ↔ ((prefix_component_part one.entry).kind ≡ (prefix_component_part other.entry).kind) }
+    ensures order { ⟦<WindowsPrefixComponent<'a> as Ord>⟧.cmp one.entry other.entry
+        ≡ kind_cmp (prefix_component_part one.entry).kind (prefix_component_part other.entry).kind }
+    ensures hash { IfSome (prefix_in (prefix_component_part one.entry).kind) (λ p.
+        ⟦<WindowsPrefixComponent<'a> as Hash>⟧.hash_input one.entry ≡ prefix_words p) }
+{}
+
+/// Single components of Windows are equal, compare and hash as their kinds say.
+pub fn windows_components_compare_by_kind<'a>(
+    one: WindowsComponent<'a>,
+    other: WindowsComponent<'a>,
+)
+    ensures equality { (⟦<WindowsComponent<'a> as PartialEq>⟧.eq one.entry other.entry ≡ true)
+        ↔ ((windows_part one.entry).kind ≡ (windows_part other.entry).kind) }
+    ensures order { ⟦<WindowsComponent<'a> as Ord>⟧.cmp one.entry other.entry
+        ≡ kind_cmp (windows_part one.entry).kind (windows_part other.entry).kind }
+    ensures hash { ⟦<WindowsComponent<'a> as Hash>⟧.hash_input one.entry
+        ≡ windows_words (windows_part one.entry).kind }
+{}

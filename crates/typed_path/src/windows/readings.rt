@@ -1,0 +1,93 @@
+//! Windows prefixes read from texts.
+
+use crate::errors::ParseError;
+use crate::scan::{WindowsPrefix, find_prefix};
+use crate::windows::prefix::WindowsPrefixComponent;
+
+/// Reads bytes that are one prefix.
+///
+/// Where they have none they are refused with `not a prefix`, and where more stands behind it with
+/// `contains more than prefix`.
+impl<'a> TryFrom<&'a [u8]> for WindowsPrefix<'a> {
+    ghost use Rattle.typed_path.specs.views.WindowsViews.{IsPrefixReading};
+
+    type Error = ParseError;
+
+    ghost try_from_gives = { λ text reading. IsPrefixReading text.now reading };
+
+    fn try_from(text: &'a [u8]) -> Result<WindowsPrefix<'a>, ParseError> {
+        let Some(found) = find_prefix(text) else {
+            return Err("not a prefix");
+        };
+        if found.length < text.len() {
+            return Err("contains more than prefix");
+        }
+        Ok(found.kind)
+    }
+}
+
+/// Reads an array as the slice of its bytes.
+impl<'a, const N: usize> TryFrom<&'a [u8; N]> for WindowsPrefix<'a> {
+    ghost use Rattle.typed_path.specs.views.WindowsViews.{IsPrefixReading};
+
+    type Error = ParseError;
+
+    ghost try_from_gives = { λ text reading. IsPrefixReading text.now reading };
+
+    fn try_from(text: &'a [u8; N]) -> Result<WindowsPrefix<'a>, ParseError> {
+        WindowsPrefix::try_from(text.as_slice())
+    }
+}
+
+/// Reads a text as the slice of its bytes.
+impl<'a> TryFrom<&'a str> for WindowsPrefix<'a> {
+    ghost use Rattle.typed_path.specs.views.WindowsViews.{IsPrefixReading};
+
+    type Error = ParseError;
+
+    ghost try_from_gives = { λ text reading. IsPrefixReading text.now reading };
+
+    fn try_from(text: &'a str) -> Result<WindowsPrefix<'a>, ParseError> {
+        WindowsPrefix::try_from(text.as_bytes())
+    }
+}
+
+/// Reads bytes that are one prefix, and keeps them.
+impl<'a> TryFrom<&'a [u8]> for WindowsPrefixComponent<'a> {
+    ghost use Rattle.typed_path.specs.views.WindowsViews.{IsPrefixComponentReading};
+
+    type Error = ParseError;
+
+    ghost try_from_gives = { λ text reading. IsPrefixComponentReading text.now reading };
+
+    fn try_from(text: &'a [u8]) -> Result<WindowsPrefixComponent<'a>, ParseError> {
+        let kind = WindowsPrefix::try_from(text)?;
+        Ok(WindowsPrefixComponent::new(text, kind))
+    }
+}
+
+/// Reads an array as the slice of its bytes.
+impl<'a, const N: usize> TryFrom<&'a [u8; N]> for WindowsPrefixComponent<'a> {
+    ghost use Rattle.typed_path.specs.views.WindowsViews.{IsPrefixComponentReading};
+
+    type Error = ParseError;
+
+    ghost try_from_gives = { λ text reading. IsPrefixComponentReading text.now reading };
+
+    fn try_from(text: &'a [u8; N]) -> Result<WindowsPrefixComponent<'a>, ParseError> {
+        WindowsPrefixComponent::try_from(text.as_slice())
+    }
+}
+
+/// Reads a text as the slice of its bytes.
+impl<'a> TryFrom<&'a str> for WindowsPrefixComponent<'a> {
+    ghost use Rattle.typed_path.specs.views.WindowsViews.{IsPrefixComponentReading};
+
+    type Error = ParseError;
+
+    ghost try_from_gives = { λ text reading. IsPrefixComponentReading text.now reading };
+
+    fn try_from(text: &'a str) -> Result<WindowsPrefixComponent<'a>, ParseError> {
+        WindowsPrefixComponent::try_from(text.as_bytes())
+    }
+}

@@ -1,0 +1,49 @@
+//! What a path answers: the length of the answer, or 1 where there is none.
+
+use typed_path::UnixPath;
+
+/// The last component.
+#[unsafe(no_mangle)]
+pub extern "C" fn bench_last(path: &[u8]) -> usize {
+    let last = UnixPath::new(path).components().next_back();
+    last.map_or(1, |piece| piece.text.len())
+}
+
+/// The parent.
+#[unsafe(no_mangle)]
+pub extern "C" fn bench_parent(path: &[u8]) -> usize {
+    let parent = UnixPath::new(path).parent();
+    parent.map_or(1, |parent| parent.as_bytes().len())
+}
+
+/// The file name.
+#[unsafe(no_mangle)]
+pub extern "C" fn bench_file_name(path: &[u8]) -> usize {
+    UnixPath::new(path).file_name().map_or(1, |name| name.len())
+}
+
+/// The extension of the file name.
+#[unsafe(no_mangle)]
+pub extern "C" fn bench_extension(path: &[u8]) -> usize {
+    let extension = UnixPath::new(path).extension();
+    extension.map_or(1, |extension| extension.len())
+}
+
+/// Whether the path begins with a base.
+#[unsafe(no_mangle)]
+pub extern "C" fn bench_starts_with(path: &[u8], base: &[u8]) -> usize {
+    usize::from(UnixPath::new(path).starts_with(UnixPath::new(base)))
+}
+
+/// What is left of the path behind a base.
+#[unsafe(no_mangle)]
+pub extern "C" fn bench_strip_prefix(path: &[u8], base: &[u8]) -> usize {
+    let rest = UnixPath::new(path).strip_prefix(UnixPath::new(base));
+    rest.map_or(1, |rest| rest.as_bytes().len())
+}
+
+/// Whether the path ends with another.
+#[unsafe(no_mangle)]
+pub extern "C" fn bench_ends_with(path: &[u8], end: &[u8]) -> usize {
+    usize::from(UnixPath::new(path).ends_with(UnixPath::new(end)))
+}

@@ -1,0 +1,46 @@
+//! Owned paths made of lent ones: their length.
+
+use std::alloc::{AllocError, Global};
+use typed_path::{UnixPath, UnixPathBuf};
+
+/// The length of a path that was made.
+fn length_of(made: Result<UnixPathBuf, AllocError>) -> usize {
+    made.map_or(0, |path| path.as_path().as_bytes().len())
+}
+
+/// A copy that owns its bytes.
+#[unsafe(no_mangle)]
+pub extern "C" fn bench_to_path_buf(alloc: Global, path: &[u8]) -> usize {
+    length_of(UnixPath::new(path).to_path_buf(alloc))
+}
+
+/// The path with another pushed onto it.
+#[unsafe(no_mangle)]
+pub extern "C" fn bench_join(alloc: Global, path: &[u8], other: &[u8]) -> usize {
+    length_of(UnixPath::new(path).join(alloc, UnixPath::new(other)))
+}
+
+/// The same, unless the other offends.
+#[unsafe(no_mangle)]
+pub extern "C" fn bench_join_checked(alloc: Global, path: &[u8], other: &[u8]) -> usize {
+    let joined = UnixPath::new(path).join_checked(alloc, UnixPath::new(other));
+    joined.map_or(0, |path| path.as_path().as_bytes().len())
+}
+
+/// A copy with another file name.
+#[unsafe(no_mangle)]
+pub extern "C" fn bench_with_file_name(alloc: Global, path: &[u8], name: &[u8]) -> usize {
+    length_of(UnixPath::new(path).with_file_name(alloc, name))
+}
+
+/// A copy with another extension.
+#[unsafe(no_mangle)]
+pub extern "C" fn bench_with_extension(alloc: Global, path: &[u8], extension: &[u8]) -> usize {
+    length_of(UnixPath::new(path).with_extension(alloc, extension))
+}
+
+/// The normal text.
+#[unsafe(no_mangle)]
+pub extern "C" fn bench_normalize(alloc: Global, path: &[u8]) -> usize {
+    length_of(UnixPath::new(path).normalize(alloc))
+}
