@@ -1,5 +1,5 @@
 -- The two definitions over a cursor: the slice left and the components left.
-use Rattle.std.specs.Prelude.{ℕ, ◌-◌, List, [], ◌++◌, take, slice_range, Option, Some, None}
+use Rattle.std.specs.Prelude.{ℕ, ◌-◌, List, ◌++◌, take, slice_range, Option, Some, None}
 use Rattle.typed_path.specs.declared.scan.cursor.Cursor.{Cursor}
 use Rattle.typed_path.specs.declared.scan.prefix.Found.{Found}
 use Rattle.typed_path.specs.components.Part.{Placed, prefix_part}

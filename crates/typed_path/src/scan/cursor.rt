@@ -139,6 +139,7 @@ impl<'a> Cursor<'a> {
     }
 
     /// Takes the prefix from the front.
+    #[inline(always)]
     fn take_prefix(&mut self, found: Found<'a>) -> Piece<'a>
         requires { self.old.prefix ≡ Some found }
         ensures taken { Some (part_of result) ≡ first_part (items_left self.old) }
@@ -167,6 +168,7 @@ impl<'a> Cursor<'a> {
     }
 
     /// Takes the last component that is left behind the prefix, or the prefix where none is.
+    #[inline(always)]
     fn back_to_prefix(&mut self, found: Found<'a>) -> Piece<'a>
         requires { self.old.prefix ≡ Some found }
         ensures taken { Some (part_of result) ≡ last_part (items_left self.old) }

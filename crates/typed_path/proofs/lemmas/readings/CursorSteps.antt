@@ -1,17 +1,15 @@
 -- Steps of a cursor whose prefix is still to be taken.
-use Rattle.std.proofs.Common.{◌≡◌, ℕ, ◌+◌, ◌-◌, ◌≤◌, List, [], ◌∷◌, ◌++◌, length, take, slice_range, Option, Some, None, true, refl, option_map, sym, ap, ap₂, subst, ◌∙◌, arith}
+use Rattle.std.proofs.Common.{◌≡◌, ℕ, ◌-◌, ◌≤◌, List, ◌∷◌, length, slice_range, Some, None, option_map, sym, ap, ap₂, ◌∙◌, arith}
 use Rattle.typed_path.specs.declared.scan.cursor.Cursor.{Cursor}
 use Rattle.typed_path.specs.declared.scan.body.Body.{Body}
 use Rattle.typed_path.specs.declared.scan.prefix.Found.{Found}
 use Rattle.typed_path.specs.components.Part.{Part, Placed, end_of, prefix_part}
-use Rattle.typed_path.specs.components.Comps.{component}
 use Rattle.typed_path.specs.readings.Left.{last_of, but_last, slice_after_front, slice_after_back}
 use Rattle.typed_path.specs.readings.Pending.{pending}
 use Rattle.typed_path.specs.readings.Steps.{first_part, last_part, end_from}
 use Rattle.typed_path.specs.views.PieceViews.{prefix_view}
 use Rattle.typed_path.specs.views.BodyViews.{body_items, body_slice}
 use Rattle.typed_path.specs.views.CursorViews.{start_left, prefix_left, slice_left, items_left}
-use Rattle.typed_path.proofs.lemmas.readings.LeftLemmas.{last_part-push}
 use Rattle.typed_path.proofs.lemmas.readings.PrefixSteps.{prefix_taken, prefix-text, prefix-length, whole-earlier, but_last-behind, last_of-behind, end_from-behind, slice_after_back-behind, filled-last, empty-last}
 
 -- the component that is the prefix, before a body that begins at a place
