@@ -4,3 +4,4 @@ pub mod Reading
 pub mod Ends
 pub mod Steps
 pub mod Masks
+pub mod Pending

@@ -2,6 +2,7 @@
 
 mod base;
 mod begin;
+mod body;
 mod cursor;
 mod cut;
 mod depth;

@@ -5,4 +5,7 @@ pub mod LeftLemmas
 pub mod ReadingLemmas
 pub mod SliceLeft
 pub mod SliceLemmas
+pub mod PrefixSteps
+pub mod CursorSteps
+pub mod EndSteps
 pub mod MaskLemmas

@@ -1,36 +1,31 @@
 //! The place of a reading from both ends.
 
-ghost use Rattle.std.specs.Prelude.{◌≡◌, ◌≤◌, true, slice_range, length};
-ghost use Rattle.typed_path.specs.readings.Steps.{is_clean};
+ghost use Rattle.std.specs.Prelude.{◌≤◌};
+ghost use Rattle.typed_path.specs.readings.Pending.{pending};
 
 use crate::errors::CheckedPathError;
-use crate::scan::begin::Begin;
-use crate::scan::depth::depth_behind;
-use crate::scan::piece::Piece;
+use crate::scan::body::Body;
+use crate::scan::piece::{Piece, PieceKind};
+use crate::scan::prefix::{Found, WindowsPrefix};
 use crate::scan::separators::Separators;
-use crate::scan::step::{back_step, front_step, trim_blanks};
 
-/// The place of a reading of a text: where the components that are left begin and end.
+/// The place of a reading of a text: what is still to be taken of its prefix, and of its body.
 #[derive(Clone, Copy, Debug)]
 pub struct Cursor<'a> {
-    text: &'a [u8],
-    from: usize,
-    to: usize,
-    begin: Begin,
-    separators: Separators,
-    ghost ordered: { from ≤ to },
-    ghost in_range: { to ≤ length text.now },
-    ghost starts_clean: { is_clean begin separators (slice_range text.now from to) ≡ true },
+    prefix: Option<Found<'a>>,
+    body: Body<'a>,
+    ghost fits: { pending prefix ≤ body.from },
 }
 
 impl<'a> Cursor<'a> {
-    ghost use Rattle.std.specs.Prelude.{◌≡◌, [], drop, option_map, Some};
-    ghost use Rattle.typed_path.specs.components.Comps.{body};
+    ghost use Rattle.std.specs.Prelude.{◌≡◌, ◌≤◌, [], ◌++◌, length, take, drop, option_map, Some, None};
+    ghost use Rattle.typed_path.specs.components.Comps.{body, component};
     ghost use Rattle.typed_path.specs.readings.Left.{but_last, last_of, slice_after_front, slice_after_back};
-    ghost use Rattle.typed_path.specs.components.Part.{Placed, end_of, kinds, parts};
-    ghost use Rattle.typed_path.specs.queries.Queries.{begins_with_root};
+    ghost use Rattle.typed_path.specs.components.Part.{Placed, end_of, kinds, parts, prefix_part};
+    ghost use Rattle.typed_path.specs.queries.Queries.{begins_with_root, first_prefix};
     ghost use Rattle.typed_path.specs.readings.Steps.{first_part, last_part};
-    ghost use Rattle.typed_path.specs.views.PieceViews.{part_of};
+    ghost use Rattle.typed_path.specs.views.PieceViews.{part_of, prefix_view};
+    ghost use Rattle.typed_path.specs.views.BodyViews.{body_items};
     ghost use Rattle.typed_path.specs.views.CursorViews.{slice_left, items_left};
     ghost use Rattle.typed_path.specs.changes.Checked.{error_of};
     ghost use Rattle.typed_path.specs.components.Dialect.{dialect_of};
@@ -41,14 +36,31 @@ impl<'a> Cursor<'a> {
     pub(crate) fn new(text: &'a [u8], separators: Separators) -> Cursor<'a>
         ensures slice { slice_left result ≡ text.now }
         ensures items { items_left result ≡ body separators 0 text.now }
-        ensures separators { result.separators ≡ separators }
+        ensures separators { result.body.separators ≡ separators }
     {
         Cursor {
-            text,
-            from: 0,
-            to: text.len(),
-            begin: Begin::Body,
-            separators,
+            prefix: None,
+            body: Body::new(text, 0, separators),
+        }
+    }
+
+    /// A reading of a whole text that begins with a prefix.
+    #[inline(always)]
+    pub(crate) fn with_prefix(
+        text: &'a [u8],
+        prefix: Found<'a>,
+        separators: Separators,
+    ) -> Cursor<'a>
+        requires { prefix.length ≤ length text.now }
+        ensures slice { slice_left result ≡ text.now }
+        ensures items { items_left result
+            ≡ component (prefix_part (prefix_view prefix.entry.kind)
+            (take prefix.entry.length text.now)) 0
+            ++ body separators prefix.entry.length (drop prefix.entry.length text.now) }
+    {
+        Cursor {
+            prefix: Some(prefix),
+            body: Body::new(text, prefix.length, separators),
         }
     }
 
@@ -57,7 +69,30 @@ impl<'a> Cursor<'a> {
     pub fn as_bytes(&self) -> &'a [u8]
         ensures { result.now ≡ slice_left self.now }
     {
-        &self.text[self.from..self.to]
+        match self.prefix {
+            Some(found) => &self.body.text[self.body.from - found.length..self.body.to],
+            None => self.body.as_bytes(),
+        }
+    }
+
+    /// The prefix, where it is still to be taken.
+    #[inline(always)]
+    pub(crate) fn prefix(&self) -> Option<WindowsPrefix<'a>>
+        ensures { option_map prefix_view result
+            ≡ first_prefix (kinds (parts (items_left self.now))) }
+    {
+        match self.prefix {
+            Some(found) => Some(found.kind),
+            None => None,
+        }
+    }
+
+    /// Whether the first component that is left behind the prefix is the root.
+    #[inline(always)]
+    pub(crate) fn body_begins_with_root(&self) -> bool
+        ensures { result ≡ begins_with_root (kinds (parts (body_items self.now.body))) }
+    {
+        self.body.begins_with_root()
     }
 
     /// Whether the first component that is left is the root.
@@ -65,13 +100,7 @@ impl<'a> Cursor<'a> {
     pub(crate) fn begins_with_root(&self) -> bool
         ensures { result ≡ begins_with_root (kinds (parts (items_left self.now))) }
     {
-        match self.begin {
-            Begin::Body => match self.as_bytes().first() {
-                Some(byte) => self.separators.contains(*byte),
-                None => false,
-            },
-            Begin::Inside => false,
-        }
+        self.prefix.is_none() && self.body.begins_with_root()
     }
 
     /// Where the last component that is left ends in the text.
@@ -80,21 +109,19 @@ impl<'a> Cursor<'a> {
         ensures { (last : Placed) → last_of (items_left self.now) ≡ Some last → result
             ≡ end_of last }
     {
-        self.from + trim_blanks(self.as_bytes(), self.separators)
+        self.body.last_end()
     }
 
     /// Judges the components that are left, from the front: the first one that offends is what a
     /// path of them is refused for when it is to be pushed.
-    pub(crate) fn check(mut self) -> Result<(), CheckedPathError>
-        ensures { error_of result ≡ fault_behind (dialect_of self.entry.separators) []
+    pub(crate) fn check(self) -> Result<(), CheckedPathError>
+        ensures { error_of result ≡ fault_behind (dialect_of self.entry.body.separators) []
             (kinds (parts (items_left self.entry))) }
     {
-        let allowed = self.separators.allows_names_of(self.as_bytes());
-        let mut depth = 0usize;
-        'pieces: while let Some(piece) = self.front() {
-            depth = depth_behind(piece, depth, self.separators, allowed)?;
+        match self.prefix {
+            Some(_) => Err(CheckedPathError::UnexpectedPrefix),
+            None => self.body.check(),
         }
-        Ok(())
     }
 
     /// Takes the first component that is left.
@@ -104,16 +131,26 @@ impl<'a> Cursor<'a> {
         ensures items { items_left self.new ≡ drop 1 (items_left self.old) }
         ensures slice { slice_left self.new
             ≡ slice_after_front (items_left self.old) (slice_left self.old) }
-        ensures separators { self.new.separators ≡ self.old.separators }
     {
-        let left = self.as_bytes();
-        if left.is_empty() {
-            return None;
+        match self.prefix {
+            Some(found) => Some(self.take_prefix(found)),
+            None => self.body.front(),
         }
-        let (piece, taken) = front_step(left, self.separators);
-        self.from += taken;
-        self.begin = Begin::Inside;
-        Some(piece)
+    }
+
+    /// Takes the prefix from the front.
+    #[inline(always)]
+    fn take_prefix(&mut self, found: Found<'a>) -> Piece<'a>
+        requires { self.old.prefix ≡ Some found }
+        ensures taken { Some (part_of result) ≡ first_part (items_left self.old) }
+        ensures items { items_left self.new ≡ drop 1 (items_left self.old) }
+        ensures slice { slice_left self.new
+            ≡ slice_after_front (items_left self.old) (slice_left self.old) }
+    {
+        let kind = PieceKind::Prefix(found.kind);
+        let text = &self.body.text[self.body.from - found.length..self.body.from];
+        self.prefix = None;
+        Piece { kind, text }
     }
 
     /// Takes the last component that is left.
@@ -124,12 +161,24 @@ impl<'a> Cursor<'a> {
         ensures slice { slice_left self.new
             ≡ slice_after_back (items_left self.old) (slice_left self.old) }
     {
-        let left = self.as_bytes();
-        if left.is_empty() {
-            return None;
+        match self.prefix {
+            Some(found) => Some(self.back_to_prefix(found)),
+            None => self.body.back(),
         }
-        let (piece, kept) = back_step(left, self.separators);
-        self.to = self.from + kept;
-        Some(piece)
+    }
+
+    /// Takes the last component that is left behind the prefix, or the prefix where none is.
+    #[inline(always)]
+    fn back_to_prefix(&mut self, found: Found<'a>) -> Piece<'a>
+        requires { self.old.prefix ≡ Some found }
+        ensures taken { Some (part_of result) ≡ last_part (items_left self.old) }
+        ensures items { items_left self.new ≡ but_last (items_left self.old) }
+        ensures slice { slice_left self.new
+            ≡ slice_after_back (items_left self.old) (slice_left self.old) }
+    {
+        match self.body.back() {
+            Some(piece) => piece,
+            None => self.take_prefix(found),
+        }
     }
 }

@@ -114,20 +114,20 @@ body_from-starts begin s at b bs clean =
     (p.0, later_body s (at + n) (drop n (b ∷ bs)), body_from-first begin s at b bs clean ∙ ap (λ cs. cs ++ later_body s (at + n) (drop n (b ∷ bs))) p.1)
 
 -- behind the first component the slice left begins with the next one
-pub slice_after_front-first : (s : Separators) (p : Part) (at k : ℕ) (slice : List ℕ) → is_clean Inside s (drop k slice) ≡ true
-    → slice_after_front (component p at ++ later_body s (at + k) (drop k slice)) slice ≡ drop k slice
-slice_after_front-first s p at k slice clean = by_rest (drop k slice) refl clean
+pub slice_after_front-first : (begin : Begin) (s : Separators) (p : Part) (at k : ℕ) (slice : List ℕ) → is_clean begin s (drop k slice) ≡ true
+    → slice_after_front (component p at ++ body_from begin s (at + k) (drop k slice)) slice ≡ drop k slice
+slice_after_front-first begin s p at k slice clean = by_rest (drop k slice) refl clean
   where
     by_next : (cs : List Placed) (q : Part) (rest : List Placed) → cs ≡ record { part = q; start = at + k } ∷ rest
         → slice_after_front (record { part = p; start = at } ∷ cs) slice ≡ drop k slice
     by_next cs q rest e = ap (λ ds. slice_after_front (record { part = p; start = at } ∷ ds) slice) e ∙ ap (λ n. drop n slice) (omega arith)
 
-    by_rest : (rest : List ℕ) → rest ≡ drop k slice → is_clean Inside s rest ≡ true
-        → slice_after_front (component p at ++ later_body s (at + k) rest) slice ≡ drop k slice
-    by_rest [] e h = e
+    by_rest : (rest : List ℕ) → rest ≡ drop k slice → is_clean begin s rest ≡ true
+        → slice_after_front (component p at ++ body_from begin s (at + k) rest) slice ≡ drop k slice
+    by_rest [] e h = ap (λ cs. slice_after_front (component p at ++ cs) slice) (body_from-empty begin s (at + k)) ∙ e
     by_rest (b ∷ bs) e h =
-        let next = body_from-starts Inside s (at + k) b bs h in
-        by_next (later_body s (at + k) (b ∷ bs)) next.0 next.1 next.2
+        let next = body_from-starts begin s (at + k) b bs h in
+        by_next (body_from begin s (at + k) (b ∷ bs)) next.0 next.1 next.2
 
 -- a range of a text that begins later
 pub slice_range-later : (text left : List ℕ) (from k to : ℕ) → from ≤ to → to ≤ length text → left ≡ slice_range text from to → k ≤ length left

@@ -1,7 +1,8 @@
 -- Unix parts are told by their kinds.
 use Rattle.std.proofs.Common.{◌≡◌, ℕ, ◌-◌, List, [], ◌∷◌, ◌++◌, length, take, drop, refl, sym, ap, subst, ◌∙◌}
-use Rattle.std.specs.Prelude.{Some}
+use Rattle.std.specs.Prelude.{Option, Some, None, MatchOption}
 use Rattle.std.specs.List.{flat_map}
+use Rattle.std.proofs.Math.Seq.{take-append_seam}
 use Rattle.std.proofs.lemmas.List.{take-map, map-append}
 use Rattle.std.proofs.lemmas.Option.{same_Some}
 use Rattle.typed_path.specs.declared.scan.piece.Piece.{Piece}
@@ -64,6 +65,13 @@ written-but_last cs h =
 written-end : (ps : List Part) (q : Part) → ps ++ q ∷ [] ≡ as_written (ps ++ q ∷ []) → q ≡ written_unix q.kind
 written-end [] q h = cc
 written-end (p ∷ ps) q h = written-end ps q cc
+
+-- also as an iterator takes them from the back
+pub written-yielded : (yielded : Option Piece) (ps qs : List Part) → ps ≡ as_written ps → MatchOption yielded ((ps ≡ []) × (qs ≡ [])) (λ p. ps ≡ qs ++ part_of p ∷ []) → qs ≡ as_written qs
+written-yielded None ps qs h (none, end) = end ∙ sym (ap as_written end)
+written-yielded (Some p) ps qs h e =
+    let front : take (length qs) ps ≡ qs = ap (take (length qs)) e ∙ take-append_seam qs (part_of p ∷ []) in
+    sym front ∙ ap (take (length qs)) h ∙ take-map (λ p. written_unix p.kind) (length qs) ps ∙ ap as_written front
 
 -- the component taken from the back is written so too
 pub written-last : (p : Piece) (cs : List Placed) → parts cs ≡ as_written (parts cs) → Some (part_of p) ≡ last_part cs → part_of p ≡ written_unix (part_of p).kind

@@ -3,7 +3,7 @@ use Rattle.std.specs.Prelude.{Some, None, Result, Ok, Err}
 use Rattle.std.proofs.lemmas.List.{length-take-le, length-drop}
 use Rattle.typed_path.specs.components.Part.{Placed, kinds, parts}
 use Rattle.typed_path.specs.components.Dialect.{dialect_of}
-use Rattle.typed_path.specs.views.CursorViews.{slice_left, items_left}
+use Rattle.typed_path.specs.views.BodyViews.{body_slice, body_items}
 use Rattle.typed_path.specs.readings.Steps.{first_part}
 use Rattle.typed_path.specs.views.PieceViews.{part_of}
 use Rattle.typed_path.specs.changes.Fault.{fault_behind, fault_at}
@@ -13,22 +13,22 @@ use Rattle.typed_path.proofs.lemmas.changes.AllowedLemmas.{allowed-body_from}
 use Rattle.std.specs.Result.{IsErrAnd}
 use Rattle.typed_path.proofs.lemmas.components.CountLemmas.{body_from-count}
 use Rattle.typed_path.proofs.lemmas.changes.FaultLemmas.{fault_behind-at, taken-first}
-use Rattle.typed_path.proofs.scan.cursor.Cursor.check.Goals as goal
-use Rattle.typed_path.proofs.scan.cursor.Cursor.check.Goals.{After-depth_behind}
+use Rattle.typed_path.proofs.scan.body.Body.check.Goals as goal
+use Rattle.typed_path.proofs.scan.body.Body.check.Goals.{After-depth_behind}
 
 pub pieces-init : goal.pieces-init
 pieces-init c =
     let own = c.args.self in
     record {
-      fault = fault_behind-at (dialect_of own.separators) [] 0 (kinds (parts (items_left own))) refl;
-      allowed = λ told. allowed-body_from own.begin own.separators own.from (slice_left own) (subst (SeparatesDisallowed own.separators) c.as_bytes.ensures (c.allows_names_of-allowed.ensures told));
+      fault = fault_behind-at (dialect_of own.separators) [] 0 (kinds (parts (body_items own))) refl;
+      allowed = λ told. allowed-body_from own.begin own.separators own.from (body_slice own) (subst (SeparatesDisallowed own.separators) c.as_bytes.ensures (c.allows_names_of-allowed.ensures told));
       deep = omega arith;
     }
 
 pub depth_behind-requires : goal.depth_behind-requires
 depth_behind-requires c =
-    let some = taken-first (items_left c.pieces.self) _ c.in-Some.ensures.taken in
-    let few = body_from-count c.args.self.begin c.args.self.separators c.args.self.from (slice_left c.args.self) in
+    let some = taken-first (body_items c.pieces.self) _ c.in-Some.ensures.taken in
+    let few = body_from-count c.args.self.begin c.args.self.separators c.args.self.from (body_slice c.args.self) in
     let rest = length-drop c.args.self.from c.args.self.text.now in
     let size = length-take-le (c.args.self.to - c.args.self.from) (drop c.args.self.from c.args.self.text.now) (omega (arith, rest, c.args.self.ordered, c.args.self.in_range)) in
     record {
@@ -45,25 +45,25 @@ error-is (Err y) e is = ap Some is
 
 module _ (c : After-depth_behind) where
   -- the fault of the whole list, by what this component is
-  step : fault_behind (dialect_of c.args.self.separators) [] (kinds (parts (items_left c.args.self)))
-      ≡ fault_at (dialect_of c.front.new.self.separators) c.pieces.depth ((part_of c.in-Some.piece).kind ∷ kinds (parts (items_left c.front.new.self)))
+  step : fault_behind (dialect_of c.args.self.separators) [] (kinds (parts (body_items c.args.self)))
+      ≡ fault_at (dialect_of c.front.new.self.separators) c.pieces.depth ((part_of c.in-Some.piece).kind ∷ kinds (parts (body_items c.front.new.self)))
   step =
       c.pieces.invariant.fault
-      ∙ ap (fault_at (dialect_of c.pieces.self.separators) c.pieces.depth) ((taken-first (items_left c.pieces.self) _ c.in-Some.ensures.taken).0 ∙ ap (λ cs. (part_of c.in-Some.piece).kind ∷ kinds (parts cs)) (sym c.in-Some.ensures.items))
-      ∙ ap (λ s. fault_at (dialect_of s) c.pieces.depth ((part_of c.in-Some.piece).kind ∷ kinds (parts (items_left c.front.new.self)))) (sym c.in-Some.ensures.separators)
+      ∙ ap (fault_at (dialect_of c.pieces.self.separators) c.pieces.depth) ((taken-first (body_items c.pieces.self) _ c.in-Some.ensures.taken).0 ∙ ap (λ cs. (part_of c.in-Some.piece).kind ∷ kinds (parts cs)) (sym c.in-Some.ensures.items))
+      ∙ ap (λ s. fault_at (dialect_of s) c.pieces.depth ((part_of c.in-Some.piece).kind ∷ kinds (parts (body_items c.front.new.self)))) (sym c.in-Some.ensures.separators)
 
 pub returns-in_err-depth : goal.returns-in_err-depth
 returns-in_err-depth c =
     error-is c.from_residual.result c.in_err-depth.field-0.0 c.from_residual.ensures.1
-    ∙ sym (step c.before.before.before ∙ c.in_err-depth.ensures.judged (kinds (parts (items_left c.front.new.self))))
+    ∙ sym (step c.before.before.before ∙ c.in_err-depth.ensures.judged (kinds (parts (body_items c.front.new.self))))
 
 pub pieces-preserved : goal.pieces-preserved
 pieces-preserved c =
-    let some = taken-first (items_left c.pieces.self) _ c.in-Some.ensures.taken in
+    let some = taken-first (body_items c.pieces.self) _ c.in-Some.ensures.taken in
     record {
-      fault = step c.before.before ∙ c.in_ok-depth.ensures.judged (kinds (parts (items_left c.front.new.self)));
+      fault = step c.before.before ∙ c.in_ok-depth.ensures.judged (kinds (parts (body_items c.front.new.self)));
       allowed = λ told.
-          subst (λ s. AllowsEach (dialect_of s) (kinds (parts (items_left c.front.new.self)))) (sym c.in-Some.ensures.separators)
+          subst (λ s. AllowsEach (dialect_of s) (kinds (parts (body_items c.front.new.self)))) (sym c.in-Some.ensures.separators)
           (subst (λ cs. AllowsEach (dialect_of c.pieces.self.separators) (kinds (parts cs))) (sym c.in-Some.ensures.items)
           (subst (AllowsEach (dialect_of c.pieces.self.separators)) some.0 (c.pieces.invariant.allowed told)).1);
       deep = omega (arith, some.1, c.pieces.invariant.deep, c.in_ok-depth.ensures.within, ap length c.in-Some.ensures.items);

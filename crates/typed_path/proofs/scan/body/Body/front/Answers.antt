@@ -1,11 +1,12 @@
 use Rattle.std.proofs.Common.{◌≡◌, ◌+◌, slice_range, drop, ap, sym, ◌∙◌, ◌++◌}
+use Rattle.typed_path.specs.declared.scan.begin.Begin.TheVariants.{Inside}
 use Rattle.typed_path.specs.components.Comps.{later_body, component}
 use Rattle.typed_path.specs.readings.Left.{slice_after_front}
 use Rattle.typed_path.specs.readings.Steps.{body_from}
 use Rattle.typed_path.specs.views.PieceViews.{part_of}
 use Rattle.typed_path.proofs.lemmas.components.BodyLemmas.{slice_after_front-first, slice_range-later}
-use Rattle.typed_path.proofs.scan.cursor.Cursor.front.Goals as goal
-use Rattle.typed_path.proofs.scan.cursor.Cursor.front.Goals.{After-front_step-taken}
+use Rattle.typed_path.proofs.scan.body.Body.front.Goals as goal
+use Rattle.typed_path.proofs.scan.body.Body.front.Goals.{After-front_step-taken}
 
 -- the slice behind the step
 slice_behind : (c : After-front_step-taken) → slice_range c.args.self.now.text.now (c.args.self.now.from + c.front_step-taken.result.1) c.args.self.now.to
@@ -39,6 +40,6 @@ returns-clause-slice c =
     let k = c.front_step-taken.result.1 in
     let step = (goal.at.returns-clause-slice c).After-front_step-taken in
     slice_behind step
-    ∙ sym (slice_after_front-first v.separators (part_of c.front_step-taken.result.0) v.from k c.as_bytes-left.result.now c.front_step-taken.ensures.clean)
+    ∙ sym (slice_after_front-first Inside v.separators (part_of c.front_step-taken.result.0) v.from k c.as_bytes-left.result.now c.front_step-taken.ensures.clean)
     ∙ ap (λ cs. slice_after_front cs c.as_bytes-left.result.now) (sym (items_before step))
     ∙ ap (λ t. slice_after_front (body_from v.begin v.separators v.from t) t) c.as_bytes-left.ensures

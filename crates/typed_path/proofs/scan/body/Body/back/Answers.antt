@@ -1,12 +1,12 @@
 use Rattle.std.proofs.Common.{◌≡◌, ℕ, ◌+◌, true, slice_range, take, ap, sym, ◌∙◌, ◌++◌}
 use Rattle.typed_path.specs.components.Comps.{component}
 use Rattle.typed_path.specs.readings.Left.{but_last, slice_after_back}
-use Rattle.typed_path.specs.readings.Steps.{body_from, is_clean, last_part}
-use Rattle.typed_path.specs.views.CursorViews.{items_left}
+use Rattle.typed_path.specs.readings.Steps.{body_from, is_clean, last_part, end_from}
+use Rattle.typed_path.specs.views.BodyViews.{body_items}
 use Rattle.typed_path.specs.views.PieceViews.{part_of}
 use Rattle.typed_path.proofs.lemmas.readings.LeftLemmas.{last_part-push, but_last-push, starts-body_from, slice_after_back-push, slice_range-earlier}
-use Rattle.typed_path.proofs.scan.cursor.Cursor.back.Goals as goal
-use Rattle.typed_path.proofs.scan.cursor.Cursor.back.Goals.{After-back_step-kept}
+use Rattle.typed_path.proofs.scan.body.Body.back.Goals as goal
+use Rattle.typed_path.proofs.scan.body.Body.back.Goals.{After-back_step-kept}
 
 -- the slice before the step
 slice_before : (c : After-back_step-kept) → slice_range c.args.self.now.text.now c.args.self.now.from (c.args.self.now.from + c.back_step-kept.result.1)
@@ -20,7 +20,7 @@ clean_left : (c : After-back_step-kept) → is_clean c.args.self.now.begin c.arg
 clean_left c = rw c.as_bytes-left.ensures c.args.self.now.starts_clean
 
 -- the components left before it, as those that are left behind it and the one taken
-items_split : (c : After-back_step-kept) → (place : ℕ) × (items_left c.args.self.now
+items_split : (c : After-back_step-kept) → (place : ℕ) × (body_items c.args.self.now
     ≡ body_from c.args.self.now.begin c.args.self.now.separators c.args.self.now.from (take c.back_step-kept.result.1 c.as_bytes-left.result.now) ++ component (part_of c.back_step-kept.result.0) place)
 items_split c =
     let v = c.args.self.now in
@@ -55,4 +55,13 @@ returns-clause-slice c =
     ∙ sym (slice_after_back-push v.from k left cs (record { part = part_of c.back_step-kept.result.0; start = split.0 })
     (starts-body_from v.begin v.separators v.from (take k left) (c.back_step-kept.ensures.clean v.begin (clean_left step))) (c.back_step-kept.ensures.ends v.begin v.from (clean_left step)))
     ∙ ap (λ ds. slice_after_back ds left) (sym split.1)
-    ∙ ap (slice_after_back (items_left v)) c.as_bytes-left.ensures
+    ∙ ap (slice_after_back (body_items v)) c.as_bytes-left.ensures
+
+pub returns-clause-end : goal.returns-clause-end
+returns-clause-end c =
+    let step = (goal.at.returns-clause-end c).After-back_step-kept in
+    let split = items_split step in
+    let v = c.args.self.now in
+    let cs = body_from v.begin v.separators v.from (take c.back_step-kept.result.1 c.as_bytes-left.result.now) in
+    sym (ap (λ ds. end_from v.from (but_last ds)) split.1 ∙ ap (end_from v.from) (but_last-push cs (record { part = part_of c.back_step-kept.result.0; start = split.0 }))
+    ∙ c.back_step-kept.ensures.ends v.begin v.from (clean_left step))
