@@ -1,6 +1,8 @@
 //! The place of a reading from both ends.
 
-ghost use Rattle.std.specs.Prelude.{◌≤◌};
+ghost use Rattle.std.specs.Prelude.{◌≡◌, ◌≤◌, ◌-◌, length, slice_range};
+ghost use Rattle.typed_path.specs.components.Part.{prefix_part};
+ghost use Rattle.typed_path.specs.views.PieceViews.{part_of, prefix_view};
 ghost use Rattle.typed_path.specs.readings.Pending.{pending};
 
 use crate::errors::CheckedPathError;
@@ -147,10 +149,9 @@ impl<'a> Cursor<'a> {
         ensures slice { slice_left self.new
             ≡ slice_after_front (items_left self.old) (slice_left self.old) }
     {
-        let kind = PieceKind::Prefix(found.kind);
-        let text = &self.body.text[self.body.from - found.length..self.body.from];
+        let piece = prefix_piece(self.body.text, self.body.from, found);
         self.prefix = None;
-        Piece { kind, text }
+        piece
     }
 
     /// Takes the last component that is left.
@@ -180,5 +181,21 @@ impl<'a> Cursor<'a> {
             Some(piece) => piece,
             None => self.take_prefix(found),
         }
+    }
+}
+
+/// The piece of a prefix that ends at a place of a text.
+///
+/// It stands apart so that a reading without a prefix is built in small.
+fn prefix_piece<'a>(text: &'a [u8], end: usize, found: Found<'a>) -> Piece<'a>
+    requires length { found.length ≤ end }
+    requires within { end ≤ length text.now }
+    ensures { part_of result
+        ≡ prefix_part (prefix_view found.entry.kind)
+        (slice_range text.now (end - found.entry.length) end) }
+{
+    Piece {
+        kind: PieceKind::Prefix(found.kind),
+        text: &text[end - found.length..end],
     }
 }
