@@ -4,3 +4,4 @@ pub mod Part
 pub mod Prefix
 pub mod Comps
 pub mod UnixParts
+pub mod WindowsParts

@@ -7,5 +7,6 @@ pub mod ReversedViews
 pub mod UnixViews
 pub mod UnixIterViews
 pub mod WindowsViews
+pub mod WindowsIterViews
 pub mod OwnedViews
 pub mod RunViews

@@ -21,4 +21,7 @@ pub use script::{
 };
 pub use std::borrow::CowStr;
 pub use unix::{UnixComponent, UnixComponents, UnixEncoding, UnixPath, UnixPathBuf};
-pub use windows::{WindowsComponent, WindowsPrefix, WindowsPrefixComponent};
+pub use windows::{
+    WindowsComponent, WindowsComponents, WindowsEncoding, WindowsPath, WindowsPrefix,
+    WindowsPrefixComponent,
+};

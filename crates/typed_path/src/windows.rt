@@ -1,9 +1,17 @@
 //! Windows paths.
 
 mod component;
+mod components;
+mod encoding;
 mod prefix;
 mod readings;
 
+use crate::common::Path;
 pub use crate::scan::WindowsPrefix;
 pub use component::WindowsComponent;
+pub use components::WindowsComponents;
+pub use encoding::WindowsEncoding;
 pub use prefix::WindowsPrefixComponent;
+
+/// A path that is written as on Windows.
+pub type WindowsPath<'a> = Path<'a, WindowsEncoding>;

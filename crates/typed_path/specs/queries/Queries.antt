@@ -81,6 +81,11 @@ prefix_in k = None
 abbrev pub prefix_part_in : Part → Option Part
 prefix_part_in p = if is_prefix p.kind then Some p else None
 
+-- the prefix among the components of a list: its first one, where that is a prefix
+abbrev pub prefix_among : List Part → Option Part
+prefix_among [] = None
+prefix_among (p ∷ ps) = prefix_part_in p
+
 -- a prefix of one kind alone
 abbrev pub has_verbatim_prefix : List Kind → Bool
 has_verbatim_prefix (prefix (verbatim name) ∷ ks) = true

@@ -2,6 +2,7 @@
 use Rattle.std.specs.Prelude.{ℕ, ◌-◌, List, ◌++◌, take, slice_range, Option, Some, None}
 use Rattle.typed_path.specs.declared.scan.cursor.Cursor.{Cursor}
 use Rattle.typed_path.specs.declared.scan.prefix.Found.{Found}
+use Rattle.typed_path.specs.declared.scan.separators.Separators.{Separators}
 use Rattle.typed_path.specs.components.Part.{Placed, prefix_part}
 use Rattle.typed_path.specs.components.Comps.{component}
 use Rattle.typed_path.specs.views.PieceViews.{prefix_view}
@@ -22,3 +23,7 @@ prefix_left (Some f) at text rest = component (prefix_part (prefix_view f.kind) 
 
 abbrev pub items_left : Cursor → List Placed
 items_left c = prefix_left c.prefix (start_left c.prefix c.body.from) (slice_left c) (body_items c.body)
+
+-- the separators of the whole text
+abbrev pub cursor_separators : Cursor → Separators
+cursor_separators c = c.body.separators

@@ -37,3 +37,10 @@ abbrev pub IsPrefixReading : List ℕ → Result WindowsPrefix (Bor (List ℕ)) 
 IsPrefixReading text reading = MatchResult reading
     (λ p. parts_of windows text ≡ prefix_part (prefix_view p) text ∷ [])
     (λ why. IsPrefixRefusal text why.now)
+
+-- a text is one component, or it is refused for having none or for having more
+abbrev pub IsWindowsReading : List ℕ → Result WindowsComponent (Bor (List ℕ)) → Type 0
+IsWindowsReading text reading = MatchResult reading
+    (λ component. parts_of windows text ≡ windows_part component ∷ [])
+    (λ why. (parts_of windows text ≡ []) × (why.now ≡ codes "no component found")
+    ⊎ (1 < length (parts_of windows text)) × (why.now ≡ codes "found more than one component"))

@@ -11,12 +11,9 @@ pub struct Path<'a, T> {
     encoding: PhantomData<T>,
 }
 
-impl<'a, T: Encoding> Path<'a, T> {
-    ghost use Rattle.std.specs.Prelude.{◌≡◌, not};
-    ghost use Rattle.typed_path.specs.components.Part.{kinds};
-    ghost use Rattle.typed_path.specs.components.Comps.{comps, parts_of};
-    ghost use Rattle.typed_path.specs.queries.Queries.{is_absolute, has_root, is_valid};
-    ghost use Rattle.typed_path.specs.views.PathViews.{path_bytes, components_items, components_slice};
+impl<'a, T> Path<'a, T> {
+    ghost use Rattle.std.specs.Prelude.{◌≡◌};
+    ghost use Rattle.typed_path.specs.views.PathViews.{path_bytes};
 
     /// The path of these bytes, whatever they are.
     #[inline(always)]
@@ -36,6 +33,14 @@ impl<'a, T: Encoding> Path<'a, T> {
     {
         self.bytes
     }
+}
+
+impl<'a, T: Encoding> Path<'a, T> {
+    ghost use Rattle.std.specs.Prelude.{◌≡◌, not};
+    ghost use Rattle.typed_path.specs.components.Part.{kinds};
+    ghost use Rattle.typed_path.specs.components.Comps.{comps, parts_of};
+    ghost use Rattle.typed_path.specs.queries.Queries.{is_absolute, has_root, is_valid};
+    ghost use Rattle.typed_path.specs.views.PathViews.{path_bytes, components_items, components_slice};
 
     /// The components of the path, from either end.
     #[inline(always)]

@@ -24,11 +24,10 @@ impl<'a> Cursor<'a> {
     ghost use Rattle.typed_path.specs.components.Comps.{body, component};
     ghost use Rattle.typed_path.specs.readings.Left.{but_last, last_of, slice_after_front, slice_after_back};
     ghost use Rattle.typed_path.specs.components.Part.{Placed, end_of, kinds, parts, prefix_part};
-    ghost use Rattle.typed_path.specs.queries.Queries.{begins_with_root, first_prefix};
+    ghost use Rattle.typed_path.specs.queries.Queries.{begins_with_root, first_prefix, prefix_among, has_physical_root};
     ghost use Rattle.typed_path.specs.readings.Steps.{first_part, last_part};
     ghost use Rattle.typed_path.specs.views.PieceViews.{part_of, prefix_view};
-    ghost use Rattle.typed_path.specs.views.BodyViews.{body_items};
-    ghost use Rattle.typed_path.specs.views.CursorViews.{slice_left, items_left};
+    ghost use Rattle.typed_path.specs.views.CursorViews.{slice_left, items_left, cursor_separators};
     ghost use Rattle.typed_path.specs.changes.Checked.{error_of};
     ghost use Rattle.typed_path.specs.components.Dialect.{dialect_of};
     ghost use Rattle.typed_path.specs.changes.Fault.{fault_behind};
@@ -38,7 +37,7 @@ impl<'a> Cursor<'a> {
     pub(crate) fn new(text: &'a [u8], separators: Separators) -> Cursor<'a>
         ensures slice { slice_left result ≡ text.now }
         ensures items { items_left result ≡ body separators 0 text.now }
-        ensures separators { result.body.separators ≡ separators }
+        ensures separators { cursor_separators result ≡ separators }
     {
         Cursor {
             prefix: None,
@@ -59,6 +58,7 @@ impl<'a> Cursor<'a> {
             ≡ component (prefix_part (prefix_view prefix.entry.kind)
             (take prefix.entry.length text.now)) 0
             ++ body separators prefix.entry.length (drop prefix.entry.length text.now) }
+        ensures separators { cursor_separators result ≡ separators }
     {
         Cursor {
             prefix: Some(prefix),
@@ -89,10 +89,19 @@ impl<'a> Cursor<'a> {
         }
     }
 
-    /// Whether the first component that is left behind the prefix is the root.
+    /// The prefix with its text, where it is still to be taken.
     #[inline(always)]
-    pub(crate) fn body_begins_with_root(&self) -> bool
-        ensures { result ≡ begins_with_root (kinds (parts (body_items self.now.body))) }
+    pub(crate) fn prefix_piece(&self) -> Option<Piece<'a>>
+        ensures { option_map part_of result ≡ prefix_among (parts (items_left self.now)) }
+    {
+        let found = self.prefix?;
+        Some(prefix_piece(self.body.text, self.body.from, found))
+    }
+
+    /// Whether the first component that is left, the prefix aside, is the root.
+    #[inline(always)]
+    pub(crate) fn has_physical_root(&self) -> bool
+        ensures { result ≡ has_physical_root (kinds (parts (items_left self.now))) }
     {
         self.body.begins_with_root()
     }
@@ -117,7 +126,7 @@ impl<'a> Cursor<'a> {
     /// Judges the components that are left, from the front: the first one that offends is what a
     /// path of them is refused for when it is to be pushed.
     pub(crate) fn check(self) -> Result<(), CheckedPathError>
-        ensures { error_of result ≡ fault_behind (dialect_of self.entry.body.separators) []
+        ensures { error_of result ≡ fault_behind (dialect_of (cursor_separators self.entry)) []
             (kinds (parts (items_left self.entry))) }
     {
         match self.prefix {

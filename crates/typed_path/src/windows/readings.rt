@@ -1,7 +1,10 @@
-//! Windows prefixes read from texts.
+//! Windows prefixes and components read from texts.
 
+use crate::common::Path;
 use crate::errors::ParseError;
 use crate::scan::{WindowsPrefix, find_prefix};
+use crate::windows::component::WindowsComponent;
+use crate::windows::components::WindowsComponents;
 use crate::windows::prefix::WindowsPrefixComponent;
 
 /// Reads bytes that are one prefix.
@@ -89,5 +92,54 @@ impl<'a> TryFrom<&'a str> for WindowsPrefixComponent<'a> {
 
     fn try_from(text: &'a str) -> Result<WindowsPrefixComponent<'a>, ParseError> {
         WindowsPrefixComponent::try_from(text.as_bytes())
+    }
+}
+
+/// Reads bytes that are one component.
+///
+/// Where they have none they are refused with `no component found`, and where they have two or more
+/// with `found more than one component`.
+impl<'a> TryFrom<&'a [u8]> for WindowsComponent<'a> {
+    ghost use Rattle.typed_path.specs.views.WindowsViews.{IsWindowsReading};
+
+    type Error = ParseError;
+
+    ghost try_from_gives = { λ text reading. IsWindowsReading text.now reading };
+
+    fn try_from(text: &'a [u8]) -> Result<WindowsComponent<'a>, ParseError> {
+        let mut components = WindowsComponents::new(Path::new(text));
+        let Some(component) = components.next() else {
+            return Err("no component found");
+        };
+        match components.next() {
+            None => Ok(component),
+            Some(_) => Err("found more than one component"),
+        }
+    }
+}
+
+/// Reads an array as the slice of its bytes.
+impl<'a, const N: usize> TryFrom<&'a [u8; N]> for WindowsComponent<'a> {
+    ghost use Rattle.typed_path.specs.views.WindowsViews.{IsWindowsReading};
+
+    type Error = ParseError;
+
+    ghost try_from_gives = { λ text reading. IsWindowsReading text.now reading };
+
+    fn try_from(text: &'a [u8; N]) -> Result<WindowsComponent<'a>, ParseError> {
+        WindowsComponent::try_from(text.as_slice())
+    }
+}
+
+/// Reads a text as the slice of its bytes.
+impl<'a> TryFrom<&'a str> for WindowsComponent<'a> {
+    ghost use Rattle.typed_path.specs.views.WindowsViews.{IsWindowsReading};
+
+    type Error = ParseError;
+
+    ghost try_from_gives = { λ text reading. IsWindowsReading text.now reading };
+
+    fn try_from(text: &'a str) -> Result<WindowsComponent<'a>, ParseError> {
+        WindowsComponent::try_from(text.as_bytes())
     }
 }

@@ -1,84 +1,128 @@
--- Unix parts are told by their kinds.
-use Rattle.std.proofs.Common.{◌≡◌, ℕ, ◌-◌, List, [], ◌∷◌, ◌++◌, length, take, drop, refl, sym, ap, subst, ◌∙◌}
+-- Components are written as their kinds tell.
+use Rattle.std.proofs.Common.{◌≡◌, ℕ, ◌-◌, List, [], ◌∷◌, ◌++◌, length, take, drop, map, Bool, true, false, if◌then◌else◌, refl, sym, ap, subst, ◌∙◌}
 use Rattle.std.specs.Prelude.{Option, Some, None, MatchOption}
 use Rattle.std.specs.List.{flat_map}
 use Rattle.std.proofs.Math.Seq.{take-append_seam}
 use Rattle.std.proofs.lemmas.List.{take-map, map-append}
 use Rattle.std.proofs.lemmas.Option.{same_Some}
 use Rattle.typed_path.specs.declared.scan.piece.Piece.{Piece}
-use Rattle.typed_path.specs.declared.scan.separators.Separators.TheVariants.{Slash}
-use Rattle.typed_path.specs.components.Dialect.{unix, root_text}
-use Rattle.typed_path.specs.components.Part.{Part, Placed, parts, current_part, parent_part, name_part, root_part}
-use Rattle.typed_path.specs.components.Comps.{Segment, segments, first, later, body_of, parts_of}
+use Rattle.typed_path.specs.declared.scan.separators.Separators.{Separators}
+use Rattle.typed_path.specs.declared.scan.separators.Separators.TheVariants.{Slash, Backslash, Either}
+use Rattle.typed_path.specs.components.Dialect.{unix, windows, separators, root_text, begins_verbatim}
+use Rattle.typed_path.specs.components.Part.{Part, Placed, parts, current_part, parent_part, name_part, root_part, prefix_part}
+use Rattle.typed_path.specs.components.Prefix.{Found, prefix_of}
+use Rattle.typed_path.specs.components.Comps.{Segment, segments, first, later, body_of, body, comps_behind, parts_of}
 use Rattle.typed_path.specs.readings.Left.{but_last}
-use Rattle.typed_path.specs.readings.Steps.{last_part}
+use Rattle.typed_path.specs.readings.Steps.{first_part, last_part}
 use Rattle.typed_path.specs.views.PieceViews.{part_of}
 use Rattle.typed_path.specs.components.UnixParts.{written_unix, as_written}
+use Rattle.typed_path.specs.components.WindowsParts.{written_windows, as_windows_writes}
 use Rattle.typed_path.proofs.lemmas.components.SegmentViews.{Seen, empty, passed_dot, kept_dot, dot_dot, word, seen}
 use Rattle.typed_path.proofs.lemmas.readings.LeftLemmas.{last_pushed, last_part-push}
 
-written-cons : (p : Part) (ps : List Part) → p ≡ written_unix p.kind → ps ≡ as_written ps → p ∷ ps ≡ as_written (p ∷ ps)
-written-cons p ps e h = ap (λ q. q ∷ ps) e ∙ ap (λ qs. written_unix p.kind ∷ qs) h
+-- how a dialect writes a part, whatever its text
+abbrev pub by_unix : Part → Part
+by_unix p = written_unix p.kind
 
-abbrev Written : List Placed → Type 0
-Written cs = parts cs ≡ as_written (parts cs)
+abbrev pub by_windows : Part → Part
+by_windows p = written_windows p.text p.kind
 
-written-later : (gs : List Segment) → Written (flat_map (later Slash) gs)
-written-later [] = refl
-written-later (g ∷ gs) = by (later Slash g) (first Slash g) (seen Slash g) (written-later gs)
-  where
-    by : (own front : List Placed) → Seen Slash g own front → Written (flat_map (later Slash) gs) → Written (own ++ flat_map (later Slash) gs)
-    by _ _ (empty e) h = h
-    by _ _ (passed_dot e) h = h
-    by _ _ (kept_dot e) h = written-cons current_part (parts (flat_map (later Slash) gs)) refl h
-    by _ _ (dot_dot e) h = written-cons parent_part (parts (flat_map (later Slash) gs)) refl h
-    by _ _ (word e) h = written-cons (name_part g.text) (parts (flat_map (later Slash) gs)) refl h
+module _ (write : Part → Part) where
+  abbrev Written : List Placed → Type 0
+  Written cs = parts cs ≡ map write (parts cs)
 
-written-body_of : (gs : List Segment) → Written (body_of Slash gs)
-written-body_of [] = refl
-written-body_of (g ∷ gs) = by (later Slash g) (first Slash g) (seen Slash g)
-  where
-    by : (own front : List Placed) → Seen Slash g own front → Written (front ++ flat_map (later Slash) gs)
-    by _ _ (empty e) = written-cons (root_part (root_text Slash)) (parts (flat_map (later Slash) gs)) refl (written-later gs)
-    by _ _ (passed_dot e) = written-cons current_part (parts (flat_map (later Slash) gs)) refl (written-later gs)
-    by _ _ (kept_dot e) = written-cons current_part (parts (flat_map (later Slash) gs)) refl (written-later gs)
-    by _ _ (dot_dot e) = written-cons parent_part (parts (flat_map (later Slash) gs)) refl (written-later gs)
-    by _ _ (word e) = written-cons (name_part g.text) (parts (flat_map (later Slash) gs)) refl (written-later gs)
+  written-cons : (p : Part) (ps : List Part) → write p ≡ p → ps ≡ map write ps → p ∷ ps ≡ map write (p ∷ ps)
+  written-cons p ps e h = ap (λ q. q ∷ ps) (sym e) ∙ ap (λ qs. write p ∷ qs) h
+
+  -- the components that are read behind a prefix are written as their kinds tell
+  record WritesBody (s : Separators) : Type 0 where
+    pub root : write (root_part (root_text s)) ≡ root_part (root_text s)
+    pub current : write current_part ≡ current_part
+    pub parent : write parent_part ≡ parent_part
+    pub name : (text : List ℕ) → write (name_part text) ≡ name_part text
+
+  module _ (s : Separators) (writes : WritesBody s) where
+    written-later : (gs : List Segment) → Written (flat_map (later s) gs)
+    written-later [] = refl
+    written-later (g ∷ gs) = by (later s g) (first s g) (seen s g) (written-later gs)
+      where
+        by : (own front : List Placed) → Seen s g own front → Written (flat_map (later s) gs) → Written (own ++ flat_map (later s) gs)
+        by _ _ (empty e) h = h
+        by _ _ (passed_dot e) h = h
+        by _ _ (kept_dot e) h = written-cons current_part (parts (flat_map (later s) gs)) writes.current h
+        by _ _ (dot_dot e) h = written-cons parent_part (parts (flat_map (later s) gs)) writes.parent h
+        by _ _ (word e) h = written-cons (name_part g.text) (parts (flat_map (later s) gs)) (writes.name g.text) h
+
+    written-body_of : (gs : List Segment) → Written (body_of s gs)
+    written-body_of [] = refl
+    written-body_of (g ∷ gs) = by (later s g) (first s g) (seen s g)
+      where
+        by : (own front : List Placed) → Seen s g own front → Written (front ++ flat_map (later s) gs)
+        by _ _ (empty e) = written-cons (root_part (root_text s)) (parts (flat_map (later s) gs)) writes.root (written-later gs)
+        by _ _ (passed_dot e) = written-cons current_part (parts (flat_map (later s) gs)) writes.current (written-later gs)
+        by _ _ (kept_dot e) = written-cons current_part (parts (flat_map (later s) gs)) writes.current (written-later gs)
+        by _ _ (dot_dot e) = written-cons parent_part (parts (flat_map (later s) gs)) writes.parent (written-later gs)
+        by _ _ (word e) = written-cons (name_part g.text) (parts (flat_map (later s) gs)) (writes.name g.text) (written-later gs)
+
+    written-body : (at : ℕ) (text : List ℕ) → Written (body s at text)
+    written-body at [] = refl
+    written-body at (b ∷ bs) = written-body_of (segments s at (b ∷ bs))
+
+  -- and stays so as components are taken
+  pub written-drop : (cs : List Placed) → parts cs ≡ map write (parts cs) → parts (drop 1 cs) ≡ map write (parts (drop 1 cs))
+  written-drop [] h = refl
+  written-drop (c ∷ cs) h = cc
+
+  pub written-but_last : (cs : List Placed) → parts cs ≡ map write (parts cs) → parts (but_last cs) ≡ map write (parts (but_last cs))
+  written-but_last cs h =
+      sym (take-map (λ c. c.part) n cs) ∙ ap (take n) h ∙ take-map write n (parts cs) ∙ ap (map write) (take-map (λ c. c.part) n cs)
+    where
+      n : ℕ
+      n = length cs - 1
+
+  written-end : (ps : List Part) (q : Part) → ps ++ q ∷ [] ≡ map write (ps ++ q ∷ []) → q ≡ write q
+  written-end [] q h = cc
+  written-end (p ∷ ps) q h = written-end ps q cc
+
+  -- also as an iterator takes them from the back
+  pub written-yielded : (yielded : Option Piece) (ps qs : List Part) → ps ≡ map write ps → MatchOption yielded ((ps ≡ []) × (qs ≡ [])) (λ p. ps ≡ qs ++ part_of p ∷ []) → qs ≡ map write qs
+  written-yielded None ps qs h (none, end) = end ∙ sym (ap (map write) end)
+  written-yielded (Some p) ps qs h e =
+      let front : take (length qs) ps ≡ qs = ap (take (length qs)) e ∙ take-append_seam qs (part_of p ∷ []) in
+      sym front ∙ ap (take (length qs)) h ∙ take-map write (length qs) ps ∙ ap (map write) front
+
+  -- the component taken from the back is written so too
+  pub written-last : (p : Piece) (cs : List Placed) → parts cs ≡ map write (parts cs) → Some (part_of p) ≡ last_part cs → part_of p ≡ write (part_of p)
+  written-last p [] h e = cc
+  written-last p (c ∷ cs) h e =
+      let d = last_pushed c cs in
+      let whole = subst (λ ds. parts ds ≡ map write (parts ds)) d.1 h in
+      let split = map-append (λ x. x.part) (but_last (c ∷ cs)) (d.0 ∷ []) in
+      let end = written-end (parts (but_last (c ∷ cs))) d.0.part (subst (λ ps. ps ≡ map write ps) split whole) in
+      subst (λ q. q ≡ write q) (sym (same_Some _ _ (e ∙ ap last_part d.1 ∙ last_part-push (but_last (c ∷ cs)) d.0))) end
+
+  -- and the one taken from the front
+  pub written-first : (p : Piece) (cs : List Placed) → parts cs ≡ map write (parts cs) → Some (part_of p) ≡ first_part cs → part_of p ≡ write (part_of p)
+  written-first p [] h e = cc
+  written-first p (c ∷ cs) h e = subst (λ q. q ≡ write q) (sym (same_Some _ _ e)) cc
 
 -- what Unix reads is told by the kinds
 pub written-parts_of : (text : List ℕ) → parts_of unix text ≡ as_written (parts_of unix text)
-written-parts_of [] = refl
-written-parts_of (b ∷ bs) = written-body_of (segments Slash 0 (b ∷ bs))
+written-parts_of text = written-body by_unix Slash (record { root = refl; current = refl; parent = refl; name = λ name. refl }) 0 text
 
--- and stays so as components are taken
-pub written-drop : (cs : List Placed) → parts cs ≡ as_written (parts cs) → parts (drop 1 cs) ≡ as_written (parts (drop 1 cs))
-written-drop [] h = refl
-written-drop (c ∷ cs) h = cc
+-- and so is what Windows reads, but for the raw text of a prefix
+writes_windows : (verbatim : Bool) → WritesBody by_windows (if verbatim then Backslash else Either)
+writes_windows true = record { root = refl; current = refl; parent = refl; name = λ name. refl }
+writes_windows false = record { root = refl; current = refl; parent = refl; name = λ name. refl }
 
-pub written-but_last : (cs : List Placed) → parts cs ≡ as_written (parts cs) → parts (but_last cs) ≡ as_written (parts (but_last cs))
-written-but_last cs h =
-    sym (take-map (λ c. c.part) n cs) ∙ ap (take n) h ∙ take-map (λ p. written_unix p.kind) n (parts cs) ∙ ap as_written (take-map (λ c. c.part) n cs)
+pub windows_written-parts_of : (text : List ℕ) → parts_of windows text ≡ as_windows_writes (parts_of windows text)
+windows_written-parts_of text = behind (prefix_of windows text)
   where
-    n : ℕ
-    n = length cs - 1
+    s : Separators
+    s = separators windows text
 
-written-end : (ps : List Part) (q : Part) → ps ++ q ∷ [] ≡ as_written (ps ++ q ∷ []) → q ≡ written_unix q.kind
-written-end [] q h = cc
-written-end (p ∷ ps) q h = written-end ps q cc
-
--- also as an iterator takes them from the back
-pub written-yielded : (yielded : Option Piece) (ps qs : List Part) → ps ≡ as_written ps → MatchOption yielded ((ps ≡ []) × (qs ≡ [])) (λ p. ps ≡ qs ++ part_of p ∷ []) → qs ≡ as_written qs
-written-yielded None ps qs h (none, end) = end ∙ sym (ap as_written end)
-written-yielded (Some p) ps qs h e =
-    let front : take (length qs) ps ≡ qs = ap (take (length qs)) e ∙ take-append_seam qs (part_of p ∷ []) in
-    sym front ∙ ap (take (length qs)) h ∙ take-map (λ p. written_unix p.kind) (length qs) ps ∙ ap as_written front
-
--- the component taken from the back is written so too
-pub written-last : (p : Piece) (cs : List Placed) → parts cs ≡ as_written (parts cs) → Some (part_of p) ≡ last_part cs → part_of p ≡ written_unix (part_of p).kind
-written-last p [] h e = cc
-written-last p (c ∷ cs) h e =
-    let d = last_pushed c cs in
-    let whole = subst (λ ds. parts ds ≡ as_written (parts ds)) d.1 h in
-    let split = map-append (λ x. x.part) (but_last (c ∷ cs)) (d.0 ∷ []) in
-    let end = written-end (parts (but_last (c ∷ cs))) d.0.part (subst (λ ps. ps ≡ as_written ps) split whole) in
-    subst (λ q. q ≡ written_unix q.kind) (sym (same_Some _ _ (e ∙ ap last_part d.1 ∙ last_part-push (but_last (c ∷ cs)) d.0))) end
+    behind : (f : Option Found) → parts (comps_behind s text f) ≡ as_windows_writes (parts (comps_behind s text f))
+    behind None = written-body by_windows s (writes_windows (begins_verbatim text)) 0 text
+    behind (Some f) =
+        written-cons by_windows (prefix_part f.prefix (take f.length text)) (parts (body s f.length (drop f.length text))) refl
+        (written-body by_windows s (writes_windows (begins_verbatim text)) f.length (drop f.length text))

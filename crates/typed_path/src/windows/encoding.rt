@@ -1,0 +1,64 @@
+//! The encoding of Windows paths.
+
+ghost use Rattle.std.specs.Prelude.{◌≡◌};
+ghost use Rattle.typed_path.specs.components.Dialect.{windows};
+ghost use Rattle.typed_path.specs.components.Comps.{comps};
+ghost use Rattle.typed_path.specs.components.Part.{kinds, parts};
+ghost use Rattle.typed_path.specs.queries.Queries.{is_absolute, has_root};
+ghost use Rattle.typed_path.specs.views.CursorViews.{slice_left, items_left};
+
+use crate::scan::{Cursor, Separators, WindowsPrefix, find_prefix};
+use std::fmt;
+
+/// Paths as on Windows: `\` and `/` separate, and a path may begin with a prefix.
+#[derive(Clone, Copy, Debug, Default, PartialEq, Eq, PartialOrd, Ord, Hash)]
+pub struct WindowsEncoding;
+
+/// Prints the name of the type.
+impl fmt::Display for WindowsEncoding {
+    ghost use Rattle.std.specs.Prelude.{codes, Some};
+
+    ghost output = { λ _. Some (codes "WindowsEncoding") };
+
+    fn fmt<W: fmt::Write>(&self, f: &mut fmt::Formatter<W>) -> fmt::Result {
+        f.pad("WindowsEncoding")
+    }
+}
+
+/// A reading of the components of a text.
+#[inline(always)]
+pub fn cursor(path: &[u8]) -> Cursor<'_>
+    ensures items { items_left result ≡ comps windows path.now }
+    ensures slice { slice_left result ≡ path.now }
+{
+    let separators = Separators::of_windows(path);
+    match find_prefix(path) {
+        Some(found) => Cursor::with_prefix(path, found, separators),
+        None => Cursor::new(path, separators),
+    }
+}
+
+/// Whether the components that are left begin an absolute path.
+pub fn absolute(cursor: &Cursor<'_>) -> bool
+    ensures { result ≡ is_absolute windows (kinds (parts (items_left cursor.now))) }
+{
+    match cursor.prefix() {
+        Some(WindowsPrefix::VerbatimUNC(_, share) | WindowsPrefix::UNC(_, share)) => {
+            !share.is_empty()
+        }
+        Some(_) => cursor.has_physical_root(),
+        None => false,
+    }
+}
+
+/// Whether the components that are left begin with a root, written or implied by a prefix.
+pub fn rooted(cursor: &Cursor<'_>) -> bool
+    ensures { result ≡ has_root windows (kinds (parts (items_left cursor.now))) }
+{
+    match cursor.prefix() {
+        Some(WindowsPrefix::VerbatimDisk(_) | WindowsPrefix::Disk(_)) | None => {
+            cursor.has_physical_root()
+        }
+        Some(_) => true,
+    }
+}
