@@ -27,6 +27,10 @@ const NAME: &[u8] = b"other.rs";
 
 const EXTENSION: &[u8] = b"txt";
 
+/// What a Windows path begins with, before its first separator.
+const PREFIXES: [(&str, &[u8]); 4] =
+    [("no prefix", b""), ("a drive", b"C:"), ("a share", br"\\server\share"), ("verbatim", br"\\?\C:")];
+
 // The calls here: a slice is passed as a pointer and a length, and an allocator as nothing.
 
 type One = unsafe extern "C" fn(*const u8, usize) -> usize;
@@ -44,7 +48,8 @@ macro_rules! exports {
 exports!((path: *const u8, len: usize):
     bench_walk bench_walk_back bench_next bench_next_back bench_texts bench_zip bench_peekable
     bench_ahead bench_chain bench_map bench_filter bench_collect bench_ancestors bench_last bench_parent
-    bench_file_name bench_extension bench_to_path_buf bench_normalize);
+    bench_file_name bench_extension bench_to_path_buf bench_normalize bench_first bench_windows_walk
+    bench_windows_walk_back bench_windows_next bench_windows_next_back bench_windows_first bench_windows_last);
 
 exports!((path: *const u8, len: usize, other: *const u8, other_len: usize):
     bench_starts_with bench_strip_prefix bench_ends_with bench_join bench_join_checked
@@ -223,6 +228,31 @@ struct Corpus {
     end: Texts,
     /// With `.`, `..` and doubled separators here and there.
     dotted: Texts,
+    /// As on Windows, with each of the prefixes; and the same texts with slashes alone.
+    windows: Vec<[Texts; 2]>,
+}
+
+/// A text with one byte in the place of another.
+fn replaced(text: &[u8], from: u8, to: u8) -> Vec<u8> {
+    text.iter().map(|byte| if *byte == from { to } else { *byte }).collect()
+}
+
+/// The paths as Windows writes them behind a prefix, or the same texts with slashes alone.
+fn behind_prefix(corpus: &Corpus, prefix: &[u8], separator: u8) -> Texts {
+    let written = |path: &[u8]| {
+        let between: &[u8] = if prefix.is_empty() || path.starts_with(b"/") { b"" } else { b"/" };
+        let whole = replaced(&[prefix, between, path].concat(), b'/', separator);
+        replaced(&whole, b'\\', separator)
+    };
+    let mut paths = Texts::default();
+    if corpus.few == 1 {
+        paths.text = written(&corpus.paths.text);
+        let more = paths.text.len() - corpus.paths.text.len();
+        paths.places = corpus.paths.places.iter().map(|place| 0..place.end + more).collect();
+    } else {
+        (0..corpus.paths.places.len()).for_each(|at| paths.push(&written(corpus.paths.at(at))));
+    }
+    paths
 }
 
 impl Corpus {
@@ -237,6 +267,7 @@ impl Corpus {
             otherwise: Texts::default(),
             end: Texts::default(),
             dotted: Texts::default(),
+            windows: Vec::new(),
         };
         for at in 0..few {
             let path = corpus.paths.at(at);
@@ -266,6 +297,8 @@ impl Corpus {
             corpus.end.push(&end[1..]);
             corpus.dotted.push(&dotted);
         }
+        corpus.windows =
+            PREFIXES.iter().map(|(_, prefix)| [b'\\', b'/'].map(|byte| behind_prefix(&corpus, prefix, byte))).collect();
         corpus
     }
 
@@ -497,6 +530,25 @@ fn rows(corpus: &Corpus) -> Vec<Row<'_>> {
     ]
 }
 
+/// Calls on Windows paths behind a prefix, beside those of Unix on the same texts with slashes.
+fn windows_rows(corpus: &Corpus, at: usize) -> Vec<Row<'_>> {
+    let row = |label, reads, windows: One, unix: One| {
+        let kind = Kind { corpus, reads };
+        let [paths, other] = &corpus.windows[at];
+        let ours = each(kind.calls(), move |at| unsafe { windows(paths.at(at).as_ptr(), paths.at(at).len()) });
+        let theirs = each(kind.calls(), move |at| unsafe { unix(other.at(at).as_ptr(), other.at(at).len()) });
+        kind.row(label, ours, theirs)
+    };
+    vec![
+        row("`for` over the components", Reads::Components, bench_windows_walk, bench_walk),
+        row("`for` over them by `rev()`", Reads::Components, bench_windows_walk_back, bench_walk_back),
+        row("`next`", Reads::Components, bench_windows_next, bench_next),
+        row("`next_back`", Reads::Components, bench_windows_next_back, bench_next_back),
+        row("first component", Reads::End, bench_windows_first, bench_first),
+        row("last component", Reads::End, bench_windows_last, bench_last),
+    ]
+}
+
 fn starts_with(path: &Path, base: &Path) -> usize {
     usize::from(path.starts_with(base))
 }
@@ -553,11 +605,14 @@ fn main() {
     let pieces = [cut("1 KiB", &text, 1 << 10, &mut draw), cut("32 KiB", &text, 1 << 15, &mut draw)];
     let asked = |corpus| rows(corpus).into_iter().filter(|row| row.label.contains(&word)).collect::<Vec<_>>();
     let mut tables: Vec<_> = corpora.iter().chain(&pieces).map(asked).collect();
-    for (corpus, rows) in corpora.iter().chain(&pieces).zip(&tables) {
+    let mut windows: Vec<Vec<_>> = (0..PREFIXES.len())
+        .map(|at| corpora.iter().map(|corpus| windows_rows(corpus, at)).collect())
+        .collect();
+    for (corpus, rows) in corpora.iter().chain(&pieces).zip(&tables).chain(corpora.iter().zip(&windows[0])) {
         rows.iter().for_each(|row| row.check(corpus.label));
     }
     for _ in 0..sweeps {
-        for row in tables.iter_mut().flatten() {
+        for row in tables.iter_mut().chain(windows.iter_mut().flatten()).flatten() {
             for _ in 0..ROUNDS {
                 row.time();
             }
@@ -598,5 +653,13 @@ fn main() {
         let bytes = [of(&kilo[at], &pieces[0]), of(&some[at], &pieces[1]), of(&mega[at], &corpora[3])];
         let ratio = format!("{:.2}", bytes[2] / bytes[0]);
         line([kilo[at].label.to_string()].into_iter().chain(bytes.map(shown)).chain([ratio]));
+    }
+    println!("\nNanoseconds a call, a Windows path / the same text with slashes on Unix (ratio):\n");
+    head("Call", &corpora);
+    for ((prefix, _), tables) in PREFIXES.iter().zip(&windows) {
+        for at in 0..tables[0].len() {
+            let cells = tables.iter().map(|rows| cell(&rows[at], 1.0));
+            line(std::iter::once(format!("{}, {prefix}", tables[0][at].label)).chain(cells));
+        }
     }
 }

@@ -47,3 +47,10 @@ pub extern "C" fn bench_strip_prefix(path: &[u8], base: &[u8]) -> usize {
 pub extern "C" fn bench_ends_with(path: &[u8], end: &[u8]) -> usize {
     usize::from(UnixPath::new(path).ends_with(UnixPath::new(end)))
 }
+
+/// The first component.
+#[unsafe(no_mangle)]
+pub extern "C" fn bench_first(path: &[u8]) -> usize {
+    let first = UnixPath::new(path).components().next();
+    first.map_or(1, |piece| piece.text.len())
+}

@@ -6,3 +6,4 @@ mod answers;
 mod made;
 mod room;
 mod walks;
+mod windows;

@@ -14,3 +14,5 @@ mod paths;
 mod prefixes;
 #[cfg(test)]
 mod streams;
+#[cfg(test)]
+mod windows;

@@ -26,11 +26,8 @@ fn marks_at<const N: usize>(text: &[u8], at: usize, separators: Separators) -> u
     requires in_range { at + N ≤ length text.now }
     ensures { IsMask (λ k. separates separators text.now (at + k)) N result }
 {
-    match separators {
-        Separators::Slash => marks_of::<N>(text, at, b'/'),
-        Separators::Backslash => marks_of::<N>(text, at, b'\\'),
-        Separators::Either => marks_of::<N>(text, at, b'/') | marks_of::<N>(text, at, b'\\'),
-    }
+    let (one, other) = separators.pair();
+    marks_of::<N>(text, at, one) | marks_of::<N>(text, at, other)
 }
 
 /// The lowest bit that is set.

@@ -1,6 +1,6 @@
 //! The prefixes of Windows paths: which one a text begins with.
 
-ghost use Rattle.std.specs.Prelude.{◌≡◌, ◌≤◌, ◌+◌, true, false, length, None, option_map, option_copied, IfSome, MatchOption};
+ghost use Rattle.std.specs.Prelude.{◌≡◌, ◌≤◌, ◌+◌, true, false, length, is_some, None, option_map, option_copied, IfSome, MatchOption};
 ghost use Rattle.typed_path.specs.components.Dialect.{windows, is_separator};
 ghost use Rattle.typed_path.specs.components.Prefix.{is_drive_letter, drive, after_two, after_mark, after_unc, name, second_name, names_length, is_empty, verbatim_unc_case, verbatim_disk_case, verbatim_case, device_case, unc_case, disk_case, prefix_of};
 ghost use Rattle.typed_path.specs.declared.scan.separators.Separators.{Separators};
@@ -38,6 +38,7 @@ pub struct Found<'a> {
 }
 
 /// The letter of a text that begins with a drive, raised to ASCII upper case.
+#[inline]
 fn drive(text: &[u8]) -> Option<u8>
     ensures { result ≡ drive text.now }
 {
@@ -48,6 +49,7 @@ fn drive(text: &[u8]) -> Option<u8>
 }
 
 /// Whether a byte is an ASCII letter, or one of the letters among the bytes from 128 on.
+#[inline]
 fn is_drive_letter(byte: u8) -> bool
     ensures { result ≡ is_drive_letter byte }
 {
@@ -59,6 +61,7 @@ fn is_drive_letter(byte: u8) -> bool
 }
 
 /// Whether the byte is one of both separators.
+#[inline(always)]
 fn separates(byte: u8) -> bool
     ensures { result ≡ is_separator Separators.Either byte }
 {
@@ -66,6 +69,7 @@ fn separates(byte: u8) -> bool
 }
 
 /// What stands behind two separators.
+#[inline(always)]
 fn after_two(text: &[u8]) -> Option<&[u8]>
     ensures rest { option_copied result ≡ after_two text.now }
     ensures length { IfSome result (λ rest. length rest.now + 2 ≡ length text.now) }
@@ -77,6 +81,7 @@ fn after_two(text: &[u8]) -> Option<&[u8]>
 }
 
 /// What stands behind two separators, the byte `sign` and a separator.
+#[inline(always)]
 fn after_mark(sign: u8, text: &[u8]) -> Option<&[u8]>
     ensures rest { option_copied result ≡ after_mark sign text.now }
     ensures length { IfSome result (λ rest. length rest.now + 4 ≡ length text.now) }
@@ -92,6 +97,7 @@ fn after_mark(sign: u8, text: &[u8]) -> Option<&[u8]>
 }
 
 /// What stands behind `UNC` in capitals and a separator.
+#[inline(always)]
 fn after_unc(separators: Separators, text: &[u8]) -> Option<&[u8]>
     ensures rest { option_copied result ≡ after_unc separators text.now }
     ensures length { IfSome result (λ rest. length rest.now + 4 ≡ length text.now) }
@@ -103,6 +109,7 @@ fn after_unc(separators: Separators, text: &[u8]) -> Option<&[u8]>
 }
 
 /// The name that a text begins with, up to the next separator or the end.
+#[inline(always)]
 fn name(separators: Separators, text: &[u8]) -> &[u8]
     ensures { result.now ≡ name separators text.now }
 {
@@ -111,6 +118,7 @@ fn name(separators: Separators, text: &[u8]) -> &[u8]
 
 /// The two names that a text begins with, and how many bytes they take, or none where the first is
 /// empty.
+#[inline(always)]
 fn names(separators: Separators, text: &[u8]) -> Option<(&[u8], &[u8], usize)>
     ensures filled { MatchOption result (is_empty (name separators text.now) ≡ true)
         (λ names. is_empty (name separators text.now) ≡ false) }
@@ -131,6 +139,7 @@ fn names(separators: Separators, text: &[u8]) -> Option<(&[u8], &[u8], usize)>
 }
 
 /// `\\?\UNC\server\share`
+#[inline(always)]
 fn verbatim_unc(separators: Separators, text: &[u8]) -> Option<Found<'_>>
     ensures { option_map found_of result ≡ verbatim_unc_case separators text.now }
 {
@@ -143,6 +152,7 @@ fn verbatim_unc(separators: Separators, text: &[u8]) -> Option<Found<'_>>
 }
 
 /// `\\?\C:`
+#[inline(always)]
 fn verbatim_disk(text: &[u8]) -> Option<Found<'_>>
     ensures { option_map found_of result ≡ verbatim_disk_case text.now }
 {
@@ -154,6 +164,7 @@ fn verbatim_disk(text: &[u8]) -> Option<Found<'_>>
 }
 
 /// `\\?\name`, where the name may be empty if a separator follows.
+#[inline(always)]
 fn verbatim(separators: Separators, text: &[u8]) -> Option<Found<'_>>
     ensures { option_map found_of result ≡ verbatim_case separators text.now }
 {
@@ -169,6 +180,7 @@ fn verbatim(separators: Separators, text: &[u8]) -> Option<Found<'_>>
 }
 
 /// `\\.\name`
+#[inline(always)]
 fn device(text: &[u8]) -> Option<Found<'_>>
     ensures { option_map found_of result ≡ device_case text.now }
 {
@@ -183,6 +195,7 @@ fn device(text: &[u8]) -> Option<Found<'_>>
 }
 
 /// `\\server\share`
+#[inline(always)]
 fn unc(text: &[u8]) -> Option<Found<'_>>
     ensures { option_map found_of result ≡ unc_case text.now }
 {
@@ -194,6 +207,7 @@ fn unc(text: &[u8]) -> Option<Found<'_>>
 }
 
 /// `C:`
+#[inline]
 fn disk(text: &[u8]) -> Option<Found<'_>>
     ensures { option_map found_of result ≡ disk_case text.now }
 {
@@ -204,28 +218,35 @@ fn disk(text: &[u8]) -> Option<Found<'_>>
     })
 }
 
-/// Whether the first two bytes allow a prefix.
-fn may_begin_with_prefix(text: &[u8]) -> bool
-    ensures { result ≡ false → prefix_of windows text.now ≡ None }
+/// Whether a text begins with two separators, as each prefix but a drive alone does.
+#[inline(always)]
+fn begins_with_two(text: &[u8]) -> bool
+    ensures { result ≡ is_some (after_two text.now) }
 {
-    match text {
-        [first, second, ..] => separates(*first) || *second == b':',
-        _ => false,
-    }
+    matches!(text, [a, b, ..] if separates(*a) && separates(*b))
 }
 
-/// The prefix that a Windows text begins with: the first of the six cases that matches.
-pub fn find_prefix(text: &[u8]) -> Option<Found<'_>>
+/// The prefix of a text that begins with two separators: the first of the five cases that matches.
+fn find_marked(text: &[u8]) -> Option<Found<'_>>
+    requires { is_some (after_two text.now) ≡ true }
     ensures { option_map found_of result ≡ prefix_of windows text.now }
 {
-    if !may_begin_with_prefix(text) {
-        return None;
-    }
     let separators = Separators::of_windows(text);
     verbatim_unc(separators, text)
         .or_else(|| verbatim_disk(text))
         .or_else(|| verbatim(separators, text))
         .or_else(|| device(text))
         .or_else(|| unc(text))
-        .or_else(|| disk(text))
+}
+
+/// The prefix that a Windows text begins with: the first of the six cases that matches.
+#[inline(always)]
+pub fn find_prefix(text: &[u8]) -> Option<Found<'_>>
+    ensures { option_map found_of result ≡ prefix_of windows text.now }
+{
+    if begins_with_two(text) {
+        find_marked(text)
+    } else {
+        disk(text)
+    }
 }

@@ -1,6 +1,6 @@
 //! Which bytes separate the components of a text.
 
-ghost use Rattle.std.specs.Prelude.{◌≡◌, ◌≤◌, length, IsTrue};
+ghost use Rattle.std.specs.Prelude.{◌≡◌, ◌≤◌, ◌==◌, ◌||◌, ℕ, length, IsTrue};
 ghost use Rattle.std.specs.List.{position_or_len, IsAfterLastMatch};
 ghost use Rattle.typed_path.specs.components.Dialect.{windows, separators, is_separator, is_verbatim, root_text, dialect_of};
 ghost use Rattle.typed_path.specs.queries.Queries.{is_disallowed, is_valid_name};
@@ -34,16 +34,26 @@ impl Separators {
         }
     }
 
+    /// The two bytes that separate, which are one byte twice where no other does: so either set is
+    /// asked in the same way.
+    #[inline(always)]
+    pub fn pair(self) -> (u8, u8)
+        ensures { (b : ℕ) → is_separator self b ≡ (b == result.0 || b == result.1) }
+    {
+        match self {
+            Separators::Slash => (b'/', b'/'),
+            Separators::Backslash => (b'\\', b'\\'),
+            Separators::Either => (b'/', b'\\'),
+        }
+    }
+
     /// Whether the byte separates components.
     #[inline(always)]
     pub fn contains(self, byte: u8) -> bool
         ensures { result ≡ is_separator self byte }
     {
-        match self {
-            Separators::Slash => byte == b'/',
-            Separators::Backslash => byte == b'\\',
-            Separators::Either => byte == b'/' || byte == b'\\',
-        }
+        let (one, other) = self.pair();
+        byte == one || byte == other
     }
 
     /// Whether a later `.` is a component.

@@ -39,6 +39,13 @@ mask-or p q n a b g h = record {
     either false true i j m e f g = omega arith
     either false false i j m e f g = omega arith
 
+-- a mask of a test is one of each test that agrees with it
+pub mask-alike : (p q : ℕ → Bool) (n a : ℕ) → ((k : ℕ) → q k ≡ p k) → IsMask p n a → IsMask q n a
+mask-alike p q n a same g = record {
+  within = λ k l. g.within k l ∙ ap (λ b. cond b 1 0) (sym (same k));
+  beyond = g.beyond;
+}
+
 -- the highest bit of a number, and those above it
 pub highest_is_set : (mask k : ℕ) → 2 ^ k ≤ mask → mask < 2 * 2 ^ k → bit_at mask k ≡ 1
 highest_is_set mask k low high =
