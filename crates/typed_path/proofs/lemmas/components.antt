@@ -10,6 +10,8 @@ pub mod PlaceLemmas
 pub mod PrefixLemmas
 pub mod MarkLemmas
 pub mod ReadLemmas
+pub mod ApartLemmas
+pub mod FirmLemmas
 pub mod NameCuts
 pub mod PrefixCuts
 pub mod WindowsCuts
