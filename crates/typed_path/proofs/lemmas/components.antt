@@ -12,6 +12,8 @@ pub mod MarkLemmas
 pub mod ReadLemmas
 pub mod ApartLemmas
 pub mod FirmLemmas
+pub mod PlainLemmas
+pub mod FirmEnds
 pub mod NameCuts
 pub mod PrefixCuts
 pub mod WindowsCuts

@@ -35,7 +35,7 @@ module _ (s : Separators) where
       ∙ take-append-le (position_or_len (is_separator s) text) text x (prefix_len-le-length (λ b. not (is_separator s b)) text)
 
   -- a text with a second name has a separator behind the first
-  second-inside : (text : List ℕ) → is_empty (second_name s text) ≡ false → position_or_len (is_separator s) text < length text
+  pub second-inside : (text : List ℕ) → is_empty (second_name s text) ≡ false → position_or_len (is_separator s) text < length text
   second-inside text filled = elim (cases_lt (position_or_len (is_separator s) text) (length text)) [
     | inl less ↦ less
     | inr most ↦
@@ -62,13 +62,18 @@ module _ (s : Separators) where
       ∙ ap₂ (λ a b. length a + 1 + length b) (name-apart text x h) (second-apart text x h filled)
       ∙ sym (cond-true (nat_lt (length (name s text)) (length text)) _ _ (lt-ltb _ _ inside))
 
-  -- two names that are not empty take three bytes
-  pub names-long : (text : List ℕ) → is_empty (name s text) ≡ false → is_empty (second_name s text) ≡ false → 3 ≤ names_length s text
-  names-long text filled shared =
+  -- two names, of which the second is not empty, take as many bytes as they have, and the separator
+  pub names-size : (text : List ℕ) → is_empty (second_name s text) ≡ false → names_length s text ≡ position_or_len (is_separator s) text + 1 + length (second_name s text)
+  names-size text shared =
       let less = second-inside text shared in
       let inside : length (name s text) < length text = omega (arith, name-length s text) in
       let size = cond-true (nat_lt (length (name s text)) (length text)) (length (name s text) + 1 + length (second_name s text)) (length (name s text)) (lt-ltb _ _ inside) in
-      omega (arith, size, filled-long (name s text) filled, filled-long (second_name s text) shared)
+      omega (arith, size, name-length s text)
+
+  -- they take three bytes where neither is empty
+  pub names-long : (text : List ℕ) → is_empty (name s text) ≡ false → is_empty (second_name s text) ≡ false → 3 ≤ names_length s text
+  names-long text filled shared =
+      omega (arith, names-size text shared, name-length s text, filled-long (name s text) filled, filled-long (second_name s text) shared)
 
   -- a name stays where its text is cut behind it, and something put apart behind that
   pub name-recut : (m : ℕ) (text x : List ℕ) → Apart s x → length (name s text) ≤ m → name s (take m text ++ x) ≡ name s text

@@ -18,9 +18,15 @@ use Rattle.typed_path.proofs.lemmas.components.PrefixCuts.{prefix_by, unless-non
 use Rattle.typed_path.proofs.lemmas.components.MarkLemmas.{after_mark-reads, after_unc-reads, after_two-reads, both-read, drive-take, drive-none}
 use Rattle.typed_path.proofs.lemmas.components.ApartLemmas.{Apart, names-long, name-recut, names-recut, apart-either, separator-fails, Extends, after_two-extends, after_four-extends, after_four-tests, after_four-none, both-extend, mark-recut, drive-extends, drive-apart}
 
--- what is made of a share behind a mark, and of a drive
-abbrev share_made : (List ℕ → List ℕ → Prefix) → ℕ → Separators → List ℕ → Option Found
+-- what each case makes of what stands behind its mark
+abbrev pub share_made : (List ℕ → List ℕ → Prefix) → ℕ → Separators → List ℕ → Option Found
 share_made make k s rest = if is_empty (name s rest) then None else Some (found (make (name s rest) (second_name s rest)) (k + names_length s rest))
+
+abbrev verbatim_made : Separators → List ℕ → Option Found
+verbatim_made s rest = if is_empty rest then None else Some (found (verbatim (name s rest)) (4 + length (name s rest)))
+
+abbrev pub device_made : List ℕ → Option Found
+device_made rest = if is_empty (name Either rest) then None else Some (found (device_ns (name Either rest)) (4 + length (name Either rest)))
 
 abbrev disk_made : ℕ → Option Found
 disk_made letter = Some (found (verbatim_disk letter) 6)
@@ -78,7 +84,7 @@ drive-no_unc s (a ∷ b ∷ c ∷ d ∷ text) letter is = none_from _ (λ rest f
 drive-no_unc s text letter is = refl
 
 -- a mark has one sign
-marks-differ : (text rest : List ℕ) → after_mark dot text ≡ Some rest → after_mark question text ≡ None
+pub marks-differ : (text rest : List ℕ) → after_mark dot text ≡ Some rest → after_mark question text ≡ None
 marks-differ (a ∷ b ∷ c ∷ d ∷ text) rest is = none_from _ (λ other found.
     let one = after_four-tests (is_separator Either) (is_separator Either) (λ b. b == dot) (is_separator Either) a b c d text rest is in
     let two = after_four-tests (is_separator Either) (is_separator Either) (λ b. b == question) (is_separator Either) a b c d text other found in
@@ -90,7 +96,7 @@ pub unmarked : (s : Separators) (t : List ℕ) → after_mark question t ≡ Non
 unmarked s t none =
     first-none _ _ _ (ap (λ o. option_and_then (share_made verbatim_unc 8 s) (option_and_then (after_unc s) o)) none)
     (first-none _ _ _ (ap (λ o. option_and_then disk_made (option_and_then drive o)) none)
-    (first-none _ _ _ (ap (option_and_then (λ r. if is_empty r then None else Some (found (verbatim (name s r)) (4 + length (name s r))))) none) refl))
+    (first-none _ _ _ (ap (option_and_then (verbatim_made s)) none) refl))
 
 module _ (s : Separators) (text x : List ℕ) (apart : Apart s x) where
   -- the verbatim share
@@ -135,7 +141,7 @@ module _ (s : Separators) (text x : List ℕ) (apart : Apart s x) where
       (first-none _ _ _
       (ap (λ o. option_and_then disk_made (option_and_then drive o)) mark ∙ ap (option_and_then disk_made) (drive-apart s (take m rest) x apart (drive-none m rest no_drive)))
       (first-some _ _ _
-      (ap (option_and_then (λ r. if is_empty r then None else Some (found (verbatim (name s r)) (4 + length (name s r))))) mark
+      (ap (option_and_then (verbatim_made s)) mark
       ∙ cond-false (is_empty now) None _ filled
       ∙ ap (λ n. Some (found (verbatim n) (4 + length n))) same)))
 
@@ -150,7 +156,7 @@ module _ (s : Separators) (text x : List ℕ) (apart : Apart s x) where
       let same : name Either now ≡ name Either rest = name-recut Either m rest x (apart-either s x apart) (le_refl m) in
       unmarked s whole (marks-differ whole now mark)
       ∙ first-some (device_case whole) (option_or (unc_case whole) (disk_case whole)) _
-      (ap (option_and_then (λ r. if is_empty (name Either r) then None else Some (found (device_ns (name Either r)) (4 + length (name Either r))))) mark
+      (ap (option_and_then device_made) mark
       ∙ cond-false (is_empty (name Either now)) None _ (ap is_empty same ∙ filled)
       ∙ ap (λ n. Some (found (device_ns n) (4 + length n))) same)
 
@@ -167,7 +173,7 @@ module _ (s : Separators) (text x : List ℕ) (apart : Apart s x) where
       let long : 4 ≤ 2 + m = omega (arith, names-long Either rest filled shared) in
       unmarked s whole (after_four-none (is_separator Either) (is_separator Either) (λ b. b == question) (is_separator Either) (2 + m) text x long fits no_question)
       ∙ first-none (device_case whole) (option_or (unc_case whole) (disk_case whole)) _
-      (ap (option_and_then (λ r. if is_empty (name Either r) then None else Some (found (device_ns (name Either r)) (4 + length (name Either r)))))
+      (ap (option_and_then device_made)
       (after_four-none (is_separator Either) (is_separator Either) (λ b. b == dot) (is_separator Either) (2 + m) text x long fits no_dot))
       (first-some (unc_case whole) (disk_case whole) _
       (ap (option_and_then (share_made unc 2 Either)) mark
@@ -188,16 +194,16 @@ marked-share sign text rest other plain two mark = cc
 
 module _ (s : Separators) (text rest : List ℕ) (two : after_two text ≡ Some rest) (shared : is_empty (second_name Either rest) ≡ false) where
   -- where a text was read as a share, it has no mark of a verbatim prefix
-  no_question : verbatim_case s text ≡ None → after_mark question text ≡ None
+  pub no_question : verbatim_case s text ≡ None → after_mark question text ≡ None
   no_question none = none_from _ (λ other mark.
-      let empty = unless-none (is_empty other) _ (ap (option_and_then (λ r. if is_empty r then None else Some (found (verbatim (name s r)) (4 + length (name s r))))) (sym mark) ∙ none) in
+      let empty = unless-none (is_empty other) _ (ap (option_and_then (verbatim_made s)) (sym mark) ∙ none) in
       let nothing : other ≡ [] = nil_from_length other (eqb-true (length other) 0 empty) in
       both_ways _ shared (ap is_empty (marked-share question text rest other refl two mark ∙ ap (name Either) nothing)))
 
   -- nor that of a device
   no_dot : device_case text ≡ None → after_mark dot text ≡ None
   no_dot none = none_from _ (λ other mark.
-      let empty = unless-none (is_empty (name Either other)) _ (ap (option_and_then (λ r. if is_empty (name Either r) then None else Some (found (device_ns (name Either r)) (4 + length (name Either r))))) (sym mark) ∙ none) in
+      let empty = unless-none (is_empty (name Either other)) _ (ap (option_and_then device_made) (sym mark) ∙ none) in
       both_ways _ shared (ap is_empty (marked-share dot text rest other refl two mark) ∙ empty))
 
 -- a prefix that every path keeps behind its text

@@ -14,7 +14,7 @@ use Rattle.typed_path.proofs.lemmas.components.PrefixLemmas.{and_then-some, unle
 use Rattle.typed_path.proofs.lemmas.components.PrefixCuts.{IsBehind, prefix_by, prefix-keeps}
 
 -- a text that is read verbatim is its first four bytes, and a rest
-verbatim_text : (text : List ℕ) → begins_verbatim text ≡ true → text ≡ backslash ∷ backslash ∷ question ∷ backslash ∷ drop 4 text
+pub verbatim_text : (text : List ℕ) → begins_verbatim text ≡ true → text ≡ backslash ∷ backslash ∷ question ∷ backslash ∷ drop 4 text
 verbatim_text text h = (starts_is Decides-eqb text (backslash ∷ backslash ∷ question ∷ backslash ∷ []) true (sym h)).0 refl
 
 -- a text cut behind its first four bytes is read verbatim where the whole text is

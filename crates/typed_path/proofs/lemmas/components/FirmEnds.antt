@@ -1,0 +1,80 @@
+-- Where a firm prefix ends that is neither a drive nor verbatim.
+use Rattle.std.proofs.Common.{◌≡◌, ℕ, zero, suc, ◌+◌, ◌-◌, ◌<◌, ◌==◌, Bool, true, false, not, cond, if◌then◌else◌, List, [], ◌∷◌, ◌++◌, length, take, drop, get_or, slice_index, Option, Some, None, refl, sym, ap, ◌∙◌, subst, length-drop, arith}
+use Rattle.std.specs.List.{position_or_len, after_first}
+use Rattle.std.proofs.lemmas.Bool.{not-true, false_from_ne_true}
+use Rattle.std.proofs.lemmas.List.{drop-drop, get_or-drop}
+use Rattle.std.proofs.lemmas.List.Sums.{prefix_len_passes}
+use Rattle.typed_path.specs.declared.scan.separators.Separators.{Separators}
+use Rattle.typed_path.specs.declared.scan.separators.Separators.TheVariants.{Backslash, Either}
+use Rattle.typed_path.specs.components.Dialect.{windows, separators, begins_verbatim, is_separator, question}
+use Rattle.typed_path.specs.components.Prefix.{Found, is_empty, after_mark, name, second_name, names_length, prefix_of}
+use Rattle.typed_path.specs.queries.Queries.{is_disk, is_verbatim_prefix}
+use Rattle.typed_path.proofs.lemmas.components.NameCuts.{name-length}
+use Rattle.typed_path.proofs.lemmas.components.WindowsCuts.{verbatim_text}
+use Rattle.typed_path.proofs.lemmas.components.ReadLemmas.{Read, of_verbatim_unc, of_verbatim_disk, of_verbatim, of_device, of_unc, of_disk, prefix-read}
+use Rattle.typed_path.proofs.lemmas.components.ApartLemmas.{Apart, nothing, parted, second-inside, names-size, filled-long}
+use Rattle.typed_path.proofs.lemmas.components.FirmLemmas.{is_firm, marks-differ, no_question}
+
+module _ (s : Separators) where
+  -- behind a name stands nothing, or a separator
+  position-behind : (text : List ℕ) → Apart s (drop (position_or_len (is_separator s) text) text)
+  position-behind [] = nothing
+  position-behind (b ∷ bs) = by (is_separator s b) refl (position-behind bs)
+    where
+      by : (separates : Bool) → is_separator s b ≡ separates → Apart s (drop (position_or_len (is_separator s) bs) bs) → Apart s (drop (cond (not separates) (1 + position_or_len (is_separator s) bs) 0) (b ∷ bs))
+      by true e rest = parted b bs e
+      by false e rest = let next : suc (position_or_len (is_separator s) bs) ≡ 1 + position_or_len (is_separator s) bs = omega arith in subst (λ n. Apart s (drop n (b ∷ bs))) next rest
+
+  name-behind : (text : List ℕ) → Apart s (drop (length (name s text)) text)
+  name-behind text = subst (λ n. Apart s (drop n text)) (sym (name-length s text)) (position-behind text)
+
+  -- so it is behind two names, of which the second is not empty
+  names-behind : (text : List ℕ) → is_empty (second_name s text) ≡ false → Apart s (drop (names_length s text) text)
+  names-behind text shared =
+      let n = position_or_len (is_separator s) text in
+      subst (Apart s) (drop-drop (length (second_name s text)) (n + 1) text ∙ ap (λ m. drop m text) (sym (names-size s text shared))) (name-behind (after_first (is_separator s) text))
+
+  -- a text that ends with a name does not end with a separator
+  name-last : (k : ℕ) (text rest : List ℕ) → drop k text ≡ rest → length text ≡ k + length rest → 0 < length (name s rest) → length (name s rest) ≡ length rest → is_separator s (slice_index text (length text - 1)) ≡ false
+  name-last k text rest dropped size some whole =
+      let j = length rest - 1 in
+      let place : k + j ≡ length text - 1 = omega arith in
+      let same : get_or rest j 0 ≡ slice_index text (length text - 1) = ap (λ t. get_or t j 0) (sym dropped) ∙ get_or-drop k text j 0 ∙ ap (λ n. get_or text n 0) place in
+      ap (is_separator s) (sym same) ∙ not-true _ (prefix_len_passes (λ b. not (is_separator s b)) rest j 0 (omega (arith, name-length s rest)))
+
+-- a text without the mark of a verbatim prefix is not read verbatim
+unmarked-plain : (text : List ℕ) → after_mark question text ≡ None → separators windows text ≡ Either
+unmarked-plain text none = ap (λ b. if b then Backslash else Either) (false_from_ne_true _ (λ marked.
+    let some : after_mark question text ≡ Some (drop 4 text) = ap (after_mark question) (verbatim_text text marked) in
+    cc))
+
+-- behind such a prefix stands nothing, or a separator, and where it is the whole text, that does not end with a separator
+pub record FirmEnd (text : List ℕ) (f : Found) : Type 0 where
+  pub plain : separators windows text ≡ Either
+  pub behind : Apart Either (drop f.length text)
+  pub last : f.length ≡ length text → is_separator Either (slice_index text (length text - 1)) ≡ false
+
+firm_end : (s : Separators) (text : List ℕ) (f : Found) → Read s text f → is_firm f.prefix ≡ true → is_disk f.prefix ≡ false → is_verbatim_prefix f.prefix ≡ false → FirmEnd text f
+firm_end s text f (of_verbatim_unc rest mark filled) firm other plain = cc
+firm_end s text f (of_verbatim_disk rest letter mark drives) firm other plain = cc
+firm_end s text f (of_verbatim rest mark filled no_unc no_drive) firm other plain = cc
+firm_end s text f (of_device rest mark filled) firm other plain = record {
+  plain = unmarked-plain text (marks-differ text rest mark.marked);
+  behind = subst (Apart Either) (ap (drop (length (name Either rest))) (sym mark.dropped) ∙ drop-drop (length (name Either rest)) 4 text) (name-behind Either rest);
+  last = λ whole. name-last Either 4 text rest mark.dropped mark.size (filled-long _ filled) (omega (arith, mark.size));
+}
+firm_end s text f (of_unc rest mark filled no_verbatim no_device) firm other plain =
+    let shared = not-true _ firm in
+    let n = position_or_len (is_separator Either) rest in
+    let less = second-inside Either rest shared in
+    let size = names-size Either rest shared in
+    let behind = length-drop (n + 1) rest in
+    record {
+      plain = unmarked-plain text (no_question s text rest mark.marked shared no_verbatim);
+      behind = subst (Apart Either) (ap (drop (names_length Either rest)) (sym mark.dropped) ∙ drop-drop (names_length Either rest) 2 text) (names-behind Either rest shared);
+      last = λ whole. name-last Either (2 + (n + 1)) text (after_first (is_separator Either) rest) (sym (drop-drop (n + 1) 2 text) ∙ ap (drop (n + 1)) mark.dropped) (omega (arith, mark.size)) (filled-long _ shared) (omega (arith, mark.size));
+    }
+firm_end s text f (of_disk letter drives) firm other plain = cc
+
+pub firm-end : (text : List ℕ) (f : Found) → prefix_of windows text ≡ Some f → is_firm f.prefix ≡ true → is_disk f.prefix ≡ false → is_verbatim_prefix f.prefix ≡ false → FirmEnd text f
+firm-end text f is firm other plain = firm_end (separators windows text) text f (prefix-read text f is) firm other plain
