@@ -1,6 +1,9 @@
 -- What changes a path.
 pub mod JoinLemmas
+pub mod SpellLemmas
+pub mod MergeLemmas
 pub mod FaultLemmas
+pub mod FaultlessLemmas
 pub mod AllowedLemmas
 pub mod NameSpans
 pub mod RunLemmas

@@ -101,9 +101,10 @@ same-found text e f is behind = same_from text e (by (cases_Bool (begins_verbati
         verbatim-take text e (omega (arith, verbatim-long (drop 4 text) f (ap (prefix_of windows) (sym (verbatim_text text marked)) ∙ is)))
     by (inr plain) = plain-take text e plain ∙ sym plain
 
+-- a text without a prefix is not read verbatim
+pub plain-none : (text : List ℕ) → prefix_of windows text ≡ None → begins_verbatim text ≡ false
+plain-none text is = false_from_ne_true _ (λ marked. verbatim-found (drop 4 text) (ap (prefix_of windows) (sym (verbatim_text text marked)) ∙ is))
+
 -- they stay where the text has no prefix
 pub same-none : (text : List ℕ) (e : ℕ) → prefix_of windows text ≡ None → SamePrefix text e
-same-none text e is = same_from text e (plain-take text e plain ∙ sym plain) ((prefix-keeps (separators windows text) text e).none is ∙ sym is)
-  where
-    plain : begins_verbatim text ≡ false
-    plain = false_from_ne_true _ (λ marked. verbatim-found (drop 4 text) (ap (prefix_of windows) (sym (verbatim_text text marked)) ∙ is))
+same-none text e is = same_from text e (plain-take text e (plain-none text is) ∙ sym (plain-none text is)) ((prefix-keeps (separators windows text) text e).none is ∙ sym is)
