@@ -19,7 +19,7 @@ data Names : ℕ → List Part → Type 0 where
 
 names-kept : (n : ℕ) (ps : List Part) → Names n ps → AllByRecursion IsKept ps
 names-kept _ _ none = tt
-names-kept _ _ (more {n} {ps} name text names) = AllByRecursion-append IsKept ps (named name text ∷ []) (names-kept n ps names) (refl, tt)
+names-kept _ _ (more {n = m} {ps = rs} name text names) = AllByRecursion-append IsKept rs (named name text ∷ []) (names-kept m rs names) (refl, tt)
 
 -- a name with a parent behind it is nothing
 named-alike : (name text word : List ℕ) (ps : List Part) → Alike (named name text ∷ record { kind = parent; text = word } ∷ ps) ps
@@ -44,12 +44,12 @@ merged-names ps rs (q ∷ qs) n names closed headless = by q.kind q.text n rs na
     by current word n rs names closed headless again =
         again rs n names closed headless ∙ ap (λ ts. ps ++ ts) (sym (Alike-append rs _ qs (current-alike word qs)).resolves)
     by parent word zero rs names closed headless again = cc
-    by parent word (suc n) _ (more {n} {rs} name text names) closed headless again =
-        ap (λ ts. merged (without_last_name ts) qs) (sym (append_assoc ps rs (named name text ∷ [])))
-        ∙ ap (λ ts. merged ts qs) (without_last_name-append (ps ++ rs) name text)
-        ∙ again rs n names closed headless
-        ∙ ap (λ ts. ps ++ ts) (sym (Alike-append rs _ qs (named-alike name text word qs)).resolves)
-        ∙ ap (λ ts. ps ++ resolve ts) (sym (append_assoc rs (named name text ∷ []) (record { kind = parent; text = word } ∷ qs)))
+    by parent word (suc n) _ (more {ps = ts} name text names) closed headless again =
+        ap (λ us. merged (without_last_name us) qs) (sym (append_assoc ps ts (named name text ∷ [])))
+        ∙ ap (λ us. merged us qs) (without_last_name-append (ps ++ ts) name text)
+        ∙ again ts n names closed headless
+        ∙ ap (λ us. ps ++ us) (sym (Alike-append ts _ qs (named-alike name text word qs)).resolves)
+        ∙ ap (λ us. ps ++ resolve us) (sym (append_assoc ts (named name text ∷ []) (record { kind = parent; text = word } ∷ qs)))
     by (normal name) text n rs names closed headless again =
         ap (λ ts. merged ts qs) (append_assoc ps rs (named name text ∷ []))
         ∙ again (rs ++ named name text ∷ []) (suc n) (more name text names) closed headless
