@@ -9,6 +9,7 @@ pub mod ComponentCuts
 pub mod PlaceLemmas
 pub mod PrefixLemmas
 pub mod MarkLemmas
+pub mod ReadLemmas
 pub mod NameCuts
 pub mod PrefixCuts
 pub mod WindowsCuts
