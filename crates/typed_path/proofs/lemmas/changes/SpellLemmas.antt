@@ -5,31 +5,13 @@ use Rattle.std.specs.List.{AllByRecursion}
 use Rattle.std.proofs.lemmas.List.Splits.{slice_split_none, slice_split-cons_yes}
 use Rattle.typed_path.specs.declared.scan.separators.Separators.{Separators}
 use Rattle.typed_path.specs.declared.scan.separators.Separators.TheVariants.{Slash, Backslash, Either}
-use Rattle.typed_path.specs.components.Dialect.{windows, dialect_of, backslash, dot, is_separator, is_verbatim, root_text}
+use Rattle.typed_path.specs.components.Dialect.{backslash, dot, is_separator, is_verbatim, root_text}
 use Rattle.typed_path.specs.components.Part.{Kind, prefix, root, current, parent, normal, Part, current_part, parent_part, name_part, root_part}
 use Rattle.typed_path.specs.queries.Queries.{begins_with_root}
 use Rattle.typed_path.specs.changes.Push.{joint, spelled}
 use Rattle.typed_path.proofs.lemmas.lists.SplitLemmas.{IsUnseparated, slice_split-append}
+use Rattle.typed_path.proofs.lemmas.components.SeparatorLemmas.{OfWindows, backslash-separates, root_text-windows, dot-unseparated}
 use Rattle.typed_path.proofs.lemmas.components.PartLemmas.{pieces, later_part, first_part, later_parts, first_parts, body_parts, IsWritten, IsWrittenPart, IsLater, IsLaterPart, AreRead}
-
--- the separators of a Windows text
-abbrev pub OfWindows : Separators → Type 0
-OfWindows s = dialect_of s ≡ windows
-
-backslash-separates : (s : Separators) → OfWindows s → is_separator s backslash ≡ true
-backslash-separates Slash w = cc
-backslash-separates Backslash w = refl
-backslash-separates Either w = refl
-
-root_text-windows : (s : Separators) → OfWindows s → root_text s ≡ backslash ∷ []
-root_text-windows Slash w = cc
-root_text-windows Backslash w = refl
-root_text-windows Either w = refl
-
-dot-unseparated : (s : Separators) → is_separator s dot ≡ false
-dot-unseparated Slash = refl
-dot-unseparated Backslash = refl
-dot-unseparated Either = refl
 
 -- what a text is that gives one component, as a later piece
 record IsPiece (s : Separators) (k : Kind) (text : List ℕ) : Type 0 where
