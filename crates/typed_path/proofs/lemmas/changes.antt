@@ -1,5 +1,6 @@
 -- What changes a path.
 pub mod JoinLemmas
+pub mod EndedLemmas
 pub mod SpellLemmas
 pub mod MergeLemmas
 pub mod FaultLemmas
