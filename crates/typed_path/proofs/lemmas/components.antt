@@ -3,6 +3,7 @@ pub mod BodyLemmas
 pub mod SegmentViews
 pub mod SegmentLemmas
 pub mod PartLemmas
+pub mod SeparatorLemmas
 pub mod WrittenLemmas
 pub mod BodyCuts
 pub mod ComponentCuts
@@ -19,3 +20,4 @@ pub mod PrefixCuts
 pub mod WindowsCuts
 pub mod ShapeLemmas
 pub mod CountLemmas
+pub mod SizeLemmas
