@@ -4,3 +4,4 @@ pub mod ContainLemmas
 pub mod UnixContained
 pub mod UnixJoin
 pub mod UnixStrip
+pub mod EndedPrefixes

@@ -1,9 +1,8 @@
 -- Where a firm prefix ends that is neither a drive nor verbatim.
-use Rattle.std.proofs.Common.{◌≡◌, ℕ, zero, suc, ◌+◌, ◌-◌, ◌<◌, ◌==◌, Bool, true, false, not, cond, if◌then◌else◌, List, [], ◌∷◌, ◌++◌, length, take, drop, get_or, slice_index, Option, Some, None, refl, sym, ap, ◌∙◌, subst, length-drop, arith}
+use Rattle.std.proofs.Common.{◌≡◌, ℕ, zero, suc, ◌+◌, ◌-◌, ◌<◌, ◌==◌, Bool, true, false, not, cond, if◌then◌else◌, List, [], ◌∷◌, ◌++◌, length, take, drop, Option, Some, None, refl, sym, ap, ◌∙◌, subst, length-drop, arith}
 use Rattle.std.specs.List.{position_or_len, after_first}
 use Rattle.std.proofs.lemmas.Bool.{not-true, false_from_ne_true}
-use Rattle.std.proofs.lemmas.List.{drop-drop, get_or-drop}
-use Rattle.std.proofs.lemmas.List.Sums.{prefix_len_passes}
+use Rattle.std.proofs.lemmas.List.{drop-drop}
 use Rattle.typed_path.specs.declared.scan.separators.Separators.{Separators}
 use Rattle.typed_path.specs.declared.scan.separators.Separators.TheVariants.{Backslash, Either}
 use Rattle.typed_path.specs.components.Dialect.{windows, separators, begins_verbatim, is_separator, question}
@@ -11,8 +10,9 @@ use Rattle.typed_path.specs.components.Prefix.{Found, is_empty, after_mark, name
 use Rattle.typed_path.specs.queries.Queries.{is_disk, is_verbatim_prefix}
 use Rattle.typed_path.proofs.lemmas.components.NameCuts.{name-length}
 use Rattle.typed_path.proofs.lemmas.components.WindowsCuts.{verbatim_text}
+use Rattle.typed_path.proofs.lemmas.components.SizeLemmas.{IsUnended, name-unended}
 use Rattle.typed_path.proofs.lemmas.components.ReadLemmas.{Read, of_verbatim_unc, of_verbatim_disk, of_verbatim, of_device, of_unc, of_disk, prefix-read}
-use Rattle.typed_path.proofs.lemmas.components.ApartLemmas.{Apart, nothing, parted, second-inside, names-size, filled-long}
+use Rattle.typed_path.proofs.lemmas.components.ApartLemmas.{Apart, nothing, parted, second-inside, names-size}
 use Rattle.typed_path.proofs.lemmas.components.FirmLemmas.{is_firm, marks-differ, no_question}
 
 module _ (s : Separators) where
@@ -34,25 +34,17 @@ module _ (s : Separators) where
       let n = position_or_len (is_separator s) text in
       subst (Apart s) (drop-drop (length (second_name s text)) (n + 1) text ∙ ap (λ m. drop m text) (sym (names-size s text shared))) (name-behind (after_first (is_separator s) text))
 
-  -- a text that ends with a name does not end with a separator
-  name-last : (k : ℕ) (text rest : List ℕ) → drop k text ≡ rest → length text ≡ k + length rest → 0 < length (name s rest) → length (name s rest) ≡ length rest → is_separator s (slice_index text (length text - 1)) ≡ false
-  name-last k text rest dropped size some whole =
-      let j = length rest - 1 in
-      let place : k + j ≡ length text - 1 = omega arith in
-      let same : get_or rest j 0 ≡ slice_index text (length text - 1) = ap (λ t. get_or t j 0) (sym dropped) ∙ get_or-drop k text j 0 ∙ ap (λ n. get_or text n 0) place in
-      ap (is_separator s) (sym same) ∙ not-true _ (prefix_len_passes (λ b. not (is_separator s b)) rest j 0 (omega (arith, name-length s rest)))
-
 -- a text without the mark of a verbatim prefix is not read verbatim
 unmarked-plain : (text : List ℕ) → after_mark question text ≡ None → separators windows text ≡ Either
 unmarked-plain text none = ap (λ b. if b then Backslash else Either) (false_from_ne_true _ (λ marked.
     let some : after_mark question text ≡ Some (drop 4 text) = ap (after_mark question) (verbatim_text text marked) in
     cc))
 
--- behind such a prefix stands nothing, or a separator, and where it is the whole text, that does not end with a separator
+-- behind such a prefix stands nothing, or a separator, and where it is the whole text, that does not end with `\`
 pub record FirmEnd (text : List ℕ) (f : Found) : Type 0 where
   pub plain : separators windows text ≡ Either
   pub behind : Apart Either (drop f.length text)
-  pub last : f.length ≡ length text → is_separator Either (slice_index text (length text - 1)) ≡ false
+  pub unended : f.length ≡ length text → IsUnended text
 
 firm_end : (s : Separators) (text : List ℕ) (f : Found) → Read s text f → is_firm f.prefix ≡ true → is_disk f.prefix ≡ false → is_verbatim_prefix f.prefix ≡ false → FirmEnd text f
 firm_end s text f (of_verbatim_unc rest mark filled) firm other plain = cc
@@ -61,7 +53,7 @@ firm_end s text f (of_verbatim rest mark filled no_unc no_drive) firm other plai
 firm_end s text f (of_device rest mark filled) firm other plain = record {
   plain = unmarked-plain text (marks-differ text rest mark.marked);
   behind = subst (Apart Either) (ap (drop (length (name Either rest))) (sym mark.dropped) ∙ drop-drop (length (name Either rest)) 4 text) (name-behind Either rest);
-  last = λ whole. name-last Either 4 text rest mark.dropped mark.size (filled-long _ filled) (omega (arith, mark.size));
+  unended = λ whole. name-unended Either 4 text rest refl mark.dropped mark.size filled (omega (arith, mark.size));
 }
 firm_end s text f (of_unc rest mark filled no_verbatim no_device) firm other plain =
     let shared = not-true _ firm in
@@ -72,7 +64,7 @@ firm_end s text f (of_unc rest mark filled no_verbatim no_device) firm other pla
     record {
       plain = unmarked-plain text (no_question s text rest mark.marked shared no_verbatim);
       behind = subst (Apart Either) (ap (drop (names_length Either rest)) (sym mark.dropped) ∙ drop-drop (names_length Either rest) 2 text) (names-behind Either rest shared);
-      last = λ whole. name-last Either (2 + (n + 1)) text (after_first (is_separator Either) rest) (sym (drop-drop (n + 1) 2 text) ∙ ap (drop (n + 1)) mark.dropped) (omega (arith, mark.size)) (filled-long _ shared) (omega (arith, mark.size));
+      unended = λ whole. name-unended Either (2 + (n + 1)) text (after_first (is_separator Either) rest) refl (sym (drop-drop (n + 1) 2 text) ∙ ap (drop (n + 1)) mark.dropped) (omega (arith, mark.size)) shared (omega (arith, mark.size));
     }
 firm_end s text f (of_disk letter drives) firm other plain = cc
 

@@ -211,7 +211,7 @@ abbrev pub is_firm : Prefix → Bool
 is_firm p = keeps_by_prefix [] (Some p)
 
 -- a prefix that is firm and no drive takes four bytes or more
-firm-long : (s : Separators) (text : List ℕ) (f : Found) → Read s text f → is_firm f.prefix ≡ true → is_disk f.prefix ≡ false → 4 ≤ f.length
+pub firm-long : (s : Separators) (text : List ℕ) (f : Found) → Read s text f → is_firm f.prefix ≡ true → is_disk f.prefix ≡ false → 4 ≤ f.length
 firm-long s text f (of_verbatim_unc rest mark filled) firm other = omega arith
 firm-long s text f (of_verbatim_disk rest letter mark drives) firm other = omega arith
 firm-long s text f (of_verbatim rest mark filled no_unc no_drive) firm other = omega arith

@@ -43,7 +43,7 @@ IsSize (unc server share) t size = IsShared 2 server share t size ⊎ IsAlone 2 
 IsSize (disk letter) t size = size ≡ 2
 
 -- a name that is the whole text ends with no separator
-name-unended : (s : Separators) (k : ℕ) (t rest : List ℕ) → OfWindows s → drop k t ≡ rest → length t ≡ k + length rest → is_empty (name s rest) ≡ false → length rest ≤ length (name s rest) → IsUnended t
+pub name-unended : (s : Separators) (k : ℕ) (t rest : List ℕ) → OfWindows s → drop k t ≡ rest → length t ≡ k + length rest → is_empty (name s rest) ≡ false → length rest ≤ length (name s rest) → IsUnended t
 name-unended s k t rest w dropped size filled most front is =
     let some : 0 < length rest = omega (arith, name-fits s rest, eqb-false (length (name s rest)) 0 filled) in
     let ends : rest ≡ drop k front ++ backslash ∷ [] =

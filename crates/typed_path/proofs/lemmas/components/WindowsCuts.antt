@@ -38,7 +38,7 @@ or-long None p f first rest e = rest f e
 or-long (Some g) p f first rest e = first f e
 
 -- where neither of two cases holds the second does not
-or-none : {A : Type 0} (o p : Option A) → option_or o p ≡ None → p ≡ None
+pub or-none : {A : Type 0} (o p : Option A) → option_or o p ≡ None → p ≡ None
 or-none None p e = e
 or-none (Some x) p e = cc
 
