@@ -1,5 +1,7 @@
 -- What is promised of paths.
 pub mod UnixNormal
+pub mod EndedBases
+pub mod SpelledBases
 pub mod ContainLemmas
 pub mod UnixContained
 pub mod UnixJoin
