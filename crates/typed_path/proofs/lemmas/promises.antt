@@ -1,6 +1,7 @@
 -- What is promised of paths.
 pub mod UnixNormal
 pub mod EndedBases
+pub mod WindowsContained
 pub mod SpelledBases
 pub mod ContainLemmas
 pub mod UnixContained

@@ -1,17 +1,14 @@
 -- A base of Windows with a separator put behind it, where it needs one.
-use Rattle.std.proofs.Common.{◌≡◌, ℕ, ◌-◌, ◌<◌, ◌≤◌, ◌==◌, ◌||◌, Bool, true, false, if◌then◌else◌, List, [], ◌∷◌, ◌++◌, length, take, slice_index, refl, sym, ap, ◌∙◌, subst, append-nil, append_assoc, arith}
+use Rattle.std.proofs.Common.{◌≡◌, ℕ, ◌-◌, ◌<◌, ◌==◌, ◌||◌, Bool, true, false, if◌then◌else◌, List, [], ◌∷◌, ◌++◌, length, take, slice_index, refl, sym, ap, ◌∙◌, append-nil, arith}
 use Rattle.std.proofs.Math.Seq.{get_or-append_seam}
 use Rattle.std.proofs.lemmas.Bool.{both_ways, eqb-true, eqb-false, eq-eqb}
-use Rattle.std.proofs.lemmas.List.{length-append, drop-append-le}
-use Rattle.typed_path.specs.declared.scan.separators.Separators.{Separators}
+use Rattle.std.proofs.lemmas.List.{length-append}
 use Rattle.typed_path.specs.components.Dialect.{windows, backslash}
 use Rattle.typed_path.specs.components.Part.{kinds}
 use Rattle.typed_path.specs.components.Comps.{parts_of}
 use Rattle.typed_path.specs.changes.Push.{ended_with, is_disk_alone, ended_windows}
-use Rattle.typed_path.proofs.lemmas.components.SeparatorLemmas.{OfWindows, backslash-separates}
 use Rattle.typed_path.proofs.lemmas.components.SizeLemmas.{IsUnended}
-use Rattle.typed_path.proofs.lemmas.components.PartLemmas.{pieces, later_parts, body_parts}
-use Rattle.typed_path.proofs.lemmas.changes.JoinLemmas.{but_last, body_parts-more, body_parts-behind}
+use Rattle.typed_path.proofs.lemmas.changes.JoinLemmas.{but_last}
 
 -- what is put behind a base: nothing behind an empty one, behind `\`, and behind a drive alone, and `\` behind another
 pub data Ending (base : List ℕ) : List ℕ → Type 0 where

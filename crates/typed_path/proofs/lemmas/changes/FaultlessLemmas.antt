@@ -6,14 +6,15 @@ use Rattle.std.proofs.lemmas.List.Splits.{slice_split-cons_yes}
 use Rattle.typed_path.specs.declared.scan.separators.Separators.{Separators}
 use Rattle.typed_path.specs.declared.scan.separators.Separators.TheVariants.{Either, Backslash}
 use Rattle.typed_path.specs.declared.errors.CheckedPathError.TheVariants.{InvalidFilename}
-use Rattle.typed_path.specs.components.Dialect.{Dialect, windows, dot, is_separator, is_verbatim, root_text, begins_verbatim, separators}
+use Rattle.typed_path.specs.components.Dialect.{Dialect, windows, dot, is_separator, is_verbatim, root_text, separators}
 use Rattle.typed_path.specs.components.Part.{Kind, prefix, root, current, parent, normal, Part, kinds, current_part, root_part}
 use Rattle.typed_path.specs.components.Prefix.{Found, prefix_of}
 use Rattle.typed_path.specs.components.Comps.{is_dot, parts_of}
-use Rattle.typed_path.specs.queries.Queries.{is_valid_name, begins_with_root}
+use Rattle.typed_path.specs.queries.Queries.{is_valid_name, begins_with_root, has_prefix, has_any_verbatim_prefix}
+use Rattle.typed_path.specs.changes.Push.{merged, spelled, ended_windows, push}
 use Rattle.typed_path.specs.changes.Fault.{fault, fault_at}
 use Rattle.typed_path.specs.places.Places.{overdraws, stays, resolve}
-use Rattle.typed_path.proofs.lemmas.components.PartLemmas.{pieces, named_part, later_part, first_part, later_parts, first_parts, body_parts, parts_behind, parts-comps_behind}
+use Rattle.typed_path.proofs.lemmas.components.PartLemmas.{pieces, named_part, later_parts, first_parts, body_parts, parts_behind, parts-comps_behind}
 use Rattle.typed_path.proofs.lemmas.components.WindowsCuts.{plain-none}
 use Rattle.typed_path.proofs.lemmas.places.SettleLemmas.{Alike, current-alike, is_head, no_heads}
 use Rattle.typed_path.proofs.lemmas.changes.FaultLemmas.{fault_behind-at, fault_at-overdraws}
@@ -110,3 +111,15 @@ no_heads-resolve (p ∷ ps) e = by (stays p.kind (kinds ps)) (and_parts _ _ e).0
     by : (b : Bool) → not (is_head p.kind) ≡ true → no_heads (kinds (resolve ps)) ≡ true → no_heads (kinds ((if b then p ∷ [] else []) ++ resolve ps)) ≡ true
     by true own rest = ap (λ c. c && no_heads (kinds (resolve ps))) own ∙ rest
     by false own rest = rest
+
+-- a faultless path neither replaces the base nor cuts it to its prefix
+pub push-faultless : (base : List ℕ) (b : ℕ) (path : List ℕ) → IsFaultless (b ∷ path)
+    → push windows base (b ∷ path) ≡ (if has_any_verbatim_prefix (kinds (parts_of windows base)) then spelled (merged (parts_of windows base) (parts_of windows (b ∷ path))) else ended_windows base ++ b ∷ path)
+push-faultless base b path faultless =
+    let headless = ap (λ ps. no_heads (kinds ps)) faultless.read ∙ faultless.headless in
+    rw (no_heads-no_prefix (kinds (parts_of windows (b ∷ path))) headless, no_heads-relative (kinds (parts_of windows (b ∷ path))) headless) refl
+  where
+    no_heads-no_prefix : (ks : List Kind) → no_heads ks ≡ true → has_prefix ks ≡ false
+    no_heads-no_prefix [] e = refl
+    no_heads-no_prefix (prefix p ∷ ks) e = cc
+    no_heads-no_prefix (k ∷ ks) e = refl

@@ -1,5 +1,5 @@
 -- A list of names, currents and parents that overdraws nothing, merged into another: what it resolves to is put behind.
-use Rattle.std.proofs.Common.{◌≡◌, ℕ, zero, suc, true, false, List, [], ◌∷◌, ◌++◌, fold, refl, sym, ap, ◌∙◌, append_assoc, append-nil}
+use Rattle.std.proofs.Common.{◌≡◌, ℕ, zero, suc, true, false, List, [], ◌∷◌, ◌++◌, refl, sym, ap, ◌∙◌, append_assoc, append-nil}
 use Rattle.std.specs.List.{AllByRecursion}
 use Rattle.typed_path.specs.components.Part.{Kind, prefix, root, current, parent, normal, Part, kinds}
 use Rattle.typed_path.specs.changes.Push.{without_last_name, merge_by_kind, merged}

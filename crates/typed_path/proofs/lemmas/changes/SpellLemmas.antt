@@ -1,11 +1,11 @@
 -- A list as it is read behind a prefix of Windows, spelled and read again.
-use Rattle.std.proofs.Common.{◌≡◌, ℕ, suc, ◌==◌, Bool, true, false, if◌then◌else◌, List, [], ◌∷◌, ◌++◌, length, refl, sym, ap, ap₂, subst, ne_eqb, ◌∙◌, append_assoc, append-nil}
+use Rattle.std.proofs.Common.{◌≡◌, ℕ, suc, ◌==◌, false, if◌then◌else◌, List, [], ◌∷◌, ◌++◌, length, refl, sym, ap, ap₂, subst, ne_eqb, ◌∙◌, append_assoc, append-nil}
 use Rattle.std.proofs.lemmas.List.Elements.{All-nil, All-cons}
 use Rattle.std.specs.List.{AllByRecursion}
 use Rattle.std.proofs.lemmas.List.Splits.{slice_split_none, slice_split-cons_yes}
 use Rattle.typed_path.specs.declared.scan.separators.Separators.{Separators}
 use Rattle.typed_path.specs.declared.scan.separators.Separators.TheVariants.{Slash, Backslash, Either}
-use Rattle.typed_path.specs.components.Dialect.{backslash, dot, is_separator, is_verbatim, root_text}
+use Rattle.typed_path.specs.components.Dialect.{backslash, dot, is_separator, root_text}
 use Rattle.typed_path.specs.components.Part.{Kind, prefix, root, current, parent, normal, Part, current_part, parent_part, name_part, root_part}
 use Rattle.typed_path.specs.queries.Queries.{begins_with_root}
 use Rattle.typed_path.specs.changes.Push.{joint, spelled}

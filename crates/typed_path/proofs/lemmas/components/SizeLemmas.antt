@@ -1,5 +1,5 @@
 -- How many bytes a Windows prefix takes of its text: its kind tells, but for one separator behind a server alone.
-use Rattle.std.proofs.Common.{◌≡◌, ℕ, suc, ◌+◌, ◌<◌, ◌≤◌, ◌==◌, Bool, true, false, not, if◌then◌else◌, nat_lt, List, [], ◌∷◌, ◌++◌, ◌⊎◌, inl, inr, length, drop, Some, refl, sym, ap, ◌∙◌, arith}
+use Rattle.std.proofs.Common.{◌≡◌, ℕ, suc, ◌+◌, ◌<◌, ◌≤◌, true, false, not, nat_lt, List, [], ◌∷◌, ◌++◌, ◌⊎◌, inl, inr, length, drop, Some, refl, sym, ap, ◌∙◌, arith}
 use Rattle.std.specs.List.{position_or_len, after_first}
 use Rattle.std.proofs.lemmas.Bool.{cases_lt, cond-true, cond-false, lt-ltb, le-ltb, eqb-false, false_from_ne_true, both_ways}
 use Rattle.std.proofs.lemmas.List.{length-append, length-drop, drop-append-le}
@@ -12,7 +12,7 @@ use Rattle.typed_path.specs.components.Prefix.{Found, is_empty, name, second_nam
 use Rattle.typed_path.specs.queries.Queries.{is_disk, is_verbatim_prefix}
 use Rattle.typed_path.proofs.lemmas.components.SeparatorLemmas.{OfWindows, separators-windows, backslash-separates}
 use Rattle.typed_path.proofs.lemmas.components.SegmentLemmas.{position-append}
-use Rattle.typed_path.proofs.lemmas.components.PrefixLemmas.{name-fits, prefix-fits}
+use Rattle.typed_path.proofs.lemmas.components.PrefixLemmas.{name-fits}
 use Rattle.typed_path.proofs.lemmas.components.NameCuts.{name-length}
 use Rattle.typed_path.proofs.lemmas.components.WindowsCuts.{verbatim_text, verbatim-some, not_none}
 use Rattle.typed_path.proofs.lemmas.components.ReadLemmas.{Read, of_verbatim_unc, of_verbatim_disk, of_verbatim, of_device, of_unc, of_disk, prefix-read}

@@ -1,7 +1,7 @@
 -- The place of a list with more behind it.
-use Rattle.std.proofs.Common.{◌≡◌, ℕ, zero, Bool, true, false, if◌then◌else◌, List, [], ◌∷◌, ◌++◌, refl, sym, ap, ◌∙◌}
+use Rattle.std.proofs.Common.{◌≡◌, ℕ, zero, Bool, true, false, if◌then◌else◌, List, [], ◌∷◌, ◌++◌, refl, ap, ◌∙◌}
 use Rattle.std.proofs.lemmas.List.{map-append}
-use Rattle.typed_path.specs.components.Part.{Prefix, Kind, prefix, root, current, parent, normal, Part, kinds, prefix_part, root_part}
+use Rattle.typed_path.specs.components.Part.{Prefix, Kind, prefix, root, Part, kinds, prefix_part, root_part}
 use Rattle.typed_path.specs.queries.Queries.{is_disk, begins_with_root}
 use Rattle.typed_path.specs.places.Places.{overdraws, resolve, with_implied_root}
 use Rattle.typed_path.proofs.lemmas.places.SettleLemmas.{no_heads}

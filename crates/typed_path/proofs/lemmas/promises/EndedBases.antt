@@ -1,5 +1,5 @@
 -- Where a base of Windows leads with a faultless path behind it, under a prefix that is not verbatim and under none.
-use Rattle.std.proofs.Common.{◌≡◌, ℕ, zero, suc, ◌+◌, ◌<◌, ◌≤◌, Bool, true, false, ◌⊎◌, inl, inr, List, [], ◌∷◌, ◌++◌, length, take, drop, refl, sym, ap, ◌∙◌, subst, append_assoc, arith, length-drop, ne_eqb}
+use Rattle.std.proofs.Common.{◌≡◌, ℕ, zero, suc, ◌+◌, ◌<◌, ◌≤◌, true, false, ◌⊎◌, inl, inr, List, [], ◌∷◌, ◌++◌, length, take, drop, refl, sym, ap, ◌∙◌, subst, append_assoc, arith, length-drop, ne_eqb}
 use Rattle.std.specs.Prelude.{Some, None}
 use Rattle.std.proofs.Math.Seq.{drop-append-add, drop-append_seam, take-append_seam}
 use Rattle.std.proofs.lemmas.Bool.{both_ways, cases_lt, false_from_ne_true}
@@ -8,7 +8,7 @@ use Rattle.std.proofs.lemmas.List.Splits.{slice_split-cons_yes}
 use Rattle.typed_path.specs.declared.scan.separators.Separators.{Separators}
 use Rattle.typed_path.specs.declared.scan.separators.Separators.TheVariants.{Either}
 use Rattle.typed_path.specs.components.Dialect.{windows, backslash, question, separators, begins_verbatim, is_separator}
-use Rattle.typed_path.specs.components.Part.{Prefix, verbatim, verbatim_unc, verbatim_disk, device_ns, unc, disk, Kind, prefix, root, current, parent, normal, Part, kinds, prefix_part}
+use Rattle.typed_path.specs.components.Part.{Prefix, disk, Kind, prefix, Part, kinds, prefix_part}
 use Rattle.typed_path.specs.components.Prefix.{Found, prefix_of}
 use Rattle.typed_path.specs.components.Comps.{parts_of}
 use Rattle.typed_path.specs.queries.Queries.{is_disk, is_verbatim_prefix}
@@ -18,7 +18,7 @@ use Rattle.typed_path.proofs.lemmas.lists.SplitLemmas.{slice_split-some}
 use Rattle.typed_path.proofs.lemmas.components.SeparatorLemmas.{OfWindows, backslash-separates}
 use Rattle.typed_path.proofs.lemmas.components.PartLemmas.{pieces, first_parts, later_parts, body_parts, body_parts-read, AreRead, IsWritten, parts_behind}
 use Rattle.typed_path.proofs.lemmas.components.PrefixLemmas.{prefix-fits}
-use Rattle.typed_path.proofs.lemmas.components.SizeLemmas.{IsUnended, IsSize, prefix-size, IsGrown, same-sizes, plain-kind}
+use Rattle.typed_path.proofs.lemmas.components.SizeLemmas.{IsSize, prefix-size, IsGrown, same-sizes, plain-kind}
 use Rattle.typed_path.proofs.lemmas.components.WindowsCuts.{verbatim_text}
 use Rattle.typed_path.proofs.lemmas.places.SettleLemmas.{no_heads}
 use Rattle.typed_path.proofs.lemmas.places.PlacedBehind.{place_of, place_of-append, place_of-rooted}
@@ -169,7 +169,7 @@ module _ (path : List ℕ) (faultless : IsFaultless path) where
   plain-joined base mid f g is filled now kind = elim (cases_lt 4 (length (base ++ (mid ++ path)))) [
     | inl long ↦ plain-kind (base ++ (mid ++ path)) g now kind long
     | inr short ↦ false_from_ne_true _ (λ marked. no_mark base mid f is filled
-          (verbatim_text (base ++ (mid ++ path)) marked ∙ ap (λ t. backslash ∷ backslash ∷ question ∷ backslash ∷ t) (drop_all 4 (base ++ (mid ++ path)) short)))
+        (verbatim_text (base ++ (mid ++ path)) marked ∙ ap (λ t. backslash ∷ backslash ∷ question ∷ backslash ∷ t) (drop_all 4 (base ++ (mid ++ path)) short)))
   ]
 
   -- under a prefix that stays
