@@ -8,4 +8,3 @@ pub mod FaultlessLemmas
 pub mod AllowedLemmas
 pub mod NameSpans
 pub mod RunLemmas
-pub mod PushLemmas

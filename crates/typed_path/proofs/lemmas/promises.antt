@@ -8,3 +8,5 @@ pub mod UnixContained
 pub mod UnixJoin
 pub mod UnixStrip
 pub mod EndedPrefixes
+pub mod SpelledPrefixes
+pub mod WindowsKept

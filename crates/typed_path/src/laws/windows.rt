@@ -2,7 +2,7 @@
 
 ghost use Rattle.std.specs.Prelude.{◌≡◌, ◌↔◌, true, IfSome, [], ◌∷◌, ◌++◌, codes, map};
 ghost use Rattle.typed_path.specs.components.Dialect.{windows, dot, slash, backslash};
-ghost use Rattle.typed_path.specs.promises.Promises.{IsContained};
+ghost use Rattle.typed_path.specs.promises.Promises.{IsContained, KeepsPrefix};
 ghost use Rattle.typed_path.specs.components.Part.{prefix};
 ghost use Rattle.typed_path.specs.queries.Queries.{prefix_in, reserved_names};
 ghost use Rattle.typed_path.specs.order.Same.{kind_cmp};
@@ -22,6 +22,11 @@ use std::hash::Hash;
 /// the prefix stays.
 pub fn windows_pushes_stay_within(base: &[u8], path: &[u8])
     ensures { IsContained windows base.now path.now }
+{}
+
+/// A listed base keeps its prefix under a push of a path that is not refused.
+pub fn windows_pushes_keep_prefix(base: &[u8], path: &[u8])
+    ensures { KeepsPrefix windows base.now path.now }
 {}
 
 /// The constants of Windows have these values.

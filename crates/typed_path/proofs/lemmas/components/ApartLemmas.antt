@@ -1,5 +1,5 @@
 -- The names and marks of a text that is cut behind them, with something put apart behind it.
-use Rattle.std.proofs.Common.{◌≡◌, ℕ, zero, suc, ◌+◌, ◌<◌, ◌≤◌, ◌==◌, Bool, true, false, not, ◌&&◌, if◌then◌else◌, nat_lt, List, [], ◌∷◌, ◌++◌, inl, inr, length, take, drop, Option, Some, None, option_and_then, option_map, refl, sym, ap, ap₂, ◌∙◌, append-nil, length-append, length-drop, length-take, arith}
+use Rattle.std.proofs.Common.{◌≡◌, ℕ, ◌+◌, ◌<◌, ◌≤◌, ◌==◌, Bool, true, false, not, ◌&&◌, if◌then◌else◌, nat_lt, List, [], ◌∷◌, ◌++◌, inl, inr, length, take, drop, Option, Some, None, option_and_then, option_map, refl, sym, ap, ap₂, ◌∙◌, append-nil, length-append, length-take, arith}
 use Rattle.std.specs.List.{position_or_len, after_first}
 use Rattle.std.proofs.lemmas.Bool.{cases_lt, cond-true, cond-false, lt-ltb, eqb-true, or_left, or_right, or_cases, and_parts, and_left, and_right}
 use Rattle.std.proofs.lemmas.List.{take-append-le, drop-append-le, drop_all}
@@ -9,7 +9,7 @@ use Rattle.typed_path.specs.declared.scan.separators.Separators.TheVariants.{Sla
 use Rattle.typed_path.specs.components.Dialect.{is_separator, slash, backslash, colon}
 use Rattle.typed_path.specs.components.Prefix.{is_empty, is_drive_letter, to_upper, drive, after_two, after_four, name, second_name, names_length}
 use Rattle.typed_path.proofs.lemmas.components.PrefixLemmas.{and_then-some, where-some}
-use Rattle.typed_path.proofs.lemmas.components.NameCuts.{name-length, name-take, SameNames, names-take}
+use Rattle.typed_path.proofs.lemmas.components.NameCuts.{name-length, name-take, names-take}
 use Rattle.typed_path.proofs.lemmas.components.MarkLemmas.{ReadsMark, IsFront, after_four-reads}
 use Rattle.typed_path.proofs.lemmas.components.SegmentLemmas.{position-append}
 

@@ -1,18 +1,19 @@
 -- Where a firm prefix ends that is neither a drive nor verbatim.
-use Rattle.std.proofs.Common.{◌≡◌, ℕ, zero, suc, ◌+◌, ◌-◌, ◌<◌, ◌==◌, Bool, true, false, not, cond, if◌then◌else◌, List, [], ◌∷◌, ◌++◌, length, take, drop, Option, Some, None, refl, sym, ap, ◌∙◌, subst, length-drop, arith}
+use Rattle.std.proofs.Common.{◌≡◌, ℕ, suc, ◌+◌, ◌<◌, Bool, true, false, not, cond, if◌then◌else◌, List, [], ◌∷◌, length, drop, Some, None, refl, sym, ap, ◌∙◌, subst, length-drop, arith}
 use Rattle.std.specs.List.{position_or_len, after_first}
 use Rattle.std.proofs.lemmas.Bool.{not-true, false_from_ne_true}
 use Rattle.std.proofs.lemmas.List.{drop-drop}
 use Rattle.typed_path.specs.declared.scan.separators.Separators.{Separators}
 use Rattle.typed_path.specs.declared.scan.separators.Separators.TheVariants.{Backslash, Either}
-use Rattle.typed_path.specs.components.Dialect.{windows, separators, begins_verbatim, is_separator, question}
+use Rattle.typed_path.specs.components.Dialect.{windows, separators, is_separator, question}
 use Rattle.typed_path.specs.components.Prefix.{Found, is_empty, after_mark, name, second_name, names_length, prefix_of}
 use Rattle.typed_path.specs.queries.Queries.{is_disk, is_verbatim_prefix}
+use Rattle.typed_path.proofs.lemmas.components.PrefixLemmas.{drive-size, name-fits, names-fit}
 use Rattle.typed_path.proofs.lemmas.components.NameCuts.{name-length}
 use Rattle.typed_path.proofs.lemmas.components.WindowsCuts.{verbatim_text}
 use Rattle.typed_path.proofs.lemmas.components.SizeLemmas.{IsUnended, name-unended}
 use Rattle.typed_path.proofs.lemmas.components.ReadLemmas.{Read, of_verbatim_unc, of_verbatim_disk, of_verbatim, of_device, of_unc, of_disk, prefix-read}
-use Rattle.typed_path.proofs.lemmas.components.ApartLemmas.{Apart, nothing, parted, second-inside, names-size}
+use Rattle.typed_path.proofs.lemmas.components.ApartLemmas.{Apart, nothing, parted, filled-long, second-inside, names-size, names-long}
 use Rattle.typed_path.proofs.lemmas.components.FirmLemmas.{is_firm, marks-differ, no_question}
 
 module _ (s : Separators) where
@@ -70,3 +71,12 @@ firm_end s text f (of_disk letter drives) firm other plain = cc
 
 pub firm-end : (text : List ℕ) (f : Found) → prefix_of windows text ≡ Some f → is_firm f.prefix ≡ true → is_disk f.prefix ≡ false → is_verbatim_prefix f.prefix ≡ false → FirmEnd text f
 firm-end text f is firm other plain = firm_end (separators windows text) text f (prefix-read text f is) firm other plain
+
+-- a text with a firm prefix that is no drive has more than four bytes
+pub firm-more : (s : Separators) (text : List ℕ) (f : Found) → Read s text f → is_firm f.prefix ≡ true → is_disk f.prefix ≡ false → 4 < length text
+firm-more s text f (of_verbatim_unc rest mark filled) firm other = omega (arith, mark.size)
+firm-more s text f (of_verbatim_disk rest letter mark drives) firm other = omega (arith, mark.size, drive-size rest letter drives)
+firm-more s text f (of_verbatim rest mark filled no_unc no_drive) firm other = omega (arith, mark.size, filled-long rest filled)
+firm-more s text f (of_device rest mark filled) firm other = omega (arith, mark.size, filled-long _ filled, name-fits Either rest)
+firm-more s text f (of_unc rest mark filled no_verbatim no_device) firm other = omega (arith, mark.size, names-long Either rest filled (not-true _ firm), names-fit Either rest)
+firm-more s text f (of_disk letter drives) firm other = cc

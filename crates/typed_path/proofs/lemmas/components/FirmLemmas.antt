@@ -1,5 +1,5 @@
 -- A prefix stays where its text is cut behind it and something put apart behind that.
-use Rattle.std.proofs.Common.{◌≡◌, ℕ, ◌+◌, ◌<◌, ◌≤◌, ◌==◌, Bool, true, false, not, ◌&&◌, nat_eq, if◌then◌else◌, List, [], ◌∷◌, ◌++◌, codes, length, take, Option, Some, None, option_and_then, refl, sym, ap, ◌∙◌, le_refl, length-append, length-take, arith}
+use Rattle.std.proofs.Common.{◌≡◌, ℕ, ◌+◌, ◌<◌, ◌≤◌, ◌==◌, Bool, true, false, ◌&&◌, nat_eq, if◌then◌else◌, List, [], ◌∷◌, ◌++◌, codes, length, take, Option, Some, None, option_and_then, refl, sym, ap, ◌∙◌, le_refl, length-append, length-take, arith}
 use Rattle.std.specs.Option.{option_or}
 use Rattle.std.specs.Str.{bytes_eq}
 use Rattle.std.proofs.lemmas.Bool.{cond-false, eqb-true, ne_eqb, both_ways, not-true, and_parts}
@@ -10,13 +10,13 @@ use Rattle.typed_path.specs.declared.scan.separators.Separators.TheVariants.{Sla
 use Rattle.typed_path.specs.components.Dialect.{windows, separators, begins_verbatim, is_separator, backslash, question, dot, colon}
 use Rattle.typed_path.specs.queries.Queries.{is_disk}
 use Rattle.typed_path.specs.promises.Promises.{keeps_by_prefix}
-use Rattle.typed_path.specs.components.Part.{Prefix, verbatim, verbatim_unc, verbatim_disk, device_ns, unc, disk}
-use Rattle.typed_path.specs.components.Prefix.{Found, found, is_empty, is_drive_letter, to_upper, drive, after_two, after_mark, after_unc, name, second_name, names_length, verbatim_unc_case, verbatim_disk_case, verbatim_case, device_case, unc_case, disk_case, prefix_of}
+use Rattle.typed_path.specs.components.Part.{Prefix, verbatim, verbatim_unc, verbatim_disk, device_ns, unc}
+use Rattle.typed_path.specs.components.Prefix.{Found, found, is_empty, is_drive_letter, to_upper, drive, after_two, after_mark, after_unc, name, second_name, names_length, verbatim_case, device_case, unc_case, disk_case, prefix_of}
 use Rattle.typed_path.proofs.lemmas.components.PrefixLemmas.{where-some, name-fits, names-fit, prefix-fits}
 use Rattle.typed_path.proofs.lemmas.components.ReadLemmas.{Read, of_verbatim_unc, of_verbatim_disk, of_verbatim, of_device, of_unc, of_disk, prefix-read}
 use Rattle.typed_path.proofs.lemmas.components.PrefixCuts.{prefix_by, unless-none}
 use Rattle.typed_path.proofs.lemmas.components.MarkLemmas.{after_mark-reads, after_unc-reads, after_two-reads, both-read, drive-take, drive-none}
-use Rattle.typed_path.proofs.lemmas.components.ApartLemmas.{Apart, names-long, name-recut, names-recut, apart-either, separator-fails, Extends, after_two-extends, after_four-extends, after_four-tests, after_four-none, both-extend, mark-recut, drive-extends, drive-apart}
+use Rattle.typed_path.proofs.lemmas.components.ApartLemmas.{Apart, names-long, name-recut, names-recut, apart-either, Extends, after_two-extends, after_four-extends, after_four-tests, after_four-none, both-extend, mark-recut, drive-extends, drive-apart}
 
 -- what each case makes of what stands behind its mark
 abbrev pub share_made : (List ℕ → List ℕ → Prefix) → ℕ → Separators → List ℕ → Option Found

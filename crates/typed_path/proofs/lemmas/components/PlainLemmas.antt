@@ -1,11 +1,11 @@
 -- Windows texts that begin with a drive, with no two separators, or with three.
-use Rattle.std.proofs.Common.{◌≡◌, ℕ, ◌+◌, Bool, true, false, ◌&&◌, ◌==◌, if◌then◌else◌, List, [], ◌∷◌, ◌++◌, length, Option, Some, None, option_and_then, refl, sym, ap, ◌∙◌, arith}
+use Rattle.std.proofs.Common.{◌≡◌, ℕ, true, false, ◌&&◌, ◌==◌, List, [], ◌∷◌, ◌++◌, Some, None, option_and_then, refl, ap, ◌∙◌}
 use Rattle.std.specs.Option.{option_or}
-use Rattle.std.proofs.lemmas.Bool.{cond-false, cond-true, both_ways, and_from, and_left, eqb-true, false_from_ne_true}
+use Rattle.std.proofs.lemmas.Bool.{cond-false, cond-true, both_ways, and_from, and_left, false_from_ne_true}
 use Rattle.typed_path.specs.declared.scan.separators.Separators.TheVariants.{Either}
 use Rattle.typed_path.specs.components.Dialect.{windows, separators, is_separator, question, dot, colon}
-use Rattle.typed_path.specs.components.Part.{device_ns, unc, disk}
-use Rattle.typed_path.specs.components.Prefix.{Found, found, is_empty, is_drive_letter, to_upper, drive, after_two, after_mark, name, second_name, names_length, device_case, unc_case, disk_case, prefix_of}
+use Rattle.typed_path.specs.components.Part.{unc, disk}
+use Rattle.typed_path.specs.components.Prefix.{found, is_empty, is_drive_letter, to_upper, drive, after_mark, name, device_case, unc_case, disk_case, prefix_of}
 use Rattle.typed_path.proofs.lemmas.components.ApartLemmas.{after_four-tests, separator-fails}
 use Rattle.typed_path.proofs.lemmas.components.FirmLemmas.{share_made, device_made, none_from, first-none, unmarked, drive-letter}
 

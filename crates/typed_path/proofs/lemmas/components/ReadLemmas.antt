@@ -7,7 +7,7 @@ use Rattle.typed_path.specs.components.Dialect.{windows, separators, question, d
 use Rattle.typed_path.specs.components.Part.{verbatim, verbatim_unc, verbatim_disk, device_ns, unc, disk}
 use Rattle.typed_path.specs.components.Prefix.{Found, found, is_empty, drive, after_two, after_mark, after_unc, name, second_name, names_length, verbatim_unc_case, verbatim_disk_case, verbatim_case, device_case, unc_case, disk_case, prefix_of}
 use Rattle.typed_path.proofs.lemmas.components.PrefixLemmas.{and_then-some, unless-some, some_is, after_mark-size, after_unc-size, after_two-size}
-use Rattle.typed_path.proofs.lemmas.components.MarkLemmas.{ReadsMark, after_mark-reads, after_unc-reads, after_two-reads, both-read}
+use Rattle.typed_path.proofs.lemmas.components.MarkLemmas.{after_mark-reads, after_unc-reads, after_two-reads, both-read}
 
 -- what a mark of k bytes at the front of a text leaves
 pub record IsBehindMark (k : ℕ) (mark : Option (List ℕ)) (text rest : List ℕ) : Type 0 where

@@ -40,7 +40,7 @@ body_parts-joined s text _ path w (apart filled) =
     ∙ body_parts-behind s backslash text path (backslash-separates s w) (ne_eqb (length text) 0 (λ none. omega arith))
 
 -- a list as it is read behind a prefix is no drive alone
-read-no_drive : (s : Separators) (ps : List Part) → AreRead s ps → is_disk_alone (kinds ps) ≡ true → ⊥
+pub read-no_drive : (s : Separators) (ps : List Part) → AreRead s ps → is_disk_alone (kinds ps) ≡ true → ⊥
 read-no_drive s [] read e = cc
 read-no_drive s (p ∷ ps) read e = by p.kind p.text read.0 e
   where
@@ -49,7 +49,7 @@ read-no_drive s (p ∷ ps) read e = by p.kind p.text read.0 e
     by k text written e = cc
 
 -- nor is a list that begins with another prefix
-disk_alone-disk : (p : Prefix) (ks : List Kind) → is_disk_alone (prefix p ∷ ks) ≡ true → is_disk p ≡ true
+pub disk_alone-disk : (p : Prefix) (ks : List Kind) → is_disk_alone (prefix p ∷ ks) ≡ true → is_disk p ≡ true
 disk_alone-disk (disk letter) ks e = refl
 disk_alone-disk p ks e = cc
 

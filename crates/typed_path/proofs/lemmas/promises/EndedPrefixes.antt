@@ -1,12 +1,12 @@
 -- A base of Windows keeps its prefix where a path is put behind it, with a separator where it needs one.
-use Rattle.std.proofs.Common.{◌≡◌, ℕ, zero, suc, ◌+◌, ◌-◌, ◌<◌, ◌≤◌, ◌==◌, Bool, true, false, not, ◌&&◌, ◌⊎◌, inl, inr, List, [], ◌∷◌, ◌++◌, length, take, drop, Option, Some, None, option_and_then, refl, sym, ap, ◌∙◌, subst, append_assoc, take-append-drop, length-append, length-drop, arith}
+use Rattle.std.proofs.Common.{◌≡◌, ℕ, ◌<◌, ◌==◌, true, false, ◌&&◌, inl, inr, List, [], ◌∷◌, ◌++◌, length, take, drop, Option, Some, None, option_and_then, refl, sym, ap, ◌∙◌, subst, append_assoc, take-append-drop, length-append, length-drop, arith}
 use Rattle.std.specs.Option.{option_or}
-use Rattle.std.proofs.lemmas.Bool.{both_ways, cases_Bool, and_cases, and_parts, cond-true, cond-false, and_left, and_right, or_cases, eqb-true, true_from_ne_false, false_from_ne_true}
+use Rattle.std.proofs.lemmas.Bool.{both_ways, cases_Bool, and_parts, cond-true, cond-false, and_left, and_right, or_cases, eqb-true, true_from_ne_false, false_from_ne_true}
 use Rattle.std.proofs.lemmas.List.{same_from_push}
 use Rattle.typed_path.specs.declared.scan.separators.Separators.TheVariants.{Either}
 use Rattle.typed_path.specs.components.Dialect.{windows, separators, slash, backslash, colon, is_separator}
-use Rattle.typed_path.specs.components.Part.{Prefix, unc, disk, kinds}
-use Rattle.typed_path.specs.components.Prefix.{Found, found, is_empty, is_drive_letter, to_upper, drive, name, second_name, names_length, verbatim_unc_case, verbatim_disk_case, verbatim_case, device_case, unc_case, disk_case, prefix_of}
+use Rattle.typed_path.specs.components.Part.{unc, disk, kinds}
+use Rattle.typed_path.specs.components.Prefix.{Found, found, is_empty, is_drive_letter, to_upper, drive, name, verbatim_unc_case, verbatim_disk_case, verbatim_case, device_case, unc_case, disk_case, prefix_of}
 use Rattle.typed_path.specs.components.Comps.{parts_of}
 use Rattle.typed_path.specs.queries.Queries.{is_disk, is_verbatim_prefix}
 use Rattle.typed_path.specs.changes.Push.{is_disk_alone}
@@ -23,7 +23,7 @@ use Rattle.typed_path.proofs.lemmas.components.FirmEnds.{FirmEnd, firm-end}
 use Rattle.typed_path.proofs.lemmas.changes.EndedLemmas.{Ending, empty, ended, drive_alone, parted as put}
 
 -- what is put behind a base stands apart from its prefix
-firm-joined : (base mid path : List ℕ) (f : Found) → prefix_of windows base ≡ Some f → is_firm f.prefix ≡ true → is_disk f.prefix ≡ false → is_verbatim_prefix f.prefix ≡ false
+pub firm-joined : (base mid path : List ℕ) (f : Found) → prefix_of windows base ≡ Some f → is_firm f.prefix ≡ true → is_disk f.prefix ≡ false → is_verbatim_prefix f.prefix ≡ false
     → is_disk_alone (kinds (parts_of windows base)) ≡ false → Ending base mid → prefix_of windows (base ++ (mid ++ path)) ≡ Some f
 firm-joined base mid path f is firm other plain no_drive ending =
     let x = drop f.length base ++ (mid ++ path) in
@@ -103,7 +103,7 @@ module _ (b : ℕ) (path : List ℕ) (plain : is_separator Either b ≡ false) w
           three_separators c d backslash (b ∷ path) both.0 both.1 refl
 
   -- a base without a prefix gets none, where it is listed
-  none-joined : (base mid : List ℕ) → prefix_of windows (b ∷ path) ≡ None → prefix_of windows base ≡ None → keeps_by_prefix base None ≡ true → is_disk_alone (kinds (parts_of windows base)) ≡ false → Ending base mid
+  pub none-joined : (base mid : List ℕ) → prefix_of windows (b ∷ path) ≡ None → prefix_of windows base ≡ None → keeps_by_prefix base None ≡ true → is_disk_alone (kinds (parts_of windows base)) ≡ false → Ending base mid
       → prefix_of windows (base ++ (mid ++ b ∷ path)) ≡ None
   none-joined [] _ none is kept no_drive (empty e) = none
   none-joined [] _ none is kept no_drive (ended front e) = absurd (omega (arith, ap length e, length-append front (backslash ∷ [])))

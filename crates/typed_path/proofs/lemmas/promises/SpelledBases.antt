@@ -127,7 +127,7 @@ module _ (s : Separators) (w : OfWindows s) where
   place-later_rest p _ _ later (from_other q ps e) = ap (λ qs. place_of (prefix_part p [] ∷ qs)) (body_parts-spelled s w q ps (AreRead-later s (q ∷ ps) later))
 
 -- a verbatim kind is no drive
-verbatim-no_drive : (p : Prefix) → is_verbatim_prefix p ≡ true → is_disk p ≡ false
+pub verbatim-no_drive : (p : Prefix) → is_verbatim_prefix p ≡ true → is_disk p ≡ false
 verbatim-no_drive (disk letter) kind = cc
 verbatim-no_drive p kind = refl
 
