@@ -28,6 +28,7 @@ unended-last base other front is =
     let last : slice_index base (length base - 1) ≡ backslash = ap (slice_index base) place ∙ ap (λ t. slice_index t (length front)) is ∙ get_or-append_seam front backslash [] 0 in
     both_ways (slice_index base (length base - 1) == backslash) other (eq-eqb _ backslash last)
 
+-- a base that is no drive alone
 ended_with-ending : (base : List ℕ) → is_disk_alone (kinds (parts_of windows base)) ≡ false → HasEnding base (ended_with backslash base)
 ended_with-ending base no_drive = by (length base == 0) refl (slice_index base (length base - 1) == backslash) refl
   where
@@ -42,6 +43,7 @@ ended_with-ending base no_drive = by (length base == 0) refl (slice_index base (
         ([], sym (append-nil base), ended (take (length base - 1) base) (but_last base e ∙ ap (λ c. take (length base - 1) base ++ c ∷ []) (eqb-true _ backslash h)))
     by false e false h = (backslash ∷ [], refl, parted no_drive (grind (arith, eqb-false)) (unended-last base h))
 
+-- each base
 pub ending : (base : List ℕ) → HasEnding base (ended_windows base)
 ending base = by (is_disk_alone (kinds (parts_of windows base))) refl
   where

@@ -56,6 +56,7 @@ parts_of-none t none =
 pub parts_of-some : (t : List ℕ) (f : Found) → prefix_of windows t ≡ Some f → parts_of windows t ≡ parts_behind (separators windows t) t (Some f)
 parts_of-some t f some = parts-comps_behind (separators windows t) t (prefix_of windows t) ∙ ap (parts_behind (separators windows t) t) some
 
+-- a path that is not refused is faultless
 pub faultless : (path : List ℕ) → fault windows path ≡ None → IsFaultless path
 faultless path accepted = by (prefix_of windows path) refl
   where

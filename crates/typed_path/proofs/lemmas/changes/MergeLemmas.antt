@@ -17,6 +17,7 @@ data Names : ℕ → List Part → Type 0 where
   none : Names zero []
   more : {n : ℕ} {ps : List Part} (name text : List ℕ) → Names n ps → Names (suc n) (ps ++ named name text ∷ [])
 
+-- names are kept
 names-kept : (n : ℕ) (ps : List Part) → Names n ps → AllByRecursion IsKept ps
 names-kept _ _ none = tt
 names-kept _ _ (more {n = m} {ps = rs} name text names) = AllByRecursion-append IsKept rs (named name text ∷ []) (names-kept m rs names) (refl, tt)

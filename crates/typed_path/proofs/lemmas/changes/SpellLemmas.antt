@@ -19,6 +19,7 @@ record IsPiece (s : Separators) (k : Kind) (text : List ℕ) : Type 0 where
   pub later : later_part s text ≡ record { kind = k; text = text } ∷ []
   pub filled : (length text == 0) ≡ false
 
+-- a later component is one piece
 later-piece : (s : Separators) (k : Kind) (text : List ℕ) → IsLater s k text → IsPiece s k text
 later-piece s (prefix q) text later = absurd later
 later-piece s root text later = absurd later
@@ -116,6 +117,7 @@ module _ (s : Separators) (w : OfWindows s) where
   abbrev IsReadAgain : Kind → List Part → List ℕ → Type 0
   IsReadAgain k ps text = first_parts s (pieces s (spelled (record { kind = k; text = text } ∷ ps))) ≡ record { kind = k; text = text } ∷ ps
 
+  -- each first component is
   first_parts-spelled : (k : Kind) (text : List ℕ) (ps : List Part) → IsWritten s k text → AllByRecursion (IsLaterPart s) ps → IsReadAgain k ps text
   first_parts-spelled (prefix p) text ps written later = absurd written
   first_parts-spelled root text ps written later = subst (IsReadAgain root ps) (sym written) (first_parts-root ps later)

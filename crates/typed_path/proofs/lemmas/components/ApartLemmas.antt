@@ -29,6 +29,7 @@ module _ (s : Separators) where
   position-apart text x nothing = ap (position_or_len (is_separator s)) (append-nil text)
   position-apart text x (parted b bs h) = position-append s b h text bs
 
+  -- so it stays
   pub name-apart : (text x : List ℕ) → Apart s x → name s (text ++ x) ≡ name s text
   name-apart text x h =
       ap (λ n. take n (text ++ x)) (position-apart text x h)
@@ -44,6 +45,7 @@ module _ (s : Separators) where
         cc
   ]
 
+  -- so does the second name
   second-apart : (text x : List ℕ) → Apart s x → is_empty (second_name s text) ≡ false → second_name s (text ++ x) ≡ second_name s text
   second-apart text x h filled =
       let p = is_separator s in
@@ -79,13 +81,14 @@ module _ (s : Separators) where
   pub name-recut : (m : ℕ) (text x : List ℕ) → Apart s x → length (name s text) ≤ m → name s (take m text ++ x) ≡ name s text
   name-recut m text x h fits = name-apart (take m text) x h ∙ name-take s m text fits
 
-  -- so do two names, of which the second is not empty
-  pub record KeepsNames (text now : List ℕ) : Type 0 where
+  -- what two names and their length are of one text, they are of another
+  pub record HasNamesOf (text now : List ℕ) : Type 0 where
     pub first : name s now ≡ name s text
     pub second : second_name s now ≡ second_name s text
     pub size : names_length s now ≡ names_length s text
 
-  pub names-recut : (m : ℕ) (text x : List ℕ) → Apart s x → names_length s text ≤ m → is_empty (second_name s text) ≡ false → KeepsNames text (take m text ++ x)
+  -- two names are kept where their text is cut behind them
+  pub names-recut : (m : ℕ) (text x : List ℕ) → Apart s x → names_length s text ≤ m → is_empty (second_name s text) ≡ false → HasNamesOf text (take m text ++ x)
   names-recut m text x h fits filled =
       let cut = names-take s m text fits in
       let still : is_empty (second_name s (take m text)) ≡ false = ap is_empty cut.second ∙ filled in
@@ -127,11 +130,13 @@ test-none false text now e = refl
 abbrev pub Extends : (List ℕ → Option (List ℕ)) → Type 0
 Extends read = (text rest x : List ℕ) → read text ≡ Some rest → read (text ++ x) ≡ Some (rest ++ x)
 
+-- two separators
 pub after_two-extends : Extends after_two
 after_two-extends (a ∷ b ∷ text) rest x e = test-append _ text rest x e
 after_two-extends text rest x e = cc
 
 module _ (p q r s : ℕ → Bool) where
+  -- four bytes
   pub after_four-extends : Extends (after_four p q r s)
   after_four-extends (a ∷ b ∷ c ∷ d ∷ text) rest x e = test-append _ text rest x e
   after_four-extends text rest x e = cc

@@ -26,6 +26,7 @@ module _ (s : Separators) where
       by true e rest = parted b bs e
       by false e rest = let next : suc (position_or_len (is_separator s) bs) ≡ 1 + position_or_len (is_separator s) bs = omega arith in subst (λ n. Apart s (drop n (b ∷ bs))) next rest
 
+  -- the same, by the length of the name
   name-behind : (text : List ℕ) → Apart s (drop (length (name s text)) text)
   name-behind text = subst (λ n. Apart s (drop n text)) (sym (name-length s text)) (position-behind text)
 
@@ -47,6 +48,7 @@ pub record FirmEnd (text : List ℕ) (f : Found) : Type 0 where
   pub behind : Apart Either (drop f.length text)
   pub unended : f.length ≡ length text → IsUnended text
 
+-- a prefix that is firm, no drive and not verbatim ends so
 firm_end : (s : Separators) (text : List ℕ) (f : Found) → Read s text f → is_firm f.prefix ≡ true → is_disk f.prefix ≡ false → is_verbatim_prefix f.prefix ≡ false → FirmEnd text f
 firm_end s text f (of_verbatim_unc rest mark filled) firm other plain = cc
 firm_end s text f (of_verbatim_disk rest letter mark drives) firm other plain = cc
@@ -69,6 +71,7 @@ firm_end s text f (of_unc rest mark filled no_verbatim no_device) firm other pla
     }
 firm_end s text f (of_disk letter drives) firm other plain = cc
 
+-- so does that of a text
 pub firm-end : (text : List ℕ) (f : Found) → prefix_of windows text ≡ Some f → is_firm f.prefix ≡ true → is_disk f.prefix ≡ false → is_verbatim_prefix f.prefix ≡ false → FirmEnd text f
 firm-end text f is firm other plain = firm_end (separators windows text) text f (prefix-read text f is) firm other plain
 

@@ -18,7 +18,7 @@ use Rattle.typed_path.proofs.lemmas.components.PrefixCuts.{prefix_by, unless-non
 use Rattle.typed_path.proofs.lemmas.components.MarkLemmas.{after_mark-reads, after_unc-reads, after_two-reads, both-read, drive-take, drive-none}
 use Rattle.typed_path.proofs.lemmas.components.ApartLemmas.{Apart, names-long, name-recut, names-recut, apart-either, Extends, after_two-extends, after_four-extends, after_four-tests, after_four-none, both-extend, mark-recut, drive-extends, drive-apart}
 
--- what each case makes of what stands behind its mark
+-- what the cases make of what stands behind their marks
 abbrev pub share_made : (List ℕ → List ℕ → Prefix) → ℕ → Separators → List ℕ → Option Found
 share_made make k s rest = if is_empty (name s rest) then None else Some (found (make (name s rest) (second_name s rest)) (k + names_length s rest))
 
@@ -47,9 +47,11 @@ none_from {A = A} o never = by o refl
     by None e = refl
     by (Some x) e = absurd (never x e)
 
+-- a mark is read where more stands behind it
 mark-extends : (sign : ℕ) → Extends (after_mark sign)
 mark-extends sign = after_four-extends (is_separator Either) (is_separator Either) (λ b. b == sign) (is_separator Either)
 
+-- so is `UNC` with its separator
 unc-extends : (s : Separators) → Extends (after_unc s)
 unc-extends s = after_four-extends (λ b. b == 85) (λ b. b == 78) (λ b. b == 67) (is_separator s)
 

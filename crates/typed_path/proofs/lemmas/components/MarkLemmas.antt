@@ -29,7 +29,7 @@ test_cut false text m = inl refl
 
 -- what stands behind four bytes
 module _ (p q r s : ℕ → Bool) where
-  pub after_four-short : (text : List ℕ) → length text < 4 → after_four p q r s text ≡ None
+  after_four-short : (text : List ℕ) → length text < 4 → after_four p q r s text ≡ None
   after_four-short (a ∷ b ∷ c ∷ d ∷ text) h = absurd (omega arith)
   after_four-short text h = refl
 

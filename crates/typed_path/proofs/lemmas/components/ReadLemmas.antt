@@ -35,6 +35,7 @@ no_letter g None is = refl
 no_letter g (Some letter) is = cc
 
 module _ (s : Separators) (text : List ℕ) where
+  -- what stands behind the mark of a verbatim prefix
   question_mark : (rest : List ℕ) → after_mark question text ≡ Some rest → IsBehindMark 4 (after_mark question text) text rest
   question_mark rest is = record { marked = is; dropped = (after_mark-reads question).behind text rest is; size = after_mark-size question text rest is }
 
@@ -43,6 +44,7 @@ module _ (s : Separators) (text : List ℕ) where
   or-read None p first others f is = others refl f is
   or-read (Some g) p first others f is = first f is
 
+  -- the verbatim share
   verbatim_unc-read : (f : Found) → verbatim_unc_case s text ≡ Some f → Read s text f
   verbatim_unc-read f is =
       let outer = and_then-some _ (option_and_then (after_unc s) (after_mark question text)) f is in
@@ -54,12 +56,14 @@ module _ (s : Separators) (text : List ℕ) where
         size = let mark = after_mark-size question text inner.0 inner.1 in let unc = after_unc-size s inner.0 outer.0 inner.2 in omega arith;
       }) made.0)
 
+  -- the verbatim drive
   verbatim_disk-read : (f : Found) → verbatim_disk_case text ≡ Some f → Read s text f
   verbatim_disk-read f is =
       let outer = and_then-some _ (option_and_then drive (after_mark question text)) f is in
       let inner = and_then-some drive (after_mark question text) outer.0 outer.1 in
       subst (Read s text) (some_is outer.2) (of_verbatim_disk inner.0 outer.0 (question_mark inner.0 inner.1) inner.2)
 
+  -- the verbatim name, where it is neither of these
   verbatim-read : verbatim_unc_case s text ≡ None → verbatim_disk_case text ≡ None → (f : Found) → verbatim_case s text ≡ Some f → Read s text f
   verbatim-read no_unc no_disk f is =
       let outer = and_then-some _ (after_mark question text) f is in
@@ -68,18 +72,21 @@ module _ (s : Separators) (text : List ℕ) where
       (ap (λ o. option_and_then (λ letter. Some (found (verbatim_disk letter) 6)) (option_and_then drive o)) (sym outer.1) ∙ no_disk) in
       subst (Read s text) made.1 (of_verbatim outer.0 (question_mark outer.0 outer.1) made.0 no_unc no_drive)
 
+  -- the device
   device-read : (f : Found) → device_case text ≡ Some f → Read s text f
   device-read f is =
       let outer = and_then-some _ (after_mark dot text) f is in
       let made = unless-some (is_empty (name Either outer.0)) _ f outer.2 in
       subst (Read s text) made.1 (of_device outer.0 (record { marked = outer.1; dropped = (after_mark-reads dot).behind text outer.0 outer.1; size = after_mark-size dot text outer.0 outer.1 }) made.0)
 
+  -- the share, where it has no mark
   unc-read : verbatim_case s text ≡ None → device_case text ≡ None → (f : Found) → unc_case text ≡ Some f → Read s text f
   unc-read no_verbatim no_device f is =
       let outer = and_then-some _ (after_two text) f is in
       let made = unless-some (is_empty (name Either outer.0)) _ f outer.2 in
       subst (Read s text) made.1 (of_unc outer.0 (record { marked = outer.1; dropped = after_two-reads.behind text outer.0 outer.1; size = after_two-size text outer.0 outer.1 }) made.0 no_verbatim no_device)
 
+  -- the drive
   disk-read : (f : Found) → disk_case text ≡ Some f → Read s text f
   disk-read f is = let outer = and_then-some _ (drive text) f is in subst (Read s text) (some_is outer.2) (of_disk outer.0 outer.1)
 

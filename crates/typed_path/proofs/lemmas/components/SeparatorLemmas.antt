@@ -9,14 +9,17 @@ use Rattle.std.proofs.lemmas.Bool.{cond_both}
 abbrev pub OfWindows : Separators → Type 0
 OfWindows s = dialect_of s ≡ windows
 
+-- each Windows text has such
 pub separators-windows : (text : List ℕ) → OfWindows (separators windows text)
 separators-windows text = cond_both (begins_verbatim text) Backslash Either OfWindows (λ marked. refl) (λ plain. refl)
 
+-- `\` is one of them
 pub backslash-separates : (s : Separators) → OfWindows s → is_separator s backslash ≡ true
 backslash-separates Slash w = cc
 backslash-separates Backslash w = refl
 backslash-separates Either w = refl
 
+-- and it is how a root is written
 pub root_text-windows : (s : Separators) → OfWindows s → root_text s ≡ backslash ∷ []
 root_text-windows Slash w = cc
 root_text-windows Backslash w = refl

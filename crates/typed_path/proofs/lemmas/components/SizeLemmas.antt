@@ -51,6 +51,7 @@ name-unended s k t rest w dropped size filled most front is =
     let place = ap (position_or_len (is_separator s)) ends ∙ position-append s backslash (backslash-separates s w) (drop k front) [] in
     omega (arith, place, name-length s rest, prefix_len-le-length (λ b. not (is_separator s b)) (drop k front), ap length ends, length-append (drop k front) (backslash ∷ []))
 
+-- two names behind a mark take one of the two sizes
 names-size : (s : Separators) (k : ℕ) (t rest : List ℕ) → OfWindows s → drop k t ≡ rest → length t ≡ k + length rest → is_empty (name s rest) ≡ false
     → IsShared k (name s rest) (second_name s rest) t (k + names_length s rest) ⊎ IsAlone k (name s rest) (second_name s rest) t (k + names_length s rest)
 names-size s k t rest w dropped size filled = elim (cases_lt (length (name s rest)) (length rest)) [
@@ -68,6 +69,7 @@ names-size s k t rest w dropped size filled = elim (cases_lt (length (name s res
       })
 ]
 
+-- so each prefix takes what its kind tells
 read-size : (s : Separators) (t : List ℕ) (f : Found) → OfWindows s → Read s t f → IsSize f.prefix t f.length
 read-size s t _ w (of_verbatim_unc rest mark filled) = names-size s 8 t rest w mark.dropped mark.size filled
 read-size s t _ w (of_verbatim_disk rest letter mark drives) = refl
@@ -76,6 +78,7 @@ read-size s t _ w (of_device rest mark filled) = refl
 read-size s t _ w (of_unc rest mark filled no_verbatim no_device) = names-size Either 2 t rest refl mark.dropped mark.size filled
 read-size s t _ w (of_disk letter drives) = refl
 
+-- the same, by the prefix of the text
 pub prefix-size : (t : List ℕ) (f : Found) → prefix_of windows t ≡ Some f → IsSize f.prefix t f.length
 prefix-size t f is = read-size (separators windows t) t f (separators-windows t) (prefix-read t f is)
 
@@ -86,6 +89,7 @@ pub record IsGrown (p : Prefix) (t : List ℕ) (a b : ℕ) : Type 0 where
   pub no_drive : is_disk p ≡ false
   pub unended : IsUnended t
 
+-- two sizes of one server and share
 shared-sizes : (k : ℕ) (server share t u : List ℕ) (a b : ℕ) → IsShared k server share t a ⊎ IsAlone k server share t a → IsShared k server share u b ⊎ IsAlone k server share u b → a ≤ length u
     → (b ≡ a) ⊎ ((a ≡ length t) × (b ≡ suc a) × IsUnended t)
 shared-sizes k server share t u a b (inl one) (inl other) within = inl (omega (arith, one.long, other.long))

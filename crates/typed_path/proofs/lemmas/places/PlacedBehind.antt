@@ -18,6 +18,7 @@ with_implied_root-headless [] headless = refl
 with_implied_root-headless (prefix p ∷ ks) headless = cc
 with_implied_root-headless (k ∷ ks) headless = refl
 
+-- a list begins with a root as it did before
 begins_with_root-append : (ks ls : List Kind) → no_heads ls ≡ true → begins_with_root (ks ++ ls) ≡ begins_with_root ks
 begins_with_root-append [] ls headless = no_heads-relative ls headless
 begins_with_root-append (root ∷ ks) ls headless = refl

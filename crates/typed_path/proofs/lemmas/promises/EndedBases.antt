@@ -53,6 +53,7 @@ pub disk_alone-disk : (p : Prefix) (ks : List Kind) → is_disk_alone (prefix p 
 disk_alone-disk (disk letter) ks e = refl
 disk_alone-disk p ks e = cc
 
+-- a prefix alone that is no drive alone is no drive
 prefix_alone-disk : (p : Prefix) → is_disk_alone (prefix p ∷ []) ≡ false → is_disk p ≡ false
 prefix_alone-disk (disk letter) e = cc
 prefix_alone-disk p e = refl
@@ -76,6 +77,7 @@ disk_alone-some : (base : List ℕ) (f : Found) → prefix_of windows base ≡ S
     → is_disk_alone (kinds (parts_of windows base)) ≡ is_disk_alone (prefix f.prefix ∷ kinds (body_parts (separators windows base) (drop f.length base)))
 disk_alone-some base f is = ap (λ ps. is_disk_alone (kinds ps)) (parts_of-some base f is)
 
+-- what is put behind a base is put behind what stands behind its prefix
 behind-ending : (base mid : List ℕ) (f : Found) → prefix_of windows base ≡ Some f → Ending base mid → Behind f.prefix (drop f.length base) mid
 behind-ending base mid f is ending = by (drop f.length base) refl mid ending
   where
@@ -98,12 +100,14 @@ behind-ending base mid f is ending = by (drop f.length base) refl mid ending
 abbrev mark : List ℕ
 mark = backslash ∷ backslash ∷ question ∷ backslash ∷ []
 
+-- less than three bytes of it are no prefix
 mark-front : (n : ℕ) (f : Found) → n < 3 → prefix_of windows (take n mark) ≡ Some f → ⊥
 mark-front zero f less is = cc
 mark-front (suc zero) f less is = cc
 mark-front (suc (suc zero)) f less is = cc
 mark-front (suc (suc (suc n))) f less is = omega arith
 
+-- behind three of its bytes stands a separator
 mark-last : (base mid path : List ℕ) → base ++ (mid ++ path) ≡ mark → 3 ≤ length base → 0 < length path → path ≡ backslash ∷ []
 mark-last base [] path e long filled =
     let size : length base ≡ 3 = omega (arith, ap length e, length-append base path) in
@@ -115,17 +119,20 @@ module _ (path : List ℕ) (faultless : IsFaultless path) where
   place-first : (ps : List Part) → place_of (ps ++ body_parts Either path) ≡ place_of ps ++ kinds (resolve (body_parts Either path))
   place-first ps = place_of-append ps (body_parts Either path) faultless.closed (no_heads-resolve (body_parts Either path) faultless.headless)
 
+  -- nor does it resolve to a prefix or a root
   later-headless : no_heads (kinds (resolve (later_parts Either (pieces Either path)))) ≡ true
   later-headless =
       let alike = body_parts-alike Either path (no_heads-relative (kinds (body_parts Either path)) faultless.headless) in
       ap (λ rs. no_heads (kinds rs)) (sym alike.resolves) ∙ no_heads-resolve (body_parts Either path) faultless.headless
 
+  -- the same, read later
   place-later : (ps : List Part) → place_of (ps ++ later_parts Either (pieces Either path)) ≡ place_of ps ++ kinds (resolve (body_parts Either path))
   place-later ps =
       let alike = body_parts-alike Either path (no_heads-relative (kinds (body_parts Either path)) faultless.headless) in
       place_of-append ps (later_parts Either (pieces Either path)) (sym (alike.draws zero) ∙ faultless.closed) later-headless
       ∙ ap (λ rs. place_of ps ++ kinds rs) (sym alike.resolves)
 
+  -- the same, behind a text that ends with a separator or gets one
   place-joined : (ps : List Part) (text mid : List ℕ) → Joined text mid → place_of (ps ++ body_parts Either (text ++ (mid ++ path))) ≡ place_of (ps ++ body_parts Either text) ++ kinds (resolve (body_parts Either path))
   place-joined ps text mid ending =
       ap (λ qs. place_of (ps ++ qs)) (body_parts-joined Either text mid path refl ending)

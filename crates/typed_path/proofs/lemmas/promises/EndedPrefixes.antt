@@ -63,6 +63,7 @@ third-separates a b c text two none =
 
 -- a text with a path put behind it that begins with no separator
 module _ (b : ℕ) (path : List ℕ) (plain : is_separator Either b ≡ false) where
+  -- a base of one byte
   one-joined : (c : ℕ) (mid : List ℕ) → keeps_by_prefix (c ∷ []) None ≡ true → is_disk_alone (kinds (parts_of windows (c ∷ []))) ≡ false → Ending (c ∷ []) mid → prefix_of windows (c ∷ [] ++ (mid ++ b ∷ path)) ≡ None
   one-joined c _ kept no_drive (empty e) = cc
   one-joined c _ kept no_drive (ended front e) =
@@ -78,6 +79,7 @@ module _ (b : ℕ) (path : List ℕ) (plain : is_separator Either b ≡ false) w
       prefix-apart c backslash (b ∷ path) (and_left (is_separator Either c) true alone)
       ∙ ap (option_and_then (λ l. Some (found (disk l) 2))) (cond-false (is_drive_letter c && backslash == colon) (Some (to_upper c)) None (and_right (is_drive_letter c) false refl))
 
+  -- a base of two bytes or more
   two-joined : (c d : ℕ) (rest mid : List ℕ) → prefix_of windows (c ∷ d ∷ rest) ≡ None → keeps_by_prefix (c ∷ d ∷ rest) None ≡ true → is_disk_alone (kinds (parts_of windows (c ∷ d ∷ rest))) ≡ false → Ending (c ∷ d ∷ rest) mid
       → prefix_of windows (c ∷ d ∷ rest ++ (mid ++ b ∷ path)) ≡ None
   two-joined c d rest mid is kept no_drive ending = elim (cases_Bool (is_separator Either c && is_separator Either d)) [

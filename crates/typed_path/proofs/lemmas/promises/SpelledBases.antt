@@ -72,6 +72,7 @@ pub data Rest : List Part → List ℕ → Type 0 where
   from_root : (p : Part) (ps : List Part) → begins_with_root (p.kind ∷ []) ≡ true → Rest (p ∷ ps) (spelled (p ∷ ps))
   from_other : (p : Part) (ps : List Part) → begins_with_root (p.kind ∷ []) ≡ false → Rest (p ∷ ps) (backslash ∷ spelled (p ∷ ps))
 
+-- before a root stands no separator
 joint-root : (k l : Kind) → begins_with_root (l ∷ []) ≡ true → joint k l ≡ []
 joint-root root root e = refl
 joint-root k root e = refl
@@ -139,9 +140,11 @@ module _ (base path : List ℕ) (f : Found) (is : prefix_of windows base ≡ Som
   abbrev pub added_parts : List Part
   added_parts = resolve (body_parts Either path)
 
+  -- it adds no prefix and no root
   added-headless : no_heads (kinds added_parts) ≡ true
   added-headless = no_heads-resolve (body_parts Either path) faultless.headless
 
+  -- and what it adds may stand later in a text of these separators
   added-later : AllByRecursion (IsLaterPart (separators windows base)) added_parts
   added-later =
       names-later (separators windows base) added_parts (each-written Either added_parts (resolve-read Either (body_parts Either path) (body_parts-read Either path)))
@@ -162,6 +165,7 @@ module _ (base path : List ℕ) (f : Found) (is : prefix_of windows base ≡ Som
         behind.2,
       )
 
+  -- the raw prefix is as long as the prefix
   raw-length : length (take f.length base) ≡ f.length
   raw-length = length-take-le f.length base (prefix-fits windows base f is).fits
 

@@ -47,6 +47,7 @@ parts_of-plain t f is plain = parts_of-some t f is ∙ ap (λ b. parts_behind (i
 pub verbatim-some : (t : List ℕ) (f : Found) → prefix_of windows t ≡ Some f → has_any_verbatim_prefix (kinds (parts_of windows t)) ≡ is_verbatim_prefix f.prefix
 verbatim-some t f is = ap (λ ps. has_any_verbatim_prefix (kinds ps)) (parts_of-some t f is)
 
+-- without one it does not
 pub verbatim-none : (t : List ℕ) → prefix_of windows t ≡ None → has_any_verbatim_prefix (kinds (parts_of windows t)) ≡ false
 verbatim-none t none = ap (λ ps. has_any_verbatim_prefix (kinds ps)) (parts_of-none t none) ∙ by (body_parts Either t) (body_parts-read Either t)
   where
