@@ -1,6 +1,10 @@
 -- What changes a path.
 pub mod JoinLemmas
+pub mod EndedLemmas
+pub mod SpellLemmas
+pub mod MergeLemmas
 pub mod FaultLemmas
+pub mod FaultlessLemmas
 pub mod AllowedLemmas
 pub mod NameSpans
 pub mod RunLemmas

@@ -1,5 +1,6 @@
 -- Where a path leads.
 pub mod ResolveLemmas
+pub mod PlacedBehind
 pub mod SettleLemmas
 pub mod RowLemmas
 pub mod RowSteps

@@ -1,7 +1,8 @@
 //! The laws of single values of Windows.
 
 ghost use Rattle.std.specs.Prelude.{◌≡◌, ◌↔◌, true, IfSome, [], ◌∷◌, ◌++◌, codes, map};
-ghost use Rattle.typed_path.specs.components.Dialect.{dot, slash, backslash};
+ghost use Rattle.typed_path.specs.components.Dialect.{windows, dot, slash, backslash};
+ghost use Rattle.typed_path.specs.promises.Promises.{IsContained, KeepsPrefix};
 ghost use Rattle.typed_path.specs.components.Part.{prefix};
 ghost use Rattle.typed_path.specs.queries.Queries.{prefix_in, reserved_names};
 ghost use Rattle.typed_path.specs.order.Same.{kind_cmp};
@@ -16,6 +17,17 @@ use crate::constants::windows::{
 };
 use crate::windows::{WindowsComponent, WindowsPrefix, WindowsPrefixComponent};
 use std::hash::Hash;
+
+/// A path that is not refused, pushed onto a base of Windows, stays within the base's place, where
+/// the prefix stays.
+pub fn windows_pushes_stay_within(base: &[u8], path: &[u8])
+    ensures { IsContained windows base.now path.now }
+{}
+
+/// A listed base keeps its prefix under a push of a path that is not refused.
+pub fn windows_pushes_keep_prefix(base: &[u8], path: &[u8])
+    ensures { KeepsPrefix windows base.now path.now }
+{}
 
 /// The constants of Windows have these values.
 pub fn windows_constants_are_these()

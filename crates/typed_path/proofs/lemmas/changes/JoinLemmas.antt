@@ -33,7 +33,7 @@ body_parts-append s front b rest separates = filled front ∙ parted
         rw (slice_split-append (is_separator s) front b rest separates, some.2) (first_parts-append s some.0 some.1 (pieces s rest))
 
 -- a text is what stands before its last byte, and that byte
-but_last : (text : List ℕ) → (length text == 0) ≡ false → text ≡ take (length text - 1) text ++ slice_index text (length text - 1) ∷ []
+pub but_last : (text : List ℕ) → (length text == 0) ≡ false → text ≡ take (length text - 1) text ++ slice_index text (length text - 1) ∷ []
 but_last text filled =
     let above : 0 < length text = grind (arith, eqb-false) in
     let whole : length text - 1 + 1 ≡ length text = omega arith in
@@ -44,10 +44,15 @@ body_parts-separator : (s : Separators) (front : List ℕ) (b : ℕ) → is_sepa
 body_parts-separator s front b separates = body_parts-append s front b [] separates ∙ append-nil (first_parts s (pieces s front))
 
 -- what is put behind a text and a separator is read as later pieces
-body_parts-behind : (s : Separators) (b : ℕ) (base rest : List ℕ) → is_separator s b ≡ true → (length base == 0) ≡ false
+pub body_parts-behind : (s : Separators) (b : ℕ) (base rest : List ℕ) → is_separator s b ≡ true → (length base == 0) ≡ false
     → body_parts s ((base ++ b ∷ []) ++ rest) ≡ body_parts s base ++ later_parts s (pieces s rest)
 body_parts-behind s b [] rest separates filled = cc
 body_parts-behind s b (c ∷ cs) rest separates filled = rw (append_assoc cs (b ∷ []) rest) (body_parts-append s (c ∷ cs) b rest separates)
+
+-- what is put behind a text that ends with a separator is read as later pieces
+pub body_parts-more : (s : Separators) (b : ℕ) (front rest : List ℕ) → is_separator s b ≡ true → body_parts s ((front ++ b ∷ []) ++ rest) ≡ body_parts s (front ++ b ∷ []) ++ later_parts s (pieces s rest)
+body_parts-more s b front rest separates =
+    rw (append_assoc front (b ∷ []) rest) (body_parts-append s front b rest separates ∙ ap (λ ps. ps ++ later_parts s (pieces s rest)) (sym (body_parts-separator s front b separates)))
 
 -- what is put behind a text, once that ends with a separator, is read as later pieces
 pub body_parts-ended : (s : Separators) (b : ℕ) (base rest : List ℕ) → is_separator s b ≡ true → (length base == 0) ≡ false
@@ -55,11 +60,7 @@ pub body_parts-ended : (s : Separators) (b : ℕ) (base rest : List ℕ) → is_
 body_parts-ended s b base rest separates filled =
     rw filled (cond_both (slice_index base (length base - 1) == b) base (base ++ b ∷ []) (λ text. body_parts s (text ++ rest) ≡ body_parts s base ++ later_parts s (pieces s rest)) ends (λ no_end. body_parts-behind s b base rest separates filled))
   where
-    ended : (front : List ℕ) → body_parts s ((front ++ b ∷ []) ++ rest) ≡ body_parts s (front ++ b ∷ []) ++ later_parts s (pieces s rest)
-    ended front =
-        rw (append_assoc front (b ∷ []) rest) (body_parts-append s front b rest separates ∙ ap (λ ps. ps ++ later_parts s (pieces s rest)) (sym (body_parts-separator s front b separates)))
-
     ends : (slice_index base (length base - 1) == b) ≡ true → body_parts s (base ++ rest) ≡ body_parts s base ++ later_parts s (pieces s rest)
     ends last =
         let whole : base ≡ take (length base - 1) base ++ b ∷ [] = but_last base filled ∙ ap (λ c. take (length base - 1) base ++ c ∷ []) (eqb-true _ b last) in
-        subst (λ text. body_parts s (text ++ rest) ≡ body_parts s text ++ later_parts s (pieces s rest)) (sym whole) (ended (take (length base - 1) base))
+        subst (λ text. body_parts s (text ++ rest) ≡ body_parts s text ++ later_parts s (pieces s rest)) (sym whole) (body_parts-more s b (take (length base - 1) base) rest separates)

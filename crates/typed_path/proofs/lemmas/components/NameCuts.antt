@@ -20,7 +20,7 @@ prefix_len-take q (suc m) (x ∷ xs) = by (q x) (prefix_len-take q m xs)
 
 module _ (s : Separators) where
   -- a name is as long as the place where it ends
-  name-length : (text : List ℕ) → length (name s text) ≡ position_or_len (is_separator s) text
+  pub name-length : (text : List ℕ) → length (name s text) ≡ position_or_len (is_separator s) text
   name-length text = omega (arith, length-take (position_or_len (is_separator s) text) text, prefix_len-le-length (λ b. not (is_separator s b)) text)
 
   -- where a text is cut, its name ends there at the latest

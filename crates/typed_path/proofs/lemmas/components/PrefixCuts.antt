@@ -12,7 +12,7 @@ use Rattle.typed_path.proofs.lemmas.components.NameCuts.{name-filled, name-take,
 use Rattle.typed_path.proofs.lemmas.components.MarkLemmas.{ReadsMark, IsFront, after_mark-reads, after_unc-reads, after_two-reads, both-read, drive-take, drive-none}
 
 -- what no value unless a test holds tells
-unless-none : {A : Type 0} (b : Bool) (x : A) → (if b then None else Some x) ≡ None → b ≡ true
+pub unless-none : {A : Type 0} (b : Bool) (x : A) → (if b then None else Some x) ≡ None → b ≡ true
 unless-none true x e = refl
 unless-none false x e = cc
 

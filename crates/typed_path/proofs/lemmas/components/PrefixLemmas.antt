@@ -33,28 +33,28 @@ after_four-size : (p q r s : ℕ → Bool) (text rest : List ℕ) → after_four
 after_four-size p q r s (a ∷ b ∷ c ∷ d ∷ text) rest e = omega (arith, ap length (where-some _ text rest e).1)
 after_four-size p q r s text rest e = cc
 
-after_mark-size : (sign : ℕ) (text rest : List ℕ) → after_mark sign text ≡ Some rest → length text ≡ 4 + length rest
+pub after_mark-size : (sign : ℕ) (text rest : List ℕ) → after_mark sign text ≡ Some rest → length text ≡ 4 + length rest
 after_mark-size sign text rest e = after_four-size (is_separator Either) (is_separator Either) (λ b. b == sign) (is_separator Either) text rest e
 
-after_unc-size : (s : Separators) (text rest : List ℕ) → after_unc s text ≡ Some rest → length text ≡ 4 + length rest
+pub after_unc-size : (s : Separators) (text rest : List ℕ) → after_unc s text ≡ Some rest → length text ≡ 4 + length rest
 after_unc-size s text rest e = after_four-size (λ b. b == 85) (λ b. b == 78) (λ b. b == 67) (is_separator s) text rest e
 
 -- two separators are two bytes
-after_two-size : (text rest : List ℕ) → after_two text ≡ Some rest → length text ≡ 2 + length rest
+pub after_two-size : (text rest : List ℕ) → after_two text ≡ Some rest → length text ≡ 2 + length rest
 after_two-size (a ∷ b ∷ text) rest e = omega (arith, ap length (where-some _ text rest e).1)
 after_two-size text rest e = cc
 
 -- a drive is two bytes
-drive-size : (text : List ℕ) (letter : ℕ) → drive text ≡ Some letter → 2 ≤ length text
+pub drive-size : (text : List ℕ) (letter : ℕ) → drive text ≡ Some letter → 2 ≤ length text
 drive-size (a ∷ b ∷ text) letter e = omega arith
 drive-size text letter e = cc
 
 -- a name is no longer than its text
-name-fits : (s : Separators) (text : List ℕ) → length (name s text) ≤ length text
+pub name-fits : (s : Separators) (text : List ℕ) → length (name s text) ≤ length text
 name-fits s text = omega (arith, length-take (position_or_len (is_separator s) text) text)
 
 -- nor are two names with the separator between them
-names-fit : (s : Separators) (text : List ℕ) → names_length s text ≤ length text
+pub names-fit : (s : Separators) (text : List ℕ) → names_length s text ≤ length text
 names-fit s text =
     let p = is_separator s in
     let inside = prefix_len-le-length (λ b. not (p b)) text in

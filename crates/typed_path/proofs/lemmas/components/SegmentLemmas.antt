@@ -86,7 +86,7 @@ module _ (s : Separators) (at x : ℕ) (separates : is_separator s x ≡ true) w
 
 module _ (s : Separators) (x : ℕ) (separates : is_separator s x ≡ true) where
   -- the first segment ends before a separator, whatever stands behind that
-  position-append : (us vs : List ℕ) → position_or_len (is_separator s) (us ++ x ∷ vs) ≡ position_or_len (is_separator s) us
+  pub position-append : (us vs : List ℕ) → position_or_len (is_separator s) (us ++ x ∷ vs) ≡ position_or_len (is_separator s) us
   position-append [] vs = ap (λ b. cond b (1 + position_or_len (is_separator s) vs) 0) (not_from_true (is_separator s x) separates)
   position-append (u ∷ us) vs = ap (λ n. cond (not (is_separator s u)) (1 + n) 0) (position-append us vs)
 

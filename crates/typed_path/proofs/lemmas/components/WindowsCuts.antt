@@ -14,11 +14,11 @@ use Rattle.typed_path.proofs.lemmas.components.PrefixLemmas.{and_then-some, unle
 use Rattle.typed_path.proofs.lemmas.components.PrefixCuts.{IsBehind, prefix_by, prefix-keeps}
 
 -- a text that is read verbatim is its first four bytes, and a rest
-verbatim_text : (text : List ℕ) → begins_verbatim text ≡ true → text ≡ backslash ∷ backslash ∷ question ∷ backslash ∷ drop 4 text
+pub verbatim_text : (text : List ℕ) → begins_verbatim text ≡ true → text ≡ backslash ∷ backslash ∷ question ∷ backslash ∷ drop 4 text
 verbatim_text text h = (starts_is Decides-eqb text (backslash ∷ backslash ∷ question ∷ backslash ∷ []) true (sym h)).0 refl
 
 -- a text cut behind its first four bytes is read verbatim where the whole text is
-verbatim-take : (text : List ℕ) (e : ℕ) → 4 ≤ e → begins_verbatim (take e text) ≡ begins_verbatim text
+pub verbatim-take : (text : List ℕ) (e : ℕ) → 4 ≤ e → begins_verbatim (take e text) ≡ begins_verbatim text
 verbatim-take text e h = ap (pointwise nat_eq (backslash ∷ backslash ∷ question ∷ backslash ∷ [])) (take-take 4 e text h)
 
 -- a text that is not read verbatim is not where it is cut
@@ -29,7 +29,7 @@ plain-take text e plain = elim (cases_lt e 4) [
 ]
 
 -- a value is not none
-not_none : {A : Type 0} (x : A) → Some x ≡ None → ⊥
+pub not_none : {A : Type 0} (x : A) → Some x ≡ None → ⊥
 not_none x e = cc
 
 -- the first of two cases that holds is long where both are
@@ -38,16 +38,16 @@ or-long None p f first rest e = rest f e
 or-long (Some g) p f first rest e = first f e
 
 -- where neither of two cases holds the second does not
-or-none : {A : Type 0} (o p : Option A) → option_or o p ≡ None → p ≡ None
+pub or-none : {A : Type 0} (o p : Option A) → option_or o p ≡ None → p ≡ None
 or-none None p e = e
 or-none (Some x) p e = cc
 
 -- a text that is read verbatim with more behind its mark has a verbatim name
-verbatim-some : (b : ℕ) (bs : List ℕ) → verbatim_case Backslash (backslash ∷ backslash ∷ question ∷ backslash ∷ b ∷ bs) ≡ Some (found (verbatim (name Backslash (b ∷ bs))) (4 + length (name Backslash (b ∷ bs))))
+pub verbatim-some : (b : ℕ) (bs : List ℕ) → verbatim_case Backslash (backslash ∷ backslash ∷ question ∷ backslash ∷ b ∷ bs) ≡ Some (found (verbatim (name Backslash (b ∷ bs))) (4 + length (name Backslash (b ∷ bs))))
 verbatim-some b bs = cond-false (is_empty (b ∷ bs)) None (Some (found (verbatim (name Backslash (b ∷ bs))) (4 + length (name Backslash (b ∷ bs))))) (ne_eqb _ 0 (λ none. omega arith))
 
 -- a text that is read verbatim has a prefix of four bytes or more
-verbatim-long : (rest : List ℕ) (f : Found) → prefix_of windows (backslash ∷ backslash ∷ question ∷ backslash ∷ rest) ≡ Some f → 4 ≤ f.length
+pub verbatim-long : (rest : List ℕ) (f : Found) → prefix_of windows (backslash ∷ backslash ∷ question ∷ backslash ∷ rest) ≡ Some f → 4 ≤ f.length
 verbatim-long [] f e = let size : 4 ≡ f.length = ap (λ g. g.length) (some_is e) in omega arith
 verbatim-long (b ∷ bs) f e =
     or-long (verbatim_unc_case Backslash text) _ f unc_long (λ h. or-long (verbatim_disk_case text) _ h disk_long third) e
@@ -101,9 +101,10 @@ same-found text e f is behind = same_from text e (by (cases_Bool (begins_verbati
         verbatim-take text e (omega (arith, verbatim-long (drop 4 text) f (ap (prefix_of windows) (sym (verbatim_text text marked)) ∙ is)))
     by (inr plain) = plain-take text e plain ∙ sym plain
 
+-- a text without a prefix is not read verbatim
+pub plain-none : (text : List ℕ) → prefix_of windows text ≡ None → begins_verbatim text ≡ false
+plain-none text is = false_from_ne_true _ (λ marked. verbatim-found (drop 4 text) (ap (prefix_of windows) (sym (verbatim_text text marked)) ∙ is))
+
 -- they stay where the text has no prefix
 pub same-none : (text : List ℕ) (e : ℕ) → prefix_of windows text ≡ None → SamePrefix text e
-same-none text e is = same_from text e (plain-take text e plain ∙ sym plain) ((prefix-keeps (separators windows text) text e).none is ∙ sym is)
-  where
-    plain : begins_verbatim text ≡ false
-    plain = false_from_ne_true _ (λ marked. verbatim-found (drop 4 text) (ap (prefix_of windows) (sym (verbatim_text text marked)) ∙ is))
+same-none text e is = same_from text e (plain-take text e (plain-none text is) ∙ sym (plain-none text is)) ((prefix-keeps (separators windows text) text e).none is ∙ sym is)

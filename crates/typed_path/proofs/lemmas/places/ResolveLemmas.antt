@@ -35,7 +35,7 @@ resolve-kept (p ∷ ps) =
     (resolve-kept ps)
 
 -- a list of prefixes, roots and names holds no parent that overdraws
-overdraws-kept : (names : ℕ) (ps : List Part) → AllByRecursion IsKept ps → overdraws names (kinds ps) ≡ false
+pub overdraws-kept : (names : ℕ) (ps : List Part) → AllByRecursion IsKept ps → overdraws names (kinds ps) ≡ false
 overdraws-kept names [] each = refl
 overdraws-kept names (p ∷ ps) each = by p.kind each.0 (λ n. overdraws-kept n ps each.1)
   where

@@ -1,0 +1,245 @@
+-- A prefix stays where its text is cut behind it and something put apart behind that.
+use Rattle.std.proofs.Common.{◌≡◌, ℕ, ◌+◌, ◌<◌, ◌≤◌, ◌==◌, Bool, true, false, ◌&&◌, nat_eq, if◌then◌else◌, List, [], ◌∷◌, ◌++◌, codes, length, take, Option, Some, None, option_and_then, refl, sym, ap, ◌∙◌, le_refl, length-append, length-take, arith}
+use Rattle.std.specs.Option.{option_or}
+use Rattle.std.specs.Str.{bytes_eq}
+use Rattle.std.proofs.lemmas.Bool.{cond-false, eqb-true, ne_eqb, both_ways, not-true, and_parts}
+use Rattle.std.proofs.lemmas.List.{nil_from_length, take-append-le, take-take}
+use Rattle.std.specs.Cmp.Lexicographic.{pointwise}
+use Rattle.typed_path.specs.declared.scan.separators.Separators.{Separators}
+use Rattle.typed_path.specs.declared.scan.separators.Separators.TheVariants.{Slash, Backslash, Either}
+use Rattle.typed_path.specs.components.Dialect.{windows, separators, begins_verbatim, is_separator, backslash, question, dot, colon}
+use Rattle.typed_path.specs.queries.Queries.{is_disk}
+use Rattle.typed_path.specs.promises.Promises.{keeps_by_prefix}
+use Rattle.typed_path.specs.components.Part.{Prefix, verbatim, verbatim_unc, verbatim_disk, device_ns, unc}
+use Rattle.typed_path.specs.components.Prefix.{Found, found, is_empty, is_drive_letter, to_upper, drive, after_two, after_mark, after_unc, name, second_name, names_length, verbatim_case, device_case, unc_case, disk_case, prefix_of}
+use Rattle.typed_path.proofs.lemmas.components.PrefixLemmas.{where-some, name-fits, names-fit, prefix-fits}
+use Rattle.typed_path.proofs.lemmas.components.ReadLemmas.{Read, of_verbatim_unc, of_verbatim_disk, of_verbatim, of_device, of_unc, of_disk, prefix-read}
+use Rattle.typed_path.proofs.lemmas.components.PrefixCuts.{prefix_by, unless-none}
+use Rattle.typed_path.proofs.lemmas.components.MarkLemmas.{after_mark-reads, after_unc-reads, after_two-reads, both-read, drive-take, drive-none}
+use Rattle.typed_path.proofs.lemmas.components.ApartLemmas.{Apart, names-long, name-recut, names-recut, apart-either, Extends, after_two-extends, after_four-extends, after_four-tests, after_four-none, both-extend, mark-recut, drive-extends, drive-apart}
+
+-- what the cases make of what stands behind their marks
+abbrev pub share_made : (List ℕ → List ℕ → Prefix) → ℕ → Separators → List ℕ → Option Found
+share_made make k s rest = if is_empty (name s rest) then None else Some (found (make (name s rest) (second_name s rest)) (k + names_length s rest))
+
+abbrev verbatim_made : Separators → List ℕ → Option Found
+verbatim_made s rest = if is_empty rest then None else Some (found (verbatim (name s rest)) (4 + length (name s rest)))
+
+abbrev pub device_made : List ℕ → Option Found
+device_made rest = if is_empty (name Either rest) then None else Some (found (device_ns (name Either rest)) (4 + length (name Either rest)))
+
+abbrev disk_made : ℕ → Option Found
+disk_made letter = Some (found (verbatim_disk letter) 6)
+
+-- the first of two cases that holds
+first-some : (o p : Option Found) (f : Found) → o ≡ Some f → option_or o p ≡ Some f
+first-some o p f is = ap (λ q. option_or q p) is
+
+-- or the second
+pub first-none : (o p r : Option Found) → o ≡ None → p ≡ r → option_or o p ≡ r
+first-none o p r is e = ap (λ q. option_or q p) is ∙ e
+
+-- what no value tells: each value is impossible
+pub none_from : {A : Type 0} (o : Option A) → ((x : A) → o ≡ Some x → ⊥) → o ≡ None
+none_from {A = A} o never = by o refl
+  where
+    by : (p : Option A) → o ≡ p → p ≡ None
+    by None e = refl
+    by (Some x) e = absurd (never x e)
+
+-- a mark is read where more stands behind it
+mark-extends : (sign : ℕ) → Extends (after_mark sign)
+mark-extends sign = after_four-extends (is_separator Either) (is_separator Either) (λ b. b == sign) (is_separator Either)
+
+-- so is `UNC` with its separator
+unc-extends : (s : Separators) → Extends (after_unc s)
+unc-extends s = after_four-extends (λ b. b == 85) (λ b. b == 78) (λ b. b == 67) (is_separator s)
+
+-- what stands behind a mark, once the text is cut and has more put behind it
+mark-again : (sign m : ℕ) (text rest x : List ℕ) → after_mark sign text ≡ Some rest → after_mark sign (take (4 + m) text ++ x) ≡ Some (take m rest ++ x)
+mark-again sign m text rest x is = mark-recut 4 (after_mark sign) (after_mark-reads sign) (mark-extends sign) m text rest x is
+
+-- a text whose first name ends with a separator behind `UNC` has that name
+after_unc-name : (s : Separators) (text rest : List ℕ) → after_unc s text ≡ Some rest → name s text ≡ codes "UNC"
+after_unc-name s (a ∷ b ∷ c ∷ d ∷ text) rest is =
+    let tests = after_four-tests (λ b. b == 85) (λ b. b == 78) (λ b. b == 67) (is_separator s) a b c d text rest is in
+    (λ i. name s (eqb-true a 85 tests.0 i ∷ eqb-true b 78 tests.1 i ∷ eqb-true c 67 tests.2 i ∷ d ∷ text)) ∙ by s tests.3
+  where
+    by : (s : Separators) → is_separator s d ≡ true → name s (85 ∷ 78 ∷ 67 ∷ d ∷ text) ≡ codes "UNC"
+    by Slash h = rw h refl
+    by Backslash h = rw h refl
+    by Either h = rw h refl
+after_unc-name s text rest is = cc
+
+-- a drive has a colon behind its letter
+pub drive-letter : (a b : ℕ) (text : List ℕ) (letter : ℕ) → drive (a ∷ b ∷ text) ≡ Some letter → (is_drive_letter a ≡ true) × (b ≡ 58) × (to_upper a ≡ letter)
+drive-letter a b text letter is =
+    let some = where-some (is_drive_letter a && b == colon) (to_upper a) letter is in
+    let tests = and_parts (is_drive_letter a) (b == colon) some.0 in
+    (tests.0, eqb-true b 58 tests.1, some.1)
+
+-- a drive is not `UNC`
+drive-no_unc : (s : Separators) (text : List ℕ) (letter : ℕ) → drive text ≡ Some letter → after_unc s text ≡ None
+drive-no_unc s (a ∷ b ∷ c ∷ d ∷ text) letter is = none_from _ (λ rest found.
+    let tests = after_four-tests (λ b. b == 85) (λ b. b == 78) (λ b. b == 67) (is_separator s) a b c d text rest found in
+    omega (arith, eqb-true b 78 tests.1, (drive-letter a b (c ∷ d ∷ text) letter is).1))
+drive-no_unc s text letter is = refl
+
+-- a mark has one sign
+pub marks-differ : (text rest : List ℕ) → after_mark dot text ≡ Some rest → after_mark question text ≡ None
+marks-differ (a ∷ b ∷ c ∷ d ∷ text) rest is = none_from _ (λ other found.
+    let one = after_four-tests (is_separator Either) (is_separator Either) (λ b. b == dot) (is_separator Either) a b c d text rest is in
+    let two = after_four-tests (is_separator Either) (is_separator Either) (λ b. b == question) (is_separator Either) a b c d text other found in
+    omega (arith, eqb-true c 46 one.2, eqb-true c 63 two.2))
+marks-differ text rest is = refl
+
+-- a text without a question mark has no verbatim prefix
+pub unmarked : (s : Separators) (t : List ℕ) → after_mark question t ≡ None → prefix_by s t ≡ option_or (device_case t) (option_or (unc_case t) (disk_case t))
+unmarked s t none =
+    first-none _ _ _ (ap (λ o. option_and_then (share_made verbatim_unc 8 s) (option_and_then (after_unc s) o)) none)
+    (first-none _ _ _ (ap (λ o. option_and_then disk_made (option_and_then drive o)) none)
+    (first-none _ _ _ (ap (option_and_then (verbatim_made s)) none) refl))
+
+module _ (s : Separators) (text x : List ℕ) (apart : Apart s x) where
+  -- the verbatim share
+  verbatim_unc-again : (rest : List ℕ) → option_and_then (after_unc s) (after_mark question text) ≡ Some rest → is_empty (name s rest) ≡ false → is_empty (second_name s rest) ≡ false
+      → prefix_by s (take (8 + names_length s rest) text ++ x) ≡ Some (found (verbatim_unc (name s rest) (second_name s rest)) (8 + names_length s rest))
+  verbatim_unc-again rest is filled shared =
+      let now = take (names_length s rest) rest ++ x in
+      let mark = mark-recut 8 (λ t. option_and_then (after_unc s) (after_mark question t)) (both-read 4 4 (after_mark question) (after_unc s) (after_mark-reads question) (after_unc-reads s))
+      (both-extend (after_mark question) (after_unc s) (mark-extends question) (unc-extends s)) (names_length s rest) text rest x is in
+      let names = names-recut s (names_length s rest) rest x apart (le_refl (names_length s rest)) shared in
+      first-some _ _ _
+      (ap (option_and_then (share_made verbatim_unc 8 s)) mark
+      ∙ cond-false (is_empty (name s now)) None _ (ap is_empty names.first ∙ filled)
+      ∙ (λ i. Some (found (verbatim_unc (names.first i) (names.second i)) (8 + names.size i))))
+
+  -- the verbatim drive
+  verbatim_disk-again : (rest : List ℕ) (letter : ℕ) → after_mark question text ≡ Some rest → drive rest ≡ Some letter → prefix_by s (take 6 text ++ x) ≡ Some (found (verbatim_disk letter) 6)
+  verbatim_disk-again rest letter is drives =
+      let now = take 2 rest ++ x in
+      let mark = mark-again question 2 text rest x is in
+      let again : drive now ≡ Some letter = drive-extends (take 2 rest) x letter (drive-take 2 rest (omega arith) ∙ drives) in
+      first-none _ _ _
+      (ap (λ o. option_and_then (share_made verbatim_unc 8 s) (option_and_then (after_unc s) o)) mark
+      ∙ ap (option_and_then (share_made verbatim_unc 8 s)) (drive-no_unc s now letter again))
+      (first-some _ _ _
+      (ap (λ o. option_and_then disk_made (option_and_then drive o)) mark
+      ∙ ap (option_and_then disk_made) again))
+
+  -- the verbatim name, unless it is `UNC`
+  verbatim-again : (rest : List ℕ) → after_mark question text ≡ Some rest → drive rest ≡ None → bytes_eq (name s rest) (codes "UNC") ≡ false → 0 < length (name s rest) + length x
+      → prefix_by s (take (4 + length (name s rest)) text ++ x) ≡ Some (found (verbatim (name s rest)) (4 + length (name s rest)))
+  verbatim-again rest is no_drive other some =
+      let m = length (name s rest) in
+      let now = take m rest ++ x in
+      let mark = mark-again question m text rest x is in
+      let same : name s now ≡ name s rest = name-recut s m rest x apart (le_refl m) in
+      let no_unc : after_unc s now ≡ None = none_from _ (λ r found.
+      let unc : bytes_eq (name s rest) (codes "UNC") ≡ true = ap (λ n. bytes_eq n (codes "UNC")) (sym same ∙ after_unc-name s now r found) in
+      both_ways _ other unc) in
+      let filled : is_empty now ≡ false = ne_eqb (length now) 0 (λ none. omega (arith, length-append (take m rest) x, length-take m rest, name-fits s rest)) in
+      first-none _ _ _ (ap (λ o. option_and_then (share_made verbatim_unc 8 s) (option_and_then (after_unc s) o)) mark ∙ ap (option_and_then (share_made verbatim_unc 8 s)) no_unc)
+      (first-none _ _ _
+      (ap (λ o. option_and_then disk_made (option_and_then drive o)) mark ∙ ap (option_and_then disk_made) (drive-apart s (take m rest) x apart (drive-none m rest no_drive)))
+      (first-some _ _ _
+      (ap (option_and_then (verbatim_made s)) mark
+      ∙ cond-false (is_empty now) None _ filled
+      ∙ ap (λ n. Some (found (verbatim n) (4 + length n))) same)))
+
+  -- the device
+  device-again : (rest : List ℕ) → after_mark dot text ≡ Some rest → is_empty (name Either rest) ≡ false
+      → prefix_by s (take (4 + length (name Either rest)) text ++ x) ≡ Some (found (device_ns (name Either rest)) (4 + length (name Either rest)))
+  device-again rest is filled =
+      let m = length (name Either rest) in
+      let whole = take (4 + m) text ++ x in
+      let now = take m rest ++ x in
+      let mark = mark-again dot m text rest x is in
+      let same : name Either now ≡ name Either rest = name-recut Either m rest x (apart-either s x apart) (le_refl m) in
+      unmarked s whole (marks-differ whole now mark)
+      ∙ first-some (device_case whole) (option_or (unc_case whole) (disk_case whole)) _
+      (ap (option_and_then device_made) mark
+      ∙ cond-false (is_empty (name Either now)) None _ (ap is_empty same ∙ filled)
+      ∙ ap (λ n. Some (found (device_ns n) (4 + length n))) same)
+
+  -- the share, where no mark is read before it
+  unc-again : (rest : List ℕ) → after_two text ≡ Some rest → is_empty (name Either rest) ≡ false → is_empty (second_name Either rest) ≡ false
+      → after_mark question text ≡ None → after_mark dot text ≡ None → 2 + names_length Either rest ≤ length text
+      → prefix_by s (take (2 + names_length Either rest) text ++ x) ≡ Some (found (unc (name Either rest) (second_name Either rest)) (2 + names_length Either rest))
+  unc-again rest is filled shared no_question no_dot fits =
+      let m = names_length Either rest in
+      let whole = take (2 + m) text ++ x in
+      let now = take m rest ++ x in
+      let mark = mark-recut 2 after_two after_two-reads after_two-extends m text rest x is in
+      let names = names-recut Either m rest x (apart-either s x apart) (le_refl m) shared in
+      let long : 4 ≤ 2 + m = omega (arith, names-long Either rest filled shared) in
+      unmarked s whole (after_four-none (is_separator Either) (is_separator Either) (λ b. b == question) (is_separator Either) (2 + m) text x long fits no_question)
+      ∙ first-none (device_case whole) (option_or (unc_case whole) (disk_case whole)) _
+      (ap (option_and_then device_made)
+      (after_four-none (is_separator Either) (is_separator Either) (λ b. b == dot) (is_separator Either) (2 + m) text x long fits no_dot))
+      (first-some (unc_case whole) (disk_case whole) _
+      (ap (option_and_then (share_made unc 2 Either)) mark
+      ∙ cond-false (is_empty (name Either now)) None _ (ap is_empty names.first ∙ filled)
+      ∙ (λ i. Some (found (unc (names.first i) (names.second i)) (2 + names.size i)))))
+
+-- the second name behind one byte and a separator
+second-behind : (s : Separators) (c d : ℕ) (text : List ℕ) → is_separator s c ≡ false → is_separator s d ≡ true → second_name s (c ∷ d ∷ text) ≡ name s text
+second-behind s c d text h k = rw (h, k) refl
+
+-- behind a mark stands the share of a server that is its sign
+marked-share : (sign : ℕ) (text rest other : List ℕ) → is_separator Either sign ≡ false → after_two text ≡ Some rest → after_mark sign text ≡ Some other → second_name Either rest ≡ name Either other
+marked-share sign (a ∷ b ∷ c ∷ d ∷ text) rest other plain two mark =
+    let tests = after_four-tests (is_separator Either) (is_separator Either) (λ e. e == sign) (is_separator Either) a b c d text other mark in
+    let behind = where-some (is_separator Either a && is_separator Either b) (c ∷ d ∷ text) rest two in
+    ap (second_name Either) (sym behind.1) ∙ second-behind Either c d text (ap (is_separator Either) (eqb-true c sign tests.2) ∙ plain) tests.3 ∙ ap (name Either) tests.4
+marked-share sign text rest other plain two mark = cc
+
+module _ (s : Separators) (text rest : List ℕ) (two : after_two text ≡ Some rest) (shared : is_empty (second_name Either rest) ≡ false) where
+  -- where a text was read as a share, it has no mark of a verbatim prefix
+  pub no_question : verbatim_case s text ≡ None → after_mark question text ≡ None
+  no_question none = none_from _ (λ other mark.
+      let empty = unless-none (is_empty other) _ (ap (option_and_then (verbatim_made s)) (sym mark) ∙ none) in
+      let nothing : other ≡ [] = nil_from_length other (eqb-true (length other) 0 empty) in
+      both_ways _ shared (ap is_empty (marked-share question text rest other refl two mark ∙ ap (name Either) nothing)))
+
+  -- nor that of a device
+  no_dot : device_case text ≡ None → after_mark dot text ≡ None
+  no_dot none = none_from _ (λ other mark.
+      let empty = unless-none (is_empty (name Either other)) _ (ap (option_and_then device_made) (sym mark) ∙ none) in
+      both_ways _ shared (ap is_empty (marked-share dot text rest other refl two mark) ∙ empty))
+
+-- a prefix that every path keeps behind its text
+abbrev pub is_firm : Prefix → Bool
+is_firm p = keeps_by_prefix [] (Some p)
+
+-- a prefix that is firm and no drive takes four bytes or more
+pub firm-long : (s : Separators) (text : List ℕ) (f : Found) → Read s text f → is_firm f.prefix ≡ true → is_disk f.prefix ≡ false → 4 ≤ f.length
+firm-long s text f (of_verbatim_unc rest mark filled) firm other = omega arith
+firm-long s text f (of_verbatim_disk rest letter mark drives) firm other = omega arith
+firm-long s text f (of_verbatim rest mark filled no_unc no_drive) firm other = omega arith
+firm-long s text f (of_device rest mark filled) firm other = omega arith
+firm-long s text f (of_unc rest mark filled no_verbatim no_device) firm other = let long = names-long Either rest filled (not-true _ firm) in omega arith
+firm-long s text f (of_disk letter drives) firm other = cc
+
+-- it is read again where its text is cut behind it and has something put apart behind that
+firm-again : (s : Separators) (text x : List ℕ) (f : Found) → Read s text f → is_firm f.prefix ≡ true → is_disk f.prefix ≡ false → Apart s x → 4 < f.length + length x → prefix_by s (take f.length text ++ x) ≡ Some f
+firm-again s text x f (of_verbatim_unc rest mark filled) firm other apart long = verbatim_unc-again s text x apart rest mark.marked filled (not-true _ firm)
+firm-again s text x f (of_verbatim_disk rest letter mark drives) firm other apart long = verbatim_disk-again s text x apart rest letter mark.marked drives
+firm-again s text x f (of_verbatim rest mark filled no_unc no_drive) firm other apart long = verbatim-again s text x apart rest mark.marked no_drive (not-true _ firm) (omega arith)
+firm-again s text x f (of_device rest mark filled) firm other apart long = device-again s text x apart rest mark.marked filled
+firm-again s text x f (of_unc rest mark filled no_verbatim no_device) firm other apart long =
+    let shared = not-true _ firm in
+    let size = mark.size in
+    unc-again s text x apart rest mark.marked filled shared (no_question s text rest mark.marked shared no_verbatim) (no_dot s text rest mark.marked shared no_device) (omega (arith, names-fit Either rest))
+firm-again s text x f (of_disk letter drives) firm other apart long = cc
+
+-- so the prefix stays, and with it the separators
+pub firm-stays : (text x : List ℕ) (f : Found) → prefix_of windows text ≡ Some f → is_firm f.prefix ≡ true → is_disk f.prefix ≡ false → Apart (separators windows text) x → 4 < f.length + length x
+    → prefix_of windows (take f.length text ++ x) ≡ Some f
+firm-stays text x f is firm other apart long =
+    let read = prefix-read text f is in
+    let four = firm-long (separators windows text) text f read firm other in
+    let fits = (prefix-fits windows text f is).fits in
+    let front : take 4 (take f.length text ++ x) ≡ take 4 text = take-append-le 4 (take f.length text) x (omega (arith, length-take f.length text)) ∙ take-take 4 f.length text four in
+    let same : begins_verbatim (take f.length text ++ x) ≡ begins_verbatim text = ap (pointwise nat_eq (backslash ∷ backslash ∷ question ∷ backslash ∷ [])) front in
+    ap (λ b. prefix_by (if b then Backslash else Either) (take f.length text ++ x)) same ∙ firm-again (separators windows text) text x f read firm other apart long
