@@ -4,6 +4,7 @@ mod component;
 mod components;
 mod encoding;
 mod prefix;
+mod push;
 mod readings;
 
 use crate::common::Path;

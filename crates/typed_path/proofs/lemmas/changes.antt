@@ -8,3 +8,4 @@ pub mod FaultlessLemmas
 pub mod AllowedLemmas
 pub mod NameSpans
 pub mod RunLemmas
+pub mod PushLemmas

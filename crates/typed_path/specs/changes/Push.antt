@@ -43,6 +43,11 @@ joint root l = []
 joint k root = []
 joint k l = backslash ∷ []
 
+-- what stands before a component, by the kind of the one before it, where there is one
+abbrev pub joint_behind : Option Kind → Kind → List ℕ
+joint_behind None l = []
+joint_behind (Some k) l = joint k l
+
 -- a list written anew
 abbrev pub spelled : List Part → List ℕ
 spelled [] = []

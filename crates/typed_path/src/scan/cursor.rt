@@ -24,7 +24,7 @@ impl<'a> Cursor<'a> {
     ghost use Rattle.typed_path.specs.components.Comps.{body, component};
     ghost use Rattle.typed_path.specs.readings.Left.{but_last, last_of, slice_after_front, slice_after_back};
     ghost use Rattle.typed_path.specs.components.Part.{Placed, end_of, kinds, parts, prefix_part};
-    ghost use Rattle.typed_path.specs.queries.Queries.{begins_with_root, first_prefix, prefix_among, has_physical_root};
+    ghost use Rattle.typed_path.specs.queries.Queries.{begins_with_root, first_prefix, prefix_among, has_prefix, has_physical_root};
     ghost use Rattle.typed_path.specs.readings.Steps.{first_part, last_part};
     ghost use Rattle.typed_path.specs.views.PieceViews.{part_of, prefix_view};
     ghost use Rattle.typed_path.specs.views.CursorViews.{slice_left, items_left, cursor_separators};
@@ -87,6 +87,14 @@ impl<'a> Cursor<'a> {
             Some(found) => Some(found.kind),
             None => None,
         }
+    }
+
+    /// Whether the prefix is still to be taken.
+    #[inline(always)]
+    pub(crate) fn has_prefix(&self) -> bool
+        ensures { result ≡ has_prefix (kinds (parts (items_left self.now))) }
+    {
+        self.prefix.is_some()
     }
 
     /// The prefix with its text, where it is still to be taken.

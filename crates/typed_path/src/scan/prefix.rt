@@ -39,7 +39,7 @@ pub struct Found<'a> {
 
 /// The letter of a text that begins with a drive, raised to ASCII upper case.
 #[inline]
-fn drive(text: &[u8]) -> Option<u8>
+pub fn drive(text: &[u8]) -> Option<u8>
     ensures { result ≡ drive text.now }
 {
     match text {
@@ -82,7 +82,7 @@ fn after_two(text: &[u8]) -> Option<&[u8]>
 
 /// What stands behind two separators, the byte `sign` and a separator.
 #[inline(always)]
-fn after_mark(sign: u8, text: &[u8]) -> Option<&[u8]>
+pub fn after_mark(sign: u8, text: &[u8]) -> Option<&[u8]>
     ensures rest { option_copied result ≡ after_mark sign text.now }
     ensures length { IfSome result (λ rest. length rest.now + 4 ≡ length text.now) }
 {

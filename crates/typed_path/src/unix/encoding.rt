@@ -1,10 +1,8 @@
 //! The encoding of Unix paths.
 
-ghost use Rattle.std.specs.Prelude.{◌≡◌, ◌≤◌, ◌+◌, ◌++◌, take, length, IsOk, OnOk, OnErr};
-ghost use Rattle.std.specs.Vec.{vec_capacity};
 ghost use Rattle.typed_path.specs.components.Dialect.{unix};
 
-use crate::common::Encoding;
+use crate::common::{Encoding, put_over};
 use crate::errors::CheckedPathError;
 use crate::scan::{Cursor, Piece, Separators, base_end};
 use crate::unix::normal::put_normal;
@@ -93,27 +91,4 @@ impl Encoding for UnixEncoding {
     fn check(path: &[u8]) -> Result<(), CheckedPathError> {
         Cursor::new(path, Separators::Slash).check()
     }
-}
-
-/// Cuts a path to its first bytes, and puts a separator and another path behind them.
-fn put_over(
-    path: &mut Vec<u8>,
-    kept: usize,
-    separator: &[u8],
-    other: &[u8],
-) -> Result<(), AllocError>
-    requires within { kept ≤ length path.old.items }
-    requires short { length separator.now ≤ 1 }
-    ensures ok { OnOk result
-        (path.new.items ≡ take kept path.old.items ++ separator.now ++ other.now) }
-    ensures err { OnErr result (path.new.items ≡ path.old.items) }
-    ensures capacity { vec_capacity path.old ≤ vec_capacity path.new }
-    ensures succeeds { kept + length separator.now + length other.now ≤ vec_capacity path.old
-        → IsOk result }
-{
-    let len = kept + separator.len() + other.len();
-    path.reserve(len.saturating_sub(path.len()))?;
-    path.truncate(kept);
-    path.extend_from_slice(separator)?;
-    path.extend_from_slice(other)
 }

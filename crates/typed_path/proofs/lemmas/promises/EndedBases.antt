@@ -59,7 +59,7 @@ prefix_alone-disk (disk letter) e = cc
 prefix_alone-disk p e = refl
 
 -- nor is one that goes on behind its prefix
-disk_alone-filled : (s : Separators) (p : Prefix) (b : ℕ) (bs : List ℕ) → is_disk_alone (prefix p ∷ kinds (body_parts s (b ∷ bs))) ≡ false
+pub disk_alone-filled : (s : Separators) (p : Prefix) (b : ℕ) (bs : List ℕ) → is_disk_alone (prefix p ∷ kinds (body_parts s (b ∷ bs))) ≡ false
 disk_alone-filled s p b bs = let some = slice_split-some (is_separator s) (b ∷ bs) in rw some.2 (by p _ _)
   where
     by : (p : Prefix) (k : Kind) (ks : List Kind) → is_disk_alone (prefix p ∷ k ∷ ks) ≡ false
