@@ -22,6 +22,6 @@ pub use script::{
 pub use std::borrow::CowStr;
 pub use unix::{UnixComponent, UnixComponents, UnixEncoding, UnixPath, UnixPathBuf};
 pub use windows::{
-    WindowsComponent, WindowsComponents, WindowsEncoding, WindowsPath, WindowsPrefix,
-    WindowsPrefixComponent,
+    WindowsComponent, WindowsComponents, WindowsEncoding, WindowsPath, WindowsPathBuf,
+    WindowsPrefix, WindowsPrefixComponent,
 };

@@ -1,6 +1,6 @@
 -- Where a path leads: its component list once the parents have taken names away.
 use Rattle.std.specs.Prelude.{ℕ, zero, suc, List, [], ◌∷◌, ◌++◌, Bool, true, false, not, if◌then◌else◌}
-use Rattle.typed_path.specs.components.Dialect.{Dialect}
+use Rattle.typed_path.specs.components.Dialect.{Dialect, unix, windows}
 use Rattle.typed_path.specs.components.Part.{Kind, prefix, root, current, parent, normal, Part, kinds, texts}
 use Rattle.typed_path.specs.components.Comps.{parts_of}
 use Rattle.typed_path.specs.queries.Queries.{is_disk, begins_with_root}
@@ -42,3 +42,8 @@ place d t = with_implied_root (kinds (resolve (parts_of d t)))
 -- the normal text: what the list resolves to, pushed one by one
 abbrev pub normal_text : Dialect → List ℕ → List ℕ
 normal_text d t = push_all d [] (texts (resolve (parts_of d t)))
+
+-- whether the normal text is written with nothing kept aside: on Windows a name may replace the text, so names wait until the list is read
+abbrev pub keeps_nothing_aside : Dialect → Bool
+keeps_nothing_aside unix = true
+keeps_nothing_aside windows = false

@@ -1,6 +1,6 @@
 //! What every encoding of paths can do.
 
-ghost use Rattle.std.specs.Prelude.{◌≡◌, ◌≤◌, ◌<◌, ◌+◌, ◌++◌, length, ℕ, List, drop, take, option_map, IsSome, Some, None, IsOk, IfOk, IfSome, OnOk, OnErr};
+ghost use Rattle.std.specs.Prelude.{◌≡◌, ◌≤◌, ◌<◌, ◌+◌, ◌++◌, length, ℕ, List, drop, take, option_map, IsSome, Some, None, true, IsOk, IfOk, IfSome, OnOk, OnErr};
 ghost use Rattle.std.specs.Vec.{vec_len, vec_capacity};
 ghost use Rattle.typed_path.specs.changes.Checked.{refusal, error_of};
 ghost use Rattle.typed_path.specs.promises.Promises.{HasPrefixOf, LiesWithin};
@@ -12,7 +12,7 @@ ghost use Rattle.typed_path.specs.views.PieceViews.{part_of};
 ghost use Rattle.typed_path.specs.views.CursorViews.{slice_left, items_left};
 ghost use Rattle.typed_path.specs.components.Part.{kinds, parts};
 ghost use Rattle.typed_path.specs.queries.Queries.{is_absolute, has_root, is_valid_name, stripped};
-ghost use Rattle.typed_path.specs.places.Places.{normal_text};
+ghost use Rattle.typed_path.specs.places.Places.{normal_text, keeps_nothing_aside};
 ghost use Rattle.typed_path.specs.changes.Push as push_spec;
 ghost use Rattle.typed_path.specs.changes.Push.{FitsPush};
 ghost use Rattle.typed_path.specs.changes.Fault.{fault};
@@ -105,12 +105,14 @@ pub trait Encoding: Sized {
 
     /// Puts the normal text of a path behind a text: what its list resolves to, pushed one by one
     /// onto the empty path. Where memory is refused, the text is as it was. Where there is room for
-    /// the whole path and a byte more behind the text, it succeeds.
+    /// the whole path and a byte more behind the text, it succeeds on Unix, where nothing else is
+    /// kept aside.
     fn put_normal(text: &mut Vec<u8>, path: &[u8]) -> Result<(), AllocError>
         ensures ok { OnOk result (text.new.items ≡ text.old.items ++ normal_text dialect path.now) }
         ensures err { OnErr result (text.new.items ≡ text.old.items) }
         ensures capacity { vec_capacity text.old ≤ vec_capacity text.new }
-        ensures succeeds { vec_len text.old + length path.now < vec_capacity text.old
+        ensures succeeds { keeps_nothing_aside dialect ≡ true
+            → vec_len text.old + length path.now < vec_capacity text.old
             → IsOk result };
 
     /// The normal text of a path, in room for one byte more than the path has.

@@ -1,13 +1,18 @@
 //! The encoding of Windows paths.
 
 ghost use Rattle.std.specs.Prelude.{◌≡◌};
-ghost use Rattle.typed_path.specs.components.Dialect.{windows};
+ghost use Rattle.typed_path.specs.components.Dialect.{windows, dialect_of};
 ghost use Rattle.typed_path.specs.components.Comps.{comps};
 ghost use Rattle.typed_path.specs.components.Part.{kinds, parts};
 ghost use Rattle.typed_path.specs.queries.Queries.{is_absolute, has_root};
-ghost use Rattle.typed_path.specs.views.CursorViews.{slice_left, items_left};
+ghost use Rattle.typed_path.specs.views.CursorViews.{slice_left, items_left, cursor_separators};
 
-use crate::scan::{Cursor, Separators, WindowsPrefix, find_prefix};
+use crate::common::Encoding;
+use crate::errors::CheckedPathError;
+use crate::scan::{Cursor, Piece, Separators, WindowsPrefix, find_prefix};
+use crate::windows::normal::put_normal;
+use crate::windows::push::push_at;
+use std::alloc::AllocError;
 use std::fmt;
 
 /// Paths as on Windows: `\` and `/` separate, and a path may begin with a prefix.
@@ -25,11 +30,65 @@ impl fmt::Display for WindowsEncoding {
     }
 }
 
+impl Encoding for WindowsEncoding {
+    ghost dialect = { windows };
+
+    fn label() -> &'static str {
+        "windows"
+    }
+
+    fn root_text() -> &'static [u8] {
+        b"\\"
+    }
+
+    #[inline(always)]
+    fn cursor(path: &[u8]) -> Cursor<'_> {
+        cursor(path)
+    }
+
+    // A default body keeps its hint to itself, so both steps stand here too.
+    #[inline(always)]
+    fn front<'a>(cursor: &mut Cursor<'a>) -> Option<Piece<'a>> {
+        cursor.front()
+    }
+
+    #[inline(always)]
+    fn back<'a>(cursor: &mut Cursor<'a>) -> Option<Piece<'a>> {
+        cursor.back()
+    }
+
+    fn absolute(cursor: &Cursor<'_>) -> bool {
+        absolute(cursor)
+    }
+
+    fn rooted(cursor: &Cursor<'_>) -> bool {
+        rooted(cursor)
+    }
+
+    fn valid(name: &[u8]) -> bool {
+        Separators::Either.is_valid_name(name)
+    }
+
+    fn push_over(path: &mut Vec<u8>, kept: usize, other: &[u8]) -> Result<(), AllocError> {
+        let kept = kept.min(path.len());
+        push_at(path, 0, kept, other)
+    }
+
+    fn put_normal(text: &mut Vec<u8>, path: &[u8]) -> Result<(), AllocError> {
+        put_normal(text, path)
+    }
+
+    fn check(path: &[u8]) -> Result<(), CheckedPathError> {
+        cursor(path).check()
+    }
+}
+
 /// A reading of the components of a text.
 #[inline(always)]
 pub fn cursor(path: &[u8]) -> Cursor<'_>
     ensures items { items_left result ≡ comps windows path.now }
     ensures slice { slice_left result ≡ path.now }
+    ensures dialect { dialect_of (cursor_separators result) ≡ windows }
 {
     let separators = Separators::of_windows(path);
     match find_prefix(path) {

@@ -77,7 +77,8 @@ fn merge_piece<'a>(pieces: &mut Vec<Piece<'a>>, piece: Piece<'a>) -> Result<(), 
 {
     match piece.kind {
         PieceKind::RootDir => {
-            let has_prefix = matches!(pieces.first(), Some(first) if matches!(first.kind, PieceKind::Prefix(_)));
+            let has_prefix =
+                matches!(pieces.first(), Some(first) if matches!(first.kind, PieceKind::Prefix(_)));
             pieces.truncate(usize::from(has_prefix));
             pieces.push(piece)?;
         }

@@ -1,5 +1,5 @@
 -- What a push of Windows asks of its base, and a base that is written anew.
-use Rattle.std.proofs.Common.{◌≡◌, ℕ, ◌+◌, ◌-◌, ◌<◌, ◌≤◌, ◌≢◌, ◌==◌, ◌||◌, Bool, true, false, if◌then◌else◌, List, [], ◌∷◌, ◌++◌, length, take, drop, map, slice_index, get_or, Option, Some, None, refl, sym, ap, ◌∙◌, append-nil, append_assoc, arith}
+use Rattle.std.proofs.Common.{◌≡◌, ℕ, ◌+◌, ◌-◌, ◌<◌, ◌≤◌, ◌==◌, ◌||◌, Bool, true, false, if◌then◌else◌, List, [], ◌∷◌, ◌++◌, length, take, drop, map, slice_index, get_or, Option, Some, None, refl, sym, ap, ◌∙◌, append-nil, append_assoc, arith}
 use Rattle.std.specs.Prelude.{option_and_then, not}
 use Rattle.std.specs.Option.{option_or}
 use Rattle.std.proofs.lemmas.Bool.{eq-eqb, eqb-true, false_from_ne_true, both_ways}
@@ -11,16 +11,16 @@ use Rattle.typed_path.specs.declared.scan.separators.Separators.TheVariants.{Eit
 use Rattle.typed_path.specs.declared.scan.piece.Piece.{Piece}
 use Rattle.typed_path.specs.views.PieceViews.{part_of}
 use Rattle.typed_path.specs.components.Dialect.{windows, backslash, question, dot, separators}
-use Rattle.typed_path.specs.components.Part.{Kind, prefix, root, current, parent, normal, Prefix, disk, device_ns, unc, verbatim, verbatim_disk, verbatim_unc, Part, kinds, is_name}
-use Rattle.typed_path.specs.components.Prefix.{Found, found, is_empty, drive, after_mark, after_two, after_unc, name, second_name, names_length, prefix_of, verbatim_unc_case, verbatim_disk_case, verbatim_case, device_case, unc_case, disk_case}
+use Rattle.typed_path.specs.components.Part.{Kind, prefix, root, current, parent, normal, disk, device_ns, unc, verbatim, verbatim_disk, verbatim_unc, Part, kinds, is_name}
+use Rattle.typed_path.specs.components.Prefix.{Found, found, is_empty, drive, after_mark, after_two, after_unc, name, second_name, names_length, prefix_of, device_case, unc_case, disk_case}
 use Rattle.typed_path.specs.components.Comps.{parts_of}
 use Rattle.typed_path.specs.queries.Queries.{has_prefix, has_any_verbatim_prefix, begins_with_root, is_verbatim_prefix}
-use Rattle.typed_path.specs.changes.Push.{push_windows, merged, merge_by_kind, without_last_name, raw_prefix, joint, joint_behind, spelled, ended_windows, is_disk_alone}
-use Rattle.typed_path.proofs.lemmas.components.PartLemmas.{AreRead, body_parts, body_parts-read, parts_behind}
+use Rattle.typed_path.specs.changes.Push.{push_windows, merged, without_last_name, raw_prefix, joint, joint_behind, spelled, ended_windows, is_disk_alone}
+use Rattle.typed_path.proofs.lemmas.components.PartLemmas.{AreRead, body_parts, body_parts-read}
 use Rattle.typed_path.proofs.lemmas.components.PrefixLemmas.{drive-size}
 use Rattle.typed_path.proofs.lemmas.components.ReadLemmas.{Read, of_verbatim_unc, of_verbatim_disk, of_verbatim, of_device, of_unc, of_disk, prefix-read}
 use Rattle.typed_path.proofs.lemmas.changes.FaultlessLemmas.{parts_of-none, parts_of-some}
-use Rattle.typed_path.proofs.lemmas.promises.EndedBases.{read-no_drive, disk_alone-disk, disk_alone-filled}
+use Rattle.typed_path.proofs.lemmas.promises.EndedBases.{read-no_drive, disk_alone-filled}
 
 -- a base that is empty or ends with `\\` wants nothing behind it
 kept : (t u : List ℕ) (d e : Bool) → e ≡ true → (if d then t else (if e then t else u)) ≡ t ++ []

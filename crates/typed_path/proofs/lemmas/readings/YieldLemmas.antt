@@ -1,5 +1,5 @@
 -- A step from either end, as the step of an iterator.
-use Rattle.std.proofs.Common.{◌≡◌, List, [], ◌∷◌, ◌++◌, drop, length, Option, Some, None, refl, ap, sym, subst, ◌∙◌, option_map, arith}
+use Rattle.std.proofs.Common.{◌≡◌, ◌<◌, List, [], ◌∷◌, ◌++◌, drop, length, Option, Some, None, refl, ap, sym, subst, ◌∙◌, option_map, arith}
 use Rattle.std.specs.Iterator.{MakesProgress, YieldsFirstBy, YieldsLastBy, item_count}
 use Rattle.std.proofs.lemmas.Option.{same_Some}
 use Rattle.std.proofs.lemmas.List.{map-append, length-append}
@@ -7,6 +7,11 @@ use Rattle.typed_path.specs.components.Part.{Part, Placed, parts}
 use Rattle.typed_path.specs.readings.Left.{but_last}
 use Rattle.typed_path.specs.readings.Steps.{first_part, last_part}
 use Rattle.typed_path.proofs.lemmas.readings.LeftLemmas.{last_part-push, last_pushed}
+
+-- a component taken from the front is one fewer
+pub fewer : (p : Part) (cs ds : List Placed) → Some p ≡ first_part cs → ds ≡ drop 1 cs → length ds < length cs
+fewer p [] ds taken items = cc
+fewer p (c ∷ cs) ds taken items = omega (arith, ap length items)
 
 module _ {X : Type 0} (view : X → Part) where
   -- what a step from the front gives

@@ -1,18 +1,12 @@
-use Rattle.std.proofs.Common.{◌≡◌, ◌++◌, ◌<◌, ◌∷◌, [], List, map, drop, length, ap, sym, ◌∙◌, append-nil, append_assoc, arith}
+use Rattle.std.proofs.Common.{◌++◌, ◌∷◌, [], map, ap, sym, ◌∙◌, append-nil, append_assoc}
 use Rattle.std.specs.Prelude.{Some, None}
 use Rattle.std.proofs.lemmas.List.{map-append}
-use Rattle.typed_path.specs.components.Part.{Part, Placed, parts}
+use Rattle.typed_path.specs.components.Part.{parts}
 use Rattle.typed_path.specs.changes.Push.{merged}
-use Rattle.typed_path.specs.readings.Steps.{first_part}
 use Rattle.typed_path.specs.views.CursorViews.{items_left}
 use Rattle.typed_path.specs.views.PieceViews.{part_of}
-use Rattle.typed_path.proofs.lemmas.readings.YieldLemmas.{yields_first}
+use Rattle.typed_path.proofs.lemmas.readings.YieldLemmas.{yields_first, fewer}
 use Rattle.typed_path.proofs.windows.push.merge.Goals as goal
-
--- one component taken is one fewer
-fewer : (p : Part) (cs ds : List Placed) → Some p ≡ first_part cs → ds ≡ drop 1 cs → length ds < length cs
-fewer p [] ds taken items = cc
-fewer p (c ∷ cs) ds taken items = omega (arith, ap length items)
 
 pub own-preserved : goal.own-preserved
 own-preserved c =

@@ -1,0 +1,33 @@
+use Rattle.std.proofs.Common.{◌≡◌, ℕ, List, [], OnOk, sym, ap, ◌∙◌}
+use Rattle.std.specs.Prelude.{Result, Ok, Err}
+use Rattle.typed_path.specs.declared.errors.CheckedPathError.{CheckedPathError}
+use Rattle.typed_path.specs.changes.Checked.{error_of}
+use Rattle.typed_path.specs.views.CursorViews.{items_left}
+use Rattle.typed_path.specs.components.Dialect.{windows}
+use Rattle.typed_path.specs.components.Part.{kinds, parts}
+use Rattle.typed_path.specs.changes.Push.{push}
+use Rattle.typed_path.specs.changes.Fault.{fault, fault_behind}
+use Rattle.typed_path.specs.promises.Promises.{LiesWithin, HasPrefixOf}
+use Rattle.typed_path.proofs.lemmas.promises.WindowsContained.{contained}
+use Rattle.typed_path.proofs.lemmas.promises.WindowsKept.{keeps}
+use Rattle.typed_path.proofs.windows.encoding.WindowsEncodingEncoding.check.Goals as goal
+
+within : {A : Type 0} (r : Result A CheckedPathError) (path : List ℕ) → error_of r ≡ fault windows path → OnOk r ((base : List ℕ) → LiesWithin windows base path (push windows base path))
+within (Ok x) path e = λ base. contained base path (sym e)
+within (Err e) path is = tt
+
+kept : {A : Type 0} (r : Result A CheckedPathError) (path : List ℕ) → error_of r ≡ fault windows path → OnOk r ((base : List ℕ) → HasPrefixOf windows base (push windows base path))
+kept (Ok x) path e = λ base. keeps base path (sym e)
+kept (Err e) path is = tt
+
+judged : (c : goal.After-check) → error_of c.check.result ≡ fault windows c.args.path.now
+judged c =
+    c.check.ensures
+    ∙ ap (λ d. fault_behind d [] (kinds (parts (items_left c.cursor.result)))) c.cursor.ensures.dialect
+    ∙ ap (λ cs. fault_behind windows [] (kinds (parts cs))) c.cursor.ensures.items
+
+pub returns-clause-prefix : goal.returns-clause-prefix
+returns-clause-prefix c = kept c.check.result c.args.path.now (judged c)
+
+pub returns-clause-contained : goal.returns-clause-contained
+returns-clause-contained c = within c.check.result c.args.path.now (judged c)

@@ -1,0 +1,16 @@
+use Rattle.std.proofs.Common.{◌≡◌, ◌-◌, min, length, take, slice_range, false, sym, ap, subst, ◌∙◌, arith}
+use Rattle.std.proofs.lemmas.List.{take_min}
+use Rattle.typed_path.specs.components.Dialect.{windows}
+use Rattle.typed_path.specs.changes.Push.{push_windows, spells_anew}
+use Rattle.typed_path.proofs.windows.encoding.WindowsEncodingEncoding.push_over.Goals as goal
+
+-- the bytes that are kept
+kept : (c : goal.After-push_at) → take c.args.kept c.args.path.now.items ≡ slice_range c.args.path.now.items 0 c.min-kept.result
+kept c =
+    let is : min c.args.kept (length c.args.path.now.items) ≡ c.min-kept.result - 0 = omega (arith, c.min-kept.ensures, c.len.ensures, c.args.path.now.ok) in
+    sym (take_min c.args.kept c.args.path.now.items) ∙ ap (λ n. take n c.args.path.now.items) is
+
+pub returns-clause-succeeds : goal.returns-clause-succeeds
+returns-clause-succeeds c = λ fits.
+    c.push_at.ensures.succeeds (subst (λ t. spells_anew windows t ≡ false) (kept c) fits.0)
+    (omega (arith, fits.1, ap (λ t. length (push_windows t c.args.other.now)) (kept c)))

@@ -1,0 +1,103 @@
+use Rattle.std.proofs.Common.{◌≡◌, ◌⊎◌, inl, inr, ℕ, ◌<◌, arith, length, List, [], ◌∷◌, ◌++◌, map, drop, Bor, true, refl, sym, ap, subst, append-nil, ◌∙◌}
+use Rattle.std.specs.Prelude.{Option, Some, None, option_to_list, IsSome}
+use Rattle.std.proofs.lemmas.List.{map-append, drop_all}
+use Rattle.typed_path.specs.declared.scan.piece.Piece.{Piece}
+use Rattle.typed_path.specs.declared.scan.piece.PieceKind.{PieceKind}
+use Rattle.typed_path.specs.declared.scan.piece.PieceKind.TheVariants.{Prefix, CurDir, ParentDir, RootDir, Normal}
+use Rattle.typed_path.specs.declared.scan.prefix.WindowsPrefix.{WindowsPrefix}
+use Rattle.typed_path.specs.components.Dialect.{windows}
+use Rattle.typed_path.specs.components.Part.{Part, parts, parent}
+use Rattle.typed_path.specs.components.Comps.{parts_of}
+use Rattle.typed_path.specs.places.Places.{normal_text}
+use Rattle.typed_path.specs.views.CursorViews.{items_left}
+use Rattle.typed_path.specs.views.PieceViews.{part_of, kind_view}
+use Rattle.typed_path.proofs.lemmas.places.SettleLemmas.{is_head, Comes, comes-current, comes-name, comes-parent, comes-parent_alone, comes-head, comes-end}
+use Rattle.typed_path.proofs.lemmas.components.ShapeLemmas.{heads_first-parts_of}
+use Rattle.typed_path.proofs.lemmas.readings.YieldLemmas.{yields_first, fewer}
+use Rattle.typed_path.proofs.windows.normal.push_heads.Goals as goal
+
+-- a piece of a known kind, at the front of what the list comes down to
+at_kind : {goal text : List ℕ} {names : List (List ℕ)} (p : Piece) (k : PieceKind) (old rest : List Part) → old ≡ part_of p ∷ rest → p.kind ≡ k
+    → Comes windows goal text names old → Comes windows goal text names (record { kind = kind_view k p.text.now; text = p.text.now } ∷ rest)
+at_kind {goal} {text} {names} p k old rest step e h =
+    subst (λ ps. Comes windows goal text names ps) (step ∙ ap (λ l. record { kind = kind_view l p.text.now; text = p.text.now } ∷ rest) e) h
+
+at_parts : {goal text : List ℕ} {names : List (List ℕ)} {ps qs : List Part} → ps ≡ qs → Comes windows goal text names ps → Comes windows goal text names qs
+at_parts {goal} {text} {names} e h = subst (λ rs. Comes windows goal text names rs) e h
+
+at_text : {goal text other : List ℕ} {names : List (List ℕ)} {ps : List Part} → text ≡ other → Comes windows goal text names ps → Comes windows goal other names ps
+at_text {goal} {names = names} {ps = ps} e h = subst (λ t. Comes windows goal t names ps) e h
+
+-- the empty path comes down to the whole list
+comes-start : (path text : List ℕ) (names : List (List ℕ)) (ps : List Part) → text ≡ [] → names ≡ [] → ps ≡ parts_of windows path → Comes windows (normal_text windows path) text names ps
+comes-start path text names ps no_text no_names all =
+    subst (λ t. Comes windows (normal_text windows path) t names ps) (sym no_text)
+    (subst (λ ns. Comes windows (normal_text windows path) [] ns ps) (sym no_names)
+    (subst (λ qs. Comes windows (normal_text windows path) [] [] qs) (sym all) (record { written = refl; heads = heads_first-parts_of windows path })))
+
+is_head-piece : (p : Piece) → ((x : WindowsPrefix) × (p.kind ≡ Prefix x)) ⊎ (p.kind ≡ RootDir) → is_head (kind_view p.kind p.text.now) ≡ true
+is_head-piece p (inl h) = ap (λ k. is_head (kind_view k p.text.now)) h.1
+is_head-piece p (inr h) = ap (λ k. is_head (kind_view k p.text.now)) h
+
+no_some : IsSome {T = Bor (List ℕ)} None → ⊥
+no_some h = cc
+
+-- a parent, once the last name was taken off where there is one
+comes-popped : {goal text word : List ℕ} {ps : List Part} (last : Option (Bor (List ℕ))) (old new : List (Bor (List ℕ)))
+    → old ≡ new ++ option_to_list last → (0 < length old → IsSome last)
+    → Comes windows goal text (map (λ n. n.now) old) (record { kind = parent; text = word } ∷ ps) → Comes windows goal text (map (λ n. n.now) new) ps
+comes-popped {goal} {text} {word} {ps} None [] new e some h =
+    subst (λ ns. Comes windows goal text (map (λ n. n.now) ns) ps) (e ∙ append-nil new) (comes-parent_alone h)
+comes-popped None (n ∷ ns) new e some h = absurd (no_some (some (omega arith)))
+comes-popped {goal} {text} {word} {ps} (Some n) old new e some h =
+    comes-parent n.now (subst (λ ns. Comes windows goal text ns (record { kind = parent; text = word } ∷ ps)) (ap (map (λ n. n.now)) e ∙ map-append (λ n. n.now) new (n ∷ [])) h)
+
+pub pieces-init : goal.pieces-init
+pieces-init c = (
+  comes-start c.args.path.now _ _ _ (drop_all c.args.start c.args.text.now.items (omega (arith, c.requires))) (ap (map (λ n. n.now)) c.in_ok-names.ensures.items) (ap parts c.cursor-components.ensures.items),
+  refl,
+  omega (arith, c.requires),
+  omega arith,
+)
+
+pub pieces-preserved-in-Continue-branch-2 : goal.pieces-preserved-in-Continue-branch-2
+pieces-preserved-in-Continue-branch-2 c =
+    let taken = yields_first part_of (Some c.in-Some.piece) (items_left c.pieces.components) (items_left c.front.new.self) c.in-Some.ensures.taken c.in-Some.ensures.items in (
+      at_text (sym c.in_ok-push_behind-in-Prefix.ensures.ok) (comes-head (is_head-piece c.in-Some.piece c.in-Prefix.is) (at_parts taken c.pieces.invariant.0)),
+      c.in_ok-push_behind-in-Prefix.ensures.kept ∙ c.pieces.invariant.1,
+      c.in_ok-push_behind-in-Prefix.ensures.long,
+      omega (arith, c.in_ok-push_behind-in-Prefix.ensures.capacity, c.pieces.invariant.3),
+    )
+
+pub pieces-smaller-in-CurDir : goal.pieces-smaller-in-CurDir
+pieces-smaller-in-CurDir c = fewer (part_of c.in-Some.piece) (items_left c.pieces.components) (items_left c.front.new.self) c.in-Some.ensures.taken c.in-Some.ensures.items
+
+pub pieces-preserved-in-CurDir : goal.pieces-preserved-in-CurDir
+pieces-preserved-in-CurDir c =
+    let taken = yields_first part_of (Some c.in-Some.piece) (items_left c.pieces.components) (items_left c.front.new.self) c.in-Some.ensures.taken c.in-Some.ensures.items in
+    (comes-current (at_kind c.in-Some.piece CurDir _ _ taken c.in-CurDir.is c.pieces.invariant.0), c.pieces.invariant.1, c.pieces.invariant.2, c.pieces.invariant.3)
+
+pub pieces-preserved-in-ParentDir : goal.pieces-preserved-in-ParentDir
+pieces-preserved-in-ParentDir c =
+    let taken = yields_first part_of (Some c.in-Some.piece) (items_left c.pieces.components) (items_left c.front.new.self) c.in-Some.ensures.taken c.in-Some.ensures.items in (
+      comes-popped c.pop.result _ _ c.pop.ensures.items (λ h. c.pop.ensures.variant.1 (omega (arith, h, c.pieces.names.ok))) (at_kind c.in-Some.piece ParentDir _ _ taken c.in-ParentDir.is c.pieces.invariant.0),
+      c.pieces.invariant.1,
+      c.pieces.invariant.2,
+      c.pieces.invariant.3,
+    )
+
+pub pieces-preserved : goal.pieces-preserved
+pieces-preserved c =
+    let taken = yields_first part_of (Some c.in-Some.piece) (items_left c.pieces.components) (items_left c.front.new.self) c.in-Some.ensures.taken c.in-Some.ensures.items in (
+      subst (λ ns. Comes windows (normal_text windows c.args.path.now) (drop c.args.start c.pieces.text.items) ns (parts (items_left c.front.new.self)))
+          (sym (ap (map (λ n. n.now)) c.in_ok-push-in-Normal.ensures.items ∙ map-append (λ n. n.now) c.pieces.names.items (c.in-Some.piece.text ∷ [])))
+          (comes-name (at_kind c.in-Some.piece Normal _ _ taken c.in-Normal.is c.pieces.invariant.0)),
+      c.pieces.invariant.1,
+      c.pieces.invariant.2,
+      c.pieces.invariant.3,
+    )
+
+pub returns-clause-ok : goal.returns-clause-ok
+returns-clause-ok c =
+    let all = (yields_first part_of None (items_left c.pieces.components) (items_left c.front.new.self) c.in_default.ensures.taken c.in_default.ensures.items).0 in
+    comes-end (at_parts all c.pieces.invariant.0)

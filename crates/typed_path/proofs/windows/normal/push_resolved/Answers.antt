@@ -1,0 +1,22 @@
+use Rattle.std.proofs.Common.{◌≡◌, ℕ, ◌+◌, ◌<◌, arith, length, get_or, List, map, drop, Bor, sym, ap, ◌∙◌}
+use Rattle.std.proofs.lemmas.List.{drop-map, drop_more}
+use Rattle.typed_path.specs.components.Dialect.{windows}
+use Rattle.typed_path.specs.changes.Push.{push_windows, push_all}
+use Rattle.typed_path.proofs.windows.normal.push_resolved.Goals as goal
+
+-- one more name pushed
+pushed_next : (goal text next : List ℕ) (names : List (Bor (List ℕ))) (i : ℕ) (n : Bor (List ℕ)) → i < length names
+    → next ≡ push_windows text (get_or names i n).now → goal ≡ push_all windows text (drop i (map (λ m. m.now) names))
+    → goal ≡ push_all windows next (drop (i + 1) (map (λ m. m.now) names))
+pushed_next goal text next names i n within pushed h =
+    h ∙ ap (push_all windows text) (drop-map (λ m. m.now) i names ∙ ap (map (λ m. m.now)) (drop_more names i n within))
+    ∙ ap (λ t. push_all windows t (map (λ m. m.now) (drop (i + 1) names))) (sym pushed)
+    ∙ ap (push_all windows next) (sym (drop-map (λ m. m.now) (i + 1) names))
+
+pub names-preserved : goal.names-preserved
+names-preserved c = (
+  pushed_next _ _ _ c.as_slice-name-items.result.now c.names.name-index _ c.names-test.true c.in_ok-push_behind.ensures.ok c.names.invariant.0,
+  c.in_ok-push_behind.ensures.kept ∙ c.names.invariant.1,
+  c.in_ok-push_behind.ensures.long,
+  omega (arith, c.in_ok-push_behind.ensures.capacity, c.names.invariant.3),
+)

@@ -1,0 +1,13 @@
+use Rattle.std.proofs.Common.{◌≡◌, ◌≤◌, length, map, take, drop}
+use Rattle.std.specs.Vec.{vec_capacity}
+use Rattle.typed_path.specs.components.Dialect.{windows}
+use Rattle.typed_path.specs.places.Places.{normal_text}
+use Rattle.typed_path.specs.changes.Push.{push_all}
+use Rattle.typed_path.proofs.windows.normal.push_resolved.Given as goal
+
+abbrev pub invariant-names : goal.invariant-names
+invariant-names l =
+    (normal_text windows l.path ≡ push_all windows (drop l.start l.text.items) (drop l.name-index (map (λ n. n.now) l.name-items)))
+    × (take l.start l.text.items ≡ take l.start l.fn.text.items)
+    × (l.start ≤ length l.text.items)
+    × (vec_capacity l.fn.text ≤ vec_capacity l.text)
