@@ -16,3 +16,5 @@ mod prefixes;
 mod streams;
 #[cfg(test)]
 mod windows;
+#[cfg(test)]
+mod windows_paths;

@@ -39,7 +39,7 @@ fn answered(
 
 #[test]
 fn replies(rt: HostRuntime) -> Result<(), Fail> {
-    let rows: [(&[u8], &[u8]); 21] = [
+    let rows: [(&[u8], &[u8]); 24] = [
         (
             b"normalize\tunix\tfoo/bar//baz/./asdf/quux/..",
             b"ok\tfoo/bar/baz/asdf\n",
@@ -71,8 +71,23 @@ fn replies(rt: HostRuntime) -> Result<(), Fail> {
             b"err\tInvalidFilename\n",
         ),
         (b"join_checked\tunix\t..\ta\n", b"ok\t../a\n"),
-        (b"components\twindows\ta\n", b"err\tBadLine\n"),
-        (b"normalize\twindows\ta\n", b"err\tBadLine\n"),
+        (
+            b"components\twindows\tC:\\a\n",
+            b"ok\tDisk=C:\troot=\\\tnormal=a\n",
+        ),
+        (
+            b"normalize\twindows\tC:\\a\\.\\..\\b\n",
+            b"ok\tC:\\b\n",
+        ),
+        (b"join\twindows\tC:\ta\n", b"ok\tC:a\n"),
+        (
+            b"join_checked\twindows\t\\\\?\\C:\\base\ta/b\\..\\..\n",
+            b"ok\t\\\\?\\C:\\base\n",
+        ),
+        (
+            b"join_checked\twindows\tsome\\path\tC:abc\n",
+            b"err\tUnexpectedPrefix\n",
+        ),
         (b"normalize\tmac\ta\n", b"err\tBadLine\n"),
         (b"normalize\tunix\ta\tb\n", b"err\tBadLine\n"),
         (b"\n", b"err\tBadLine\n"),

@@ -56,18 +56,31 @@ checked_join_of_a_disallowed_name = refl
 checked_join_onto_a_parent : reply (codes "join_checked\tunix\t..\ta") ≡ codes "ok\t../a\n"
 checked_join_onto_a_parent = refl
 
+-- lines of Windows
+windows_components : reply (codes "components\twindows\tC:\\a") ≡ codes "ok\tDisk=C:\troot=\\\tnormal=a\n"
+windows_components = refl
+
+windows_normal_text : reply (codes "normalize\twindows\tC:\\a\\.\\..\\b") ≡ codes "ok\tC:\\b\n"
+windows_normal_text = refl
+
+windows_join : reply (codes "join\twindows\tC:\ta") ≡ codes "ok\tC:a\n"
+windows_join = refl
+
+windows_checked_join : reply (codes "join_checked\twindows\t\\\\?\\C:\\base\ta/b\\..\\..") ≡ codes "ok\t\\\\?\\C:\\base\n"
+windows_checked_join = refl
+
+windows_checked_join_of_a_prefix : reply (codes "join_checked\twindows\tC:\\base\tD:a") ≡ codes "err\tUnexpectedPrefix\n"
+windows_checked_join_of_a_prefix = refl
+
 -- bad lines
 join_without_a_path : reply (codes "join\tunix\ta") ≡ codes "err\tBadLine\n"
 join_without_a_path = refl
 
-join_of_windows : reply (codes "join\twindows\ta\tb") ≡ codes "err\tBadLine\n"
-join_of_windows = refl
+join_of_an_unknown_encoding : reply (codes "join\tmac\ta\tb") ≡ codes "err\tBadLine\n"
+join_of_an_unknown_encoding = refl
 
-windows_is_not_answered : reply (codes "normalize\twindows\ta") ≡ codes "err\tBadLine\n"
-windows_is_not_answered = refl
-
-components_of_windows_are_not_shown : reply (codes "components\twindows\ta") ≡ codes "err\tBadLine\n"
-components_of_windows_are_not_shown = refl
+components_of_an_unknown_encoding : reply (codes "components\tmac\ta") ≡ codes "err\tBadLine\n"
+components_of_an_unknown_encoding = refl
 
 unknown_command : reply (codes "component\tunix\ta") ≡ codes "err\tBadLine\n"
 unknown_command = refl

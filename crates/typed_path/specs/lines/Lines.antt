@@ -1,7 +1,7 @@
 -- What the program answers to its input.
 use Rattle.std.specs.Prelude.{ℕ, List, [], ◌∷◌, ◌++◌, ◌==◌, if◌then◌else◌, codes, length, map, bytes_eq, Option, Some, None}
 use Rattle.std.specs.List.{slice_split, flat_map, join_with_byte}
-use Rattle.typed_path.specs.components.Dialect.{Dialect, unix}
+use Rattle.typed_path.specs.components.Dialect.{Dialect, unix, windows}
 use Rattle.typed_path.specs.components.Part.{Prefix, verbatim, verbatim_unc, verbatim_disk, device_ns, unc, disk, Kind, prefix, root, current, parent, normal, Part}
 use Rattle.typed_path.specs.components.Comps.{parts_of}
 use Rattle.typed_path.specs.places.Places.{normal_text}
@@ -117,10 +117,19 @@ join_reply_in d command base path =
     if bytes_eq command (codes "join") then joined_reply (push d base path) None
     else (if bytes_eq command (codes "join_checked") then joined_reply (push d base path) (fault d path) else bad_line)
 
+-- the dialect that a field names
+abbrev pub dialect_named : List ℕ → Option Dialect
+dialect_named field = if bytes_eq field (codes "unix") then Some unix else (if bytes_eq field (codes "windows") then Some windows else None)
+
+-- what a dialect gives, or a bad line where none is named
+abbrev pub in_named : (Dialect → List (List ℕ)) → Option Dialect → List (List ℕ)
+in_named fields None = bad_line
+in_named fields (Some d) = fields d
+
 -- the fields of the reply to the fields of a line
 abbrev pub reply_fields : List (List ℕ) → List (List ℕ)
-reply_fields (command ∷ dialect ∷ base ∷ path ∷ []) = if bytes_eq dialect (codes "unix") then join_reply_in unix command base path else bad_line
-reply_fields (command ∷ dialect ∷ path ∷ []) = if bytes_eq dialect (codes "unix") then reply_in unix command path else bad_line
+reply_fields (command ∷ dialect ∷ base ∷ path ∷ []) = in_named (λ d. join_reply_in d command base path) (dialect_named dialect)
+reply_fields (command ∷ dialect ∷ path ∷ []) = in_named (λ d. reply_in d command path) (dialect_named dialect)
 reply_fields fields = bad_line
 
 -- the reply to a line

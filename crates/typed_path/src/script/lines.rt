@@ -12,6 +12,7 @@ use crate::common::{Encoding, Path};
 use crate::errors::CheckedPathError;
 use crate::scan::{Piece, PieceKind, WindowsPrefix, cut_at, text_behind};
 use crate::unix::UnixEncoding;
+use crate::windows::WindowsEncoding;
 use std::alloc::AllocError;
 
 /// What a line asks for.
@@ -57,10 +58,13 @@ pub fn put_reply(
     let Some((command, rest)) = command_of(line) else {
         return put_bad_line(replies);
     };
-    let Some(texts) = text_behind(b"unix\t", rest) else {
-        return put_bad_line(replies);
-    };
-    put_command::<UnixEncoding>(command, texts, scratch, replies)
+    if let Some(texts) = text_behind(b"unix\t", rest) {
+        return put_command::<UnixEncoding>(command, texts, scratch, replies);
+    }
+    if let Some(texts) = text_behind(b"windows\t", rest) {
+        return put_command::<WindowsEncoding>(command, texts, scratch, replies);
+    }
+    put_bad_line(replies)
 }
 
 /// Puts the reply to a command on texts with a tab between behind others.

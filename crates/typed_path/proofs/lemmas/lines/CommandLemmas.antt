@@ -1,12 +1,12 @@
 -- Lines that begin with a command and its tab, and those that do not.
 use Rattle.std.proofs.Common.{◌≡◌, ◌≢◌, ℕ, List, [], ◌∷◌, ◌++◌, ◌==◌, Bool, true, false, cond, refl, sym, ap, subst, ◌∙◌}
-use Rattle.std.specs.Prelude.{codes, bytes_eq, Result, OnOk}
+use Rattle.std.specs.Prelude.{codes, bytes_eq, Result, OnOk, Option, Some, None}
 use Rattle.std.specs.List.{join_with_byte}
 use Rattle.std.proofs.lemmas.List.Splits.{join_with_byte-slice_split}
 use Rattle.std.proofs.lemmas.Slice.Eq.{bytes_eq-Decides}
 use Rattle.std.proofs.lemmas.Bool.{false_from_ne_true}
-use Rattle.typed_path.specs.components.Dialect.{Dialect, unix}
-use Rattle.typed_path.specs.lines.Lines.{tab, fields_of, reply_in, join_reply_in, reply_fields, reply_line, bad_line}
+use Rattle.typed_path.specs.components.Dialect.{Dialect, unix, windows}
+use Rattle.typed_path.specs.lines.Lines.{tab, fields_of, reply_in, join_reply_in, reply_fields, reply_line, bad_line, dialect_named, in_named}
 use Rattle.typed_path.specs.lines.Commands.{texts_reply}
 use Rattle.typed_path.proofs.lemmas.lists.SplitLemmas.{slice_split-some}
 
@@ -30,9 +30,10 @@ first_is_other text name first second fields lacks split =
 neither : (first second : Bool) (a b c : List (List ℕ)) → first ≡ false → second ≡ false → cond first a (cond second b c) ≡ c
 neither first second a b c e f = cc
 
-same : (b : Bool) (x : List (List ℕ)) → cond b x x ≡ x
-same true x = refl
-same false x = refl
+-- what is a bad line in each dialect is one whatever dialect is named
+bad_in_named : (fields : Dialect → List (List ℕ)) (d : Option Dialect) → ((e : Dialect) → fields e ≡ bad_line) → in_named fields d ≡ bad_line
+bad_in_named fields None bad = refl
+bad_in_named fields (Some d) bad = bad d
 
 -- a line that begins with no command and its tab is a bad line
 pub no_command : (line : List ℕ) → LacksField (codes "normalize") line → LacksField (codes "components") line → LacksField (codes "join") line → LacksField (codes "join_checked") line
@@ -44,32 +45,30 @@ no_command line normalize components join checked = by (fields_of line) refl
     by (f ∷ []) e = refl
     by (f ∷ d ∷ []) e = refl
     by (f ∷ d ∷ p ∷ []) e =
-        ap (λ r. cond (bytes_eq d (codes "unix")) r bad_line)
-        (neither _ _ _ _ bad_line (first_is_other line (codes "normalize") f d (p ∷ []) normalize e) (first_is_other line (codes "components") f d (p ∷ []) components e))
-        ∙ same (bytes_eq d (codes "unix")) bad_line
+        bad_in_named (λ dialect. reply_in dialect f p) (dialect_named d)
+        (λ dialect. neither _ _ _ _ bad_line (first_is_other line (codes "normalize") f d (p ∷ []) normalize e) (first_is_other line (codes "components") f d (p ∷ []) components e))
     by (f ∷ d ∷ b ∷ p ∷ []) e =
-        ap (λ r. cond (bytes_eq d (codes "unix")) r bad_line)
-        (neither _ _ _ _ bad_line (first_is_other line (codes "join") f d (b ∷ p ∷ []) join e) (first_is_other line (codes "join_checked") f d (b ∷ p ∷ []) checked e))
-        ∙ same (bytes_eq d (codes "unix")) bad_line
+        bad_in_named (λ dialect. join_reply_in dialect f b p) (dialect_named d)
+        (λ dialect. neither _ _ _ _ bad_line (first_is_other line (codes "join") f d (b ∷ p ∷ []) join e) (first_is_other line (codes "join_checked") f d (b ∷ p ∷ []) checked e))
     by (f ∷ d ∷ b ∷ p ∷ q ∷ fields) e = refl
 
+-- a test that fails on both names of dialects names none
+no_dialect : (first second : Bool) → first ≡ false → second ≡ false → cond first (Some unix) (cond second (Some windows) None) ≡ None
+no_dialect first second e f = cc
+
 -- the fields behind a command, where they begin with no known encoding and its tab
-pub no_encoding : (command rest : List ℕ) → LacksField (codes "unix") rest → reply_fields (command ∷ fields_of rest) ≡ bad_line
-no_encoding command rest lacks = by (fields_of rest) refl
+pub no_encoding : (command rest : List ℕ) → LacksField (codes "unix") rest → LacksField (codes "windows") rest → reply_fields (command ∷ fields_of rest) ≡ bad_line
+no_encoding command rest no_unix no_windows = by (fields_of rest) refl
   where
+    named : (d second : List ℕ) (fields : List (List ℕ)) → fields_of rest ≡ d ∷ second ∷ fields → dialect_named d ≡ None
+    named d second fields e = no_dialect _ _ (first_is_other rest (codes "unix") d second fields no_unix e) (first_is_other rest (codes "windows") d second fields no_windows e)
+
     by : (fields : List (List ℕ)) → fields_of rest ≡ fields → reply_fields (command ∷ fields) ≡ bad_line
     by [] e = refl
     by (d ∷ []) e = refl
-    by (d ∷ p ∷ []) e = ap (λ b. cond b (reply_in unix command p) bad_line) (first_is_other rest (codes "unix") d p [] lacks e)
-    by (d ∷ b ∷ p ∷ []) e = ap (λ t. cond t (join_reply_in unix command b p) bad_line) (first_is_other rest (codes "unix") d b (p ∷ []) lacks e)
+    by (d ∷ p ∷ []) e = ap (in_named (λ dialect. reply_in dialect command p)) (named d p [] e)
+    by (d ∷ b ∷ p ∷ []) e = ap (in_named (λ dialect. join_reply_in dialect command b p)) (named d b (p ∷ []) e)
     by (d ∷ b ∷ p ∷ q ∷ fields) e = refl
-
--- the fields behind the encoding's are the texts of a command
-pub texts_of_unix : (command : List ℕ) (texts : List (List ℕ)) → reply_fields (command ∷ codes "unix" ∷ texts) ≡ texts_reply unix command texts
-texts_of_unix command [] = refl
-texts_of_unix command (p ∷ []) = refl
-texts_of_unix command (b ∷ p ∷ []) = refl
-texts_of_unix command (b ∷ p ∷ q ∷ texts) = refl
 
 -- more than two texts are too many for every command
 pub too_many : (d : Dialect) (command base first : List ℕ) (behind : List ℕ) → texts_reply d command (base ∷ first ∷ fields_of behind) ≡ bad_line

@@ -4,7 +4,7 @@ use Rattle.typed_path.specs.lines.Commands.{command_name}
 use Rattle.typed_path.proofs.lemmas.lines.CommandLemmas.{put_same, no_encoding}
 use Rattle.typed_path.proofs.script.lines.put_reply.Goals as goal
 
-pub returns-in_default-text_behind : goal.returns-in_default-text_behind
-returns-in_default-text_behind c =
-    put_same _ _ _ bad_line _ (sym (ap reply_fields c.in-Some.ensures.some ∙ no_encoding (command_name c.in-Some.command) c.in-Some.rest.now c.in_default-text_behind.ensures))
-    c.put_bad_line-in_default-text_behind.ensures
+pub returns : goal.returns
+returns c =
+    put_same _ _ _ bad_line _ (sym (ap reply_fields c.in-Some.ensures.some ∙ no_encoding (command_name c.in-Some.command) c.in-Some.rest.now c.in_default-text_behind.ensures c.in_default-text_behind-2.ensures))
+    c.put_bad_line-2.ensures

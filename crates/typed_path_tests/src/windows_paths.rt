@@ -1,0 +1,150 @@
+//! Whole paths of Windows, with ample memory: rows of known answers.
+
+use std::test::Fail;
+use typed_path::{
+    CheckedPathError, End, PathError, WindowsPath, WindowsPathBuf, WindowsPrefix, read_ends,
+};
+
+#[test]
+fn pushes(rt: HostRuntime) -> Result<(), Fail> {
+    let rows: [(&[u8], &[u8], &[u8]); 12] = [
+        (br"C:\a\b", br"\c", br"C:\c"),
+        (br"\\s\h\x", b"/y", br"\\s\h/y"),
+        (b"C:", b"a", b"C:a"),
+        (b"a/", b"b", br"a/\b"),
+        (br"\\?\C:\x\", b".", br"\\?\C:\x"),
+        (br"\\?\C:\x\", b"", br"\\?\C:\x\"),
+        (br"\\?\C:\x", br"\y", br"\\?\C:\y"),
+        (br"C:\a", b"..", br"C:\a\.."),
+        (br"\\?\C:\a", b"..", br"\\?\C:\"),
+        (br"C:\a", br"D:b", b"D:b"),
+        (b"", b"a", b"a"),
+        (b"", b"", b""),
+    ];
+    for (base, path, wanted) in rows {
+        let mut pushed = WindowsPathBuf::from_bytes(rt.alloc(), base)?;
+        pushed.push(WindowsPath::new(path))?;
+        assert_eq!(rt; pushed.as_path().as_bytes(), wanted);
+        let joined = WindowsPath::new(base).join(rt.alloc(), WindowsPath::new(path))?;
+        assert_eq!(rt; joined.as_path().as_bytes(), wanted);
+    }
+    Ok(())
+}
+
+#[test]
+fn checked_joins(rt: HostRuntime) -> Result<(), Fail> {
+    use CheckedPathError::{InvalidFilename, PathTraversalAttack, UnexpectedPrefix, UnexpectedRoot};
+    let rows: [(&[u8], &[u8], Result<&[u8], CheckedPathError>); 15] = [
+        (br"\\?\C:\base", br"a/b\..\..", Ok(br"\\?\C:\base")),
+        (b"//?/C:/base", b"a", Ok(br"//?/C:\base\a")),
+        (b"/", b"a", Ok(br"/\a")),
+        (br"\\server", b"a", Ok(br"\\server\a")),
+        (br"\\server/", b"a", Ok(br"\\server/\a")),
+        (br"\\?\", b"a", Ok(br"\\?\a")),
+        (b"/", br"a\..\b", Ok(br"/\a\..\b")),
+        (br"\\?\C:\base\..", b"a", Ok(br"\\?\C:\base\..\a")),
+        (br"\\?\C:\x/y", b"a", Ok(br"\\?\C:\x/y\a")),
+        (b"//?//", b"a", Ok(br"//?/\a")),
+        (br"some\path", b"C:abc", Err(UnexpectedPrefix)),
+        (br"some\path", br"\abc", Err(UnexpectedRoot)),
+        (br"\\?\C:\base", br"a\..\..", Err(PathTraversalAttack)),
+        (b"a", br"b\C:", Err(InvalidFilename)),
+        (br"C:\out", br"a\b?", Err(InvalidFilename)),
+    ];
+    for (base, path, wanted) in rows {
+        let mut pushed = WindowsPathBuf::from_bytes(rt.alloc(), base)?;
+        let outcome = pushed.push_checked(WindowsPath::new(path));
+        let joined = WindowsPath::new(base).join_checked(rt.alloc(), WindowsPath::new(path));
+        match wanted {
+            Ok(text) => {
+                assert_eq!(rt; outcome, Ok(()));
+                assert_eq!(rt; pushed.as_path().as_bytes(), text);
+                assert_eq!(rt; joined?.as_path().as_bytes(), text);
+            }
+            Err(refusal) => {
+                assert_eq!(rt; outcome, Err(PathError::Checked(refusal)));
+                assert_eq!(rt; pushed.as_path().as_bytes(), base);
+                assert_eq!(rt; joined.err(), Some(PathError::Checked(refusal)));
+            }
+        }
+    }
+    Ok(())
+}
+
+#[test]
+fn normal_texts(rt: HostRuntime) -> Result<(), Fail> {
+    let rows: [(&[u8], &[u8]); 12] = [
+        (br"C:\a\.\..\b", br"C:\b"),
+        (br"\\s\h\..\x", br"\\s\h\x"),
+        (b"//?/x/a/../b", br"//?/x\b"),
+        (br"\\s\\x", br"\\s\\x"),
+        (br"\\?\\a", br"\\?\\a"),
+        (br"\\?\C:a", br"\\?\C:\a"),
+        (br"\C:", b"C:"),
+        (br"b\..\C:", b"C:"),
+        (br"a/b/../../..\c", b"c"),
+        (br"\\?\C:\a\.\b\..\c\", br"\\?\C:\a\c"),
+        (br"\\?\UNC\s\\a\..\b", br"\\?\UNC\s\\b"),
+        (b"", b""),
+    ];
+    for (path, wanted) in rows {
+        let normal = WindowsPath::new(path).normalize(rt.alloc())?;
+        assert_eq!(rt; normal.into_vec().as_slice(), wanted);
+    }
+    Ok(())
+}
+
+#[test]
+fn questions_and_changes(rt: HostRuntime) -> Result<(), Fail> {
+    let drive = WindowsPath::new(b"C:");
+    assert!(rt; drive.parent().is_some_and(|parent| parent.as_bytes().is_empty()));
+    let mut popped = WindowsPathBuf::from_bytes(rt.alloc(), b"C:")?;
+    assert!(rt; popped.pop());
+    assert!(rt; popped.as_path().as_bytes().is_empty());
+    let alone: [&[u8]; 5] = [br"\\?\", br"\\.\COM1", br"\\s\h", br"\", b""];
+    for text in alone {
+        assert!(rt; WindowsPath::new(text).parent().is_none());
+    }
+    for (text, valid) in [
+        (br"\\?\c:/x".as_slice(), false),
+        (b"1:", false),
+        (br"b\..\C:", false),
+        (b"C:", true),
+        (b"//./COM1/x", true),
+    ] {
+        assert!(rt; WindowsPath::new(text).is_valid() == valid);
+    }
+    let mut renamed = WindowsPathBuf::from_bytes(rt.alloc(), b"C:/a.bc/")?;
+    assert!(rt; renamed.set_extension(b"z")?);
+    assert_eq!(rt; renamed.as_path().as_bytes(), b"C:/a.z".as_slice());
+    renamed.set_file_name(b"y")?;
+    assert_eq!(rt; renamed.as_path().as_bytes(), br"C:/\y".as_slice());
+    let share = WindowsPath::new(br"c:\a");
+    assert!(rt; !share.starts_with(WindowsPath::new(b"C:")));
+    assert!(rt; WindowsPath::new(br"a\C:").ends_with(WindowsPath::new(b"C:")));
+    Ok(())
+}
+
+#[test]
+fn requests_from_both_ends(rt: HostRuntime) -> Result<(), Fail> {
+    let mut components = WindowsPath::new(br"\\?\C:\a\.\b").components();
+    let mut answers = Vec::new(rt.alloc());
+    let ends = [End::Back, End::Front, End::Back, End::Front, End::Back, End::Front];
+    read_ends(&mut components, &ends, &mut answers)?;
+    let texts: [Option<&[u8]>; 6] = [
+        Some(b"b"),
+        Some(br"\\?\C:"),
+        Some(b"."),
+        Some(br"\"),
+        Some(b"a"),
+        None,
+    ];
+    for (answer, wanted) in answers.iter().zip(texts) {
+        assert!(rt; answer.map(|piece| piece.text) == wanted);
+    }
+    assert!(rt; answers.len() == 6);
+    assert!(rt; WindowsPath::new(br"\\?\C:\a").components().next().is_some_and(|piece| {
+        matches!(piece.kind, typed_path::PieceKind::Prefix(WindowsPrefix::VerbatimDisk(b'C')))
+    }));
+    Ok(())
+}
