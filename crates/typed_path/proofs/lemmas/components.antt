@@ -15,9 +15,11 @@ pub mod ApartLemmas
 pub mod FirmLemmas
 pub mod PlainLemmas
 pub mod FirmEnds
+pub mod PartedPrefixes
 pub mod NameCuts
 pub mod PrefixCuts
 pub mod WindowsCuts
 pub mod ShapeLemmas
 pub mod CountLemmas
 pub mod SizeLemmas
+pub mod PlainNames
