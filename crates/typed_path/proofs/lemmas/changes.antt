@@ -1,6 +1,8 @@
 -- What changes a path.
 pub mod JoinLemmas
 pub mod EndedLemmas
+pub mod EndedNames
+pub mod PushedNames
 pub mod SpellLemmas
 pub mod MergeLemmas
 pub mod FaultLemmas

@@ -16,6 +16,7 @@ pub mod FirmLemmas
 pub mod PlainLemmas
 pub mod FirmEnds
 pub mod PartedPrefixes
+pub mod RootsBehind
 pub mod NameCuts
 pub mod PrefixCuts
 pub mod WindowsCuts
@@ -23,3 +24,4 @@ pub mod ShapeLemmas
 pub mod CountLemmas
 pub mod SizeLemmas
 pub mod PlainNames
+pub mod PlainTexts

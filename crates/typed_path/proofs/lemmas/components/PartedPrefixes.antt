@@ -1,17 +1,16 @@
 -- A prefix with more of its text behind it stays where something else is put apart in the place of that.
-use Rattle.std.proofs.Common.{◌≡◌, ℕ, ◌+◌, ◌<◌, ◌≤◌, Bool, true, false, nat_lt, if◌then◌else◌, List, [], ◌∷◌, ◌++◌, codes, length, take, Option, Some, None, option_and_then, refl, sym, ap, ◌∙◌, inl, inr, length-take, arith}
+use Rattle.std.proofs.Common.{◌≡◌, ℕ, ◌+◌, ◌<◌, ◌≤◌, false, nat_lt, if◌then◌else◌, List, [], ◌∷◌, ◌++◌, length, take, Some, None, option_and_then, refl, sym, ap, ◌∙◌, inl, inr, length-take, arith}
 use Rattle.std.specs.List.{position_or_len}
-use Rattle.std.specs.Str.{bytes_eq}
 use Rattle.std.proofs.lemmas.Bool.{cases_lt, cond-false, eqb-true, le-ltb}
 use Rattle.std.proofs.lemmas.List.{take-append-le, take_all}
 use Rattle.typed_path.specs.declared.scan.separators.Separators.{Separators}
 use Rattle.typed_path.specs.declared.scan.separators.Separators.TheVariants.{Backslash, Either}
 use Rattle.typed_path.specs.components.Dialect.{windows, separators, begins_verbatim, is_separator, question}
-use Rattle.typed_path.specs.components.Part.{Prefix, verbatim, verbatim_unc, verbatim_disk, device_ns, unc, disk}
+use Rattle.typed_path.specs.components.Part.{verbatim}
 use Rattle.typed_path.specs.components.Prefix.{Found, is_empty, name, second_name, names_length, after_mark, verbatim_case, prefix_of}
 use Rattle.typed_path.specs.queries.Queries.{is_disk}
 use Rattle.typed_path.specs.promises.Promises.{is_verbatim_unc_name}
-use Rattle.typed_path.proofs.lemmas.components.PrefixLemmas.{after_mark-size, name-fits, prefix-fits}
+use Rattle.typed_path.proofs.lemmas.components.PrefixLemmas.{after_mark-size}
 use Rattle.typed_path.proofs.lemmas.components.NameCuts.{name-length}
 use Rattle.typed_path.proofs.lemmas.components.ReadLemmas.{Read, of_verbatim_unc, of_verbatim_disk, of_verbatim, of_device, of_unc, of_disk, prefix-read}
 use Rattle.typed_path.proofs.lemmas.components.PrefixCuts.{prefix_by, unless-none}
@@ -20,7 +19,7 @@ use Rattle.typed_path.proofs.lemmas.components.ApartLemmas.{Apart, filled-long, 
 use Rattle.typed_path.proofs.lemmas.components.FirmLemmas.{none_from, verbatim_made, verbatim_unc-again, verbatim_disk-again, verbatim-again, device-again, unc-again}
 
 -- two names that are not the whole text have a separator between them
-names-parted : (s : Separators) (text : List ℕ) → names_length s text < length text → position_or_len (is_separator s) text < length text
+pub names-parted : (s : Separators) (text : List ℕ) → names_length s text < length text → position_or_len (is_separator s) text < length text
 names-parted s text less = elim (cases_lt (position_or_len (is_separator s) text) (length text)) [
   | inl inside ↦ inside
   | inr most ↦
@@ -35,7 +34,7 @@ more-no_question s text long none = none_from _ (λ other mark.
     omega (arith, after_mark-size question text other mark, eqb-true (length other) 0 bare))
 
 -- a prefix that is no drive, with more behind it, takes four bytes or more
-parted-long : (s : Separators) (text : List ℕ) (f : Found) → Read s text f → is_disk f.prefix ≡ false → f.length < length text → 4 ≤ f.length
+pub parted-long : (s : Separators) (text : List ℕ) (f : Found) → Read s text f → is_disk f.prefix ≡ false → f.length < length text → 4 ≤ f.length
 parted-long s text f (of_verbatim_unc rest mark filled) other more = omega arith
 parted-long s text f (of_verbatim_disk rest letter mark drives) other more = omega arith
 parted-long s text f (of_verbatim rest mark filled no_unc no_drive) other more = omega arith

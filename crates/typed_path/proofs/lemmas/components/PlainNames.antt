@@ -1,14 +1,14 @@
 -- Names that are read as names in each Windows text: without separators of either kind, and no drives.
-use Rattle.std.proofs.Common.{◌≡◌, ℕ, ◌==◌, Bool, true, false, not, ◌&&◌, ◌||◌, List, [], ◌∷◌, ◌++◌, map, length, Some, None, refl, sym, ap, subst, ◌∙◌}
+use Rattle.std.proofs.Common.{◌≡◌, ℕ, ◌==◌, true, false, ◌&&◌, ◌||◌, List, [], ◌∷◌, map, Some, None, refl, sym, ap, subst, ◌∙◌}
 use Rattle.std.specs.List.{list_any, AllByRecursion}
 use Rattle.std.proofs.lemmas.Bool.{and_parts, or_parts, and_right, both_ways, cond-false, eqb-true, false_from_ne_true, not-true}
 use Rattle.std.proofs.lemmas.List.Elements.{All-nil, All-cons}
 use Rattle.typed_path.specs.declared.scan.separators.Separators.{Separators}
-use Rattle.typed_path.specs.declared.scan.separators.Separators.TheVariants.{Slash, Backslash, Either}
-use Rattle.typed_path.specs.components.Dialect.{windows, backslash, slash, colon, is_separator, root_text}
-use Rattle.typed_path.specs.components.Part.{Kind, prefix, root, current, parent, normal, Part, kinds, name_part, root_part}
+use Rattle.typed_path.specs.declared.scan.separators.Separators.TheVariants.{Either}
+use Rattle.typed_path.specs.components.Dialect.{windows, backslash, slash, colon, is_separator}
+use Rattle.typed_path.specs.components.Part.{Kind, prefix, root, normal, Part, kinds, name_part, root_part}
 use Rattle.typed_path.specs.components.Prefix.{is_drive_letter, to_upper, drive}
-use Rattle.typed_path.specs.queries.Queries.{is_disallowed, has_allowed_bytes, have_allowed_bytes}
+use Rattle.typed_path.specs.queries.Queries.{is_disallowed, have_allowed_bytes}
 use Rattle.typed_path.specs.places.Places.{stays, resolve}
 use Rattle.typed_path.proofs.lemmas.lists.SplitLemmas.{IsUnseparated}
 use Rattle.typed_path.proofs.lemmas.components.SeparatorLemmas.{OfWindows, root_text-windows, unseparated-either}
