@@ -66,7 +66,7 @@ firm_end s text f (of_unc rest mark filled no_verbatim no_device) firm other pla
     let size = names-size Either rest shared in
     let behind = length-drop (n + 1) rest in
     record {
-      plain = unmarked-plain text (no_question s text rest mark.marked shared no_verbatim);
+      plain = unmarked-plain text (no_question s text (omega (arith, mark.size, names-long Either rest filled shared, names-fit Either rest)) no_verbatim);
       behind = subst (Apart Either) (ap (drop (names_length Either rest)) (sym mark.dropped) ∙ drop-drop (names_length Either rest) 2 text) (names-behind Either rest less);
       unended = λ whole. name-unended Either (2 + (n + 1)) text (after_first (is_separator Either) rest) refl (sym (drop-drop (n + 1) 2 text) ∙ ap (drop (n + 1)) mark.dropped) (omega (arith, mark.size)) shared (omega (arith, mark.size));
     }

@@ -4,7 +4,7 @@ use Rattle.std.specs.Option.{option_or}
 use Rattle.std.specs.List.{position_or_len}
 use Rattle.std.specs.Str.{bytes_eq}
 use Rattle.std.proofs.lemmas.Bool.{cond-false, cond-true, eqb-true, ne_eqb, both_ways, not-true, and_parts}
-use Rattle.std.proofs.lemmas.List.{nil_from_length, take-append-le, take-take}
+use Rattle.std.proofs.lemmas.List.{take-append-le, take-take}
 use Rattle.std.specs.Cmp.Lexicographic.{pointwise}
 use Rattle.typed_path.specs.declared.scan.separators.Separators.{Separators}
 use Rattle.typed_path.specs.declared.scan.separators.Separators.TheVariants.{Slash, Backslash, Either}
@@ -13,7 +13,7 @@ use Rattle.typed_path.specs.queries.Queries.{is_disk}
 use Rattle.typed_path.specs.promises.Promises.{keeps_by_prefix}
 use Rattle.typed_path.specs.components.Part.{Prefix, verbatim, verbatim_unc, verbatim_disk, device_ns, unc}
 use Rattle.typed_path.specs.components.Prefix.{Found, found, is_empty, is_drive_letter, to_upper, drive, after_two, after_mark, after_unc, name, second_name, names_length, verbatim_case, device_case, unc_case, disk_case, prefix_of}
-use Rattle.typed_path.proofs.lemmas.components.PrefixLemmas.{where-some, name-fits, names-fit, prefix-fits}
+use Rattle.typed_path.proofs.lemmas.components.PrefixLemmas.{after_mark-size, where-some, name-fits, names-fit, prefix-fits}
 use Rattle.typed_path.proofs.lemmas.components.ReadLemmas.{Read, of_verbatim_unc, of_verbatim_disk, of_verbatim, of_device, of_unc, of_disk, prefix-read}
 use Rattle.typed_path.proofs.lemmas.components.PrefixCuts.{prefix_by, unless-none}
 use Rattle.typed_path.proofs.lemmas.components.NameCuts.{empty-take}
@@ -24,7 +24,7 @@ use Rattle.typed_path.proofs.lemmas.components.ApartLemmas.{Apart, filled-long, 
 abbrev pub share_made : (List ℕ → List ℕ → Prefix) → ℕ → Separators → List ℕ → Option Found
 share_made make k s rest = if is_empty (name s rest) then None else Some (found (make (name s rest) (second_name s rest)) (k + names_length s rest))
 
-abbrev pub verbatim_made : Separators → List ℕ → Option Found
+abbrev verbatim_made : Separators → List ℕ → Option Found
 verbatim_made s rest = if is_empty rest then None else Some (found (verbatim (name s rest)) (4 + length (name s rest)))
 
 abbrev pub device_made : List ℕ → Option Found
@@ -196,25 +196,11 @@ module _ (s : Separators) (text x : List ℕ) (apart : Apart s x) where
       ∙ cond-false (is_empty (name Either now)) None _ (ap is_empty names.first ∙ filled)
       ∙ (λ i. Some (found (unc (names.first i) (names.second i)) (2 + names.size i)))))
 
--- the second name behind one byte and a separator
-second-behind : (s : Separators) (c d : ℕ) (text : List ℕ) → is_separator s c ≡ false → is_separator s d ≡ true → second_name s (c ∷ d ∷ text) ≡ name s text
-second-behind s c d text h k = rw (h, k) refl
-
--- behind a mark stands the share of a server that is its sign
-marked-share : (sign : ℕ) (text rest other : List ℕ) → is_separator Either sign ≡ false → after_two text ≡ Some rest → after_mark sign text ≡ Some other → second_name Either rest ≡ name Either other
-marked-share sign (a ∷ b ∷ c ∷ d ∷ text) rest other plain two mark =
-    let tests = after_four-tests (is_separator Either) (is_separator Either) (λ e. e == sign) (is_separator Either) a b c d text other mark in
-    let behind = where-some (is_separator Either a && is_separator Either b) (c ∷ d ∷ text) rest two in
-    ap (second_name Either) (sym behind.1) ∙ second-behind Either c d text (ap (is_separator Either) (eqb-true c sign tests.2) ∙ plain) tests.3 ∙ ap (name Either) tests.4
-marked-share sign text rest other plain two mark = cc
-
-module _ (s : Separators) (text rest : List ℕ) (two : after_two text ≡ Some rest) (shared : is_empty (second_name Either rest) ≡ false) where
-  -- where a text was read as a share, it has no mark of a verbatim prefix
-  pub no_question : verbatim_case s text ≡ None → after_mark question text ≡ None
-  no_question none = none_from _ (λ other mark.
-      let empty = unless-none (is_empty other) _ (ap (option_and_then (verbatim_made s)) (sym mark) ∙ none) in
-      let nothing : other ≡ [] = nil_from_length other (eqb-true (length other) 0 empty) in
-      both_ways _ shared (ap is_empty (marked-share question text rest other refl two mark ∙ ap (name Either) nothing)))
+-- a text that is longer than a mark and has no verbatim name has no mark of one
+pub no_question : (s : Separators) (text : List ℕ) → 4 < length text → verbatim_case s text ≡ None → after_mark question text ≡ None
+no_question s text long none = none_from _ (λ other mark.
+    let bare = unless-none (is_empty other) _ (ap (option_and_then (verbatim_made s)) (sym mark) ∙ none) in
+    omega (arith, after_mark-size question text other mark, eqb-true (length other) 0 bare))
 
 -- a prefix that every path keeps behind its text
 abbrev pub is_firm : Prefix → Bool
@@ -236,9 +222,10 @@ firm-again s text x f (of_verbatim_disk rest letter mark drives) firm other apar
 firm-again s text x f (of_verbatim rest mark filled no_unc no_drive) firm other apart long = verbatim-again s text x apart rest mark.marked no_drive (not-true _ firm) (omega arith)
 firm-again s text x f (of_device rest mark filled) firm other apart long = device-again s text x apart rest mark.marked filled
 firm-again s text x f (of_unc rest mark filled no_verbatim no_device) firm other apart long =
-    let shared = not-true _ firm in
-    let size = mark.size in
-    unc-again s text x apart rest mark.marked filled (second-inside Either rest shared) (no_question s text rest mark.marked shared no_verbatim) no_device (omega (arith, names-fit Either rest))
+    let shared : is_empty (second_name Either rest) ≡ false = not-true _ firm in
+    let fits : 2 + names_length Either rest ≤ length text = omega (arith, mark.size, names-fit Either rest) in
+    let more : 4 < length text = omega (arith, fits, names-long Either rest filled shared) in
+    unc-again s text x apart rest mark.marked filled (second-inside Either rest shared) (no_question s text more no_verbatim) no_device fits
 firm-again s text x f (of_disk letter drives) firm other apart long = cc
 
 -- so the prefix stays, and with it the separators

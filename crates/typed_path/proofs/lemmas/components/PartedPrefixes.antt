@@ -1,22 +1,21 @@
 -- A prefix with more of its text behind it stays where something else is put apart in the place of that.
-use Rattle.std.proofs.Common.{◌≡◌, ℕ, ◌+◌, ◌<◌, ◌≤◌, false, nat_lt, if◌then◌else◌, List, [], ◌∷◌, ◌++◌, length, take, Some, None, option_and_then, refl, sym, ap, ◌∙◌, inl, inr, length-take, arith}
+use Rattle.std.proofs.Common.{◌≡◌, ℕ, ◌+◌, ◌<◌, ◌≤◌, false, nat_lt, if◌then◌else◌, List, [], ◌∷◌, ◌++◌, length, take, Some, refl, sym, ap, ◌∙◌, inl, inr, length-take, arith}
 use Rattle.std.specs.List.{position_or_len}
-use Rattle.std.proofs.lemmas.Bool.{cases_lt, cond-false, eqb-true, le-ltb}
+use Rattle.std.proofs.lemmas.Bool.{cases_lt, cond-false, le-ltb}
 use Rattle.std.proofs.lemmas.List.{take-append-le, take_all}
 use Rattle.typed_path.specs.declared.scan.separators.Separators.{Separators}
 use Rattle.typed_path.specs.declared.scan.separators.Separators.TheVariants.{Backslash, Either}
-use Rattle.typed_path.specs.components.Dialect.{windows, separators, begins_verbatim, is_separator, question}
+use Rattle.typed_path.specs.components.Dialect.{windows, separators, begins_verbatim, is_separator}
 use Rattle.typed_path.specs.components.Part.{verbatim}
-use Rattle.typed_path.specs.components.Prefix.{Found, is_empty, name, second_name, names_length, after_mark, verbatim_case, prefix_of}
+use Rattle.typed_path.specs.components.Prefix.{Found, name, second_name, names_length, prefix_of}
 use Rattle.typed_path.specs.queries.Queries.{is_disk}
 use Rattle.typed_path.specs.promises.Promises.{is_verbatim_unc_name}
-use Rattle.typed_path.proofs.lemmas.components.PrefixLemmas.{after_mark-size}
 use Rattle.typed_path.proofs.lemmas.components.NameCuts.{name-length}
 use Rattle.typed_path.proofs.lemmas.components.ReadLemmas.{Read, of_verbatim_unc, of_verbatim_disk, of_verbatim, of_device, of_unc, of_disk, prefix-read}
-use Rattle.typed_path.proofs.lemmas.components.PrefixCuts.{prefix_by, unless-none}
+use Rattle.typed_path.proofs.lemmas.components.PrefixCuts.{prefix_by}
 use Rattle.typed_path.proofs.lemmas.components.WindowsCuts.{verbatim-take}
 use Rattle.typed_path.proofs.lemmas.components.ApartLemmas.{Apart, filled-long, names-inside}
-use Rattle.typed_path.proofs.lemmas.components.FirmLemmas.{none_from, verbatim_made, verbatim_unc-again, verbatim_disk-again, verbatim-again, device-again, unc-again}
+use Rattle.typed_path.proofs.lemmas.components.FirmLemmas.{no_question, verbatim_unc-again, verbatim_disk-again, verbatim-again, device-again, unc-again}
 
 -- two names that are not the whole text have a separator between them
 pub names-parted : (s : Separators) (text : List ℕ) → names_length s text < length text → position_or_len (is_separator s) text < length text
@@ -26,12 +25,6 @@ names-parted s text less = elim (cases_lt (position_or_len (is_separator s) text
       let size = cond-false (nat_lt (length (name s text)) (length text)) (length (name s text) + 1 + length (second_name s text)) (length (name s text)) (le-ltb _ _ (omega (arith, name-length s text))) in
       omega (arith, size, name-length s text)
 ]
-
--- a share with more behind it than a mark has no mark of a verbatim prefix
-more-no_question : (s : Separators) (text : List ℕ) → 4 < length text → verbatim_case s text ≡ None → after_mark question text ≡ None
-more-no_question s text long none = none_from _ (λ other mark.
-    let bare = unless-none (is_empty other) _ (ap (option_and_then (verbatim_made s)) (sym mark) ∙ none) in
-    omega (arith, after_mark-size question text other mark, eqb-true (length other) 0 bare))
 
 -- a prefix that is no drive, with more behind it, takes four bytes or more
 pub parted-long : (s : Separators) (text : List ℕ) (f : Found) → Read s text f → is_disk f.prefix ≡ false → f.length < length text → 4 ≤ f.length
@@ -59,7 +52,7 @@ parted-again s text x f (of_device rest mark filled) other no_unc more apart som
 parted-again s text x f (of_unc rest mark filled no_verbatim no_device) other no_unc more apart some =
     let parted = names-parted Either rest (omega (arith, mark.size)) in
     let long : 4 < length text = omega (arith, mark.size, names-inside Either rest parted, filled-long (name Either rest) filled, more) in
-    unc-again s text x apart rest mark.marked filled parted (more-no_question s text long no_verbatim) no_device (omega (arith, mark.size))
+    unc-again s text x apart rest mark.marked filled parted (no_question s text long no_verbatim) no_device (omega (arith, mark.size))
 parted-again s text x f (of_disk letter drives) other no_unc more apart some = cc
 
 -- so the prefix stays, and with it the separators
