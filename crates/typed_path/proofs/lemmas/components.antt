@@ -17,6 +17,7 @@ pub mod PlainLemmas
 pub mod FirmEnds
 pub mod PartedPrefixes
 pub mod RootsBehind
+pub mod RawPrefixes
 pub mod NameCuts
 pub mod PrefixCuts
 pub mod WindowsCuts

@@ -1,5 +1,5 @@
 -- The normal text of Windows is stable, where no name has a byte that no name may have and the prefix is not the verbatim one named `UNC`.
-use Rattle.std.proofs.Common.{◌≡◌, ℕ, ◌<◌, Bool, true, false, if◌then◌else◌, ◌⊎◌, inl, inr, List, [], ◌∷◌, ◌++◌, map, length, take, drop, Option, Some, None, option_map, refl, sym, ap, ap₂, ◌∙◌, subst, append-nil, append_assoc, take_all, length-take, arith}
+use Rattle.std.proofs.Common.{◌≡◌, ℕ, ◌<◌, ◌≤◌, Bool, true, false, if◌then◌else◌, ◌⊎◌, inl, inr, List, [], ◌∷◌, ◌++◌, map, length, take, drop, Option, Some, None, option_map, refl, sym, ap, ap₂, ◌∙◌, subst, append-nil, append_assoc, take_all, length-take, arith}
 use Rattle.std.specs.List.{AllByRecursion}
 use Rattle.std.proofs.lemmas.Bool.{cases_Bool, cases_lt, cond-true}
 use Rattle.std.proofs.lemmas.List.{drop_all}
@@ -22,7 +22,8 @@ use Rattle.typed_path.proofs.lemmas.components.ReadLemmas.{Read, of_disk, prefix
 use Rattle.typed_path.proofs.lemmas.components.ApartLemmas.{nothing}
 use Rattle.typed_path.proofs.lemmas.components.PartedPrefixes.{parted-stays}
 use Rattle.typed_path.proofs.lemmas.components.PlainNames.{IsPlain, Resolved, unrooted, rooted, resolved, allowed-resolve}
-use Rattle.typed_path.proofs.lemmas.components.RootsBehind.{root-behind, raw-whole}
+use Rattle.typed_path.proofs.lemmas.components.RootsBehind.{root-behind}
+use Rattle.typed_path.proofs.lemmas.components.RawPrefixes.{raw-whole}
 use Rattle.typed_path.proofs.lemmas.places.SettleLemmas.{texts-names}
 use Rattle.typed_path.proofs.lemmas.places.ResolveLemmas.{resolve-kept, resolve-read}
 use Rattle.typed_path.proofs.lemmas.places.DriveRoots.{with_drive_root-rooted}
@@ -113,10 +114,11 @@ module _ (t : List ℕ) (f : Found) (is : prefix_of windows t ≡ Some f) (other
   settled : Settled raw (Some f) (separators windows t) (root_part (backslash ∷ []))
   settled = settled-parted t f is other no_unc more
 
-  -- with a root behind it
+  -- a root pushed behind it
   first-root : push_all windows [] (texts (prefix_part f.prefix raw ∷ root_part (backslash ∷ []) ∷ [])) ≡ raw ++ backslash ∷ []
   first-root = let own = raw-whole t f is other no_unc more in ap (λ u. push_windows u (backslash ∷ [])) (push-first raw) ∙ push-root raw own.0 own.1 own.2
 
+  -- a root behind it, and names
   rooted-again : (names : List (List ℕ)) → AllByRecursion IsPlain names → IsReadAgain (prefix_part f.prefix raw ∷ root_part (backslash ∷ []) ∷ map name_part names)
   rooted-again names plain = settled-again raw (Some f) (separators windows t) (root_part (backslash ∷ [])) settled names plain first-root (with_drive_root-rooted f.prefix raw (backslash ∷ []) (map name_part names))
 
@@ -141,6 +143,7 @@ module _ (t : List ℕ) (f : Found) (is : prefix_of windows t ≡ Some f) (other
     named-root : (name : List ℕ) (ps : List Part) → with_drive_root (prefix_part f.prefix raw ∷ name_part name ∷ ps) ≡ prefix_part f.prefix raw ∷ root_part (backslash ∷ []) ∷ name_part name ∷ ps
     named-root name ps = subst (λ p. with_drive_root (prefix_part p raw ∷ name_part name ∷ ps) ≡ prefix_part p raw ∷ root_part (backslash ∷ []) ∷ name_part name ∷ ps) (sym drives) refl
 
+    -- the name, and more of them
     named-again : (name : List ℕ) (names : List (List ℕ)) → IsPlain name → AllByRecursion IsPlain names → IsReadAgain (prefix_part f.prefix raw ∷ name_part name ∷ map name_part names)
     named-again name names own plain =
         let o = Some f in
@@ -183,10 +186,15 @@ resolved-again t allowed no_unc = by (prefix_of windows t) refl
           | inl drives ↦ drives_again f (prefix-read t f is) drives own
           | inr other ↦ elim (cases_lt f.length (length t)) [
             | inl more ↦ parted-again t f is other no more ps own (root-behind t f is other more)
-            | inr most ↦ subst IsReadAgain (sym (ap₂ (λ u v. prefix_part f.prefix u ∷ resolve (body_parts (separators windows t) v)) (take_all f.length t most) (drop_all f.length t most))) (alone-again t f is (omega (arith, most, (prefix-fits windows t f is).fits)))
+            | inr most ↦ whole_again most
           ]
         ])
       where
+        whole_again : length t ≤ f.length → IsReadAgain (prefix_part f.prefix (take f.length t) ∷ resolve (body_parts (separators windows t) (drop f.length t)))
+        whole_again most =
+            subst IsReadAgain (sym (ap₂ (λ u v. prefix_part f.prefix u ∷ resolve (body_parts (separators windows t) v)) (take_all f.length t most) (drop_all f.length t most)))
+            (alone-again t f is (omega (arith, most, (prefix-fits windows t f is).fits)))
+
         drives_again : (f : Found) → Read (separators windows t) t f → is_disk f.prefix ≡ true → Resolved (resolve (body_parts (separators windows t) (drop f.length t)))
             → IsReadAgain (prefix_part f.prefix (take f.length t) ∷ resolve (body_parts (separators windows t) (drop f.length t)))
         drives_again _ (of_disk letter drives) kind own = drive-again t letter (resolve (body_parts (separators windows t) (drop 2 t))) drives own
