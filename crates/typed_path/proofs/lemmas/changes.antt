@@ -6,6 +6,7 @@ pub mod SpellLemmas
 pub mod SpelledTexts
 pub mod ReadyPrefixes
 pub mod ReadyLemmas
+pub mod SpelledRows
 pub mod MergeLemmas
 pub mod FaultLemmas
 pub mod FaultlessLemmas
