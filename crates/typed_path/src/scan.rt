@@ -17,6 +17,6 @@ pub use begin::Begin;
 pub use cursor::Cursor;
 pub use cut::{cut_at, cut_at_separator, cut_near, text_behind};
 pub use piece::{Piece, PieceKind};
-pub use prefix::{Found, WindowsPrefix, find_prefix};
+pub use prefix::{Found, WindowsPrefix, drive, find_prefix};
 pub use separators::Separators;
 pub use step::piece_of;

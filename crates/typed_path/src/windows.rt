@@ -5,6 +5,7 @@ mod components;
 mod encoding;
 mod prefix;
 mod readings;
+mod spelled;
 
 use crate::common::Path;
 pub use crate::scan::WindowsPrefix;

@@ -1,7 +1,12 @@
 -- What changes a path.
 pub mod JoinLemmas
 pub mod EndedLemmas
+pub mod PlainNames
 pub mod SpellLemmas
+pub mod SpelledTexts
+pub mod ReadyPrefixes
+pub mod ReadyLemmas
+pub mod SpelledRows
 pub mod MergeLemmas
 pub mod FaultLemmas
 pub mod FaultlessLemmas

@@ -39,7 +39,7 @@ pub struct Found<'a> {
 
 /// The letter of a text that begins with a drive, raised to ASCII upper case.
 #[inline]
-fn drive(text: &[u8]) -> Option<u8>
+pub fn drive(text: &[u8]) -> Option<u8>
     ensures { result ≡ drive text.now }
 {
     match text {

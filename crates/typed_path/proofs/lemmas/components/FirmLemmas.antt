@@ -34,7 +34,7 @@ abbrev disk_made : ℕ → Option Found
 disk_made letter = Some (found (verbatim_disk letter) 6)
 
 -- the first of two cases that holds
-first-some : (o p : Option Found) (f : Found) → o ≡ Some f → option_or o p ≡ Some f
+pub first-some : (o p : Option Found) (f : Found) → o ≡ Some f → option_or o p ≡ Some f
 first-some o p f is = ap (λ q. option_or q p) is
 
 -- or the second
@@ -50,15 +50,15 @@ none_from {A = A} o never = by o refl
     by (Some x) e = absurd (never x e)
 
 -- a mark is read where more stands behind it
-mark-extends : (sign : ℕ) → Extends (after_mark sign)
+pub mark-extends : (sign : ℕ) → Extends (after_mark sign)
 mark-extends sign = after_four-extends (is_separator Either) (is_separator Either) (λ b. b == sign) (is_separator Either)
 
 -- so is `UNC` with its separator
-unc-extends : (s : Separators) → Extends (after_unc s)
+pub unc-extends : (s : Separators) → Extends (after_unc s)
 unc-extends s = after_four-extends (λ b. b == 85) (λ b. b == 78) (λ b. b == 67) (is_separator s)
 
 -- what stands behind a mark, once the text is cut and has more put behind it
-mark-again : (sign m : ℕ) (text rest x : List ℕ) → after_mark sign text ≡ Some rest → after_mark sign (take (4 + m) text ++ x) ≡ Some (take m rest ++ x)
+pub mark-again : (sign m : ℕ) (text rest x : List ℕ) → after_mark sign text ≡ Some rest → after_mark sign (take (4 + m) text ++ x) ≡ Some (take m rest ++ x)
 mark-again sign m text rest x is = mark-recut 4 (after_mark sign) (after_mark-reads sign) (mark-extends sign) m text rest x is
 
 -- a text whose first name ends with a separator behind `UNC` has that name
@@ -216,7 +216,7 @@ firm-long s text f (of_unc rest mark filled no_verbatim no_device) firm other = 
 firm-long s text f (of_disk letter drives) firm other = cc
 
 -- it is read again where its text is cut behind it and has something put apart behind that
-firm-again : (s : Separators) (text x : List ℕ) (f : Found) → Read s text f → is_firm f.prefix ≡ true → is_disk f.prefix ≡ false → Apart s x → 4 < f.length + length x → prefix_by s (take f.length text ++ x) ≡ Some f
+pub firm-again : (s : Separators) (text x : List ℕ) (f : Found) → Read s text f → is_firm f.prefix ≡ true → is_disk f.prefix ≡ false → Apart s x → 4 < f.length + length x → prefix_by s (take f.length text ++ x) ≡ Some f
 firm-again s text x f (of_verbatim_unc rest mark filled) firm other apart long = verbatim_unc-again s text x apart rest mark.marked filled (second-inside s rest (not-true _ firm))
 firm-again s text x f (of_verbatim_disk rest letter mark drives) firm other apart long = verbatim_disk-again s text x apart rest letter mark.marked drives
 firm-again s text x f (of_verbatim rest mark filled no_unc no_drive) firm other apart long = verbatim-again s text x apart rest mark.marked no_drive (not-true _ firm) (omega arith)
