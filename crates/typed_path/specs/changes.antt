@@ -4,3 +4,4 @@ pub mod Fault
 pub mod Changes
 pub mod Checked
 pub mod Run
+pub mod Spelled

@@ -27,7 +27,7 @@ use crate::constants::unix::{
 use crate::unix::UnixComponent;
 use std::hash::Hash;
 pub use windows::{
-    windows_components_compare_by_kind, windows_constants_are_these,
+    normal_stays_stable, windows_components_compare_by_kind, windows_constants_are_these,
     windows_prefix_components_compare_by_kind, windows_prefixes_compare_by_kind,
     windows_pushes_keep_prefix, windows_pushes_stay_within,
 };

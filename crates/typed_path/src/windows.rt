@@ -7,6 +7,7 @@ mod normal;
 mod prefix;
 mod push;
 mod readings;
+mod spelled;
 
 use crate::common::{Path, PathBuf};
 pub use crate::scan::WindowsPrefix;

@@ -15,9 +15,14 @@ pub mod ApartLemmas
 pub mod FirmLemmas
 pub mod PlainLemmas
 pub mod FirmEnds
+pub mod PartedPrefixes
+pub mod RootsBehind
+pub mod RawPrefixes
 pub mod NameCuts
 pub mod PrefixCuts
 pub mod WindowsCuts
 pub mod ShapeLemmas
 pub mod CountLemmas
 pub mod SizeLemmas
+pub mod PlainNames
+pub mod PlainTexts

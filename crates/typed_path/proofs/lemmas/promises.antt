@@ -10,3 +10,6 @@ pub mod UnixStrip
 pub mod EndedPrefixes
 pub mod SpelledPrefixes
 pub mod WindowsKept
+pub mod SettledTexts
+pub mod ReadAgain
+pub mod WindowsStable

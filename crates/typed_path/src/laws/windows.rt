@@ -2,7 +2,7 @@
 
 ghost use Rattle.std.specs.Prelude.{◌≡◌, ◌↔◌, true, IfSome, [], ◌∷◌, ◌++◌, codes, map};
 ghost use Rattle.typed_path.specs.components.Dialect.{windows, dot, slash, backslash};
-ghost use Rattle.typed_path.specs.promises.Promises.{IsContained, KeepsPrefix};
+ghost use Rattle.typed_path.specs.promises.Promises.{IsContained, KeepsPrefix, StaysStable};
 ghost use Rattle.typed_path.specs.components.Part.{prefix};
 ghost use Rattle.typed_path.specs.queries.Queries.{prefix_in, reserved_names};
 ghost use Rattle.typed_path.specs.order.Same.{kind_cmp};
@@ -27,6 +27,13 @@ pub fn windows_pushes_stay_within(base: &[u8], path: &[u8])
 /// A listed base keeps its prefix under a push of a path that is not refused.
 pub fn windows_pushes_keep_prefix(base: &[u8], path: &[u8])
     ensures { KeepsPrefix windows base.now path.now }
+{}
+
+/// A normal text of Windows reads as what the list of its path resolves to, but for a root put in
+/// behind a verbatim drive, leads where the path does and is its own normal text, where no name has a
+/// byte that no name may have and the prefix is not the verbatim one named `UNC`.
+pub fn normal_stays_stable(path: &[u8])
+    ensures { StaysStable path.now }
 {}
 
 /// The constants of Windows have these values.

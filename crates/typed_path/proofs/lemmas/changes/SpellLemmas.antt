@@ -14,13 +14,13 @@ use Rattle.typed_path.proofs.lemmas.components.SeparatorLemmas.{OfWindows, backs
 use Rattle.typed_path.proofs.lemmas.components.PartLemmas.{pieces, later_part, first_part, later_parts, first_parts, body_parts, IsWritten, IsWrittenPart, IsLater, IsLaterPart, AreRead}
 
 -- what a text is that gives one component, as a later piece
-record IsPiece (s : Separators) (k : Kind) (text : List ℕ) : Type 0 where
+pub record IsPiece (s : Separators) (k : Kind) (text : List ℕ) : Type 0 where
   pub unseparated : IsUnseparated (is_separator s) text
   pub later : later_part s text ≡ record { kind = k; text = text } ∷ []
   pub filled : (length text == 0) ≡ false
 
 -- a later component is one piece
-later-piece : (s : Separators) (k : Kind) (text : List ℕ) → IsLater s k text → IsPiece s k text
+pub later-piece : (s : Separators) (k : Kind) (text : List ℕ) → IsLater s k text → IsPiece s k text
 later-piece s (prefix q) text later = absurd later
 later-piece s root text later = absurd later
 later-piece s current text later = rw later.1 (record {

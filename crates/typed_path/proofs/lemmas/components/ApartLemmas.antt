@@ -45,32 +45,28 @@ module _ (s : Separators) where
         cc
   ]
 
-  -- so does the second name
-  second-apart : (text x : List ℕ) → Apart s x → is_empty (second_name s text) ≡ false → second_name s (text ++ x) ≡ second_name s text
-  second-apart text x h filled =
+  -- so does the second name, where a separator stands behind the first
+  second-apart : (text x : List ℕ) → Apart s x → position_or_len (is_separator s) text < length text → second_name s (text ++ x) ≡ second_name s text
+  second-apart text x h less =
       let p = is_separator s in
-      let less = second-inside text filled in
       ap (λ n. name s (drop (n + 1) (text ++ x))) (position-apart text x h)
       ∙ ap (name s) (drop-append-le (position_or_len p text + 1) text x (omega arith))
       ∙ name-apart (after_first p text) x h
 
-  -- two names, of which the second is not empty, stay and take as many bytes
-  names-apart : (text x : List ℕ) → Apart s x → is_empty (second_name s text) ≡ false → names_length s (text ++ x) ≡ names_length s text
-  names-apart text x h filled =
-      let less = second-inside text filled in
-      let inside : length (name s text) < length text = omega (arith, name-length s text) in
-      let inside_both : length (name s (text ++ x)) < length (text ++ x) = omega (arith, inside, ap length (name-apart text x h), length-append text x) in
-      cond-true (nat_lt (length (name s (text ++ x))) (length (text ++ x))) _ _ (lt-ltb _ _ inside_both)
-      ∙ ap₂ (λ a b. length a + 1 + length b) (name-apart text x h) (second-apart text x h filled)
-      ∙ sym (cond-true (nat_lt (length (name s text)) (length text)) _ _ (lt-ltb _ _ inside))
+  -- two names, with a separator between them, take as many bytes as they have, and the separator
+  pub names-inside : (text : List ℕ) → position_or_len (is_separator s) text < length text → names_length s text ≡ length (name s text) + 1 + length (second_name s text)
+  names-inside text less = cond-true (nat_lt (length (name s text)) (length text)) _ _ (lt-ltb _ _ (omega (arith, name-length s text)))
+
+  -- they stay and take as many bytes
+  names-apart : (text x : List ℕ) → Apart s x → position_or_len (is_separator s) text < length text → names_length s (text ++ x) ≡ names_length s text
+  names-apart text x h less =
+      names-inside (text ++ x) (omega (arith, position-apart text x h, length-append text x))
+      ∙ ap₂ (λ a b. length a + 1 + length b) (name-apart text x h) (second-apart text x h less)
+      ∙ sym (names-inside text less)
 
   -- two names, of which the second is not empty, take as many bytes as they have, and the separator
   pub names-size : (text : List ℕ) → is_empty (second_name s text) ≡ false → names_length s text ≡ position_or_len (is_separator s) text + 1 + length (second_name s text)
-  names-size text shared =
-      let less = second-inside text shared in
-      let inside : length (name s text) < length text = omega (arith, name-length s text) in
-      let size = cond-true (nat_lt (length (name s text)) (length text)) (length (name s text) + 1 + length (second_name s text)) (length (name s text)) (lt-ltb _ _ inside) in
-      omega (arith, size, name-length s text)
+  names-size text shared = omega (arith, names-inside text (second-inside text shared), name-length s text)
 
   -- they take three bytes where neither is empty
   pub names-long : (text : List ℕ) → is_empty (name s text) ≡ false → is_empty (second_name s text) ≡ false → 3 ≤ names_length s text
@@ -87,11 +83,12 @@ module _ (s : Separators) where
     pub second : second_name s now ≡ second_name s text
     pub size : names_length s now ≡ names_length s text
 
-  -- two names are kept where their text is cut behind them
-  pub names-recut : (m : ℕ) (text x : List ℕ) → Apart s x → names_length s text ≤ m → is_empty (second_name s text) ≡ false → HasNamesOf text (take m text ++ x)
-  names-recut m text x h fits filled =
+  -- two names with a separator between them are kept where their text is cut behind them
+  pub names-recut : (m : ℕ) (text x : List ℕ) → Apart s x → names_length s text ≤ m → position_or_len (is_separator s) text < length text → HasNamesOf text (take m text ++ x)
+  names-recut m text x h fits less =
       let cut = names-take s m text fits in
-      let still : is_empty (second_name s (take m text)) ≡ false = ap is_empty cut.second ∙ filled in
+      let still : position_or_len (is_separator s) (take m text) < length (take m text) =
+      omega (arith, names-inside text less, length-take m text, ap length cut.first, name-length s text, name-length s (take m text)) in
       record {
         first = name-apart (take m text) x h ∙ cut.first;
         second = second-apart (take m text) x h still ∙ cut.second;

@@ -6,14 +6,14 @@ use Rattle.std.proofs.lemmas.List.{drop-drop}
 use Rattle.typed_path.specs.declared.scan.separators.Separators.{Separators}
 use Rattle.typed_path.specs.declared.scan.separators.Separators.TheVariants.{Backslash, Either}
 use Rattle.typed_path.specs.components.Dialect.{windows, separators, is_separator, question}
-use Rattle.typed_path.specs.components.Prefix.{Found, is_empty, after_mark, name, second_name, names_length, prefix_of}
+use Rattle.typed_path.specs.components.Prefix.{Found, after_mark, name, second_name, names_length, prefix_of}
 use Rattle.typed_path.specs.queries.Queries.{is_disk, is_verbatim_prefix}
 use Rattle.typed_path.proofs.lemmas.components.PrefixLemmas.{drive-size, name-fits, names-fit}
 use Rattle.typed_path.proofs.lemmas.components.NameCuts.{name-length}
 use Rattle.typed_path.proofs.lemmas.components.WindowsCuts.{verbatim_text}
 use Rattle.typed_path.proofs.lemmas.components.SizeLemmas.{IsUnended, name-unended}
 use Rattle.typed_path.proofs.lemmas.components.ReadLemmas.{Read, of_verbatim_unc, of_verbatim_disk, of_verbatim, of_device, of_unc, of_disk, prefix-read}
-use Rattle.typed_path.proofs.lemmas.components.ApartLemmas.{Apart, nothing, parted, filled-long, second-inside, names-size, names-long}
+use Rattle.typed_path.proofs.lemmas.components.ApartLemmas.{Apart, nothing, parted, filled-long, second-inside, names-inside, names-size, names-long}
 use Rattle.typed_path.proofs.lemmas.components.FirmLemmas.{is_firm, marks-differ, no_question}
 
 module _ (s : Separators) where
@@ -27,14 +27,15 @@ module _ (s : Separators) where
       by false e rest = let next : suc (position_or_len (is_separator s) bs) ≡ 1 + position_or_len (is_separator s) bs = omega arith in subst (λ n. Apart s (drop n (b ∷ bs))) next rest
 
   -- the same, by the length of the name
-  name-behind : (text : List ℕ) → Apart s (drop (length (name s text)) text)
+  pub name-behind : (text : List ℕ) → Apart s (drop (length (name s text)) text)
   name-behind text = subst (λ n. Apart s (drop n text)) (sym (name-length s text)) (position-behind text)
 
-  -- so it is behind two names, of which the second is not empty
-  names-behind : (text : List ℕ) → is_empty (second_name s text) ≡ false → Apart s (drop (names_length s text) text)
-  names-behind text shared =
+  -- so it is behind two names with a separator between them
+  pub names-behind : (text : List ℕ) → position_or_len (is_separator s) text < length text → Apart s (drop (names_length s text) text)
+  names-behind text less =
       let n = position_or_len (is_separator s) text in
-      subst (Apart s) (drop-drop (length (second_name s text)) (n + 1) text ∙ ap (λ m. drop m text) (sym (names-size s text shared))) (name-behind (after_first (is_separator s) text))
+      let size : n + 1 + length (second_name s text) ≡ names_length s text = omega (arith, names-inside s text less, name-length s text) in
+      subst (Apart s) (drop-drop (length (second_name s text)) (n + 1) text ∙ ap (λ m. drop m text) size) (name-behind (after_first (is_separator s) text))
 
 -- a text without the mark of a verbatim prefix is not read verbatim
 unmarked-plain : (text : List ℕ) → after_mark question text ≡ None → separators windows text ≡ Either
@@ -65,8 +66,8 @@ firm_end s text f (of_unc rest mark filled no_verbatim no_device) firm other pla
     let size = names-size Either rest shared in
     let behind = length-drop (n + 1) rest in
     record {
-      plain = unmarked-plain text (no_question s text rest mark.marked shared no_verbatim);
-      behind = subst (Apart Either) (ap (drop (names_length Either rest)) (sym mark.dropped) ∙ drop-drop (names_length Either rest) 2 text) (names-behind Either rest shared);
+      plain = unmarked-plain text (no_question s text (omega (arith, mark.size, names-long Either rest filled shared, names-fit Either rest)) no_verbatim);
+      behind = subst (Apart Either) (ap (drop (names_length Either rest)) (sym mark.dropped) ∙ drop-drop (names_length Either rest) 2 text) (names-behind Either rest less);
       unended = λ whole. name-unended Either (2 + (n + 1)) text (after_first (is_separator Either) rest) refl (sym (drop-drop (n + 1) 2 text) ∙ ap (drop (n + 1)) mark.dropped) (omega (arith, mark.size)) shared (omega (arith, mark.size));
     }
 firm_end s text f (of_disk letter drives) firm other plain = cc

@@ -129,7 +129,7 @@ later_part-later s piece unseparated =
     (λ no_dot. (named_part-later s piece unseparated filled no_dot, tt)))
 
 -- later pieces give later components
-later_parts-later : (s : Separators) (pieces : List (List ℕ)) → AllByRecursion (IsUnseparated (is_separator s)) pieces → AllByRecursion (IsLaterPart s) (later_parts s pieces)
+pub later_parts-later : (s : Separators) (pieces : List (List ℕ)) → AllByRecursion (IsUnseparated (is_separator s)) pieces → AllByRecursion (IsLaterPart s) (later_parts s pieces)
 later_parts-later s [] each = tt
 later_parts-later s (piece ∷ pieces) each =
     AllByRecursion-append (IsLaterPart s) (later_part s piece) (later_parts s pieces) (later_part-later s piece each.0) (later_parts-later s pieces each.1)

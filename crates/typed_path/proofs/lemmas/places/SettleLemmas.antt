@@ -177,7 +177,7 @@ resolve-names [] = refl
 resolve-names (name ∷ names) =
     ap (λ b. cond (not b) (name_part name ∷ []) [] ++ resolve (map name_part names)) (overdraws-names names zero) ∙ ap (λ ps. name_part name ∷ ps) (resolve-names names)
 
-texts-names : (names : List (List ℕ)) → texts (map name_part names) ≡ names
+pub texts-names : (names : List (List ℕ)) → texts (map name_part names) ≡ names
 texts-names [] = refl
 texts-names (name ∷ names) = ap (λ ns. name ∷ ns) (texts-names names)
 

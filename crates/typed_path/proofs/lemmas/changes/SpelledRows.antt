@@ -1,0 +1,120 @@
+-- Texts of Windows that hold components with `\` between them, as they are read.
+use Rattle.std.proofs.Common.{◌≡◌, ℕ, ◌==◌, Bool, true, false, not, ◌&&◌, ◌||◌, cond, List, [], ◌∷◌, ◌++◌, length, refl, sym, ap, ap₂, subst, ◌∙◌, append_assoc}
+use Rattle.std.specs.List.{AllByRecursion, list_any, list_all, slice_split, onto_first}
+use Rattle.std.proofs.lemmas.Bool.{eqb-true, and_parts, or_parts, not-true}
+use Rattle.typed_path.specs.declared.scan.separators.Separators.{Separators}
+use Rattle.typed_path.specs.declared.scan.separators.Separators.TheVariants.{Slash, Backslash, Either}
+use Rattle.typed_path.specs.components.Dialect.{slash, backslash, dot, is_separator, is_verbatim}
+use Rattle.typed_path.specs.components.Part.{Part, current_part, parent_part, name_part}
+use Rattle.typed_path.specs.components.Comps.{is_dot, is_dot_dot}
+use Rattle.typed_path.specs.queries.Queries.{begins_with_root}
+use Rattle.typed_path.specs.changes.Push.{spelled}
+use Rattle.typed_path.specs.changes.Spelled.{is_component, is_row}
+use Rattle.typed_path.proofs.lemmas.lists.SplitLemmas.{slice_split-some, slice_split-unseparated}
+use Rattle.typed_path.proofs.lemmas.components.SeparatorLemmas.{OfWindows}
+use Rattle.typed_path.proofs.lemmas.components.PartLemmas.{pieces, later_part, later_parts, IsLaterPart, later_parts-later}
+use Rattle.typed_path.proofs.lemmas.changes.SpellLemmas.{joint-relative}
+
+-- pieces with `\` between them
+abbrev joined : List (List ℕ) → List ℕ
+joined [] = []
+joined (piece ∷ []) = piece
+joined (piece ∷ next ∷ more) = piece ++ backslash ∷ joined (next ∷ more)
+
+-- a text is its pieces with `\` between them
+joined-split : (text : List ℕ) → joined (slice_split (is_separator Backslash) text) ≡ text
+joined-split [] = refl
+joined-split (b ∷ bs) = let some = slice_split-some (is_separator Backslash) bs in by (b == backslash) refl some.0 some.1 some.2 (joined-split bs)
+  where
+    by : (x : Bool) → (b == backslash) ≡ x → (piece : List ℕ) (more : List (List ℕ)) → slice_split (is_separator Backslash) bs ≡ piece ∷ more → joined (slice_split (is_separator Backslash) bs) ≡ bs
+        → joined (cond x ([] ∷ slice_split (is_separator Backslash) bs) (onto_first b (slice_split (is_separator Backslash) bs))) ≡ b ∷ bs
+    by true e piece more is again =
+        ap (λ ps. joined ([] ∷ ps)) is ∙ ap (λ t. backslash ∷ t) (ap joined (sym is) ∙ again) ∙ ap (λ c. c ∷ bs) (sym (eqb-true b backslash e))
+    by false e piece [] is again = ap (λ ps. joined (onto_first b ps)) is ∙ ap (λ t. b ∷ t) (ap joined (sym is) ∙ again)
+    by false e piece (next ∷ more) is again = ap (λ ps. joined (onto_first b ps)) is ∙ ap (λ t. b ∷ t) (ap joined (sym is) ∙ again)
+
+-- without `/` both separators split as `\` does
+split-either : (text : List ℕ) → list_any (is_separator Slash) text ≡ false → slice_split (is_separator Either) text ≡ slice_split (is_separator Backslash) text
+split-either [] none = refl
+split-either (b ∷ bs) none =
+    let both = or_parts (b == slash) (list_any (is_separator Slash) bs) none in
+    ap₂ (λ x ps. cond (x || b == backslash) ([] ∷ ps) (onto_first b ps)) both.0 (split-either bs both.1)
+
+-- a piece that is one component, and how that is written
+record IsOne (s : Separators) (piece : List ℕ) : Type 0 where
+  pub part : Part
+  pub is : later_part s piece ≡ part ∷ []
+  pub same : part.text ≡ piece
+  pub relative : begins_with_root (part.kind ∷ []) ≡ false
+
+-- what `.` and `..` are
+dot-is : (piece : List ℕ) → is_dot piece ≡ true → piece ≡ dot ∷ []
+dot-is (b ∷ []) h = ap (λ c. c ∷ []) (eqb-true b dot h)
+dot-is piece h = cc
+
+dot_dot-is : (piece : List ℕ) → is_dot_dot piece ≡ true → piece ≡ dot ∷ dot ∷ []
+dot_dot-is (b ∷ c ∷ []) h = let both = and_parts (b == dot) (c == dot) h in ap₂ (λ x y. x ∷ y ∷ []) (eqb-true b dot both.0) (eqb-true c dot both.1)
+dot_dot-is piece h = cc
+
+-- so is each component of a row
+one-component : (s : Separators) (piece : List ℕ) → is_component s piece ≡ true → IsOne s piece
+one-component s piece h = by (length piece == 0) refl (is_dot piece) refl (is_verbatim s) refl (is_dot_dot piece) refl h
+  where
+    by : (empty : Bool) → (length piece == 0) ≡ empty → (dotted : Bool) → is_dot piece ≡ dotted → (verbatim : Bool) → is_verbatim s ≡ verbatim → (two : Bool) → is_dot_dot piece ≡ two
+        → not (empty || (dotted && not verbatim)) ≡ true → IsOne s piece
+    by false e true d true v two t h = record { part = current_part; is = rw (e, d, v) refl; same = sym (dot-is piece d); relative = refl }
+    by false e false d verbatim v true t h = record { part = parent_part; is = rw (e, d, t) refl; same = sym (dot_dot-is piece t); relative = refl }
+    by false e false d verbatim v false t h = record { part = name_part piece; is = rw (e, d, t) refl; same = refl; relative = refl }
+    by empty e dotted d verbatim v two t h = cc
+
+-- pieces that are components, spelled
+record AreListed (s : Separators) (ps : List (List ℕ)) : Type 0 where
+  pub first : Part
+  pub others : List Part
+  pub is : later_parts s ps ≡ first ∷ others
+  pub same : spelled (first ∷ others) ≡ joined ps
+  pub relative : begins_with_root (first.kind ∷ []) ≡ false
+
+listed : (s : Separators) (piece : List ℕ) (more : List (List ℕ)) → list_all (is_component s) (piece ∷ more) ≡ true → AreListed s (piece ∷ more)
+listed s piece [] h =
+    let one = one-component s piece (and_parts (is_component s piece) true h).0 in
+    record { first = one.part; others = []; is = ap (λ ps. ps ++ []) one.is; same = one.same; relative = one.relative }
+listed s piece (next ∷ more) h =
+    let both = and_parts (is_component s piece) (list_all (is_component s) (next ∷ more)) h in
+    let one = one-component s piece both.0 in
+    let rest = listed s next more both.1 in
+    record {
+      first = one.part;
+      others = rest.first ∷ rest.others;
+      is = ap₂ ◌++◌ one.is rest.is;
+      same = ap (λ j. one.part.text ++ j ++ spelled (rest.first ∷ rest.others)) (joint-relative one.part.kind rest.first.kind one.relative rest.relative)
+          ∙ append_assoc one.part.text (backslash ∷ []) (spelled (rest.first ∷ rest.others))
+          ∙ ap₂ (λ t u. t ++ backslash ∷ u) one.same rest.same;
+      relative = one.relative;
+    }
+
+-- a row, read as later components and spelled again
+pub record IsRead (s : Separators) (text : List ℕ) : Type 0 where
+  pub first : Part
+  pub others : List Part
+  pub later : AllByRecursion (IsLaterPart s) (first ∷ others)
+  pub same : spelled (first ∷ others) ≡ text
+
+pub row-read : (s : Separators) (text : List ℕ) → OfWindows s → is_row s text ≡ true → IsRead s text
+row-read s text w h =
+    let both = and_parts (is_verbatim s || not (list_any (is_separator Slash) text)) _ h in
+    let some = slice_split-some (is_separator Backslash) text in
+    let split : pieces s text ≡ some.0 ∷ some.1 = by s w both.0 ∙ some.2 in
+    let all = listed s some.0 some.1 (ap (list_all (is_component s)) (sym some.2) ∙ both.1) in
+    let is : later_parts s (pieces s text) ≡ all.first ∷ all.others = ap (later_parts s) split ∙ all.is in
+    record {
+      first = all.first;
+      others = all.others;
+      later = subst (AllByRecursion (IsLaterPart s)) is (later_parts-later s (pieces s text) (slice_split-unseparated (is_separator s) text));
+      same = all.same ∙ ap joined (sym some.2) ∙ joined-split text;
+    }
+  where
+    by : (s : Separators) → OfWindows s → (is_verbatim s || not (list_any (is_separator Slash) text)) ≡ true → pieces s text ≡ slice_split (is_separator Backslash) text
+    by Slash w h = cc
+    by Backslash w h = refl
+    by Either w h = split-either text (not-true _ h)
