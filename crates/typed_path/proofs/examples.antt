@@ -7,6 +7,7 @@ pub mod SinglePrefixes
 pub mod Cuts
 pub mod WindowsComponents
 pub mod WindowsPaths
+pub mod Spelled
 pub mod Order
 pub mod Conversions
 pub mod Replies

@@ -4,9 +4,10 @@ pub mod EndedLemmas
 pub mod PlainNames
 pub mod SpellLemmas
 pub mod SpelledTexts
+pub mod SpelledRows
 pub mod ReadyPrefixes
 pub mod ReadyLemmas
-pub mod SpelledRows
+pub mod SpellingLemmas
 pub mod MergeLemmas
 pub mod FaultLemmas
 pub mod FaultlessLemmas

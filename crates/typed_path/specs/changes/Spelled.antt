@@ -1,5 +1,5 @@
 -- The texts of Windows that a push spells anew as they stand, and the names that it puts behind them as they stand.
-use Rattle.std.specs.Prelude.{◌≡◌, ℕ, List, [], ◌∷◌, Bool, true, false, not, ◌&&◌, ◌||◌, is_some, ⊤}
+use Rattle.std.specs.Prelude.{◌≡◌, ℕ, List, [], ◌∷◌, Bool, true, false, not, ◌&&◌, ◌||◌, is_some}
 use Rattle.std.specs.List.{list_any, list_all, slice_split}
 use Rattle.typed_path.specs.declared.scan.separators.Separators.{Separators}
 use Rattle.typed_path.specs.declared.scan.separators.Separators.TheVariants.{Slash, Backslash, Either}
@@ -45,4 +45,4 @@ IsRooted t = IsSpelled t × (ends_with_root (kinds (parts_of windows t)) ≡ tru
 abbrev pub IsSpelling : Spelling → List ℕ → Type 0
 IsSpelling Ready t = IsReady t
 IsSpelling Rooted t = IsRooted t
-IsSpelling Other t = ⊤
+IsSpelling Other t = IsSpelled t → ⊥

@@ -50,10 +50,13 @@ fn is_dots(name: &[u8]) -> bool
 pub fn spelling_of(text: &[u8]) -> Spelling
     ensures { IsSpelling result text.now }
 {
-    match find_prefix(text) {
-        Some(found) if found.kind.is_verbatim() => spelling_behind(text, found.length),
-        _ => Spelling::Other,
+    let Some(found) = find_prefix(text) else {
+        return Spelling::Other;
+    };
+    if !found.kind.is_verbatim() {
+        return Spelling::Other;
     }
+    spelling_behind(text, found.length)
 }
 
 /// The same of a text with a verbatim prefix of so many bytes.

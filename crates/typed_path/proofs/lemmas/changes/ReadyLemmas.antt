@@ -1,18 +1,17 @@
 -- A plain name pushed onto a text that is spelled as it is read: it is put behind the text, which stays so.
-use Rattle.std.proofs.Common.{◌≡◌, ℕ, true, false, if◌then◌else◌, inl, inr, List, [], ◌∷◌, ◌++◌, length, take, drop, Some, refl, sym, ap, subst, ◌∙◌, append_assoc, length-take-le, arith}
-use Rattle.std.specs.List.{AllByRecursion}
+use Rattle.std.proofs.Common.{◌≡◌, ℕ, true, false, if◌then◌else◌, inl, inr, List, [], ◌∷◌, ◌++◌, length, take, drop, Some, refl, sym, ap, subst, ◌∙◌, append_assoc, append-nil, length-take-le, arith}
+use Rattle.std.specs.List.{AllByRecursion, list_all, flat_map}
 use Rattle.std.proofs.Math.Seq.{drop-append_seam, take-append_seam}
-use Rattle.std.proofs.lemmas.Bool.{both_ways}
+use Rattle.std.proofs.lemmas.Bool.{both_ways, and_parts}
 use Rattle.std.proofs.lemmas.List.{take-append-drop, drop_all}
 use Rattle.typed_path.specs.declared.scan.separators.Separators.{Separators}
 use Rattle.typed_path.specs.declared.scan.separators.Separators.TheVariants.{Backslash, Either}
 use Rattle.typed_path.specs.components.Dialect.{windows, backslash, separators, begins_verbatim}
 use Rattle.typed_path.specs.components.Part.{Prefix, normal, Part, kinds, root_part, name_part, prefix_part}
 use Rattle.typed_path.specs.components.Prefix.{Found, prefix_of}
-use Rattle.typed_path.specs.components.Comps.{parts_of}
 use Rattle.typed_path.specs.queries.Queries.{is_verbatim_prefix}
-use Rattle.typed_path.specs.changes.Push.{joint, spelled, push}
-use Rattle.typed_path.specs.changes.Spelled.{is_plain, is_row, ends_with_root, IsSpelled, IsReady, IsRooted}
+use Rattle.typed_path.specs.changes.Push.{joint, spelled, push, push_all}
+use Rattle.typed_path.specs.changes.Spelled.{is_plain, ends_with_root, IsSpelled, IsReady, IsRooted}
 use Rattle.typed_path.proofs.lemmas.lists.SplitLemmas.{AllByRecursion-append}
 use Rattle.typed_path.proofs.lemmas.components.SeparatorLemmas.{separators-windows}
 use Rattle.typed_path.proofs.lemmas.components.PartLemmas.{body_parts, IsLaterPart, IsCleanName}
@@ -25,7 +24,6 @@ use Rattle.typed_path.proofs.lemmas.changes.FaultlessLemmas.{parts_of-some}
 use Rattle.typed_path.proofs.lemmas.changes.SpellLemmas.{joint-relative, later-relative}
 use Rattle.typed_path.proofs.lemmas.changes.PlainNames.{IsPlain, plain, clean-either, push-plain}
 use Rattle.typed_path.proofs.lemmas.changes.SpelledTexts.{Behind, nothing, rooted, IsShaped, spelled-shaped, spelled-prefixed, behind-spelled}
-use Rattle.typed_path.proofs.lemmas.changes.SpelledRows.{row-read}
 use Rattle.typed_path.proofs.lemmas.changes.ReadyPrefixes.{Stays, verbatim-stays}
 
 -- a list with a name at its end does not end with a root
@@ -157,31 +155,12 @@ push-rooted t n rooted_text h =
     put t n rooted_text.0 (plain n h) n
     (rooted-rest (separators windows t) n shape.found.prefix (take shape.found.length t) _ shape.others _ shape.behind (sym (ap (λ ps. ends_with_root (kinds ps)) (parts_of-some t shape.found shape.is)) ∙ rooted_text.1))
 
--- what stands behind a verbatim prefix tells how a push spells its text anew
-module _ (t : List ℕ) (f : Found) (is : prefix_of windows t ≡ Some f) (marked : is_verbatim_prefix f.prefix ≡ true) where
-  behind-told : (ps qs : List Part) (text : List ℕ) → drop f.length t ≡ text → Behind (separators windows t) ps qs text
-      → IsSpelled t × (ends_with_root (kinds (parts_of windows t)) ≡ ends_with_root (kinds ps))
-  behind-told ps qs text e behind =
-      let all = behind-spelled t f ps qs is marked (subst (Behind (separators windows t) ps qs) (sym e) behind) in
-      (all.0, ap (λ rs. ends_with_root (kinds rs)) all.1 ∙ by ps)
-    where
-      by : (ps : List Part) → ends_with_root (kinds (prefix_part f.prefix (take f.length t) ∷ ps)) ≡ ends_with_root (kinds ps)
-      by [] = refl
-      by (p ∷ ps) = refl
-
-  -- nothing
-  pub alone-ready : drop f.length t ≡ [] → IsReady t
-  alone-ready e = behind-told [] [] [] e nothing
-
-  -- a root
-  pub root-rooted : drop f.length t ≡ backslash ∷ [] → IsRooted t
-  root-rooted e = behind-told (root_part (backslash ∷ []) ∷ []) [] (backslash ∷ []) e (rooted [] tt)
-
-  -- or a root and a row
-  pub row-ready : (text : List ℕ) → drop f.length t ≡ backslash ∷ text → is_row (separators windows t) text ≡ true → IsReady t
-  row-ready text e h =
-      let s = separators windows t in
-      let row = row-read s text (separators-windows t) h in
-      let ps = row.first ∷ row.others in
-      let told = behind-told (root_part (backslash ∷ []) ∷ ps) ps (backslash ∷ text) e (subst (λ u. Behind s (root_part (backslash ∷ []) ∷ ps) ps (backslash ∷ u)) row.same (rooted ps row.later)) in
-      (told.0, told.1 ∙ later-unrooted s [] row.first row.others row.later)
+-- so plain names pushed one by one onto a text that is ready are put behind it, each behind `\`
+pub push_all-ready : (t : List ℕ) (ns : List (List ℕ)) → IsReady t → list_all is_plain ns ≡ true → (push_all windows t ns ≡ t ++ flat_map (λ n. backslash ∷ n) ns) × IsReady (t ++ flat_map (λ n. backslash ∷ n) ns)
+push_all-ready t [] ready h = (sym (append-nil t), subst IsReady (sym (append-nil t)) ready)
+push_all-ready t (n ∷ ns) ready h =
+    let both = and_parts (is_plain n) (list_all is_plain ns) h in
+    let one = push-ready t n ready both.0 in
+    let rest = push_all-ready (t ++ backslash ∷ n) ns one.1 both.1 in
+    let whole = append_assoc t (backslash ∷ n) (flat_map (λ n. backslash ∷ n) ns) in
+    (ap (λ u. push_all windows u ns) one.0 ∙ rest.0 ∙ whole, subst IsReady whole rest.1)

@@ -1,19 +1,21 @@
 -- Texts of Windows that hold components with `\` between them, as they are read.
 use Rattle.std.proofs.Common.{◌≡◌, ℕ, ◌==◌, Bool, true, false, not, ◌&&◌, ◌||◌, cond, List, [], ◌∷◌, ◌++◌, length, refl, sym, ap, ap₂, subst, ◌∙◌, append_assoc}
 use Rattle.std.specs.List.{AllByRecursion, list_any, list_all, slice_split, onto_first}
+use Rattle.std.proofs.lemmas.List.Folds.{list_any_none, list_any-append}
+use Rattle.std.proofs.lemmas.List.Splits.{slice_split_none}
 use Rattle.std.proofs.lemmas.Bool.{eqb-true, and_parts, or_parts, not-true}
 use Rattle.typed_path.specs.declared.scan.separators.Separators.{Separators}
 use Rattle.typed_path.specs.declared.scan.separators.Separators.TheVariants.{Slash, Backslash, Either}
 use Rattle.typed_path.specs.components.Dialect.{slash, backslash, dot, is_separator, is_verbatim}
-use Rattle.typed_path.specs.components.Part.{Part, current_part, parent_part, name_part}
+use Rattle.typed_path.specs.components.Part.{Kind, prefix, root, current, parent, normal, Part, current_part, parent_part, name_part}
 use Rattle.typed_path.specs.components.Comps.{is_dot, is_dot_dot}
 use Rattle.typed_path.specs.queries.Queries.{begins_with_root}
 use Rattle.typed_path.specs.changes.Push.{spelled}
 use Rattle.typed_path.specs.changes.Spelled.{is_component, is_row}
-use Rattle.typed_path.proofs.lemmas.lists.SplitLemmas.{slice_split-some, slice_split-unseparated}
+use Rattle.typed_path.proofs.lemmas.lists.SplitLemmas.{IsUnseparated, slice_split-some, slice_split-append, slice_split-unseparated}
 use Rattle.typed_path.proofs.lemmas.components.SeparatorLemmas.{OfWindows}
-use Rattle.typed_path.proofs.lemmas.components.PartLemmas.{pieces, later_part, later_parts, IsLaterPart, later_parts-later}
-use Rattle.typed_path.proofs.lemmas.changes.SpellLemmas.{joint-relative}
+use Rattle.typed_path.proofs.lemmas.components.PartLemmas.{pieces, later_part, later_parts, IsLater, IsLaterPart, later_parts-later}
+use Rattle.typed_path.proofs.lemmas.changes.SpellLemmas.{later-piece, joint-relative, later-relative}
 
 -- pieces with `\` between them
 abbrev joined : List (List ℕ) → List ℕ
@@ -118,3 +120,53 @@ row-read s text w h =
     by Slash w h = cc
     by Backslash w h = refl
     by Either w h = split-either text (not-true _ h)
+
+-- a later component is a component as it stands
+component-later : (s : Separators) (k : Kind) (text : List ℕ) → IsLater s k text → is_component s text ≡ true
+component-later s (prefix p) text later = absurd later
+component-later s root text later = absurd later
+component-later s current text later = rw later.1 (ap (λ v. not (not v)) later.0)
+component-later s parent text later = rw later refl
+component-later s (normal name) text later = rw (later.0, later.1.filled, later.1.no_dot) refl
+
+-- what separates nothing holds no `\`
+backslash-free : (s : Separators) → OfWindows s → (text : List ℕ) → IsUnseparated (is_separator s) text → IsUnseparated (is_separator Backslash) text
+backslash-free Slash w text free = cc
+backslash-free Backslash w text free = free
+backslash-free Either w text free = λ k d l. (or_parts _ _ (free k d l)).1
+
+-- a later component holds no `/`, unless the text is read verbatim
+piece-slash_free : (p : Part) → IsLaterPart Either p → list_any (is_separator Slash) p.text ≡ false
+piece-slash_free p later = list_any_none (is_separator Slash) p.text (λ k d l. (or_parts _ _ ((later-piece Either p.kind p.text later).unseparated k d l)).0)
+
+-- nor do later components, spelled
+slash-free : (p : Part) (ps : List Part) → AllByRecursion (IsLaterPart Either) (p ∷ ps) → list_any (is_separator Slash) (spelled (p ∷ ps)) ≡ false
+slash-free p [] later = piece-slash_free p later.0
+slash-free p (q ∷ ps) later =
+    ap (λ j. list_any (is_separator Slash) (p.text ++ j ++ spelled (q ∷ ps))) (joint-relative p.kind q.kind (later-relative Either p.kind p.text later.0) (later-relative Either q.kind q.text later.1.0))
+    ∙ list_any-append (is_separator Slash) (p.text ++ backslash ∷ []) (spelled (q ∷ ps))
+    ∙ ap₂ ◌||◌ (list_any-append (is_separator Slash) p.text (backslash ∷ []) ∙ ap (λ x. x || false) (piece-slash_free p later.0)) (slash-free q ps later.1)
+
+-- each piece of later components, spelled, is one
+components-spelled : (s : Separators) → OfWindows s → (p : Part) (ps : List Part) → AllByRecursion (IsLaterPart s) (p ∷ ps)
+    → list_all (is_component s) (slice_split (is_separator Backslash) (spelled (p ∷ ps))) ≡ true
+components-spelled s w p [] later =
+    let free = backslash-free s w p.text (later-piece s p.kind p.text later.0).unseparated in
+    ap (list_all (is_component s)) (slice_split_none (is_separator Backslash) p.text free) ∙ ap (λ x. x && true) (component-later s p.kind p.text later.0)
+components-spelled s w p (q ∷ ps) later =
+    let free = backslash-free s w p.text (later-piece s p.kind p.text later.0).unseparated in
+    let rest = spelled (q ∷ ps) in
+    let split = slice_split (is_separator Backslash) in
+    ap (λ j. list_all (is_component s) (split (p.text ++ j ++ rest))) (joint-relative p.kind q.kind (later-relative s p.kind p.text later.0) (later-relative s q.kind q.text later.1.0))
+    ∙ ap (λ t. list_all (is_component s) (split t)) (append_assoc p.text (backslash ∷ []) rest)
+    ∙ ap (list_all (is_component s)) (slice_split-append (is_separator Backslash) p.text backslash rest refl ∙ ap (λ ts. ts ++ split rest) (slice_split_none (is_separator Backslash) p.text free))
+    ∙ ap₂ ◌&&◌ (component-later s p.kind p.text later.0) (components-spelled s w q ps later.1)
+
+-- so later components, spelled, are a row
+pub row-spelled : (s : Separators) → OfWindows s → (p : Part) (ps : List Part) → AllByRecursion (IsLaterPart s) (p ∷ ps) → is_row s (spelled (p ∷ ps)) ≡ true
+row-spelled s w p ps later = ap₂ ◌&&◌ (by s w later) (components-spelled s w p ps later)
+  where
+    by : (s : Separators) → OfWindows s → AllByRecursion (IsLaterPart s) (p ∷ ps) → (is_verbatim s || not (list_any (is_separator Slash) (spelled (p ∷ ps)))) ≡ true
+    by Slash w later = cc
+    by Backslash w later = refl
+    by Either w later = ap not (slash-free p ps later)
