@@ -17,7 +17,7 @@ use crate::windows::encoding::cursor;
 use std::alloc::{AllocError, Global};
 
 /// Whether a path has one of the three verbatim kinds, which its first bytes tell.
-fn has_verbatim_kind(path: &[u8]) -> bool
+pub fn has_verbatim_kind(path: &[u8]) -> bool
     ensures { result ≡ has_any_verbatim_prefix (kinds (parts_of windows path.now)) }
 {
     match after_mark(b'?', path) {

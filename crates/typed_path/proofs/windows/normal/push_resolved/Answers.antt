@@ -15,8 +15,9 @@ pushed_next goal text next names i n within pushed h =
 
 pub names-preserved : goal.names-preserved
 names-preserved c = (
-  pushed_next _ _ _ c.as_slice-name-items.result.now c.names.name-index _ c.names-test.true c.in_ok-push_behind.ensures.ok c.names.invariant.0,
-  c.in_ok-push_behind.ensures.kept ∙ c.names.invariant.1,
-  c.in_ok-push_behind.ensures.long,
-  omega (arith, c.in_ok-push_behind.ensures.capacity, c.names.invariant.3),
+  pushed_next _ _ _ c.as_slice-name-items.result.now c.names.name-index _ c.names-test.true c.in_ok-spelling.ensures.ok c.names.invariant.0,
+  c.in_ok-spelling.ensures.kept ∙ c.names.invariant.1,
+  c.in_ok-spelling.ensures.long,
+  omega (arith, c.in_ok-spelling.ensures.capacity, c.names.invariant.3),
+  c.in_ok-spelling.ensures.spelling,
 )
