@@ -1,7 +1,7 @@
 -- Texts of Windows that are spelled as they are read, and names that a push puts behind them as they stand.
-use Rattle.std.specs.Prelude.{◌≡◌, codes, Bool, true, false}
+use Rattle.std.specs.Prelude.{codes}
 use Rattle.std.proofs.Common.{refl}
-use Rattle.typed_path.specs.changes.Spelled.{is_plain, IsReady, IsRooted}
+use Rattle.typed_path.specs.changes.Spelled.{IsReady, IsRooted}
 
 drive : IsReady (codes "\\\\?\\C:")
 drive = ((refl, refl), refl)
