@@ -1,6 +1,6 @@
-//! Texts that a push spells anew as they stand, and the names that it puts behind them as they stand.
+//! Texts that a push spells anew as they stand, and the names that it puts behind them so.
 
-ghost use Rattle.std.specs.Prelude.{◌≡◌, ◌≤◌, ◌||◌, true, length, Some};
+ghost use Rattle.std.specs.Prelude.{◌≡◌, ◌||◌, true, drop, Some};
 ghost use Rattle.std.specs.List.{list_any, list_all, slice_split};
 ghost use Rattle.typed_path.specs.declared.scan.separators.Separators.{Separators};
 ghost use Rattle.typed_path.specs.components.Dialect.{windows, is_separator};
@@ -22,7 +22,7 @@ pub enum Spelling {
     Other,
 }
 
-/// Whether a push puts the name behind a text that is spelled as it stands, as it stands.
+/// Whether a push puts the name as it stands behind a text that it spells as that stands.
 pub fn is_plain(name: &[u8]) -> bool
     ensures { result ≡ is_plain name.now }
 {
@@ -56,16 +56,15 @@ pub fn spelling_of(text: &[u8]) -> Spelling
     if !found.kind.is_verbatim() {
         return Spelling::Other;
     }
-    spelling_behind(text, found.length)
+    spelling_behind(text, &text[found.length..])
 }
 
-/// The same of a text with a verbatim prefix of so many bytes.
-fn spelling_behind(text: &[u8], len: usize) -> Spelling
-    requires { len ≤ length text.now }
-    ensures { (f : Found) → prefix_of windows text.now ≡ Some f → f.length ≡ len
-        → is_verbatim_prefix f.prefix ≡ true → IsSpelling result text.now }
+/// The same by what stands behind a verbatim prefix.
+fn spelling_behind(text: &[u8], behind: &[u8]) -> Spelling
+    ensures { (f : Found) → prefix_of windows text.now ≡ Some f → is_verbatim_prefix f.prefix ≡ true
+        → drop f.length text.now ≡ behind.now → IsSpelling result text.now }
 {
-    let Some((first, names)) = text[len..].split_first() else {
+    let Some((first, names)) = behind.split_first() else {
         return Spelling::Ready;
     };
     if *first != b'\\' {
