@@ -28,8 +28,13 @@ const NAME: &[u8] = b"other.rs";
 const EXTENSION: &[u8] = b"txt";
 
 /// What a Windows path begins with, before its first separator.
-const PREFIXES: [(&str, &[u8]); 4] =
-    [("no prefix", b""), ("a drive", b"C:"), ("a share", br"\\server\share"), ("verbatim", br"\\?\C:")];
+const PREFIXES: [(&str, &[u8]); 5] = [
+    ("no prefix", b""),
+    ("a drive", b"C:"),
+    ("a share", br"\\server\share"),
+    ("a device", br"\\.\device"),
+    ("verbatim", br"\\?\C:"),
+];
 
 // The calls here: a slice is passed as a pointer and a length, and an allocator as nothing.
 
@@ -49,11 +54,13 @@ exports!((path: *const u8, len: usize):
     bench_walk bench_walk_back bench_next bench_next_back bench_texts bench_zip bench_peekable
     bench_ahead bench_chain bench_map bench_filter bench_collect bench_ancestors bench_last bench_parent
     bench_file_name bench_extension bench_to_path_buf bench_normalize bench_first bench_windows_walk
-    bench_windows_walk_back bench_windows_next bench_windows_next_back bench_windows_first bench_windows_last);
+    bench_windows_walk_back bench_windows_next bench_windows_next_back bench_windows_first bench_windows_last
+    bench_windows_parent bench_windows_file_name bench_windows_extension bench_windows_normalize);
 
 exports!((path: *const u8, len: usize, other: *const u8, other_len: usize):
     bench_starts_with bench_strip_prefix bench_ends_with bench_join bench_join_checked
-    bench_with_file_name bench_with_extension);
+    bench_with_file_name bench_with_extension bench_windows_join bench_windows_join_checked
+    bench_windows_with_extension);
 
 exports!((texts: *const u8, len: usize, ends: *const usize, count: usize, other: *const u8, other_len: usize):
     bench_room_lay bench_room_push bench_room_pop bench_room_file_name bench_room_extension
@@ -228,8 +235,11 @@ struct Corpus {
     end: Texts,
     /// With `.`, `..` and doubled separators here and there.
     dotted: Texts,
-    /// As on Windows, with each of the prefixes; and the same texts with slashes alone.
-    windows: Vec<[Texts; 2]>,
+    /// As on Windows, with each of the prefixes, and the same texts with slashes alone; and each time
+    /// a base with that prefix.
+    windows: Vec<[(Texts, Vec<u8>); 2]>,
+    /// The paths without a root, with backslashes.
+    windows_relative: Texts,
 }
 
 /// A text with one byte in the place of another.
@@ -268,6 +278,7 @@ impl Corpus {
             end: Texts::default(),
             dotted: Texts::default(),
             windows: Vec::new(),
+            windows_relative: Texts::default(),
         };
         for at in 0..few {
             let path = corpus.paths.at(at);
@@ -297,8 +308,19 @@ impl Corpus {
             corpus.end.push(&end[1..]);
             corpus.dotted.push(&dotted);
         }
-        corpus.windows =
-            PREFIXES.iter().map(|(_, prefix)| [b'\\', b'/'].map(|byte| behind_prefix(&corpus, prefix, byte))).collect();
+        corpus.windows = PREFIXES
+            .iter()
+            .map(|(_, prefix)| {
+                [b'\\', b'/'].map(|byte| {
+                    let base = replaced(&replaced(&[prefix, BASE].concat(), b'/', byte), b'\\', byte);
+                    (behind_prefix(&corpus, prefix, byte), base)
+                })
+            })
+            .collect();
+        for at in 0..few {
+            let relative = replaced(corpus.relative.at(at), b'/', b'\\');
+            corpus.windows_relative.push(&relative);
+        }
         corpus
     }
 
@@ -532,20 +554,38 @@ fn rows(corpus: &Corpus) -> Vec<Row<'_>> {
 
 /// Calls on Windows paths behind a prefix, beside those of Unix on the same texts with slashes.
 fn windows_rows(corpus: &Corpus, at: usize) -> Vec<Row<'_>> {
-    let row = |label, reads, windows: One, unix: One| {
+    let [(paths, base), (other, other_base)] = &corpus.windows[at];
+    let one = |label, reads, windows: One, unix: One| {
         let kind = Kind { corpus, reads };
-        let [paths, other] = &corpus.windows[at];
         let ours = each(kind.calls(), move |at| unsafe { windows(paths.at(at).as_ptr(), paths.at(at).len()) });
         let theirs = each(kind.calls(), move |at| unsafe { unix(other.at(at).as_ptr(), other.at(at).len()) });
         kind.row(label, ours, theirs)
     };
+    let call = |two: Two, path: &[u8], other: &[u8]| unsafe { two(path.as_ptr(), path.len(), other.as_ptr(), other.len()) };
+    let whole = Kind { corpus, reads: Reads::Whole };
+    let joined = |label, windows: Two, unix: Two| {
+        let ours = each(whole.calls(), move |at| call(windows, base, corpus.windows_relative.at(at)));
+        let theirs = each(whole.calls(), move |at| call(unix, other_base, corpus.relative.at(at)));
+        whole.row(label, ours, theirs)
+    };
     vec![
-        row("`for` over the components", Reads::Components, bench_windows_walk, bench_walk),
-        row("`for` over them by `rev()`", Reads::Components, bench_windows_walk_back, bench_walk_back),
-        row("`next`", Reads::Components, bench_windows_next, bench_next),
-        row("`next_back`", Reads::Components, bench_windows_next_back, bench_next_back),
-        row("first component", Reads::End, bench_windows_first, bench_first),
-        row("last component", Reads::End, bench_windows_last, bench_last),
+        one("`for` over `components()`", Reads::Components, bench_windows_walk, bench_walk),
+        one("`for` over `components().rev()`", Reads::Components, bench_windows_walk_back, bench_walk_back),
+        one("`next`", Reads::Components, bench_windows_next, bench_next),
+        one("`next_back`", Reads::Components, bench_windows_next_back, bench_next_back),
+        one("first component", Reads::End, bench_windows_first, bench_first),
+        one("last component", Reads::End, bench_windows_last, bench_last),
+        one("`parent`", Reads::End, bench_windows_parent, bench_parent),
+        one("`file_name`", Reads::End, bench_windows_file_name, bench_file_name),
+        one("`extension`", Reads::End, bench_windows_extension, bench_extension),
+        joined("`join` onto a base", bench_windows_join, bench_join),
+        joined("`join_checked` onto a base", bench_windows_join_checked, bench_join_checked),
+        whole.row(
+            "`with_extension`",
+            each(whole.calls(), move |at| call(bench_windows_with_extension, paths.at(at), EXTENSION)),
+            each(whole.calls(), move |at| call(bench_with_extension, other.at(at), EXTENSION)),
+        ),
+        one("`normalize`", Reads::Whole, bench_windows_normalize, bench_normalize),
     ]
 }
 

@@ -1,20 +1,15 @@
-//! Walks over the components of a Windows path: the sum of the lengths of their texts; and single
-//! steps.
+//! Calls on Windows paths: walks, which answer the sum of the lengths of the texts; single steps and
+//! questions; and owned paths, which answer their length. Where memory is refused, the number is 0.
 
-use typed_path::{Component, WindowsComponents, WindowsPath};
-
-/// The components of a text.
-#[inline(always)]
-fn components(path: &[u8]) -> WindowsComponents<'_> {
-    WindowsComponents::new(WindowsPath::new(path))
-}
+use std::alloc::{AllocError, Global};
+use typed_path::{WindowsPath, WindowsPathBuf};
 
 /// A walk by `for`.
 #[unsafe(no_mangle)]
 pub extern "C" fn bench_windows_walk(path: &[u8]) -> usize {
     let mut sum = 0usize;
-    for component in components(path) {
-        sum = sum.wrapping_add(component.len());
+    for piece in WindowsPath::new(path).components() {
+        sum = sum.wrapping_add(piece.text.len());
     }
     sum
 }
@@ -23,8 +18,8 @@ pub extern "C" fn bench_windows_walk(path: &[u8]) -> usize {
 #[unsafe(no_mangle)]
 pub extern "C" fn bench_windows_walk_back(path: &[u8]) -> usize {
     let mut sum = 0usize;
-    for component in components(path).rev() {
-        sum = sum.wrapping_add(component.len());
+    for piece in WindowsPath::new(path).components().rev() {
+        sum = sum.wrapping_add(piece.text.len());
     }
     sum
 }
@@ -33,9 +28,9 @@ pub extern "C" fn bench_windows_walk_back(path: &[u8]) -> usize {
 #[unsafe(no_mangle)]
 pub extern "C" fn bench_windows_next(path: &[u8]) -> usize {
     let mut sum = 0usize;
-    let mut components = components(path);
-    'components: while let Some(component) = components.next() {
-        sum = sum.wrapping_add(component.len());
+    let mut components = WindowsPath::new(path).components();
+    'pieces: while let Some(piece) = components.next() {
+        sum = sum.wrapping_add(piece.text.len());
     }
     sum
 }
@@ -44,9 +39,9 @@ pub extern "C" fn bench_windows_next(path: &[u8]) -> usize {
 #[unsafe(no_mangle)]
 pub extern "C" fn bench_windows_next_back(path: &[u8]) -> usize {
     let mut sum = 0usize;
-    let mut components = components(path);
-    'components: while let Some(component) = components.next_back() {
-        sum = sum.wrapping_add(component.len());
+    let mut components = WindowsPath::new(path).components();
+    'pieces: while let Some(piece) = components.next_back() {
+        sum = sum.wrapping_add(piece.text.len());
     }
     sum
 }
@@ -54,13 +49,68 @@ pub extern "C" fn bench_windows_next_back(path: &[u8]) -> usize {
 /// The first component.
 #[unsafe(no_mangle)]
 pub extern "C" fn bench_windows_first(path: &[u8]) -> usize {
-    let first = components(path).next();
-    first.map_or(1, |component| component.len())
+    let first = WindowsPath::new(path).components().next();
+    first.map_or(1, |piece| piece.text.len())
 }
 
 /// The last component.
 #[unsafe(no_mangle)]
 pub extern "C" fn bench_windows_last(path: &[u8]) -> usize {
-    let last = components(path).next_back();
-    last.map_or(1, |component| component.len())
+    let last = WindowsPath::new(path).components().next_back();
+    last.map_or(1, |piece| piece.text.len())
+}
+
+/// The parent.
+#[unsafe(no_mangle)]
+pub extern "C" fn bench_windows_parent(path: &[u8]) -> usize {
+    let parent = WindowsPath::new(path).parent();
+    parent.map_or(1, |parent| parent.as_bytes().len())
+}
+
+/// The file name.
+#[unsafe(no_mangle)]
+pub extern "C" fn bench_windows_file_name(path: &[u8]) -> usize {
+    let name = WindowsPath::new(path).file_name();
+    name.map_or(1, |name| name.len())
+}
+
+/// The extension of the file name.
+#[unsafe(no_mangle)]
+pub extern "C" fn bench_windows_extension(path: &[u8]) -> usize {
+    let extension = WindowsPath::new(path).extension();
+    extension.map_or(1, |extension| extension.len())
+}
+
+/// The length of a path that was made.
+fn length_of(made: Result<WindowsPathBuf, AllocError>) -> usize {
+    made.map_or(0, |path| path.as_path().as_bytes().len())
+}
+
+/// The path with another pushed onto it.
+#[unsafe(no_mangle)]
+pub extern "C" fn bench_windows_join(alloc: Global, path: &[u8], other: &[u8]) -> usize {
+    length_of(WindowsPath::new(path).join(alloc, WindowsPath::new(other)))
+}
+
+/// The same, unless the other offends.
+#[unsafe(no_mangle)]
+pub extern "C" fn bench_windows_join_checked(alloc: Global, path: &[u8], other: &[u8]) -> usize {
+    let joined = WindowsPath::new(path).join_checked(alloc, WindowsPath::new(other));
+    joined.map_or(0, |path| path.as_path().as_bytes().len())
+}
+
+/// A copy with another extension.
+#[unsafe(no_mangle)]
+pub extern "C" fn bench_windows_with_extension(
+    alloc: Global,
+    path: &[u8],
+    extension: &[u8],
+) -> usize {
+    length_of(WindowsPath::new(path).with_extension(alloc, extension))
+}
+
+/// The normal text.
+#[unsafe(no_mangle)]
+pub extern "C" fn bench_windows_normalize(alloc: Global, path: &[u8]) -> usize {
+    length_of(WindowsPath::new(path).normalize(alloc))
 }
