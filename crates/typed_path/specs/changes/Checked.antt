@@ -1,5 +1,5 @@
 -- What a checked call was refused for.
-use Rattle.std.specs.Prelude.{◌≡◌, ℕ, List, true, Result, Ok, Err, Option, Some, None}
+use Rattle.std.specs.Prelude.{◌≡◌, ℕ, List, Bool, true, not, ◌&&◌, Result, Ok, Err, Option, Some, None}
 use Rattle.std.specs.List.{All, AllByRecursion}
 use Rattle.typed_path.specs.declared.scan.separators.Separators.{Separators}
 use Rattle.typed_path.specs.declared.errors.CheckedPathError.{CheckedPathError}
@@ -19,6 +19,10 @@ refusal (Err OutOfMemory) = None
 abbrev pub error_of : {A E : Type 0} → Result A E → Option E
 error_of (Ok x) = None
 error_of (Err e) = Some e
+
+-- a byte that no name may have, and that is no separator
+abbrev pub is_stray : Separators → ℕ → Bool
+is_stray s b = is_disallowed (dialect_of s) b && not (is_separator s b)
 
 -- each byte of a text that no name may have is a separator
 abbrev pub SeparatesDisallowed : Separators → List ℕ → Type 0

@@ -1,12 +1,12 @@
 //! Which bytes separate the components of a text.
 
 ghost use Rattle.std.specs.Prelude.{◌≡◌, ◌≤◌, ◌==◌, ◌||◌, ℕ, length, IsTrue};
-ghost use Rattle.std.specs.List.{position_or_len, IsAfterLastMatch};
+ghost use Rattle.std.specs.List.{position_or_len, list_any, IsAfterLastMatch};
 ghost use Rattle.typed_path.specs.components.Dialect.{windows, separators, is_separator, is_verbatim, root_text, dialect_of};
 ghost use Rattle.typed_path.specs.queries.Queries.{is_disallowed, is_valid_name};
-ghost use Rattle.typed_path.specs.changes.Checked.{SeparatesDisallowed};
+ghost use Rattle.typed_path.specs.changes.Checked.{SeparatesDisallowed, is_stray};
 
-use crate::constants::{unix, windows};
+use crate::constants::unix;
 use crate::scan::lanes::{first_between, last_between};
 use memchr::memchr;
 
@@ -76,14 +76,13 @@ impl Separators {
     }
 
     /// Whether no name of such a text may have the byte.
+    #[inline(always)]
     fn is_disallowed(self, byte: u8) -> bool
         ensures { result ≡ is_disallowed (dialect_of self) byte }
     {
         match self {
             Separators::Slash => unix::DISALLOWED_FILENAME_BYTES.contains(&byte),
-            Separators::Backslash | Separators::Either => {
-                windows::DISALLOWED_FILENAME_BYTES.contains(&byte)
-            }
+            Separators::Backslash | Separators::Either => is_disallowed_on_windows(byte),
         }
     }
 
@@ -101,8 +100,28 @@ impl Separators {
     {
         match self {
             Separators::Slash => memchr(b'\0', bytes).is_none(),
-            Separators::Backslash | Separators::Either => false,
+            Separators::Backslash | Separators::Either => !self.has_stray(bytes),
         }
+    }
+
+    /// Whether a text has a byte that no name may have and that is no separator. It has no branch
+    /// by the byte, so that many are looked at at once.
+    fn has_stray(self, bytes: &[u8]) -> bool
+        ensures { result ≡ list_any (is_stray self) bytes.now }
+    {
+        let mut stray = false;
+        'bytes: for byte in bytes {
+            stray |= self.is_stray(*byte);
+        }
+        stray
+    }
+
+    /// Whether no name of such a text may have the byte, and it is no separator.
+    #[inline(always)]
+    fn is_stray(self, byte: u8) -> bool
+        ensures { result ≡ is_stray self byte }
+    {
+        self.is_disallowed(byte) & !self.contains(byte)
     }
 
     /// The place of the first separator, or the length where there is none.
@@ -122,4 +141,21 @@ impl Separators {
     {
         last_between(bytes, 0, bytes.len(), self)
     }
+}
+
+/// Whether no name of Windows may have the byte.
+#[inline(always)]
+fn is_disallowed_on_windows(byte: u8) -> bool
+    ensures { result ≡ is_disallowed windows byte }
+{
+    (byte == b'\\')
+        | (byte == b'/')
+        | (byte == b':')
+        | (byte == b'?')
+        | (byte == b'*')
+        | (byte == b'"')
+        | (byte == b'>')
+        | (byte == b'<')
+        | (byte == b'|')
+        | (byte == 0)
 }

@@ -16,6 +16,9 @@ use crate::scan::{Cursor, Piece, PieceKind, after_mark, drive, find_prefix};
 use crate::windows::encoding::cursor;
 use std::alloc::{AllocError, Global};
 
+/// How many components find room before more is asked for.
+const PIECES: usize = 16;
+
 /// Whether a path has one of the three verbatim kinds, which its first bytes tell.
 pub fn has_verbatim_kind(path: &[u8]) -> bool
     ensures { result ≡ has_any_verbatim_prefix (kinds (parts_of windows path.now)) }
@@ -98,7 +101,7 @@ fn merge<'a>(
     ensures { IfOk result (λ pieces. map part_of pieces.items
         ≡ merged (parts (items_left base.entry)) (parts (items_left other.entry))) }
 {
-    let mut pieces = Vec::new(alloc);
+    let mut pieces = Vec::with_capacity(alloc, PIECES)?;
     'own: while let Some(piece) = base.front() {
         pieces.push(piece)?;
     }

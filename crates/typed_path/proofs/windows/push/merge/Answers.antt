@@ -36,3 +36,6 @@ pub returns : goal.returns
 returns c =
     ap (merged (map part_of c.others.pieces.items)) (sym (yields_first part_of None (items_left c.others.other) (items_left c.front-in-others.new.self) c.in_default-front.ensures.taken c.in_default-front.ensures.items).0)
     ∙ c.others.invariant
+
+pub own-smaller : goal.own-smaller
+own-smaller c = fewer (part_of c.in-Some.piece) (items_left c.own.base) (items_left c.front.new.self) c.in-Some.ensures.taken c.in-Some.ensures.items
