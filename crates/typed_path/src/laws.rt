@@ -29,7 +29,6 @@ use std::hash::Hash;
 pub use windows::{
     normal_stays_stable, windows_components_compare_by_kind, windows_constants_are_these,
     windows_prefix_components_compare_by_kind, windows_prefixes_compare_by_kind,
-    windows_pushes_keep_prefix, windows_pushes_stay_within,
 };
 
 /// A normal text of Unix reads as what the list of its path resolves to.

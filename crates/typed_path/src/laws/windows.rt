@@ -1,8 +1,8 @@
-//! The laws of single values of Windows.
+//! The laws of Windows: of normal texts, and of single values.
 
 ghost use Rattle.std.specs.Prelude.{◌≡◌, ◌↔◌, true, IfSome, [], ◌∷◌, ◌++◌, codes, map};
-ghost use Rattle.typed_path.specs.components.Dialect.{windows, dot, slash, backslash};
-ghost use Rattle.typed_path.specs.promises.Promises.{IsContained, KeepsPrefix, StaysStable};
+ghost use Rattle.typed_path.specs.components.Dialect.{dot, slash, backslash};
+ghost use Rattle.typed_path.specs.promises.Promises.{StaysStable};
 ghost use Rattle.typed_path.specs.components.Part.{prefix};
 ghost use Rattle.typed_path.specs.queries.Queries.{prefix_in, reserved_names};
 ghost use Rattle.typed_path.specs.order.Same.{kind_cmp};
@@ -17,17 +17,6 @@ use crate::constants::windows::{
 };
 use crate::windows::{WindowsComponent, WindowsPrefix, WindowsPrefixComponent};
 use std::hash::Hash;
-
-/// A path that is not refused, pushed onto a base of Windows, stays within the base's place, where
-/// the prefix stays.
-pub fn windows_pushes_stay_within(base: &[u8], path: &[u8])
-    ensures { IsContained windows base.now path.now }
-{}
-
-/// A listed base keeps its prefix under a push of a path that is not refused.
-pub fn windows_pushes_keep_prefix(base: &[u8], path: &[u8])
-    ensures { KeepsPrefix windows base.now path.now }
-{}
 
 /// A normal text of Windows reads as what the list of its path resolves to, but for a root put in
 /// behind a verbatim drive, leads where the path does and is its own normal text, where no name has a
