@@ -75,10 +75,7 @@ fn replies(rt: HostRuntime) -> Result<(), Fail> {
             b"components\twindows\tC:\\a\n",
             b"ok\tDisk=C:\troot=\\\tnormal=a\n",
         ),
-        (
-            b"normalize\twindows\tC:\\a\\.\\..\\b\n",
-            b"ok\tC:\\b\n",
-        ),
+        (b"normalize\twindows\tC:\\a\\.\\..\\b\n", b"ok\tC:\\b\n"),
         (b"join\twindows\tC:\ta\n", b"ok\tC:a\n"),
         (
             b"join_checked\twindows\t\\\\?\\C:\\base\ta/b\\..\\..\n",

@@ -135,7 +135,11 @@ fn component_lists(rt: HostRuntime) {
             Some(WindowsPrefix::DeviceNS(b"COM1")),
             &[br"\\.\COM1"],
         ),
-        (br"\\s\h", Some(WindowsPrefix::UNC(b"s", b"h")), &[br"\\s\h"]),
+        (
+            br"\\s\h",
+            Some(WindowsPrefix::UNC(b"s", b"h")),
+            &[br"\\s\h"],
+        ),
         (
             br"\\s\\x",
             Some(WindowsPrefix::UNC(b"s", b"")),
@@ -192,7 +196,11 @@ fn share_cut_after_each_byte(rt: HostRuntime) {
         let mut components = components(&text[..end]);
         assert!(rt; components.prefix_kind() == prefix);
         if prefix.is_some() {
-            assert!(rt; components.next().is_some_and(|first| first.prefix_kind() == prefix));
+            assert!(rt;
+                components
+                    .next()
+                    .is_some_and(|first| first.prefix_kind() == prefix)
+            );
         }
         assert!(rt; have_texts(components, texts));
     }

@@ -33,7 +33,9 @@ fn pushes(rt: HostRuntime) -> Result<(), Fail> {
 
 #[test]
 fn checked_joins(rt: HostRuntime) -> Result<(), Fail> {
-    use CheckedPathError::{InvalidFilename, PathTraversalAttack, UnexpectedPrefix, UnexpectedRoot};
+    use CheckedPathError::{
+        InvalidFilename, PathTraversalAttack, UnexpectedPrefix, UnexpectedRoot,
+    };
     let rows: [(&[u8], &[u8], Result<&[u8], CheckedPathError>); 15] = [
         (br"\\?\C:\base", br"a/b\..\..", Ok(br"\\?\C:\base")),
         (b"//?/C:/base", b"a", Ok(br"//?/C:\base\a")),
@@ -97,7 +99,11 @@ fn normal_texts(rt: HostRuntime) -> Result<(), Fail> {
 #[test]
 fn questions_and_changes(rt: HostRuntime) -> Result<(), Fail> {
     let drive = WindowsPath::new(b"C:");
-    assert!(rt; drive.parent().is_some_and(|parent| parent.as_bytes().is_empty()));
+    assert!(rt;
+        drive
+            .parent()
+            .is_some_and(|parent| parent.as_bytes().is_empty())
+    );
     let mut popped = WindowsPathBuf::from_bytes(rt.alloc(), b"C:")?;
     assert!(rt; popped.pop());
     assert!(rt; popped.as_path().as_bytes().is_empty());
@@ -129,7 +135,14 @@ fn questions_and_changes(rt: HostRuntime) -> Result<(), Fail> {
 fn requests_from_both_ends(rt: HostRuntime) -> Result<(), Fail> {
     let mut components = WindowsPath::new(br"\\?\C:\a\.\b").components();
     let mut answers = Vec::new(rt.alloc());
-    let ends = [End::Back, End::Front, End::Back, End::Front, End::Back, End::Front];
+    let ends = [
+        End::Back,
+        End::Front,
+        End::Back,
+        End::Front,
+        End::Back,
+        End::Front,
+    ];
     read_ends(&mut components, &ends, &mut answers)?;
     let texts: [Option<&[u8]>; 6] = [
         Some(b"b"),
@@ -143,8 +156,16 @@ fn requests_from_both_ends(rt: HostRuntime) -> Result<(), Fail> {
         assert!(rt; answer.map(|piece| piece.text) == wanted);
     }
     assert!(rt; answers.len() == 6);
-    assert!(rt; WindowsPath::new(br"\\?\C:\a").components().next().is_some_and(|piece| {
-        matches!(piece.kind, typed_path::PieceKind::Prefix(WindowsPrefix::VerbatimDisk(b'C')))
-    }));
+    assert!(rt;
+        WindowsPath::new(br"\\?\C:\a")
+            .components()
+            .next()
+            .is_some_and(|piece| {
+                matches!(
+                    piece.kind,
+                    typed_path::PieceKind::Prefix(WindowsPrefix::VerbatimDisk(b'C'))
+                )
+            })
+    );
     Ok(())
 }
