@@ -1,10 +1,36 @@
 //! Owned paths, with ample memory.
 
+use std::alloc::{AllocError, Global};
 use std::test::Fail;
 use typed_path::{
-    CheckedPathError, PathError, PathOp, Reply, UnixComponents, UnixEncoding, UnixPath,
-    UnixPathBuf, run_ops,
+    CheckedPathError, Encoding, Path, PathBuf, PathError, PathOp, Reply, UnixComponents,
+    UnixEncoding, UnixPath, UnixPathBuf, run_ops,
 };
+
+/// Whether a checked push and a checked join of a path onto a base both end as wanted.
+pub fn joins_as<T: Encoding>(
+    alloc: Global,
+    base: &[u8],
+    path: &[u8],
+    wanted: Result<&[u8], CheckedPathError>,
+) -> Result<bool, AllocError> {
+    let mut pushed = PathBuf::<T>::from_bytes(alloc, base)?;
+    let outcome = pushed.push_checked(Path::new(path));
+    let text = pushed.as_path().as_bytes();
+    let joined = Path::<T>::new(base).join_checked(alloc, Path::new(path));
+    Ok(match wanted {
+        Ok(wanted) => {
+            outcome.is_ok()
+                && text == wanted
+                && joined.is_ok_and(|path| path.as_path().as_bytes() == wanted)
+        }
+        Err(refusal) => {
+            outcome == Err(PathError::Checked(refusal))
+                && text == base
+                && joined.err() == Some(PathError::Checked(refusal))
+        }
+    })
+}
 
 #[test]
 fn checked_pushes(rt: HostRuntime) -> Result<(), Fail> {
@@ -18,21 +44,7 @@ fn checked_pushes(rt: HostRuntime) -> Result<(), Fail> {
         (b"a", b"", Ok(b"a")),
     ];
     for (base, path, wanted) in rows {
-        let mut pushed = UnixPathBuf::from_bytes(rt.alloc(), base)?;
-        let outcome = pushed.push_checked(UnixPath::new(path));
-        let joined = UnixPath::new(base).join_checked(rt.alloc(), UnixPath::new(path));
-        match wanted {
-            Ok(text) => {
-                assert_eq!(rt; outcome, Ok(()));
-                assert_eq!(rt; pushed.as_path().as_bytes(), text);
-                assert_eq!(rt; joined?.as_path().as_bytes(), text);
-            }
-            Err(refusal) => {
-                assert_eq!(rt; outcome, Err(PathError::Checked(refusal)));
-                assert_eq!(rt; pushed.as_path().as_bytes(), base);
-                assert_eq!(rt; joined.err(), Some(PathError::Checked(refusal)));
-            }
-        }
+        assert!(rt; joins_as::<UnixEncoding>(rt.alloc(), base, path, wanted)?);
     }
     Ok(())
 }

@@ -1,8 +1,11 @@
 //! Whole paths of Windows, with ample memory: rows of known answers.
 
+use crate::owned::joins_as;
+use crate::paths::normalizes_as;
 use std::test::Fail;
 use typed_path::{
-    CheckedPathError, End, PathError, WindowsPath, WindowsPathBuf, WindowsPrefix, read_ends,
+    CheckedPathError, End, PieceKind, WindowsEncoding, WindowsPath, WindowsPathBuf, WindowsPrefix,
+    read_ends,
 };
 
 #[test]
@@ -54,21 +57,7 @@ fn checked_joins(rt: HostRuntime) -> Result<(), Fail> {
         (br"C:\out", br"a\b?", Err(InvalidFilename)),
     ];
     for (base, path, wanted) in rows {
-        let mut pushed = WindowsPathBuf::from_bytes(rt.alloc(), base)?;
-        let outcome = pushed.push_checked(WindowsPath::new(path));
-        let joined = WindowsPath::new(base).join_checked(rt.alloc(), WindowsPath::new(path));
-        match wanted {
-            Ok(text) => {
-                assert_eq!(rt; outcome, Ok(()));
-                assert_eq!(rt; pushed.as_path().as_bytes(), text);
-                assert_eq!(rt; joined?.as_path().as_bytes(), text);
-            }
-            Err(refusal) => {
-                assert_eq!(rt; outcome, Err(PathError::Checked(refusal)));
-                assert_eq!(rt; pushed.as_path().as_bytes(), base);
-                assert_eq!(rt; joined.err(), Some(PathError::Checked(refusal)));
-            }
-        }
+        assert!(rt; joins_as::<WindowsEncoding>(rt.alloc(), base, path, wanted)?);
     }
     Ok(())
 }
@@ -90,8 +79,7 @@ fn normal_texts(rt: HostRuntime) -> Result<(), Fail> {
         (b"", b""),
     ];
     for (path, wanted) in rows {
-        let normal = WindowsPath::new(path).normalize(rt.alloc())?;
-        assert_eq!(rt; normal.into_vec().as_slice(), wanted);
+        assert!(rt; normalizes_as::<WindowsEncoding>(rt.alloc(), path, wanted)?);
     }
     Ok(())
 }
@@ -163,7 +151,7 @@ fn requests_from_both_ends(rt: HostRuntime) -> Result<(), Fail> {
             .is_some_and(|piece| {
                 matches!(
                     piece.kind,
-                    typed_path::PieceKind::Prefix(WindowsPrefix::VerbatimDisk(b'C'))
+                    PieceKind::Prefix(WindowsPrefix::VerbatimDisk(b'C'))
                 )
             })
     );
