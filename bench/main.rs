@@ -54,8 +54,8 @@ exports!((path: *const u8, len: usize):
     bench_walk bench_walk_back bench_next bench_next_back bench_texts bench_zip bench_peekable
     bench_ahead bench_chain bench_map bench_filter bench_collect bench_ancestors bench_last bench_parent
     bench_file_name bench_extension bench_to_path_buf bench_normalize bench_first bench_windows_walk
-    bench_windows_walk_back bench_windows_next bench_windows_next_back bench_windows_first bench_windows_last
-    bench_windows_parent bench_windows_file_name bench_windows_extension bench_windows_normalize);
+    bench_windows_walk_back bench_windows_first bench_windows_last bench_windows_parent
+    bench_windows_file_name bench_windows_extension bench_windows_normalize);
 
 exports!((path: *const u8, len: usize, other: *const u8, other_len: usize):
     bench_starts_with bench_strip_prefix bench_ends_with bench_join bench_join_checked
@@ -571,8 +571,6 @@ fn windows_rows(corpus: &Corpus, at: usize) -> Vec<Row<'_>> {
     vec![
         one("`for` over `components()`", Reads::Components, bench_windows_walk, bench_walk),
         one("`for` over `components().rev()`", Reads::Components, bench_windows_walk_back, bench_walk_back),
-        one("`next`", Reads::Components, bench_windows_next, bench_next),
-        one("`next_back`", Reads::Components, bench_windows_next_back, bench_next_back),
         one("first component", Reads::End, bench_windows_first, bench_first),
         one("last component", Reads::End, bench_windows_last, bench_last),
         one("`parent`", Reads::End, bench_windows_parent, bench_parent),

@@ -24,28 +24,6 @@ pub extern "C" fn bench_windows_walk_back(path: &[u8]) -> usize {
     sum
 }
 
-/// A walk by `next`.
-#[unsafe(no_mangle)]
-pub extern "C" fn bench_windows_next(path: &[u8]) -> usize {
-    let mut sum = 0usize;
-    let mut components = WindowsPath::new(path).components();
-    'pieces: while let Some(piece) = components.next() {
-        sum = sum.wrapping_add(piece.text.len());
-    }
-    sum
-}
-
-/// A walk by `next_back`.
-#[unsafe(no_mangle)]
-pub extern "C" fn bench_windows_next_back(path: &[u8]) -> usize {
-    let mut sum = 0usize;
-    let mut components = WindowsPath::new(path).components();
-    'pieces: while let Some(piece) = components.next_back() {
-        sum = sum.wrapping_add(piece.text.len());
-    }
-    sum
-}
-
 /// The first component.
 #[unsafe(no_mangle)]
 pub extern "C" fn bench_windows_first(path: &[u8]) -> usize {
