@@ -44,7 +44,7 @@ alone-again : (raw : List ℕ) (g : Found) → prefix_of windows raw ≡ Some g 
 alone-again raw g is whole = record { reads = ap (parts_of windows) (push-first raw) ∙ prefix-alone raw g is whole; same_text = refl }
 
 -- a root pushed onto a prefix and nothing else is put behind it
-push-root : (raw : List ℕ) (g : Found) → prefix_of windows raw ≡ Some g → g.length ≡ length raw → push_windows raw (backslash ∷ []) ≡ raw ++ backslash ∷ []
+pub push-root : (raw : List ℕ) (g : Found) → prefix_of windows raw ≡ Some g → g.length ≡ length raw → push_windows raw (backslash ∷ []) ≡ raw ++ backslash ∷ []
 push-root raw g is whole =
     by (has_any_verbatim_prefix (kinds (parts_of windows raw)))
     (ap (λ ps. spelled (merged ps (root_part (backslash ∷ []) ∷ []))) (prefix-alone raw g is whole) ∙ ap (λ t. t ++ backslash ∷ []) (append-nil raw))
@@ -70,7 +70,7 @@ none-again _ (rooted names plain) = settled-again [] None Either (root_part (bac
     same (n ∷ ns) = refl
 
 -- a drive with a name or a root pushed onto it
-push-drive : (raw : List ℕ) (letter : ℕ) (name : List ℕ) → parts_of windows raw ≡ prefix_part (disk letter) raw ∷ [] → IsPlain name → push_windows raw name ≡ raw ++ name
+pub push-drive : (raw : List ℕ) (letter : ℕ) (name : List ℕ) → parts_of windows raw ≡ prefix_part (disk letter) raw ∷ [] → IsPlain name → push_windows raw name ≡ raw ++ name
 push-drive raw letter name read plain =
     push-plain raw name plain
     ∙ ap (λ ps. if has_any_verbatim_prefix (kinds ps) then spelled (merged ps (name_part name ∷ [])) else (if is_disk_alone (kinds ps) then raw else ended_with backslash raw) ++ name) read
