@@ -1,12 +1,13 @@
 -- The normal text as it is written behind a text: a head, and then each name with a separator behind it.
-use Rattle.std.specs.Prelude.{◌≡◌, ◌⊎◌, ◌<◌, ◌≤◌, ℕ, ◌-◌, List, [], ◌∷◌, ◌++◌, true, false, ◌||◌, ◌==◌, length, take, if◌then◌else◌, None}
-use Rattle.std.specs.List.{flat_map, fold, slice_split, All, AllByRecursion}
+use Rattle.std.specs.Prelude.{◌≡◌, ◌⊎◌, ◌<◌, ◌≤◌, ℕ, ◌-◌, List, [], ◌∷◌, ◌++◌, true, false, ◌||◌, ◌==◌, length, take, drop, if◌then◌else◌, Some, None}
+use Rattle.std.specs.List.{list_any, flat_map, fold, slice_split, All, AllByRecursion}
 use Rattle.typed_path.specs.declared.scan.separators.Separators.{Separators}
 use Rattle.typed_path.specs.declared.scan.separators.Separators.TheVariants.{Slash, Backslash, Either}
-use Rattle.typed_path.specs.components.Dialect.{windows, slash, backslash, is_separator}
+use Rattle.typed_path.specs.components.Dialect.{windows, slash, backslash, separators, is_separator, is_verbatim}
 use Rattle.typed_path.specs.components.Comps.{is_dot, is_dot_dot}
-use Rattle.typed_path.specs.components.Prefix.{drive}
+use Rattle.typed_path.specs.components.Prefix.{Found, drive}
 use Rattle.typed_path.specs.places.Places.{normal_text}
+use Rattle.typed_path.specs.promises.Promises.{is_verbatim_unc_name}
 
 -- the separator that is written behind a name
 abbrev pub row_end : Separators → ℕ
@@ -73,3 +74,9 @@ abbrev pub IsPartedEither : List ℕ → List ℕ → List ℕ → Type 0
 IsPartedEither text root rest =
     ((b : ℕ) × (is_separator Either b ≡ true) × (text ≡ b ∷ rest) × (root ≡ backslash ∷ []))
     ⊎ ((root ≡ []) × (rest ≡ text) × ((b : ℕ) (bs : List ℕ) → text ≡ b ∷ bs → is_separator Either b ≡ false))
+
+-- names stand in rows behind a prefix that is no drive: it is not the verbatim one named `UNC`, behind it stands a root or nothing, and no name holds a `/`
+pub record TakesRows (path : List ℕ) (f : Found) (root rest : List ℕ) : Type 0 where
+  pub no_unc : is_verbatim_unc_name (Some f.prefix) ≡ false
+  pub ends : length root ≡ 0 → length rest ≡ 0
+  pub slashless : is_verbatim (separators windows path) ≡ true → list_any (is_separator Slash) (drop f.length path) ≡ false

@@ -112,37 +112,45 @@ settled_by s names segment p e = by (length segment == 0) (is_dot segment) (is_d
     by false false true h = ap (by_kind names segment) (ap kind_at h)
     by false false false h = ap (by_kind names segment) (ap kind_at h)
 
--- a text that stands in rows while the rest of a whole text is still to come
-pub record Standing (s : Separators) (text head rest whole : List ℕ) : Type 0 where
+-- a text that stands in rows while the rest of a whole text is still to come, and what holds of each of its names
+pub record Standing (s : Separators) (P : List ℕ → Type 0) (text head rest whole : List ℕ) : Type 0 where
   pub names : List (List ℕ)
   pub rows : AreRowsOf s text head names
+  pub each : AllByRecursion P names
   pub left : names_left_of s whole ≡ fold settled names (slice_split (is_separator s) rest)
 
--- before the first segment
-pub standing-start : (s : Separators) (text head whole : List ℕ) → AreRowsOf s text head [] → Standing s text head whole whole
-standing-start s text head whole are = record { names = []; rows = are; left = refl }
+module _ (s : Separators) (P : List ℕ → Type 0) where
+  -- before the first segment
+  pub standing-start : (text head whole : List ℕ) → AreRowsOf s text head [] → Standing s P text head whole whole
+  standing-start text head whole are = record { names = []; rows = are; each = tt; left = refl }
 
--- one segment more
-pub standing-step : (s : Separators) (text new head rest behind segment whole : List ℕ) → slice_split (is_separator s) rest ≡ segment ∷ slice_split (is_separator s) behind
-    → slice_split (is_separator s) segment ≡ segment ∷ []
-    → ((names : List (List ℕ)) → AreRowsOf s text head names → new ≡ head ++ rows_of s (settled names segment)) → Standing s text head rest whole → Standing s new head behind whole
-standing-step s text new head rest behind segment whole split alone settles stands =
-    let P : List (List ℕ) → Type 0 = λ ss. AllByRecursion (IsUnseparated (is_separator s)) ss in
-    let unseparated = (subst P alone (slice_split-unseparated (is_separator s) segment)).0 in
-    record {
-      names = settled stands.names segment;
-      rows = record {
-        unseparated = settled-each (IsUnseparated (is_separator s)) stands.names segment (λ e f g. unseparated) stands.rows.unseparated;
-        is = settles stands.names stands.rows;
-      };
-      left = stands.left ∙ ap (fold settled stands.names) split;
-    }
+  -- one segment more
+  pub standing-step : (text new head rest behind segment whole : List ℕ) → slice_split (is_separator s) rest ≡ segment ∷ slice_split (is_separator s) behind
+      → slice_split (is_separator s) segment ≡ segment ∷ [] → P segment
+      → ((names : List (List ℕ)) → AreRowsOf s text head names → new ≡ head ++ rows_of s (settled names segment)) → Standing s P text head rest whole → Standing s P new head behind whole
+  standing-step text new head rest behind segment whole split alone own settles stands =
+      let All : List (List ℕ) → Type 0 = λ ss. AllByRecursion (IsUnseparated (is_separator s)) ss in
+      let unseparated = (subst All alone (slice_split-unseparated (is_separator s) segment)).0 in
+      record {
+        names = settled stands.names segment;
+        rows = record {
+          unseparated = settled-each (IsUnseparated (is_separator s)) stands.names segment (λ e f g. unseparated) stands.rows.unseparated;
+          is = settles stands.names stands.rows;
+        };
+        each = settled-each P stands.names segment (λ e f g. own) stands.each;
+        left = stands.left ∙ ap (fold settled stands.names) split;
+      }
 
--- the last segment
-pub standing-end : (s : Separators) (text new head rest whole : List ℕ) → slice_split (is_separator s) rest ≡ rest ∷ []
-    → ((names : List (List ℕ)) → AreRowsOf s text head names → new ≡ head ++ rows_of s (settled names rest)) → Standing s text head rest whole → new ≡ head ++ rows_of s (names_left_of s whole)
-standing-end s text new head rest whole split settles stands =
-    settles stands.names stands.rows ∙ ap (λ ns. head ++ rows_of s ns) (sym (stands.left ∙ ap (fold settled stands.names) split))
+  -- the last segment
+  pub standing-end : (text new head rest whole : List ℕ) → slice_split (is_separator s) rest ≡ rest ∷ []
+      → ((names : List (List ℕ)) → AreRowsOf s text head names → new ≡ head ++ rows_of s (settled names rest)) → Standing s P text head rest whole → new ≡ head ++ rows_of s (names_left_of s whole)
+  standing-end text new head rest whole split settles stands =
+      settles stands.names stands.rows ∙ ap (λ ns. head ++ rows_of s ns) (sym (stands.left ∙ ap (fold settled stands.names) split))
+
+  -- what holds of each name then
+  pub standing-each : (text head rest whole : List ℕ) → slice_split (is_separator s) rest ≡ rest ∷ [] → P rest → Standing s P text head rest whole → AllByRecursion P (names_left_of s whole)
+  standing-each text head rest whole split own stands =
+      subst (AllByRecursion P) (sym (stands.left ∙ ap (fold settled stands.names) split)) (settled-each P stands.names rest (λ e f g. own) stands.each)
 
 -- no name stands behind a head at first
 pub rows-start : (s : Separators) (head : List ℕ) → AreRowsOf s head head []

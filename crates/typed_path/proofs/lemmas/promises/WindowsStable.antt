@@ -34,7 +34,7 @@ use Rattle.typed_path.proofs.lemmas.promises.SettledTexts.{settled-none, settled
 use Rattle.typed_path.proofs.lemmas.promises.ReadAgain.{IsReadAgain, stable-again, push-first, settled-text, settled-again}
 
 -- a prefix and nothing else is read as that
-prefix-alone : (raw : List ℕ) (g : Found) → prefix_of windows raw ≡ Some g → g.length ≡ length raw → parts_of windows raw ≡ prefix_part g.prefix raw ∷ []
+pub prefix-alone : (raw : List ℕ) (g : Found) → prefix_of windows raw ≡ Some g → g.length ≡ length raw → parts_of windows raw ≡ prefix_part g.prefix raw ∷ []
 prefix-alone raw g is whole =
     parts_of-some raw g is
     ∙ ap₂ (λ t u. prefix_part g.prefix t ∷ body_parts (separators windows raw) u) (take_all g.length raw (omega (arith, whole))) (drop_all g.length raw (omega (arith, whole)))
@@ -75,6 +75,10 @@ push-drive raw letter name read plain =
     push-plain raw name plain
     ∙ ap (λ ps. if has_any_verbatim_prefix (kinds ps) then spelled (merged ps (name_part name ∷ [])) else (if is_disk_alone (kinds ps) then raw else ended_with backslash raw) ++ name) read
 
+-- the raw text of a drive is a drive
+pub drive-raw : (t : List ℕ) (letter : ℕ) → drive t ≡ Some letter → prefix_of windows (take 2 t) ≡ Some (found (disk letter) 2)
+drive-raw t letter is = ap (prefix_of windows) (sym (append-nil (take 2 t))) ∙ drive-stays (take 2 t) [] letter (drive-take 2 t (omega arith) ∙ is)
+
 -- under a drive
 drive-again : (t : List ℕ) (letter : ℕ) (ps : List Part) → drive t ≡ Some letter → Resolved ps → IsReadAgain (prefix_part (disk letter) (take 2 t) ∷ ps)
 drive-again t letter ps is resolved = by ps resolved
@@ -86,7 +90,7 @@ drive-again t letter ps is resolved = by ps resolved
     f = found (disk letter) 2
 
     alone : prefix_of windows raw ≡ Some f
-    alone = ap (prefix_of windows) (sym (append-nil raw)) ∙ drive-stays raw [] letter (drive-take 2 t (omega arith) ∙ is)
+    alone = drive-raw t letter is
 
     whole : 2 ≡ length raw
     whole = omega (arith, length-take 2 t, drive-size t letter is)
