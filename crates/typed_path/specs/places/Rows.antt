@@ -1,12 +1,25 @@
--- The normal text of Unix as it is written behind a text: a root or nothing, and then each name with a separator behind it.
-use Rattle.std.specs.Prelude.{◌≡◌, ◌⊎◌, ℕ, ◌-◌, List, [], ◌∷◌, ◌++◌, false, ◌||◌, ◌==◌, length, take, if◌then◌else◌}
-use Rattle.std.specs.List.{flat_map, fold, slice_split, All, AllByRecursion}
-use Rattle.typed_path.specs.declared.scan.separators.Separators.TheVariants.{Slash}
-use Rattle.typed_path.specs.components.Dialect.{slash, is_separator}
+-- The normal text as it is written behind a text: a head, and then each name with a separator behind it.
+use Rattle.std.specs.Prelude.{◌≡◌, ◌⊎◌, ◌<◌, ◌≤◌, ℕ, ◌-◌, List, [], ◌∷◌, ◌++◌, true, false, ◌||◌, ◌==◌, length, take, drop, if◌then◌else◌, Some, None}
+use Rattle.std.specs.List.{list_any, flat_map, fold, slice_split, All, AllByRecursion}
+use Rattle.typed_path.specs.declared.scan.separators.Separators.{Separators}
+use Rattle.typed_path.specs.declared.scan.separators.Separators.TheVariants.{Slash, Backslash, Either}
+use Rattle.typed_path.specs.components.Dialect.{windows, slash, backslash, separators, is_separator, is_verbatim}
 use Rattle.typed_path.specs.components.Comps.{is_dot, is_dot_dot}
+use Rattle.typed_path.specs.components.Prefix.{Found, drive}
+use Rattle.typed_path.specs.places.Places.{normal_text}
+use Rattle.typed_path.specs.promises.Promises.{is_verbatim_unc_name}
+
+-- the separator that is written behind a name
+abbrev pub row_end : Separators → ℕ
+row_end Slash = slash
+row_end Backslash = backslash
+row_end Either = backslash
+
+abbrev pub rows_of : Separators → List (List ℕ) → List ℕ
+rows_of s names = flat_map (λ name. name ++ row_end s ∷ []) names
 
 abbrev pub rows : List (List ℕ) → List ℕ
-rows names = flat_map (λ name. name ++ slash ∷ []) names
+rows names = rows_of Slash names
 
 -- a root, or nothing
 abbrev pub IsHead : List ℕ → Type 0
@@ -18,9 +31,12 @@ IsParted path head rest =
     ((head ≡ slash ∷ []) × (path ≡ slash ∷ rest)) ⊎ ((head ≡ []) × (rest ≡ path) × ((others : List ℕ) → path ≡ slash ∷ others → ⊥))
 
 -- a text of rows behind a head, in whose names no separator stands
-pub record AreRows (text head : List ℕ) (names : List (List ℕ)) : Type 0 where
-  pub unseparated : AllByRecursion (λ name. All (λ b. is_separator Slash b ≡ false) name) names
-  pub is : text ≡ head ++ rows names
+pub record AreRowsOf (s : Separators) (text head : List ℕ) (names : List (List ℕ)) : Type 0 where
+  pub unseparated : AllByRecursion (λ name. All (λ b. is_separator s b ≡ false) name) names
+  pub is : text ≡ head ++ rows_of s names
+
+abbrev pub AreRows : List ℕ → List ℕ → List (List ℕ) → Type 0
+AreRows text head names = AreRowsOf Slash text head names
 
 -- names once one more segment came: an empty one and `.` are nothing, `..` takes a name away
 abbrev pub settled : List (List ℕ) → List ℕ → List (List ℕ)
@@ -29,5 +45,38 @@ settled names segment =
     else (if is_dot_dot segment then take (length names - 1) names else names ++ segment ∷ [])
 
 -- the names that are left of a text behind the root
+abbrev pub names_left_of : Separators → List ℕ → List (List ℕ)
+names_left_of s text = fold settled [] (slice_split (is_separator s) text)
+
 abbrev pub names_left : List ℕ → List (List ℕ)
-names_left text = fold settled [] (slice_split (is_separator Slash) text)
+names_left text = names_left_of Slash text
+
+-- a text of rows, without its last separator where it has names, is the normal text
+pub record IsNormal (goal head text : List ℕ) : Type 0 where
+  pub named : length head < length text → goal ≡ take (length text - 1) text
+  pub alone : length text ≤ length head → goal ≡ text
+
+-- no name begins with a drive
+abbrev pub HaveNoDrives : List (List ℕ) → Type 0
+HaveNoDrives names = AllByRecursion (λ name. drive name ≡ None) names
+
+-- a text of rows behind a head: the names that are left of a Windows text, of which none begins with a drive
+pub record ArePlainRows (text head rest : List ℕ) : Type 0 where
+  pub drives : HaveNoDrives (names_left_of Either rest)
+  pub is : text ≡ head ++ rows_of Either (names_left_of Either rest)
+
+-- where the names that are left of the rest stand so behind the head, they are the normal text of the path
+abbrev pub IsRowHead : List ℕ → List ℕ → List ℕ → Type 0
+IsRowHead path head rest = (text : List ℕ) → ArePlainRows text head rest → IsNormal (normal_text windows path) head text
+
+-- a Windows text is a root and the rest, or begins with no separator
+abbrev pub IsPartedEither : List ℕ → List ℕ → List ℕ → Type 0
+IsPartedEither text root rest =
+    ((b : ℕ) × (is_separator Either b ≡ true) × (text ≡ b ∷ rest) × (root ≡ backslash ∷ []))
+    ⊎ ((root ≡ []) × (rest ≡ text) × ((b : ℕ) (bs : List ℕ) → text ≡ b ∷ bs → is_separator Either b ≡ false))
+
+-- names stand in rows behind a prefix that is no drive: it is not the verbatim one named `UNC`, behind it stands a root or nothing, and no name holds a `/`
+pub record TakesRows (path : List ℕ) (f : Found) (root rest : List ℕ) : Type 0 where
+  pub no_unc : is_verbatim_unc_name (Some f.prefix) ≡ false
+  pub ends : length root ≡ 0 → length rest ≡ 0
+  pub slashless : is_verbatim (separators windows path) ≡ true → list_any (is_separator Slash) (drop f.length path) ≡ false

@@ -1,36 +1,227 @@
 //! The normal text of a Windows path.
 
-ghost use Rattle.std.specs.Prelude.{◌≡◌, ◌≤◌, ◌++◌, [], take, drop, length, map, IfOk, OnOk, OnErr};
+ghost use Rattle.std.specs.Prelude.{◌≡◌, ◌<◌, ◌≤◌, ◌-◌, ◌++◌, ℕ, List, [], take, drop, length, map, IsTrue, IfSome, IfOk, OnOk, OnErr, None};
 ghost use Rattle.std.specs.Vec.{vec_capacity};
+ghost use Rattle.typed_path.specs.declared.scan.separators.Separators.{Separators};
 ghost use Rattle.typed_path.specs.components.Dialect.{windows};
+ghost use Rattle.typed_path.specs.components.Prefix.{prefix_of, drive};
 ghost use Rattle.typed_path.specs.changes.Push.{push_windows, push_all};
 ghost use Rattle.typed_path.specs.changes.Spelled.{IsSpelling};
 ghost use Rattle.typed_path.specs.places.Places.{normal_text};
+ghost use Rattle.typed_path.specs.places.Rows.{rows_of, settled, AreRowsOf, ArePlainRows, IsRowHead, IsPartedEither, TakesRows};
+ghost use Rattle.typed_path.specs.views.PieceViews.{found_of};
 
-use crate::scan::PieceKind;
+use crate::scan::{
+    Found, PieceKind, Separators, WindowsPrefix, cut_at_separator, drive, find_prefix, piece_of,
+};
 use crate::windows::encoding::cursor;
 use crate::windows::push::{has_verbatim_kind, push_at};
-use crate::windows::spelled::{Spelling, is_plain, spelling_of};
+use crate::windows::spelled::{Spelling, is_plain, is_separated, spelling_of};
 use std::alloc::AllocError;
 
 /// How many names find room before more is asked for.
 const NAMES: usize = 16;
 
 /// Puts the normal text of a path behind a text. Where memory is refused, all of it goes.
+///
+/// Most paths are written in one pass: each name is put behind the ones before it with a `\` behind
+/// it, and a `..` takes the last one off again. Where a push would not put a name so, each
+/// component that stays is pushed.
 pub fn put_normal(text: &mut Vec<u8>, path: &[u8]) -> Result<(), AllocError>
     ensures ok { OnOk result (text.new.items ≡ text.old.items ++ normal_text windows path.now) }
     ensures err { OnErr result (text.new.items ≡ text.old.items) }
     ensures capacity { vec_capacity text.old ≤ vec_capacity text.new }
 {
     let len = text.len();
-    if let Err(refused) = push_resolved(text, len, path) {
+    if let Err(refused) = put_resolved(text, len, path) {
         text.truncate(len);
         return Err(refused);
     }
     Ok(())
 }
 
+/// Puts the normal text of a path behind a text, row by row or push by push.
+#[inline(always)]
+fn put_resolved(text: &mut Vec<u8>, start: usize, path: &[u8]) -> Result<(), AllocError>
+    requires { length text.old.items ≡ start }
+    ensures ok { OnOk result (text.new.items ≡ text.old.items ++ normal_text windows path.now) }
+    ensures kept { take start text.new.items ≡ take start text.old.items }
+    ensures long { start ≤ length text.new.items }
+    ensures capacity { vec_capacity text.old ≤ vec_capacity text.new }
+{
+    if let Some(head) = head_of(path) {
+        if put_rows(text, head)? {
+            return Ok(());
+        }
+        text.truncate(start);
+    }
+    push_resolved(text, start, path)
+}
+
+/// What the normal text of a path begins with, before its names.
+#[derive(Clone, Copy, Debug)]
+struct Head<'a> {
+    /// The raw prefix, where there is one.
+    prefix: &'a [u8],
+    /// `\`, or nothing.
+    root: &'static [u8],
+    /// What the names are read from.
+    rest: &'a [u8],
+}
+
+/// The head of a path behind which names are put in rows, where it is one.
+#[inline(always)]
+fn head_of(path: &[u8]) -> Option<Head<'_>>
+    ensures { IfSome result (λ head.
+        IsRowHead path.now (head.prefix.now ++ head.root.now) head.rest.now) }
+{
+    let Some(found) = find_prefix(path) else {
+        return Some(head_behind(path, 0));
+    };
+    let head = head_behind(path, found.length);
+    match found.kind {
+        WindowsPrefix::Disk(_) => Some(head),
+        _ if takes_rows(path, found, head) => Some(head),
+        _ => None,
+    }
+}
+
+/// Whether names are put in rows behind a prefix that is no drive, by what stands behind it.
+///
+/// They are not behind the verbatim prefix named `UNC`, behind a verbatim drive without a root, nor
+/// in a text that is read verbatim where a name may hold a `/`.
+#[inline(always)]
+fn takes_rows(path: &[u8], found: Found<'_>, head: Head<'_>) -> bool
+    requires { found.length ≤ length path.now }
+    ensures { IsTrue result → TakesRows path.now (found_of found.entry) head.entry.root.now head.entry.rest.now }
+{
+    let behind = &path[found.length..];
+    !matches!(found.kind, WindowsPrefix::Verbatim(b"UNC"))
+        && (!head.root.is_empty() || head.rest.is_empty())
+        && !(Separators::of_windows(path).is_verbatim() && is_separated(Separators::Slash, behind))
+}
+
+/// The head of a path by where its prefix ends.
+#[inline(always)]
+fn head_behind(path: &[u8], end: usize) -> Head<'_>
+    requires { end ≤ length path.now }
+    ensures prefix { result.prefix.now ≡ take end path.now }
+    ensures parted { IsPartedEither (drop end path.now) result.root.now result.rest.now }
+{
+    let (prefix, rest) = path.split_at(end);
+    match rest {
+        [first, behind @ ..] if Separators::Either.contains(*first) => Head {
+            prefix,
+            root: b"\\",
+            rest: behind,
+        },
+        _ => Head {
+            prefix,
+            root: b"",
+            rest,
+        },
+    }
+}
+
+/// Puts the names of a path in rows behind its head, and answers whether the normal text stands then.
+#[inline(always)]
+fn put_rows(text: &mut Vec<u8>, head: Head<'_>) -> Result<bool, AllocError>
+    ensures ok { IfOk result (λ done. IsTrue done → (path : List ℕ)
+        → IsRowHead path (head.entry.prefix.now ++ head.entry.root.now) head.entry.rest.now
+        → text.new.items ≡ text.old.items ++ normal_text windows path) }
+    ensures kept { take (length text.old.items) text.new.items ≡ text.old.items }
+    ensures capacity { vec_capacity text.old ≤ vec_capacity text.new }
+{
+    text.extend_from_slice(head.prefix)?;
+    text.extend_from_slice(head.root)?;
+    let len = text.len();
+    if !settle_all(text, len, head.rest)? {
+        return Ok(false);
+    }
+    drop_separator(text, len);
+    Ok(true)
+}
+
+/// Takes the separator behind the last name off, where a name stands behind the first bytes.
+#[inline(always)]
+fn drop_separator(text: &mut Vec<u8>, len: usize)
+    ensures capacity { vec_capacity text.new ≡ vec_capacity text.old }
+    ensures named { len < length text.old.items
+        → text.new.items ≡ take (length text.old.items - 1) text.old.items }
+    ensures alone { length text.old.items ≤ len → text.new.items ≡ text.old.items }
+    ensures kept { take len text.new.items ≡ take len text.old.items }
+{
+    if len < text.len() {
+        text.pop();
+    }
+}
+
+/// Puts the names that are left of a path behind the first bytes of a text, and answers whether
+/// each one that came is put so by a push too: false says nothing of what was put.
+fn settle_all(text: &mut Vec<u8>, len: usize, path: &[u8]) -> Result<bool, AllocError>
+    requires { len ≤ length text.old.items }
+    ensures ok { IfOk result (λ plain. IsTrue plain → (head : List ℕ) → length head ≡ len
+        → AreRowsOf Separators.Either text.old.items head []
+        → ArePlainRows text.new.items head path.now) }
+    ensures kept { take len text.new.items ≡ take len text.old.items }
+    ensures long { len ≤ length text.new.items }
+    ensures capacity { vec_capacity text.old ≤ vec_capacity text.new }
+{
+    let mut rest = path;
+    'segments: while let Some((segment, behind)) = cut_at_separator(Separators::Either, rest) {
+        if !settle(text, len, segment)? {
+            return Ok(false);
+        }
+        rest = behind;
+    }
+    settle(text, len, rest)
+}
+
+/// Settles one more segment behind the names that stand, and answers whether it begins with no
+/// drive: one that does is passed over.
+#[inline(always)]
+fn settle(text: &mut Vec<u8>, len: usize, segment: &[u8]) -> Result<bool, AllocError>
+    requires { len ≤ length text.old.items }
+    ensures ok { IfOk result (λ plain. IsTrue plain → (head : List ℕ) (names : List (List ℕ))
+        → length head ≡ len → AreRowsOf Separators.Either text.old.items head names
+        → text.new.items ≡ head ++ rows_of Separators.Either (settled names segment.now)) }
+    ensures plain { IfOk result (λ plain. IsTrue plain → drive segment.now ≡ None) }
+    ensures kept { take len text.new.items ≡ take len text.old.items }
+    ensures long { len ≤ length text.new.items }
+    ensures capacity { vec_capacity text.old ≤ vec_capacity text.new }
+{
+    if drive(segment).is_some() {
+        return Ok(false);
+    }
+    match piece_of(segment, Separators::Either).kind {
+        PieceKind::ParentDir => drop_name(text, len),
+        PieceKind::Normal => {
+            text.extend_from_slice(segment)?;
+            text.push(b'\\')?;
+        }
+        PieceKind::Prefix(_) | PieceKind::RootDir | PieceKind::CurDir => {}
+    }
+    Ok(true)
+}
+
+/// Takes the last name off, and the separator behind it, where a name stands.
+fn drop_name(text: &mut Vec<u8>, len: usize)
+    requires { len ≤ length text.old.items }
+    ensures dropped { (head : List ℕ) (names : List (List ℕ)) → length head ≡ len
+        → AreRowsOf Separators.Either text.old.items head names
+        → text.new.items ≡ head ++ rows_of Separators.Either (take (length names - 1) names) }
+    ensures kept { take len text.new.items ≡ take len text.old.items }
+    ensures long { len ≤ length text.new.items }
+    ensures capacity { vec_capacity text.new ≡ vec_capacity text.old }
+{
+    if len < text.len() {
+        let start = Separators::Either.last_in(&text[len..text.len() - 1]);
+        text.truncate(len + start);
+    }
+}
+
 /// Pushes what the list of a path resolves to, one by one, onto the empty path at the end of a text.
+#[cold]
 fn push_resolved(text: &mut Vec<u8>, start: usize, path: &[u8]) -> Result<(), AllocError>
     requires { length text.old.items ≡ start }
     ensures ok { OnOk result (drop start text.new.items ≡ normal_text windows path.now) }

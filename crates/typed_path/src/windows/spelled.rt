@@ -31,7 +31,7 @@ pub fn is_plain(name: &[u8]) -> bool
 
 /// Whether some byte of a text separates.
 #[inline(always)]
-fn is_separated(separators: Separators, text: &[u8]) -> bool
+pub fn is_separated(separators: Separators, text: &[u8]) -> bool
     ensures { result ≡ list_any (is_separator separators) text.now }
 {
     separators.first_in(text) != text.len()

@@ -1,16 +1,17 @@
 -- The normal text of Unix, written row by row.
-use Rattle.std.proofs.Common.{◌≡◌, inl, inr, ℕ, suc, ◌+◌, ◌-◌, ◌<◌, ◌≤◌, ◌==◌, ◌||◌, Bool, true, false, cond, List, [], ◌∷◌, ◌++◌, length, take, slice_index, fold, refl, sym, ap, ◌∙◌, append_assoc, append-nil, subst, arith, ne_eqb, eqb-true, get_or}
+use Rattle.std.proofs.Common.{◌≡◌, inl, inr, ℕ, suc, ◌+◌, ◌-◌, ◌<◌, ◌==◌, ◌||◌, Bool, true, false, cond, List, [], ◌∷◌, ◌++◌, length, take, slice_index, fold, refl, sym, ap, ◌∙◌, append_assoc, append-nil, subst, arith, ne_eqb, eqb-true, get_or}
 use Rattle.std.specs.List.{onto_first, AllByRecursion}
 use Rattle.std.proofs.lemmas.List.{length-append, get_or-append-add}
 use Rattle.std.proofs.lemmas.List.Splits.{slice_split-cons_yes, slice_split-cons_no}
 use Rattle.std.proofs.lemmas.Bool.{cond-false, or_from, false_from_ne_true, eqb-false}
+use Rattle.typed_path.specs.declared.scan.separators.Separators.{Separators}
 use Rattle.typed_path.specs.declared.scan.separators.Separators.TheVariants.{Slash}
-use Rattle.typed_path.specs.components.Dialect.{unix, slash, is_separator}
+use Rattle.typed_path.specs.components.Dialect.{Dialect, unix, slash, is_separator, is_verbatim, root_text}
 use Rattle.typed_path.specs.components.Part.{Part, name_part, current_part, parent_part, root_part, kinds, texts}
 use Rattle.typed_path.specs.components.Comps.{is_dot, is_dot_dot}
 use Rattle.typed_path.specs.changes.Push.{ended_with, push_all}
 use Rattle.typed_path.specs.places.Places.{normal_text, resolve}
-use Rattle.typed_path.specs.places.Rows.{rows, IsHead, settled, names_left}
+use Rattle.typed_path.specs.places.Rows.{row_end, rows_of, rows, IsHead, IsNormal, settled, names_left}
 use Rattle.typed_path.proofs.lemmas.lists.SplitLemmas.{IsUnseparated, slice_split-some, slice_split-unseparated, AllByRecursion-append}
 use Rattle.typed_path.proofs.lemmas.components.PartLemmas.{pieces, named_part, later_part, later_parts, first_parts, body_parts, IsCleanName}
 use Rattle.typed_path.proofs.lemmas.places.SettleLemmas.{heads_first, Comes, comes-current, comes-parent, comes-parent_alone, comes-name, comes-head, comes-end}
@@ -36,30 +37,33 @@ take-ended (y ∷ xs) x =
     let size : length (y ∷ (xs ++ x ∷ [])) - 1 ≡ suc (length (xs ++ x ∷ []) - 1) = omega (arith, length-append xs (x ∷ [])) in
     ap (λ n. take n (y ∷ (xs ++ x ∷ []))) size ∙ ap (λ ys. y ∷ ys) (take-ended xs x)
 
-pub rows-append : (ms ns : List (List ℕ)) → rows (ms ++ ns) ≡ rows ms ++ rows ns
-rows-append [] ns = refl
-rows-append (m ∷ ms) ns = ap (λ bs. (m ++ slash ∷ []) ++ bs) (rows-append ms ns) ∙ sym (append_assoc (m ++ slash ∷ []) (rows ms) (rows ns))
+pub rows-append : (s : Separators) (ms ns : List (List ℕ)) → rows_of s (ms ++ ns) ≡ rows_of s ms ++ rows_of s ns
+rows-append s [] ns = refl
+rows-append s (m ∷ ms) ns = ap (λ bs. (m ++ row_end s ∷ []) ++ bs) (rows-append s ms ns) ∙ sym (append_assoc (m ++ row_end s ∷ []) (rows_of s ms) (rows_of s ns))
 
 -- one more segment settles one more component, where the segment is a later one
-comes-settled : {goal head : List ℕ} (names : List (List ℕ)) (segment : List ℕ) (ps : List Part) → Comes unix goal head names (later_part Slash segment ++ ps) → Comes unix goal head (settled names segment) ps
-comes-settled {goal} {head} names segment ps h = by (length segment == 0) (is_dot segment) (is_dot_dot segment) h
+comes-settled : {d : Dialect} {goal head : List ℕ} (s : Separators) (names : List (List ℕ)) (segment : List ℕ) (ps : List Part)
+    → Comes d goal head names (later_part s segment ++ ps) → Comes d goal head (settled names segment) ps
+comes-settled {d} {goal} {head} s names segment ps h = by (length segment == 0) (is_dot segment) (is_verbatim s) (is_dot_dot segment) h
   where
-    parent_ends : (ns : List (List ℕ)) → Ended ns → Comes unix goal head ns (parent_part ∷ ps) → Comes unix goal head (take (length ns - 1) ns) ps
+    parent_ends : (ns : List (List ℕ)) → Ended ns → Comes d goal head ns (parent_part ∷ ps) → Comes d goal head (take (length ns - 1) ns) ps
     parent_ends _ none h = comes-parent_alone h
-    parent_ends _ (some ns n) h = subst (λ ms. Comes unix goal head ms ps) (sym (take-ended ns n)) (comes-parent n h)
+    parent_ends _ (some ns n) h = subst (λ ms. Comes d goal head ms ps) (sym (take-ended ns n)) (comes-parent n h)
 
-    by : (empty dotted twice : Bool)
-        → Comes unix goal head names (cond empty [] (cond dotted [] (cond twice parent_part (name_part segment) ∷ [])) ++ ps)
-        → Comes unix goal head (cond (empty || dotted) names (cond twice (take (length names - 1) names) (names ++ segment ∷ []))) ps
-    by true dotted twice h = h
-    by false true twice h = h
-    by false false true h = parent_ends names (ended names) h
-    by false false false h = comes-name h
+    by : (empty dotted verbatim twice : Bool)
+        → Comes d goal head names (cond empty [] (cond dotted (cond verbatim (current_part ∷ []) []) (cond twice parent_part (name_part segment) ∷ [])) ++ ps)
+        → Comes d goal head (cond (empty || dotted) names (cond twice (take (length names - 1) names) (names ++ segment ∷ []))) ps
+    by true dotted verbatim twice h = h
+    by false true true twice h = comes-current h
+    by false true false twice h = h
+    by false false verbatim true h = parent_ends names (ended names) h
+    by false false verbatim false h = comes-name h
 
 -- so the names that are left are the text's, pushed one by one
-comes-left : {goal head : List ℕ} (segments : List (List ℕ)) (names : List (List ℕ)) → Comes unix goal head names (later_parts Slash segments) → goal ≡ push_all unix head (fold settled names segments)
-comes-left [] names h = comes-end h
-comes-left (segment ∷ segments) names h = comes-left segments (settled names segment) (comes-settled names segment (later_parts Slash segments) h)
+pub comes-left : {d : Dialect} {goal head : List ℕ} (s : Separators) (segments : List (List ℕ)) (names : List (List ℕ))
+    → Comes d goal head names (later_parts s segments) → goal ≡ push_all d head (fold settled names segments)
+comes-left s [] names h = comes-end h
+comes-left s (segment ∷ segments) names h = comes-left s segments (settled names segment) (comes-settled s names segment (later_parts s segments) h)
 
 comes-whole : (text : List ℕ) → Comes unix (normal_text unix text) [] [] (body_parts Slash text)
 comes-whole text = record {
@@ -73,23 +77,30 @@ comes-root rest =
     let P : List (List ℕ) → Type 0 = λ segments. Comes unix (normal_text unix (slash ∷ rest)) [] [] (first_parts Slash segments) in
     comes-head refl (subst P (slice_split-cons_yes (is_separator Slash) slash rest refl) (comes-whole (slash ∷ rest)))
 
+-- a text that does not begin with the root: all of it is settled
+pub comes-unrooted : {d : Dialect} {goal head : List ℕ} (s : Separators) (text : List ℕ) → ((b : ℕ) (bs : List ℕ) → text ≡ b ∷ bs → is_separator s b ≡ false)
+    → Comes d goal head [] (body_parts s text) → Comes d goal head [] (later_parts s (pieces s text))
+comes-unrooted s [] relative h = h
+comes-unrooted {d} {goal} {head} s (b ∷ bs) relative h =
+    let some = slice_split-some (is_separator s) bs in
+    let split : pieces s (b ∷ bs) ≡ (b ∷ some.0) ∷ some.1 = slice_split-cons_no (is_separator s) b bs (relative b bs refl) ∙ ap (onto_first b) some.2 in
+    let P : List (List ℕ) → Type 0 = λ segments. Comes d goal head [] (first_parts s segments) in
+    let Q : List (List ℕ) → Type 0 = λ segments. Comes d goal head [] (later_parts s segments) in
+    subst Q (sym split)
+    (by (length (b ∷ some.0) == 0) (ne_eqb (suc (length some.0)) 0 (λ e. cc)) (is_dot (b ∷ some.0)) (is_verbatim s) (named_part (b ∷ some.0)) (later_parts s some.1) (subst P split h))
+  where
+    by : (empty : Bool) → empty ≡ false → (dotted verbatim : Bool) (named : Part) (ps : List Part)
+        → Comes d goal head [] (cond empty (root_part (root_text s)) (cond dotted current_part named) ∷ ps)
+        → Comes d goal head [] (cond empty [] (cond dotted (cond verbatim (current_part ∷ []) []) (named ∷ [])) ++ ps)
+    by true e dotted verbatim named ps h = cc
+    by false e true true named ps h = h
+    by false e true false named ps h = comes-current h
+    by false e false verbatim named ps h = h
+
 -- any other text: all of it is settled onto nothing
 comes-relative : (text : List ℕ) → ((rest : List ℕ) → text ≡ slash ∷ rest → ⊥) → Comes unix (normal_text unix text) [] [] (later_parts Slash (pieces Slash text))
-comes-relative [] relative = comes-whole []
-comes-relative (b ∷ bs) relative =
-    let some = slice_split-some (is_separator Slash) bs in
-    let apart : is_separator Slash b ≡ false = false_from_ne_true _ (λ e. relative bs (ap (λ c. c ∷ bs) (eqb-true b slash e))) in
-    let split : pieces Slash (b ∷ bs) ≡ (b ∷ some.0) ∷ some.1 = slice_split-cons_no (is_separator Slash) b bs apart ∙ ap (onto_first b) some.2 in
-    let P : List (List ℕ) → Type 0 = λ segments. Comes unix (normal_text unix (b ∷ bs)) [] [] (first_parts Slash segments) in
-    let Q : List (List ℕ) → Type 0 = λ segments. Comes unix (normal_text unix (b ∷ bs)) [] [] (later_parts Slash segments) in
-    subst Q (sym split) (by (length (b ∷ some.0) == 0) (ne_eqb (suc (length some.0)) 0 (λ e. cc)) (is_dot (b ∷ some.0)) (named_part (b ∷ some.0)) (later_parts Slash some.1) (subst P split (comes-whole (b ∷ bs))))
-  where
-    by : (empty : Bool) → empty ≡ false → (dotted : Bool) (named : Part) (ps : List Part)
-        → Comes unix (normal_text unix (b ∷ bs)) [] [] (cond empty (root_part (slash ∷ [])) (cond dotted current_part named) ∷ ps)
-        → Comes unix (normal_text unix (b ∷ bs)) [] [] (cond empty [] (cond dotted [] (named ∷ [])) ++ ps)
-    by true e dotted named ps h = cc
-    by false e true named ps h = comes-current h
-    by false e false named ps h = h
+comes-relative text relative =
+    comes-unrooted Slash text (λ b bs e. false_from_ne_true _ (λ same. relative bs (e ∙ ap (λ c. c ∷ bs) (eqb-true b slash same)))) (comes-whole text)
 
 -- a name ends with no separator
 ended_with-name : (front name : List ℕ) → IsCleanName Slash name → ended_with slash (front ++ name) ≡ (front ++ name) ++ slash ∷ []
@@ -152,35 +163,39 @@ module _ (P : List ℕ → Type 0) where
       by false e false f false g = AllByRecursion-append P names (segment ∷ []) each (own e f g, tt)
 
 -- the names that are left of a text are clean
-left-clean : (segments : List (List ℕ)) (names : List (List ℕ)) → AllByRecursion (IsUnseparated (is_separator Slash)) segments
-    → AllByRecursion (IsCleanName Slash) names → AllByRecursion (IsCleanName Slash) (fold settled names segments)
-left-clean [] names segmented each = each
-left-clean (segment ∷ segments) names segmented each =
-    left-clean segments (settled names segment) segmented.1
-    (settled-each (IsCleanName Slash) names segment (λ e f g. record { filled = e; no_dot = f; no_dot_dot = g; unseparated = segmented.0 }) each)
+pub left-clean : (s : Separators) (segments : List (List ℕ)) (names : List (List ℕ)) → AllByRecursion (IsUnseparated (is_separator s)) segments
+    → AllByRecursion (IsCleanName s) names → AllByRecursion (IsCleanName s) (fold settled names segments)
+left-clean s [] names segmented each = each
+left-clean s (segment ∷ segments) names segmented each =
+    left-clean s segments (settled names segment) segmented.1
+    (settled-each (IsCleanName s) names segment (λ e f g. record { filled = e; no_dot = f; no_dot_dot = g; unseparated = segmented.0 }) each)
 
--- a text of rows, without its last separator where it has names, is the normal text
-pub record IsNormal (goal head text : List ℕ) : Type 0 where
-  pub named : length head < length text → goal ≡ take (length text - 1) text
-  pub alone : length text ≤ length head → goal ≡ text
-
-rows_normal : (goal head text : List ℕ) (names : List (List ℕ)) → IsHead head → AllByRecursion (IsCleanName Slash) names
-    → goal ≡ push_all unix head names → text ≡ head ++ rows names → IsNormal goal head text
-rows_normal goal head text [] is each written e = record {
+-- a text of rows is the normal text without its last separator: no names, or that text with the separator behind it
+pub rowed-alone : (goal head text : List ℕ) → text ≡ head ++ [] → goal ≡ head → IsNormal goal head text
+rowed-alone goal head text e written = record {
   named = λ more. absurd (omega (arith, ap length (e ∙ append-nil head)));
   alone = λ _. written ∙ sym (append-nil head) ∙ sym e;
 }
-rows_normal goal head text (name ∷ names) is each written e =
-    let whole : goal ++ slash ∷ [] ≡ text = ap (λ t. t ++ slash ∷ []) written ∙ pushed-rows head name names is each.0 each.1 ∙ sym e in
-    let some : 0 < length name = grind (arith, eqb-false, each.0.filled) in
+
+pub rowed-named : (s : Separators) (goal head text name : List ℕ) (names : List (List ℕ)) → (length name == 0) ≡ false → text ≡ head ++ rows_of s (name ∷ names)
+    → goal ++ row_end s ∷ [] ≡ text → IsNormal goal head text
+rowed-named s goal head text name names filled e whole =
+    let some : 0 < length name = grind (arith, eqb-false, filled) in
     record {
-      named = λ more. sym (take-ended goal slash) ∙ ap (λ t. take (length t - 1) t) whole;
-      alone = λ fits. absurd (omega (arith, ap length e, length-append head (rows (name ∷ names)), length-append (name ++ slash ∷ []) (rows names), length-append name (slash ∷ [])));
+      named = λ more. sym (take-ended goal (row_end s)) ∙ ap (λ t. take (length t - 1) t) whole;
+      alone = λ fits. absurd (omega (arith, ap length e, length-append head (rows_of s (name ∷ names)), length-append (name ++ row_end s ∷ []) (rows_of s names), length-append name (row_end s ∷ [])));
     }
+
+rows_normal : (goal head text : List ℕ) (names : List (List ℕ)) → IsHead head → AllByRecursion (IsCleanName Slash) names
+    → goal ≡ push_all unix head names → text ≡ head ++ rows names → IsNormal goal head text
+rows_normal goal head text [] is each written e = rowed-alone goal head text e written
+rows_normal goal head text (name ∷ names) is each written e =
+    let clean = each.0 in
+    rowed-named Slash goal head text name names clean.filled e (ap (λ t. t ++ slash ∷ []) written ∙ pushed-rows head name names is each.0 each.1 ∙ sym e)
 
 pub written_normal : (goal head rest text : List ℕ) → IsHead head → Comes unix goal head [] (later_parts Slash (pieces Slash rest)) → text ≡ head ++ rows (names_left rest) → IsNormal goal head text
 written_normal goal head rest text is comes e =
-    rows_normal goal head text (names_left rest) is (left-clean (pieces Slash rest) [] (slice_split-unseparated (is_separator Slash) rest) tt) (comes-left (pieces Slash rest) [] comes) e
+    rows_normal goal head text (names_left rest) is (left-clean Slash (pieces Slash rest) [] (slice_split-unseparated (is_separator Slash) rest) tt) (comes-left Slash (pieces Slash rest) [] comes) e
 
 -- the normal text of a Unix path, from the names that are left behind its root
 pub root_normal : (rest text : List ℕ) → text ≡ slash ∷ [] ++ rows (names_left rest) → IsNormal (normal_text unix (slash ∷ rest)) (slash ∷ []) text

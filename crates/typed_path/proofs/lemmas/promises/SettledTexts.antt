@@ -56,7 +56,7 @@ settled-none q head = record {
     none e = cc
 
 -- a text that begins with a drive is not read verbatim
-drive-plain : (t : List ℕ) (letter : ℕ) → drive t ≡ Some letter → begins_verbatim t ≡ false
+pub drive-plain : (t : List ℕ) (letter : ℕ) → drive t ≡ Some letter → begins_verbatim t ≡ false
 drive-plain t letter is = false_from_ne_true _ (λ marked. no_drive (sym (ap drive (verbatim_text t marked)) ∙ is))
   where
     no_drive : None ≡ Some letter → ⊥

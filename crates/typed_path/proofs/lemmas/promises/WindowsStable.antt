@@ -34,7 +34,7 @@ use Rattle.typed_path.proofs.lemmas.promises.SettledTexts.{settled-none, settled
 use Rattle.typed_path.proofs.lemmas.promises.ReadAgain.{IsReadAgain, stable-again, push-first, settled-text, settled-again}
 
 -- a prefix and nothing else is read as that
-prefix-alone : (raw : List ℕ) (g : Found) → prefix_of windows raw ≡ Some g → g.length ≡ length raw → parts_of windows raw ≡ prefix_part g.prefix raw ∷ []
+pub prefix-alone : (raw : List ℕ) (g : Found) → prefix_of windows raw ≡ Some g → g.length ≡ length raw → parts_of windows raw ≡ prefix_part g.prefix raw ∷ []
 prefix-alone raw g is whole =
     parts_of-some raw g is
     ∙ ap₂ (λ t u. prefix_part g.prefix t ∷ body_parts (separators windows raw) u) (take_all g.length raw (omega (arith, whole))) (drop_all g.length raw (omega (arith, whole)))
@@ -44,7 +44,7 @@ alone-again : (raw : List ℕ) (g : Found) → prefix_of windows raw ≡ Some g 
 alone-again raw g is whole = record { reads = ap (parts_of windows) (push-first raw) ∙ prefix-alone raw g is whole; same_text = refl }
 
 -- a root pushed onto a prefix and nothing else is put behind it
-push-root : (raw : List ℕ) (g : Found) → prefix_of windows raw ≡ Some g → g.length ≡ length raw → push_windows raw (backslash ∷ []) ≡ raw ++ backslash ∷ []
+pub push-root : (raw : List ℕ) (g : Found) → prefix_of windows raw ≡ Some g → g.length ≡ length raw → push_windows raw (backslash ∷ []) ≡ raw ++ backslash ∷ []
 push-root raw g is whole =
     by (has_any_verbatim_prefix (kinds (parts_of windows raw)))
     (ap (λ ps. spelled (merged ps (root_part (backslash ∷ []) ∷ []))) (prefix-alone raw g is whole) ∙ ap (λ t. t ++ backslash ∷ []) (append-nil raw))
@@ -70,10 +70,14 @@ none-again _ (rooted names plain) = settled-again [] None Either (root_part (bac
     same (n ∷ ns) = refl
 
 -- a drive with a name or a root pushed onto it
-push-drive : (raw : List ℕ) (letter : ℕ) (name : List ℕ) → parts_of windows raw ≡ prefix_part (disk letter) raw ∷ [] → IsPlain name → push_windows raw name ≡ raw ++ name
+pub push-drive : (raw : List ℕ) (letter : ℕ) (name : List ℕ) → parts_of windows raw ≡ prefix_part (disk letter) raw ∷ [] → IsPlain name → push_windows raw name ≡ raw ++ name
 push-drive raw letter name read plain =
     push-plain raw name plain
     ∙ ap (λ ps. if has_any_verbatim_prefix (kinds ps) then spelled (merged ps (name_part name ∷ [])) else (if is_disk_alone (kinds ps) then raw else ended_with backslash raw) ++ name) read
+
+-- the raw text of a drive is a drive
+pub drive-raw : (t : List ℕ) (letter : ℕ) → drive t ≡ Some letter → prefix_of windows (take 2 t) ≡ Some (found (disk letter) 2)
+drive-raw t letter is = ap (prefix_of windows) (sym (append-nil (take 2 t))) ∙ drive-stays (take 2 t) [] letter (drive-take 2 t (omega arith) ∙ is)
 
 -- under a drive
 drive-again : (t : List ℕ) (letter : ℕ) (ps : List Part) → drive t ≡ Some letter → Resolved ps → IsReadAgain (prefix_part (disk letter) (take 2 t) ∷ ps)
@@ -86,7 +90,7 @@ drive-again t letter ps is resolved = by ps resolved
     f = found (disk letter) 2
 
     alone : prefix_of windows raw ≡ Some f
-    alone = ap (prefix_of windows) (sym (append-nil raw)) ∙ drive-stays raw [] letter (drive-take 2 t (omega arith) ∙ is)
+    alone = drive-raw t letter is
 
     whole : 2 ≡ length raw
     whole = omega (arith, length-take 2 t, drive-size t letter is)

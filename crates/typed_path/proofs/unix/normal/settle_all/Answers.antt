@@ -1,15 +1,16 @@
 use Rattle.std.proofs.Common.{OnOk, arith, refl, ◌∙◌}
-use Rattle.std.specs.Prelude.{Result, Ok, Err}
+use Rattle.std.specs.Prelude.{⊤, Result, Ok, Err}
+use Rattle.typed_path.specs.declared.scan.separators.Separators.TheVariants.{Slash}
 use Rattle.typed_path.proofs.lemmas.places.RowSteps.{standing-start, standing-step, standing-end}
 use Rattle.typed_path.proofs.unix.normal.settle_all.Goals as goal
 
 pub segments-init : goal.segments-init
-segments-init c = record { standing = λ head size are. standing-start _ head c.args.path.now are; kept = refl; long = c.requires; capacity = omega arith; room = λ fits. fits }
+segments-init c = record { standing = λ head size are. standing-start Slash (λ name. ⊤) _ head c.args.path.now are; kept = refl; long = c.requires; capacity = omega arith; room = λ fits. fits }
 
 pub segments-preserved : goal.segments-preserved
 segments-preserved c = record {
   standing = λ head size are.
-      standing-step _ _ head _ _ c.in-Some.segment.now c.args.path.now c.in-Some.ensures.pieces c.in-Some.ensures.open
+      standing-step Slash (λ name. ⊤) _ _ head _ _ c.in-Some.segment.now c.args.path.now c.in-Some.ensures.pieces c.in-Some.ensures.open tt
       (λ names. c.in_ok-settle.ensures.ok head names size) (c.segments.invariant.standing head size are);
   kept = c.settle.ensures.kept ∙ c.segments.invariant.kept;
   long = c.settle.ensures.long;
@@ -25,5 +26,5 @@ on_ok (Err e) f p = tt
 pub returns-clause-ok : goal.returns-clause-ok
 returns-clause-ok c =
     on_ok c.settle-2.result
-    (λ settles head size are. standing-end _ _ head _ c.args.path.now c.in_default.ensures.pieces (λ names. settles head names size) (c.segments.invariant.standing head size are))
+    (λ settles head size are. standing-end Slash (λ name. ⊤) _ _ head _ c.args.path.now c.in_default.ensures.pieces (λ names. settles head names size) (c.segments.invariant.standing head size are))
     c.settle-2.ensures.ok

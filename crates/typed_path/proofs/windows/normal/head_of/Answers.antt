@@ -1,0 +1,40 @@
+use Rattle.std.proofs.Common.{◌≡◌, ◌++◌, false, refl, ap, sym, subst}
+use Rattle.typed_path.specs.declared.scan.prefix.WindowsPrefix.{WindowsPrefix}
+use Rattle.typed_path.specs.declared.scan.prefix.WindowsPrefix.TheVariants.{Disk}
+use Rattle.typed_path.specs.components.Dialect.{windows}
+use Rattle.typed_path.specs.queries.Queries.{is_disk}
+use Rattle.typed_path.specs.places.Rows.{IsRowHead}
+use Rattle.typed_path.specs.views.PieceViews.{found_of, prefix_view}
+use Rattle.typed_path.proofs.lemmas.components.PrefixLemmas.{prefix-fits}
+use Rattle.typed_path.proofs.lemmas.promises.WindowsRows.{none-head, drive-head, marked-head}
+use Rattle.typed_path.proofs.windows.normal.head_of.Goals as goal
+
+pub returns-in_default : goal.returns-in_default
+returns-in_default c =
+    let head = c.head_behind.result in
+    subst (λ p. IsRowHead c.args.path.now (p ++ head.root.now) head.rest.now) (sym c.head_behind.ensures.prefix)
+    (none-head c.args.path.now head.root.now head.rest.now (sym c.in_default.ensures) c.head_behind.ensures.parted)
+
+pub head_behind-head-requires : goal.head_behind-head-requires
+head_behind-head-requires c = (prefix-fits windows c.args.path.now (found_of c.in-Some.found) (sym c.in-Some.ensures)).fits
+
+pub takes_rows-requires : goal.takes_rows-requires
+takes_rows-requires c = (prefix-fits windows c.args.path.now (found_of c.in-Some.found) (sym c.in-Some.ensures)).fits
+
+pub returns-in-Disk : goal.returns-in-Disk
+returns-in-Disk c =
+    let head = c.head_behind-head.result in
+    subst (λ p. IsRowHead c.args.path.now (p ++ head.root.now) head.rest.now) (sym c.head_behind-head.ensures.prefix)
+    (drive-head c.args.path.now head.root.now head.rest.now (found_of c.in-Some.found) (sym c.in-Some.ensures) (ap (λ k. is_disk (prefix_view k)) c.in-Disk.is) c.head_behind-head.ensures.parted)
+
+-- what is no drive has no kind of one
+no_disk : (k : WindowsPrefix) → ((letter : _) → k ≡ Disk letter → ⊥) → is_disk (prefix_view k) ≡ false
+no_disk (Disk letter) h = absurd (h letter refl)
+no_disk k h = refl
+
+pub returns-in_default-kind : goal.returns-in_default-kind
+returns-in_default-kind c =
+    let head = c.head_behind-head.result in
+    let takes = c.if-takes_rows.ensures refl in
+    subst (λ p. IsRowHead c.args.path.now (p ++ head.root.now) head.rest.now) (sym c.head_behind-head.ensures.prefix)
+    (marked-head c.args.path.now head.root.now head.rest.now (found_of c.in-Some.found) (sym c.in-Some.ensures) (no_disk c.in-Some.found.kind c.in_default-kind.not-Disk) takes.no_unc takes.slashless c.head_behind-head.ensures.parted takes.ends)

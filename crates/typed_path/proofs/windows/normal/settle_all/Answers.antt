@@ -1,0 +1,39 @@
+use Rattle.std.proofs.Common.{◌≡◌, ◌∙◌, List, ℕ, None, Bool, IfOk, refl, arith}
+use Rattle.std.specs.Prelude.{Result, Ok, Err}
+use Rattle.typed_path.specs.declared.scan.separators.Separators.TheVariants.{Either}
+use Rattle.typed_path.specs.components.Prefix.{drive}
+use Rattle.typed_path.proofs.lemmas.places.RowSteps.{standing-start, standing-step, standing-end, standing-each}
+use Rattle.typed_path.proofs.windows.normal.settle_all.Goals as goal
+
+-- no drive is at the front
+abbrev IsNoDrive : List ℕ → Type 0
+IsNoDrive name = drive name ≡ None
+
+pub segments-init : goal.segments-init
+segments-init c = record { standing = λ head size are. standing-start Either IsNoDrive _ head c.args.path.now are; kept = refl; long = c.requires; capacity = omega arith }
+
+pub segments-preserved : goal.segments-preserved
+segments-preserved c = record {
+  standing = λ head size are.
+      standing-step Either IsNoDrive _ _ head _ _ c.in-Some.segment.now c.args.path.now c.in-Some.ensures.pieces c.in-Some.ensures.open (c.in_ok-settle.ensures.plain c.if-not-branch.false)
+      (λ names. c.in_ok-settle.ensures.ok c.if-not-branch.false head names size) (c.segments.invariant.standing head size are);
+  kept = c.settle.ensures.kept ∙ c.segments.invariant.kept;
+  long = c.settle.ensures.long;
+  capacity = omega (arith, c.segments.invariant.capacity, c.settle.ensures.capacity);
+}
+
+-- what holds on success of two things holds of what follows from them
+on_ok : {E : Type 0} {P Q R : Bool → Type 0} (r : Result Bool E) → ((x : Bool) → P x → Q x → R x) → IfOk r P → IfOk r Q → IfOk r R
+on_ok (Ok x) f p q = f x p q
+on_ok (Err e) f p q = tt
+
+pub returns-clause-ok : goal.returns-clause-ok
+returns-clause-ok c =
+    on_ok c.settle-2.result
+    (λ x settles own done head size are.
+    let stands = c.segments.invariant.standing head size are in
+    record {
+      drives = standing-each Either IsNoDrive _ head _ c.args.path.now c.in_default.ensures.pieces (own done) stands;
+      is = standing-end Either IsNoDrive _ _ head _ c.args.path.now c.in_default.ensures.pieces (λ names. settles done head names size) stands;
+    })
+    c.settle-2.ensures.ok c.settle-2.ensures.plain

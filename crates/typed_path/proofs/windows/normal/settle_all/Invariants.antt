@@ -1,0 +1,17 @@
+use Rattle.std.proofs.Common.{◌≡◌, ◌≤◌, vec_capacity, ℕ, List, [], length, take, None}
+use Rattle.typed_path.specs.declared.scan.separators.Separators.TheVariants.{Either}
+use Rattle.typed_path.specs.components.Prefix.{drive}
+use Rattle.typed_path.specs.places.Rows.{AreRowsOf}
+use Rattle.typed_path.proofs.lemmas.places.RowSteps.{Standing}
+use Rattle.typed_path.proofs.windows.normal.settle_all.Given as goal
+
+abbrev pub invariant-segments : goal.invariant-segments
+invariant-segments l = record {
+  standing : (head : List ℕ) → length head ≡ l.len → AreRowsOf Either l.fn.text.items head [] → Standing Either (λ name. drive name ≡ None) l.text.items head l.rest l.path;
+  kept : take l.len l.text.items ≡ take l.len l.fn.text.items;
+  long : l.len ≤ length l.text.items;
+  capacity : vec_capacity l.fn.text ≤ vec_capacity l.text;
+}
+
+abbrev pub decreases-segments : goal.decreases-segments
+decreases-segments l = length l.rest
