@@ -5,6 +5,7 @@ mod component;
 mod components;
 mod debug;
 mod encoding;
+mod hash;
 mod iter;
 mod joins;
 mod lookups;

@@ -1,2 +1,3 @@
 -- Equality and order.
 pub mod OrderLaws
+pub mod FedLemmas
