@@ -1,3 +1,4 @@
 -- Equality, order and hashing.
 pub mod Same
 pub mod Words
+pub mod Laws

@@ -13,13 +13,15 @@ ghost use Rattle.typed_path.specs.readings.Reading.{answers_after, items_after, 
 ghost use Rattle.typed_path.specs.queries.Queries.{parent_of};
 ghost use Rattle.typed_path.specs.promises.Joins.{JoinAppends, StripJoins};
 ghost use Rattle.typed_path.specs.queries.Names.{is_a_dot, stem_of, extension_of};
-ghost use Rattle.typed_path.specs.order.Same.{IsSame, path_cmp, kind_cmp};
+ghost use Rattle.typed_path.specs.order.Same.{IsSame, is_same, path_cmp, kind_cmp};
 ghost use Rattle.typed_path.specs.views.UnixViews.{unix_part};
-ghost use Rattle.typed_path.specs.order.Words.{unix_words};
+ghost use Rattle.typed_path.specs.order.Words.{path_words, unix_words};
+ghost use Rattle.typed_path.specs.views.PathViews.{path_bytes};
 ghost use Rattle.typed_path.specs.promises.Promises.{ReadsAsResolved, StaysNormal, IsCanonical, HashAlike};
 
 mod windows;
 
+use crate::common::{Encoding, Path};
 use crate::constants::unix::{
     CURRENT_DIR, CURRENT_DIR_STR, DISALLOWED_FILENAME_BYTES, DISALLOWED_FILENAME_CHARS, PARENT_DIR,
     PARENT_DIR_STR, SEPARATOR, SEPARATOR_STR,
@@ -61,16 +63,27 @@ pub fn order_is_total()
     ensures { IsTotalOrder (path_cmp d) }
 {}
 
-/// Two paths compare as equal exactly if they are equal.
+/// Two paths compare as equal exactly if they are equal, and the test for it tells so.
 pub fn order_agrees_with_equality(path: &[u8], other: &[u8])
     ghost d: { Dialect }
-    ensures { IsSame d path.now other.now ↔ (path_cmp d path.now other.now ≡ Ordering.Equal) }
+    ensures test { (is_same d path.now other.now ≡ true) ↔ IsSame d path.now other.now }
+    ensures order { IsSame d path.now other.now ↔ (path_cmp d path.now other.now ≡ Ordering.Equal) }
 {}
 
 /// Equal paths feed the same to a hasher.
 pub fn equal_paths_hash_alike(path: &[u8], other: &[u8])
     ghost d: { Dialect }
     ensures { HashAlike d path.now other.now }
+{}
+
+/// Paths are equal, compare and hash by their components.
+pub fn paths_compare_by_components<'a, T: Encoding>(one: Path<'a, T>, other: Path<'a, T>)
+    ensures equality { (⟦<Path<'a, T> as PartialEq>⟧.eq one.entry other.entry ≡ true)
+        ↔ IsSame T.dialect (path_bytes one.entry) (path_bytes other.entry) }
+    ensures order { ⟦<Path<'a, T> as Ord>⟧.cmp one.entry other.entry
+        ≡ path_cmp T.dialect (path_bytes one.entry) (path_bytes other.entry) }
+    ensures hash { ⟦<Path<'a, T> as Hash>⟧.hash_input one.entry
+        ≡ path_words T.dialect (path_bytes one.entry) }
 {}
 
 /// A file name without an extension is its stem; one with an extension is its stem, a dot and the

@@ -4,6 +4,7 @@ mod component;
 mod components;
 mod encoding;
 mod normal;
+mod order;
 mod readings;
 
 use crate::common::{Path, PathBuf};

@@ -1,2 +1,4 @@
 -- Equality and order.
 pub mod OrderLaws
+pub mod FedLemmas
+pub mod KindLemmas

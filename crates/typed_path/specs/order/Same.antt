@@ -1,7 +1,7 @@
 -- When two component lists are the same, and which is less.
-use Rattle.std.specs.Prelude.{◌≡◌, ℕ, List, [], ◌∷◌}
+use Rattle.std.specs.Prelude.{◌≡◌, ℕ, List, [], ◌∷◌, Bool}
 use Rattle.std.specs.declared.cmp.Ordering.{Ordering}
-use Rattle.std.specs.Ordering.{nat_cmp}
+use Rattle.std.specs.Ordering.{nat_cmp, is_eq}
 use Rattle.std.specs.Cmp.Lexicographic.{slice_cmp}
 use Rattle.typed_path.specs.components.Part.{verbatim, verbatim_unc, verbatim_disk, device_ns, unc, disk, Kind, prefix, root, current, parent, normal, kinds}
 use Rattle.typed_path.specs.components.Dialect.{Dialect}
@@ -39,3 +39,7 @@ IsSame d t u = kinds (parts_of d t) ≡ kinds (parts_of d u)
 
 abbrev pub path_cmp : Dialect → List ℕ → List ℕ → Ordering
 path_cmp d t u = kinds_cmp (kinds (parts_of d t)) (kinds (parts_of d u))
+
+-- the same as a test: whether the order tells them apart
+abbrev pub is_same : Dialect → List ℕ → List ℕ → Bool
+is_same d t u = is_eq (path_cmp d t u)

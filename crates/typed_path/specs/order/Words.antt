@@ -1,7 +1,11 @@
--- What a single component feeds to a hasher.
-use Rattle.std.specs.Prelude.{[], ◌++◌, pos}
-use Rattle.std.specs.Hash.{HashWrites, isize, slice, u8}
+-- What a single component and a path feed to a hasher.
+use Rattle.std.specs.Prelude.{ℕ, List, [], ◌∷◌, ◌++◌, pos, sum_by}
+use Rattle.std.specs.List.{flat_map}
+use Rattle.std.specs.Hash.{HashWrites, isize, slice, u8, usize}
+use Rattle.typed_path.specs.components.Dialect.{Dialect, dot}
 use Rattle.typed_path.specs.components.Part.{Prefix, verbatim, verbatim_unc, verbatim_disk, device_ns, unc, disk, Kind, prefix, root, current, parent, normal}
+use Rattle.typed_path.specs.components.Comps.{parts_of}
+use Rattle.typed_path.specs.promises.Promises.{Word, prefix_word, bytes, count, words_by_kind, fed_length, fed}
 
 -- a component of Unix: the place of its kind among those of Unix, and the name
 abbrev pub unix_words : Kind → HashWrites
@@ -27,3 +31,32 @@ windows_words root = isize (pos 1)
 windows_words current = isize (pos 2)
 windows_words parent = isize (pos 3)
 windows_words (normal name) = isize (pos 4) ++ slice u8 name
+
+-- a word of a path: a prefix as it is fed alone, a text in one write, a number as itself
+abbrev pub writes_of : Word → HashWrites
+writes_of (prefix_word p) = prefix_words p
+writes_of (bytes text) = text ∷ []
+writes_of (count n) = usize n
+
+abbrev pub path_words : Dialect → List ℕ → HashWrites
+path_words d t = flat_map writes_of (fed (parts_of d t))
+
+-- the same, read off the kinds alone: a kind tells the text of its component, but for a prefix and the root, whose texts are not fed
+abbrev pub kind_text : Kind → List ℕ
+kind_text (prefix p) = []
+kind_text root = []
+kind_text current = dot ∷ []
+kind_text parent = dot ∷ dot ∷ []
+kind_text (normal name) = name
+
+abbrev pub kind_fed : Kind → List Word
+kind_fed k = words_by_kind (kind_text k) k
+
+abbrev pub kind_length : Kind → ℕ
+kind_length k = fed_length (kind_text k) k
+
+abbrev pub kinds_fed : List Kind → List Word
+kinds_fed ks = flat_map kind_fed ks ++ count (sum_by kind_length ks) ∷ []
+
+abbrev pub kinds_words : List Kind → HashWrites
+kinds_words ks = flat_map writes_of (kinds_fed ks)

@@ -29,6 +29,14 @@ kind_view CurDir text = current
 kind_view ParentDir text = parent
 kind_view Normal text = normal text
 
+-- the place of a kind among all kinds, where each prefix has the first
+abbrev pub kind_place : PieceKind → ℕ
+kind_place (Prefix p) = 0
+kind_place RootDir = 1
+kind_place CurDir = 2
+kind_place ParentDir = 3
+kind_place Normal = 4
+
 -- the component that a piece is
 abbrev pub part_of : Piece → Part
 part_of p = record { kind = kind_view p.kind p.text.now; text = p.text.now }

@@ -1,6 +1,6 @@
 //! What every encoding of paths can do.
 
-ghost use Rattle.std.specs.Prelude.{◌≡◌, ◌≤◌, ◌<◌, ◌+◌, ◌++◌, length, ℕ, List, drop, take, option_map, IsSome, Some, None, true, IsOk, IfOk, IfSome, OnOk, OnErr};
+ghost use Rattle.std.specs.Prelude.{◌≡◌, ◌≤◌, ◌<◌, ◌+◌, ◌++◌, length, fold, ℕ, List, drop, take, option_map, IsSome, Some, None, true, IsOk, IfOk, IfSome, OnOk, OnErr};
 ghost use Rattle.std.specs.Vec.{vec_len, vec_capacity};
 ghost use Rattle.typed_path.specs.changes.Checked.{refusal, error_of};
 ghost use Rattle.typed_path.specs.promises.Promises.{HasPrefixOf, LiesWithin};
@@ -16,10 +16,13 @@ ghost use Rattle.typed_path.specs.places.Places.{normal_text, keeps_nothing_asid
 ghost use Rattle.typed_path.specs.changes.Push as push_spec;
 ghost use Rattle.typed_path.specs.changes.Push.{FitsPush};
 ghost use Rattle.typed_path.specs.changes.Fault.{fault};
+ghost use Rattle.typed_path.specs.order.Words.{path_words};
 
+use crate::common::hash::feed;
 use crate::errors::{CheckedPathError, PathError};
 use crate::scan::{Cursor, Piece};
 use std::alloc::{AllocError, Global};
+use std::hash::Hasher;
 
 /// A way of writing paths.
 ///
@@ -79,6 +82,19 @@ pub trait Encoding: Sized {
     /// Whether the encoding allows a name.
     fn valid(name: &[u8]) -> bool
         ensures { result ≡ is_valid_name dialect name.now };
+
+    /// Feeds a path to a hasher: its prefix, by kind and names, then the text of each later component
+    /// but the root's, and last the sum of the lengths of these texts.
+    fn hash<H: Hasher>(path: &[u8], state: &mut H)
+        ensures { state.new ≡ fold H.write state.old (path_words dialect path.now) }
+    {
+        let mut cursor = Self::cursor(path);
+        let mut len = 0;
+        'pieces: while let Some(piece) = Self::front(&mut cursor) {
+            len += feed(piece, state);
+        }
+        state.write_usize(len);
+    }
 
     /// Cuts a path to its first bytes, and pushes another onto what is left. Where memory is
     /// refused, the path is as it was.

@@ -1,0 +1,84 @@
+-- What a path feeds to a hasher, component by component.
+use Rattle.std.proofs.Common.{◌≡◌, ℕ, ◌+◌, ◌≤◌, List, [], ◌∷◌, ◌++◌, length, drop, fold, flat_map, sum_by, refl, sym, ap, subst, ◌∙◌, arith, zero-le, append_assoc}
+use Rattle.std.specs.Prelude.{Some, None}
+use Rattle.std.specs.Hash.{HashWrites, usize}
+use Rattle.std.proofs.lemmas.Grind.{flat_map-append}
+use Rattle.std.proofs.lemmas.List.Sums.{fold-append, sum_by-cons}
+use Rattle.std.proofs.lemmas.Option.{same_Some}
+use Rattle.typed_path.specs.components.Dialect.{Dialect}
+use Rattle.typed_path.specs.components.Part.{Kind, prefix, root, current, parent, normal, Part, Placed, end_of, parts}
+use Rattle.typed_path.specs.components.Comps.{comps, parts_of}
+use Rattle.typed_path.specs.readings.Reading.{AreInOrder}
+use Rattle.typed_path.specs.readings.Steps.{first_part}
+use Rattle.typed_path.specs.promises.Promises.{count, words_by_kind, fed_length}
+use Rattle.typed_path.specs.order.Words.{writes_of, path_words}
+use Rattle.typed_path.proofs.lemmas.components.PlaceLemmas.{comps-laid_out}
+
+-- how many bytes of a component are counted, and what it feeds
+abbrev pub counted : Part → ℕ
+counted p = fed_length p.text p.kind
+
+abbrev pub writes_part : Part → HashWrites
+writes_part p = flat_map writes_of (words_by_kind p.text p.kind)
+
+-- no more is counted of a component than its text
+counted-within : (text : List ℕ) (k : Kind) → fed_length text k ≤ length text
+counted-within text (prefix p) = zero-le
+counted-within text root = zero-le
+counted-within text current = omega arith
+counted-within text parent = omega arith
+counted-within text (normal name) = omega arith
+
+-- of components that stand in order, no more is counted than the text has
+counted-in_order : (at end : ℕ) (cs : List Placed) → AreInOrder at end cs → at + sum_by counted (parts cs) ≤ end
+counted-in_order at end [] order = omega (arith, order)
+counted-in_order at end (c ∷ cs) order =
+    omega (arith, order.0, counted-within c.part.text c.part.kind, counted-in_order (end_of c) end cs order.1, sum_by-cons counted c.part (parts cs))
+
+-- so it is with those of a path
+pub counted-fits : (d : Dialect) (t : List ℕ) (cs : List Placed) → cs ≡ comps d t → 0 + sum_by counted (parts cs) ≤ length t
+counted-fits d t cs is = subst (λ xs. 0 + sum_by counted (parts xs) ≤ length t) (sym is) (counted-in_order 0 (length t) (comps d t) (comps-laid_out d t).in_order)
+
+-- what components feed, and then a count to which theirs are added
+abbrev pub fed_from : ℕ → List Placed → HashWrites
+fed_from n cs = flat_map writes_part (parts cs) ++ usize (n + sum_by counted (parts cs))
+
+-- a list of lists, each spread out
+flat_map-flat : {X A B : Type 0} (f : A → List B) (g : X → List A) (xs : List X) → flat_map f (flat_map g xs) ≡ flat_map (λ x. flat_map f (g x)) xs
+flat_map-flat f g [] = refl
+flat_map-flat f g (x ∷ xs) = flat_map-append f (g x) (flat_map g xs) ∙ ap (λ ys. flat_map f (g x) ++ ys) (flat_map-flat f g xs)
+
+-- the words of a path
+pub path_words-fed : (d : Dialect) (t : List ℕ) (cs : List Placed) → cs ≡ comps d t → path_words d t ≡ fed_from 0 cs
+path_words-fed d t cs is =
+    flat_map-append writes_of (flat_map (λ p. words_by_kind p.text p.kind) (parts_of d t)) (count (sum_by counted (parts_of d t)) ∷ [])
+    ∙ ap (λ ws. ws ++ usize (sum_by counted (parts_of d t))) (flat_map-flat writes_of (λ p. words_by_kind p.text p.kind) (parts_of d t))
+    ∙ ap (λ n. flat_map writes_part (parts_of d t) ++ usize n) (omega arith)
+    ∙ ap (λ xs. fed_from 0 xs) (sym is)
+
+module _ {S : Type 0} (write : S → List ℕ → S) where
+  -- a component was fed
+  pub fed-step : (n m : ℕ) (s t : S) (p : Part) (cs ds : List Placed) → Some p ≡ first_part cs → ds ≡ drop 1 cs → t ≡ fold write s (writes_part p) → m ≡ counted p
+      → fold write s (fed_from n cs) ≡ fold write t (fed_from (n + m) ds)
+  fed-step n m s t p [] ds first behind wrote same = cc
+  fed-step n m s t p (c ∷ cs) ds first behind wrote same = by (same_Some _ _ first) behind
+    where
+      by : p ≡ c.part → ds ≡ cs → fold write s (fed_from n (c ∷ cs)) ≡ fold write t (fed_from (n + m) ds)
+      by part rest =
+          let counts : n + sum_by counted (c.part ∷ parts cs) ≡ (n + m) + sum_by counted (parts cs) = omega (arith, sum_by-cons counted c.part (parts cs), same, ap counted part) in
+          ap (λ k. fold write s ((writes_part c.part ++ flat_map writes_part (parts cs)) ++ usize k)) counts
+          ∙ ap (fold write s) (append_assoc (writes_part c.part) (flat_map writes_part (parts cs)) (usize ((n + m) + sum_by counted (parts cs))))
+          ∙ fold-append write s (writes_part c.part) (fed_from (n + m) cs)
+          ∙ ap (λ u. fold write u (fed_from (n + m) cs)) (ap (λ q. fold write s (writes_part q)) (sym part) ∙ sym wrote)
+          ∙ ap (λ xs. fold write t (fed_from (n + m) xs)) (sym rest)
+
+  -- nothing is left but the count
+  pub fed-end : (n : ℕ) (s : S) (cs : List Placed) → None ≡ first_part cs → fold write s (fed_from n cs) ≡ fold write s (usize n)
+  fed-end n s [] none = ap (λ k. fold write s (usize k)) (omega arith)
+  fed-end n s (c ∷ cs) none = cc
+
+-- what is counted of the first component, and of the others
+pub counted-step : (n m top : ℕ) (p : Part) (cs ds : List Placed) → Some p ≡ first_part cs → ds ≡ drop 1 cs → m ≡ counted p → n + sum_by counted (parts cs) ≤ top → (n + m) + sum_by counted (parts ds) ≤ top
+counted-step n m top p [] ds first behind same fits = cc
+counted-step n m top p (c ∷ cs) ds first behind same fits =
+    omega (arith, sum_by-cons counted c.part (parts cs), same, ap counted (same_Some _ _ first), ap (λ xs. sum_by counted (parts xs)) behind, fits)

@@ -1,0 +1,169 @@
+-- Two paths compared component by component, from either end.
+use Rattle.std.proofs.Common.{◌≡◌, ℕ, List, [], ◌∷◌, ◌++◌, Bool, true, false, not, ◌&&◌, drop, Ordering, Less, Equal, Greater, is_eq, refl, sym, ap, ap₂, ◌∙◌}
+use Rattle.std.specs.Prelude.{Option, Some, None, option_map, is_some}
+use Rattle.std.specs.Ordering.{is_ne, ordering_then}
+use Rattle.std.specs.Str.{bytes_eq}
+use Rattle.std.specs.Cmp.Lexicographic.{slice_cmp, texts_ties}
+use Rattle.std.proofs.lemmas.List.{map-append}
+use Rattle.std.proofs.lemmas.Option.{same_Some}
+use Rattle.std.proofs.Math.Bool.{and-false, and-true, and_assoc}
+use Rattle.typed_path.specs.components.Part.{normal, Part, Placed, parts, kinds}
+use Rattle.typed_path.specs.readings.Left.{but_last}
+use Rattle.typed_path.specs.readings.Steps.{first_part, last_part}
+use Rattle.typed_path.specs.order.Same.{bytes_cmp, kind_cmp, kinds_cmp}
+use Rattle.typed_path.proofs.lemmas.readings.LeftLemmas.{last_pushed, last_part-push}
+
+-- the order of what two readings have left
+abbrev pub left_cmp : List Placed → List Placed → Ordering
+left_cmp cs ds = kinds_cmp (kinds (parts cs)) (kinds (parts ds))
+
+-- whether they have the same left
+abbrev pub is_left_same : List Placed → List Placed → Bool
+is_left_same cs ds = is_eq (left_cmp cs ds)
+
+-- one answer and then another are `Equal` where both are
+is_eq-then : (a b : Ordering) → is_eq (ordering_then a b) ≡ (is_eq a && is_eq b)
+is_eq-then Less b = refl
+is_eq-then Equal b = refl
+is_eq-then Greater b = refl
+
+-- names are one where they compare as equal
+pub same-name : (a b : List ℕ) → bytes_eq a b ≡ is_eq (kind_cmp (normal a) (normal b))
+same-name a b = texts_ties a b ∙ sym (is_eq-then (bytes_cmp a b) Equal ∙ and-true (is_eq (bytes_cmp a b)))
+
+module _ {X : Type 0} (R : X → X → Ordering) where
+  longer : (xs : List X) (x : X) → is_eq (slice_cmp R [] (xs ++ x ∷ [])) ≡ false
+  longer [] x = refl
+  longer (y ∷ ys) x = refl
+
+  shorter : (xs : List X) (x : X) → is_eq (slice_cmp R (xs ++ x ∷ []) []) ≡ false
+  shorter [] x = refl
+  shorter (y ∷ ys) x = refl
+
+  -- two lists are alike where their last elements are, and those before
+  alike-push : (xs ys : List X) (x y : X) → is_eq (slice_cmp R (xs ++ x ∷ []) (ys ++ y ∷ [])) ≡ (is_eq (slice_cmp R xs ys) && is_eq (R x y))
+  alike-push [] [] x y = is_eq-then (R x y) Equal ∙ and-true (is_eq (R x y))
+  alike-push [] (z ∷ zs) x y = is_eq-then (R x z) (slice_cmp R [] (zs ++ y ∷ [])) ∙ ap (λ b. is_eq (R x z) && b) (longer zs y) ∙ and-false (is_eq (R x z))
+  alike-push (w ∷ ws) [] x y = is_eq-then (R w y) (slice_cmp R (ws ++ x ∷ []) []) ∙ ap (λ b. is_eq (R w y) && b) (shorter ws x) ∙ and-false (is_eq (R w y))
+  alike-push (w ∷ ws) (z ∷ zs) x y =
+      is_eq-then (R w z) (slice_cmp R (ws ++ x ∷ []) (zs ++ y ∷ []))
+      ∙ ap (λ b. is_eq (R w z) && b) (alike-push ws zs x y)
+      ∙ sym (and_assoc (is_eq (R w z)) (is_eq (slice_cmp R ws zs)) (is_eq (R x y)))
+      ∙ ap (λ b. b && is_eq (R x y)) (sym (is_eq-then (R w z) (slice_cmp R ws zs)))
+
+kinds-push : (cs : List Placed) (c : Placed) → kinds (parts (cs ++ c ∷ [])) ≡ kinds (parts cs) ++ c.part.kind ∷ []
+kinds-push cs c = ap kinds (map-append (λ x. x.part) cs (c ∷ [])) ∙ map-append (λ x. x.kind) (parts cs) (c.part ∷ [])
+
+-- from the back: the other has nothing left, and this one has
+same-none : (rest wanted : List Placed) → None ≡ last_part wanted → None ≡ last_part rest → is_left_same rest wanted ≡ true
+same-none [] [] none empty = refl
+same-none rest (w ∷ ws) none empty =
+    let d = last_pushed w ws in
+    let some : None ≡ Some d.0.part = none ∙ ap last_part d.1 ∙ last_part-push (but_last (w ∷ ws)) d.0 in cc
+same-none (c ∷ cs) [] none empty =
+    let d = last_pushed c cs in
+    let some : None ≡ Some d.0.part = empty ∙ ap last_part d.1 ∙ last_part-push (but_last (c ∷ cs)) d.0 in cc
+
+same-more : (rest wanted : List Placed) (p : Part) → None ≡ last_part wanted → Some p ≡ last_part rest → is_left_same rest wanted ≡ false
+same-more [] wanted p none some = cc
+same-more (c ∷ cs) [] p none some = refl
+same-more (c ∷ cs) (w ∷ ws) p none some =
+    let d = last_pushed w ws in
+    let own : None ≡ Some d.0.part = none ∙ ap last_part d.1 ∙ last_part-push (but_last (w ∷ ws)) d.0 in cc
+
+-- so the answer is whether this one has nothing left
+pub same-end : {A : Type 0} (view : A → Part) (rest wanted : List Placed) (r : Option A) (b : Bool) → None ≡ last_part wanted → option_map view r ≡ last_part rest → is_some r ≡ not b → b ≡ is_left_same rest wanted
+same-end view rest wanted None true none taken is = sym (same-none rest wanted none taken)
+same-end view rest wanted None false none taken is = cc
+same-end view rest wanted (Some x) true none taken is = cc
+same-end view rest wanted (Some x) false none taken is = sym (same-more rest wanted (view x) none taken)
+
+pub same-fewer : (rest wanted : List Placed) (p : Part) → Some p ≡ last_part wanted → None ≡ last_part rest → is_left_same rest wanted ≡ false
+same-fewer rest [] p some none = cc
+same-fewer [] (w ∷ ws) p some none = refl
+same-fewer (c ∷ cs) (w ∷ ws) p some none =
+    let d = last_pushed c cs in
+    let own : None ≡ Some d.0.part = none ∙ ap last_part d.1 ∙ last_part-push (but_last (c ∷ cs)) d.0 in cc
+
+-- both have a last component
+same-step : (rest wanted : List Placed) (p q : Part) → Some p ≡ last_part wanted → Some q ≡ last_part rest
+    → is_left_same rest wanted ≡ (is_left_same (but_last rest) (but_last wanted) && is_eq (kind_cmp q.kind p.kind))
+same-step rest [] p q some own = cc
+same-step [] (w ∷ ws) p q some own = cc
+same-step (c ∷ cs) (w ∷ ws) p q some own =
+    let d = last_pushed c cs in
+    let e = last_pushed w ws in
+    let own_part = same_Some _ _ (own ∙ ap last_part d.1 ∙ last_part-push (but_last (c ∷ cs)) d.0) in
+    let wanted_part = same_Some _ _ (some ∙ ap last_part e.1 ∙ last_part-push (but_last (w ∷ ws)) e.0) in
+    ap (λ ks. is_eq (kinds_cmp ks (kinds (parts (w ∷ ws))))) (ap (λ xs. kinds (parts xs)) d.1 ∙ kinds-push (but_last (c ∷ cs)) d.0)
+    ∙ ap (λ ks. is_eq (kinds_cmp (kinds (parts (but_last (c ∷ cs))) ++ d.0.part.kind ∷ []) ks)) (ap (λ xs. kinds (parts xs)) e.1 ∙ kinds-push (but_last (w ∷ ws)) e.0)
+    ∙ alike-push kind_cmp (kinds (parts (but_last (c ∷ cs)))) (kinds (parts (but_last (w ∷ ws)))) d.0.part.kind e.0.part.kind
+    ∙ ap (λ x. is_left_same (but_last (c ∷ cs)) (but_last (w ∷ ws)) && is_eq (kind_cmp d.0.part.kind x.kind)) (sym wanted_part)
+    ∙ ap (λ x. is_left_same (but_last (c ∷ cs)) (but_last (w ∷ ws)) && is_eq (kind_cmp x.kind p.kind)) (sym own_part)
+
+-- these differ
+pub same-differ : (rest wanted : List Placed) (p q : Part) → Some p ≡ last_part wanted → Some q ≡ last_part rest → is_eq (kind_cmp q.kind p.kind) ≡ false → is_left_same rest wanted ≡ false
+same-differ rest wanted p q some own differ =
+    same-step rest wanted p q some own ∙ ap (λ b. is_left_same (but_last rest) (but_last wanted) && b) differ ∙ and-false _
+
+-- these are alike
+pub same-alike : (rest wanted after others : List Placed) (p q : Part) → Some p ≡ last_part wanted → Some q ≡ last_part rest → is_eq (kind_cmp q.kind p.kind) ≡ true
+    → after ≡ but_last rest → others ≡ but_last wanted → is_left_same rest wanted ≡ is_left_same after others
+same-alike rest wanted after others p q some own alike rest_is wanted_is =
+    same-step rest wanted p q some own
+    ∙ ap (λ b. is_left_same (but_last rest) (but_last wanted) && b) alike
+    ∙ and-true _
+    ∙ ap₂ is_left_same (sym rest_is) (sym wanted_is)
+
+-- from the front: neither has anything left
+pub cmp-none : (rest wanted : List Placed) → None ≡ first_part wanted → None ≡ first_part rest → left_cmp rest wanted ≡ Equal
+cmp-none [] [] none empty = refl
+cmp-none rest (w ∷ ws) none empty = cc
+cmp-none (c ∷ cs) [] none empty = cc
+
+-- only one of them has
+pub cmp-more : (rest wanted : List Placed) (p : Part) → None ≡ first_part wanted → Some p ≡ first_part rest → left_cmp rest wanted ≡ Greater
+cmp-more [] wanted p none some = cc
+cmp-more (c ∷ cs) [] p none some = refl
+cmp-more (c ∷ cs) (w ∷ ws) p none some = cc
+
+pub cmp-fewer : (rest wanted : List Placed) (p : Part) → Some p ≡ first_part wanted → None ≡ first_part rest → left_cmp rest wanted ≡ Less
+cmp-fewer rest [] p some none = cc
+cmp-fewer [] (w ∷ ws) p some none = refl
+cmp-fewer (c ∷ cs) (w ∷ ws) p some none = cc
+
+-- both have a first component
+cmp-step : (rest wanted : List Placed) (p q : Part) → Some p ≡ first_part wanted → Some q ≡ first_part rest
+    → left_cmp rest wanted ≡ ordering_then (kind_cmp q.kind p.kind) (left_cmp (drop 1 rest) (drop 1 wanted))
+cmp-step rest [] p q some own = cc
+cmp-step [] (w ∷ ws) p q some own = cc
+cmp-step (c ∷ cs) (w ∷ ws) p q some own =
+    ap (λ x. ordering_then (kind_cmp c.part.kind x.kind) (left_cmp cs ws)) (sym (same_Some _ _ some))
+    ∙ ap (λ x. ordering_then (kind_cmp x.kind p.kind) (left_cmp cs ws)) (sym (same_Some _ _ own))
+
+-- one answer and then another are the first where that is not `Equal`, and else the second
+then-decided : (a b : Ordering) → is_ne a ≡ true → ordering_then a b ≡ a
+then-decided Less b differ = refl
+then-decided Equal b differ = cc
+then-decided Greater b differ = refl
+
+then-tied : (a b : Ordering) → is_ne a ≡ false → ordering_then a b ≡ b
+then-tied Less b alike = cc
+then-tied Equal b alike = refl
+then-tied Greater b alike = cc
+
+-- these differ
+pub cmp-differ : (rest wanted : List Placed) (p q : Part) (r : Ordering) → Some p ≡ first_part wanted → Some q ≡ first_part rest → r ≡ kind_cmp q.kind p.kind → is_ne r ≡ true → left_cmp rest wanted ≡ r
+cmp-differ rest wanted p q r some own is differ =
+    cmp-step rest wanted p q some own
+    ∙ ap (λ a. ordering_then a (left_cmp (drop 1 rest) (drop 1 wanted))) (sym is)
+    ∙ then-decided r (left_cmp (drop 1 rest) (drop 1 wanted)) differ
+
+-- these are alike
+pub cmp-alike : (rest wanted after others : List Placed) (p q : Part) (r : Ordering) → Some p ≡ first_part wanted → Some q ≡ first_part rest → r ≡ kind_cmp q.kind p.kind → is_ne r ≡ false
+    → after ≡ drop 1 rest → others ≡ drop 1 wanted → left_cmp rest wanted ≡ left_cmp after others
+cmp-alike rest wanted after others p q r some own is alike rest_is wanted_is =
+    cmp-step rest wanted p q some own
+    ∙ ap (λ a. ordering_then a (left_cmp (drop 1 rest) (drop 1 wanted))) (sym is)
+    ∙ then-tied r (left_cmp (drop 1 rest) (drop 1 wanted)) alike
+    ∙ ap₂ left_cmp (sym rest_is) (sym wanted_is)
