@@ -3,6 +3,7 @@
 #![tactic(auto)]
 
 mod answers;
+mod keys;
 mod made;
 mod room;
 mod walks;

@@ -1,0 +1,62 @@
+//! Paths compared and hashed.
+
+use std::cmp::Ordering;
+use std::hash::{DefaultHasher, Hash, Hasher};
+use typed_path::{Encoding, Path, UnixEncoding, WindowsEncoding};
+
+/// Whether two paths are equal.
+fn eq<T: Encoding>(path: &[u8], other: &[u8]) -> usize {
+    usize::from(Path::<T>::new(path) == Path::<T>::new(other))
+}
+
+/// The order of two paths, as a number.
+fn cmp<T: Encoding>(path: &[u8], other: &[u8]) -> usize {
+    match Path::<T>::new(path).cmp(&Path::new(other)) {
+        Ordering::Less => 0,
+        Ordering::Equal => 1,
+        Ordering::Greater => 2,
+    }
+}
+
+/// Whether a path has a hash, which every path has.
+fn hash<T: Encoding>(path: &[u8]) -> usize {
+    let mut state = DefaultHasher::default();
+    Path::<T>::new(path).hash(&mut state);
+    usize::from(state.finish() != 0)
+}
+
+/// Whether two Unix paths are equal.
+#[unsafe(no_mangle)]
+pub extern "C" fn bench_eq(path: &[u8], other: &[u8]) -> usize {
+    eq::<UnixEncoding>(path, other)
+}
+
+/// The order of two Unix paths.
+#[unsafe(no_mangle)]
+pub extern "C" fn bench_cmp(path: &[u8], other: &[u8]) -> usize {
+    cmp::<UnixEncoding>(path, other)
+}
+
+/// The hash of a Unix path.
+#[unsafe(no_mangle)]
+pub extern "C" fn bench_hash(path: &[u8]) -> usize {
+    hash::<UnixEncoding>(path)
+}
+
+/// Whether two Windows paths are equal.
+#[unsafe(no_mangle)]
+pub extern "C" fn bench_windows_eq(path: &[u8], other: &[u8]) -> usize {
+    eq::<WindowsEncoding>(path, other)
+}
+
+/// The order of two Windows paths.
+#[unsafe(no_mangle)]
+pub extern "C" fn bench_windows_cmp(path: &[u8], other: &[u8]) -> usize {
+    cmp::<WindowsEncoding>(path, other)
+}
+
+/// The hash of a Windows path.
+#[unsafe(no_mangle)]
+pub extern "C" fn bench_windows_hash(path: &[u8]) -> usize {
+    hash::<WindowsEncoding>(path)
+}
