@@ -5,6 +5,7 @@ pub mod PlainNames
 pub mod SpellLemmas
 pub mod SpelledTexts
 pub mod SpelledRows
+pub mod NamesBehind
 pub mod ReadyPrefixes
 pub mod ReadyLemmas
 pub mod SpellingLemmas

@@ -1,12 +1,12 @@
 -- The texts of Windows that a push spells anew as they stand, and the names that it puts behind them as they stand.
-use Rattle.std.specs.Prelude.{◌≡◌, ℕ, List, [], ◌∷◌, Bool, true, false, not, ◌&&◌, ◌||◌, is_some}
+use Rattle.std.specs.Prelude.{◌≡◌, ℕ, List, [], ◌∷◌, ◌++◌, if◌then◌else◌, Bool, true, false, not, ◌&&◌, ◌||◌, is_some}
 use Rattle.std.specs.List.{list_any, list_all, slice_split}
 use Rattle.typed_path.specs.declared.scan.separators.Separators.{Separators}
 use Rattle.typed_path.specs.declared.scan.separators.Separators.TheVariants.{Slash, Backslash, Either}
 use Rattle.typed_path.specs.declared.windows.spelled.Spelling.{Spelling}
 use Rattle.typed_path.specs.declared.windows.spelled.Spelling.TheVariants.{Ready, Rooted, Other}
-use Rattle.typed_path.specs.components.Dialect.{windows, is_separator, is_verbatim}
-use Rattle.typed_path.specs.components.Part.{Kind, kinds}
+use Rattle.typed_path.specs.components.Dialect.{windows, backslash, is_separator, is_verbatim}
+use Rattle.typed_path.specs.components.Part.{Kind, Part, kinds}
 use Rattle.typed_path.specs.components.Prefix.{is_empty, drive}
 use Rattle.typed_path.specs.components.Comps.{is_dot, is_dot_dot, parts_of}
 use Rattle.typed_path.specs.queries.Queries.{begins_with_root}
@@ -46,3 +46,8 @@ abbrev pub IsSpelling : Spelling → List ℕ → Type 0
 IsSpelling Ready t = IsReady t
 IsSpelling Rooted t = IsRooted t
 IsSpelling Other t = IsSpelled t → ⊥
+
+-- components with `\` between them, and before the first one where it is parted from what stands before it
+abbrev pub names_behind : Bool → List Part → List ℕ
+names_behind parted [] = []
+names_behind parted (p ∷ ps) = (if parted then backslash ∷ [] else []) ++ p.text ++ names_behind true ps

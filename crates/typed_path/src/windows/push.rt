@@ -1,12 +1,14 @@
 //! A path of Windows pushed onto another.
 
-ghost use Rattle.std.specs.Prelude.{◌≡◌, ◌≤◌, ◌+◌, ◌++◌, false, take, slice_range, length, map, option_map, IfOk, IsOk, OnOk, OnErr};
+ghost use Rattle.std.specs.Prelude.{◌≡◌, ◌≤◌, ◌+◌, ◌++◌, false, take, slice_range, length, map, option_map, is_some, IfSome, IfOk, IsOk, OnOk, OnErr};
+ghost use Rattle.std.specs.List.{list_all};
 ghost use Rattle.std.specs.Vec.{vec_capacity, vec_len};
 ghost use Rattle.typed_path.specs.components.Dialect.{windows};
 ghost use Rattle.typed_path.specs.components.Comps.{parts_of};
-ghost use Rattle.typed_path.specs.components.Part.{kinds, parts};
+ghost use Rattle.typed_path.specs.components.Part.{kinds, parts, is_name};
 ghost use Rattle.typed_path.specs.components.Prefix.{prefix_of};
 ghost use Rattle.typed_path.specs.changes.Push.{push_windows, spells_anew, ended_windows, is_disk_alone, raw_length, merged, merge_by_kind, without_last_name, spelled, joint_behind};
+ghost use Rattle.typed_path.specs.changes.Spelled.{names_behind};
 ghost use Rattle.typed_path.specs.queries.Queries.{has_any_verbatim_prefix};
 ghost use Rattle.typed_path.specs.views.CursorViews.{items_left};
 ghost use Rattle.typed_path.specs.views.PieceViews.{part_of};
@@ -14,6 +16,7 @@ ghost use Rattle.typed_path.specs.views.PieceViews.{part_of};
 use crate::common::put_over;
 use crate::scan::{Cursor, Piece, PieceKind, after_mark, drive, find_prefix};
 use crate::windows::encoding::cursor;
+use crate::windows::spelled::{Spelling, spelling_of};
 use std::alloc::{AllocError, Global};
 
 /// How many components find room before more is asked for.
@@ -148,6 +151,67 @@ fn spell_anew(alloc: Global, base: &[u8], other: &[u8]) -> Result<Vec<u8>, Alloc
     spell(alloc, &pieces, base.len() + other.len() + 1)
 }
 
+/// The names of a path with `\` between them, and before the first one where it is `parted` from
+/// what stands before it: nothing where some component is no name.
+fn put_names(alloc: Global, other: &[u8], parted: bool) -> Result<Option<Vec<u8>>, AllocError>
+    ensures all { IfOk result (λ found.
+        is_some found ≡ list_all is_name (kinds (parts_of windows other.now))) }
+    ensures text { IfOk result (λ found. IfSome found (λ names.
+        names.items ≡ names_behind parted (parts_of windows other.now))) }
+{
+    let mut names = Vec::with_capacity(alloc, other.len() + 1)?;
+    let mut components = cursor(other);
+    let mut parts_next = parted;
+    'names: while let Some(piece) = components.front() {
+        if !piece.is_normal() {
+            return Ok(None);
+        }
+        if parts_next {
+            names.push(b'\\')?;
+        }
+        names.extend_from_slice(piece.text)?;
+        parts_next = true;
+    }
+    Ok(Some(names))
+}
+
+/// What a push puts behind a base of a verbatim kind that it leaves as it stands: nothing where it
+/// spells the base in another way, or some component of the path is no name.
+fn names_onto(alloc: Global, base: &[u8], other: &[u8]) -> Result<Option<Vec<u8>>, AllocError>
+    ensures { IfOk result (λ found. IfSome found (λ names.
+        spelled (merged (parts_of windows base.now) (parts_of windows other.now))
+        ≡ base.now ++ names.items)) }
+{
+    match spelling_of(base) {
+        Spelling::Ready => put_names(alloc, other, true),
+        Spelling::Rooted => put_names(alloc, other, false),
+        Spelling::Other => Ok(None),
+    }
+}
+
+/// Cuts a text to its first bytes, and pushes a path onto the base of a verbatim kind that stands
+/// there from a place on. Where memory is refused, the text is as it was.
+///
+/// Names are put behind a base that is spelled as it is read; else the whole is written anew.
+fn push_anew(text: &mut Vec<u8>, start: usize, kept: usize, other: &[u8]) -> Result<(), AllocError>
+    requires ordered { start ≤ kept }
+    requires within { kept ≤ length text.old.items }
+    ensures ok { OnOk result (text.new.items
+        ≡ take start text.old.items
+        ++ spelled (merged (parts_of windows (slice_range text.old.items start kept))
+        (parts_of windows other.now))) }
+    ensures err { OnErr result (text.new.items ≡ text.old.items) }
+    ensures capacity { vec_capacity text.old ≤ vec_capacity text.new }
+{
+    let alloc = *text.allocator();
+    let base = &text[start..kept];
+    if let Some(names) = names_onto(alloc, base, other)? {
+        return put_over(text, kept, b"", &names);
+    }
+    let spelled = spell_anew(alloc, base, other)?;
+    put_over(text, start, b"", &spelled)
+}
+
 /// Cuts a text to its first bytes, and pushes a path onto the one that stands there from a place
 /// on. Where memory is refused, the text is as it was.
 pub fn push_at(
@@ -178,8 +242,7 @@ pub fn push_at(
     }
     let base = &text[start..kept];
     if has_verbatim_kind(base) {
-        let spelled = spell_anew(*text.allocator(), base, other)?;
-        return put_over(text, start, b"", &spelled);
+        return push_anew(text, start, kept, other);
     }
     if path.begins_with_root() {
         let end = start + prefix_len(base);

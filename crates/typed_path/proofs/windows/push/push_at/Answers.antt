@@ -6,7 +6,7 @@ use Rattle.typed_path.specs.components.Part.{kinds, parts}
 use Rattle.typed_path.specs.components.Comps.{parts_of}
 use Rattle.typed_path.specs.components.Prefix.{prefix_of}
 use Rattle.typed_path.specs.queries.Queries.{has_prefix, has_any_verbatim_prefix, begins_with_root}
-use Rattle.typed_path.specs.changes.Push.{push_windows, raw_length, raw_prefix, spelled, merged, ended_windows}
+use Rattle.typed_path.specs.changes.Push.{push_windows, raw_length, raw_prefix, ended_windows}
 use Rattle.typed_path.proofs.lemmas.changes.PushLemmas.{push-empty, push-anew, push-rooted, push-relative, path-length, up_to-end, up_to-inside}
 use Rattle.typed_path.proofs.windows.push.push_at.Goals as goal
 
@@ -34,13 +34,7 @@ returns-then-has_verbatim_kind-clause-ok c =
     let no_prefix = sym (c.has_prefix.ensures ∙ ap (λ cs. has_prefix (kinds (parts cs))) c.cursor-path.ensures.items) ∙ c.if-has_prefix.false in
     let marked = sym (verbatim_of c.args.start c.args.kept c.deref.ensures.value) ∙ sym c.has_verbatim_kind.ensures ∙ c.if-has_verbatim_kind.true in
     let anew = push-anew (slice_range text c.args.start c.args.kept) other some no_prefix marked in
-    on_ok c.put_over-then-has_verbatim_kind.result
-    (λ e. e ∙ ap (λ u. u ++ c.deref-then-has_verbatim_kind.result.now) (append-nil (take c.args.start text))
-    ∙ ap (λ u. take c.args.start text ++ u)
-    (c.deref-then-has_verbatim_kind.ensures.value ∙ c.in_ok-spelled.ensures
-    ∙ ap (λ t. spelled (merged (parts_of windows (slice_range t c.args.start c.args.kept)) (parts_of windows other))) c.deref.ensures.value
-    ∙ sym anew))
-    c.put_over-then-has_verbatim_kind.ensures.ok
+    on_ok c.push_anew.result (λ e. e ∙ ap (λ u. take c.args.start text ++ u) (sym anew)) c.push_anew.ensures.ok
 
 -- a rooted path, behind the prefix of its base
 module _ (c : goal.After-put_over-then-begins_with_root) where
