@@ -13,3 +13,4 @@ pub mod WindowsKept
 pub mod SettledTexts
 pub mod ReadAgain
 pub mod WindowsStable
+pub mod NormalForm
