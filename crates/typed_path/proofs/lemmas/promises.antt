@@ -14,3 +14,4 @@ pub mod SettledTexts
 pub mod ReadAgain
 pub mod WindowsStable
 pub mod WindowsRows
+pub mod NormalForm

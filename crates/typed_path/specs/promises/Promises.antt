@@ -1,5 +1,5 @@
 -- The promises that rest on reading a written text again.
-use Rattle.std.specs.Prelude.{◌≡◌, ◌↔◌, ℕ, List, [], ◌∷◌, ◌++◌, Bool, true, false, not, ◌&&◌, ◌||◌, length, codes, bytes_eq, if◌then◌else◌, Option, Some, None, option_map, sum_by, ⊤}
+use Rattle.std.specs.Prelude.{◌≡◌, ◌↔◌, ℕ, List, [], ◌∷◌, ◌++◌, Bool, true, false, not, ◌&&◌, ◌||◌, length, codes, bytes_eq, if◌then◌else◌, Option, Some, None, option_map, sum_by}
 use Rattle.std.specs.List.{flat_map}
 use Rattle.typed_path.specs.components.Dialect.{Dialect, unix, windows, slash, backslash}
 use Rattle.typed_path.specs.components.Part.{Prefix, verbatim, verbatim_unc, verbatim_disk, device_ns, unc, disk, Kind, prefix, root, Part, kinds, root_part, is_name}
@@ -60,11 +60,6 @@ pub record IsCanonicalForm (t normal : List ℕ) : Type 0 where
   pub stays : normal_text unix normal ≡ normal
   pub alone : (u : List ℕ) → (normal ≡ normal_text unix u) ↔ (kinds (resolve (parts_of unix t)) ≡ kinds (resolve (parts_of unix u)))
 
--- a normal text of Unix has the canonical form
-abbrev pub HasNormalForm : Dialect → List ℕ → List ℕ → Type 0
-HasNormalForm unix t normal = IsCanonicalForm t normal
-HasNormalForm windows t normal = ⊤
-
 -- a list with a root put in where a name stands right behind a verbatim drive
 abbrev pub with_drive_root : List Part → List Part
 with_drive_root [] = []
@@ -79,15 +74,27 @@ abbrev pub is_verbatim_unc_name : Option Prefix → Bool
 is_verbatim_unc_name (Some (verbatim name)) = bytes_eq name (codes "UNC")
 is_verbatim_unc_name p = false
 
--- the stable form: a Windows text whose names have allowed bytes, and whose prefix is not the verbatim one named `UNC`
-pub record IsStable (t : List ℕ) : Type 0 where
-  pub reads : parts_of windows (normal_text windows t) ≡ with_drive_root (resolve (parts_of windows t))
-  pub same_place : place windows (normal_text windows t) ≡ place windows t
-  pub stays : normal_text windows (normal_text windows t) ≡ normal_text windows t
+-- the stable form of a normal text of Windows: what it is read as, where it leads, and that it is its own normal text
+pub record IsStableForm (t normal : List ℕ) : Type 0 where
+  pub reads : parts_of windows normal ≡ with_drive_root (resolve (parts_of windows t))
+  pub same_place : place windows normal ≡ place windows t
+  pub stays : normal_text windows normal ≡ normal
+
+-- a Windows text whose names have allowed bytes, and whose prefix is not the verbatim one named `UNC`
+abbrev pub HasStableForm : List ℕ → List ℕ → Type 0
+HasStableForm t normal =
+    have_allowed_bytes windows (kinds (parts_of windows t)) ≡ true → is_verbatim_unc_name (prefix_kind windows t) ≡ false → IsStableForm t normal
+
+abbrev pub IsStable : List ℕ → Type 0
+IsStable t = IsStableForm t (normal_text windows t)
 
 abbrev pub StaysStable : List ℕ → Type 0
-StaysStable t =
-    have_allowed_bytes windows (kinds (parts_of windows t)) ≡ true → is_verbatim_unc_name (prefix_kind windows t) ≡ false → IsStable t
+StaysStable t = HasStableForm t (normal_text windows t)
+
+-- a normal text of Unix has the canonical form, and one of Windows the stable form
+abbrev pub HasNormalForm : Dialect → List ℕ → List ℕ → Type 0
+HasNormalForm unix t normal = IsCanonicalForm t normal
+HasNormalForm windows t normal = HasStableForm t normal
 
 -- what a path feeds to a hasher
 pub data Word : Type 0 where

@@ -15,7 +15,10 @@ impl<'a, T: Encoding> Path<'a, T> {
     ///
     /// The components that are left are pushed one by one onto the empty path. A `..` that finds no
     /// name to take away vanishes. On Unix the answer is read as just these components, is its own
-    /// normal text, and is the same, byte for byte, for all paths that lead to the same.
+    /// normal text, and is the same, byte for byte, for all paths that lead to the same. On Windows,
+    /// where no name has a byte that no name may have and the prefix is not the verbatim one named
+    /// `UNC`, the answer is read as these components with a root put in behind a verbatim drive, leads
+    /// where the path does, and is its own normal text.
     pub fn normalize(self, alloc: Global) -> Result<PathBuf<T>, AllocError>
         ensures text { IfOk result (λ p. p.bytes ≡ normal_text T.dialect (path_bytes self.entry)) }
         ensures form { IfOk result (λ p. HasNormalForm T.dialect (path_bytes self.entry) p.bytes) }

@@ -3,12 +3,12 @@ use Rattle.std.proofs.Common.{◌≡◌, ℕ, ◌==◌, true, false, List, [], �
 use Rattle.std.specs.List.{AllByRecursion}
 use Rattle.std.proofs.lemmas.List.Elements.{All-head}
 use Rattle.typed_path.specs.declared.scan.separators.Separators.TheVariants.{Slash}
-use Rattle.typed_path.specs.components.Dialect.{Dialect, unix, windows, slash, is_separator}
+use Rattle.typed_path.specs.components.Dialect.{unix, slash, is_separator}
 use Rattle.typed_path.specs.components.Part.{Kind, prefix, root, normal, Part, kinds, texts, name_part}
 use Rattle.typed_path.specs.components.Comps.{parts_of}
 use Rattle.typed_path.specs.changes.Push.{ended_with, push_unix, push_all}
 use Rattle.typed_path.specs.places.Places.{resolve, stays, normal_text}
-use Rattle.typed_path.specs.promises.Promises.{ReadsAsResolved, StaysNormal, IsCanonical, HasNormalForm}
+use Rattle.typed_path.specs.promises.Promises.{ReadsAsResolved, StaysNormal, IsCanonical, IsCanonicalForm}
 use Rattle.typed_path.proofs.lemmas.components.PartLemmas.{body_parts, parts-body, body_parts-read, IsCleanName, IsLaterPart, IsWritten, IsLater, AreRead, text_by_kind, texts-read}
 use Rattle.typed_path.proofs.lemmas.changes.JoinLemmas.{later_parts-name, body_parts-name, body_parts-ended}
 use Rattle.typed_path.proofs.lemmas.places.ResolveLemmas.{IsKept, resolve-kept, resolve-read, resolve-resolve}
@@ -95,7 +95,6 @@ is_canonical t u = (
     texts_of : (v : List ℕ) → texts (resolve (parts_of unix v)) ≡ map (text_by_kind Slash) (kinds (resolve (parts_of unix v)))
     texts_of v = texts-read Slash (resolve (parts_of unix v)) (resolved-read v)
 
--- a normal text has the form that its dialect promises
-pub normal_form : (d : Dialect) (t : List ℕ) → HasNormalForm d t (normal_text d t)
-normal_form unix t = record { reads = reads_as_resolved t; stays = stays_normal t; alone = λ u. is_canonical t u }
-normal_form windows t = tt
+-- a normal text of Unix has the canonical form
+pub canonical_form : (t : List ℕ) → IsCanonicalForm t (normal_text unix t)
+canonical_form t = record { reads = reads_as_resolved t; stays = stays_normal t; alone = λ u. is_canonical t u }
