@@ -7,6 +7,7 @@
 //! only calls are timed whose label has it.
 
 use std::ffi::OsStr;
+use std::hash::{DefaultHasher, Hash, Hasher};
 use std::hint::black_box;
 use std::ops::Range;
 use std::os::unix::ffi::OsStrExt;
@@ -53,13 +54,14 @@ macro_rules! exports {
 exports!((path: *const u8, len: usize):
     bench_walk bench_walk_back bench_next bench_next_back bench_texts bench_zip bench_peekable
     bench_ahead bench_chain bench_map bench_filter bench_collect bench_ancestors bench_last bench_parent
-    bench_file_name bench_extension bench_to_path_buf bench_normalize bench_first bench_windows_walk
+    bench_file_name bench_extension bench_to_path_buf bench_normalize bench_first bench_hash bench_windows_hash
+    bench_windows_walk
     bench_windows_walk_back bench_windows_first bench_windows_last bench_windows_parent
     bench_windows_file_name bench_windows_extension bench_windows_normalize);
 
 exports!((path: *const u8, len: usize, other: *const u8, other_len: usize):
     bench_starts_with bench_strip_prefix bench_ends_with bench_join bench_join_checked
-    bench_with_file_name bench_with_extension bench_windows_join bench_windows_join_checked
+    bench_with_file_name bench_with_extension bench_eq bench_cmp bench_windows_eq bench_windows_cmp bench_windows_join bench_windows_join_checked
     bench_windows_with_extension);
 
 exports!((texts: *const u8, len: usize, ends: *const usize, count: usize, other: *const u8, other_len: usize):
@@ -233,6 +235,13 @@ struct Corpus {
     otherwise: Texts,
     /// The names behind the first half.
     end: Texts,
+    /// The same bytes once more.
+    copies: Texts,
+    /// The same, with another first byte of a name near the end, or near the beginning.
+    ends_otherwise: Texts,
+    begins_otherwise: Texts,
+    /// The same, with each separator but the first written twice.
+    doubled: Texts,
     /// With `.`, `..` and doubled separators here and there.
     dotted: Texts,
     /// As on Windows, with each of the prefixes, and the same texts with slashes alone; and each time
@@ -276,6 +285,10 @@ impl Corpus {
             late: Texts::default(),
             otherwise: Texts::default(),
             end: Texts::default(),
+            copies: Texts::default(),
+            ends_otherwise: Texts::default(),
+            begins_otherwise: Texts::default(),
+            doubled: Texts::default(),
             dotted: Texts::default(),
             windows: Vec::new(),
             windows_relative: Texts::default(),
@@ -301,6 +314,24 @@ impl Corpus {
                     dotted.extend_from_slice(more);
                 }
             }
+            let with_mark = |at: usize| {
+                let mut marked = path.to_vec();
+                marked[at + 1] = b'#';
+                marked
+            };
+            let mut doubled = path[..separators[0]].to_vec();
+            for byte in &path[separators[0]..] {
+                doubled.push(*byte);
+                if *byte == b'/' {
+                    doubled.push(b'/');
+                }
+            }
+            let [first, last] = [separators[0], separators[separators.len() - 1]].map(with_mark);
+            let copy = path.to_vec();
+            corpus.copies.push(&copy);
+            corpus.begins_otherwise.push(&first);
+            corpus.ends_otherwise.push(&last);
+            corpus.doubled.push(&doubled);
             corpus.relative.push(path.strip_prefix(b"/").unwrap_or(path));
             corpus.half.push(half);
             corpus.late.push(&late);
@@ -514,6 +545,15 @@ fn rows(corpus: &Corpus) -> Vec<Row<'_>> {
             bench_ends_with,
             Some(|path, end| usize::from(path.ends_with(end))),
         ),
+        whole.two("`==`, equal bytes", |at| (paths.at(at), corpus.copies.at(at)), bench_eq, Some(eq)),
+        whole.two("`==`, differs early", |at| (paths.at(at), corpus.begins_otherwise.at(at)), bench_eq, Some(eq)),
+        whole.two("`==`, differs late", |at| (paths.at(at), corpus.ends_otherwise.at(at)), bench_eq, Some(eq)),
+        whole.two("`==`, written otherwise", |at| (paths.at(at), corpus.doubled.at(at)), bench_eq, Some(eq)),
+        whole.two("`cmp`, equal bytes", |at| (paths.at(at), corpus.copies.at(at)), bench_cmp, Some(cmp)),
+        whole.two("`cmp`, differs early", |at| (paths.at(at), corpus.begins_otherwise.at(at)), bench_cmp, Some(cmp)),
+        whole.two("`cmp`, differs late", |at| (paths.at(at), corpus.ends_otherwise.at(at)), bench_cmp, Some(cmp)),
+        whole.two("`cmp`, written otherwise", |at| (paths.at(at), corpus.doubled.at(at)), bench_cmp, Some(cmp)),
+        whole.one("`hash`", paths, bench_hash, std_hash),
         whole.one("`to_path_buf`", paths, bench_to_path_buf, |path| made(path.to_path_buf())),
         whole.two("`join` onto a base", joined, bench_join, Some(|base, path| made(base.join(path)))),
         whole.two("`join_checked` onto a base", joined, bench_join_checked, None),
@@ -584,7 +624,33 @@ fn windows_rows(corpus: &Corpus, at: usize) -> Vec<Row<'_>> {
             each(whole.calls(), move |at| call(bench_with_extension, other.at(at), EXTENSION)),
         ),
         one("`normalize`", Reads::Whole, bench_windows_normalize, bench_normalize),
+        whole.row(
+            "`==`, separators otherwise",
+            each(whole.calls(), move |at| call(bench_windows_eq, paths.at(at), other.at(at))),
+            each(whole.calls(), move |at| call(bench_eq, corpus.paths.at(at), corpus.doubled.at(at))),
+        ),
+        whole.row(
+            "`cmp`, separators otherwise",
+            each(whole.calls(), move |at| call(bench_windows_cmp, paths.at(at), other.at(at))),
+            each(whole.calls(), move |at| call(bench_cmp, corpus.paths.at(at), corpus.doubled.at(at))),
+        ),
+        one("`hash`", Reads::Whole, bench_windows_hash, bench_hash),
     ]
+}
+
+fn eq(path: &Path, other: &Path) -> usize {
+    usize::from(path == other)
+}
+
+fn cmp(path: &Path, other: &Path) -> usize {
+    (path.cmp(other) as i8 + 1) as usize
+}
+
+/// The same hasher as here: SipHash of one round and three.
+fn std_hash(path: &Path) -> usize {
+    let mut state = DefaultHasher::new();
+    path.hash(&mut state);
+    usize::from(state.finish() != 0)
 }
 
 fn starts_with(path: &Path, base: &Path) -> usize {
