@@ -19,6 +19,7 @@ mod path_buf;
 mod piece;
 mod put;
 mod reversed;
+mod rows;
 mod strip;
 mod texts;
 
@@ -32,4 +33,5 @@ pub use path::Path;
 pub use path_buf::PathBuf;
 pub use put::put_over;
 pub use reversed::Reversed;
+pub use rows::{drop_name, drop_separator};
 pub use texts::Display;

@@ -6,6 +6,7 @@ ghost use Rattle.typed_path.specs.components.Dialect.{unix};
 ghost use Rattle.typed_path.specs.places.Places.{normal_text};
 ghost use Rattle.typed_path.specs.places.Rows.{rows, settled, names_left, AreRows, IsParted};
 
+use crate::common::{drop_name, drop_separator};
 use crate::scan::{PieceKind, Separators, cut_at_separator, piece_of};
 use std::alloc::AllocError;
 
@@ -41,18 +42,6 @@ fn split_root(path: &[u8]) -> (&[u8], &[u8])
     }
 }
 
-/// Takes the separator behind the last name off, where a name stands behind the first bytes.
-fn drop_separator(text: &mut Vec<u8>, len: usize)
-    ensures capacity { vec_capacity text.new ≡ vec_capacity text.old }
-    ensures named { len < length text.old.items
-        → text.new.items ≡ take (length text.old.items - 1) text.old.items }
-    ensures alone { length text.old.items ≤ len → text.new.items ≡ text.old.items }
-{
-    if len < text.len() {
-        text.pop();
-    }
-}
-
 /// Puts the names that are left of a path behind the first bytes of a text.
 fn settle_all(text: &mut Vec<u8>, len: usize, path: &[u8]) -> Result<(), AllocError>
     requires { len ≤ length text.old.items }
@@ -84,7 +73,7 @@ fn settle(text: &mut Vec<u8>, len: usize, segment: &[u8]) -> Result<(), AllocErr
     ensures succeeds { vec_len text.old + length segment.now < vec_capacity text.old → IsOk result }
 {
     match piece_of(segment, Separators::Slash).kind {
-        PieceKind::ParentDir => drop_name(text, len),
+        PieceKind::ParentDir => drop_name(text, len, Separators::Slash),
         PieceKind::Normal => {
             text.extend_from_slice(segment)?;
             text.push(b'/')?;
@@ -92,21 +81,4 @@ fn settle(text: &mut Vec<u8>, len: usize, segment: &[u8]) -> Result<(), AllocErr
         PieceKind::Prefix(_) | PieceKind::RootDir | PieceKind::CurDir => {}
     }
     Ok(())
-}
-
-/// Takes the last name off, and the separator behind it, where a name stands.
-fn drop_name(text: &mut Vec<u8>, len: usize)
-    requires { len ≤ length text.old.items }
-    ensures dropped { (head : List ℕ) (names : List (List ℕ)) → length head ≡ len
-        → AreRows text.old.items head names
-        → text.new.items ≡ head ++ rows (take (length names - 1) names) }
-    ensures kept { take len text.new.items ≡ take len text.old.items }
-    ensures long { len ≤ length text.new.items }
-    ensures room { vec_len text.new ≤ vec_len text.old }
-    ensures capacity { vec_capacity text.new ≡ vec_capacity text.old }
-{
-    if len < text.len() {
-        let start = Separators::Slash.last_in(&text[len..text.len() - 1]);
-        text.truncate(len + start);
-    }
 }

@@ -11,6 +11,7 @@ ghost use Rattle.typed_path.specs.places.Places.{normal_text};
 ghost use Rattle.typed_path.specs.places.Rows.{rows_of, settled, AreRowsOf, ArePlainRows, IsRowHead, IsPartedEither, TakesRows};
 ghost use Rattle.typed_path.specs.views.PieceViews.{found_of};
 
+use crate::common::{drop_name, drop_separator};
 use crate::scan::{
     Found, PieceKind, Separators, WindowsPrefix, cut_at_separator, drive, find_prefix, piece_of,
 };
@@ -62,11 +63,11 @@ fn put_resolved(text: &mut Vec<u8>, start: usize, path: &[u8]) -> Result<(), All
 #[derive(Clone, Copy, Debug)]
 struct Head<'a> {
     /// The raw prefix, where there is one.
-    prefix: &'a [u8],
+    pub prefix: &'a [u8],
     /// `\`, or nothing.
-    root: &'static [u8],
+    pub root: &'static [u8],
     /// What the names are read from.
-    rest: &'a [u8],
+    pub rest: &'a [u8],
 }
 
 /// The head of a path behind which names are put in rows, where it is one.
@@ -89,11 +90,12 @@ fn head_of(path: &[u8]) -> Option<Head<'_>>
 /// Whether names are put in rows behind a prefix that is no drive, by what stands behind it.
 ///
 /// They are not behind the verbatim prefix named `UNC`, behind a verbatim drive without a root, nor
-/// in a text that is read verbatim where a name may hold a `/`.
+/// in a text that is read verbatim where a name may hold a `/`. False says nothing.
 #[inline(always)]
 fn takes_rows(path: &[u8], found: Found<'_>, head: Head<'_>) -> bool
     requires { found.length ≤ length path.now }
-    ensures { IsTrue result → TakesRows path.now (found_of found.entry) head.entry.root.now head.entry.rest.now }
+    ensures { IsTrue result → TakesRows path.now (found_of found.entry)
+        head.entry.root.now head.entry.rest.now }
 {
     let behind = &path[found.length..];
     !matches!(found.kind, WindowsPrefix::Verbatim(b"UNC"))
@@ -123,7 +125,8 @@ fn head_behind(path: &[u8], end: usize) -> Head<'_>
     }
 }
 
-/// Puts the names of a path in rows behind its head, and answers whether the normal text stands then.
+/// Puts the names of a path in rows behind its head, and answers whether its normal text stands there
+/// then.
 #[inline(always)]
 fn put_rows(text: &mut Vec<u8>, head: Head<'_>) -> Result<bool, AllocError>
     ensures ok { IfOk result (λ done. IsTrue done → (path : List ℕ)
@@ -140,20 +143,6 @@ fn put_rows(text: &mut Vec<u8>, head: Head<'_>) -> Result<bool, AllocError>
     }
     drop_separator(text, len);
     Ok(true)
-}
-
-/// Takes the separator behind the last name off, where a name stands behind the first bytes.
-#[inline(always)]
-fn drop_separator(text: &mut Vec<u8>, len: usize)
-    ensures capacity { vec_capacity text.new ≡ vec_capacity text.old }
-    ensures named { len < length text.old.items
-        → text.new.items ≡ take (length text.old.items - 1) text.old.items }
-    ensures alone { length text.old.items ≤ len → text.new.items ≡ text.old.items }
-    ensures kept { take len text.new.items ≡ take len text.old.items }
-{
-    if len < text.len() {
-        text.pop();
-    }
 }
 
 /// Puts the names that are left of a path behind the first bytes of a text, and answers whether
@@ -194,7 +183,7 @@ fn settle(text: &mut Vec<u8>, len: usize, segment: &[u8]) -> Result<bool, AllocE
         return Ok(false);
     }
     match piece_of(segment, Separators::Either).kind {
-        PieceKind::ParentDir => drop_name(text, len),
+        PieceKind::ParentDir => drop_name(text, len, Separators::Either),
         PieceKind::Normal => {
             text.extend_from_slice(segment)?;
             text.push(b'\\')?;
@@ -202,22 +191,6 @@ fn settle(text: &mut Vec<u8>, len: usize, segment: &[u8]) -> Result<bool, AllocE
         PieceKind::Prefix(_) | PieceKind::RootDir | PieceKind::CurDir => {}
     }
     Ok(true)
-}
-
-/// Takes the last name off, and the separator behind it, where a name stands.
-fn drop_name(text: &mut Vec<u8>, len: usize)
-    requires { len ≤ length text.old.items }
-    ensures dropped { (head : List ℕ) (names : List (List ℕ)) → length head ≡ len
-        → AreRowsOf Separators.Either text.old.items head names
-        → text.new.items ≡ head ++ rows_of Separators.Either (take (length names - 1) names) }
-    ensures kept { take len text.new.items ≡ take len text.old.items }
-    ensures long { len ≤ length text.new.items }
-    ensures capacity { vec_capacity text.new ≡ vec_capacity text.old }
-{
-    if len < text.len() {
-        let start = Separators::Either.last_in(&text[len..text.len() - 1]);
-        text.truncate(len + start);
-    }
 }
 
 /// Pushes what the list of a path resolves to, one by one, onto the empty path at the end of a text.
