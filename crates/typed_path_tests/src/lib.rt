@@ -3,6 +3,8 @@
 
 #[cfg(test)]
 mod ends;
+#[cfg(test)]
+mod keys;
 mod lanes;
 #[cfg(test)]
 mod lines;

@@ -1,0 +1,199 @@
+//! Paths as keys of maps, what they feed to a hasher, and their order: rows of known answers.
+
+use std::cmp::Ordering;
+use std::collections::{BTreeMap, BTreeSet, HashMap, HashSet};
+use std::hash::{DefaultHasher, Hash, Hasher};
+use std::test::Fail;
+use typed_path::{
+    Encoding, Path, PathBuf, UnixEncoding, UnixPath, WindowsComponents, WindowsEncoding,
+    WindowsPath, WindowsPathBuf,
+};
+
+/// A hasher that tells its words apart: where one ends, it takes the length of it in.
+#[derive(Drop)]
+struct Recorder(DefaultHasher);
+
+impl Recorder {
+    fn new() -> Recorder {
+        Recorder(DefaultHasher::new())
+    }
+}
+
+impl Hasher for Recorder {
+    ghost use Rattle.std.specs.Prelude.{◌∷◌, length, fold};
+    ghost use Rattle.std.specs.Hash.{usize};
+    ghost use Rattle.std.specs.Hash.DefaultHasher as sip;
+
+    ghost write = { λ s bytes. record { 0 = fold sip.write s.0 (bytes ∷ usize (length bytes)) } };
+
+    ghost finish = { λ s. sip.finish s.0 };
+
+    fn finish(&self) -> u64 {
+        self.0.finish()
+    }
+
+    fn write(&mut self, bytes: &[u8]) {
+        self.0.write(bytes);
+        self.0.write_usize(bytes.len());
+    }
+}
+
+/// What a recorder makes of a key.
+fn recorded<K: Hash>(key: &K) -> u64 {
+    let mut state = Recorder::new();
+    key.hash(&mut state);
+    state.finish()
+}
+
+/// What it makes of texts in one write each, and a number behind them.
+fn recorded_words(texts: &[&[u8]], count: usize) -> u64 {
+    let mut state = Recorder::new();
+    for text in texts {
+        state.write(text);
+    }
+    state.write_usize(count);
+    state.finish()
+}
+
+#[test]
+fn words_of_paths(rt: HostRuntime) {
+    let unix: [(&[u8], u64); 5] = [
+        (b"/a/b", recorded_words(&[b"a", b"b"], 2)),
+        (b"./a//", recorded_words(&[b".", b"a"], 2)),
+        (b"", recorded_words(&[], 0)),
+        (b"/", recorded_words(&[], 0)),
+        (b"../name", recorded_words(&[b"..", b"name"], 6)),
+    ];
+    for (path, wanted) in unix {
+        assert_eq!(rt; recorded(&UnixPath::new(path)), wanted);
+    }
+    let windows: [(&[u8], u64); 2] = [
+        (br"\a/b", recorded_words(&[b"a", b"b"], 2)),
+        (br".\a\..", recorded_words(&[b".", b"a", b".."], 4)),
+    ];
+    for (path, wanted) in windows {
+        assert_eq!(rt; recorded(&WindowsPath::new(path)), wanted);
+    }
+    assert!(rt; recorded_words(&[b"ab"], 2) != recorded_words(&[b"a", b"b"], 2));
+    assert!(rt; recorded_words(&[], 2) != recorded_words(&[b"a", b"b"], 2));
+}
+
+#[test]
+fn equal_windows_paths(rt: HostRuntime) -> Result<(), Fail> {
+    let rows: [(&[u8], &[u8], bool); 9] = [
+        (b"//?/x/a", br"\\?\x\a", true),
+        (br"c:\a", br"C:\a", true),
+        (b"C:/a", br"c:\a\.", true),
+        (br"a\\b", b"a/./b/", true),
+        (br"\\s\h", b"//s/h", true),
+        (br"\\?\C:\a", br"C:\a", false),
+        (br"C:\a", br"C:\A", false),
+        (b"C:a", br"C:\a", false),
+        (b"", b".", false),
+    ];
+    for (path, other, same) in rows {
+        let (one, two) = (WindowsPath::new(path), WindowsPath::new(other));
+        assert_eq!(rt; one == two, same);
+        assert_eq!(rt; one.eq_bytes(other), same);
+        assert_eq!(rt; one.cmp(&two) == Ordering::Equal, same);
+        assert_eq!(rt; one.cmp_bytes(other), one.cmp(&two));
+        assert!(rt; !same || recorded(&one) == recorded(&two));
+        let owned = WindowsPathBuf::from_bytes(rt.alloc(), path)?;
+        let owned_other = WindowsPathBuf::from_bytes(rt.alloc(), other)?;
+        assert_eq!(rt; owned == owned_other, same);
+        assert_eq!(rt; recorded(&owned), recorded(&one));
+    }
+    Ok(())
+}
+
+/// Whether each path of a list comes before all that stand behind it, lent and owned.
+fn are_in_order<T: Encoding>(rt: HostRuntime, paths: &[&[u8]]) -> Result<bool, Fail> {
+    for i in 0..paths.len() {
+        for j in 0..paths.len() {
+            let wanted = i.cmp(&j);
+            let one = Path::<T>::new(paths[i]);
+            let two = Path::<T>::new(paths[j]);
+            let owned = PathBuf::<T>::from_bytes(rt.alloc(), paths[i])?;
+            let other = PathBuf::<T>::from_bytes(rt.alloc(), paths[j])?;
+            if one.cmp(&two) != wanted || owned.cmp(&other) != wanted {
+                return Ok(false);
+            }
+            if one.cmp_bytes(paths[j]) != wanted || one.partial_cmp(&two) != Some(wanted) {
+                return Ok(false);
+            }
+        }
+    }
+    Ok(true)
+}
+
+#[test]
+fn orders(rt: HostRuntime) -> Result<(), Fail> {
+    let windows: [&[u8]; 10] = [
+        br"\\?\x",
+        br"\\?\UNC\s\h",
+        br"\\?\C:",
+        br"\\.\d",
+        br"\\s\h",
+        b"C:",
+        br"\a",
+        br".\a",
+        b"..",
+        b"a",
+    ];
+    assert!(rt; are_in_order::<WindowsEncoding>(rt, &windows)?);
+    let unix: [&[u8]; 8] = [b"", b"/", b"/a", b".", b"..", b"a", b"a/b", b"b"];
+    assert!(rt; are_in_order::<UnixEncoding>(rt, &unix)?);
+    Ok(())
+}
+
+#[test]
+fn half_read_iterators(rt: HostRuntime) {
+    let mut left = WindowsComponents::new(WindowsPath::new(br"a\C:"));
+    let whole = WindowsComponents::new(WindowsPath::new(b"C:"));
+    assert!(rt; left != whole);
+    let _ = left.next();
+    assert!(rt; left == whole);
+    assert_eq!(rt; Ord::cmp(&left, &whole), Ordering::Equal);
+    let mut generic = WindowsPath::new(br"a\C:").components();
+    let _ = generic.next();
+    assert!(rt; generic == WindowsPath::new(b"c:").components());
+    let mut texts = WindowsPath::new(br"a\C:").iter();
+    let _ = texts.next();
+    assert!(rt; texts == WindowsPath::new(b"C:").iter());
+    let mut ends = UnixPath::new(b"x//a/./b").components();
+    let _ = ends.next();
+    assert!(rt; ends == UnixPath::new(b"a/b").components());
+    let _ = ends.next_back();
+    assert!(rt; ends == UnixPath::new(b"a").components());
+    assert!(rt; ends < UnixPath::new(b"b").components());
+}
+
+#[test]
+fn keys_of_maps(rt: HostRuntime) -> Result<(), Fail> {
+    let rows: [(&[u8], u32); 2] = [(b"C:/a", 1), (br"c:\a\.", 2)];
+    let key = WindowsPathBuf::from_bytes(rt.alloc(), br"C:\a")?;
+    let mut hashed = HashMap::new(rt.alloc());
+    let mut sorted = BTreeMap::new(rt.alloc());
+    for (path, value) in rows {
+        hashed.insert(WindowsPathBuf::from_bytes(rt.alloc(), path)?, value)?;
+        sorted.insert(WindowsPathBuf::from_bytes(rt.alloc(), path)?, value)?;
+    }
+    assert_eq!(rt; hashed.len(), 1);
+    assert_eq!(rt; hashed.get(&key).copied(), Some(2));
+    assert_eq!(rt; sorted.len(), 1);
+    assert_eq!(rt; sorted.get(&key).copied(), Some(2));
+    Ok(())
+}
+
+#[test]
+fn lent_keys_of_sets(rt: HostRuntime) -> Result<(), Fail> {
+    let mut hashed = HashSet::new(rt.alloc());
+    let mut sorted = BTreeSet::new(rt.alloc());
+    assert!(rt; hashed.insert(WindowsPath::new(b"C:/a"))?);
+    assert!(rt; !hashed.insert(WindowsPath::new(br"c:\a\."))?);
+    assert!(rt; hashed.contains(&WindowsPath::new(br"C:\a")));
+    assert!(rt; sorted.insert(WindowsPath::new(b"C:/a"))?);
+    assert!(rt; !sorted.insert(WindowsPath::new(br"c:\a\."))?);
+    assert!(rt; sorted.contains(&WindowsPath::new(br"C:\a")));
+    Ok(())
+}
