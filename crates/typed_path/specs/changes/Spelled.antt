@@ -51,3 +51,11 @@ IsSpelling Other t = IsSpelled t → ⊥
 abbrev pub names_behind : Bool → List Part → List ℕ
 names_behind parted [] = []
 names_behind parted (p ∷ ps) = (if parted then backslash ∷ [] else []) ++ p.text ++ names_behind true ps
+
+-- a piece that is a name, where it holds no separator
+abbrev pub is_name_piece : List ℕ → Bool
+is_name_piece piece = not (is_empty piece || is_dot piece || is_dot_dot piece)
+
+-- names with `\` between them, and nothing else
+abbrev pub are_names : List ℕ → Bool
+are_names text = not (list_any (is_separator Slash) text) && list_all is_name_piece (slice_split (is_separator Backslash) text)

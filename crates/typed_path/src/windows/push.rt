@@ -1,6 +1,6 @@
 //! A path of Windows pushed onto another.
 
-ghost use Rattle.std.specs.Prelude.{◌≡◌, ◌≤◌, ◌+◌, ◌++◌, false, take, slice_range, length, map, option_map, is_some, IfSome, IfOk, IsOk, OnOk, OnErr};
+ghost use Rattle.std.specs.Prelude.{◌≡◌, ◌≤◌, ◌+◌, ◌++◌, ℕ, List, false, take, slice_range, length, map, option_map, is_some, IfSome, IfOk, IsOk, OnOk, OnErr};
 ghost use Rattle.std.specs.List.{list_all};
 ghost use Rattle.std.specs.Vec.{vec_capacity, vec_len};
 ghost use Rattle.typed_path.specs.components.Dialect.{windows};
@@ -8,15 +8,15 @@ ghost use Rattle.typed_path.specs.components.Comps.{parts_of};
 ghost use Rattle.typed_path.specs.components.Part.{kinds, parts, is_name};
 ghost use Rattle.typed_path.specs.components.Prefix.{prefix_of};
 ghost use Rattle.typed_path.specs.changes.Push.{push_windows, spells_anew, ended_windows, is_disk_alone, raw_length, merged, merge_by_kind, without_last_name, spelled, joint_behind};
-ghost use Rattle.typed_path.specs.changes.Spelled.{names_behind};
-ghost use Rattle.typed_path.specs.queries.Queries.{has_any_verbatim_prefix};
+ghost use Rattle.typed_path.specs.changes.Spelled.{names_behind, IsSpelling};
+ghost use Rattle.typed_path.specs.queries.Queries.{has_prefix, has_any_verbatim_prefix};
 ghost use Rattle.typed_path.specs.views.CursorViews.{items_left};
 ghost use Rattle.typed_path.specs.views.PieceViews.{part_of};
 
 use crate::common::put_over;
 use crate::scan::{Cursor, Piece, PieceKind, after_mark, drive, find_prefix};
 use crate::windows::encoding::cursor;
-use crate::windows::spelled::{Spelling, spelling_of};
+use crate::windows::spelled::{Spelling, are_names, spelling_of};
 use std::alloc::{AllocError, Global};
 
 /// How many components find room before more is asked for.
@@ -175,27 +175,51 @@ fn put_names(alloc: Global, other: &[u8], parted: bool) -> Result<Option<Vec<u8>
     Ok(Some(names))
 }
 
-/// What a push puts behind a base of a verbatim kind that it leaves as it stands: nothing where it
+/// What a push puts behind a base of a verbatim kind that it spells as it stands: nothing where it
 /// spells the base in another way, or some component of the path is no name.
-fn names_onto(alloc: Global, base: &[u8], other: &[u8]) -> Result<Option<Vec<u8>>, AllocError>
-    ensures { IfOk result (λ found. IfSome found (λ names.
-        spelled (merged (parts_of windows base.now) (parts_of windows other.now))
-        ≡ base.now ++ names.items)) }
+fn names_onto(
+    alloc: Global,
+    spelling: Spelling,
+    other: &[u8],
+) -> Result<Option<Vec<u8>>, AllocError>
+    ensures { IfOk result (λ found. IfSome found (λ names. (base : List ℕ)
+        → IsSpelling spelling base
+        → spelled (merged (parts_of windows base) (parts_of windows other.now))
+        ≡ base ++ names.items)) }
 {
-    match spelling_of(base) {
+    match spelling {
         Spelling::Ready => put_names(alloc, other, true),
         Spelling::Rooted => put_names(alloc, other, false),
         Spelling::Other => Ok(None),
     }
 }
 
-/// Cuts a text to its first bytes, and pushes a path onto the base of a verbatim kind that stands
-/// there from a place on. Where memory is refused, the text is as it was.
+/// What a push puts between such a base and a path that it leaves as it stands too.
+fn separator_onto(spelling: Spelling, other: &[u8]) -> Option<&'static [u8]>
+    requires { has_prefix (kinds (parts_of windows other.now)) ≡ false }
+    ensures text { IfSome result (λ separator. (base : List ℕ) → IsSpelling spelling base
+        → spelled (merged (parts_of windows base) (parts_of windows other.now))
+        ≡ base ++ separator.now ++ other.now) }
+    ensures short { IfSome result (λ separator. length separator.now ≤ 1) }
+{
+    if !are_names(other) {
+        return None;
+    }
+    match spelling {
+        Spelling::Ready => Some(b"\\"),
+        Spelling::Rooted => Some(b""),
+        Spelling::Other => None,
+    }
+}
+
+/// Cuts a text to its first bytes, and pushes a path without a prefix onto the base of a verbatim
+/// kind that stands there from a place on. Where memory is refused, the text is as it was.
 ///
 /// Names are put behind a base that is spelled as it is read; else the whole is written anew.
 fn push_anew(text: &mut Vec<u8>, start: usize, kept: usize, other: &[u8]) -> Result<(), AllocError>
     requires ordered { start ≤ kept }
     requires within { kept ≤ length text.old.items }
+    requires no_prefix { has_prefix (kinds (parts_of windows other.now)) ≡ false }
     ensures ok { OnOk result (text.new.items
         ≡ take start text.old.items
         ++ spelled (merged (parts_of windows (slice_range text.old.items start kept))
@@ -205,7 +229,11 @@ fn push_anew(text: &mut Vec<u8>, start: usize, kept: usize, other: &[u8]) -> Res
 {
     let alloc = *text.allocator();
     let base = &text[start..kept];
-    if let Some(names) = names_onto(alloc, base, other)? {
+    let spelling = spelling_of(base);
+    if let Some(separator) = separator_onto(spelling, other) {
+        return put_over(text, kept, separator, other);
+    }
+    if let Some(names) = names_onto(alloc, spelling, other)? {
         return put_over(text, kept, b"", &names);
     }
     let spelled = spell_anew(alloc, base, other)?;

@@ -7,7 +7,7 @@ ghost use Rattle.typed_path.specs.components.Dialect.{windows, is_separator};
 ghost use Rattle.typed_path.specs.components.Prefix.{Found, is_empty, prefix_of};
 ghost use Rattle.typed_path.specs.queries.Queries.{is_verbatim_prefix};
 ghost use Rattle.typed_path.specs.components.Comps.{is_dot, is_dot_dot};
-ghost use Rattle.typed_path.specs.changes.Spelled.{is_plain, is_component, is_row, IsSpelling};
+ghost use Rattle.typed_path.specs.changes.Spelled.{is_plain, is_component, is_row, is_name_piece, are_names, IsSpelling};
 
 use crate::scan::{Separators, cut_at_separator, drive, find_prefix};
 
@@ -43,6 +43,27 @@ fn is_dots(name: &[u8]) -> bool
     ensures { result ≡ (is_empty name.now || is_dot name.now || is_dot_dot name.now) }
 {
     matches!(name, [] | [b'.'] | [b'.', b'.'])
+}
+
+/// Whether a text that has no prefix is names with `\` between them, and nothing else.
+pub fn are_names(text: &[u8]) -> bool
+    ensures { result ≡ are_names text.now }
+{
+    !is_separated(Separators::Slash, text) && are_pieces_names(text)
+}
+
+/// Whether each piece between two `\` is a name.
+fn are_pieces_names(text: &[u8]) -> bool
+    ensures { result ≡ list_all is_name_piece (slice_split (is_separator Separators.Backslash) text.now) }
+{
+    let mut rest = text;
+    'pieces: while let Some((piece, behind)) = cut_at_separator(Separators::Backslash, rest) {
+        if is_dots(piece) {
+            return false;
+        }
+        rest = behind;
+    }
+    !is_dots(rest)
 }
 
 /// How a push of a name spells a text of Windows anew, in one pass over what stands behind the

@@ -18,13 +18,13 @@ use Rattle.typed_path.proofs.lemmas.components.PartLemmas.{pieces, later_part, l
 use Rattle.typed_path.proofs.lemmas.changes.SpellLemmas.{later-piece, joint-relative, later-relative}
 
 -- pieces with `\` between them
-abbrev joined : List (List ℕ) → List ℕ
+abbrev pub joined : List (List ℕ) → List ℕ
 joined [] = []
 joined (piece ∷ []) = piece
 joined (piece ∷ next ∷ more) = piece ++ backslash ∷ joined (next ∷ more)
 
 -- a text is its pieces with `\` between them
-joined-split : (text : List ℕ) → joined (slice_split (is_separator Backslash) text) ≡ text
+pub joined-split : (text : List ℕ) → joined (slice_split (is_separator Backslash) text) ≡ text
 joined-split [] = refl
 joined-split (b ∷ bs) = let some = slice_split-some (is_separator Backslash) bs in by (b == backslash) refl some.0 some.1 some.2 (joined-split bs)
   where
@@ -36,7 +36,7 @@ joined-split (b ∷ bs) = let some = slice_split-some (is_separator Backslash) b
     by false e piece (next ∷ more) is again = ap (λ ps. joined (onto_first b ps)) is ∙ ap (λ t. b ∷ t) (ap joined (sym is) ∙ again)
 
 -- without `/` both separators split as `\` does
-split-either : (text : List ℕ) → list_any (is_separator Slash) text ≡ false → slice_split (is_separator Either) text ≡ slice_split (is_separator Backslash) text
+pub split-either : (text : List ℕ) → list_any (is_separator Slash) text ≡ false → slice_split (is_separator Either) text ≡ slice_split (is_separator Backslash) text
 split-either [] none = refl
 split-either (b ∷ bs) none =
     let both = or_parts (b == slash) (list_any (is_separator Slash) bs) none in
