@@ -10,6 +10,7 @@ mod lanes;
 mod piece;
 mod prefix;
 mod separators;
+mod shared;
 mod step;
 
 pub use base::base_end;
@@ -19,4 +20,5 @@ pub use cut::{cut_at, cut_at_separator, cut_near, text_behind};
 pub use piece::{Piece, PieceKind};
 pub use prefix::{Found, WindowsPrefix, after_mark, drive, find_prefix};
 pub use separators::Separators;
+pub use shared::cursors_behind_shared;
 pub use step::piece_of;

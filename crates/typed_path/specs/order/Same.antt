@@ -3,7 +3,7 @@ use Rattle.std.specs.Prelude.{◌≡◌, ℕ, List, [], ◌∷◌, Bool}
 use Rattle.std.specs.declared.cmp.Ordering.{Ordering}
 use Rattle.std.specs.Ordering.{nat_cmp, is_eq}
 use Rattle.std.specs.Cmp.Lexicographic.{slice_cmp}
-use Rattle.typed_path.specs.components.Part.{verbatim, verbatim_unc, verbatim_disk, device_ns, unc, disk, Kind, prefix, root, current, parent, normal, kinds}
+use Rattle.typed_path.specs.components.Part.{verbatim, verbatim_unc, verbatim_disk, device_ns, unc, disk, Kind, prefix, root, current, parent, normal, Placed, kinds, parts}
 use Rattle.typed_path.specs.components.Dialect.{Dialect}
 use Rattle.typed_path.specs.components.Comps.{parts_of}
 
@@ -43,3 +43,7 @@ path_cmp d t u = kinds_cmp (kinds (parts_of d t)) (kinds (parts_of d u))
 -- the same as a test: whether the order tells them apart
 abbrev pub is_same : Dialect → List ℕ → List ℕ → Bool
 is_same d t u = is_eq (path_cmp d t u)
+
+-- the order of what two readings have left
+abbrev pub left_cmp : List Placed → List Placed → Ordering
+left_cmp cs ds = kinds_cmp (kinds (parts cs)) (kinds (parts ds))

@@ -73,8 +73,7 @@ fn have_same_components<T: Encoding>(path: &[u8], other: &[u8]) -> bool
 fn compare_components<T: Encoding>(path: &[u8], other: &[u8]) -> Ordering
     ensures { result ≡ path_cmp T.dialect path.now other.now }
 {
-    let mut rest = T::cursor(path);
-    let mut wanted = T::cursor(other);
+    let (mut rest, mut wanted) = T::cursors(path, other);
     'pieces: while let Some(piece) = T::front(&mut wanted) {
         let Some(own) = T::front(&mut rest) else {
             return Ordering::Less;

@@ -24,8 +24,9 @@ pub struct Body<'a> {
 }
 
 impl<'a> Body<'a> {
-    ghost use Rattle.std.specs.Prelude.{◌≡◌, ◌≤◌, [], drop, length, option_map, IfSome, IfNone};
-    ghost use Rattle.typed_path.specs.components.Comps.{body};
+    ghost use Rattle.std.specs.Prelude.{◌≡◌, ◌≤◌, [], true, drop, length, option_map, IfSome, IfNone};
+    ghost use Rattle.typed_path.specs.components.Comps.{body, later_body};
+    ghost use Rattle.typed_path.specs.declared.scan.begin.Begin.{Begin};
     ghost use Rattle.typed_path.specs.readings.Left.{but_last, last_of, slice_after_front, slice_after_back};
     ghost use Rattle.typed_path.specs.components.Part.{Placed, end_of, kinds, parts};
     ghost use Rattle.typed_path.specs.queries.Queries.{begins_with_root};
@@ -51,6 +52,22 @@ impl<'a> Body<'a> {
             from,
             to: text.len(),
             begin: Begin::Body,
+            separators,
+        }
+    }
+
+    /// A reading of what stands in a text from a component on, behind others.
+    pub fn inside(text: &'a [u8], from: usize, separators: Separators) -> Body<'a>
+        requires within { from ≤ length text.now }
+        requires clean { is_clean Begin.Inside separators (drop from text.now) ≡ true }
+        ensures items { body_items result ≡ later_body separators from (drop from text.now) }
+        ensures from { result.from ≡ from }
+    {
+        Body {
+            text,
+            from,
+            to: text.len(),
+            begin: Begin::Inside,
             separators,
         }
     }

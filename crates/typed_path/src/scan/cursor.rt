@@ -20,12 +20,13 @@ pub struct Cursor<'a> {
 }
 
 impl<'a> Cursor<'a> {
-    ghost use Rattle.std.specs.Prelude.{◌≡◌, ◌≤◌, [], ◌++◌, length, take, drop, option_map, Some, None};
-    ghost use Rattle.typed_path.specs.components.Comps.{body, component};
+    ghost use Rattle.std.specs.Prelude.{◌≡◌, ◌≤◌, [], ◌++◌, true, length, take, drop, option_map, Some, None};
+    ghost use Rattle.typed_path.specs.components.Comps.{body, later_body, component};
+    ghost use Rattle.typed_path.specs.declared.scan.begin.Begin.{Begin};
     ghost use Rattle.typed_path.specs.readings.Left.{but_last, last_of, slice_after_front, slice_after_back};
     ghost use Rattle.typed_path.specs.components.Part.{Placed, end_of, kinds, parts, prefix_part};
     ghost use Rattle.typed_path.specs.queries.Queries.{begins_with_root, first_prefix, prefix_among, has_prefix, has_physical_root};
-    ghost use Rattle.typed_path.specs.readings.Steps.{first_part, last_part};
+    ghost use Rattle.typed_path.specs.readings.Steps.{first_part, last_part, is_clean};
     ghost use Rattle.typed_path.specs.views.PieceViews.{part_of, prefix_view};
     ghost use Rattle.typed_path.specs.views.CursorViews.{slice_left, items_left, cursor_separators};
     ghost use Rattle.typed_path.specs.changes.Checked.{error_of};
@@ -42,6 +43,18 @@ impl<'a> Cursor<'a> {
         Cursor {
             prefix: None,
             body: Body::new(text, 0, separators),
+        }
+    }
+
+    /// A reading of what stands in a text from a component on, behind others.
+    pub(crate) fn inside(text: &'a [u8], from: usize, separators: Separators) -> Cursor<'a>
+        requires within { from ≤ length text.now }
+        requires clean { is_clean Begin.Inside separators (drop from text.now) ≡ true }
+        ensures { items_left result ≡ later_body separators from (drop from text.now) }
+    {
+        Cursor {
+            prefix: None,
+            body: Body::inside(text, from, separators),
         }
     }
 

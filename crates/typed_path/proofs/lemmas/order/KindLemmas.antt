@@ -6,16 +6,14 @@ use Rattle.std.specs.Str.{bytes_eq}
 use Rattle.std.specs.Cmp.Lexicographic.{slice_cmp, texts_ties}
 use Rattle.std.proofs.lemmas.List.{map-append}
 use Rattle.std.proofs.lemmas.Option.{same_Some}
+use Rattle.std.proofs.lemmas.Cmp.{tied_itself}
 use Rattle.std.proofs.Math.Bool.{and-false, and-true, and_assoc}
-use Rattle.typed_path.specs.components.Part.{normal, Part, Placed, parts, kinds}
+use Rattle.typed_path.specs.components.Part.{normal, Kind, Part, Placed, parts, kinds}
 use Rattle.typed_path.specs.readings.Left.{but_last}
 use Rattle.typed_path.specs.readings.Steps.{first_part, last_part}
-use Rattle.typed_path.specs.order.Same.{bytes_cmp, kind_cmp, kinds_cmp}
+use Rattle.typed_path.specs.order.Same.{bytes_cmp, kind_cmp, kinds_cmp, left_cmp}
+use Rattle.typed_path.specs.order.Laws.{kind_cmp_total}
 use Rattle.typed_path.proofs.lemmas.readings.LeftLemmas.{last_pushed, last_part-push}
-
--- the order of what two readings have left
-abbrev pub left_cmp : List Placed → List Placed → Ordering
-left_cmp cs ds = kinds_cmp (kinds (parts cs)) (kinds (parts ds))
 
 -- whether they have the same left
 abbrev pub is_left_same : List Placed → List Placed → Bool
@@ -167,3 +165,18 @@ cmp-alike rest wanted after others p q r some own is alike rest_is wanted_is =
     ∙ ap (λ a. ordering_then a (left_cmp (drop 1 rest) (drop 1 wanted))) (sym is)
     ∙ then-tied r (left_cmp (drop 1 rest) (drop 1 wanted)) alike
     ∙ ap₂ left_cmp (sym rest_is) (sym wanted_is)
+
+-- kinds that both lists begin with decide nothing
+cmp-shared : (ks us vs : List Kind) → kinds_cmp (ks ++ us) (ks ++ vs) ≡ kinds_cmp us vs
+cmp-shared [] us vs = refl
+cmp-shared (k ∷ ks) us vs = ap (λ a. ordering_then a (kinds_cmp (ks ++ us) (ks ++ vs))) (tied_itself kind_cmp_total k) ∙ cmp-shared ks us vs
+
+kinds-append : (cs ds : List Placed) → kinds (parts (cs ++ ds)) ≡ kinds (parts cs) ++ kinds (parts ds)
+kinds-append cs ds = ap kinds (map-append (λ x. x.part) cs ds) ∙ map-append (λ x. x.kind) (parts cs) (parts ds)
+
+-- so two lists compare as what stands behind the components that they share
+pub cmp-behind : (front us vs cs ds : List Placed) → cs ≡ front ++ us → ds ≡ front ++ vs → left_cmp us vs ≡ left_cmp cs ds
+cmp-behind front us vs cs ds first second =
+    sym (cmp-shared (kinds (parts front)) (kinds (parts us)) (kinds (parts vs)))
+    ∙ ap₂ kinds_cmp (sym (kinds-append front us)) (sym (kinds-append front vs))
+    ∙ ap₂ left_cmp (sym first) (sym second)

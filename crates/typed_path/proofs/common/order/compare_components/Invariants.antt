@@ -1,7 +1,6 @@
 use Rattle.std.proofs.Common.{◌≡◌, length}
-use Rattle.typed_path.specs.order.Same.{path_cmp}
+use Rattle.typed_path.specs.order.Same.{left_cmp, path_cmp}
 use Rattle.typed_path.specs.views.CursorViews.{items_left}
-use Rattle.typed_path.proofs.lemmas.order.KindLemmas.{left_cmp}
 use Rattle.typed_path.proofs.common.order.compare_components.Given as goal
 
 abbrev pub invariant-pieces : goal.invariant-pieces
