@@ -1,3 +1,4 @@
 -- What is promised of paths.
 pub mod Promises
 pub mod Joins
+pub mod Crossings

@@ -19,6 +19,7 @@ ghost use Rattle.typed_path.specs.order.Words.{path_words, unix_words};
 ghost use Rattle.typed_path.specs.views.PathViews.{path_bytes};
 ghost use Rattle.typed_path.specs.promises.Promises.{ReadsAsResolved, StaysNormal, IsCanonical, HashAlike};
 
+mod conversions;
 mod windows;
 
 use crate::common::{Encoding, Path};
@@ -27,6 +28,7 @@ use crate::constants::unix::{
     PARENT_DIR_STR, SEPARATOR, SEPARATOR_STR,
 };
 use crate::unix::UnixComponent;
+pub use conversions::{unix_paths_cross_to_windows, windows_paths_cross_to_unix};
 use std::hash::Hash;
 pub use windows::{
     normal_stays_stable, windows_components_compare_by_kind, windows_constants_are_these,

@@ -2,6 +2,7 @@
 
 mod component;
 mod components;
+mod crossed;
 mod encoding;
 mod normal;
 mod order;

@@ -20,9 +20,13 @@ same_dialect d e = false
 abbrev pub crossed : Dialect → Part → List ℕ
 crossed e p = if is_root p.kind then root_of e else p.text
 
--- a path in another dialect: its components pushed one by one; in its own it stays as it is
+-- components pushed one by one, as they are written in a dialect
+abbrev pub crossed_all : Dialect → List Part → List ℕ
+crossed_all e ps = push_all e [] (map (crossed e) ps)
+
+-- a path in another dialect; in its own it stays as it is
 abbrev pub converted : Dialect → Dialect → List ℕ → List ℕ
-converted d e t = if same_dialect d e then t else push_all e [] (map (crossed e) (parts_of d t))
+converted d e t = if same_dialect d e then t else crossed_all e (parts_of d t)
 
 -- roots, `.` and `..` are never refused
 abbrev pub passes : Kind → Bool
@@ -46,10 +50,14 @@ push_checked_each e (Ok base) (p ∷ ps) = push_checked_each e (push_unless e ba
 abbrev pub converted_checked : Dialect → Dialect → List ℕ → Result (List ℕ) CheckedPathError
 converted_checked d e t = push_checked_each e (Ok []) (parts_of d t)
 
+-- the dialect of the machine
+abbrev pub platform : Dialect
+platform = unix
+
 -- the absolute text of a path from a directory on this machine; none where the two joined are not absolute
 abbrev pub absolute_from : Dialect → List ℕ → List ℕ → Option (List ℕ)
 absolute_from d directory t =
-    let joined = push d (converted unix d directory) t in
+    let joined = push d (converted platform d directory) t in
     if is_absolute d (kinds (parts_of d t)) then Some (normal_text d t)
     else (if is_absolute d (kinds (parts_of d joined)) then Some (normal_text d joined) else None)
 

@@ -5,6 +5,7 @@ ghost use Rattle.typed_path.specs.components.Dialect.{unix};
 use crate::common::{Encoding, put_over};
 use crate::errors::CheckedPathError;
 use crate::scan::{Cursor, Piece, Separators, base_end, cursors_behind_shared};
+use crate::unix::crossed::put_crossed;
 use crate::unix::normal::put_normal;
 use std::alloc::AllocError;
 use std::fmt;
@@ -90,6 +91,10 @@ impl Encoding for UnixEncoding {
 
     fn put_normal(text: &mut Vec<u8>, path: &[u8]) -> Result<(), AllocError> {
         put_normal(text, path)
+    }
+
+    fn put_crossed(text: &mut Vec<u8>, components: Cursor<'_>) -> Result<(), AllocError> {
+        put_crossed(text, components)
     }
 
     fn check(path: &[u8]) -> Result<(), CheckedPathError> {

@@ -10,6 +10,7 @@ ghost use Rattle.typed_path.specs.views.CursorViews.{slice_left, items_left, cur
 use crate::common::Encoding;
 use crate::errors::CheckedPathError;
 use crate::scan::{Cursor, Piece, Separators, WindowsPrefix, find_prefix};
+use crate::windows::crossed::put_crossed;
 use crate::windows::normal::put_normal;
 use crate::windows::push::push_at;
 use std::alloc::AllocError;
@@ -76,6 +77,10 @@ impl Encoding for WindowsEncoding {
 
     fn put_normal(text: &mut Vec<u8>, path: &[u8]) -> Result<(), AllocError> {
         put_normal(text, path)
+    }
+
+    fn put_crossed(text: &mut Vec<u8>, components: Cursor<'_>) -> Result<(), AllocError> {
+        put_crossed(text, components)
     }
 
     fn check(path: &[u8]) -> Result<(), CheckedPathError> {

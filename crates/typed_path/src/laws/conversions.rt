@@ -1,0 +1,19 @@
+//! The laws of paths that are converted to the other dialect.
+
+ghost use Rattle.typed_path.specs.promises.Crossings.{CrossesWhereAllowed, CrossesAsItIs, CrossesBack, CrossesToUnix};
+
+/// The checked conversion to Windows accepts a Unix path in whose names no `\` stands exactly where
+/// no name has a byte that Windows allows in no name. Then the answer is read as the same
+/// components, and its conversion to Unix equals the path.
+pub fn unix_paths_cross_to_windows(path: &[u8])
+    ensures accepted { CrossesWhereAllowed path.now }
+    ensures kept { CrossesAsItIs path.now }
+    ensures back { CrossesBack path.now }
+{}
+
+/// A Windows path none of whose names has a byte that no name may have becomes on Unix: a root, where
+/// it has one or a prefix that is no drive, or else its drive as a name, or a current that stands
+/// first; and then its parents and names, in order.
+pub fn windows_paths_cross_to_unix(path: &[u8])
+    ensures { CrossesToUnix path.now }
+{}
