@@ -71,6 +71,37 @@ impl<T: Drop> From<AllocFailed<T>> for PathError {
     }
 }
 
+/// Why a path was not made absolute.
+#[derive(Clone, Copy, Debug, PartialEq, Eq, Hash, Error)]
+pub enum AbsolutizeError {
+    /// The path is not absolute behind the directory either, so it says no one place.
+    #[error("path is ambiguous")]
+    Ambiguous,
+    /// Memory was refused.
+    #[error("out of memory")]
+    OutOfMemory,
+}
+
+impl From<AllocError> for AbsolutizeError {
+    ghost use Rattle.typed_path.specs.declared.errors.AbsolutizeError.TheVariants.{OutOfMemory};
+
+    ghost from_gives = { λ _ e. e ≡ OutOfMemory };
+
+    fn from(_refused: AllocError) -> AbsolutizeError {
+        AbsolutizeError::OutOfMemory
+    }
+}
+
+impl<T: Drop> From<AllocFailed<T>> for AbsolutizeError {
+    ghost use Rattle.typed_path.specs.declared.errors.AbsolutizeError.TheVariants.{OutOfMemory};
+
+    ghost from_gives = { λ _ e. e ≡ OutOfMemory };
+
+    fn from(_refused: AllocFailed<T>) -> AbsolutizeError {
+        AbsolutizeError::OutOfMemory
+    }
+}
+
 /// Why lines were not answered to the end of the input.
 #[derive(Clone, Copy, Debug, PartialEq, Eq, Hash, Error)]
 pub enum LineError {

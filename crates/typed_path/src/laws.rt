@@ -28,7 +28,7 @@ use crate::constants::unix::{
     PARENT_DIR_STR, SEPARATOR, SEPARATOR_STR,
 };
 use crate::unix::UnixComponent;
-pub use conversions::{unix_paths_cross_to_windows, windows_paths_cross_to_unix};
+pub use conversions::{platform_is_unix, unix_paths_cross_to_windows, windows_paths_cross_to_unix};
 use std::hash::Hash;
 pub use windows::{
     normal_stays_stable, windows_components_compare_by_kind, windows_constants_are_these,

@@ -3,8 +3,11 @@
 
 mod common;
 pub mod constants;
+mod conversions;
 mod errors;
 pub mod laws;
+mod native;
+mod platform;
 mod scan;
 mod script;
 mod unix;
@@ -13,7 +16,11 @@ mod windows;
 pub use common::{
     Ancestors, Component, Components, Display, Encoding, Iter, Path, PathBuf, Reversed,
 };
-pub use errors::{CheckedPathError, LineError, ParseError, PathError, StripPrefixError};
+pub use errors::{
+    AbsolutizeError, CheckedPathError, LineError, ParseError, PathError, StripPrefixError,
+};
+pub use native::{NativeComponent, NativeEncoding, NativePath, NativePathBuf};
+pub use platform::{PlatformEncoding, PlatformPath, PlatformPathBuf};
 pub use scan::{Cursor, Piece, PieceKind};
 pub use script::{
     End, Failed, PathOp, Reply, Sink, Source, StdSink, StdSource, answer_lines, exit_status,

@@ -1,18 +1,20 @@
 -- The commands as the code tells them, and what each is called.
 use Rattle.std.specs.Prelude.{ℕ, List, [], ◌∷◌, codes}
 use Rattle.typed_path.specs.components.Dialect.{Dialect}
-use Rattle.typed_path.specs.lines.Lines.{reply_in, join_reply_in, bad_line}
+use Rattle.typed_path.specs.lines.Lines.{reply_in, pair_reply_in, bad_line}
 use Rattle.typed_path.specs.declared.script.lines.Command.{Command}
-use Rattle.typed_path.specs.declared.script.lines.Command.TheVariants.{Normalize, Components, Join, JoinChecked}
+use Rattle.typed_path.specs.declared.script.lines.Command.TheVariants.{Normalize, Components, Join, JoinChecked, Convert, ConvertChecked}
 
 abbrev pub command_name : Command → List ℕ
 command_name Normalize = codes "normalize"
 command_name Components = codes "components"
 command_name Join = codes "join"
 command_name JoinChecked = codes "join_checked"
+command_name Convert = codes "convert"
+command_name ConvertChecked = codes "convert_checked"
 
 -- the fields of the reply to a command on as many texts as a line has behind its dialect
 abbrev pub texts_reply : Dialect → List ℕ → List (List ℕ) → List (List ℕ)
 texts_reply d command (path ∷ []) = reply_in d command path
-texts_reply d command (base ∷ path ∷ []) = join_reply_in d command base path
+texts_reply d command (first ∷ path ∷ []) = pair_reply_in d command first path
 texts_reply d command texts = bad_line

@@ -1,5 +1,5 @@
 -- What the program answers to its input.
-use Rattle.std.specs.Prelude.{ℕ, List, [], ◌∷◌, ◌++◌, ◌==◌, if◌then◌else◌, codes, length, map, bytes_eq, Option, Some, None}
+use Rattle.std.specs.Prelude.{ℕ, List, [], ◌∷◌, ◌++◌, ◌==◌, if◌then◌else◌, codes, length, map, bytes_eq, Option, Some, None, Result, Ok, Err}
 use Rattle.std.specs.List.{slice_split, flat_map, join_with_byte}
 use Rattle.typed_path.specs.components.Dialect.{Dialect, unix, windows}
 use Rattle.typed_path.specs.components.Part.{Prefix, verbatim, verbatim_unc, verbatim_disk, device_ns, unc, disk, Kind, prefix, root, current, parent, normal, Part}
@@ -7,6 +7,7 @@ use Rattle.typed_path.specs.components.Comps.{parts_of}
 use Rattle.typed_path.specs.places.Places.{normal_text}
 use Rattle.typed_path.specs.changes.Push.{push}
 use Rattle.typed_path.specs.changes.Fault.{fault}
+use Rattle.typed_path.specs.conversions.Convert.{converted, converted_checked}
 use Rattle.typed_path.specs.declared.errors.CheckedPathError.{CheckedPathError}
 use Rattle.typed_path.specs.declared.errors.CheckedPathError.TheVariants.{InvalidFilename, PathTraversalAttack, UnexpectedPrefix, UnexpectedRoot}
 
@@ -111,11 +112,10 @@ abbrev pub joined_reply : List ℕ → Option CheckedPathError → List (List �
 joined_reply joined None = ok_reply (joined ∷ [])
 joined_reply joined (Some refusal) = codes "err" ∷ refusal_name refusal ∷ []
 
--- the fields of the reply to a command on a base and a path
-abbrev pub join_reply_in : Dialect → List ℕ → List ℕ → List ℕ → List (List ℕ)
-join_reply_in d command base path =
-    if bytes_eq command (codes "join") then joined_reply (push d base path) None
-    else (if bytes_eq command (codes "join_checked") then joined_reply (push d base path) (fault d path) else bad_line)
+-- a converted path, or the name of what it is refused for
+abbrev pub converted_reply : Result (List ℕ) CheckedPathError → List (List ℕ)
+converted_reply (Ok text) = ok_reply (text ∷ [])
+converted_reply (Err refusal) = codes "err" ∷ refusal_name refusal ∷ []
 
 -- the dialect that a field names
 abbrev pub dialect_named : List ℕ → Option Dialect
@@ -126,9 +126,22 @@ abbrev pub in_named : (Dialect → List (List ℕ)) → Option Dialect → List 
 in_named fields None = bad_line
 in_named fields (Some d) = fields d
 
+-- the fields of the reply to a command on a path and a dialect to convert it to
+abbrev pub convert_reply_in : Dialect → List ℕ → List ℕ → Dialect → List (List ℕ)
+convert_reply_in d command path target =
+    if bytes_eq command (codes "convert") then converted_reply (Ok (converted d target path))
+    else (if bytes_eq command (codes "convert_checked") then converted_reply (converted_checked d target path) else bad_line)
+
+-- the fields of the reply to a command on two texts: a base and a path, or the name of a dialect and a path
+abbrev pub pair_reply_in : Dialect → List ℕ → List ℕ → List ℕ → List (List ℕ)
+pair_reply_in d command first path =
+    if bytes_eq command (codes "join") then joined_reply (push d first path) None
+    else (if bytes_eq command (codes "join_checked") then joined_reply (push d first path) (fault d path)
+    else in_named (convert_reply_in d command path) (dialect_named first))
+
 -- the fields of the reply to the fields of a line
 abbrev pub reply_fields : List (List ℕ) → List (List ℕ)
-reply_fields (command ∷ dialect ∷ base ∷ path ∷ []) = in_named (λ d. join_reply_in d command base path) (dialect_named dialect)
+reply_fields (command ∷ dialect ∷ first ∷ path ∷ []) = in_named (λ d. pair_reply_in d command first path) (dialect_named dialect)
 reply_fields (command ∷ dialect ∷ path ∷ []) = in_named (λ d. reply_in d command path) (dialect_named dialect)
 reply_fields fields = bad_line
 

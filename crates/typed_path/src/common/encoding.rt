@@ -1,6 +1,6 @@
 //! What every encoding of paths can do.
 
-ghost use Rattle.std.specs.Prelude.{◌≡◌, ◌≤◌, ◌<◌, ◌+◌, ◌++◌, length, fold, ℕ, List, drop, take, option_map, IsSome, Some, None, true, IsOk, IfOk, IfSome, OnOk, OnErr};
+ghost use Rattle.std.specs.Prelude.{◌≡◌, ◌≤◌, ◌<◌, Bool, ◌+◌, ◌++◌, length, fold, ℕ, List, drop, take, option_map, IsSome, Some, None, true, IsOk, IfOk, IfSome, OnOk, OnErr};
 ghost use Rattle.std.specs.Vec.{vec_len, vec_capacity};
 ghost use Rattle.typed_path.specs.changes.Checked.{refusal, error_of};
 ghost use Rattle.typed_path.specs.promises.Promises.{HasPrefixOf, LiesWithin};
@@ -31,6 +31,11 @@ use std::hash::Hasher;
 /// Code that is generic over the encoding rests on these contracts alone.
 pub trait Encoding: Sized {
     ghost dialect: { Dialect };
+
+    ghost IS_PLATFORM: { Bool };
+
+    /// Whether the encoding is that of the machine.
+    const IS_PLATFORM: bool;
 
     /// The name of the encoding: `unix` or `windows`.
     fn label() -> &'static str

@@ -1,6 +1,21 @@
 //! The laws of paths that are converted to the other dialect.
 
+ghost use Rattle.std.specs.Prelude.{◌≡◌, true, false};
 ghost use Rattle.typed_path.specs.promises.Crossings.{CrossesWhereAllowed, CrossesAsItIs, CrossesBack, CrossesToUnix};
+
+use crate::common::Encoding;
+use crate::platform::PlatformEncoding;
+use crate::unix::UnixEncoding;
+use crate::windows::WindowsEncoding;
+
+/// The encoding of the machine reads and writes as that of Unix does, and it alone is the machine's.
+pub fn platform_is_unix()
+    ensures dialect { ⟦<PlatformEncoding as Encoding>⟧.dialect
+        ≡ ⟦<UnixEncoding as Encoding>⟧.dialect }
+    ensures platform { ⟦<PlatformEncoding as Encoding>⟧.IS_PLATFORM ≡ true }
+    ensures unix { ⟦<UnixEncoding as Encoding>⟧.IS_PLATFORM ≡ false }
+    ensures windows { ⟦<WindowsEncoding as Encoding>⟧.IS_PLATFORM ≡ false }
+{}
 
 /// The checked conversion to Windows accepts a Unix path in whose names no `\` stands exactly where
 /// no name has a byte that Windows allows in no name. Then the answer is read as the same

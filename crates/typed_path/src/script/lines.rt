@@ -5,11 +5,13 @@ ghost use Rattle.typed_path.specs.components.Comps.{parts_of};
 ghost use Rattle.typed_path.specs.changes.Push.{push};
 ghost use Rattle.typed_path.specs.views.PieceViews.{part_of, prefix_view};
 ghost use Rattle.typed_path.specs.views.PathViews.{path_bytes};
-ghost use Rattle.typed_path.specs.lines.Lines.{tab, equals_sign, fields_of, reply, reply_fields, reply_line, text_reply, components_reply, reply_in, join_reply_in, joined_reply, refusal_name, bad_line, component_field, kind_name, prefix_name};
+ghost use Rattle.typed_path.specs.conversions.Convert.{converted, converted_checked};
+ghost use Rattle.typed_path.specs.lines.Lines.{tab, equals_sign, fields_of, reply, reply_fields, reply_line, text_reply, components_reply, reply_in, pair_reply_in, convert_reply_in, joined_reply, converted_reply, in_named, dialect_named, refusal_name, bad_line, component_field, kind_name, prefix_name};
 ghost use Rattle.typed_path.specs.lines.Commands.{command_name, texts_reply};
 
 use crate::common::{Encoding, Path};
-use crate::errors::CheckedPathError;
+use crate::conversions::{convert_checked, put_converted};
+use crate::errors::{CheckedPathError, PathError};
 use crate::scan::{Piece, PieceKind, WindowsPrefix, cut_at, text_behind};
 use crate::unix::UnixEncoding;
 use crate::windows::WindowsEncoding;
@@ -22,6 +24,8 @@ pub enum Command {
     Components,
     Join,
     JoinChecked,
+    Convert,
+    ConvertChecked,
 }
 
 /// The command that a line begins with, and what stands behind its tab.
@@ -41,6 +45,12 @@ fn command_of(line: &[u8]) -> Option<(Command, &[u8])>
     }
     if let Some(rest) = text_behind(b"join_checked\t", line) {
         return Some((Command::JoinChecked, rest));
+    }
+    if let Some(rest) = text_behind(b"convert\t", line) {
+        return Some((Command::Convert, rest));
+    }
+    if let Some(rest) = text_behind(b"convert_checked\t", line) {
+        return Some((Command::ConvertChecked, rest));
     }
     None
 }
@@ -77,11 +87,11 @@ fn put_command<T: Encoding>(
     ensures { OnOk result (replies.new.items ≡ replies.old.items
         ++ reply_line (texts_reply T.dialect (command_name command) (fields_of texts.now))) }
 {
-    let Some((base, path)) = cut_at(b'\t', texts) else {
+    let Some((first, path)) = cut_at(b'\t', texts) else {
         return put_path_reply::<T>(command, texts, replies);
     };
     match cut_at(b'\t', path) {
-        None => put_join_reply::<T>(command, base, path, scratch, replies),
+        None => put_pair_reply::<T>(command, first, path, scratch, replies),
         Some(_) => put_bad_line(replies),
     }
 }
@@ -103,42 +113,127 @@ fn put_path_reply<T: Encoding>(
             Ok(())
         }
         Command::Components => put_components(Path::<T>::new(path), replies),
-        Command::Join | Command::JoinChecked => put_bad_line(replies),
+        Command::Join | Command::JoinChecked | Command::Convert | Command::ConvertChecked => {
+            put_bad_line(replies)
+        }
     }
 }
 
-/// Puts the reply to a command on a base and a path behind others.
-fn put_join_reply<T: Encoding>(
+/// Puts the reply to a command on two texts behind others: a base and a path, or the name of an
+/// encoding and a path.
+fn put_pair_reply<T: Encoding>(
     command: Command,
-    base: &[u8],
+    first: &[u8],
     path: &[u8],
     scratch: &mut Vec<u8>,
     replies: &mut Vec<u8>,
 ) -> Result<(), AllocError>
     ensures { OnOk result (replies.new.items ≡ replies.old.items
-        ++ reply_line (join_reply_in T.dialect (command_name command) base.now path.now)) }
+        ++ reply_line (pair_reply_in T.dialect (command_name command) first.now path.now)) }
 {
+    scratch.clear();
     match command {
-        Command::Join => put_joined::<T>(base, path, scratch, replies),
+        Command::Join => put_joined::<T>(first, path, scratch, replies),
         Command::JoinChecked => match T::check(path) {
-            Ok(()) => put_joined::<T>(base, path, scratch, replies),
+            Ok(()) => put_joined::<T>(first, path, scratch, replies),
             Err(refusal) => put_refusal(refusal, replies),
         },
+        Command::Convert | Command::ConvertChecked => {
+            put_convert_reply::<T>(command, first, path, scratch, replies)
+        }
         Command::Normalize | Command::Components => put_bad_line(replies),
     }
 }
 
-/// Puts the reply that is a path pushed onto a base behind others. They are joined in the scratch.
+/// Puts the reply to a conversion behind others, by the name of the encoding.
+fn put_convert_reply<T: Encoding>(
+    command: Command,
+    target: &[u8],
+    path: &[u8],
+    scratch: &mut Vec<u8>,
+    replies: &mut Vec<u8>,
+) -> Result<(), AllocError>
+    requires { scratch.old.items ≡ [] }
+    ensures { OnOk result (replies.new.items ≡ replies.old.items ++ reply_line (in_named
+        (convert_reply_in T.dialect (command_name command) path.now) (dialect_named target.now))) }
+{
+    if target == b"unix".as_slice() {
+        return put_conversion::<T, UnixEncoding>(command, path, scratch, replies);
+    }
+    if target == b"windows".as_slice() {
+        return put_conversion::<T, WindowsEncoding>(command, path, scratch, replies);
+    }
+    put_bad_line(replies)
+}
+
+/// Puts the reply to a conversion into an encoding behind others.
+fn put_conversion<T: Encoding, U: Encoding>(
+    command: Command,
+    path: &[u8],
+    scratch: &mut Vec<u8>,
+    replies: &mut Vec<u8>,
+) -> Result<(), AllocError>
+    requires { scratch.old.items ≡ [] }
+    ensures { OnOk result (replies.new.items ≡ replies.old.items
+        ++ reply_line (convert_reply_in T.dialect (command_name command) path.now U.dialect)) }
+{
+    match command {
+        Command::Convert => put_converted_text::<T, U>(path, replies),
+        Command::ConvertChecked => put_converted_checked::<T, U>(path, scratch, replies),
+        Command::Normalize | Command::Components | Command::Join | Command::JoinChecked => {
+            put_bad_line(replies)
+        }
+    }
+}
+
+/// Puts the reply that is a path in another encoding behind others.
+fn put_converted_text<T: Encoding, U: Encoding>(
+    path: &[u8],
+    replies: &mut Vec<u8>,
+) -> Result<(), AllocError>
+    ensures { OnOk result (replies.new.items
+        ≡ replies.old.items ++ text_reply (converted T.dialect U.dialect path.now)) }
+{
+    replies.extend_from_slice(b"ok\t")?;
+    put_converted::<T, U>(replies, path)?;
+    replies.push(b'\n')?;
+    Ok(())
+}
+
+/// Puts the reply that is a path in another encoding, or the name of its refusal, behind others. It
+/// is put together in the empty scratch.
+fn put_converted_checked<T: Encoding, U: Encoding>(
+    path: &[u8],
+    scratch: &mut Vec<u8>,
+    replies: &mut Vec<u8>,
+) -> Result<(), AllocError>
+    requires { scratch.old.items ≡ [] }
+    ensures { OnOk result (replies.new.items ≡ replies.old.items
+        ++ reply_line (converted_reply (converted_checked T.dialect U.dialect path.now))) }
+{
+    match convert_checked::<T, U>(scratch, path) {
+        Ok(()) => {
+            replies.extend_from_slice(b"ok\t")?;
+            replies.extend_from_slice(scratch.as_slice())?;
+            replies.push(b'\n')?;
+            Ok(())
+        }
+        Err(PathError::Checked(refusal)) => put_refusal(refusal, replies),
+        Err(PathError::OutOfMemory) => Err(AllocError),
+    }
+}
+
+/// Puts the reply that is a path pushed onto a base behind others. They are joined in the empty scratch.
 fn put_joined<T: Encoding>(
     base: &[u8],
     path: &[u8],
     scratch: &mut Vec<u8>,
     replies: &mut Vec<u8>,
 ) -> Result<(), AllocError>
+    requires { scratch.old.items ≡ [] }
     ensures { OnOk result
         (replies.new.items ≡ replies.old.items ++ text_reply (push T.dialect base.now path.now)) }
 {
-    scratch.clear();
     scratch.extend_from_slice(base)?;
     T::push(scratch, path)?;
     replies.extend_from_slice(b"ok\t")?;

@@ -1,5 +1,6 @@
 //! The encoding of Unix paths.
 
+ghost use Rattle.std.specs.Prelude.{false};
 ghost use Rattle.typed_path.specs.components.Dialect.{unix};
 
 use crate::common::{Encoding, put_over};
@@ -27,6 +28,10 @@ impl fmt::Display for UnixEncoding {
 
 impl Encoding for UnixEncoding {
     ghost dialect = { unix };
+
+    ghost IS_PLATFORM = { false };
+
+    const IS_PLATFORM: bool = false;
 
     fn label() -> &'static str {
         "unix"

@@ -1,6 +1,6 @@
 //! The encoding of Windows paths.
 
-ghost use Rattle.std.specs.Prelude.{◌≡◌};
+ghost use Rattle.std.specs.Prelude.{◌≡◌, false};
 ghost use Rattle.typed_path.specs.components.Dialect.{windows, dialect_of};
 ghost use Rattle.typed_path.specs.components.Comps.{comps};
 ghost use Rattle.typed_path.specs.components.Part.{kinds, parts};
@@ -33,6 +33,10 @@ impl fmt::Display for WindowsEncoding {
 
 impl Encoding for WindowsEncoding {
     ghost dialect = { windows };
+
+    ghost IS_PLATFORM = { false };
+
+    const IS_PLATFORM: bool = false;
 
     fn label() -> &'static str {
         "windows"

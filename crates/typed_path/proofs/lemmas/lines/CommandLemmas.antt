@@ -6,7 +6,7 @@ use Rattle.std.proofs.lemmas.List.Splits.{join_with_byte-slice_split}
 use Rattle.std.proofs.lemmas.Slice.Eq.{bytes_eq-Decides}
 use Rattle.std.proofs.lemmas.Bool.{false_from_ne_true}
 use Rattle.typed_path.specs.components.Dialect.{Dialect, unix, windows}
-use Rattle.typed_path.specs.lines.Lines.{tab, fields_of, reply_in, join_reply_in, reply_fields, reply_line, bad_line, dialect_named, in_named}
+use Rattle.typed_path.specs.lines.Lines.{tab, fields_of, reply_in, convert_reply_in, pair_reply_in, reply_fields, reply_line, bad_line, dialect_named, in_named}
 use Rattle.typed_path.specs.lines.Commands.{texts_reply}
 use Rattle.typed_path.proofs.lemmas.lists.SplitLemmas.{slice_split-some}
 
@@ -37,8 +37,9 @@ bad_in_named fields (Some d) bad = bad d
 
 -- a line that begins with no command and its tab is a bad line
 pub no_command : (line : List ℕ) → LacksField (codes "normalize") line → LacksField (codes "components") line → LacksField (codes "join") line → LacksField (codes "join_checked") line
+    → LacksField (codes "convert") line → LacksField (codes "convert_checked") line
     → reply_fields (fields_of line) ≡ bad_line
-no_command line normalize components join checked = by (fields_of line) refl
+no_command line normalize components join checked convert converts_checked = by (fields_of line) refl
   where
     by : (fields : List (List ℕ)) → fields_of line ≡ fields → reply_fields fields ≡ bad_line
     by [] e = refl
@@ -48,8 +49,10 @@ no_command line normalize components join checked = by (fields_of line) refl
         bad_in_named (λ dialect. reply_in dialect f p) (dialect_named d)
         (λ dialect. neither _ _ _ _ bad_line (first_is_other line (codes "normalize") f d (p ∷ []) normalize e) (first_is_other line (codes "components") f d (p ∷ []) components e))
     by (f ∷ d ∷ b ∷ p ∷ []) e =
-        bad_in_named (λ dialect. join_reply_in dialect f b p) (dialect_named d)
-        (λ dialect. neither _ _ _ _ bad_line (first_is_other line (codes "join") f d (b ∷ p ∷ []) join e) (first_is_other line (codes "join_checked") f d (b ∷ p ∷ []) checked e))
+        bad_in_named (λ dialect. pair_reply_in dialect f b p) (dialect_named d) (λ dialect.
+        neither _ _ _ _ _ (first_is_other line (codes "join") f d (b ∷ p ∷ []) join e) (first_is_other line (codes "join_checked") f d (b ∷ p ∷ []) checked e)
+        ∙ bad_in_named (convert_reply_in dialect f p) (dialect_named b) (λ target.
+        neither _ _ _ _ bad_line (first_is_other line (codes "convert") f d (b ∷ p ∷ []) convert e) (first_is_other line (codes "convert_checked") f d (b ∷ p ∷ []) converts_checked e)))
     by (f ∷ d ∷ b ∷ p ∷ q ∷ fields) e = refl
 
 -- a test that fails on both names of dialects names none
@@ -67,7 +70,7 @@ no_encoding command rest no_unix no_windows = by (fields_of rest) refl
     by [] e = refl
     by (d ∷ []) e = refl
     by (d ∷ p ∷ []) e = ap (in_named (λ dialect. reply_in dialect command p)) (named d p [] e)
-    by (d ∷ b ∷ p ∷ []) e = ap (in_named (λ dialect. join_reply_in dialect command b p)) (named d b (p ∷ []) e)
+    by (d ∷ b ∷ p ∷ []) e = ap (in_named (λ dialect. pair_reply_in dialect command b p)) (named d b (p ∷ []) e)
     by (d ∷ b ∷ p ∷ q ∷ fields) e = refl
 
 -- more than two texts are too many for every command

@@ -9,6 +9,6 @@ returns-in-Some-cut_at g c =
     let command = command_name c.args.command in
     let d = g.T.Encoding.dialect in
     put_same _ _ _ bad_line _
-    (sym (ap (texts_reply d command) (c.in-Some.ensures.pieces ∙ ap (λ fields. c.in-Some.base.now ∷ fields) c.in-Some-cut_at.ensures.pieces)
-    ∙ too_many d command c.in-Some.base.now c.in-Some-cut_at.field-0.0.now c.in-Some-cut_at.field-0.1.now))
+    (sym (ap (texts_reply d command) (c.in-Some.ensures.pieces ∙ ap (λ fields. c.in-Some.first.now ∷ fields) c.in-Some-cut_at.ensures.pieces)
+    ∙ too_many d command c.in-Some.first.now c.in-Some-cut_at.field-0.0.now c.in-Some-cut_at.field-0.1.now))
     c.put_bad_line.ensures

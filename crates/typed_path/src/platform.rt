@@ -1,0 +1,100 @@
+//! The encoding of the machine's own paths, which is that of Unix on every machine.
+
+ghost use Rattle.std.specs.Prelude.{true};
+ghost use Rattle.typed_path.specs.conversions.Convert.{platform};
+
+use crate::common::{Encoding, Path, PathBuf};
+use crate::errors::CheckedPathError;
+use crate::scan::{Cursor, Piece};
+use crate::unix::UnixEncoding;
+use std::alloc::AllocError;
+use std::fmt;
+
+/// Paths as on the machine: as on Unix.
+#[derive(Clone, Copy, Debug, Default, PartialEq, Eq, PartialOrd, Ord, Hash)]
+pub struct PlatformEncoding;
+
+/// A path that is written as on the machine.
+pub type PlatformPath<'a> = Path<'a, PlatformEncoding>;
+
+/// An owned path that is written as on the machine.
+pub type PlatformPathBuf = PathBuf<PlatformEncoding>;
+
+/// Prints the name of the type.
+impl fmt::Display for PlatformEncoding {
+    ghost use Rattle.std.specs.Prelude.{codes, Some};
+
+    ghost output = { λ _. Some (codes "PlatformEncoding") };
+
+    fn fmt<W: fmt::Write>(&self, f: &mut fmt::Formatter<W>) -> fmt::Result {
+        f.pad("PlatformEncoding")
+    }
+}
+
+impl Encoding for PlatformEncoding {
+    ghost dialect = { platform };
+
+    ghost IS_PLATFORM = { true };
+
+    const IS_PLATFORM: bool = true;
+
+    fn label() -> &'static str {
+        UnixEncoding::label()
+    }
+
+    fn root_text() -> &'static [u8] {
+        UnixEncoding::root_text()
+    }
+
+    #[inline(always)]
+    fn cursor(path: &[u8]) -> Cursor<'_> {
+        UnixEncoding::cursor(path)
+    }
+
+    fn cursors<'a>(path: &'a [u8], other: &'a [u8]) -> (Cursor<'a>, Cursor<'a>) {
+        UnixEncoding::cursors(path, other)
+    }
+
+    #[inline(always)]
+    fn front<'a>(cursor: &mut Cursor<'a>) -> Option<Piece<'a>> {
+        UnixEncoding::front(cursor)
+    }
+
+    #[inline(always)]
+    fn back<'a>(cursor: &mut Cursor<'a>) -> Option<Piece<'a>> {
+        UnixEncoding::back(cursor)
+    }
+
+    fn absolute(cursor: &Cursor<'_>) -> bool {
+        UnixEncoding::absolute(cursor)
+    }
+
+    fn rooted(cursor: &Cursor<'_>) -> bool {
+        UnixEncoding::rooted(cursor)
+    }
+
+    #[inline]
+    fn behind<'a>(path: &'a [u8], base: &[u8]) -> Option<&'a [u8]> {
+        UnixEncoding::behind(path, base)
+    }
+
+    fn valid(name: &[u8]) -> bool {
+        UnixEncoding::valid(name)
+    }
+
+    fn push_over(path: &mut Vec<u8>, kept: usize, other: &[u8]) -> Result<(), AllocError> {
+        UnixEncoding::push_over(path, kept, other)
+    }
+
+    fn put_normal(text: &mut Vec<u8>, path: &[u8]) -> Result<(), AllocError> {
+        UnixEncoding::put_normal(text, path)
+    }
+
+    fn put_crossed(text: &mut Vec<u8>, components: Cursor<'_>) -> Result<(), AllocError> {
+        UnixEncoding::put_crossed(text, components)
+    }
+
+    fn check(path: &[u8]) -> Result<(), CheckedPathError> {
+        UnixEncoding::check(path)
+    }
+}
