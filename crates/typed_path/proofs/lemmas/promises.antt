@@ -15,3 +15,4 @@ pub mod ReadAgain
 pub mod WindowsStable
 pub mod WindowsRows
 pub mod NormalForm
+pub mod CrossedToUnix
