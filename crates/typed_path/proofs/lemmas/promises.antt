@@ -16,3 +16,5 @@ pub mod WindowsStable
 pub mod WindowsRows
 pub mod NormalForm
 pub mod CrossedToUnix
+pub mod CheckedCrossings
+pub mod CrossedToWindows

@@ -1,0 +1,1 @@
+-- What a path of Unix is read as once it is converted to Windows.
