@@ -9,8 +9,7 @@ use Rattle.typed_path.specs.declared.scan.separators.Separators.TheVariants.{Sla
 use Rattle.typed_path.specs.declared.errors.CheckedPathError.{CheckedPathError}
 use Rattle.typed_path.specs.declared.errors.CheckedPathError.TheVariants.{InvalidFilename}
 use Rattle.typed_path.specs.components.Dialect.{windows, backslash, is_separator}
-use Rattle.typed_path.specs.components.Part.{Kind, prefix, root, current, parent, normal, Part, kinds, name_part}
-use Rattle.typed_path.specs.components.Comps.{parts_of}
+use Rattle.typed_path.specs.components.Part.{Kind, prefix, normal, Part, kinds, name_part}
 use Rattle.typed_path.specs.queries.Queries.{begins_with_root, has_allowed_bytes, have_allowed_bytes}
 use Rattle.typed_path.specs.changes.Push.{push_windows, push_all}
 use Rattle.typed_path.specs.changes.Fault.{fault, fault_behind}
