@@ -15,6 +15,6 @@ pub mod ReadAgain
 pub mod WindowsStable
 pub mod WindowsRows
 pub mod NormalForm
-pub mod CrossedToUnix
 pub mod CheckedCrossings
 pub mod CrossedToWindows
+pub mod CrossedToUnix

@@ -39,6 +39,7 @@ unix_head ps = if list_any is_root (kinds ps) then root_part (root_of unix) ∷ 
     first_by_kind p (prefix (disk letter)) = name_part p.text ∷ []
     first_by_kind p current = p ∷ []
     first_by_kind p k = []
+
     first_of : List Part → List Part
     first_of [] = []
     first_of (p ∷ ps) = first_by_kind p p.kind

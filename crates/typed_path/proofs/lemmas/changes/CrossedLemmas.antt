@@ -86,7 +86,7 @@ crossing_fault-allowed (prefix p) text written lacks allowed = absurd written
 crossing_fault-allowed (normal name) text written lacks allowed = rw written.0 (fault-plain name (crossed-plain name written.1 lacks allowed) allowed)
 crossing_fault-allowed k text written lacks allowed = refl
 
--- nor elsewhere
+-- and where it is not refused, it has them
 allowed-crossing_fault : (k : Kind) (text : List ℕ) → IsWritten Slash k text → lack_backslash (k ∷ []) ≡ true → crossing_fault windows (record { kind = k; text = text }) ≡ None
     → have_allowed_bytes windows (k ∷ []) ≡ true
 allowed-crossing_fault (prefix p) text written lacks accepted = absurd written

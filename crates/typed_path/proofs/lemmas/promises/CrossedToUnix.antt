@@ -1,4 +1,4 @@
--- What a path of Windows is read as once it is converted to Unix.
+-- What a path of Windows is read as once it is converted to Unix, and what a path of Unix is that comes back from there.
 use Rattle.std.proofs.Common.{◌≡◌, ℕ, ◌==◌, ◌||◌, Bool, true, false, if◌then◌else◌, List, [], ◌∷◌, ◌++◌, map, length, take, drop, Option, Some, None, refl, sym, ap, ◌∙◌, subst, append_assoc, append-nil, ne_eqb, inl, inr, arith}
 use Rattle.std.specs.List.{list_any, AllByRecursion}
 use Rattle.std.proofs.Math.Bool.{or-false}
@@ -8,13 +8,14 @@ use Rattle.std.proofs.lemmas.List.Elements.{All-nil, All-cons, filter-append}
 use Rattle.typed_path.specs.declared.scan.separators.Separators.{Separators}
 use Rattle.typed_path.specs.declared.scan.separators.Separators.TheVariants.{Slash, Either}
 use Rattle.typed_path.specs.components.Dialect.{unix, windows, slash, dot, root_of, separators, is_separator}
-use Rattle.typed_path.specs.components.Part.{Prefix, disk, Kind, prefix, root, current, parent, normal, Part, kinds, root_part, prefix_part, is_name, is_parent}
+use Rattle.typed_path.specs.components.Part.{Prefix, disk, Kind, prefix, root, current, parent, normal, Part, kinds, parent_part, name_part, root_part, prefix_part, is_name, is_parent}
 use Rattle.typed_path.specs.components.Prefix.{Found, is_drive_letter, drive, prefix_of}
 use Rattle.typed_path.specs.components.Comps.{parts_of}
+use Rattle.typed_path.specs.components.WindowsParts.{written_windows}
 use Rattle.typed_path.specs.queries.Queries.{is_disk, is_root, begins_with_root, have_allowed_bytes}
 use Rattle.typed_path.specs.changes.Push.{ended_with, push_unix, push_all}
 use Rattle.typed_path.specs.conversions.Convert.{crossed, crossed_all}
-use Rattle.typed_path.specs.promises.Crossings.{parents_and_names, on_unix, CrossesToUnix}
+use Rattle.typed_path.specs.promises.Crossings.{lack_backslash, parents_and_names, on_unix, CrossesToUnix, CrossesBack}
 use Rattle.typed_path.proofs.lemmas.components.SeparatorLemmas.{OfWindows, separators-windows}
 use Rattle.typed_path.proofs.lemmas.components.PartLemmas.{body_parts, body_parts-read, IsCleanName, IsWritten, IsLater, IsLaterPart, IsWritten-later, AreRead}
 use Rattle.typed_path.proofs.lemmas.components.ReadLemmas.{Read, of_disk, prefix-read}
@@ -23,6 +24,8 @@ use Rattle.typed_path.proofs.lemmas.components.PlainNames.{plain-clean}
 use Rattle.typed_path.proofs.lemmas.changes.JoinLemmas.{later_parts-name, body_parts-name}
 use Rattle.typed_path.proofs.lemmas.changes.FaultlessLemmas.{parts_of-none, parts_of-some}
 use Rattle.typed_path.proofs.lemmas.changes.CrossedLemmas.{allowed-plain}
+use Rattle.typed_path.proofs.lemmas.promises.CheckedCrossings.{converted_checked-ok}
+use Rattle.typed_path.proofs.lemmas.promises.CrossedToWindows.{IsStep, a_parent, a_plain, later-steps, on_windows, parts_of-read, accepted-read, crosses_as_it_is}
 use Rattle.typed_path.proofs.lemmas.promises.UnixNormal.{parts_of-unix, push_unix-name}
 use Rattle.typed_path.proofs.lemmas.promises.UnixJoin.{push_unix-behind}
 
@@ -177,3 +180,43 @@ crosses_to_unix t allowed = parts_of-unix (crossed_all unix (parts_of windows t)
         let rest = body_parts s (drop f.length t) in
         subst (λ ps. body_parts Slash (crossed_all unix ps) ≡ on_unix ps) (sym read)
         (found-crossed t f rest (prefix-read t f is) (body_parts-read s (drop f.length t)) (ap (λ ps. have_allowed_bytes windows (kinds ps)) (sym read) ∙ allowed))
+
+-- converted back, a step stays, and is no root
+steps-kept : (ps : List Part) → AllByRecursion IsStep ps → parents_and_names ps ≡ ps
+steps-kept [] steps = refl
+steps-kept (p ∷ ps) steps = by p steps.0 (steps-kept ps steps.1)
+  where
+    by : (q : Part) → IsStep q → parents_and_names ps ≡ ps → parents_and_names (q ∷ ps) ≡ q ∷ ps
+    by _ a_parent e = ap (λ qs. parent_part ∷ qs) e
+    by _ (a_plain name plain) e = ap (λ qs. name_part name ∷ qs) e
+
+steps-unrooted : (ps : List Part) → AllByRecursion IsStep ps → list_any is_root (kinds ps) ≡ false
+steps-unrooted [] steps = refl
+steps-unrooted (p ∷ ps) steps = by p steps.0 (steps-unrooted ps steps.1)
+  where
+    by : (q : Part) → IsStep q → list_any is_root (kinds ps) ≡ false → list_any is_root (q.kind ∷ kinds ps) ≡ false
+    by _ a_parent e = e
+    by _ (a_plain name plain) e = e
+
+-- a first component stays too, and steps behind it
+back-first : (k : Kind) (text : List ℕ) (ps : List Part) → IsWritten Slash k text → AllByRecursion IsStep ps → kinds (on_unix (written_windows text k ∷ ps)) ≡ k ∷ kinds ps
+back-first (prefix p) text ps written steps = absurd written
+back-first root text ps written steps = ap (λ qs. root ∷ kinds qs) (steps-kept ps steps)
+back-first current text ps written steps = rw (steps-unrooted ps steps) (ap (λ qs. current ∷ kinds qs) (steps-kept ps steps))
+back-first parent text ps written steps = rw (steps-unrooted ps steps) (ap (λ qs. parent ∷ kinds qs) (steps-kept ps steps))
+back-first (normal name) text ps written steps = rw (steps-unrooted ps steps) (ap (λ qs. normal name ∷ kinds qs) (steps-kept ps steps))
+
+-- and so does a list of Unix without `\` that has allowed bytes
+back-read : (ps : List Part) → AreRead Slash ps → lack_backslash (kinds ps) ≡ true → have_allowed_bytes windows (kinds ps) ≡ true → kinds (on_unix (on_windows ps)) ≡ kinds ps
+back-read [] read lacks allowed = refl
+back-read (p ∷ ps) read lacks allowed =
+    let without = and_parts _ (lack_backslash (kinds ps)) lacks in
+    let own = and_parts _ (have_allowed_bytes windows (kinds ps)) allowed in
+    back-first p.kind p.text ps read.0 (later-steps ps read.1 without.1 own.1)
+
+-- the answer, converted to Unix, equals the path
+pub crosses_back : (t : List ℕ) → CrossesBack t
+crosses_back t lacks u accepted =
+    let allowed = (converted_checked-ok t u lacks accepted).0 in
+    ap kinds (crosses_to_unix u (ap (have_allowed_bytes windows) (crosses_as_it_is t lacks u accepted) ∙ allowed) ∙ ap on_unix (accepted-read t u lacks accepted))
+    ∙ back-read (parts_of unix t) (parts_of-read t) lacks allowed

@@ -1,6 +1,6 @@
--- What a path of Unix is read as once it is converted to Windows, and once that is converted back.
+-- What a path of Unix is read as once it is converted to Windows.
 use Rattle.std.proofs.Common.{◌≡◌, ℕ, ◌-◌, ◌==◌, ◌||◌, Bool, true, false, if◌then◌else◌, List, [], ◌∷◌, ◌++◌, map, length, slice_index, None, Ok, refl, sym, ap, ap₂, ◌∙◌, subst, append_assoc, append-nil, ne_eqb, true≢false, arith}
-use Rattle.std.specs.List.{list_any, AllByRecursion}
+use Rattle.std.specs.List.{AllByRecursion}
 use Rattle.std.proofs.lemmas.Bool.{and_parts, cond-false, false_from_ne_true}
 use Rattle.std.proofs.lemmas.List.{length-append}
 use Rattle.std.proofs.lemmas.List.Elements.{All-head}
@@ -10,10 +10,10 @@ use Rattle.typed_path.specs.components.Part.{Kind, prefix, root, current, parent
 use Rattle.typed_path.specs.components.Prefix.{prefix_of}
 use Rattle.typed_path.specs.components.Comps.{parts_of}
 use Rattle.typed_path.specs.components.WindowsParts.{written_windows}
-use Rattle.typed_path.specs.queries.Queries.{is_root, begins_with_root, has_prefix, have_allowed_bytes}
+use Rattle.typed_path.specs.queries.Queries.{begins_with_root, has_prefix, have_allowed_bytes}
 use Rattle.typed_path.specs.changes.Push.{is_disk_alone, ended_with, push_windows, push_all}
 use Rattle.typed_path.specs.conversions.Convert.{crossed, crossed_all, converted_checked}
-use Rattle.typed_path.specs.promises.Crossings.{lack_backslash, parents_and_names, on_unix, CrossesAsItIs, CrossesBack}
+use Rattle.typed_path.specs.promises.Crossings.{lack_backslash, CrossesAsItIs}
 use Rattle.typed_path.proofs.lemmas.components.PartLemmas.{pieces, later_parts, body_parts, body_parts-read, IsWritten, IsLater, IsLaterPart, AreRead}
 use Rattle.typed_path.proofs.lemmas.components.PlainNames.{IsPlain}
 use Rattle.typed_path.proofs.lemmas.components.PlainTexts.{unseparated-none, plain-no_prefix, rooted-none, plain-read}
@@ -28,10 +28,9 @@ use Rattle.typed_path.proofs.lemmas.promises.WindowsContained.{verbatim-none}
 use Rattle.typed_path.proofs.lemmas.promises.ReadAgain.{push-first}
 use Rattle.typed_path.proofs.lemmas.promises.UnixNormal.{parts_of-unix}
 use Rattle.typed_path.proofs.lemmas.promises.CheckedCrossings.{converted_checked-ok}
-use Rattle.typed_path.proofs.lemmas.promises.CrossedToUnix.{crosses_to_unix}
 
 -- a parent or a plain name: what stands behind the first component
-data IsStep : Part → Type 0 where
+pub data IsStep : Part → Type 0 where
   a_parent : IsStep parent_part
   a_plain : (name : List ℕ) → IsPlain name → IsStep (name_part name)
 
@@ -49,15 +48,18 @@ step-read : (p : Part) → IsStep p → (b : ℕ) × (bs : List ℕ) × IsReadAl
 step-read _ a_parent = (dot, dot ∷ [], record { text = refl; unseparated = refl; alone = refl; later = refl; no_prefix = refl; relative = refl })
 step-read _ (a_plain [] plain) = let clean = plain.clean in absurd (true≢false clean.filled)
 step-read _ (a_plain (b ∷ bs) plain) =
-    let clean = plain.clean in
-    (b, bs, record {
-      text = refl;
-      unseparated = All-head (λ c. is_separator Either c ≡ false) b bs clean.unseparated;
-      alone = plain-read (b ∷ bs) plain;
-      later = later_parts-name Either (b ∷ bs) clean;
-      no_prefix = refl;
-      relative = refl;
-    })
+    let clean = plain.clean in (
+      b,
+      bs,
+      record {
+        text = refl;
+        unseparated = All-head (λ c. is_separator Either c ≡ false) b bs clean.unseparated;
+        alone = plain-read (b ∷ bs) plain;
+        later = later_parts-name Either (b ∷ bs) clean;
+        no_prefix = refl;
+        relative = refl;
+      },
+    )
 
 -- a text without a prefix, which has none either once something stands behind a separator at its end
 record IsBare (text : List ℕ) : Type 0 where
@@ -149,7 +151,7 @@ later-step parent text later lacks allowed = subst (λ t. IsStep (record { kind 
 later-step (normal name) text later lacks allowed =
     subst (λ t. IsStep (record { kind = normal name; text = t })) (sym later.0) (a_plain name (crossed-plain name later.1 lacks allowed))
 
-later-steps : (ps : List Part) → AllByRecursion (IsLaterPart Slash) ps → lack_backslash (kinds ps) ≡ true → have_allowed_bytes windows (kinds ps) ≡ true → AllByRecursion IsStep ps
+pub later-steps : (ps : List Part) → AllByRecursion (IsLaterPart Slash) ps → lack_backslash (kinds ps) ≡ true → have_allowed_bytes windows (kinds ps) ≡ true → AllByRecursion IsStep ps
 later-steps [] later lacks allowed = tt
 later-steps (p ∷ ps) later lacks allowed =
     let without = and_parts _ (lack_backslash (kinds ps)) lacks in
@@ -166,7 +168,7 @@ steps-crossed [] steps = refl
 steps-crossed (p ∷ ps) steps = ap₂ ◌∷◌ (step-crossed p steps.0) (steps-crossed ps steps.1)
 
 -- a Unix list as it is read on Windows
-abbrev on_windows : List Part → List Part
+abbrev pub on_windows : List Part → List Part
 on_windows [] = []
 on_windows (p ∷ ps) = written_windows p.text p.kind ∷ ps
 
@@ -208,11 +210,11 @@ on_windows-kinds (p ∷ ps) = ap (λ k. k ∷ kinds ps) (by p.kind)
     by (normal name) = refl
 
 -- what Unix reads is a list as it is read
-parts_of-read : (t : List ℕ) → AreRead Slash (parts_of unix t)
+pub parts_of-read : (t : List ℕ) → AreRead Slash (parts_of unix t)
 parts_of-read t = subst (AreRead Slash) (sym (parts_of-unix t)) (body_parts-read Slash t)
 
 -- what is accepted is read as what the path is, but for how its root is written
-accepted-read : (t u : List ℕ) → lack_backslash (kinds (parts_of unix t)) ≡ true → converted_checked unix windows t ≡ Ok u → parts_of windows u ≡ on_windows (parts_of unix t)
+pub accepted-read : (t u : List ℕ) → lack_backslash (kinds (parts_of unix t)) ≡ true → converted_checked unix windows t ≡ Ok u → parts_of windows u ≡ on_windows (parts_of unix t)
 accepted-read t u lacks accepted =
     let ok = converted_checked-ok t u lacks accepted in
     ap (parts_of windows) (sym ok.1) ∙ crossed-read (parts_of unix t) (parts_of-read t) lacks ok.0
@@ -220,43 +222,3 @@ accepted-read t u lacks accepted =
 -- the components are kept
 pub crosses_as_it_is : (t : List ℕ) → CrossesAsItIs t
 crosses_as_it_is t lacks u accepted = ap kinds (accepted-read t u lacks accepted) ∙ on_windows-kinds (parts_of unix t)
-
--- converted back, a step stays, and is no root
-steps-kept : (ps : List Part) → AllByRecursion IsStep ps → parents_and_names ps ≡ ps
-steps-kept [] steps = refl
-steps-kept (p ∷ ps) steps = by p steps.0 (steps-kept ps steps.1)
-  where
-    by : (q : Part) → IsStep q → parents_and_names ps ≡ ps → parents_and_names (q ∷ ps) ≡ q ∷ ps
-    by _ a_parent e = ap (λ qs. parent_part ∷ qs) e
-    by _ (a_plain name plain) e = ap (λ qs. name_part name ∷ qs) e
-
-steps-unrooted : (ps : List Part) → AllByRecursion IsStep ps → list_any is_root (kinds ps) ≡ false
-steps-unrooted [] steps = refl
-steps-unrooted (p ∷ ps) steps = by p steps.0 (steps-unrooted ps steps.1)
-  where
-    by : (q : Part) → IsStep q → list_any is_root (kinds ps) ≡ false → list_any is_root (q.kind ∷ kinds ps) ≡ false
-    by _ a_parent e = e
-    by _ (a_plain name plain) e = e
-
--- a first component stays too, and steps behind it
-back-first : (k : Kind) (text : List ℕ) (ps : List Part) → IsWritten Slash k text → AllByRecursion IsStep ps → kinds (on_unix (written_windows text k ∷ ps)) ≡ k ∷ kinds ps
-back-first (prefix p) text ps written steps = absurd written
-back-first root text ps written steps = ap (λ qs. root ∷ kinds qs) (steps-kept ps steps)
-back-first current text ps written steps = rw (steps-unrooted ps steps) (ap (λ qs. current ∷ kinds qs) (steps-kept ps steps))
-back-first parent text ps written steps = rw (steps-unrooted ps steps) (ap (λ qs. parent ∷ kinds qs) (steps-kept ps steps))
-back-first (normal name) text ps written steps = rw (steps-unrooted ps steps) (ap (λ qs. normal name ∷ kinds qs) (steps-kept ps steps))
-
--- and so does a list of Unix without `\` that has allowed bytes
-back-read : (ps : List Part) → AreRead Slash ps → lack_backslash (kinds ps) ≡ true → have_allowed_bytes windows (kinds ps) ≡ true → kinds (on_unix (on_windows ps)) ≡ kinds ps
-back-read [] read lacks allowed = refl
-back-read (p ∷ ps) read lacks allowed =
-    let without = and_parts _ (lack_backslash (kinds ps)) lacks in
-    let own = and_parts _ (have_allowed_bytes windows (kinds ps)) allowed in
-    back-first p.kind p.text ps read.0 (later-steps ps read.1 without.1 own.1)
-
--- the answer, converted to Unix, equals the path
-pub crosses_back : (t : List ℕ) → CrossesBack t
-crosses_back t lacks u accepted =
-    let allowed = (converted_checked-ok t u lacks accepted).0 in
-    ap kinds (crosses_to_unix u (ap (have_allowed_bytes windows) (crosses_as_it_is t lacks u accepted) ∙ allowed) ∙ ap on_unix (accepted-read t u lacks accepted))
-    ∙ back-read (parts_of unix t) (parts_of-read t) lacks allowed

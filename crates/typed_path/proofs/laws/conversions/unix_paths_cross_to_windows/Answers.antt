@@ -1,5 +1,6 @@
 use Rattle.typed_path.proofs.lemmas.promises.CheckedCrossings.{crosses_where_allowed}
-use Rattle.typed_path.proofs.lemmas.promises.CrossedToWindows.{crosses_as_it_is, crosses_back}
+use Rattle.typed_path.proofs.lemmas.promises.CrossedToUnix.{crosses_back}
+use Rattle.typed_path.proofs.lemmas.promises.CrossedToWindows.{crosses_as_it_is}
 use Rattle.typed_path.proofs.laws.conversions.unix_paths_cross_to_windows.Goals as goal
 
 pub returns-clause-accepted : goal.returns-clause-accepted
