@@ -19,3 +19,4 @@ pub mod PushedNames
 pub mod NameSpans
 pub mod RunLemmas
 pub mod PushLemmas
+pub mod CrossedLemmas

@@ -15,3 +15,6 @@ pub mod ReadAgain
 pub mod WindowsStable
 pub mod WindowsRows
 pub mod NormalForm
+pub mod CheckedCrossings
+pub mod CrossedToWindows
+pub mod CrossedToUnix

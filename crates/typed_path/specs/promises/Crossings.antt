@@ -1,5 +1,5 @@
 -- What becomes of a path that is converted to the other dialect.
-use Rattle.std.specs.Prelude.{◌≡◌, ◌↔◌, ℕ, List, [], ◌∷◌, ◌++◌, Bool, true, false, not, ◌||◌, ◌==◌, if◌then◌else◌, Ok}
+use Rattle.std.specs.Prelude.{◌≡◌, ◌↔◌, ℕ, List, [], ◌∷◌, ◌++◌, Bool, true, not, ◌||◌, ◌==◌, if◌then◌else◌, Ok, IsOk}
 use Rattle.std.specs.List.{list_any, list_all, filter}
 use Rattle.typed_path.specs.components.Dialect.{unix, windows, backslash, root_of}
 use Rattle.typed_path.specs.components.Part.{disk, Kind, prefix, current, normal, Part, kinds, name_part, root_part, is_name, is_parent}
@@ -44,9 +44,13 @@ unix_head ps = if list_any is_root (kinds ps) then root_part (root_of unix) ∷ 
     first_of [] = []
     first_of (p ∷ ps) = first_by_kind p p.kind
 
+-- the parents and the names of a list
+abbrev pub parents_and_names : List Part → List Part
+parents_and_names ps = filter (λ p. is_name p.kind || is_parent p.kind) ps
+
 -- a Windows list as it is read on Unix
 abbrev pub on_unix : List Part → List Part
-on_unix ps = unix_head ps ++ filter (λ p. is_name p.kind || is_parent p.kind) ps
+on_unix ps = unix_head ps ++ parents_and_names ps
 
 -- a Windows path none of whose names has a byte that Windows allows in no name, on Unix
 abbrev pub CrossesToUnix : List ℕ → Type 0
