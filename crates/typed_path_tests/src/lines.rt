@@ -39,7 +39,7 @@ fn answered(
 
 #[test]
 fn replies(rt: HostRuntime) -> Result<(), Fail> {
-    let rows: [(&[u8], &[u8]); 24] = [
+    let rows: [(&[u8], &[u8]); 33] = [
         (
             b"normalize\tunix\tfoo/bar//baz/./asdf/quux/..",
             b"ok\tfoo/bar/baz/asdf\n",
@@ -85,6 +85,24 @@ fn replies(rt: HostRuntime) -> Result<(), Fail> {
             b"join_checked\twindows\tsome\\path\tC:abc\n",
             b"err\tUnexpectedPrefix\n",
         ),
+        (b"convert\twindows\tunix\tC:tmp\n", b"ok\tC:/tmp\n"),
+        (b"convert\tunix\twindows\t/tmp/a:b\n", b"ok\ta:b\n"),
+        (b"convert\tunix\tunix\ta//b\n", b"ok\ta//b\n"),
+        (b"convert_checked\tunix\tunix\ta//b\n", b"ok\ta/b\n"),
+        (
+            b"convert_checked\tunix\twindows\t/tmp/foo.txt\n",
+            b"ok\t\\tmp\\foo.txt\n",
+        ),
+        (
+            b"convert_checked\twindows\twindows\tC:\\x\n",
+            b"err\tUnexpectedPrefix\n",
+        ),
+        (
+            b"convert_checked\tunix\twindows\t/tmp/ab:c\n",
+            b"err\tInvalidFilename\n",
+        ),
+        (b"convert\tunix\tmac\ta\n", b"err\tBadLine\n"),
+        (b"convert\tunix\ta\n", b"err\tBadLine\n"),
         (b"normalize\tmac\ta\n", b"err\tBadLine\n"),
         (b"normalize\tunix\ta\tb\n", b"err\tBadLine\n"),
         (b"\n", b"err\tBadLine\n"),

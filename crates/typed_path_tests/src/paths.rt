@@ -3,7 +3,8 @@
 use std::alloc::{AllocError, Global};
 use std::test::Fail;
 use typed_path::{
-    CheckedPathError, Encoding, Path, PathError, UnixEncoding, UnixPath, UnixPathBuf,
+    AbsolutizeError, CheckedPathError, Encoding, Path, PathError, UnixEncoding, UnixPath,
+    UnixPathBuf,
 };
 
 /// Whether a path has the normal text.
@@ -57,6 +58,8 @@ fn printed_errors(rt: HostRuntime) -> Result<(), Fail> {
         let refused = PathError::Checked(error).to_string(rt.alloc())?;
         assert_eq!(rt; refused.as_str(), wanted);
     }
+    let ambiguous = AbsolutizeError::Ambiguous.to_string(rt.alloc())?;
+    assert_eq!(rt; ambiguous.as_str(), "path is ambiguous");
     Ok(())
 }
 

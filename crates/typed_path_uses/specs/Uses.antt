@@ -1,10 +1,12 @@
 -- What the callers promise.
-use Rattle.std.specs.Prelude.{◌≡◌, ℕ, List, [], ◌∷◌, ◌++◌, map}
+use Rattle.std.specs.Prelude.{◌≡◌, ℕ, List, [], ◌∷◌, ◌++◌, map, Option, Some, None, Result, Ok, Err}
 use Rattle.std.specs.Borrow.{Bor}
 use Rattle.std.specs.List.{flat_map}
 use Rattle.typed_path.specs.components.Dialect.{Dialect, unix}
 use Rattle.typed_path.specs.components.Part.{Kind, Part, kinds}
 use Rattle.typed_path.specs.components.Comps.{parts_of}
+use Rattle.typed_path.specs.declared.errors.CheckedPathError.{CheckedPathError}
+use Rattle.typed_path.specs.conversions.Convert.{converted_checked}
 use Rattle.typed_path.specs.places.Places.{place, resolve}
 
 -- the place of a base, and then the names that a path leads to
@@ -25,3 +27,13 @@ LeadAlike path other = kinds (resolve (parts_of unix path)) ≡ kinds (resolve (
 -- where paths lie
 abbrev pub places : Dialect → List (List ℕ) → List (List Kind)
 places d paths = map (place d) paths
+
+-- how each path crosses to another dialect
+abbrev pub crossings : Dialect → Dialect → List (Bor (List ℕ)) → List (Result (List ℕ) CheckedPathError)
+crossings d e entries = map (λ entry. converted_checked d e entry.now) entries
+
+-- the first refusal among answers
+abbrev pub first_refusal : List (Result (List ℕ) CheckedPathError) → Option CheckedPathError
+first_refusal [] = None
+first_refusal (Ok path ∷ rs) = first_refusal rs
+first_refusal (Err e ∷ rs) = Some e

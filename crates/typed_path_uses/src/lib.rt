@@ -2,9 +2,11 @@
 #![tactic(auto)]
 
 mod extractor;
+mod manifest;
 mod tidy;
 mod walk;
 
 pub use extractor::{target, targets};
+pub use manifest::{entry_on_windows, rewritten};
 pub use tidy::{are_one, key};
 pub use walk::listing;

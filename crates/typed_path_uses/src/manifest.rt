@@ -1,0 +1,43 @@
+//! The paths of a manifest that was written on one system, for another.
+
+ghost use Rattle.std.specs.Prelude.{◌≡◌, true, map, IfOk, Some, Ok};
+ghost use Rattle.typed_path.specs.declared.errors.CheckedPathError.{CheckedPathError};
+ghost use Rattle.typed_path.specs.components.Dialect.{unix, windows};
+ghost use Rattle.typed_path.specs.components.Part.{kinds};
+ghost use Rattle.typed_path.specs.components.Comps.{parts_of};
+ghost use Rattle.typed_path.specs.changes.Checked.{refusal};
+ghost use Rattle.typed_path.specs.promises.Crossings.{lack_backslash};
+ghost use Rattle.typed_path.specs.views.PathViews.{path_bytes};
+ghost use Rattle.typed_path_uses.specs.Uses.{crossings, first_refusal};
+
+use std::alloc::Global;
+use typed_path::laws::unix_paths_cross_to_windows;
+use typed_path::{Encoding, Path, PathBuf, PathError, UnixPath, WindowsPathBuf};
+
+/// The paths of a manifest as they are written in another encoding, in their order; or the refusal of
+/// the first that cannot be written so.
+pub fn rewritten<T: Encoding, U: Encoding>(
+    alloc: Global,
+    entries: &[&[u8]],
+) -> Result<Vec<PathBuf<U>>, PathError>
+    ensures ok { IfOk result (λ ps.
+        crossings T.dialect U.dialect entries.now ≡ map (λ p. Ok p.bytes) ps.items) }
+    ensures refused { (e : CheckedPathError) → refusal result ≡ Some e
+        → first_refusal (crossings T.dialect U.dialect entries.now) ≡ Some e }
+{
+    let mut paths = Vec::with_capacity(alloc, entries.len())?;
+    'entries: for entry in entries {
+        paths.push(Path::<T>::new(entry).with_encoding_checked::<U>(alloc)?)?;
+    }
+    Ok(paths)
+}
+
+/// A path of Unix for a manifest of Windows. Where no name of it holds a `\`, it is read there as
+/// the same components.
+pub fn entry_on_windows(alloc: Global, entry: UnixPath<'_>) -> Result<WindowsPathBuf, PathError>
+    ensures { lack_backslash (kinds (parts_of unix (path_bytes entry.entry))) ≡ true → IfOk result
+        (λ p. kinds (parts_of windows p.bytes) ≡ kinds (parts_of unix (path_bytes entry.entry))) }
+{
+    unix_paths_cross_to_windows(entry.as_bytes());
+    entry.with_windows_encoding_checked(alloc)
+}
