@@ -18,3 +18,4 @@ pub mod PushedNames
 pub mod NameSpans
 pub mod RunLemmas
 pub mod PushLemmas
+pub mod PutCrossed
