@@ -8,7 +8,7 @@ ghost use Rattle.typed_path.specs.conversions.Convert.{crossed_all};
 ghost use Rattle.typed_path.specs.views.CursorViews.{items_left};
 
 use crate::scan::Cursor;
-use crate::windows::push::push_at;
+use crate::windows::names::push_behind;
 use std::alloc::AllocError;
 
 /// Puts the components that are left of a reading behind a text, pushed one by one onto the empty
@@ -39,8 +39,7 @@ fn push_each(text: &mut Vec<u8>, start: usize, components: Cursor<'_>) -> Result
 {
     let mut rest = components;
     'pieces: while let Some(piece) = rest.front() {
-        let kept = text.len();
-        push_at(text, start, kept, piece.crossed(b"\\"))?;
+        push_behind(text, start, piece.crossed(b"\\"))?;
     }
     Ok(())
 }
