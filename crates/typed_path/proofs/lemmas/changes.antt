@@ -18,4 +18,5 @@ pub mod PushedNames
 pub mod NameSpans
 pub mod RunLemmas
 pub mod PushLemmas
+pub mod ReadyParents
 pub mod PutCrossed
