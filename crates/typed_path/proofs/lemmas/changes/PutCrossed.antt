@@ -1,12 +1,14 @@
 -- Components of another dialect pushed one by one onto the path at the end of a text.
-use Rattle.std.proofs.Common.{◌≡◌, ◌≤◌, ◌<◌, ◌-◌, ◌==◌, ℕ, false, List, [], ◌∷◌, ◌++◌, map, length, take, drop, slice_index, slice_range, sym, ap, ◌∙◌, append_assoc, arith}
+use Rattle.std.proofs.Common.{◌≡◌, ◌≤◌, ◌<◌, ◌-◌, ◌==◌, ℕ, true, false, List, [], ◌∷◌, ◌++◌, map, length, take, drop, slice_index, slice_range, sym, ap, ◌∙◌, append_assoc, arith}
 use Rattle.std.specs.Prelude.{OnOk, OnErr, Result, Ok, Err}
 use Rattle.std.proofs.lemmas.List.{drop-append-le, take-append-le, take_all, length-drop}
 use Rattle.std.proofs.lemmas.Bool.{cond-false}
-use Rattle.typed_path.specs.components.Dialect.{Dialect, slash}
+use Rattle.typed_path.specs.components.Dialect.{Dialect, windows, slash, dot}
 use Rattle.typed_path.specs.components.Part.{Part}
-use Rattle.typed_path.specs.changes.Push.{push, push_all, push_unix, ended_with}
+use Rattle.typed_path.specs.changes.Push.{push, push_all, push_unix, push_windows, ended_with, ended_windows, spells_anew}
+use Rattle.typed_path.specs.changes.Spelled.{is_plain}
 use Rattle.typed_path.specs.conversions.Convert.{crossed}
+use Rattle.typed_path.proofs.lemmas.changes.PlainNames.{plain, push-plain_ended}
 
 -- one component more is pushed
 pub crossed-next : (e : Dialect) (goal text next : List ℕ) (p : Part) (old rest : List Part) → old ≡ p ∷ rest → next ≡ push e text (crossed e p)
@@ -56,3 +58,19 @@ pushed_unix-relative text new other base separator start within is ended some re
     ∙ sym (append_assoc (drop start text) separator other)
     ∙ ap (λ t. t ++ other) (sym (ap (ended_with slash) (sym is) ∙ ended ∙ ap (λ t. t ++ separator) is))
     ∙ sym (push_unix-relative (drop start text) other some relative)
+
+-- a plain name is put behind a base of Windows without a verbatim kind
+pub pushed_windows-plain : (text new other base separator : List ℕ) (start : ℕ) → start ≤ length text → base ≡ drop start text → ended_windows base ≡ base ++ separator
+    → spells_anew windows base ≡ false → is_plain other ≡ true → new ≡ text ++ (separator ++ other) → drop start new ≡ push_windows (drop start text) other
+pushed_windows-plain text new other base separator start within is ended kind name e =
+    put-behind text new (separator ++ other) start within e
+    ∙ sym (append_assoc (drop start text) separator other)
+    ∙ ap (λ t. t ++ separator ++ other) (sym is)
+    ∙ ap (λ t. t ++ other) (sym ended)
+    ∙ sym (push-plain_ended base other kind (plain other name))
+    ∙ ap (λ t. push_windows t other) is
+
+-- two dots
+pub two_dots : (xs : List ℕ) → length xs ≡ 2 → slice_index xs 0 ≡ dot → slice_index xs 1 ≡ dot → xs ≡ dot ∷ dot ∷ []
+two_dots (x ∷ y ∷ []) size e f = ap (λ a. a ∷ y ∷ []) e ∙ ap (λ b. dot ∷ b ∷ []) f
+two_dots xs size e f = absurd (omega (arith, size))
