@@ -20,3 +20,5 @@ pub mod NameSpans
 pub mod RunLemmas
 pub mod PushLemmas
 pub mod CrossedLemmas
+pub mod ReadyParents
+pub mod PutCrossed

@@ -2,9 +2,9 @@
 
 ghost use Rattle.std.specs.Prelude.{◌≡◌, ◌≤◌, ◌++◌, take, drop, length, OnOk, OnErr};
 ghost use Rattle.std.specs.Vec.{vec_capacity};
-ghost use Rattle.typed_path.specs.components.Dialect.{unix};
+ghost use Rattle.typed_path.specs.components.Dialect.{unix, slash};
 ghost use Rattle.typed_path.specs.components.Part.{parts};
-ghost use Rattle.typed_path.specs.changes.Push.{push_unix};
+ghost use Rattle.typed_path.specs.changes.Push.{push_unix, ended_with};
 ghost use Rattle.typed_path.specs.conversions.Convert.{crossed_all};
 ghost use Rattle.typed_path.specs.views.CursorViews.{items_left};
 
@@ -60,9 +60,21 @@ fn push_at(text: &mut Vec<u8>, start: usize, other: &[u8]) -> Result<(), AllocEr
     match other {
         [] => Ok(()),
         [b'/', ..] => put_over(text, start, b"", other),
-        _ => match &text[start..] {
-            [] | [.., b'/'] => put_over(text, len, b"", other),
-            _ => put_over(text, len, b"/", other),
-        },
+        _ => {
+            let separator = separator_behind(&text[start..]);
+            put_over(text, len, separator, other)
+        }
+    }
+}
+
+/// What a base wants behind it before a relative path.
+#[inline(always)]
+fn separator_behind(base: &[u8]) -> &'static [u8]
+    ensures text { ended_with slash base.now ≡ base.now ++ result.now }
+    ensures short { length result.now ≤ 1 }
+{
+    match base {
+        [] | [.., b'/'] => b"",
+        _ => b"/",
     }
 }

@@ -8,7 +8,8 @@ ghost use Rattle.typed_path.specs.conversions.Convert.{crossed_all};
 ghost use Rattle.typed_path.specs.views.CursorViews.{items_left};
 
 use crate::scan::Cursor;
-use crate::windows::push::push_at;
+use crate::windows::names::push_piece;
+use crate::windows::spelled::Spelling;
 use std::alloc::AllocError;
 
 /// Puts the components that are left of a reading behind a text, pushed one by one onto the empty
@@ -38,9 +39,9 @@ fn push_each(text: &mut Vec<u8>, start: usize, components: Cursor<'_>) -> Result
     ensures capacity { vec_capacity text.old ≤ vec_capacity text.new }
 {
     let mut rest = components;
+    let mut spelling = Spelling::Other;
     'pieces: while let Some(piece) = rest.front() {
-        let kept = text.len();
-        push_at(text, start, kept, piece.crossed(b"\\"))?;
+        spelling = push_piece(text, start, piece.crossed(b"\\"), spelling)?;
     }
     Ok(())
 }

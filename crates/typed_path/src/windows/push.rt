@@ -33,7 +33,7 @@ pub fn has_verbatim_kind(path: &[u8]) -> bool
 }
 
 /// How many bytes the prefix of a path takes.
-fn prefix_len(path: &[u8]) -> usize
+pub fn prefix_len(path: &[u8]) -> usize
     ensures length { result ≡ raw_length (prefix_of windows path.now) }
     ensures within { result ≤ length path.now }
 {
@@ -51,7 +51,7 @@ fn is_drive_alone(path: &[u8]) -> bool
 }
 
 /// What a base wants behind it before a relative path.
-fn separator_behind(base: &[u8]) -> &'static [u8]
+pub fn separator_behind(base: &[u8]) -> &'static [u8]
     ensures text { ended_windows base.now ≡ base.now ++ result.now }
     ensures short { length result.now ≤ 1 }
 {

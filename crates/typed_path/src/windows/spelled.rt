@@ -39,7 +39,7 @@ pub fn is_separated(separators: Separators, text: &[u8]) -> bool
 
 /// Whether a name is empty, `.` or `..`.
 #[inline(always)]
-fn is_dots(name: &[u8]) -> bool
+pub fn is_dots(name: &[u8]) -> bool
     ensures { result ≡ (is_empty name.now || is_dot name.now || is_dot_dot name.now) }
 {
     matches!(name, [] | [b'.'] | [b'.', b'.'])

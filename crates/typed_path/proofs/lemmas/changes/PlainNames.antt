@@ -10,8 +10,8 @@ use Rattle.typed_path.specs.components.Dialect.{windows, separators, is_separato
 use Rattle.typed_path.specs.components.Part.{disk, kinds, name_part}
 use Rattle.typed_path.specs.components.Prefix.{found, is_empty, drive, prefix_of}
 use Rattle.typed_path.specs.components.Comps.{is_dot, is_dot_dot, parts_of}
-use Rattle.typed_path.specs.queries.Queries.{has_prefix, has_any_verbatim_prefix}
-use Rattle.typed_path.specs.changes.Push.{spelled, merged, push_behind, push, spells_anew}
+use Rattle.typed_path.specs.queries.Queries.{has_prefix, has_any_verbatim_prefix, begins_with_root}
+use Rattle.typed_path.specs.changes.Push.{spelled, merged, ended_windows, push_behind, push, spells_anew}
 use Rattle.typed_path.specs.changes.Spelled.{is_plain}
 use Rattle.typed_path.proofs.lemmas.components.SeparatorLemmas.{unseparated-either}
 use Rattle.typed_path.proofs.lemmas.components.PartLemmas.{IsCleanName}
@@ -73,3 +73,11 @@ push-plain t (b ∷ bs) anew is =
     cond-false (has_prefix (kinds (parts_of windows (b ∷ bs)))) (b ∷ bs) _ (ap (λ ps. has_prefix (kinds ps)) (plain-read (b ∷ bs) is))
     ∙ cond-true (has_any_verbatim_prefix (kinds (parts_of windows t))) _ (push_behind t (b ∷ bs)) anew
     ∙ ap (λ ps. spelled (merged (parts_of windows t) ps)) (plain-read (b ∷ bs) is)
+
+-- one that does not puts it behind the text and what this wants behind it
+pub push-plain_ended : (t n : List ℕ) → spells_anew windows t ≡ false → IsPlain n → push windows t n ≡ ended_windows t ++ n
+push-plain_ended t [] anew is = let filled = is.clean.filled in cc
+push-plain_ended t (b ∷ bs) anew is =
+    cond-false (has_prefix (kinds (parts_of windows (b ∷ bs)))) (b ∷ bs) _ (ap (λ ps. has_prefix (kinds ps)) (plain-read (b ∷ bs) is))
+    ∙ cond-false (has_any_verbatim_prefix (kinds (parts_of windows t))) _ (push_behind t (b ∷ bs)) anew
+    ∙ cond-false (begins_with_root (kinds (parts_of windows (b ∷ bs)))) _ (ended_windows t ++ b ∷ bs) (ap (λ ps. begins_with_root (kinds ps)) (plain-read (b ∷ bs) is))

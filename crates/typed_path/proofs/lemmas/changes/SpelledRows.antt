@@ -130,7 +130,7 @@ component-later s parent text later = rw later refl
 component-later s (normal name) text later = rw (later.0, later.1.filled, later.1.no_dot) refl
 
 -- what separates nothing holds no `\`
-backslash-free : (s : Separators) → OfWindows s → (text : List ℕ) → IsUnseparated (is_separator s) text → IsUnseparated (is_separator Backslash) text
+pub backslash-free : (s : Separators) → OfWindows s → (text : List ℕ) → IsUnseparated (is_separator s) text → IsUnseparated (is_separator Backslash) text
 backslash-free Slash w text free = cc
 backslash-free Backslash w text free = free
 backslash-free Either w text free = λ k d l. (or_parts _ _ (free k d l)).1

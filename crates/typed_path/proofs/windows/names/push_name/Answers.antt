@@ -3,7 +3,7 @@ use Rattle.std.proofs.lemmas.List.{drop-append-le}
 use Rattle.typed_path.specs.components.Dialect.{backslash}
 use Rattle.typed_path.specs.changes.Spelled.{IsSpelling, IsReady}
 use Rattle.typed_path.proofs.lemmas.changes.ReadyLemmas.{push-ready, push-rooted}
-use Rattle.typed_path.proofs.windows.normal.push_name.Goals as goal
+use Rattle.typed_path.proofs.windows.names.push_name.Goals as goal
 
 -- what stands behind the first bytes, with more put behind it
 behind : (text new more : List ℕ) (start : ℕ) → start ≤ length text → new ≡ text ++ more → drop start new ≡ drop start text ++ more

@@ -1,0 +1,79 @@
+use Rattle.std.proofs.Common.{◌≡◌, ◌≤◌, ◌<◌, ◌+◌, ◌-◌, Bool, List, ℕ, length, drop, take, slice_range, refl, sym, ap, subst, ◌∙◌, take_all, arith}
+use Rattle.std.specs.List.{IsAfterLastMatch}
+use Rattle.typed_path.specs.declared.scan.separators.Separators.TheVariants.{Backslash}
+use Rattle.typed_path.specs.components.Dialect.{is_separator}
+use Rattle.typed_path.specs.changes.Spelled.{IsReady, IsRooted}
+use Rattle.typed_path.proofs.lemmas.lists.LastLemmas.{IsLastPlace}
+use Rattle.typed_path.proofs.lemmas.changes.PutCrossed.{whole_range}
+use Rattle.typed_path.proofs.lemmas.changes.ReadyParents.{is_dots, parent-short, parent-dots, parent-cut, parent-rooted, parent-ready}
+use Rattle.typed_path.proofs.windows.names.without_last.Goals as goal
+
+-- all of a text
+whole : (t : List ℕ) → t ≡ take (length t) t
+whole t = sym (take_all (length t) t (omega arith))
+
+-- what stands behind the root, and the place of its last component
+module _ (path : List ℕ) (head last : ℕ) where
+  abbrev names : List ℕ
+  names = slice_range path (head + 1) (length path)
+
+  names_are : names ≡ drop (head + 1) path
+  names_are = whole_range path path (head + 1) refl
+
+  place : last ≤ length names → IsAfterLastMatch (is_separator Backslash) names last → IsLastPlace (is_separator Backslash) (drop (head + 1) path) last
+  place within is = subst (λ u. IsLastPlace (is_separator Backslash) u last) names_are (record { within = within; last = is })
+
+  dots : (x y : Bool) → x ≡ is_dots (slice_range names last (length names)) → x ≡ y → is_dots (drop last (drop (head + 1) path)) ≡ y
+  dots x y e f = ap is_dots (sym (whole_range (drop (head + 1) path) names last names_are)) ∙ sym e ∙ f
+
+pub returns-then-path-head-clause-left : goal.returns-then-path-head-clause-left
+returns-then-path-head-clause-left c =
+    let path = c.args.path.now in
+    parent-short path c.requires.own c.prefix_len-head.result c.prefix_len-head.ensures.length (omega (arith, c.if-path-head.true)) ∙ whole path
+
+pub returns-then-is_dots-clause-left : goal.returns-then-is_dots-clause-left
+returns-then-is_dots-clause-left c =
+    let path = c.args.path.now in
+    let head = c.prefix_len-head.result in
+    let last = c.last_in-last.result in
+    parent-dots path c.requires.own head c.prefix_len-head.ensures.length (omega (arith, c.if-path-head.false)) last (place path head last c.last_in-last.ensures.within c.last_in-last.ensures.last)
+    (dots path head last _ _ c.is_dots.ensures c.if-is_dots.true)
+    ∙ whole path
+
+pub returns-then-last-eq0-clause-left : goal.returns-then-last-eq0-clause-left
+returns-then-last-eq0-clause-left c =
+    let path = c.args.path.now in
+    let head = c.prefix_len-head.result in
+    let last = c.last_in-last.result in
+    parent-cut path c.requires.own head c.prefix_len-head.ensures.length (omega (arith, c.if-path-head.false)) last (place path head last c.last_in-last.ensures.within c.last_in-last.ensures.last)
+    (dots path head last _ _ c.is_dots.ensures c.if-is_dots.false)
+    ∙ ap (λ n. take n path) (omega (arith, c.if-last-eq0.true))
+
+pub returns-then-last-eq0-clause-spelling : goal.returns-then-last-eq0-clause-spelling
+returns-then-last-eq0-clause-spelling c =
+    let path = c.args.path.now in
+    let head = c.prefix_len-head.result in
+    let last = c.last_in-last.result in
+    let cut : head + 1 + (last - 1) ≡ head + 1 = omega (arith, c.if-last-eq0.true) in
+    subst (λ n. IsRooted (take n path)) cut
+    (parent-rooted path c.requires.own head c.prefix_len-head.ensures.length (omega (arith, c.if-path-head.false)) last (place path head last c.last_in-last.ensures.within c.last_in-last.ensures.last)
+    (omega (arith, c.if-last-eq0.true)))
+
+pub returns-clause-left : goal.returns-clause-left
+returns-clause-left c =
+    let path = c.args.path.now in
+    let head = c.prefix_len-head.result in
+    let last = c.last_in-last.result in
+    parent-cut path c.requires.own head c.prefix_len-head.ensures.length (omega (arith, c.if-path-head.false)) last (place path head last c.last_in-last.ensures.within c.last_in-last.ensures.last)
+    (dots path head last _ _ c.is_dots.ensures c.if-is_dots.false)
+    ∙ ap (λ n. take n path) (omega (arith, c.if-last-eq0.false))
+
+pub returns-clause-spelling : goal.returns-clause-spelling
+returns-clause-spelling c =
+    let path = c.args.path.now in
+    let head = c.prefix_len-head.result in
+    let last = c.last_in-last.result in
+    let some : 0 < last = omega (arith, c.if-last-eq0.false) in
+    let cut : head + 1 + (last - 1) ≡ head + last = omega arith in
+    subst (λ n. IsReady (take n path)) cut
+    (parent-ready path c.requires.own head c.prefix_len-head.ensures.length (omega (arith, c.if-path-head.false)) last (place path head last c.last_in-last.ensures.within c.last_in-last.ensures.last) some)

@@ -1,0 +1,176 @@
+//! Paths pushed one by one onto the one that stands behind the first bytes of a text.
+
+ghost use Rattle.std.specs.Prelude.{◌≡◌, ◌≤◌, ◌∷◌, [], take, drop, length, IfOk, OnOk};
+ghost use Rattle.std.specs.Vec.{vec_capacity};
+ghost use Rattle.typed_path.specs.components.Dialect.{dot};
+ghost use Rattle.typed_path.specs.changes.Push.{push_windows};
+ghost use Rattle.typed_path.specs.changes.Spelled.{IsSpelled, IsSpelling};
+
+use crate::common::put_over;
+use crate::scan::Separators;
+use crate::windows::push::{has_verbatim_kind, prefix_len, push_at, separator_behind};
+use crate::windows::spelled::{Spelling, is_dots, is_plain, spelling_of};
+use std::alloc::AllocError;
+
+/// Pushes a path onto the one that stands behind the first bytes of a text.
+pub fn push_behind(text: &mut Vec<u8>, start: usize, other: &[u8]) -> Result<(), AllocError>
+    requires { start ≤ length text.old.items }
+    ensures ok { OnOk result
+        (drop start text.new.items ≡ push_windows (drop start text.old.items) other.now) }
+    ensures kept { take start text.new.items ≡ take start text.old.items }
+    ensures long { start ≤ length text.new.items }
+    ensures capacity { vec_capacity text.old ≤ vec_capacity text.new }
+{
+    let len = text.len();
+    push_at(text, start, len, other)
+}
+
+/// How a push of a name spells a path anew, which its first bytes tell where it has no verbatim
+/// kind.
+pub fn next_spelling(path: &[u8]) -> Spelling
+    ensures { IsSpelling result path.now }
+{
+    if has_verbatim_kind(path) {
+        spelling_of(path)
+    } else {
+        Spelling::Other
+    }
+}
+
+/// What `..` leaves of a path that a push spells as it stands: how many bytes, and how a push of a
+/// name spells those.
+fn without_last(path: &[u8], spelling: Spelling) -> (usize, Spelling)
+    requires own { IsSpelled path.now }
+    requires spelling { IsSpelling spelling path.now }
+    ensures within { result.0 ≤ length path.now }
+    ensures left { push_windows path.now (dot ∷ dot ∷ []) ≡ take result.0 path.now }
+    ensures spelling { IsSpelling result.1 (take result.0 path.now) }
+{
+    let head = prefix_len(path);
+    if path.len() <= head + 1 {
+        return (path.len(), spelling);
+    }
+    let names = &path[head + 1..];
+    let last = Separators::Backslash.last_in(names);
+    if is_dots(&names[last..]) {
+        return (path.len(), spelling);
+    }
+    if last == 0 {
+        return (head + 1, Spelling::Rooted);
+    }
+    (head + last, Spelling::Ready)
+}
+
+/// Pushes a name onto the path that stands behind the first bytes of a text, and answers how a push
+/// of the next one spells it.
+///
+/// A path that a push spells anew as it stands is not read for a plain name.
+pub fn push_name(
+    text: &mut Vec<u8>,
+    start: usize,
+    name: &[u8],
+    spelling: Spelling,
+) -> Result<Spelling, AllocError>
+    requires within { start ≤ length text.old.items }
+    requires spelling { IsSpelling spelling (drop start text.old.items) }
+    ensures ok { OnOk result
+        (drop start text.new.items ≡ push_windows (drop start text.old.items) name.now) }
+    ensures spelling { IfOk result (λ next. IsSpelling next (drop start text.new.items)) }
+    ensures kept { take start text.new.items ≡ take start text.old.items }
+    ensures long { start ≤ length text.new.items }
+    ensures capacity { vec_capacity text.old ≤ vec_capacity text.new }
+{
+    match spelling {
+        Spelling::Ready if is_plain(name) => {
+            text.push(b'\\')?;
+            text.extend_from_slice(name)?;
+            Ok(Spelling::Ready)
+        }
+        Spelling::Rooted if is_plain(name) => {
+            text.extend_from_slice(name)?;
+            Ok(Spelling::Ready)
+        }
+        _ => {
+            push_behind(text, start, name)?;
+            Ok(next_spelling(&text[start..]))
+        }
+    }
+}
+
+/// Pushes a component that stands on its own onto such a path, as it is written, and answers how a
+/// push of the next one spells it.
+///
+/// Only what is put or cut is read of a path that a push spells as it stands, and of one without a
+/// verbatim kind nothing but its ends where a plain name comes.
+#[inline(always)]
+pub fn push_piece(
+    text: &mut Vec<u8>,
+    start: usize,
+    piece: &[u8],
+    spelling: Spelling,
+) -> Result<Spelling, AllocError>
+    requires within { start ≤ length text.old.items }
+    requires spelling { IsSpelling spelling (drop start text.old.items) }
+    ensures ok { OnOk result
+        (drop start text.new.items ≡ push_windows (drop start text.old.items) piece.now) }
+    ensures spelling { IfOk result (λ next. IsSpelling next (drop start text.new.items)) }
+    ensures kept { take start text.new.items ≡ take start text.old.items }
+    ensures long { start ≤ length text.new.items }
+    ensures capacity { vec_capacity text.old ≤ vec_capacity text.new }
+{
+    if matches!(spelling, Spelling::Other) {
+        put_piece(text, start, piece)?;
+        Ok(next_spelling(&text[start..]))
+    } else {
+        push_spelled(text, start, piece, spelling)
+    }
+}
+
+/// Pushes a component onto such a path, which is not read where that has no verbatim kind and the
+/// component is a plain name.
+#[inline(always)]
+fn put_piece(text: &mut Vec<u8>, start: usize, piece: &[u8]) -> Result<(), AllocError>
+    requires { start ≤ length text.old.items }
+    ensures ok { OnOk result
+        (drop start text.new.items ≡ push_windows (drop start text.old.items) piece.now) }
+    ensures kept { take start text.new.items ≡ take start text.old.items }
+    ensures long { start ≤ length text.new.items }
+    ensures capacity { vec_capacity text.old ≤ vec_capacity text.new }
+{
+    let base = &text[start..];
+    if has_verbatim_kind(base) || !is_plain(piece) {
+        return push_behind(text, start, piece);
+    }
+    let len = text.len();
+    let separator = separator_behind(base);
+    put_over(text, len, separator, piece)
+}
+
+/// Pushes a component onto such a path where a push spells that as it stands, and answers how a push
+/// of the next one spells it.
+fn push_spelled(
+    text: &mut Vec<u8>,
+    start: usize,
+    piece: &[u8],
+    spelling: Spelling,
+) -> Result<Spelling, AllocError>
+    requires within { start ≤ length text.old.items }
+    requires own { IsSpelled (drop start text.old.items) }
+    requires spelling { IsSpelling spelling (drop start text.old.items) }
+    ensures ok { OnOk result
+        (drop start text.new.items ≡ push_windows (drop start text.old.items) piece.now) }
+    ensures spelling { IfOk result (λ next. IsSpelling next (drop start text.new.items)) }
+    ensures kept { take start text.new.items ≡ take start text.old.items }
+    ensures long { start ≤ length text.new.items }
+    ensures capacity { vec_capacity text.old ≤ vec_capacity text.new }
+{
+    match piece {
+        [b'.'] => Ok(spelling),
+        [b'.', b'.'] => {
+            let (kept, next) = without_last(&text[start..], spelling);
+            text.truncate(start + kept);
+            Ok(next)
+        }
+        _ => push_name(text, start, piece, spelling),
+    }
+}
