@@ -57,12 +57,13 @@ exports!((path: *const u8, len: usize):
     bench_file_name bench_extension bench_to_path_buf bench_normalize bench_first bench_hash bench_windows_hash
     bench_windows_walk
     bench_windows_walk_back bench_windows_first bench_windows_last bench_windows_parent
-    bench_windows_file_name bench_windows_extension bench_windows_normalize);
+    bench_windows_file_name bench_windows_extension bench_windows_normalize bench_to_windows
+    bench_to_windows_checked bench_windows_to_unix bench_windows_to_unix_checked);
 
 exports!((path: *const u8, len: usize, other: *const u8, other_len: usize):
     bench_starts_with bench_strip_prefix bench_ends_with bench_join bench_join_checked
     bench_with_file_name bench_with_extension bench_eq bench_cmp bench_windows_eq bench_windows_cmp bench_windows_join bench_windows_join_checked
-    bench_windows_with_extension);
+    bench_windows_with_extension bench_absolutize);
 
 exports!((texts: *const u8, len: usize, ends: *const usize, count: usize, other: *const u8, other_len: usize):
     bench_room_lay bench_room_push bench_room_pop bench_room_file_name bench_room_extension
@@ -464,6 +465,12 @@ impl<'a> Kind<'a> {
         )
     }
 
+    /// A call on a path that std does not have.
+    fn alone(&self, label: &'static str, paths: &'a Texts, ours: One) -> Row<'a> {
+        let call = each(self.calls(), move |at| unsafe { ours(paths.at(at).as_ptr(), paths.at(at).len()) });
+        self.row(label, call, None)
+    }
+
     /// A call on a path and another text. Where std has no such call it is timed alone.
     fn two(
         &self,
@@ -571,6 +578,14 @@ fn rows(corpus: &Corpus) -> Vec<Row<'_>> {
         ),
         whole.one("`normalize`", paths, bench_normalize, std_normalize),
         whole.one("`normalize`, with dots", &corpus.dotted, bench_normalize, std_normalize),
+        whole.alone("`with_windows_encoding`", paths, bench_to_windows),
+        whole.alone("`with_windows_encoding_checked`", paths, bench_to_windows_checked),
+        whole.two(
+            "`absolutize` from a directory",
+            |at| (corpus.relative.at(at), BASE),
+            bench_absolutize,
+            None,
+        ),
         whole.room("`clear` and `push` of the path", NAME, bench_room_lay, |path, _| len(path)),
         whole.room("the same, `push` of a name", NAME, bench_room_push, |path, name| {
             path.push(name);
@@ -635,6 +650,8 @@ fn windows_rows(corpus: &Corpus, at: usize) -> Vec<Row<'_>> {
             each(whole.calls(), move |at| call(bench_cmp, corpus.paths.at(at), corpus.doubled.at(at))),
         ),
         one("`hash`", Reads::Whole, bench_windows_hash, bench_hash),
+        whole.alone("`with_unix_encoding`", paths, bench_windows_to_unix),
+        whole.alone("`with_unix_encoding_checked`", paths, bench_windows_to_unix_checked),
     ]
 }
 

@@ -3,6 +3,7 @@
 #![tactic(auto)]
 
 mod answers;
+mod conversions;
 mod keys;
 mod made;
 mod room;

@@ -49,7 +49,7 @@ impl<'a, T: Encoding> Path<'a, T> {
     {
         let base = directory.as_bytes();
         let path = self.as_bytes();
-        let mut joined = Vec::with_capacity(alloc, base.len() + path.len() + 2)?;
+        let mut joined = Vec::with_capacity(alloc, base.len() + path.len() + 1)?;
         put_converted::<PlatformEncoding, T>(&mut joined, base)?;
         T::push(&mut joined, path)?;
         Ok(PathBuf::from_vec(joined))
