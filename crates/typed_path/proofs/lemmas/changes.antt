@@ -18,5 +18,6 @@ pub mod PushedNames
 pub mod NameSpans
 pub mod RunLemmas
 pub mod PushLemmas
+pub mod ReadyNames
 pub mod ReadyParents
 pub mod PutCrossed

@@ -1,15 +1,16 @@
 //! Paths pushed one by one onto the one that stands behind the first bytes of a text.
 
-ghost use Rattle.std.specs.Prelude.{◌≡◌, ◌≤◌, ◌∷◌, [], take, drop, length, IfOk, OnOk};
+ghost use Rattle.std.specs.Prelude.{◌≡◌, ◌≤◌, ◌∷◌, ◌++◌, ℕ, List, [], take, drop, length, IfOk, IfSome, OnOk};
 ghost use Rattle.std.specs.Vec.{vec_capacity};
 ghost use Rattle.typed_path.specs.components.Dialect.{dot};
 ghost use Rattle.typed_path.specs.changes.Push.{push_windows};
-ghost use Rattle.typed_path.specs.changes.Spelled.{IsSpelled, IsSpelling};
+ghost use Rattle.typed_path.specs.changes.Spelled.{IsSpelled, IsReady, IsSpelling};
 
 use crate::common::put_over;
 use crate::scan::Separators;
+use crate::windows::encoding::cursor;
 use crate::windows::push::{has_verbatim_kind, prefix_len, push_at, separator_behind};
-use crate::windows::spelled::{Spelling, is_dots, is_plain, spelling_of};
+use crate::windows::spelled::{Spelling, are_names, is_dots, is_plain, spelling_of};
 use std::alloc::AllocError;
 
 /// Pushes a path onto the one that stands behind the first bytes of a text.
@@ -171,6 +172,51 @@ fn push_spelled(
             text.truncate(start + kept);
             Ok(next)
         }
-        _ => push_name(text, start, piece, spelling),
+        _ => push_names(text, start, piece, spelling),
     }
+}
+
+/// What a push puts between a path that it spells as it stands and names with `\` between them, which
+/// it leaves as they stand too: nothing where another text is to be pushed.
+fn separator_before(spelling: Spelling, names: &[u8]) -> Option<&'static [u8]>
+    ensures text { IfSome result (λ separator. (base : List ℕ) → IsSpelling spelling base
+        → push_windows base names.now ≡ base ++ separator.now ++ names.now) }
+    ensures ready { IfSome result (λ separator. (base : List ℕ) → IsSpelling spelling base
+        → IsReady (base ++ separator.now ++ names.now)) }
+    ensures short { IfSome result (λ separator. length separator.now ≤ 1) }
+{
+    if cursor(names).has_prefix() || !are_names(names) {
+        return None;
+    }
+    match spelling {
+        Spelling::Ready => Some(b"\\"),
+        Spelling::Rooted => Some(b""),
+        Spelling::Other => None,
+    }
+}
+
+/// Pushes names with `\` between them, or another text, onto such a path, and answers how a push of
+/// the next one spells it.
+fn push_names(
+    text: &mut Vec<u8>,
+    start: usize,
+    names: &[u8],
+    spelling: Spelling,
+) -> Result<Spelling, AllocError>
+    requires within { start ≤ length text.old.items }
+    requires spelling { IsSpelling spelling (drop start text.old.items) }
+    ensures ok { OnOk result
+        (drop start text.new.items ≡ push_windows (drop start text.old.items) names.now) }
+    ensures spelling { IfOk result (λ next. IsSpelling next (drop start text.new.items)) }
+    ensures kept { take start text.new.items ≡ take start text.old.items }
+    ensures long { start ≤ length text.new.items }
+    ensures capacity { vec_capacity text.old ≤ vec_capacity text.new }
+{
+    let Some(separator) = separator_before(spelling, names) else {
+        push_behind(text, start, names)?;
+        return Ok(next_spelling(&text[start..]));
+    };
+    text.extend_from_slice(separator)?;
+    text.extend_from_slice(names)?;
+    Ok(Spelling::Ready)
 }
