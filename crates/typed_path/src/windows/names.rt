@@ -6,7 +6,6 @@ ghost use Rattle.typed_path.specs.components.Dialect.{dot};
 ghost use Rattle.typed_path.specs.changes.Push.{push_windows};
 ghost use Rattle.typed_path.specs.changes.Spelled.{IsSpelled, IsReady, IsSpelling};
 
-use crate::common::put_over;
 use crate::scan::Separators;
 use crate::windows::encoding::cursor;
 use crate::windows::push::{has_verbatim_kind, prefix_len, push_at, separator_behind};
@@ -153,9 +152,10 @@ fn put_piece(text: &mut Vec<u8>, start: usize, piece: &[u8]) -> Result<(), Alloc
     if has_verbatim_kind(base) || !is_plain(piece) {
         return push_behind(text, start, piece);
     }
-    let len = text.len();
     let separator = separator_behind(base);
-    put_over(text, len, separator, piece)
+    text.extend_from_slice(separator)?;
+    text.extend_from_slice(piece)?;
+    Ok(())
 }
 
 /// The same onto a path that a push spells as it stands.
