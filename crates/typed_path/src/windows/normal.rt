@@ -16,7 +16,7 @@ use crate::scan::{
     Found, PieceKind, Separators, WindowsPrefix, cut_at_separator, drive, find_prefix, piece_of,
 };
 use crate::windows::encoding::cursor;
-use crate::windows::names::{next_spelling, push_behind, push_name};
+use crate::windows::names::{next_spelling, push_behind, push_names};
 use crate::windows::spelled::is_separated;
 use std::alloc::AllocError;
 
@@ -205,7 +205,7 @@ fn push_resolved(text: &mut Vec<u8>, start: usize, path: &[u8]) -> Result<(), Al
     let names = push_heads(text, start, path)?;
     let mut spelling = next_spelling(&text[start..]);
     'names: for name in names.as_slice() {
-        spelling = push_name(text, start, name, spelling)?;
+        spelling = push_names(text, start, name, spelling)?;
     }
     Ok(())
 }

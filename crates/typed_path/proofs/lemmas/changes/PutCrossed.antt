@@ -1,7 +1,6 @@
 -- Components of another dialect pushed one by one onto the path at the end of a text.
 use Rattle.std.proofs.Common.{◌≡◌, ◌≤◌, ◌<◌, ◌-◌, ◌==◌, ℕ, true, false, List, [], ◌∷◌, ◌++◌, map, length, take, drop, slice_index, slice_range, sym, ap, ◌∙◌, append_assoc, arith}
-use Rattle.std.specs.Prelude.{OnOk, OnErr, Result, Ok, Err}
-use Rattle.std.proofs.lemmas.List.{drop-append-le, take-append-le, take_all, length-drop}
+use Rattle.std.proofs.lemmas.List.{drop-append-le, take_all, length-drop}
 use Rattle.std.proofs.lemmas.Bool.{cond-false}
 use Rattle.typed_path.specs.components.Dialect.{Dialect, windows, slash, dot}
 use Rattle.typed_path.specs.components.Part.{Part}
@@ -20,16 +19,6 @@ crossed-next e goal text next p old rest step pushed h =
 pub crossed-end : (e : Dialect) (goal text : List ℕ) (ps : List Part) → ps ≡ [] → goal ≡ push_all e text (map (crossed e) ps) → text ≡ goal
 crossed-end e goal text ps none h = sym (h ∙ ap (λ qs. push_all e text (map (crossed e) qs)) none)
 
--- what holds where a call went well
-pub on_ok : {A E P Q : Type 0} (r : Result A E) → (P → Q) → OnOk r P → OnOk r Q
-on_ok (Ok x) f p = f p
-on_ok (Err e) f p = tt
-
--- or where it went either way
-pub by_result : {A E P Q R : Type 0} (r : Result A E) → OnOk r P → OnErr r Q → (P → R) → (Q → R) → R
-by_result (Ok x) p q f g = f p
-by_result (Err e) p q f g = g q
-
 -- a relative path of Unix is put behind its base
 push_unix-relative : (base path : List ℕ) → 0 < length path → (slice_index path 0 == slash) ≡ false → push_unix base path ≡ ended_with slash base ++ path
 push_unix-relative base [] some e = absurd (omega arith)
@@ -38,14 +27,6 @@ push_unix-relative base (b ∷ path) some e = cond-false (b == slash) (b ∷ pat
 -- what stands behind the first bytes of a text, with more put behind it
 pub put-behind : (text new more : List ℕ) (start : ℕ) → start ≤ length text → new ≡ text ++ more → drop start new ≡ drop start text ++ more
 put-behind text new more start within e = ap (drop start) e ∙ drop-append-le start text more within
-
-pub put-kept : (text new more : List ℕ) (start : ℕ) → start ≤ length text → new ≡ text ++ more → take start new ≡ take start text
-put-kept text new more start within e = ap (take start) e ∙ take-append-le start text more within
-
--- a text cut at its end, with a separator and more put behind it
-pub put-whole : (text new separator other : List ℕ) (len : ℕ) → len ≡ length text → new ≡ take len text ++ separator ++ other → new ≡ text ++ (separator ++ other)
-put-whole text new separator other len whole e =
-    e ∙ ap (λ t. t ++ separator ++ other) (ap (λ n. take n text) whole ∙ take_all (length text) text (omega arith)) ∙ append_assoc text separator other
 
 -- the end of a text, taken to its own end
 pub whole_range : (text other : List ℕ) (start : ℕ) → other ≡ text → slice_range other start (length other) ≡ drop start text

@@ -75,7 +75,7 @@ module _ (s : Separators) (n : List ℕ) where
     pushed-rest p raw _ _ _ nothing = append_assoc raw (backslash ∷ []) n
     pushed-rest p raw _ _ _ (rooted qs later) = spelled-prefixed s p raw _ _ _ (behind-more qs later)
 
-module _ (t n : List ℕ) (own : IsSpelled t) (is : IsPlain n) where
+module _ (t n : List ℕ) (own : IsSpelled t) (named : IsCleanName Either n) where
   abbrev shape : IsShaped t
   shape = spelled-shaped t own
 
@@ -93,11 +93,11 @@ module _ (t n : List ℕ) (own : IsSpelled t) (is : IsPlain n) where
   rest = backslash ∷ spelled (shape.others ++ name_part n ∷ [])
 
   clean : IsCleanName own_separators n
-  clean = clean-either own_separators n is.clean
+  clean = clean-either own_separators n named
 
   -- the text with the name pushed onto it
-  pushed : push windows t n ≡ raw ++ rest
-  pushed =
+  pushed : IsPlain n → push windows t n ≡ raw ++ rest
+  pushed is =
       push-plain t n own.0 is
       ∙ ap (λ ps. spelled (ps ++ name_part n ∷ [])) (parts_of-some t f shape.is)
       ∙ pushed-rest own_separators n clean f.prefix raw _ shape.others (drop f.length t) shape.behind
@@ -136,24 +136,39 @@ module _ (t n : List ℕ) (own : IsSpelled t) (is : IsPlain n) where
           ready g [] [] (ap (λ s. prefix_by s u) separators-stay ∙ found) marked (subst (Behind (separators windows u) [] []) (sym (drop_all g.length u (omega arith))) nothing) refl
 
   -- the same of the text with more put behind it
-  put : (more : List ℕ) → drop f.length t ++ more ≡ rest → (push windows t n ≡ t ++ more) × IsReady (t ++ more)
+  put : (more : List ℕ) → drop f.length t ++ more ≡ rest → (IsPlain n → push windows t n ≡ t ++ more) × IsReady (t ++ more)
   put more e =
       let whole : t ++ more ≡ raw ++ rest = ap (λ u. u ++ more) (sym (take-append-drop f.length t)) ∙ append_assoc raw (drop f.length t) more ∙ ap (λ u. raw ++ u) e in
-      (pushed ∙ sym whole, subst IsReady (sym whole) pushed-ready)
+      (λ is. pushed is ∙ sym whole, subst IsReady (sym whole) pushed-ready)
+
+-- a name behind a text that is ready
+ready-put : (t n : List ℕ) → IsReady t → IsCleanName Either n → (IsPlain n → push windows t n ≡ t ++ backslash ∷ n) × IsReady (t ++ backslash ∷ n)
+ready-put t n ready clean =
+    let shape = spelled-shaped t ready.0 in
+    put t n ready.0 clean (backslash ∷ n)
+    (ready-rest (separators windows t) n shape.found.prefix (take shape.found.length t) _ shape.others _ shape.behind (sym (ap (λ ps. ends_with_root (kinds ps)) (parts_of-some t shape.found shape.is)) ∙ ready.1))
+
+-- and behind one that ends with a root
+rooted-put : (t n : List ℕ) → IsRooted t → IsCleanName Either n → (IsPlain n → push windows t n ≡ t ++ n) × IsReady (t ++ n)
+rooted-put t n rooted_text clean =
+    let shape = spelled-shaped t rooted_text.0 in
+    put t n rooted_text.0 clean n
+    (rooted-rest (separators windows t) n shape.found.prefix (take shape.found.length t) _ shape.others _ shape.behind (sym (ap (λ ps. ends_with_root (kinds ps)) (parts_of-some t shape.found shape.is)) ∙ rooted_text.1))
+
+-- each name, put behind a text that is ready, leaves it ready
+pub name-ready : (t n : List ℕ) → IsReady t → IsCleanName Either n → IsReady (t ++ backslash ∷ n)
+name-ready t n ready clean = (ready-put t n ready clean).1
+
+pub name-rooted : (t n : List ℕ) → IsRooted t → IsCleanName Either n → IsReady (t ++ n)
+name-rooted t n rooted_text clean = (rooted-put t n rooted_text clean).1
 
 -- a plain name pushed onto a text that is ready is put behind it and `\`, and the text is ready again
 pub push-ready : (t n : List ℕ) → IsReady t → is_plain n ≡ true → (push windows t n ≡ t ++ backslash ∷ n) × IsReady (t ++ backslash ∷ n)
-push-ready t n ready h =
-    let shape = spelled-shaped t ready.0 in
-    put t n ready.0 (plain n h) (backslash ∷ n)
-    (ready-rest (separators windows t) n shape.found.prefix (take shape.found.length t) _ shape.others _ shape.behind (sym (ap (λ ps. ends_with_root (kinds ps)) (parts_of-some t shape.found shape.is)) ∙ ready.1))
+push-ready t n ready h = let is = plain n h in let all = ready-put t n ready is.clean in (all.0 is, all.1)
 
 -- pushed onto one that ends with a root it is put behind that, and the text is ready then
 pub push-rooted : (t n : List ℕ) → IsRooted t → is_plain n ≡ true → (push windows t n ≡ t ++ n) × IsReady (t ++ n)
-push-rooted t n rooted_text h =
-    let shape = spelled-shaped t rooted_text.0 in
-    put t n rooted_text.0 (plain n h) n
-    (rooted-rest (separators windows t) n shape.found.prefix (take shape.found.length t) _ shape.others _ shape.behind (sym (ap (λ ps. ends_with_root (kinds ps)) (parts_of-some t shape.found shape.is)) ∙ rooted_text.1))
+push-rooted t n rooted_text h = let is = plain n h in let all = rooted-put t n rooted_text is.clean in (all.0 is, all.1)
 
 -- so plain names pushed one by one onto a text that is ready are put behind it, each behind `\`
 pub push_all-ready : (t : List ℕ) (ns : List (List ℕ)) → IsReady t → list_all is_plain ns ≡ true → (push_all windows t ns ≡ t ++ flat_map (λ n. backslash ∷ n) ns) × IsReady (t ++ flat_map (λ n. backslash ∷ n) ns)
