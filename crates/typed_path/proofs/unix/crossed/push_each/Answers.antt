@@ -23,7 +23,7 @@ pub pieces-preserved : goal.pieces-preserved
 pieces-preserved c =
     let taken = yields_first part_of (Some c.in-Some.piece) (items_left c.pieces.rest) (items_left c.front.new.self) c.in-Some.ensures.taken c.in-Some.ensures.items in (
       crossed-next unix _ _ _ (part_of c.in-Some.piece) _ _ taken
-      (c.in_ok-push_at.ensures.ok ∙ ap (push_unix (drop c.args.start c.pieces.text.items)) (c.crossed.ensures unix refl)) c.pieces.invariant.0,
+          (c.in_ok-push_at.ensures.ok ∙ ap (push_unix (drop c.args.start c.pieces.text.items)) (c.crossed.ensures unix refl)) c.pieces.invariant.0,
       c.in_ok-push_at.ensures.kept ∙ c.pieces.invariant.1,
       c.in_ok-push_at.ensures.long,
       omega (arith, c.in_ok-push_at.ensures.capacity, c.pieces.invariant.3),
