@@ -1,13 +1,13 @@
-use Rattle.std.proofs.Common.{◌≡◌, ℕ, List, [], ◌∷◌, ◌++◌, map, drop, take, length, Bor, refl, sym, ap, ◌∙◌, arith}
+use Rattle.std.proofs.Common.{map, drop, refl, sym, ap, ◌∙◌, arith}
 use Rattle.std.specs.Prelude.{Some, None}
 use Rattle.std.proofs.lemmas.List.{drop_all}
 use Rattle.typed_path.specs.components.Dialect.{unix}
 use Rattle.typed_path.specs.components.Part.{parts}
 use Rattle.typed_path.specs.changes.Push.{push_all, push_unix}
-use Rattle.typed_path.specs.conversions.Convert.{crossed, crossed_all}
+use Rattle.typed_path.specs.conversions.Convert.{crossed}
 use Rattle.typed_path.specs.views.CursorViews.{items_left}
 use Rattle.typed_path.specs.views.PieceViews.{part_of}
-use Rattle.typed_path.proofs.lemmas.readings.YieldLemmas.{yields_first, fewer}
+use Rattle.typed_path.proofs.lemmas.readings.YieldLemmas.{yields_first}
 use Rattle.typed_path.proofs.lemmas.changes.PutCrossed.{crossed-next, crossed-end}
 use Rattle.typed_path.proofs.unix.crossed.push_each.Goals as goal
 
