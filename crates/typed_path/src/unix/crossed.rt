@@ -49,7 +49,8 @@ fn push_each(text: &mut Vec<u8>, start: usize, components: Cursor<'_>) -> Result
 #[inline(always)]
 fn push_at(text: &mut Vec<u8>, start: usize, other: &[u8]) -> Result<(), AllocError>
     requires { start ≤ length text.old.items }
-    ensures ok { OnOk result (drop start text.new.items ≡ push_unix (drop start text.old.items) other.now) }
+    ensures ok { OnOk result
+        (drop start text.new.items ≡ push_unix (drop start text.old.items) other.now) }
     ensures kept { take start text.new.items ≡ take start text.old.items }
     ensures long { start ≤ length text.new.items }
     ensures capacity { vec_capacity text.old ≤ vec_capacity text.new }

@@ -61,8 +61,8 @@ fn without_last(path: &[u8], spelling: Spelling) -> (usize, Spelling)
     (head + last, Spelling::Ready)
 }
 
-/// What a push puts between a path that it spells as it stands and names with `\` between them, which
-/// it leaves as they stand too: nothing where another text is to be pushed.
+/// What a push puts between a path that it spells as it stands and names with `\` between them,
+/// which it leaves as they stand too: nothing where another text is to be pushed.
 fn separator_before(spelling: Spelling, names: &[u8]) -> Option<&'static [u8]>
     ensures text { IfSome result (λ separator. (base : List ℕ) → IsSpelling spelling base
         → push_windows base names.now ≡ base ++ separator.now ++ names.now) }
@@ -137,8 +137,8 @@ pub fn push_piece(
     }
 }
 
-/// Pushes a component onto such a path. A plain name is put behind one that has no verbatim kind, and
-/// neither is read.
+/// Pushes a component onto such a path. A plain name is put behind one that has no verbatim kind,
+/// and neither is read.
 #[inline(always)]
 fn put_piece(text: &mut Vec<u8>, start: usize, piece: &[u8]) -> Result<(), AllocError>
     requires { start ≤ length text.old.items }

@@ -1,5 +1,5 @@
 -- Components of another dialect pushed one by one onto the path at the end of a text.
-use Rattle.std.proofs.Common.{◌≡◌, ◌≤◌, ◌<◌, ◌-◌, ◌==◌, ℕ, true, false, List, [], ◌∷◌, ◌++◌, map, length, take, drop, slice_index, slice_range, sym, ap, ◌∙◌, append_assoc, arith}
+use Rattle.std.proofs.Common.{◌≡◌, ◌≤◌, ◌<◌, ◌-◌, ◌==◌, ℕ, true, false, List, [], ◌∷◌, ◌++◌, map, length, drop, slice_index, slice_range, sym, ap, ◌∙◌, append_assoc, arith}
 use Rattle.std.proofs.lemmas.List.{drop-append-le, take_all, length-drop}
 use Rattle.std.proofs.lemmas.Bool.{cond-false}
 use Rattle.typed_path.specs.components.Dialect.{Dialect, windows, slash, dot}

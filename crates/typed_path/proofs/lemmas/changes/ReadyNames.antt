@@ -1,6 +1,6 @@
 -- Names with `\` between them, put behind a text of Windows that is spelled as it is read: it stays so.
-use Rattle.std.proofs.Common.{◌≡◌, ℕ, suc, ◌==◌, Bool, true, false, ◌||◌, List, [], ◌∷◌, ◌++◌, length, Option, IfSome, refl, sym, ap, ne_eqb, subst, ◌∙◌, append_assoc, append-nil}
-use Rattle.std.specs.Prelude.{not, ◌&&◌}
+use Rattle.std.proofs.Common.{◌≡◌, ℕ, suc, ◌==◌, Bool, true, false, ◌||◌, List, [], ◌∷◌, ◌++◌, length, refl, sym, ap, ne_eqb, subst, ◌∙◌, append_assoc, append-nil}
+use Rattle.std.specs.Prelude.{not}
 use Rattle.std.specs.List.{AllByRecursion, list_any, list_all, slice_split, flat_map}
 use Rattle.std.proofs.lemmas.Bool.{and_parts, not-true}
 use Rattle.typed_path.specs.declared.scan.separators.Separators.TheVariants.{Slash, Backslash, Either}
@@ -72,9 +72,10 @@ module _ (t n : List ℕ) (no_prefix : has_prefix (kinds (parts_of windows n)) �
   names-ready ready =
       let row = names-joined n names in
       let whole : t ++ flat_map (λ m. backslash ∷ m) (row.first ∷ row.others) ≡ t ++ (backslash ∷ []) ++ n =
-      ap (λ u. t ++ backslash ∷ u) (sym row.is) ∙ sym (append_assoc t (backslash ∷ []) n) in
-      (push-anew t n (names-filled n names) no_prefix ready.0.0 ∙ text-onto t n true ready.0 ready.1 no_prefix names,
-       subst IsReady whole (pieces-ready t (row.first ∷ row.others) ready row.pieces))
+      ap (λ u. t ++ backslash ∷ u) (sym row.is) ∙ sym (append_assoc t (backslash ∷ []) n) in (
+        push-anew t n (names-filled n names) no_prefix ready.0.0 ∙ text-onto t n true ready.0 ready.1 no_prefix names,
+        subst IsReady whole (pieces-ready t (row.first ∷ row.others) ready row.pieces),
+      )
 
   -- and onto one that ends with a root, behind that
   pub names-rooted : IsRooted t → (push_windows t n ≡ t ++ [] ++ n) × IsReady (t ++ [] ++ n)
@@ -82,6 +83,7 @@ module _ (t n : List ℕ) (no_prefix : has_prefix (kinds (parts_of windows n)) �
       let row = names-joined n names in
       let both = and_parts (is_name_piece row.first) (list_all is_name_piece row.others) row.pieces.1 in
       let whole : (t ++ row.first) ++ flat_map (λ m. backslash ∷ m) row.others ≡ t ++ [] ++ n =
-      append_assoc t row.first (flat_map (λ m. backslash ∷ m) row.others) ∙ ap (λ u. t ++ u) (sym row.is) ∙ ap (λ u. u ++ n) (sym (append-nil t)) in
-      (push-anew t n (names-filled n names) no_prefix rooted.0.0 ∙ text-onto t n false rooted.0 rooted.1 no_prefix names,
-       subst IsReady whole (pieces-ready (t ++ row.first) row.others (name-rooted t row.first rooted (piece-clean row.first row.pieces.0.0 both.0)) (row.pieces.0.1, both.1)))
+      append_assoc t row.first (flat_map (λ m. backslash ∷ m) row.others) ∙ ap (λ u. t ++ u) (sym row.is) ∙ ap (λ u. u ++ n) (sym (append-nil t)) in (
+        push-anew t n (names-filled n names) no_prefix rooted.0.0 ∙ text-onto t n false rooted.0 rooted.1 no_prefix names,
+        subst IsReady whole (pieces-ready (t ++ row.first) row.others (name-rooted t row.first rooted (piece-clean row.first row.pieces.0.0 both.0)) (row.pieces.0.1, both.1)),
+      )

@@ -1,9 +1,9 @@
 -- What `..` leaves of a text of Windows that is spelled as it is read.
-use Rattle.std.proofs.Common.{◌≡◌, ℕ, suc, ◌+◌, ◌-◌, ◌<◌, ◌≤◌, ◌==◌, ◌||◌, Bool, true, false, inl, inr, List, [], ◌∷◌, ◌++◌, length, take, drop, get_or, Some, refl, sym, ap, subst, ◌∙◌, append_assoc, length-append, arith}
+use Rattle.std.proofs.Common.{◌≡◌, ℕ, suc, ◌+◌, ◌-◌, ◌<◌, ◌≤◌, ◌||◌, Bool, true, false, inl, inr, List, [], ◌∷◌, ◌++◌, length, take, drop, get_or, refl, sym, ap, subst, ◌∙◌, append_assoc, length-append, arith}
 use Rattle.std.specs.List.{AllByRecursion}
-use Rattle.std.proofs.Math.Seq.{drop-append_seam, take-append_seam, drop-append-add, get_or-append-add}
+use Rattle.std.proofs.Math.Seq.{take-append_seam, drop-append-add, get_or-append-add}
 use Rattle.std.proofs.lemmas.Bool.{both_ways, cases_lt, eq-eqb}
-use Rattle.std.proofs.lemmas.List.{drop-take, take-take, drop-drop, take-append-drop, length-drop}
+use Rattle.std.proofs.lemmas.List.{drop-take, take-take, drop-drop, length-drop}
 use Rattle.typed_path.specs.declared.scan.separators.Separators.{Separators}
 use Rattle.typed_path.specs.declared.scan.separators.Separators.TheVariants.{Backslash}
 use Rattle.typed_path.specs.components.Dialect.{windows, backslash, dot, separators, is_separator}
@@ -16,11 +16,10 @@ use Rattle.typed_path.proofs.lemmas.lists.SplitLemmas.{IsUnseparated}
 use Rattle.typed_path.proofs.lemmas.lists.LastLemmas.{IsLastPlace}
 use Rattle.typed_path.proofs.lemmas.components.SeparatorLemmas.{OfWindows, separators-windows}
 use Rattle.typed_path.proofs.lemmas.components.PartLemmas.{body_parts, IsLater, IsLaterPart, IsWritten-later}
-use Rattle.typed_path.proofs.lemmas.components.PrefixLemmas.{prefix-fits}
-use Rattle.typed_path.proofs.lemmas.components.WindowsCuts.{SamePrefix, same-found}
+use Rattle.typed_path.proofs.lemmas.components.WindowsCuts.{same-found}
 use Rattle.typed_path.proofs.lemmas.changes.FaultlessLemmas.{parts_of-some}
 use Rattle.typed_path.proofs.lemmas.changes.PushLemmas.{push-anew, without_last_name-name, without_last_name-other}
-use Rattle.typed_path.proofs.lemmas.changes.SpellLemmas.{IsPiece, later-piece, joint-relative, later-relative, spelled-filled}
+use Rattle.typed_path.proofs.lemmas.changes.SpellLemmas.{later-piece, joint-relative, later-relative, spelled-filled}
 use Rattle.typed_path.proofs.lemmas.changes.SpelledTexts.{Behind, nothing, rooted, IsShaped, spelled-shaped, behind-spelled}
 use Rattle.typed_path.proofs.lemmas.changes.SpelledRows.{backslash-free}
 use Rattle.typed_path.proofs.lemmas.changes.ReadyLemmas.{later-unrooted}

@@ -1,4 +1,4 @@
-use Rattle.std.proofs.Common.{rules, ◌≡◌, ◌++◌, ap, ◌∙◌, append_assoc}
+use Rattle.std.proofs.Common.{rules, ◌++◌, ap, ◌∙◌, append_assoc}
 use Rattle.typed_path.proofs.lemmas.changes.PutCrossed.{whole_range, pushed_unix-relative}
 use Rattle.typed_path.proofs.unix.crossed.push_at.Goals as goal
 

@@ -1,13 +1,13 @@
-use Rattle.std.proofs.Common.{◌≡◌, ℕ, List, [], ◌∷◌, ◌++◌, map, drop, take, length, Bor, refl, sym, ap, ◌∙◌, arith}
+use Rattle.std.proofs.Common.{map, drop, refl, sym, ap, ◌∙◌, arith}
 use Rattle.std.specs.Prelude.{Some, None}
 use Rattle.std.proofs.lemmas.List.{drop_all}
 use Rattle.typed_path.specs.components.Dialect.{unix}
 use Rattle.typed_path.specs.components.Part.{parts}
 use Rattle.typed_path.specs.changes.Push.{push_all, push_unix}
-use Rattle.typed_path.specs.conversions.Convert.{crossed, crossed_all}
+use Rattle.typed_path.specs.conversions.Convert.{crossed}
 use Rattle.typed_path.specs.views.CursorViews.{items_left}
 use Rattle.typed_path.specs.views.PieceViews.{part_of}
-use Rattle.typed_path.proofs.lemmas.readings.YieldLemmas.{yields_first, fewer}
+use Rattle.typed_path.proofs.lemmas.readings.YieldLemmas.{yields_first}
 use Rattle.typed_path.proofs.lemmas.changes.PutCrossed.{crossed-next, crossed-end}
 use Rattle.typed_path.proofs.unix.crossed.push_each.Goals as goal
 
@@ -23,7 +23,7 @@ pub pieces-preserved : goal.pieces-preserved
 pieces-preserved c =
     let taken = yields_first part_of (Some c.in-Some.piece) (items_left c.pieces.rest) (items_left c.front.new.self) c.in-Some.ensures.taken c.in-Some.ensures.items in (
       crossed-next unix _ _ _ (part_of c.in-Some.piece) _ _ taken
-      (c.in_ok-push_at.ensures.ok ∙ ap (push_unix (drop c.args.start c.pieces.text.items)) (c.crossed.ensures unix refl)) c.pieces.invariant.0,
+          (c.in_ok-push_at.ensures.ok ∙ ap (push_unix (drop c.args.start c.pieces.text.items)) (c.crossed.ensures unix refl)) c.pieces.invariant.0,
       c.in_ok-push_at.ensures.kept ∙ c.pieces.invariant.1,
       c.in_ok-push_at.ensures.long,
       omega (arith, c.in_ok-push_at.ensures.capacity, c.pieces.invariant.3),

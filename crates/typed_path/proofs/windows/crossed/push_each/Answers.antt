@@ -1,4 +1,4 @@
-use Rattle.std.proofs.Common.{◌≡◌, ℕ, List, [], ◌∷◌, ◌++◌, map, drop, take, length, Bor, refl, sym, ap, subst, ◌∙◌, arith}
+use Rattle.std.proofs.Common.{[], map, drop, refl, sym, ap, subst, ◌∙◌, arith}
 use Rattle.std.specs.Prelude.{Some, None}
 use Rattle.std.proofs.lemmas.List.{drop_all}
 use Rattle.typed_path.specs.components.Dialect.{windows}
@@ -6,7 +6,7 @@ use Rattle.typed_path.specs.components.Part.{parts}
 use Rattle.typed_path.specs.changes.Push.{push_all, push_windows}
 use Rattle.typed_path.specs.changes.Spelled.{IsSpelled, IsSpelling}
 use Rattle.typed_path.specs.declared.windows.spelled.Spelling.TheVariants.{Other}
-use Rattle.typed_path.specs.conversions.Convert.{crossed, crossed_all}
+use Rattle.typed_path.specs.conversions.Convert.{crossed}
 use Rattle.typed_path.specs.views.CursorViews.{items_left}
 use Rattle.typed_path.specs.views.PieceViews.{part_of}
 use Rattle.typed_path.proofs.lemmas.readings.YieldLemmas.{yields_first, fewer}
@@ -31,7 +31,7 @@ pub pieces-preserved : goal.pieces-preserved
 pieces-preserved c =
     let taken = yields_first part_of (Some c.in-Some.piece) (items_left c.pieces.rest) (items_left c.front.new.self) c.in-Some.ensures.taken c.in-Some.ensures.items in (
       crossed-next windows _ _ _ (part_of c.in-Some.piece) _ _ taken
-      (c.in_ok-spelling.ensures.ok ∙ ap (push_windows (drop c.args.start c.pieces.text.items)) (c.crossed.ensures windows refl)) c.pieces.invariant.0,
+          (c.in_ok-spelling.ensures.ok ∙ ap (push_windows (drop c.args.start c.pieces.text.items)) (c.crossed.ensures windows refl)) c.pieces.invariant.0,
       c.in_ok-spelling.ensures.kept ∙ c.pieces.invariant.1,
       c.in_ok-spelling.ensures.long,
       omega (arith, c.in_ok-spelling.ensures.capacity, c.pieces.invariant.3),

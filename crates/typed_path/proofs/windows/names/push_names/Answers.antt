@@ -1,4 +1,4 @@
-use Rattle.std.proofs.Common.{◌≡◌, ◌++◌, drop, sym, ap, subst, ◌∙◌, append_assoc}
+use Rattle.std.proofs.Common.{◌++◌, drop, sym, ap, subst, ◌∙◌, append_assoc}
 use Rattle.typed_path.specs.changes.Spelled.{IsReady}
 use Rattle.typed_path.proofs.lemmas.changes.PutCrossed.{put-behind}
 use Rattle.typed_path.proofs.windows.names.push_names.Goals as goal

@@ -1,4 +1,4 @@
-use Rattle.std.proofs.Common.{◌≡◌, ◌++◌, sym, ap, ◌∙◌, append_assoc}
+use Rattle.std.proofs.Common.{◌++◌, sym, ap, ◌∙◌, append_assoc}
 use Rattle.typed_path.proofs.lemmas.changes.PutCrossed.{whole_range, pushed_windows-plain}
 use Rattle.typed_path.proofs.windows.names.put_piece.Goals as goal
 

@@ -1,9 +1,7 @@
-use Rattle.std.proofs.Common.{◌≡◌, false, subst, sym, ap, ◌∙◌}
-use Rattle.typed_path.specs.components.Dialect.{windows}
+use Rattle.std.proofs.Common.{subst, sym, ap, ◌∙◌}
 use Rattle.typed_path.specs.components.Part.{kinds, parts}
-use Rattle.typed_path.specs.components.Comps.{parts_of}
 use Rattle.typed_path.specs.queries.Queries.{has_prefix}
-use Rattle.typed_path.specs.changes.Spelled.{IsReady, IsRooted, IsSpelling}
+use Rattle.typed_path.specs.changes.Spelled.{IsSpelling}
 use Rattle.typed_path.proofs.lemmas.changes.ReadyNames.{names-ready, names-rooted}
 use Rattle.typed_path.proofs.windows.names.separator_before.Goals as goal
 
