@@ -19,18 +19,17 @@ crossings-next : (d e : Dialect) (entries : List (Bor (List ℕ))) (i : ℕ) (en
     → crossings d e (drop i entries) ≡ converted_checked d e (get_or entries i entry).now ∷ crossings d e (drop (suc i) entries)
 crossings-next d e entries i entry within = ap (crossings d e) (drop-cons entries i entry within)
 
--- a refusal that a call passes on
-refusal-passed : {A B : Type 0} (r : Result A PathError) (e : PathError) (s : Result B PathError) → s ≡ Err e → IsErrAnd r (λ y. y ≡ e) → (f : CheckedPathError) → refusal r ≡ Some f → refusal s ≡ Some f
-refusal-passed (Ok x) e s same is f told = absurd is
-refusal-passed (Err y) e (Ok x) same is f told = cc
-refusal-passed (Err y) e (Err z) same is f told = cc
+-- a refusal of one call that another passes on
+refusal-passed : {A B : Type 0} (s : Result B PathError) (r : Result A PathError) (e : PathError) → IsErrAnd r (λ y. y ≡ e) → (f : CheckedPathError) → refusal r ≡ Some f → refusal {A = B} (Err e) ≡ Some f
+refusal-passed s (Ok x) e is f told = absurd is
+refusal-passed {B = B} s (Err y) e is f told = ap (λ z. refusal {A = B} (Err z)) (sym is) ∙ told
 
 pub returns-in_err-with_encoding_checked-clause-refused : goal.returns-in_err-with_encoding_checked-clause-refused
 returns-in_err-with_encoding_checked-clause-refused g c =
     let d = g.T.Encoding.dialect in
     let e = g.U.Encoding.dialect in
     λ f told.
-    let fault = c.in_err-with_encoding_checked.ensures.refused f (refusal-passed c.from_residual-in_err-with_encoding_checked.result _ (Err c.in_err-with_encoding_checked.field-0.0) refl c.from_residual-in_err-with_encoding_checked.ensures.1 f told) in
+    let fault = c.in_err-with_encoding_checked.ensures.refused f (refusal-passed c.with_encoding_checked.result c.from_residual-in_err-with_encoding_checked.result _ c.from_residual-in_err-with_encoding_checked.ensures.1 f told) in
     ap first_refusal
     (sym c.entries.invariant
     ∙ ap (λ rs. map (λ p. Ok p.bytes) c.entries.paths.items ++ rs) (crossings-next d e c.args.entries.now c.entries.entry-index _ c.entries-test.true
