@@ -1,6 +1,6 @@
 //! Two texts compared behind the components that their bytes share.
 
-ghost use Rattle.std.specs.Prelude.{◌≡◌};
+ghost use Rattle.std.specs.Prelude.{◌≡◌, ◌≤◌, length};
 ghost use Rattle.typed_path.specs.components.Comps.{body};
 ghost use Rattle.typed_path.specs.order.Same.{left_cmp};
 ghost use Rattle.typed_path.specs.views.CursorViews.{items_left};
@@ -9,18 +9,28 @@ use crate::scan::base::base_end;
 use crate::scan::cursor::Cursor;
 use crate::scan::separators::Separators;
 
+/// How many bytes are compared at once.
+const BLOCK: usize = 32;
+
+/// How many bytes two texts begin with alike.
+fn shared_len(text: &[u8], other: &[u8]) -> usize
+    ensures { result ≤ length text.now }
+{
+    let len = text.len().min(other.len());
+    let mut at = 0;
+    'chunks: while len - at >= BLOCK && text[at..at + BLOCK] == other[at..at + BLOCK] {
+        at += BLOCK;
+    }
+    'bytes: while at < len && text[at] == other[at] {
+        at += 1;
+    }
+    at
+}
+
 /// The first bytes of a text that another begins with too, to behind the last separator among them.
 fn shared_front<'a>(text: &'a [u8], other: &[u8], separators: Separators) -> &'a [u8] {
-    let mut end = 0;
-    'bytes: for at in 0..text.len().min(other.len()) {
-        if text[at] != other[at] {
-            break;
-        }
-        if separators.contains(text[at]) {
-            end = at + 1;
-        }
-    }
-    &text[..end]
+    let shared = &text[..shared_len(text, other)];
+    &shared[..separators.last_in(shared)]
 }
 
 /// Readings of two texts without a prefix that compare as the texts do: where the bytes tell that
