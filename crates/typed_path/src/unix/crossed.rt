@@ -1,6 +1,6 @@
 //! A path of another encoding, written as on Unix.
 
-ghost use Rattle.std.specs.Prelude.{◌≡◌, ◌≤◌, ◌++◌, take, drop, length, OnOk, OnErr};
+ghost use Rattle.std.specs.Prelude.{◌≡◌, ◌≤◌, ◌++◌, take, drop, length, OnOk, OnErr, true, false, [], ◌∷◌};
 ghost use Rattle.std.specs.Vec.{vec_capacity};
 ghost use Rattle.typed_path.specs.components.Dialect.{unix, slash};
 ghost use Rattle.typed_path.specs.components.Part.{parts};
@@ -58,23 +58,19 @@ fn push_at(text: &mut Vec<u8>, start: usize, other: &[u8]) -> Result<(), AllocEr
     match other {
         [] => Ok(()),
         [b'/', ..] => put_over(text, start, b"", other),
+        _ if is_parted(&text[start..]) => text.extend_from_slice(other),
         _ => {
-            let separator = separator_behind(&text[start..]);
-            text.extend_from_slice(separator)?;
-            text.extend_from_slice(other)?;
-            Ok(())
+            text.push(b'/')?;
+            text.extend_from_slice(other)
         }
     }
 }
 
-/// What a base wants behind it before a relative path.
+/// Whether a base wants no separator behind it before a relative path.
 #[inline(always)]
-fn separator_behind(base: &[u8]) -> &'static [u8]
-    ensures text { ended_with slash base.now ≡ base.now ++ result.now }
-    ensures short { length result.now ≤ 1 }
+fn is_parted(base: &[u8]) -> bool
+    ensures parted { result ≡ true → ended_with slash base.now ≡ base.now ++ [] }
+    ensures apart { result ≡ false → ended_with slash base.now ≡ base.now ++ slash ∷ [] }
 {
-    match base {
-        [] | [.., b'/'] => b"",
-        _ => b"/",
-    }
+    matches!(base, [] | [.., b'/'])
 }
