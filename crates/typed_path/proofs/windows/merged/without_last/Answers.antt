@@ -1,12 +1,13 @@
 use Rattle.std.proofs.Common.{◌≡◌, ◌≤◌, ◌<◌, ◌+◌, ◌-◌, Bool, List, ℕ, length, drop, take, slice_range, refl, sym, ap, subst, ◌∙◌, take_all, arith}
 use Rattle.std.specs.List.{IsAfterLastMatch}
 use Rattle.typed_path.specs.declared.scan.separators.Separators.TheVariants.{Backslash}
-use Rattle.typed_path.specs.components.Dialect.{is_separator}
-use Rattle.typed_path.specs.changes.Spelled.{IsReady, IsRooted}
+use Rattle.typed_path.specs.components.Dialect.{windows, is_separator}
+use Rattle.typed_path.specs.components.Comps.{parts_of}
+use Rattle.typed_path.specs.changes.Spelled.{IsSpelled, IsReady, IsRooted}
 use Rattle.typed_path.proofs.lemmas.lists.LastLemmas.{IsLastPlace}
 use Rattle.typed_path.proofs.lemmas.changes.PutCrossed.{whole_range}
-use Rattle.typed_path.proofs.lemmas.changes.ReadyParents.{is_dots, parent-short, parent-dots, parent-cut, parent-rooted, parent-ready}
-use Rattle.typed_path.proofs.windows.names.without_last.Goals as goal
+use Rattle.typed_path.proofs.lemmas.changes.ReadyParents.{is_dots, parent-short, parent-dots, parent-cut, parent-rooted, parent-ready, parts-short, parts-dots, parts-cut}
+use Rattle.typed_path.proofs.windows.merged.without_last.Goals as goal
 
 -- all of a text
 whole : (t : List ℕ) → t ≡ take (length t) t
@@ -77,3 +78,44 @@ returns-clause-spelling c =
     let cut : head + 1 + (last - 1) ≡ head + last = omega arith in
     subst (λ n. IsReady (take n path)) cut
     (parent-ready path c.requires.own head c.prefix_len-head.ensures.length (omega (arith, c.if-path-head.false)) last (place path head last c.last_in-last.ensures.within c.last_in-last.ensures.last) some)
+
+pub returns-then-last-eq0-clause-own : goal.returns-then-last-eq0-clause-own
+returns-then-last-eq0-clause-own c = (returns-then-last-eq0-clause-spelling c).0
+
+pub returns-clause-own : goal.returns-clause-own
+returns-clause-own c = (returns-clause-spelling c).0
+
+pub returns-then-path-head-clause-parts : goal.returns-then-path-head-clause-parts
+returns-then-path-head-clause-parts c =
+    let path = c.args.path.now in
+    ap (parts_of windows) (sym (whole path))
+    ∙ sym (parts-short path c.requires.own c.prefix_len-head.result c.prefix_len-head.ensures.length (omega (arith, c.if-path-head.true)))
+
+pub returns-then-is_dots-clause-parts : goal.returns-then-is_dots-clause-parts
+returns-then-is_dots-clause-parts c =
+    let path = c.args.path.now in
+    let head = c.prefix_len-head.result in
+    let last = c.last_in-last.result in
+    ap (parts_of windows) (sym (whole path))
+    ∙ sym (parts-dots path c.requires.own head c.prefix_len-head.ensures.length (omega (arith, c.if-path-head.false)) last (place path head last c.last_in-last.ensures.within c.last_in-last.ensures.last)
+    (dots path head last _ _ c.is_dots.ensures c.if-is_dots.true))
+
+pub returns-then-last-eq0-clause-parts : goal.returns-then-last-eq0-clause-parts
+returns-then-last-eq0-clause-parts c =
+    let path = c.args.path.now in
+    let head = c.prefix_len-head.result in
+    let last = c.last_in-last.result in
+    let cut : head + 1 ≡ head + 1 + (last - 1) = omega (arith, c.if-last-eq0.true) in
+    ap (λ n. parts_of windows (take n path)) cut
+    ∙ parts-cut path c.requires.own head c.prefix_len-head.ensures.length (omega (arith, c.if-path-head.false)) last (place path head last c.last_in-last.ensures.within c.last_in-last.ensures.last)
+    (dots path head last _ _ c.is_dots.ensures c.if-is_dots.false)
+
+pub returns-clause-parts : goal.returns-clause-parts
+returns-clause-parts c =
+    let path = c.args.path.now in
+    let head = c.prefix_len-head.result in
+    let last = c.last_in-last.result in
+    let cut : head + last ≡ head + 1 + (last - 1) = omega (arith, c.if-last-eq0.false) in
+    ap (λ n. parts_of windows (take n path)) cut
+    ∙ parts-cut path c.requires.own head c.prefix_len-head.ensures.length (omega (arith, c.if-path-head.false)) last (place path head last c.last_in-last.ensures.within c.last_in-last.ensures.last)
+    (dots path head last _ _ c.is_dots.ensures c.if-is_dots.false)
