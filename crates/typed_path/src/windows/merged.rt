@@ -4,9 +4,10 @@ ghost use Rattle.std.specs.Prelude.{◌≡◌, ◌≤◌, ◌<◌, ◌∷◌, �
 ghost use Rattle.std.specs.Vec.{vec_capacity};
 ghost use Rattle.typed_path.specs.components.Dialect.{windows, dot};
 ghost use Rattle.typed_path.specs.components.Part.{kinds};
+ghost use Rattle.typed_path.specs.components.Prefix.{prefix_of};
 ghost use Rattle.typed_path.specs.components.Comps.{parts_of};
 ghost use Rattle.typed_path.specs.queries.Queries.{has_prefix, begins_with_root};
-ghost use Rattle.typed_path.specs.changes.Push.{push_windows, without_last_name};
+ghost use Rattle.typed_path.specs.changes.Push.{push_windows, raw_length, without_last_name};
 ghost use Rattle.typed_path.specs.changes.Spelled.{names_behind, IsSpelled, IsReady, IsSpelling, is_ready};
 ghost use Rattle.typed_path.specs.views.PieceViews.{part_of};
 
@@ -16,19 +17,22 @@ use crate::windows::push::{merge_piece, prefix_len};
 use crate::windows::spelled::{Spelling, is_dots, is_ready};
 use std::alloc::{AllocError, Global};
 
-/// What `..` leaves of a path that a push spells as it stands: how many bytes, and how a push of a
-/// name spells those.
-pub fn without_last(path: &[u8], spelling: Spelling) -> (usize, Spelling)
+/// What `..` leaves of a path that a push spells as it stands, and whose prefix takes so many
+/// bytes: how many bytes, and how a push of a name spells those. The prefix is not read.
+pub fn without_last(path: &[u8], head: usize, spelling: Spelling) -> (usize, Spelling)
     requires own { IsSpelled path.now }
+    requires prefix { head ≡ raw_length (prefix_of windows path.now) }
+    requires inside { head ≤ length path.now }
     requires spelling { IsSpelling spelling path.now }
     ensures within { result.0 ≤ length path.now }
+    ensures inside { head ≤ result.0 }
+    ensures prefix { raw_length (prefix_of windows (take result.0 path.now)) ≡ head }
     ensures left { push_windows path.now (dot ∷ dot ∷ []) ≡ take result.0 path.now }
     ensures own { IsSpelled (take result.0 path.now) }
     ensures spelling { IsSpelling result.1 (take result.0 path.now) }
     ensures parts { parts_of windows (take result.0 path.now)
         ≡ without_last_name (parts_of windows path.now) }
 {
-    let head = prefix_len(path);
     if path.len() <= head + 1 {
         return (path.len(), spelling);
     }
@@ -62,13 +66,14 @@ fn merge_onto<'a>(
     ensures ready { IfOk result (λ found. 0 < length found.2.items → IsReady
         (take found.0 path.now ++ names_behind (is_ready found.1) (map part_of found.2.items))) }
 {
+    let head = prefix_len(path);
     let mut rest = cursor(other);
     let mut names = Vec::new(alloc);
     let mut kept = path.len();
     let mut next = spelling;
     'others: while let Some(piece) = rest.front() {
         if names.is_empty() && piece.is_parent() {
-            (kept, next) = without_last(&path[..kept], next);
+            (kept, next) = without_last(&path[..kept], head, next);
         } else {
             merge_piece(&mut names, piece)?;
         }

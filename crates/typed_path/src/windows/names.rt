@@ -8,7 +8,7 @@ ghost use Rattle.typed_path.specs.changes.Spelled.{IsSpelled, IsReady, IsSpellin
 
 use crate::windows::encoding::cursor;
 use crate::windows::merged::{push_merged, without_last};
-use crate::windows::push::{has_verbatim_kind, push_at, separator_behind};
+use crate::windows::push::{has_verbatim_kind, prefix_len, push_at, separator_behind};
 use crate::windows::spelled::{Spelling, are_names, is_plain, spelling_of};
 use std::alloc::AllocError;
 
@@ -154,7 +154,8 @@ fn push_spelled(
     match piece {
         [b'.'] => Ok(spelling),
         [b'.', b'.'] => {
-            let (kept, next) = without_last(&text[start..], spelling);
+            let path = &text[start..];
+            let (kept, next) = without_last(path, prefix_len(path), spelling);
             text.truncate(start + kept);
             Ok(next)
         }

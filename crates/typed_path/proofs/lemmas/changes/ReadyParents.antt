@@ -235,6 +235,12 @@ module _ (t : List ℕ) (own : IsSpelled t) (head : ℕ) (long : head ≡ raw_le
         let all = behind-spelled u f (root_part (backslash ∷ []) ∷ parted.front) parted.front (same.same_prefix ∙ shape.is) shape.marked behind in
         (all.0, all.1 ∙ ap (λ raw. prefix_part f.prefix raw ∷ root_part (backslash ∷ []) ∷ parted.front) (take-take f.length kept t (omega (arith, head_is))))
 
+    -- the prefix stays
+    pub parent-prefix : raw_length (prefix_of windows (take kept t)) ≡ head
+    parent-prefix =
+        let same = same-found t kept f shape.is (record { fits = omega (arith, head_is); joint = λ e b bs rest. absurd (omega (arith, head_is)) }) in
+        ap raw_length same.same_prefix ∙ sym long
+
     -- the list loses its last name
     pub parts-cut : is_dots (drop start (drop (head + 1) t)) ≡ false → parts_of windows (take kept t) ≡ without_last_name (parts_of windows t)
     parts-cut dotless =
