@@ -4,6 +4,7 @@ mod component;
 mod components;
 mod crossed;
 mod encoding;
+mod merged;
 mod names;
 mod normal;
 mod order;

@@ -20,6 +20,7 @@ pub mod NameSpans
 pub mod RunLemmas
 pub mod PushLemmas
 pub mod CrossedLemmas
+pub mod MergedNames
 pub mod ReadyNames
 pub mod ReadyParents
 pub mod PutCrossed

@@ -47,6 +47,11 @@ IsSpelling Ready t = IsReady t
 IsSpelling Rooted t = IsRooted t
 IsSpelling Other t = IsSpelled t → ⊥
 
+-- names stand behind such a text with `\` before each
+abbrev pub is_ready : Spelling → Bool
+is_ready Ready = true
+is_ready s = false
+
 -- components with `\` between them, and before the first one where it is parted from what stands before it
 abbrev pub names_behind : Bool → List Part → List ℕ
 names_behind parted [] = []

@@ -6,10 +6,10 @@ ghost use Rattle.typed_path.specs.components.Dialect.{dot};
 ghost use Rattle.typed_path.specs.changes.Push.{push_windows};
 ghost use Rattle.typed_path.specs.changes.Spelled.{IsSpelled, IsReady, IsSpelling};
 
-use crate::scan::Separators;
 use crate::windows::encoding::cursor;
+use crate::windows::merged::{push_merged, without_last};
 use crate::windows::push::{has_verbatim_kind, prefix_len, push_at, separator_behind};
-use crate::windows::spelled::{Spelling, are_names, is_dots, is_plain, spelling_of};
+use crate::windows::spelled::{Spelling, are_names, is_plain, spelling_of};
 use std::alloc::AllocError;
 
 /// Pushes a path onto the one that stands behind the first bytes of a text.
@@ -35,30 +35,6 @@ pub fn next_spelling(path: &[u8]) -> Spelling
     } else {
         Spelling::Other
     }
-}
-
-/// What `..` leaves of a path that a push spells as it stands: how many bytes, and how a push of a
-/// name spells those.
-fn without_last(path: &[u8], spelling: Spelling) -> (usize, Spelling)
-    requires own { IsSpelled path.now }
-    requires spelling { IsSpelling spelling path.now }
-    ensures within { result.0 ≤ length path.now }
-    ensures left { push_windows path.now (dot ∷ dot ∷ []) ≡ take result.0 path.now }
-    ensures spelling { IsSpelling result.1 (take result.0 path.now) }
-{
-    let head = prefix_len(path);
-    if path.len() <= head + 1 {
-        return (path.len(), spelling);
-    }
-    let names = &path[head + 1..];
-    let last = Separators::Backslash.last_in(names);
-    if is_dots(&names[last..]) {
-        return (path.len(), spelling);
-    }
-    if last == 0 {
-        return (head + 1, Spelling::Rooted);
-    }
-    (head + last, Spelling::Ready)
 }
 
 /// What a push puts between a path that it spells as it stands and names with `\` between them,
@@ -178,10 +154,37 @@ fn push_spelled(
     match piece {
         [b'.'] => Ok(spelling),
         [b'.', b'.'] => {
-            let (kept, next) = without_last(&text[start..], spelling);
+            let path = &text[start..];
+            let (kept, next) = without_last(path, prefix_len(path), spelling);
             text.truncate(start + kept);
             Ok(next)
         }
-        _ => push_names(text, start, piece, spelling),
+        _ => push_others(text, start, piece, spelling),
+    }
+}
+
+/// The same of a piece that is neither `.` nor `..`: names alone are put behind it, and other
+/// components are merged into it.
+fn push_others(
+    text: &mut Vec<u8>,
+    start: usize,
+    piece: &[u8],
+    spelling: Spelling,
+) -> Result<Spelling, AllocError>
+    requires within { start ≤ length text.old.items }
+    requires own { IsSpelled (drop start text.old.items) }
+    requires spelling { IsSpelling spelling (drop start text.old.items) }
+    ensures ok { OnOk result
+        (drop start text.new.items ≡ push_windows (drop start text.old.items) piece.now) }
+    ensures spelling { IfOk result (λ next. IsSpelling next (drop start text.new.items)) }
+    ensures kept { take start text.new.items ≡ take start text.old.items }
+    ensures long { start ≤ length text.new.items }
+    ensures capacity { vec_capacity text.old ≤ vec_capacity text.new }
+{
+    let path = cursor(piece);
+    if path.has_prefix() || path.begins_with_root() || are_names(piece) {
+        push_names(text, start, piece, spelling)
+    } else {
+        push_merged(text, start, piece, spelling)
     }
 }

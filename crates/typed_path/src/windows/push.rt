@@ -77,7 +77,7 @@ fn drop_last_name(pieces: &mut Vec<Piece<'_>>)
 
 /// Merges a component into a list: a root cuts that to its prefix, `.` is passed over, and `..`
 /// takes a name away.
-fn merge_piece<'a>(pieces: &mut Vec<Piece<'a>>, piece: Piece<'a>) -> Result<(), AllocError>
+pub fn merge_piece<'a>(pieces: &mut Vec<Piece<'a>>, piece: Piece<'a>) -> Result<(), AllocError>
     ensures { OnOk result (map part_of pieces.new.items
         ≡ merge_by_kind (map part_of pieces.old.items) (part_of piece.entry) (part_of piece.entry).kind) }
 {

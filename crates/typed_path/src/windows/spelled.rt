@@ -7,7 +7,7 @@ ghost use Rattle.typed_path.specs.components.Dialect.{windows, is_separator};
 ghost use Rattle.typed_path.specs.components.Prefix.{Found, is_empty, prefix_of};
 ghost use Rattle.typed_path.specs.queries.Queries.{is_verbatim_prefix};
 ghost use Rattle.typed_path.specs.components.Comps.{is_dot, is_dot_dot};
-ghost use Rattle.typed_path.specs.changes.Spelled.{is_plain, is_component, is_row, is_name_piece, are_names, IsSpelling};
+ghost use Rattle.typed_path.specs.changes.Spelled.{is_plain, is_component, is_row, is_name_piece, are_names, is_ready, IsSpelling};
 
 use crate::scan::{Separators, cut_at_separator, drive, find_prefix};
 
@@ -20,6 +20,13 @@ pub enum Spelling {
     Rooted,
     /// In another way, or not at all.
     Other,
+}
+
+/// Whether names stand behind a text that is spelled so with `\` before each.
+pub fn is_ready(spelling: Spelling) -> bool
+    ensures { result ≡ is_ready spelling }
+{
+    matches!(spelling, Spelling::Ready)
 }
 
 /// Whether a push puts the name as it stands behind a text that it spells as that stands.

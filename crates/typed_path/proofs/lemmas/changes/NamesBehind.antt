@@ -53,7 +53,7 @@ spelled-names p [] (q ∷ qs) named = by q.kind q.text named (spelled-names q []
     by k text h again = cc
 
 -- so they are put behind a text that is spelled as it is read
-spelled-onto : (t : List ℕ) (ps qs : List Part) (parted : Bool) → has_any_verbatim_prefix (kinds ps) ≡ true → spelled ps ≡ t → ends_with_root (kinds ps) ≡ not parted
+pub spelled-onto : (t : List ℕ) (ps qs : List Part) (parted : Bool) → has_any_verbatim_prefix (kinds ps) ≡ true → spelled ps ≡ t → ends_with_root (kinds ps) ≡ not parted
     → list_all is_name (kinds qs) ≡ true → spelled (merged ps qs) ≡ t ++ names_behind parted qs
 spelled-onto t [] qs parted marked own end named = cc
 spelled-onto t (p ∷ ps) qs parted marked own end named =
@@ -132,7 +132,7 @@ are-written (b ∷ bs) none h =
     }
 
 -- a list without a prefix is that of a text without one
-no-prefix : (t : List ℕ) → has_prefix (kinds (parts_of windows t)) ≡ false → prefix_of windows t ≡ None
+pub no-prefix : (t : List ℕ) → has_prefix (kinds (parts_of windows t)) ≡ false → prefix_of windows t ≡ None
 no-prefix t h = by (prefix_of windows t) refl
   where
     by : (o : Option Found) → prefix_of windows t ≡ o → o ≡ None

@@ -1,6 +1,6 @@
 -- Components of another dialect pushed one by one onto the path at the end of a text.
-use Rattle.std.proofs.Common.{◌≡◌, ◌≤◌, ◌<◌, ◌-◌, ◌==◌, ℕ, true, false, List, [], ◌∷◌, ◌++◌, map, length, drop, slice_index, slice_range, sym, ap, ◌∙◌, append_assoc, arith}
-use Rattle.std.proofs.lemmas.List.{drop-append-le, take_all, length-drop}
+use Rattle.std.proofs.Common.{◌≡◌, ◌≤◌, ◌<◌, ◌+◌, ◌-◌, ◌==◌, ℕ, true, false, List, [], ◌∷◌, ◌++◌, map, length, take, drop, slice_index, slice_range, sym, ap, ◌∙◌, append_assoc, length-take-le, arith}
+use Rattle.std.proofs.lemmas.List.{drop-append-le, drop-take, take_all, length-drop}
 use Rattle.std.proofs.lemmas.Bool.{cond-false}
 use Rattle.typed_path.specs.components.Dialect.{Dialect, windows, slash, dot}
 use Rattle.typed_path.specs.components.Part.{Part}
@@ -31,6 +31,18 @@ put-behind text new more start within e = ap (drop start) e ∙ drop-append-le s
 -- the end of a text, taken to its own end
 pub whole_range : (text other : List ℕ) (start : ℕ) → other ≡ text → slice_range other start (length other) ≡ drop start text
 whole_range text other start e = take_all (length other - start) (drop start other) (omega (arith, length-drop start other)) ∙ ap (drop start) e
+
+-- what stands behind the first bytes, once the text is cut
+pub cut-behind : (text new base read : List ℕ) (start kept : ℕ) → base ≡ text → slice_range base start (length base) ≡ read → new ≡ take (start + kept) text → take kept read ≡ drop start new
+cut-behind text new base read start kept same is e = ap (take kept) (sym is ∙ whole_range text base start same) ∙ sym (drop-take start kept text) ∙ ap (drop start) (sym e)
+
+-- and once more is put behind it
+pub put-cut : (text middle new base read more : List ℕ) (start kept : ℕ) → start ≤ length text → base ≡ text → slice_range base start (length base) ≡ read → kept ≤ length read
+    → middle ≡ take (start + kept) text → new ≡ middle ++ more → take kept read ++ more ≡ drop start new
+put-cut text middle new base read more start kept within same is short cut put =
+    let fits : start + kept ≤ length text = omega (arith, ap length (sym is ∙ whole_range text base start same), length-drop start text) in
+    let long : start ≤ length middle = omega (arith, ap length cut, length-take-le (start + kept) text fits) in
+    ap (λ t. t ++ more) (cut-behind text middle base read start kept same is cut) ∙ sym (put-behind middle new more start long put)
 
 pub pushed_unix-relative : (text new other base separator : List ℕ) (start : ℕ) → start ≤ length text → base ≡ drop start text → ended_with slash base ≡ base ++ separator
     → 0 < length other → (slice_index other 0 == slash) ≡ false → new ≡ text ++ (separator ++ other) → drop start new ≡ push_unix (drop start text) other

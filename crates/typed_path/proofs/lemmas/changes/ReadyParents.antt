@@ -174,12 +174,15 @@ module _ (t : List ℕ) (own : IsSpelled t) (head : ℕ) (long : head ≡ raw_le
   unchanged : without_last_name (parts_of windows t) ≡ parts_of windows t → push_windows t (dot ∷ dot ∷ []) ≡ t
   unchanged e = pushed ∙ ap spelled e ∙ own.1
 
-  pub parent-short : length t ≤ head + 1 → push_windows t (dot ∷ dot ∷ []) ≡ t
-  parent-short least =
+  pub parts-short : length t ≤ head + 1 → without_last_name (parts_of windows t) ≡ parts_of windows t
+  parts-short least =
       let read = parts_of-some t f shape.is in
-      unchanged (ap without_last_name read
+      ap without_last_name read
       ∙ short-alone s (separators-windows t) f.prefix (take f.length t) _ shape.others (drop f.length t) shape.behind (omega (arith, head_is, length-drop f.length t))
-      ∙ sym read)
+      ∙ sym read
+
+  pub parent-short : length t ≤ head + 1 → push_windows t (dot ∷ dot ∷ []) ≡ t
+  parent-short least = unchanged (parts-short least)
 
   module _ (more : head + 1 < length t) (start : ℕ) (place : IsLastPlace (is_separator Backslash) (drop (head + 1) t) start) where
     w : OfWindows s
@@ -205,11 +208,14 @@ module _ (t : List ℕ) (own : IsSpelled t) (head : ℕ) (long : head ≡ raw_le
     read : parts_of windows t ≡ others ++ parted.last ∷ []
     read = parts_of-some t f shape.is ∙ ap (λ ps. prefix_part f.prefix (take f.length t) ∷ ps) parted.read
 
-    pub parent-dots : is_dots (drop start (drop (head + 1) t)) ≡ true → push_windows t (dot ∷ dot ∷ []) ≡ t
-    parent-dots dots =
-        unchanged (ap without_last_name read
+    pub parts-dots : is_dots (drop start (drop (head + 1) t)) ≡ true → without_last_name (parts_of windows t) ≡ parts_of windows t
+    parts-dots dots =
+        ap without_last_name read
         ∙ without_last_name-other others parted.last (dots-other s w parted.last.kind parted.last.text parted.last_later (ap is_dots (sym last_text) ∙ dots))
-        ∙ sym read)
+        ∙ sym read
+
+    pub parent-dots : is_dots (drop start (drop (head + 1) t)) ≡ true → push_windows t (dot ∷ dot ∷ []) ≡ t
+    parent-dots dots = unchanged (parts-dots dots)
 
     -- what is left of the text
     abbrev kept : ℕ
@@ -229,11 +235,21 @@ module _ (t : List ℕ) (own : IsSpelled t) (head : ℕ) (long : head ≡ raw_le
         let all = behind-spelled u f (root_part (backslash ∷ []) ∷ parted.front) parted.front (same.same_prefix ∙ shape.is) shape.marked behind in
         (all.0, all.1 ∙ ap (λ raw. prefix_part f.prefix raw ∷ root_part (backslash ∷ []) ∷ parted.front) (take-take f.length kept t (omega (arith, head_is))))
 
+    -- the prefix stays
+    pub parent-prefix : raw_length (prefix_of windows (take kept t)) ≡ head
+    parent-prefix =
+        let same = same-found t kept f shape.is (record { fits = omega (arith, head_is); joint = λ e b bs rest. absurd (omega (arith, head_is)) }) in
+        ap raw_length same.same_prefix ∙ sym long
+
+    -- the list loses its last name
+    pub parts-cut : is_dots (drop start (drop (head + 1) t)) ≡ false → parts_of windows (take kept t) ≡ without_last_name (parts_of windows t)
+    parts-cut dotless =
+        left.1
+        ∙ sym (ap without_last_name read
+        ∙ without_last_name-name others parted.last (name-dotless s w parted.last.kind parted.last.text parted.last_later (ap is_dots (sym last_text) ∙ dotless)))
+
     pub parent-cut : is_dots (drop start (drop (head + 1) t)) ≡ false → push_windows t (dot ∷ dot ∷ []) ≡ take kept t
-    parent-cut dotless =
-        pushed ∙ ap (λ ps. spelled (without_last_name ps)) read
-        ∙ ap spelled (without_last_name-name others parted.last (name-dotless s w parted.last.kind parted.last.text parted.last_later (ap is_dots (sym last_text) ∙ dotless)) ∙ sym left.1)
-        ∙ left.0.1
+    parent-cut dotless = pushed ∙ ap spelled (sym (parts-cut dotless)) ∙ left.0.1
 
     pub parent-rooted : start ≡ 0 → IsRooted (take kept t)
     parent-rooted none =

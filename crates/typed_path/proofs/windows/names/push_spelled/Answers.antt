@@ -1,14 +1,9 @@
-use Rattle.std.proofs.Common.{rules, ◌≡◌, ◌+◌, [], ◌∷◌, List, ℕ, length, take, drop, slice_range, refl, sym, ap, subst, ◌∙◌, arith}
-use Rattle.std.proofs.lemmas.List.{drop-take}
+use Rattle.std.proofs.Common.{rules, [], ◌∷◌, drop, refl, sym, ap, subst, ◌∙◌, arith}
 use Rattle.typed_path.specs.components.Dialect.{dot}
 use Rattle.typed_path.specs.changes.Push.{push_windows}
 use Rattle.typed_path.specs.changes.Spelled.{IsSpelling}
-use Rattle.typed_path.proofs.lemmas.changes.PutCrossed.{whole_range, two_dots}
+use Rattle.typed_path.proofs.lemmas.changes.PutCrossed.{whole_range, cut-behind, two_dots}
 use Rattle.typed_path.proofs.windows.names.push_spelled.Goals as goal
-
--- what stands behind the first bytes, once the text is cut
-cut : (text new base read : List ℕ) (start kept : ℕ) → base ≡ text → slice_range base start (length base) ≡ read → new ≡ take (start + kept) text → take kept read ≡ drop start new
-cut text new base read start kept same is e = ap (take kept) (sym is ∙ whole_range text base start same) ∙ sym (drop-take start kept text) ∙ ap (drop start) (sym e)
 
 pub returns-in-46-2-clause-ok : goal.returns-in-46-2-clause-ok
 returns-in-46-2-clause-ok c =
@@ -18,9 +13,9 @@ returns-in-46-2-clause-ok c =
     sym (ap (push_windows (drop c.args.start text)) dots
     ∙ ap (λ t. push_windows t (dot ∷ dot ∷ [])) (sym (whole_range text base c.args.start c.deref.ensures.value))
     ∙ c.without_last-kept.ensures.left
-    ∙ cut text _ base _ c.args.start c.without_last-kept.result.0 c.deref.ensures.value refl c.truncate.ensures.items)
+    ∙ cut-behind text _ base _ c.args.start c.without_last-kept.result.0 c.deref.ensures.value refl c.truncate.ensures.items)
 
 pub returns-in-46-2-clause-spelling : goal.returns-in-46-2-clause-spelling
 returns-in-46-2-clause-spelling c =
-    subst (IsSpelling c.without_last-kept.result.1) (cut c.args.text.now.items _ c.deref.result.now _ c.args.start c.without_last-kept.result.0 c.deref.ensures.value refl c.truncate.ensures.items)
+    subst (IsSpelling c.without_last-kept.result.1) (cut-behind c.args.text.now.items _ c.deref.result.now _ c.args.start c.without_last-kept.result.0 c.deref.ensures.value refl c.truncate.ensures.items)
     c.without_last-kept.ensures.spelling
