@@ -192,25 +192,11 @@ impl<'a> Cursor<'a> {
         ensures slice { slice_left self.new
             ≡ slice_after_back (items_left self.old) (slice_left self.old) }
     {
-        match self.prefix {
-            Some(found) => Some(self.back_to_prefix(found)),
-            None => self.body.back(),
+        if let Some(piece) = self.body.back() {
+            return Some(piece);
         }
-    }
-
-    /// Takes the last component that is left behind the prefix, or the prefix where none is.
-    #[inline(always)]
-    fn back_to_prefix(&mut self, found: Found<'a>) -> Piece<'a>
-        requires { self.old.prefix ≡ Some found }
-        ensures taken { Some (part_of result) ≡ last_part (items_left self.old) }
-        ensures items { items_left self.new ≡ but_last (items_left self.old) }
-        ensures slice { slice_left self.new
-            ≡ slice_after_back (items_left self.old) (slice_left self.old) }
-    {
-        match self.body.back() {
-            Some(piece) => piece,
-            None => self.take_prefix(found),
-        }
+        let found = self.prefix?;
+        Some(self.take_prefix(found))
     }
 }
 

@@ -1,5 +1,5 @@
 -- Steps of a cursor whose prefix is still to be taken.
-use Rattle.std.proofs.Common.{◌≡◌, ℕ, ◌-◌, ◌≤◌, List, ◌∷◌, length, slice_range, Some, None, option_map, sym, ap, ap₂, ◌∙◌, arith}
+use Rattle.std.proofs.Common.{◌≡◌, ℕ, ◌-◌, ◌≤◌, List, ◌∷◌, length, slice_range, Option, Some, None, option_map, refl, sym, ap, ap₂, ◌∙◌, arith}
 use Rattle.typed_path.specs.declared.scan.cursor.Cursor.{Cursor}
 use Rattle.typed_path.specs.declared.scan.body.Body.{Body}
 use Rattle.typed_path.specs.declared.scan.prefix.Found.{Found}
@@ -92,3 +92,27 @@ module _ (c m : Cursor) (f : Found) (e : c.prefix ≡ Some f) (g : m.prefix ≡ 
       let empty = empty-last (body_items c.body) none in
       taken ∙ ap first_part (items_left-pending m f g ∙ ap₂ ◌∷◌ same_prefix (items ∙ ap but_last empty))
       ∙ ap last_part (sym (items_left-pending c f e ∙ ap (λ cs. prefix_before f c.body.text.now c.body.from ∷ cs) empty))
+
+-- a cursor with no prefix to take is its body
+items_left-bare : (c : Cursor) → c.prefix ≡ None → items_left c ≡ body_items c.body
+items_left-bare c e = ap (λ q. prefix_left q (start_left q c.body.from) (slice_range c.body.text.now (start_left q c.body.from) c.body.to) (body_items c.body)) e
+
+slice_left-bare : (c : Cursor) → c.prefix ≡ None → slice_left c ≡ body_slice c.body
+slice_left-bare c e = ap (λ q. slice_range c.body.text.now (start_left q c.body.from) c.body.to) e
+
+-- the last component of the body was taken, whatever stands before it
+module _ (c : Cursor) (b : Body) (from : b.from ≡ c.body.from) (text : b.text ≡ c.body.text) (p : Part) (taken : Some p ≡ last_part (body_items c.body)) (items : body_items b ≡ but_last (body_items c.body)) where
+  pub step-items : items_left (with_body c b from) ≡ but_last (items_left c)
+  step-items = by c.prefix refl
+    where
+      by : (o : Option Found) → c.prefix ≡ o → items_left (with_body c b from) ≡ but_last (items_left c)
+      by None e = items_left-bare (with_body c b from) e ∙ items ∙ ap but_last (sym (items_left-bare c e))
+      by (Some f) e = back-items c (with_body c b from) f e e text from p taken items
+
+  pub step-slice : b.to ≤ c.body.to → b.to ≡ end_from c.body.from (but_last (body_items c.body)) → body_slice b ≡ slice_after_back (body_items c.body) (body_slice c.body)
+      → slice_left (with_body c b from) ≡ slice_after_back (items_left c) (slice_left c)
+  step-slice shorter end slice = by c.prefix refl
+    where
+      by : (o : Option Found) → c.prefix ≡ o → slice_left (with_body c b from) ≡ slice_after_back (items_left c) (slice_left c)
+      by None e = slice_left-bare (with_body c b from) e ∙ slice ∙ ap₂ slice_after_back (sym (items_left-bare c e)) (sym (slice_left-bare c e))
+      by (Some f) e = back-slice c (with_body c b from) f e e text from p taken items shorter end

@@ -1,0 +1,15 @@
+use Rattle.typed_path.specs.views.PieceViews.{part_of}
+use Rattle.typed_path.proofs.lemmas.readings.CursorSteps.{with_body, step-items, step-slice, back-none}
+use Rattle.typed_path.proofs.scan.cursor.Cursor.back.Goals as goal
+
+pub returns-in-Some-clause-items : goal.returns-in-Some-clause-items
+returns-in-Some-clause-items c = step-items c.args.self.now c.back.new.self c.in-Some.ensures.from c.in-Some.ensures.text (part_of c.in-Some.piece) c.in-Some.ensures.taken c.in-Some.ensures.items
+
+pub returns-in-Some-clause-slice : goal.returns-in-Some-clause-slice
+returns-in-Some-clause-slice c =
+    step-slice c.args.self.now c.back.new.self c.in-Some.ensures.from c.in-Some.ensures.text (part_of c.in-Some.piece) c.in-Some.ensures.taken c.in-Some.ensures.items
+    c.in-Some.ensures.shorter c.in-Some.ensures.end c.in-Some.ensures.slice
+
+pub returns-clause-taken : goal.returns-clause-taken
+returns-clause-taken c =
+    back-none c.args.self.now (with_body c.args.self.now c.back.new.self c.in_default.ensures.from) c.in_ok-found.found c.in_ok-found.was c.in_ok-found.was c.in_default.ensures.text c.in_default.ensures.from (part_of c.take_prefix.result) c.in_default.ensures.taken c.in_default.ensures.items c.take_prefix.ensures.taken
