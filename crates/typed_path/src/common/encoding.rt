@@ -18,7 +18,7 @@ ghost use Rattle.typed_path.specs.changes.Push.{FitsPush};
 ghost use Rattle.typed_path.specs.changes.Fault.{fault};
 ghost use Rattle.typed_path.specs.order.Words.{path_words};
 ghost use Rattle.typed_path.specs.order.Same.{left_cmp, path_cmp};
-ghost use Rattle.typed_path.specs.conversions.Convert.{crossed_all};
+ghost use Rattle.typed_path.specs.conversions.Convert.{crossed_all, crossed_room};
 
 use crate::common::hash::feed;
 use crate::errors::{CheckedPathError, PathError};
@@ -149,12 +149,17 @@ pub trait Encoding: Sized {
 
     /// Puts the components that are left of a reading, of whichever encoding, behind a text as they
     /// are written in this one: pushed one by one onto the empty path, the root and every prefix but a
-    /// drive as this encoding's root. Where memory is refused, the text is as it was.
+    /// drive as this encoding's root. Where memory is refused, the text is as it was. Where there is
+    /// room for each component and a byte more behind the text, it succeeds on Unix, where nothing
+    /// else is kept aside.
     fn put_crossed(text: &mut Vec<u8>, components: Cursor<'_>) -> Result<(), AllocError>
         ensures ok { OnOk result (text.new.items
             ≡ text.old.items ++ crossed_all dialect (parts (items_left components.entry))) }
         ensures err { OnErr result (text.new.items ≡ text.old.items) }
-        ensures capacity { vec_capacity text.old ≤ vec_capacity text.new };
+        ensures capacity { vec_capacity text.old ≤ vec_capacity text.new }
+        ensures succeeds { keeps_nothing_aside dialect ≡ true
+            → vec_len text.old + crossed_room dialect (parts (items_left components.entry))
+            ≤ vec_capacity text.old → IsOk result };
 
     /// The normal text of a path, in room for one byte more than the path has.
     fn normal(alloc: Global, path: &[u8]) -> Result<Vec<u8>, AllocError>

@@ -1,6 +1,6 @@
 //! A path of one encoding written in another.
 
-ghost use Rattle.std.specs.Prelude.{◌≡◌, ◌++◌, OnOk, Result, Ok, Err, Some};
+ghost use Rattle.std.specs.Prelude.{◌≡◌, ◌++◌, OnOk, OnErr, Result, Ok, Err, Some};
 ghost use Rattle.typed_path.specs.declared.errors.CheckedPathError.{CheckedPathError};
 ghost use Rattle.typed_path.specs.components.Comps.{parts_of};
 ghost use Rattle.typed_path.specs.conversions.Convert.{same_dialect, converted, crossed, passes, push_unless, crossing_fault, push_checked_each};
@@ -60,8 +60,9 @@ pub fn put_converted<T: Encoding, U: Encoding>(
     text: &mut Vec<u8>,
     path: &[u8],
 ) -> Result<(), AllocError>
-    ensures { OnOk result (text.new.items
+    ensures ok { OnOk result (text.new.items
         ≡ text.old.items ++ converted T.dialect U.dialect path.now) }
+    ensures err { OnErr result (text.new.items ≡ text.old.items) }
 {
     if have_one_label::<T, U>() {
         text.extend_from_slice(path)

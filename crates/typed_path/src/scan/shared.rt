@@ -12,7 +12,7 @@ use crate::scan::separators::Separators;
 /// How many bytes are compared at once.
 const BLOCK: usize = 32;
 
-/// How many bytes two texts begin with alike.
+/// How many bytes two texts begin with alike. Only that both have so many is relied on.
 fn shared_len(text: &[u8], other: &[u8]) -> usize
     ensures { result ≤ length text.now }
 {
@@ -28,6 +28,7 @@ fn shared_len(text: &[u8], other: &[u8]) -> usize
 }
 
 /// The first bytes of a text that another begins with too, to behind the last separator among them.
+/// Nothing rests on this answer: whether both texts begin with it is looked at again.
 fn shared_front<'a>(text: &'a [u8], other: &[u8], separators: Separators) -> &'a [u8] {
     let shared = &text[..shared_len(text, other)];
     &shared[..separators.last_in(shared)]

@@ -131,7 +131,6 @@ fn put_pair_reply<T: Encoding>(
     ensures { OnOk result (replies.new.items ≡ replies.old.items
         ++ reply_line (pair_reply_in T.dialect (command_name command) first.now path.now)) }
 {
-    scratch.clear();
     match command {
         Command::Join => put_joined::<T>(first, path, scratch, replies),
         Command::JoinChecked => match T::check(path) {
@@ -153,7 +152,6 @@ fn put_convert_reply<T: Encoding>(
     scratch: &mut Vec<u8>,
     replies: &mut Vec<u8>,
 ) -> Result<(), AllocError>
-    requires { scratch.old.items ≡ [] }
     ensures { OnOk result (replies.new.items ≡ replies.old.items ++ reply_line (in_named
         (convert_reply_in T.dialect (command_name command) path.now) (dialect_named target.now))) }
 {
@@ -173,7 +171,6 @@ fn put_conversion<T: Encoding, U: Encoding>(
     scratch: &mut Vec<u8>,
     replies: &mut Vec<u8>,
 ) -> Result<(), AllocError>
-    requires { scratch.old.items ≡ [] }
     ensures { OnOk result (replies.new.items ≡ replies.old.items
         ++ reply_line (convert_reply_in T.dialect (command_name command) path.now U.dialect)) }
 {
@@ -201,43 +198,45 @@ fn put_converted_text<T: Encoding, U: Encoding>(
 }
 
 /// Puts the reply that is a path in another encoding, or the name of its refusal, behind others. It
-/// is put together in the empty scratch.
+/// is put together in the scratch.
 fn put_converted_checked<T: Encoding, U: Encoding>(
     path: &[u8],
     scratch: &mut Vec<u8>,
     replies: &mut Vec<u8>,
 ) -> Result<(), AllocError>
-    requires { scratch.old.items ≡ [] }
     ensures { OnOk result (replies.new.items ≡ replies.old.items
         ++ reply_line (converted_reply (converted_checked T.dialect U.dialect path.now))) }
 {
+    scratch.clear();
     match convert_checked::<T, U>(scratch, path) {
-        Ok(()) => {
-            replies.extend_from_slice(b"ok\t")?;
-            replies.extend_from_slice(scratch.as_slice())?;
-            replies.push(b'\n')?;
-            Ok(())
-        }
+        Ok(()) => put_text(scratch.as_slice(), replies),
         Err(PathError::Checked(refusal)) => put_refusal(refusal, replies),
         Err(PathError::OutOfMemory) => Err(AllocError),
     }
 }
 
-/// Puts the reply that is a path pushed onto a base behind others. They are joined in the empty scratch.
+/// Puts the reply that is a path pushed onto a base behind others. They are joined in the scratch.
 fn put_joined<T: Encoding>(
     base: &[u8],
     path: &[u8],
     scratch: &mut Vec<u8>,
     replies: &mut Vec<u8>,
 ) -> Result<(), AllocError>
-    requires { scratch.old.items ≡ [] }
     ensures { OnOk result
         (replies.new.items ≡ replies.old.items ++ text_reply (push T.dialect base.now path.now)) }
 {
+    scratch.clear();
     scratch.extend_from_slice(base)?;
     T::push(scratch, path)?;
+    put_text(scratch.as_slice(), replies)
+}
+
+/// Puts the reply that is a text behind others.
+fn put_text(text: &[u8], replies: &mut Vec<u8>) -> Result<(), AllocError>
+    ensures { OnOk result (replies.new.items ≡ replies.old.items ++ text_reply text.now) }
+{
     replies.extend_from_slice(b"ok\t")?;
-    replies.extend_from_slice(scratch.as_slice())?;
+    replies.extend_from_slice(text)?;
     replies.push(b'\n')?;
     Ok(())
 }

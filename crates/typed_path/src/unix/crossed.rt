@@ -1,11 +1,11 @@
 //! A path of another encoding, written as on Unix.
 
-ghost use Rattle.std.specs.Prelude.{◌≡◌, ◌≤◌, ◌++◌, take, drop, length, OnOk, OnErr, true, false, [], ◌∷◌};
-ghost use Rattle.std.specs.Vec.{vec_capacity};
+ghost use Rattle.std.specs.Prelude.{◌≡◌, ◌≤◌, ◌<◌, ◌+◌, ◌++◌, take, drop, length, IsOk, OnOk, OnErr, true, false, [], ◌∷◌};
+ghost use Rattle.std.specs.Vec.{vec_len, vec_capacity};
 ghost use Rattle.typed_path.specs.components.Dialect.{unix, slash};
 ghost use Rattle.typed_path.specs.components.Part.{parts};
 ghost use Rattle.typed_path.specs.changes.Push.{push_unix, ended_with};
-ghost use Rattle.typed_path.specs.conversions.Convert.{crossed_all};
+ghost use Rattle.typed_path.specs.conversions.Convert.{crossed_all, crossed_room};
 ghost use Rattle.typed_path.specs.views.CursorViews.{items_left};
 
 use crate::common::put_over;
@@ -19,6 +19,8 @@ pub fn put_crossed(text: &mut Vec<u8>, components: Cursor<'_>) -> Result<(), All
         ≡ text.old.items ++ crossed_all unix (parts (items_left components.entry))) }
     ensures err { OnErr result (text.new.items ≡ text.old.items) }
     ensures capacity { vec_capacity text.old ≤ vec_capacity text.new }
+    ensures succeeds { vec_len text.old + crossed_room unix (parts (items_left components.entry))
+        ≤ vec_capacity text.old → IsOk result }
 {
     let start = text.len();
     if let Err(refused) = push_each(text, start, components) {
@@ -37,6 +39,8 @@ fn push_each(text: &mut Vec<u8>, start: usize, components: Cursor<'_>) -> Result
     ensures kept { take start text.new.items ≡ take start text.old.items }
     ensures long { start ≤ length text.new.items }
     ensures capacity { vec_capacity text.old ≤ vec_capacity text.new }
+    ensures succeeds { vec_len text.old + crossed_room unix (parts (items_left components.entry))
+        ≤ vec_capacity text.old → IsOk result }
 {
     let mut rest = components;
     'pieces: while let Some(piece) = rest.front() {
@@ -54,6 +58,8 @@ fn push_at(text: &mut Vec<u8>, start: usize, other: &[u8]) -> Result<(), AllocEr
     ensures kept { take start text.new.items ≡ take start text.old.items }
     ensures long { start ≤ length text.new.items }
     ensures capacity { vec_capacity text.old ≤ vec_capacity text.new }
+    ensures room { vec_len text.new ≤ vec_len text.old + length other.now + 1 }
+    ensures succeeds { vec_len text.old + length other.now < vec_capacity text.old → IsOk result }
 {
     match other {
         [] => Ok(()),

@@ -1,42 +1,25 @@
 -- Names of Unix that are names of Windows too, and components that are pushed one by one unless one of them has a fault.
-use Rattle.std.proofs.Common.{◌≡◌, ℕ, ◌==◌, ◌&&◌, Bool, true, false, if◌then◌else◌, List, [], ◌∷◌, map, Option, Some, None, Ok, Err, refl, sym, ap, ◌∙◌, subst, true≢false}
+use Rattle.std.proofs.Common.{◌≡◌, ℕ, ◌==◌, ◌&&◌, Bool, true, false, if◌then◌else◌, List, [], ◌∷◌, map, Option, Some, None, Ok, Err, refl, sym, ap, ◌∙◌}
 use Rattle.std.specs.List.{list_any, AllByRecursion}
 use Rattle.std.specs.Option.{option_or}
 use Rattle.std.proofs.lemmas.Bool.{and_parts, or_parts, not-true}
 use Rattle.std.proofs.lemmas.List.Elements.{All-nil, All-cons, All-head, All-tail}
-use Rattle.typed_path.specs.declared.scan.separators.Separators.{Separators}
 use Rattle.typed_path.specs.declared.scan.separators.Separators.TheVariants.{Slash, Either}
 use Rattle.typed_path.specs.declared.errors.CheckedPathError.{CheckedPathError}
 use Rattle.typed_path.specs.declared.errors.CheckedPathError.TheVariants.{InvalidFilename}
 use Rattle.typed_path.specs.components.Dialect.{windows, backslash, is_separator}
-use Rattle.typed_path.specs.components.Part.{Kind, prefix, normal, Part, kinds, name_part}
-use Rattle.typed_path.specs.queries.Queries.{begins_with_root, has_allowed_bytes, have_allowed_bytes}
+use Rattle.typed_path.specs.components.Part.{Kind, prefix, normal, Part, kinds}
+use Rattle.typed_path.specs.queries.Queries.{has_allowed_bytes, have_allowed_bytes}
 use Rattle.typed_path.specs.changes.Push.{push_windows, push_all}
 use Rattle.typed_path.specs.changes.Fault.{fault, fault_behind}
 use Rattle.typed_path.specs.conversions.Convert.{crossed, crossing_fault, push_unless, push_checked_each}
 use Rattle.typed_path.specs.promises.Crossings.{lack_backslash}
 use Rattle.typed_path.proofs.lemmas.lists.SplitLemmas.{IsUnseparated}
-use Rattle.typed_path.proofs.lemmas.components.SeparatorLemmas.{OfWindows}
 use Rattle.typed_path.proofs.lemmas.components.PartLemmas.{IsCleanName, IsWritten, IsWrittenPart}
-use Rattle.typed_path.proofs.lemmas.components.PlainNames.{IsPlain, Resolved, unrooted, rooted, resolved}
+use Rattle.typed_path.proofs.lemmas.components.PlainNames.{IsPlain, allowed-plain}
 use Rattle.typed_path.proofs.lemmas.components.PlainTexts.{plain-read}
 use Rattle.typed_path.proofs.lemmas.changes.JoinLemmas.{body_parts-name}
 use Rattle.typed_path.proofs.lemmas.changes.FaultlessLemmas.{faultless}
-
--- the text at the front of a list
-abbrev front_text : List Part → List ℕ
-front_text [] = []
-front_text (p ∷ ps) = p.text
-
--- where a list that resolves is one name, that is plain
-resolved-name : (ps : List Part) (name : List ℕ) → Resolved ps → ps ≡ name_part name ∷ [] → IsPlain name
-resolved-name _ name (unrooted [] plain) e = cc
-resolved-name _ name (unrooted (own ∷ names) plain) e = subst IsPlain (ap front_text e) plain.0
-resolved-name _ name (rooted names plain) e = absurd (true≢false (ap (λ ps. begins_with_root (kinds ps)) e))
-
--- a name of allowed bytes is plain
-pub allowed-plain : (s : Separators) → OfWindows s → (name : List ℕ) → IsCleanName s name → have_allowed_bytes windows (normal name ∷ []) ≡ true → IsPlain name
-allowed-plain s w name clean allowed = resolved-name (name_part name ∷ []) name (resolved s (name_part name ∷ []) w ((refl, clean), tt) (refl, tt) allowed) refl
 
 -- bytes of which none is a separator of Unix or a `\`
 unseparated-both : (bytes : List ℕ) → IsUnseparated (is_separator Slash) bytes → list_any (λ b. b == backslash) bytes ≡ false → IsUnseparated (is_separator Either) bytes
@@ -57,7 +40,7 @@ clean-both name clean lacks = record {
 
 -- of allowed bytes it is plain
 pub crossed-plain : (name : List ℕ) → IsCleanName Slash name → lack_backslash (normal name ∷ []) ≡ true → have_allowed_bytes windows (normal name ∷ []) ≡ true → IsPlain name
-crossed-plain name clean lacks allowed = allowed-plain Either refl name (clean-both name clean lacks) allowed
+crossed-plain name clean lacks allowed = allowed-plain Either name (clean-both name clean lacks) (not-true _ (and_parts _ true allowed).0)
 
 -- why a name that is read as one is refused
 abbrev fault_of_name : Bool → Option CheckedPathError

@@ -135,7 +135,7 @@ module _ (base other : List ℕ) (kept : ℕ) (spelling : Spelling) (ns : List P
       }
 
   -- a parent that finds no name takes one off the base
-  pub merging-parent : (p : Part) (old rest : List Part) (less : ℕ) (next : Spelling) → IsMerging base other kept spelling ns old → old ≡ p ∷ rest → length ns ≡ 0 → is_parent p.kind ≡ true
+  merging-parent : (p : Part) (old rest : List Part) (less : ℕ) (next : Spelling) → IsMerging base other kept spelling ns old → old ≡ p ∷ rest → length ns ≡ 0 → is_parent p.kind ≡ true
       → less ≤ kept → IsSpelled (take less base) → IsSpelling next (take less base)
       → parts_of windows (take less base) ≡ without_last_name (parts_of windows (take kept base)) → IsMerging base other less next ns rest
   merging-parent p old rest less next h step none is_one within own spells cut =

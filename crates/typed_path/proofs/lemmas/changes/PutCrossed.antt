@@ -1,10 +1,9 @@
 -- Components of another dialect pushed one by one onto the path at the end of a text.
-use Rattle.std.proofs.Common.{◌≡◌, ◌≤◌, ◌<◌, ◌+◌, ◌-◌, ◌==◌, ℕ, true, false, List, [], ◌∷◌, ◌++◌, map, length, take, drop, slice_index, slice_range, sym, ap, ◌∙◌, append_assoc, length-take-le, arith}
+use Rattle.std.proofs.Common.{◌≡◌, ◌≤◌, ◌+◌, ◌-◌, ℕ, true, false, List, [], ◌∷◌, ◌++◌, map, length, take, drop, slice_index, slice_range, sym, ap, ◌∙◌, append_assoc, length-take-le, arith}
 use Rattle.std.proofs.lemmas.List.{drop-append-le, drop-take, take_all, length-drop}
-use Rattle.std.proofs.lemmas.Bool.{cond-false}
-use Rattle.typed_path.specs.components.Dialect.{Dialect, windows, slash, dot}
+use Rattle.typed_path.specs.components.Dialect.{Dialect, windows, dot}
 use Rattle.typed_path.specs.components.Part.{Part}
-use Rattle.typed_path.specs.changes.Push.{push, push_all, push_unix, push_windows, ended_with, ended_windows, spells_anew}
+use Rattle.typed_path.specs.changes.Push.{push, push_all, push_windows, ended_windows, spells_anew}
 use Rattle.typed_path.specs.changes.Spelled.{is_plain}
 use Rattle.typed_path.specs.conversions.Convert.{crossed}
 use Rattle.typed_path.proofs.lemmas.changes.PlainNames.{plain, push-plain_ended}
@@ -18,11 +17,6 @@ crossed-next e goal text next p old rest step pushed h =
 -- none is left
 pub crossed-end : (e : Dialect) (goal text : List ℕ) (ps : List Part) → ps ≡ [] → goal ≡ push_all e text (map (crossed e) ps) → text ≡ goal
 crossed-end e goal text ps none h = sym (h ∙ ap (λ qs. push_all e text (map (crossed e) qs)) none)
-
--- a relative path of Unix is put behind its base
-push_unix-relative : (base path : List ℕ) → 0 < length path → (slice_index path 0 == slash) ≡ false → push_unix base path ≡ ended_with slash base ++ path
-push_unix-relative base [] some e = absurd (omega arith)
-push_unix-relative base (b ∷ path) some e = cond-false (b == slash) (b ∷ path) (ended_with slash base ++ b ∷ path) e
 
 -- what stands behind the first bytes of a text, with more put behind it
 pub put-behind : (text new more : List ℕ) (start : ℕ) → start ≤ length text → new ≡ text ++ more → drop start new ≡ drop start text ++ more
@@ -43,14 +37,6 @@ put-cut text middle new base read more start kept within same is short cut put =
     let fits : start + kept ≤ length text = omega (arith, ap length (sym is ∙ whole_range text base start same), length-drop start text) in
     let long : start ≤ length middle = omega (arith, ap length cut, length-take-le (start + kept) text fits) in
     ap (λ t. t ++ more) (cut-behind text middle base read start kept same is cut) ∙ sym (put-behind middle new more start long put)
-
-pub pushed_unix-relative : (text new other base separator : List ℕ) (start : ℕ) → start ≤ length text → base ≡ drop start text → ended_with slash base ≡ base ++ separator
-    → 0 < length other → (slice_index other 0 == slash) ≡ false → new ≡ text ++ (separator ++ other) → drop start new ≡ push_unix (drop start text) other
-pushed_unix-relative text new other base separator start within is ended some relative e =
-    put-behind text new (separator ++ other) start within e
-    ∙ sym (append_assoc (drop start text) separator other)
-    ∙ ap (λ t. t ++ other) (sym (ap (ended_with slash) (sym is) ∙ ended ∙ ap (λ t. t ++ separator) is))
-    ∙ sym (push_unix-relative (drop start text) other some relative)
 
 -- a plain name is put behind a base of Windows without a verbatim kind
 pub pushed_windows-plain : (text new other base separator : List ℕ) (start : ℕ) → start ≤ length text → base ≡ drop start text → ended_windows base ≡ base ++ separator

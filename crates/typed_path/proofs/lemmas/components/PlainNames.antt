@@ -47,7 +47,7 @@ allowed-drive (a ∷ b ∷ bs) h =
     cond-false (is_drive_letter a && b == colon) (Some (to_upper a)) None (and_right (is_drive_letter a) (b == colon) (other-byte b colon refl second.0))
 
 -- a name of allowed bytes is plain
-allowed-plain : (s : Separators) (name : List ℕ) → IsCleanName s name → list_any (is_disallowed windows) name ≡ false → IsPlain name
+pub allowed-plain : (s : Separators) (name : List ℕ) → IsCleanName s name → list_any (is_disallowed windows) name ≡ false → IsPlain name
 allowed-plain s name clean h = record {
   clean = record { filled = clean.filled; no_dot = clean.no_dot; no_dot_dot = clean.no_dot_dot; unseparated = allowed-unseparated name h };
   no_drive = allowed-drive name h;

@@ -2,7 +2,7 @@
 use Rattle.std.proofs.Common.{◌≡◌, ℕ, ◌==◌, ◌||◌, Bool, true, false, if◌then◌else◌, List, [], ◌∷◌, ◌++◌, map, length, take, drop, Option, Some, None, refl, sym, ap, ◌∙◌, subst, append_assoc, append-nil, ne_eqb, inl, inr, arith}
 use Rattle.std.specs.List.{list_any, AllByRecursion}
 use Rattle.std.proofs.Math.Bool.{or-false}
-use Rattle.std.proofs.lemmas.Bool.{and_parts, and_left, both_ways, cases_Bool, eqb-true, false_from_ne_true}
+use Rattle.std.proofs.lemmas.Bool.{and_parts, and_left, both_ways, cases_Bool, eqb-true, false_from_ne_true, not-true}
 use Rattle.std.proofs.lemmas.List.{length-append}
 use Rattle.std.proofs.lemmas.List.Elements.{All-nil, All-cons, filter-append}
 use Rattle.typed_path.specs.declared.scan.separators.Separators.{Separators}
@@ -20,10 +20,9 @@ use Rattle.typed_path.proofs.lemmas.components.SeparatorLemmas.{OfWindows, separ
 use Rattle.typed_path.proofs.lemmas.components.PartLemmas.{body_parts, body_parts-read, IsCleanName, IsWritten, IsLater, IsLaterPart, IsWritten-later, AreRead}
 use Rattle.typed_path.proofs.lemmas.components.ReadLemmas.{Read, of_disk, prefix-read}
 use Rattle.typed_path.proofs.lemmas.components.FirmLemmas.{drive-letter}
-use Rattle.typed_path.proofs.lemmas.components.PlainNames.{plain-clean}
+use Rattle.typed_path.proofs.lemmas.components.PlainNames.{plain-clean, allowed-plain}
 use Rattle.typed_path.proofs.lemmas.changes.JoinLemmas.{later_parts-name, body_parts-name}
 use Rattle.typed_path.proofs.lemmas.changes.FaultlessLemmas.{parts_of-none, parts_of-some}
-use Rattle.typed_path.proofs.lemmas.changes.CrossedLemmas.{allowed-plain}
 use Rattle.typed_path.proofs.lemmas.promises.CheckedCrossings.{converted_checked-ok}
 use Rattle.typed_path.proofs.lemmas.promises.CrossedToWindows.{IsStep, a_parent, a_plain, later-steps, on_windows, parts_of-read, accepted-read, crosses_as_it_is}
 use Rattle.typed_path.proofs.lemmas.promises.UnixNormal.{parts_of-unix, push_unix-name}
@@ -65,7 +64,7 @@ module _ (s : Separators) (w : OfWindows s) where
   push-written base current text filled written allowed = rw written (push_unix-behind base (dot ∷ []) filled refl)
   push-written base parent text filled written allowed = rw written (push_unix-behind base (dot ∷ dot ∷ []) filled refl)
   push-written base (normal name) text filled written allowed =
-      let clean = plain-clean Slash name (allowed-plain s w name written.1 allowed) in
+      let clean = plain-clean Slash name (allowed-plain s name written.1 (not-true _ (and_parts _ true allowed).0)) in
       rw written.0
       (push_unix-behind base name filled (ap (λ ps. begins_with_root (kinds ps)) (body_parts-name Slash name clean))
       ∙ ap (λ ps. body_parts Slash base ++ ps) (later_parts-name Slash name clean))
@@ -110,7 +109,7 @@ module _ (s : Separators) (w : OfWindows s) where
       rw (written, all-unrooted s ps later) (push_all-later ps later allowed (dot ∷ dot ∷ []) refl)
   push_all-first (normal name) text ps written later allowed =
       let own = and_parts _ (have_allowed_bytes windows (kinds ps)) allowed in
-      let clean = plain-clean Slash name (allowed-plain s w name written.1 (rw own.0 refl)) in
+      let clean = plain-clean Slash name (allowed-plain s name written.1 (not-true _ own.0)) in
       rw (written.0, all-unrooted s ps later)
       (ap (λ base. body_parts Slash (push_all unix base (map (crossed unix) ps))) (push_unix-name [] name clean)
       ∙ push_all-later ps later own.1 name clean.filled

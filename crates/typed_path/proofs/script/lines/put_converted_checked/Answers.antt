@@ -10,5 +10,5 @@ use Rattle.typed_path.proofs.script.lines.put_converted_checked.Goals as goal
 pub returns-in-Err-Checked : goal.returns-in-Err-Checked
 returns-in-Err-Checked g c =
     let fault = c.in-Err-Checked.ensures.refused c.in-Err-Checked.refusal (ap (λ e. refusal {A = ⊤} (Err e)) c.in-Err-Checked.field-0-is) in
-    let from_empty = ap (λ t. push_checked_each g.U.Encoding.dialect (Ok t) (parts_of g.T.Encoding.dialect c.args.path.now)) c.requires in
+    let from_empty = ap (λ t. push_checked_each g.U.Encoding.dialect (Ok t) (parts_of g.T.Encoding.dialect c.args.path.now)) c.clear.ensures.items in
     put_same _ _ _ (joined_reply [] (Some c.in-Err-Checked.refusal)) _ (ap converted_reply (sym fault ∙ from_empty)) c.put_refusal.ensures
