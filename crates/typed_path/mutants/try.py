@@ -3,7 +3,8 @@
 
 Without names it tries all the edits beside this file. They are tried in N temporary copies of the
 repository at once, in each copy one after the other, over what earlier checks kept in out/. The
-repository itself is not changed.
+modules that an edit changes are checked first, and the whole crate only where these do not refuse it.
+The repository itself is not changed.
 
 Exit status: 0 where all were refused, 1 where one was not, 2 where not all could be tried.
 """
@@ -11,6 +12,7 @@ Exit status: 0 where all were refused, 1 where one was not, 2 where not all coul
 import argparse
 import pathlib
 import queue
+import re
 import shutil
 import subprocess
 import sys
@@ -51,10 +53,31 @@ def edited(edit, crate):
     return texts, "" if texts else "no pair of texts"
 
 
-def check(crate):
+def check(crate, *words):
     """The exit status of a check, and what it said."""
-    ran = subprocess.run(["rt", "check"], cwd=crate, stdin=subprocess.DEVNULL, stdout=subprocess.PIPE, stderr=subprocess.STDOUT, text=True)
+    ran = subprocess.run(["rt", "check", *words], cwd=crate, stdin=subprocess.DEVNULL, stdout=subprocess.PIPE, stderr=subprocess.STDOUT, text=True)
     return ran.returncode, ran.stdout
+
+
+def module_of(path, crate):
+    """The module that a file of the crate holds, as `rt check --only` calls it."""
+    return "::".join(path.relative_to(crate / "src").with_suffix("").parts)
+
+
+def tried(paths, crate):
+    """The outcome of a check of the crate with edited files, why, and what the check said."""
+    for path in paths:
+        status, said = check(crate, "--only", module_of(path, crate))
+        # a check that stops at an error of the code does not count what it proved
+        counted = re.search(r"^only=(\d+) proved=(\d+)", said, re.MULTILINE)
+        if status == 1 and counted and int(counted[2]) < int(counted[1]):
+            return REFUSED, "", said
+    status, said = check(crate)
+    if status == 0:
+        return "PROVED", "", said
+    if status == 1 and "\nlogic=not-proved" in said:
+        return REFUSED, "", said
+    return "NOT READ", next((line for line in said.split("\n") if ": error" in line), f"exit status {status}"), said
 
 
 def judged(edit, crate, logs):
@@ -65,17 +88,12 @@ def judged(edit, crate, logs):
     kept = {path: path.read_text() for path in texts}
     for path, text in texts.items():
         path.write_text(text)
-    status, said = check(crate)
+    outcome, why, said = tried(texts, crate)
     for path, text in kept.items():
         path.write_text(text)
     if logs:
         (logs / f"{edit.stem}.txt").write_text(said)
-    if status == 0:
-        return "PROVED", ""
-    # a check that stops at an error of the code does not say this
-    if status == 1 and "\nlogic=not-proved" in said:
-        return REFUSED, ""
-    return "NOT READ", next((line for line in said.split("\n") if ": error" in line), f"exit status {status}")
+    return outcome, why
 
 
 def work(copy, edits, outcomes, logs):
