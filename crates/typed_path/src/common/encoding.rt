@@ -150,8 +150,8 @@ pub trait Encoding: Sized {
     /// Puts the components that are left of a reading, of whichever encoding, behind a text as they
     /// are written in this one: pushed one by one onto the empty path, the root and every prefix but a
     /// drive as this encoding's root. Where memory is refused, the text is as it was. Where there is
-    /// room for each component and a byte more behind the text, it succeeds on Unix, where nothing
-    /// else is kept aside.
+    /// room behind the text for the components as they are written, with a byte more for each, it
+    /// succeeds on Unix, where nothing else is kept aside.
     fn put_crossed(text: &mut Vec<u8>, components: Cursor<'_>) -> Result<(), AllocError>
         ensures ok { OnOk result (text.new.items
             ≡ text.old.items ++ crossed_all dialect (parts (items_left components.entry))) }

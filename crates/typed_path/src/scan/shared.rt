@@ -12,7 +12,7 @@ use crate::scan::separators::Separators;
 /// How many bytes are compared at once.
 const BLOCK: usize = 32;
 
-/// How many bytes two texts begin with alike. Only that both have so many is relied on.
+/// How many bytes two texts begin with alike. Only that the first has so many is relied on.
 fn shared_len(text: &[u8], other: &[u8]) -> usize
     ensures { result ≤ length text.now }
 {
