@@ -4,14 +4,13 @@ mod component;
 mod components;
 mod crossed;
 mod encoding;
-mod merged;
-mod names;
 mod normal;
 mod order;
 mod prefix;
 mod push;
 mod readings;
 mod spelled;
+mod verbatim;
 
 use crate::common::{Path, PathBuf};
 pub use crate::scan::WindowsPrefix;

@@ -5,9 +5,7 @@ pub mod PlainNames
 pub mod SpellLemmas
 pub mod SpelledTexts
 pub mod SpelledRows
-pub mod NamesBehind
 pub mod ReadyPrefixes
-pub mod ReadyLemmas
 pub mod SpellingLemmas
 pub mod MergeLemmas
 pub mod FaultLemmas
@@ -20,7 +18,7 @@ pub mod NameSpans
 pub mod RunLemmas
 pub mod PushLemmas
 pub mod CrossedLemmas
-pub mod MergedNames
-pub mod ReadyNames
-pub mod ReadyParents
 pub mod PutCrossed
+pub mod Standing
+pub mod MergedStanding
+pub mod ReadStanding

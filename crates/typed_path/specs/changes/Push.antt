@@ -1,9 +1,9 @@
 -- A path with another pushed onto it.
-use Rattle.std.specs.Prelude.{◌≡◌, ◌≤◌, ℕ, ◌-◌, List, [], ◌∷◌, ◌++◌, Bool, true, false, ◌||◌, ◌==◌, length, take, slice_index, if◌then◌else◌, Option, Some, None}
+use Rattle.std.specs.Prelude.{◌≡◌, ◌≤◌, ◌<◌, ℕ, ◌+◌, ◌-◌, List, [], ◌∷◌, ◌++◌, Bool, true, false, not, ◌&&◌, ◌||◌, ◌==◌, length, take, slice_index, if◌then◌else◌, Option, Some, None}
 use Rattle.std.specs.List.{fold}
 use Rattle.typed_path.specs.components.Dialect.{Dialect, unix, windows, slash, backslash}
 use Rattle.typed_path.specs.components.Part.{disk, Kind, prefix, root, current, parent, Part, kinds, is_name}
-use Rattle.typed_path.specs.components.Prefix.{Found, prefix_of}
+use Rattle.typed_path.specs.components.Prefix.{Found, is_empty, prefix_of}
 use Rattle.typed_path.specs.components.Comps.{parts_of}
 use Rattle.typed_path.specs.queries.Queries.{begins_with_root, begins_with_prefix, has_prefix, has_any_verbatim_prefix}
 
@@ -91,9 +91,18 @@ abbrev pub spells_anew : Dialect → List ℕ → Bool
 spells_anew unix base = false
 spells_anew windows base = has_any_verbatim_prefix (kinds (parts_of windows base))
 
--- a push onto a base that is not spelled anew finds its result within the room
+-- whether a push merges components into the base
+abbrev pub merges : Dialect → List ℕ → List ℕ → Bool
+merges unix base path = false
+merges windows base path = not (is_empty path || has_prefix (kinds (parts_of windows path))) && spells_anew windows base
+
+-- there is room for what a push makes; a base that it merges components into is spelled as it stands, and has room for the path and a separator
+abbrev pub FitsBy : Dialect → ℕ → List ℕ → List ℕ → Bool → Type 0
+FitsBy d room base path true = (spelled (parts_of d base) ≡ base) × (length base + length path < room)
+FitsBy d room base path false = length (push d base path) ≤ room
+
 abbrev pub FitsPush : Dialect → ℕ → List ℕ → List ℕ → Type 0
-FitsPush d room base path = (spells_anew d base ≡ false) × (length (push d base path) ≤ room)
+FitsPush d room base path = FitsBy d room base path (merges d base path)
 
 -- paths pushed one by one
 abbrev pub push_all : Dialect → List ℕ → List (List ℕ) → List ℕ

@@ -1,16 +1,14 @@
--- The texts of Windows that a push spells anew as they stand, and the names that it puts behind them as they stand.
-use Rattle.std.specs.Prelude.{◌≡◌, ℕ, List, [], ◌∷◌, ◌++◌, if◌then◌else◌, Bool, true, false, not, ◌&&◌, ◌||◌, is_some}
-use Rattle.std.specs.List.{list_any, list_all, slice_split}
+-- The texts of Windows that a push spells anew as they stand, and how such a text is written.
+use Rattle.std.specs.Prelude.{◌≡◌, ℕ, ◌+◌, List, [], ◌∷◌, ◌++◌, length, sum_by, if◌then◌else◌, Bool, true, false, not, ◌&&◌, ◌||◌, is_some, Option, Some, None, ⊤}
+use Rattle.std.specs.List.{list_any, list_all, slice_split, All, AllByRecursion}
 use Rattle.typed_path.specs.declared.scan.separators.Separators.{Separators}
 use Rattle.typed_path.specs.declared.scan.separators.Separators.TheVariants.{Slash, Backslash, Either}
-use Rattle.typed_path.specs.declared.windows.spelled.Spelling.{Spelling}
-use Rattle.typed_path.specs.declared.windows.spelled.Spelling.TheVariants.{Ready, Rooted, Other}
-use Rattle.typed_path.specs.components.Dialect.{windows, backslash, is_separator, is_verbatim}
-use Rattle.typed_path.specs.components.Part.{Kind, Part, kinds}
-use Rattle.typed_path.specs.components.Prefix.{is_empty, drive}
+use Rattle.typed_path.specs.components.Dialect.{Dialect, unix, windows, backslash, is_separator, is_verbatim}
+use Rattle.typed_path.specs.components.Part.{Kind, prefix, root, current, parent, normal, Part, kinds, is_name, root_part}
+use Rattle.typed_path.specs.components.Prefix.{is_empty, drive, prefix_of}
 use Rattle.typed_path.specs.components.Comps.{is_dot, is_dot_dot, parts_of}
-use Rattle.typed_path.specs.queries.Queries.{begins_with_root}
-use Rattle.typed_path.specs.changes.Push.{spelled, spells_anew}
+use Rattle.typed_path.specs.queries.Queries.{begins_with_root, has_prefix}
+use Rattle.typed_path.specs.changes.Push.{spelled, spells_anew, raw_length}
 
 -- a name that a push puts behind a text as it stands
 abbrev pub is_plain : List ℕ → Bool
@@ -24,33 +22,20 @@ is_component s piece = not (is_empty piece || (is_dot piece && not (is_verbatim 
 abbrev pub is_row : Separators → List ℕ → Bool
 is_row s text = (is_verbatim s || not (list_any (is_separator Slash) text)) && list_all (is_component s) (slice_split (is_separator Backslash) text)
 
-abbrev pub ends_with_root : List Kind → Bool
-ends_with_root [] = false
-ends_with_root (k ∷ []) = begins_with_root (k ∷ [])
-ends_with_root (k ∷ l ∷ ks) = ends_with_root (l ∷ ks)
-
 -- a push spells the text anew, and as it stands
 abbrev pub IsSpelled : List ℕ → Type 0
 IsSpelled t = (spells_anew windows t ≡ true) × (spelled (parts_of windows t) ≡ t)
 
--- behind such a text stands `\`, and then a name
-abbrev pub IsReady : List ℕ → Type 0
-IsReady t = IsSpelled t × (ends_with_root (kinds (parts_of windows t)) ≡ false)
+-- what is known of a path onto which others are pushed: nothing, or how many bytes the prefix takes of one that is spelled as it stands
+abbrev pub IsKnown : Dialect → Option ℕ → List ℕ → Type 0
+IsKnown d None t = ⊤
+IsKnown unix (Some head) t = ⊤
+IsKnown windows (Some head) t = IsSpelled t × (head ≡ raw_length (prefix_of windows t))
 
--- or a name at once
-abbrev pub IsRooted : List ℕ → Type 0
-IsRooted t = IsSpelled t × (ends_with_root (kinds (parts_of windows t)) ≡ true)
-
--- what a spelling tells
-abbrev pub IsSpelling : Spelling → List ℕ → Type 0
-IsSpelling Ready t = IsReady t
-IsSpelling Rooted t = IsRooted t
-IsSpelling Other t = IsSpelled t → ⊥
-
--- names stand behind such a text with `\` before each
-abbrev pub is_ready : Spelling → Bool
-is_ready Ready = true
-is_ready s = false
+-- how many bytes the prefix takes of a text that is spelled as it stands; none where it is not
+abbrev pub IsSpelledHead : Option ℕ → List ℕ → Type 0
+IsSpelledHead None t = IsSpelled t → ⊥
+IsSpelledHead (Some head) t = IsKnown windows (Some head) t
 
 -- components with `\` between them, and before the first one where it is parted from what stands before it
 abbrev pub names_behind : Bool → List Part → List ℕ
@@ -61,6 +46,41 @@ names_behind parted (p ∷ ps) = (if parted then backslash ∷ [] else []) ++ p.
 abbrev pub is_name_piece : List ℕ → Bool
 is_name_piece piece = not (is_empty piece || is_dot piece || is_dot_dot piece)
 
--- names with `\` between them, and nothing else
-abbrev pub are_names : List ℕ → Bool
-are_names text = not (list_any (is_separator Slash) text) && list_all is_name_piece (slice_split (is_separator Backslash) text)
+-- a component as it stands between two `\`: it is a name unless it is `.` or `..`
+pub record IsStanding (p : Part) : Type 0 where
+  pub unprefixed : has_prefix (p.kind ∷ []) ≡ false
+  pub relative : begins_with_root (p.kind ∷ []) ≡ false
+  pub filled : is_empty p.text ≡ false
+  pub unseparated : All (λ b. is_separator Backslash b ≡ false) p.text
+  pub named : is_name p.kind ≡ is_name_piece p.text
+
+-- what stands behind a prefix that is written anew, and its text: each component is parted from the one before it by `\`, the first one from the prefix or behind a root
+pub record Stands (parted : Bool) (ps : List Part) (text : List ℕ) : Type 0 where
+  pub names : List Part
+  pub standing : AllByRecursion IsStanding names
+  pub list : ps ≡ (if parted then [] else root_part (backslash ∷ []) ∷ []) ++ names
+  pub written : text ≡ (if parted then [] else backslash ∷ []) ++ names_behind parted names
+
+-- components as they are read behind a prefix: only the first may be a root
+abbrev pub IsReadFirst : Part → Kind → Type 0
+IsReadFirst p root = p.text ≡ backslash ∷ []
+IsReadFirst p k = IsStanding p
+
+abbrev pub AreReadBehind : List Part → Type 0
+AreReadBehind [] = ⊤
+AreReadBehind (p ∷ ps) = IsReadFirst p p.kind × AllByRecursion IsStanding ps
+
+-- a component of a path that is merged into such a list
+abbrev pub IsMergeable : Part → Kind → Type 0
+IsMergeable p (prefix q) = ⊥
+IsMergeable p root = p.text ≡ backslash ∷ []
+IsMergeable p current = ⊤
+IsMergeable p parent = ⊤
+IsMergeable p (normal name) = IsStanding p
+
+abbrev pub AreMergeable : List Part → Type 0
+AreMergeable ps = AllByRecursion (λ p. IsMergeable p p.kind) ps
+
+-- the room that components take at most: each but a root with a separator
+abbrev pub room_of : List Part → ℕ
+room_of ps = sum_by (λ p. length p.text + (if begins_with_root (p.kind ∷ []) then 0 else 1)) ps

@@ -8,8 +8,7 @@ ghost use Rattle.typed_path.specs.conversions.Convert.{crossed_all};
 ghost use Rattle.typed_path.specs.views.CursorViews.{items_left};
 
 use crate::scan::Cursor;
-use crate::windows::names::push_piece;
-use crate::windows::spelled::Spelling;
+use crate::windows::push::push_next;
 use std::alloc::AllocError;
 
 /// Puts the components that are left of a reading behind a text, pushed one by one onto the empty
@@ -39,9 +38,9 @@ fn push_each(text: &mut Vec<u8>, start: usize, components: Cursor<'_>) -> Result
     ensures capacity { vec_capacity text.old ≤ vec_capacity text.new }
 {
     let mut rest = components;
-    let mut spelling = Spelling::Other;
+    let mut known = None;
     'pieces: while let Some(piece) = rest.front() {
-        spelling = push_piece(text, start, piece.crossed(b"\\"), spelling)?;
+        known = push_next(text, start, piece.crossed(b"\\"), known)?;
     }
     Ok(())
 }

@@ -76,7 +76,7 @@ impl Encoding for WindowsEncoding {
 
     fn push_over(path: &mut Vec<u8>, kept: usize, other: &[u8]) -> Result<(), AllocError> {
         let kept = kept.min(path.len());
-        push_at(path, 0, kept, other)
+        push_at(path, 0, kept, other, None)
     }
 
     fn put_normal(text: &mut Vec<u8>, path: &[u8]) -> Result<(), AllocError> {

@@ -6,7 +6,6 @@ ghost use Rattle.typed_path.specs.declared.scan.separators.Separators.{Separator
 ghost use Rattle.typed_path.specs.components.Dialect.{windows};
 ghost use Rattle.typed_path.specs.components.Prefix.{prefix_of, drive};
 ghost use Rattle.typed_path.specs.changes.Push.{push_windows, push_all};
-ghost use Rattle.typed_path.specs.changes.Spelled.{IsSpelling};
 ghost use Rattle.typed_path.specs.places.Places.{normal_text};
 ghost use Rattle.typed_path.specs.places.Rows.{rows_of, settled, AreRowsOf, ArePlainRows, IsRowHead, IsPartedEither, TakesRows};
 ghost use Rattle.typed_path.specs.views.PieceViews.{found_of};
@@ -16,7 +15,7 @@ use crate::scan::{
     Found, PieceKind, Separators, WindowsPrefix, cut_at_separator, drive, find_prefix, piece_of,
 };
 use crate::windows::encoding::cursor;
-use crate::windows::names::{next_spelling, push_behind, push_names};
+use crate::windows::push::push_next;
 use crate::windows::spelled::is_separated;
 use std::alloc::AllocError;
 
@@ -203,9 +202,9 @@ fn push_resolved(text: &mut Vec<u8>, start: usize, path: &[u8]) -> Result<(), Al
     ensures capacity { vec_capacity text.old ≤ vec_capacity text.new }
 {
     let names = push_heads(text, start, path)?;
-    let mut spelling = next_spelling(&text[start..]);
+    let mut known = None;
     'names: for name in names.as_slice() {
-        spelling = push_names(text, start, name, spelling)?;
+        known = push_next(text, start, name, known)?;
     }
     Ok(())
 }
@@ -228,7 +227,9 @@ fn push_heads<'a>(
     let mut components = cursor(path);
     'pieces: while let Some(piece) = components.front() {
         match piece.kind {
-            PieceKind::Prefix(_) | PieceKind::RootDir => push_behind(text, start, piece.text)?,
+            PieceKind::Prefix(_) | PieceKind::RootDir => {
+                push_next(text, start, piece.text, None)?;
+            }
             PieceKind::CurDir => {}
             PieceKind::ParentDir => {
                 names.pop();

@@ -1,33 +1,15 @@
-//! Texts that a push spells anew as they stand, and the names that it puts behind them so.
+//! Texts that a push spells anew as they stand.
 
-ghost use Rattle.std.specs.Prelude.{◌≡◌, ◌||◌, true, drop, Some};
+ghost use Rattle.std.specs.Prelude.{◌≡◌, ◌||◌, true, drop, Some, IsTrue, IsFalse};
 ghost use Rattle.std.specs.List.{list_any, list_all, slice_split};
 ghost use Rattle.typed_path.specs.declared.scan.separators.Separators.{Separators};
 ghost use Rattle.typed_path.specs.components.Dialect.{windows, is_separator};
 ghost use Rattle.typed_path.specs.components.Prefix.{Found, is_empty, prefix_of};
 ghost use Rattle.typed_path.specs.queries.Queries.{is_verbatim_prefix};
 ghost use Rattle.typed_path.specs.components.Comps.{is_dot, is_dot_dot};
-ghost use Rattle.typed_path.specs.changes.Spelled.{is_plain, is_component, is_row, is_name_piece, are_names, is_ready, IsSpelling};
+ghost use Rattle.typed_path.specs.changes.Spelled.{is_plain, is_component, is_row, IsSpelled, IsSpelledHead};
 
 use crate::scan::{Separators, cut_at_separator, drive, find_prefix};
-
-/// How a push of a name spells a text of Windows anew.
-#[derive(Clone, Copy, Debug)]
-pub enum Spelling {
-    /// As it stands, and behind it `\` and the name.
-    Ready,
-    /// As it stands, and behind its root the name.
-    Rooted,
-    /// In another way, or not at all.
-    Other,
-}
-
-/// Whether names stand behind a text that is spelled so with `\` before each.
-pub fn is_ready(spelling: Spelling) -> bool
-    ensures { result ≡ is_ready spelling }
-{
-    matches!(spelling, Spelling::Ready)
-}
 
 /// Whether a push puts the name as it stands behind a text that it spells as that stands.
 pub fn is_plain(name: &[u8]) -> bool
@@ -52,59 +34,29 @@ pub fn is_dots(name: &[u8]) -> bool
     matches!(name, [] | [b'.'] | [b'.', b'.'])
 }
 
-/// Whether a text that has no prefix is names with `\` between them, and nothing else.
-pub fn are_names(text: &[u8]) -> bool
-    ensures { result ≡ are_names text.now }
+/// How many bytes the prefix takes of a text that a push spells anew as it stands, in one pass over
+/// what stands behind the prefix; none of another text.
+pub fn spelled_head(text: &[u8]) -> Option<usize>
+    ensures { IsSpelledHead result text.now }
 {
-    !is_separated(Separators::Slash, text) && are_pieces_names(text)
-}
-
-/// Whether each piece between two `\` is a name.
-fn are_pieces_names(text: &[u8]) -> bool
-    ensures { result ≡ list_all is_name_piece (slice_split (is_separator Separators.Backslash) text.now) }
-{
-    let mut rest = text;
-    'pieces: while let Some((piece, behind)) = cut_at_separator(Separators::Backslash, rest) {
-        if is_dots(piece) {
-            return false;
-        }
-        rest = behind;
+    let found = find_prefix(text)?;
+    if found.kind.is_verbatim() && is_spelled_behind(text, &text[found.length..]) {
+        return Some(found.length);
     }
-    !is_dots(rest)
+    None
 }
 
-/// How a push of a name spells a text of Windows anew, in one pass over what stands behind the
-/// prefix.
-pub fn spelling_of(text: &[u8]) -> Spelling
-    ensures { IsSpelling result text.now }
-{
-    let Some(found) = find_prefix(text) else {
-        return Spelling::Other;
-    };
-    if !found.kind.is_verbatim() {
-        return Spelling::Other;
-    }
-    spelling_behind(text, &text[found.length..])
-}
-
-/// The same by what stands behind a verbatim prefix.
-fn spelling_behind(text: &[u8], behind: &[u8]) -> Spelling
+/// Whether a text with a verbatim prefix is spelled as it stands, by what stands behind that.
+fn is_spelled_behind(text: &[u8], behind: &[u8]) -> bool
     ensures { (f : Found) → prefix_of windows text.now ≡ Some f → is_verbatim_prefix f.prefix ≡ true
-        → drop f.length text.now ≡ behind.now → IsSpelling result text.now }
+        → drop f.length text.now ≡ behind.now
+        → (IsTrue result → IsSpelled text.now) × (IsFalse result → IsSpelled text.now → ⊥) }
 {
-    let Some((first, names)) = behind.split_first() else {
-        return Spelling::Ready;
-    };
-    if *first != b'\\' {
-        return Spelling::Other;
+    match behind {
+        [] | [b'\\'] => true,
+        [b'\\', names @ ..] => is_row(Separators::of_windows(text), names),
+        _ => false,
     }
-    if names.is_empty() {
-        return Spelling::Rooted;
-    }
-    if is_row(Separators::of_windows(text), names) {
-        return Spelling::Ready;
-    }
-    Spelling::Other
 }
 
 /// Whether a text holds components with `\` between them, as they are read where others stand

@@ -1,7 +1,8 @@
 -- Lists, cut at the last element that passes.
-use Rattle.std.proofs.Common.{◌≡◌, ℕ, ◌+◌, ◌-◌, ◌<◌, ◌≤◌, Bool, true, not, List, [], ◌∷◌, ◌++◌, length, take, drop, get_or, reverse, sym, ap, ◌∙◌, arith}
+use Rattle.std.proofs.Common.{◌≡◌, ℕ, suc, ◌+◌, ◌-◌, ◌<◌, ◌≤◌, Bool, true, not, inl, inr, List, [], ◌∷◌, ◌++◌, length, length-append, take, drop, get_or, reverse, sym, ap, ◌∙◌, arith}
 use Rattle.std.specs.List.{IsAfterLastMatch, after_last, suffix_len}
-use Rattle.std.proofs.lemmas.Bool.{not-true, not-false, not_from_true, not_from_false}
+use Rattle.std.proofs.lemmas.Bool.{both_ways, cases_lt, not-true, not-false, not_from_true, not_from_false}
+use Rattle.std.proofs.Math.Seq.{get_or-append-add}
 use Rattle.std.proofs.lemmas.List.{length-reverse, length-drop, length-take-le, get_or-reverse, get_or-drop, drop_more, take_more, take-append-drop}
 use Rattle.std.proofs.lemmas.List.Sums.{prefix_len_passes, prefix_len_stops, suffix_len_is, suffix_len-le-length}
 use Rattle.typed_path.proofs.lemmas.lists.SplitLemmas.{IsUnseparated}
@@ -67,3 +68,31 @@ module _ {X : Type 0} (p : X → Bool) where
         passes = h.last.1 some d;
         counted = omega (arith, length-take-le (start - 1) xs (omega arith));
       }
+
+-- the place behind the last element that passes, where none does, and where one is followed by none
+module _ (p : ℕ → Bool) where
+  pub place-none : (xs : List ℕ) (start : ℕ) → IsLastPlace p xs start → IsUnseparated p xs → start ≡ 0
+  place-none xs start h none = elim (cases_lt 0 start) [
+    | inl some ↦ let within = h.within in absurd (both_ways _ (none (start - 1) 0 (omega arith)) (h.last.1 some 0))
+    | inr least ↦ omega arith
+  ]
+
+  pub place-behind : (front : List ℕ) (mark : ℕ) (tail : List ℕ) (start : ℕ) → p mark ≡ true → IsUnseparated p tail → IsLastPlace p (front ++ mark ∷ tail) start → start ≡ length front + 1
+  place-behind front mark tail start passes none h = elim (cases_lt (length front) start) [
+    | inr least ↦ absurd (both_ways _ (h.last.0 (length front) 0 least (omega (arith, size))) (ap p at_mark ∙ passes))
+    | inl more ↦ elim (cases_lt (length front + 1) start) [
+      | inr least ↦ omega arith
+      | inl beyond ↦
+          let within = h.within in
+          let m = start - 1 - (length front + 1) in
+          let at : start - 1 ≡ length front + suc m = omega arith in
+          let same : get_or (front ++ mark ∷ tail) (start - 1) 0 ≡ get_or tail m 0 = ap (λ k. get_or (front ++ mark ∷ tail) k 0) at ∙ get_or-append-add front (mark ∷ tail) (suc m) 0 in
+          absurd (both_ways _ (none m 0 (omega (arith, size))) (sym (ap p same) ∙ h.last.1 (omega arith) 0))
+    ]
+  ]
+    where
+      size : length (front ++ mark ∷ tail) ≡ length front + length (mark ∷ tail)
+      size = length-append front (mark ∷ tail)
+
+      at_mark : get_or (front ++ mark ∷ tail) (length front) 0 ≡ mark
+      at_mark = ap (λ k. get_or (front ++ mark ∷ tail) k 0) (omega arith) ∙ get_or-append-add front (mark ∷ tail) 0 0

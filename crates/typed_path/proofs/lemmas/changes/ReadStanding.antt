@@ -1,0 +1,196 @@
+-- Components as they are read, which stand behind a prefix or are merged there, and the room that they take.
+use Rattle.std.proofs.Common.{◌≡◌, ℕ, suc, ◌+◌, ◌≤◌, ◌<◌, ne_eqb, ◌==◌, Bool, true, false, not, ◌||◌, if◌then◌else◌, List, [], ◌∷◌, ◌++◌, length, drop, Some, None, sum_by, refl, sym, ap, subst, ◌∙◌, append_assoc, append-nil, arith}
+use Rattle.std.specs.Prelude.{Option}
+use Rattle.std.specs.List.{AllByRecursion, slice_split}
+use Rattle.std.proofs.lemmas.Bool.{cond_both, both_ways}
+use Rattle.std.proofs.lemmas.List.Elements.{All-nil, All-cons}
+use Rattle.std.proofs.lemmas.List.Sums.{sum_by-cons, sum_by-append}
+use Rattle.typed_path.specs.declared.scan.separators.Separators.{Separators}
+use Rattle.typed_path.specs.declared.scan.separators.Separators.TheVariants.{Backslash, Either}
+use Rattle.typed_path.specs.components.Dialect.{windows, backslash, dot, is_separator, root_text}
+use Rattle.typed_path.specs.components.Part.{Kind, prefix, root, current, parent, normal, Part, kinds, root_part, current_part, parent_part, name_part}
+use Rattle.typed_path.specs.components.Prefix.{Found, prefix_of, is_empty}
+use Rattle.typed_path.specs.components.Comps.{is_dot, is_dot_dot, parts_of}
+use Rattle.typed_path.specs.queries.Queries.{has_prefix, begins_with_root}
+use Rattle.typed_path.specs.changes.Push.{spelled}
+use Rattle.typed_path.specs.changes.Spelled.{is_name_piece, IsStanding, IsReadFirst, AreReadBehind, IsMergeable, AreMergeable, Stands, names_behind, room_of}
+use Rattle.typed_path.proofs.lemmas.lists.SplitLemmas.{AllByRecursion-weaker}
+use Rattle.typed_path.proofs.lemmas.lists.WidthLemmas.{width, width-slice_split}
+use Rattle.typed_path.proofs.lemmas.components.SeparatorLemmas.{OfWindows, root_text-windows}
+use Rattle.typed_path.proofs.lemmas.components.PartLemmas.{pieces, first_part, later_part, first_parts, later_parts, body_parts, body_parts-read, AreRead, IsWritten, IsLater, IsLaterPart, IsWritten-later, named_part}
+use Rattle.typed_path.proofs.lemmas.changes.FaultlessLemmas.{parts_of-none, parts_of-some}
+use Rattle.typed_path.proofs.lemmas.changes.SpellLemmas.{IsPiece, later-piece, later-relative}
+use Rattle.typed_path.proofs.lemmas.changes.SpelledRows.{backslash-free}
+use Rattle.typed_path.proofs.lemmas.changes.SpelledTexts.{Behind, nothing, rooted}
+use Rattle.typed_path.proofs.lemmas.changes.MergedStanding.{spelled-standing}
+
+module _ (s : Separators) (w : OfWindows s) where
+  -- a later component stands
+  pub later-standing : (k : Kind) (text : List ℕ) → IsLater s k text → IsStanding (record { kind = k; text = text })
+  later-standing k text later = by k text later (later-piece s k text later)
+    where
+      by : (k : Kind) (text : List ℕ) → IsLater s k text → IsPiece s k text → IsStanding (record { kind = k; text = text })
+      by (prefix p) text later piece = absurd later
+      by root text later piece = absurd later
+      by (normal name) text later piece =
+          record {
+            unprefixed = refl;
+            relative = refl;
+            filled = piece.filled;
+            unseparated = backslash-free s w text piece.unseparated;
+            named = rw (later.0, later.1.filled, later.1.no_dot, later.1.no_dot_dot) refl;
+          }
+      by current text later piece = record { unprefixed = refl; relative = refl; filled = piece.filled; unseparated = backslash-free s w text piece.unseparated; named = rw later.1 refl }
+      by parent text later piece = record { unprefixed = refl; relative = refl; filled = piece.filled; unseparated = backslash-free s w text piece.unseparated; named = rw later refl }
+
+  pub each-standing : (ps : List Part) → AllByRecursion (IsLaterPart s) ps → AllByRecursion IsStanding ps
+  each-standing ps later = AllByRecursion-weaker (IsLaterPart s) IsStanding (λ p. later-standing p.kind p.text) ps later
+
+  -- so does a first one that is no root
+  first-read : (k : Kind) (text : List ℕ) → IsWritten s k text → IsReadFirst (record { kind = k; text = text }) k
+  first-read (prefix p) text written = absurd written
+  first-read root text written = written ∙ root_text-windows s w
+  first-read current text written = rw written (record { unprefixed = refl; relative = refl; filled = refl; unseparated = All-cons (λ b. is_separator Backslash b ≡ false) dot [] refl (All-nil _); named = refl })
+  first-read parent text written = later-standing parent text written
+  first-read (normal name) text written = later-standing (normal name) text written
+
+  -- what is read behind a prefix
+  pub read-behind : (ps : List Part) → AreRead s ps → AreReadBehind ps
+  read-behind [] read = tt
+  read-behind (p ∷ ps) read = (first-read p.kind p.text read.0, each-standing ps read.1)
+
+  -- what stands behind the prefix of a text that is spelled as it is read
+  pub behind-stands : (ps qs : List Part) (text : List ℕ) → Behind s ps qs text → Stands (is_empty text) ps text
+  behind-stands _ _ _ nothing = record { names = []; standing = tt; list = refl; written = refl }
+  behind-stands _ _ _ (rooted ps later) = subst (λ b. Stands b (root_part (backslash ∷ []) ∷ ps) (backslash ∷ spelled ps)) (sym (ne_eqb (suc (length (spelled ps))) 0 (λ e. cc))) (record { names = ps; standing = each-standing ps later; list = refl; written = ap (λ t. backslash ∷ t) (by ps (each-standing ps later)) })
+    where
+      by : (ps : List Part) → AllByRecursion IsStanding ps → spelled ps ≡ names_behind false ps
+      by [] all = refl
+      by (p ∷ ps) all = spelled-standing p ps all
+
+-- components that are merged
+written-mergeable : (k : Kind) (text : List ℕ) → IsWritten Either k text → IsMergeable (record { kind = k; text = text }) k
+written-mergeable (prefix p) text written = written
+written-mergeable root text written = written
+written-mergeable current text written = tt
+written-mergeable parent text written = tt
+written-mergeable (normal name) text written = later-standing Either refl (normal name) text written
+
+later-mergeable : (k : Kind) (text : List ℕ) → IsLater Either k text → IsMergeable (record { kind = k; text = text }) k
+later-mergeable k text later = written-mergeable k text (IsWritten-later Either k text later)
+
+read-mergeable : (ps : List Part) → AreRead Either ps → AreMergeable ps
+read-mergeable [] read = tt
+read-mergeable (p ∷ ps) read =
+    (written-mergeable p.kind p.text read.0, AllByRecursion-weaker (IsLaterPart Either) (λ p. IsMergeable p p.kind) (λ q. later-mergeable q.kind q.text) ps read.1)
+
+-- a list without a prefix is that of a text without one
+pub no-prefix : (t : List ℕ) → has_prefix (kinds (parts_of windows t)) ≡ false → prefix_of windows t ≡ None
+no-prefix t h = by (prefix_of windows t) refl
+  where
+    by : (o : Option Found) → prefix_of windows t ≡ o → o ≡ None
+    by None e = refl
+    by (Some f) e = absurd (both_ways _ h (ap (λ ps. has_prefix (kinds ps)) (parts_of-some t f e)))
+
+-- those of a text without a prefix are
+pub text-mergeable : (t : List ℕ) → has_prefix (kinds (parts_of windows t)) ≡ false → AreMergeable (parts_of windows t)
+text-mergeable t h = subst AreMergeable (sym (parts_of-none t (no-prefix t h))) (read-mergeable (body_parts Either t) (body_parts-read Either t))
+
+-- the room that the component of a piece takes
+abbrev size : Part → ℕ
+size p = length p.text + (if begins_with_root (p.kind ∷ []) then 0 else 1)
+
+some-bytes : (piece : List ℕ) → (length piece == 0) ≡ false → 0 < length piece
+some-bytes [] e = cc
+some-bytes (b ∷ bs) e = omega arith
+
+two-bytes : (piece : List ℕ) → is_dot_dot piece ≡ true → length piece ≡ 2
+two-bytes (a ∷ b ∷ []) e = refl
+two-bytes piece e = cc
+
+named-size : (piece : List ℕ) → size (named_part piece) ≤ length piece + 1
+named-size piece = cond_both (is_dot_dot piece) parent_part (name_part piece) (λ p. size p ≤ length piece + 1) (λ e. omega (arith, two-bytes piece e)) (λ e. omega arith)
+
+first-size : (piece : List ℕ) → size (first_part Either piece) ≤ length piece + 1
+first-size piece =
+    cond_both (length piece == 0) (root_part (root_text Either)) _ (λ p. size p ≤ length piece + 1) (λ e. omega arith)
+    (λ filled. cond_both (is_dot piece) current_part (named_part piece) (λ p. size p ≤ length piece + 1) (λ e. omega (arith, some-bytes piece filled)) (λ e. named-size piece))
+
+later-size : (piece : List ℕ) → room_of (later_part Either piece) ≤ length piece + 1
+later-size piece =
+    cond_both (length piece == 0) [] _ (λ ps. room_of ps ≤ length piece + 1) (λ e. omega arith)
+    (λ filled. cond_both (is_dot piece) [] (named_part piece ∷ []) (λ ps. room_of ps ≤ length piece + 1) (λ e. omega arith) (λ e. omega (arith, named-size piece)))
+
+later-sizes : (ns : List (List ℕ)) → room_of (later_parts Either ns) ≤ width ns
+later-sizes [] = omega arith
+later-sizes (n ∷ ns) = omega (arith, later-size n, later-sizes ns, sum_by-append size (later_part Either n) (later_parts Either ns))
+
+first-sizes : (ns : List (List ℕ)) → room_of (first_parts Either ns) ≤ width ns
+first-sizes [] = omega arith
+first-sizes (n ∷ ns) = omega (arith, first-size n, later-sizes ns, sum_by-cons size (first_part Either n) (later_parts Either ns))
+
+-- the components of a text without a prefix take a byte more than the text at the most
+pub room-text : (t : List ℕ) → has_prefix (kinds (parts_of windows t)) ≡ false → room_of (parts_of windows t) ≤ length t + 1
+room-text t h = subst (λ ps. room_of ps ≤ length t + 1) (sym (parts_of-none t (no-prefix t h))) (by t)
+  where
+    by : (t : List ℕ) → room_of (body_parts Either t) ≤ length t + 1
+    by [] = omega arith
+    by (b ∷ bs) = omega (arith, first-sizes (pieces Either (b ∷ bs)), width-slice_split (is_separator Either) (b ∷ bs))
+
+-- what is read behind a prefix: a root and what stands behind it, or what stands there at once
+pub read-rooted : (ps : List Part) → AreReadBehind ps → begins_with_root (kinds ps) ≡ true → (qs : List Part) × (ps ≡ root_part (backslash ∷ []) ∷ qs) × AllByRecursion IsStanding qs
+read-rooted [] read e = cc
+read-rooted (p ∷ ps) read e = by p.kind p.text e read.0
+  where
+    by : (k : Kind) (text : List ℕ) → begins_with_root (k ∷ kinds ps) ≡ true → IsReadFirst (record { kind = k; text = text }) k
+        → (qs : List Part) × (record { kind = k; text = text } ∷ ps ≡ root_part (backslash ∷ []) ∷ qs) × AllByRecursion IsStanding qs
+    by root text e first = (ps, ap (λ t. root_part t ∷ ps) first, read.1)
+    by k text e first = cc
+
+pub read-relative : (ps : List Part) → AreReadBehind ps → begins_with_root (kinds ps) ≡ false → AllByRecursion IsStanding ps
+read-relative [] read e = tt
+read-relative (p ∷ ps) read e = (by p.kind p.text e read.0, read.1)
+  where
+    by : (k : Kind) (text : List ℕ) → begins_with_root (k ∷ kinds ps) ≡ false → IsReadFirst (record { kind = k; text = text }) k → IsStanding (record { kind = k; text = text })
+    by root text e first = cc
+    by (prefix p) text e first = first
+    by current text e first = first
+    by parent text e first = first
+    by (normal name) text e first = first
+
+-- some of them are put
+pub record ArePut (parted : Bool) (text : List ℕ) (all rest : List Part) : Type 0 where
+  pub done : List Part
+  pub stands : Stands parted done text
+  pub list : all ≡ done ++ rest
+  pub standing : AllByRecursion IsStanding rest
+
+pub put-relative : (text : List ℕ) (ps : List Part) → text ≡ [] → AreReadBehind ps → begins_with_root (kinds ps) ≡ false → ArePut true text ps ps
+put-relative text ps e read relative =
+    record { done = []; stands = record { names = []; standing = tt; list = refl; written = e }; list = refl; standing = read-relative ps read relative }
+
+pub put-rooted : (text : List ℕ) (ps rest : List Part) → text ≡ backslash ∷ [] → AreReadBehind ps → begins_with_root (kinds ps) ≡ true → rest ≡ drop 1 ps → ArePut false text ps rest
+put-rooted text ps rest e read is same =
+    let h = read-rooted ps read is in
+    let left : h.0 ≡ rest = sym (same ∙ ap (drop 1) h.1) in
+    record {
+      done = root_part (backslash ∷ []) ∷ [];
+      stands = record { names = []; standing = tt; list = refl; written = e };
+      list = h.1 ∙ ap (λ qs. root_part (backslash ∷ []) ∷ qs) left;
+      standing = subst (AllByRecursion IsStanding) left h.2;
+    }
+
+module _ {parted : Bool} {text : List ℕ} {all : List Part} where
+  pub put-next : (p : Part) (some rest : List Part) (new : List ℕ) → ArePut parted text all some → some ≡ p ∷ rest
+      → ((ps : List Part) → Stands parted ps text → IsStanding p → Stands parted (ps ++ p ∷ []) new) → ArePut parted new all rest
+  put-next p some rest new h step one =
+      let standing = subst (AllByRecursion IsStanding) step h.standing in
+      record {
+        done = h.done ++ p ∷ [];
+        stands = one h.done h.stands standing.0;
+        list = h.list ∙ ap (λ qs. h.done ++ qs) step ∙ sym (append_assoc h.done (p ∷ []) rest);
+        standing = standing.1;
+      }
+
+  pub put-end : (rest : List Part) → ArePut parted text all rest → rest ≡ [] → Stands parted all text
+  put-end rest h none = subst (λ qs. Stands parted qs text) (sym (h.list ∙ ap (λ qs. h.done ++ qs) none ∙ append-nil h.done)) h.stands
