@@ -5,7 +5,8 @@ pub mod PlainNames
 pub mod SpellLemmas
 pub mod SpelledTexts
 pub mod SpelledRows
-pub mod ReadyPrefixes
+pub mod KeptPrefixes
+pub mod SpelledAgain
 pub mod SpellingLemmas
 pub mod MergeLemmas
 pub mod FaultLemmas

@@ -26,6 +26,11 @@ is_row s text = (is_verbatim s || not (list_any (is_separator Slash) text)) && l
 abbrev pub IsSpelled : List ℕ → Type 0
 IsSpelled t = (spells_anew windows t ≡ true) × (spelled (parts_of windows t) ≡ t)
 
+-- whether it is, as a truth value
+abbrev pub TellsSpelled : Bool → List ℕ → Type 0
+TellsSpelled true t = IsSpelled t
+TellsSpelled false t = IsSpelled t → ⊥
+
 -- what is known of a path onto which others are pushed: nothing, or how many bytes the prefix takes of one that is spelled as it stands
 abbrev pub IsKnown : Dialect → Option ℕ → List ℕ → Type 0
 IsKnown d None t = ⊤

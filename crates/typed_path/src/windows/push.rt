@@ -1,6 +1,6 @@
 //! A path of Windows pushed onto another.
 
-ghost use Rattle.std.specs.Prelude.{◌≡◌, ◌≤◌, ◌+◌, ◌++◌, ℕ, false, take, drop, slice_range, length, IfOk, IsOk, OnOk, OnErr};
+ghost use Rattle.std.specs.Prelude.{◌≡◌, ◌≤◌, ◌+◌, ◌++◌, ℕ, List, IsTrue, take, drop, slice_range, length, IfOk, IsOk, OnOk, OnErr};
 ghost use Rattle.std.specs.Vec.{vec_capacity};
 ghost use Rattle.typed_path.specs.components.Dialect.{windows};
 ghost use Rattle.typed_path.specs.components.Comps.{parts_of};
@@ -111,10 +111,8 @@ pub fn push_next(
     known: Option<usize>,
 ) -> Result<Option<usize>, AllocError>
     requires { start ≤ length text.old.items }
-    ensures ok { IsKnown windows known (drop start text.old.items) → OnOk result
-        (drop start text.new.items ≡ push_windows (drop start text.old.items) other.now) }
-    ensures kept { take start text.new.items ≡ take start text.old.items }
-    ensures long { start ≤ length text.new.items }
+    ensures ok { IsKnown windows known (drop start text.old.items) → OnOk result (text.new.items
+        ≡ take start text.old.items ++ push_windows (drop start text.old.items) other.now) }
     ensures known { IsKnown windows known (drop start text.old.items)
         → IfOk result (λ next. IsKnown windows next (drop start text.new.items)) }
     ensures err { OnErr result (text.new.items ≡ text.old.items) }
@@ -124,11 +122,27 @@ pub fn push_next(
         → FitsPush windows room (drop start text.old.items) other.now
         → IsOk result }
 {
-    let len = text.len() - start;
-    push_at(text, start, text.len(), other, known)?;
+    let len = text.len();
+    let stays = keeps_prefix(len - start, other, known);
+    push_at(text, start, len, other, known)?;
+    if stays {
+        return Ok(known);
+    }
+    match text.get(start..) {
+        Some(path) => Ok(known_of(path)),
+        None => Ok(None),
+    }
+}
+
+/// Whether a path of so many bytes, of which something may be known, keeps its prefix where another
+/// is pushed onto it, and is spelled as it is read then too.
+fn keeps_prefix(len: usize, other: &[u8], known: Option<usize>) -> bool
+    ensures { IsTrue result → (path : List ℕ) → length path ≡ len → IsKnown windows known path
+        → IsKnown windows known (push_windows path other.now) }
+{
     match known {
-        Some(head) if len > 1 && head < len - 1 && find_prefix(other).is_none() => Ok(known),
-        _ => Ok(known_of(&text[start..])),
+        Some(head) if len > 1 && head < len - 1 => find_prefix(other).is_none(),
+        _ => false,
     }
 }
 

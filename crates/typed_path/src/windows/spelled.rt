@@ -1,13 +1,13 @@
 //! Texts that a push spells anew as they stand.
 
-ghost use Rattle.std.specs.Prelude.{◌≡◌, ◌||◌, true, drop, Some, IsTrue, IsFalse};
+ghost use Rattle.std.specs.Prelude.{◌≡◌, ◌||◌, true, drop, Some};
 ghost use Rattle.std.specs.List.{list_any, list_all, slice_split};
 ghost use Rattle.typed_path.specs.declared.scan.separators.Separators.{Separators};
 ghost use Rattle.typed_path.specs.components.Dialect.{windows, is_separator};
 ghost use Rattle.typed_path.specs.components.Prefix.{Found, is_empty, prefix_of};
 ghost use Rattle.typed_path.specs.queries.Queries.{is_verbatim_prefix};
 ghost use Rattle.typed_path.specs.components.Comps.{is_dot, is_dot_dot};
-ghost use Rattle.typed_path.specs.changes.Spelled.{is_plain, is_component, is_row, IsSpelled, IsSpelledHead};
+ghost use Rattle.typed_path.specs.changes.Spelled.{is_plain, is_component, is_row, TellsSpelled, IsSpelledHead};
 
 use crate::scan::{Separators, cut_at_separator, drive, find_prefix};
 
@@ -40,23 +40,30 @@ pub fn spelled_head(text: &[u8]) -> Option<usize>
     ensures { IsSpelledHead result text.now }
 {
     let found = find_prefix(text)?;
-    if found.kind.is_verbatim() && is_spelled_behind(text, &text[found.length..]) {
-        return Some(found.length);
+    if !found.kind.is_verbatim() {
+        return None;
     }
-    None
+    if !is_spelled_behind(text, &text[found.length..]) {
+        return None;
+    }
+    Some(found.length)
 }
 
 /// Whether a text with a verbatim prefix is spelled as it stands, by what stands behind that.
 fn is_spelled_behind(text: &[u8], behind: &[u8]) -> bool
     ensures { (f : Found) → prefix_of windows text.now ≡ Some f → is_verbatim_prefix f.prefix ≡ true
-        → drop f.length text.now ≡ behind.now
-        → (IsTrue result → IsSpelled text.now) × (IsFalse result → IsSpelled text.now → ⊥) }
+        → drop f.length text.now ≡ behind.now → TellsSpelled result text.now }
 {
-    match behind {
-        [] | [b'\\'] => true,
-        [b'\\', names @ ..] => is_row(Separators::of_windows(text), names),
-        _ => false,
+    let Some((first, names)) = behind.split_first() else {
+        return true;
+    };
+    if *first != b'\\' {
+        return false;
     }
+    if names.is_empty() {
+        return true;
+    }
+    is_row(Separators::of_windows(text), names)
 }
 
 /// Whether a text holds components with `\` between them, as they are read where others stand

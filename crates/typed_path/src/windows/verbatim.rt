@@ -1,14 +1,14 @@
 //! Texts under a verbatim prefix, which a push writes anew: in place where they are spelled as they
 //! are read.
 
-ghost use Rattle.std.specs.Prelude.{◌≡◌, ◌≤◌, ◌<◌, ◌+◌, ◌∷◌, ◌++◌, List, [], Bool, take, drop, slice_range, length, true, false, IfOk, IsOk, OnOk, OnErr};
+ghost use Rattle.std.specs.Prelude.{◌≡◌, ◌≤◌, ◌<◌, ◌+◌, ◌∷◌, ◌++◌, List, [], Bool, take, drop, slice_range, length, true, false, Some, IfSome, IfOk, IsOk, OnOk, OnErr};
 ghost use Rattle.std.specs.Vec.{vec_len, vec_capacity};
 ghost use Rattle.typed_path.specs.components.Dialect.{windows};
 ghost use Rattle.typed_path.specs.components.Comps.{parts_of};
 ghost use Rattle.typed_path.specs.components.Part.{Part, parts, kinds};
 ghost use Rattle.typed_path.specs.queries.Queries.{has_prefix};
 ghost use Rattle.typed_path.specs.changes.Push.{without_last_name, merge_by_kind, merged, spelled, spells_anew};
-ghost use Rattle.typed_path.specs.changes.Spelled.{IsStanding, IsMergeable, AreMergeable, AreReadBehind, Stands, IsKnown, IsSpelled, room_of};
+ghost use Rattle.typed_path.specs.changes.Spelled.{IsStanding, IsMergeable, AreMergeable, AreReadBehind, Stands, IsKnown, IsSpelled, IsSpelledHead, room_of};
 ghost use Rattle.typed_path.specs.views.CursorViews.{items_left};
 ghost use Rattle.typed_path.specs.views.PieceViews.{part_of};
 
@@ -158,7 +158,8 @@ fn spelled_anew(alloc: Global, base: &[u8], other: &[u8]) -> Result<Vec<u8>, All
         ≡ spelled (merged (parts_of windows base.now) (parts_of windows other.now))) }
 {
     let head = prefix_len(base);
-    let mut text = Vec::with_capacity(alloc, base.len() + other.len() + 2)?;
+    let room = base.len().saturating_add(other.len()).saturating_add(2);
+    let mut text = Vec::with_capacity(alloc, room)?;
     text.extend_from_slice(&base[..head])?;
     let mut rest = cursor(base);
     rest.front();
@@ -167,12 +168,52 @@ fn spelled_anew(alloc: Global, base: &[u8], other: &[u8]) -> Result<Vec<u8>, All
     Ok(text)
 }
 
+/// How many bytes the prefix takes of a base that is spelled as it stands, which may be known; none of
+/// another base.
+fn head_of(base: &[u8], known: Option<usize>) -> Option<usize>
+    ensures within { IfSome result (λ head. head ≤ length base.now) }
+    ensures told { IsKnown windows known base.now → IsSpelledHead result base.now }
+{
+    match known {
+        Some(head) if head <= base.len() => Some(head),
+        _ => spelled_head(base),
+    }
+}
+
+/// Merges a path without a prefix into the base that stands in a text from one place up to another,
+/// and is spelled as it stands. All the room is found first. Where memory is refused, the text is as it
+/// was.
+fn merge_in_place(
+    text: &mut Vec<u8>,
+    start: usize,
+    kept: usize,
+    head: usize,
+    other: &[u8],
+) -> Result<(), AllocError>
+    requires inside { start + head ≤ kept }
+    requires within { kept ≤ length text.old.items }
+    requires no_prefix { has_prefix (kinds (parts_of windows other.now)) ≡ false }
+    ensures ok { IsKnown windows (Some head) (slice_range text.old.items start kept)
+        → OnOk result (text.new.items ≡ take start text.old.items
+        ++ spelled (merged (parts_of windows (slice_range text.old.items start kept))
+        (parts_of windows other.now))) }
+    ensures err { OnErr result (text.new.items ≡ text.old.items) }
+    ensures capacity { vec_capacity text.old ≤ vec_capacity text.new }
+    ensures succeeds { kept + length other.now < vec_capacity text.old → IsOk result }
+{
+    let parted = start + head == kept;
+    text.reserve((kept + other.len() + 1).saturating_sub(text.len()))?;
+    text.truncate(kept);
+    merge_each(text, start + head, parted, cursor(other))?;
+    Ok(())
+}
+
 /// Merges a path without a prefix into the base of a verbatim kind that stands in a text from one
 /// place up to another, and cuts off what stands behind that. Where memory is refused, the text is as
 /// it was.
 ///
-/// A base that is spelled as it is read is written in place, in room that is found first: how long its
-/// prefix is may be known. Another one is written anew beside the text.
+/// A base that is spelled as it stands is written in place: how many bytes its prefix takes may be
+/// known. Another one is written anew beside the text.
 pub fn merge_at(
     text: &mut Vec<u8>,
     start: usize,
@@ -195,18 +236,10 @@ pub fn merge_at(
         → kept + length other.now < vec_capacity text.old → IsOk result }
 {
     let base = &text[start..kept];
-    let found = match known {
-        Some(head) if head <= base.len() => known,
-        _ => spelled_head(base),
-    };
-    let Some(head) = found else {
-        let alloc = *text.allocator();
-        let spelled = spelled_anew(alloc, base, other)?;
-        return put_over(text, start, b"", &spelled);
-    };
-    let parted = head == base.len();
-    text.reserve((kept + other.len() + 1).saturating_sub(text.len()))?;
-    text.truncate(kept);
-    merge_each(text, start + head, parted, cursor(other))?;
-    Ok(())
+    if let Some(head) = head_of(base, known) {
+        return merge_in_place(text, start, kept, head, other);
+    }
+    let alloc = *text.allocator();
+    let spelled = spelled_anew(alloc, base, other)?;
+    put_over(text, start, b"", &spelled)
 }

@@ -1,21 +1,19 @@
 -- What a push of Windows asks of its base, and a base that is written anew.
-use Rattle.std.proofs.Common.{◌≡◌, ℕ, ◌+◌, ◌-◌, ◌<◌, ◌≤◌, ◌==◌, ◌||◌, Bool, true, false, if◌then◌else◌, List, [], ◌∷◌, ◌++◌, length, take, drop, map, slice_index, get_or, Option, Some, None, refl, sym, ap, ◌∙◌, append-nil, append_assoc, arith}
-use Rattle.std.specs.Prelude.{option_and_then, not}
+use Rattle.std.proofs.Common.{◌≡◌, ℕ, ◌+◌, ◌-◌, ◌<◌, ◌≤◌, ◌==◌, ◌||◌, Bool, true, false, if◌then◌else◌, List, [], ◌∷◌, ◌++◌, length, take, drop, map, slice_index, get_or, Option, Some, None, refl, sym, ap, subst, ◌∙◌, append-nil, append_assoc, arith}
+use Rattle.std.specs.Prelude.{option_and_then, not, ◌&&◌}
 use Rattle.std.specs.Option.{option_or}
 use Rattle.std.proofs.lemmas.Bool.{eq-eqb, eqb-true, false_from_ne_true, both_ways}
 use Rattle.std.specs.Prelude.{slice_range}
 use Rattle.std.proofs.Math.Seq.{take-append_seam, take-add}
-use Rattle.std.proofs.lemmas.List.{length-drop, length-take-le, take-take, map-append, drop-map, drop_more}
+use Rattle.std.proofs.lemmas.List.{length-drop, length-take-le, take-take}
 use Rattle.typed_path.specs.declared.scan.separators.Separators.{Separators}
 use Rattle.typed_path.specs.declared.scan.separators.Separators.TheVariants.{Either}
-use Rattle.typed_path.specs.declared.scan.piece.Piece.{Piece}
-use Rattle.typed_path.specs.views.PieceViews.{part_of}
 use Rattle.typed_path.specs.components.Dialect.{windows, backslash, question, dot, separators}
 use Rattle.typed_path.specs.components.Part.{Kind, prefix, root, current, parent, normal, disk, device_ns, unc, verbatim, verbatim_disk, verbatim_unc, Part, kinds, is_name}
 use Rattle.typed_path.specs.components.Prefix.{Found, found, is_empty, drive, after_mark, after_two, after_unc, name, second_name, names_length, prefix_of, device_case, unc_case, disk_case}
 use Rattle.typed_path.specs.components.Comps.{parts_of}
 use Rattle.typed_path.specs.queries.Queries.{has_prefix, has_any_verbatim_prefix, begins_with_root, is_verbatim_prefix}
-use Rattle.typed_path.specs.changes.Push.{push_windows, merged, without_last_name, raw_prefix, joint, joint_behind, spelled, ended_windows, is_disk_alone}
+use Rattle.typed_path.specs.changes.Push.{push, push_windows, merged, without_last_name, raw_prefix, spelled, spells_anew, ended_windows, is_disk_alone, merges, FitsBy, FitsPush}
 use Rattle.typed_path.proofs.lemmas.components.PartLemmas.{AreRead, body_parts, body_parts-read}
 use Rattle.typed_path.proofs.lemmas.components.PrefixLemmas.{drive-size}
 use Rattle.typed_path.proofs.lemmas.components.ReadLemmas.{Read, of_verbatim_unc, of_verbatim_disk, of_verbatim, of_device, of_unc, of_disk, prefix-read}
@@ -178,17 +176,6 @@ without_last_name-other [] p e = rw e refl
 without_last_name-other (q ∷ []) p e = rw e refl
 without_last_name-other (q ∷ r ∷ ps) p e = ap (λ rs. q ∷ rs) (without_last_name-other (r ∷ ps) p e)
 
--- and so of the pieces of a list
-pub drop-name : (xs ys : List Piece) (x : Piece) → xs ≡ ys ++ x ∷ [] → is_name (part_of x).kind ≡ true → map part_of (take (length ys) xs) ≡ without_last_name (map part_of xs)
-drop-name xs ys x e name =
-    ap (map part_of) (ap (take (length ys)) e ∙ take-append_seam ys (x ∷ []))
-    ∙ sym (ap without_last_name (ap (map part_of) e ∙ map-append part_of ys (x ∷ [])) ∙ without_last_name-name (map part_of ys) (part_of x) name)
-
-pub keep-other : (xs ys : List Piece) (x : Piece) → xs ≡ ys ++ x ∷ [] → is_name (part_of x).kind ≡ false → map part_of xs ≡ without_last_name (map part_of xs)
-keep-other xs ys x e other =
-    let split = ap (map part_of) e ∙ map-append part_of ys (x ∷ []) in
-    split ∙ sym (ap without_last_name split ∙ without_last_name-other (map part_of ys) (part_of x) other)
-
 -- the cases of a push
 pub push-empty : (base : List ℕ) (path : List ℕ) → (length path == 0) ≡ true → push_windows base path ≡ base
 push-empty base [] e = refl
@@ -213,46 +200,6 @@ pub push-relative : (base : List ℕ) (path : List ℕ) → (length path == 0) �
 push-relative base [] some e f g = cc
 push-relative base (b ∷ path) some e f g = rw (e, f, g) refl
 
--- what is still to be written of a list, by the kind before it
-abbrev pub spelled_behind : Option Kind → List Part → List ℕ
-spelled_behind before [] = []
-spelled_behind before (p ∷ ps) = joint_behind before p.kind ++ spelled (p ∷ ps)
-
-pub spelled-first : (p : Part) (ps : List Part) → spelled (p ∷ ps) ≡ p.text ++ spelled_behind (Some p.kind) ps
-spelled-first p [] = sym (append-nil p.text)
-spelled-first p (q ∷ ps) = append_assoc p.text (joint p.kind q.kind) (spelled (q ∷ ps))
-
-pub spelled_behind-none : (ps : List Part) → spelled_behind None ps ≡ spelled ps
-spelled_behind-none [] = refl
-spelled_behind-none (p ∷ ps) = refl
-
--- one more component written
-pub spelled_behind-next : (text : List ℕ) (before : Option Kind) (p : Part) (ps : List Part)
-    → text ++ spelled_behind before (p ∷ ps) ≡ (text ++ joint_behind before p.kind ++ p.text) ++ spelled_behind (Some p.kind) ps
-spelled_behind-next text before p ps =
-    ap (λ u. text ++ (joint_behind before p.kind ++ u)) (spelled-first p ps)
-    ∙ sym (append_assoc text (joint_behind before p.kind) (p.text ++ spelled_behind (Some p.kind) ps))
-    ∙ sym (append_assoc (text ++ joint_behind before p.kind) p.text (spelled_behind (Some p.kind) ps))
-
--- the piece at a place of a list, before those behind it
-pub drop-piece : (xs : List Piece) (i : ℕ) (x : Piece) → i < length xs → drop i (map part_of xs) ≡ part_of (get_or xs i x) ∷ drop (i + 1) (map part_of xs)
-drop-piece xs i x within =
-    drop-map part_of i xs ∙ ap (map part_of) (drop_more xs i x within)
-    ∙ ap (λ ps. part_of (get_or xs i x) ∷ ps) (sym (drop-map part_of (i + 1) xs))
-
--- one more piece of a list written
-pub written-next : (xs : List Piece) (i : ℕ) (x : Piece) (text middle next joint : List ℕ) (before : Option Kind) (whole : List ℕ) → i < length xs
-    → middle ≡ text ++ joint → next ≡ middle ++ (part_of (get_or xs i x)).text → joint ≡ joint_behind before (part_of (get_or xs i x)).kind
-    → text ++ spelled_behind before (drop i (map part_of xs)) ≡ whole
-    → next ++ spelled_behind (Some (part_of (get_or xs i x)).kind) (drop (i + 1) (map part_of xs)) ≡ whole
-written-next xs i x text middle next joint before whole within joined written is stands =
-    let p = part_of (get_or xs i x) in
-    let rest = drop (i + 1) (map part_of xs) in
-    ap (λ t. t ++ spelled_behind (Some p.kind) rest) (written ∙ ap (λ t. t ++ p.text) (joined ∙ ap (λ j. text ++ j) is))
-    ∙ sym (spelled_behind-next text before p rest)
-    ∙ ap (λ ps. text ++ spelled_behind before ps) (sym (drop-piece xs i x within))
-    ∙ stands
-
 -- a path that stands in a text from one place up to another
 module _ (text : List ℕ) (start end : ℕ) (ordered : start ≤ end) (within : end ≤ length text) where
   pub path-length : length (slice_range text start end) ≡ end - start
@@ -266,3 +213,26 @@ module _ (text : List ℕ) (start end : ℕ) (ordered : start ≤ end) (within :
   pub up_to-inside : (n : ℕ) → n ≤ length (slice_range text start end) → take (start + n) text ≡ take start text ++ take n (slice_range text start end)
   up_to-inside n inside =
       take-add start n text ∙ ap (λ u. take start text ++ u) (sym (take-take n (end - start) (drop start text) (omega (arith, path-length))))
+
+-- what is said of the room for a push, where components are merged into the base and where none is
+module _ (room : ℕ) (base path : List ℕ) where
+  fits-by : (b : Bool) → merges windows base path ≡ b → FitsPush windows room base path → FitsBy windows room base path b
+  fits-by b e fits = subst (FitsBy windows room base path) e fits
+
+  pub fits-plain : spells_anew windows base ≡ false → FitsPush windows room base path → length (push windows base path) ≤ room
+  fits-plain e = fits-by false (ap (λ b. not (is_empty path || has_prefix (kinds (parts_of windows path))) && b) e ∙ by (not (is_empty path || has_prefix (kinds (parts_of windows path)))))
+    where
+      by : (b : Bool) → b && false ≡ false
+      by true = refl
+      by false = refl
+
+  pub fits-prefixed : has_prefix (kinds (parts_of windows path)) ≡ true → FitsPush windows room base path → length (push windows base path) ≤ room
+  fits-prefixed e = fits-by false (ap (λ b. not (is_empty path || b) && spells_anew windows base) e ∙ by (is_empty path))
+    where
+      by : (b : Bool) → not (b || true) && spells_anew windows base ≡ false
+      by true = refl
+      by false = refl
+
+  pub fits-merged : is_empty path ≡ false → has_prefix (kinds (parts_of windows path)) ≡ false → spells_anew windows base ≡ true → FitsPush windows room base path
+      → (spelled (parts_of windows base) ≡ base) × (length base + length path < room)
+  fits-merged e f g = fits-by true (λ i. not (e i || f i) && g i)

@@ -1,28 +1,29 @@
 -- Components as they are read, which stand behind a prefix or are merged there, and the room that they take.
-use Rattle.std.proofs.Common.{◌≡◌, ℕ, suc, ◌+◌, ◌≤◌, ◌<◌, ne_eqb, ◌==◌, Bool, true, false, not, ◌||◌, if◌then◌else◌, List, [], ◌∷◌, ◌++◌, length, drop, Some, None, sum_by, refl, sym, ap, subst, ◌∙◌, append_assoc, append-nil, arith}
+use Rattle.std.proofs.Common.{◌≡◌, ℕ, suc, ◌+◌, ◌≤◌, ◌<◌, ne_eqb, ◌==◌, Bool, true, false, not, ◌||◌, if◌then◌else◌, List, [], ◌∷◌, ◌++◌, length, take, drop, slice_range, ◌-◌, Some, None, sum_by, refl, sym, ap, subst, ◌∙◌, append_assoc, append-nil, arith}
 use Rattle.std.specs.Prelude.{Option}
 use Rattle.std.specs.List.{AllByRecursion, slice_split}
 use Rattle.std.proofs.lemmas.Bool.{cond_both, both_ways}
+use Rattle.std.proofs.lemmas.List.{take-append-drop, take-take, drop-take, drop-drop}
 use Rattle.std.proofs.lemmas.List.Elements.{All-nil, All-cons}
 use Rattle.std.proofs.lemmas.List.Sums.{sum_by-cons, sum_by-append}
 use Rattle.typed_path.specs.declared.scan.separators.Separators.{Separators}
 use Rattle.typed_path.specs.declared.scan.separators.Separators.TheVariants.{Backslash, Either}
-use Rattle.typed_path.specs.components.Dialect.{windows, backslash, dot, is_separator, root_text}
-use Rattle.typed_path.specs.components.Part.{Kind, prefix, root, current, parent, normal, Part, kinds, root_part, current_part, parent_part, name_part}
+use Rattle.typed_path.specs.components.Dialect.{windows, backslash, dot, separators, is_separator, root_text}
+use Rattle.typed_path.specs.components.Part.{Kind, prefix, root, current, parent, normal, Part, kinds, root_part, prefix_part, current_part, parent_part, name_part}
 use Rattle.typed_path.specs.components.Prefix.{Found, prefix_of, is_empty}
 use Rattle.typed_path.specs.components.Comps.{is_dot, is_dot_dot, parts_of}
-use Rattle.typed_path.specs.queries.Queries.{has_prefix, begins_with_root}
-use Rattle.typed_path.specs.changes.Push.{spelled}
-use Rattle.typed_path.specs.changes.Spelled.{is_name_piece, IsStanding, IsReadFirst, AreReadBehind, IsMergeable, AreMergeable, Stands, names_behind, room_of}
+use Rattle.typed_path.specs.queries.Queries.{has_prefix, has_any_verbatim_prefix, begins_with_root}
+use Rattle.typed_path.specs.changes.Push.{spelled, merged, raw_length, spells_anew}
+use Rattle.typed_path.specs.changes.Spelled.{is_name_piece, IsStanding, IsReadFirst, AreReadBehind, IsMergeable, AreMergeable, Stands, IsSpelled, names_behind, room_of}
 use Rattle.typed_path.proofs.lemmas.lists.SplitLemmas.{AllByRecursion-weaker}
 use Rattle.typed_path.proofs.lemmas.lists.WidthLemmas.{width, width-slice_split}
-use Rattle.typed_path.proofs.lemmas.components.SeparatorLemmas.{OfWindows, root_text-windows}
+use Rattle.typed_path.proofs.lemmas.components.SeparatorLemmas.{OfWindows, separators-windows, root_text-windows}
 use Rattle.typed_path.proofs.lemmas.components.PartLemmas.{pieces, first_part, later_part, first_parts, later_parts, body_parts, body_parts-read, AreRead, IsWritten, IsLater, IsLaterPart, IsWritten-later, named_part}
 use Rattle.typed_path.proofs.lemmas.changes.FaultlessLemmas.{parts_of-none, parts_of-some}
 use Rattle.typed_path.proofs.lemmas.changes.SpellLemmas.{IsPiece, later-piece, later-relative}
 use Rattle.typed_path.proofs.lemmas.changes.SpelledRows.{backslash-free}
-use Rattle.typed_path.proofs.lemmas.changes.SpelledTexts.{Behind, nothing, rooted}
-use Rattle.typed_path.proofs.lemmas.changes.MergedStanding.{spelled-standing}
+use Rattle.typed_path.proofs.lemmas.changes.SpelledTexts.{Behind, nothing, rooted, spelled-shaped}
+use Rattle.typed_path.proofs.lemmas.changes.MergedStanding.{IsUnprefixed, merged-behind, spelled-standing, stands-spelled}
 
 module _ (s : Separators) (w : OfWindows s) where
   -- a later component stands
@@ -194,3 +195,101 @@ module _ {parted : Bool} {text : List ℕ} {all : List Part} where
 
   pub put-end : (rest : List Part) → ArePut parted text all rest → rest ≡ [] → Stands parted all text
   put-end rest h none = subst (λ qs. Stands parted qs text) (sym (h.list ∙ ap (λ qs. h.done ++ qs) none ∙ append-nil h.done)) h.stands
+
+-- what is read behind a prefix begins with none
+read-unprefixed : (ps : List Part) → AreReadBehind ps → IsUnprefixed ps
+read-unprefixed [] read = refl
+read-unprefixed (p ∷ ps) read = by p.kind p.text read.0
+  where
+    by : (k : Kind) (text : List ℕ) → IsReadFirst (record { kind = k; text = text }) k → has_prefix (k ∷ kinds ps) ≡ false
+    by (prefix q) text first = let e = first.unprefixed in cc
+    by root text first = refl
+    by current text first = refl
+    by parent text first = refl
+    by (normal name) text first = refl
+
+pub none-unprefixed : (t : List ℕ) → prefix_of windows t ≡ None → IsUnprefixed (parts_of windows t)
+none-unprefixed t none = ap (λ ps. has_prefix (kinds ps)) (parts_of-none t none) ∙ read-unprefixed (body_parts Either t) (read-behind Either refl (body_parts Either t) (body_parts-read Either t))
+
+-- a base with a prefix, and the list behind it
+pub record IsBased (base : List ℕ) : Type 0 where
+  pub found : Found
+  pub is : prefix_of windows base ≡ Some found
+  pub list : parts_of windows base ≡ prefix_part found.prefix (take found.length base) ∷ drop 1 (parts_of windows base)
+  pub read : AreReadBehind (drop 1 (parts_of windows base))
+
+pub prefixed-based : (base : List ℕ) → has_prefix (kinds (parts_of windows base)) ≡ true → IsBased base
+prefixed-based base h = by (prefix_of windows base) refl
+  where
+    s : Separators
+    s = separators windows base
+
+    by : (o : Option Found) → prefix_of windows base ≡ o → IsBased base
+    by None none = absurd (both_ways _ (none-unprefixed base none) h)
+    by (Some f) some =
+        let list = parts_of-some base f some in
+        let rest : drop 1 (parts_of windows base) ≡ body_parts s (drop f.length base) = ap (drop 1) list in
+        record {
+          found = f;
+          is = some;
+          list = list ∙ ap (λ ps. prefix_part f.prefix (take f.length base) ∷ ps) (sym rest);
+          read = subst AreReadBehind (sym rest) (read-behind s (separators-windows base) (body_parts s (drop f.length base)) (body_parts-read s (drop f.length base)));
+        }
+
+-- a path merged into what stands behind the prefix of a base, as one text with that
+pub merged-text : (base other text : List ℕ) (head : ℕ) (now : Bool) → has_prefix (kinds (parts_of windows base)) ≡ true → has_prefix (kinds (parts_of windows other)) ≡ false
+    → head ≡ raw_length (prefix_of windows base) → take head text ≡ take head base → Stands now (merged (drop 1 (parts_of windows base)) (parts_of windows other)) (drop head text)
+    → text ≡ spelled (merged (parts_of windows base) (parts_of windows other))
+merged-text base other text head now own no_prefix size kept stands =
+    let based = prefixed-based base own in
+    let f = based.found in
+    let rest = drop 1 (parts_of windows base) in
+    let long : head ≡ f.length = size ∙ ap raw_length based.is in
+    sym (take-append-drop head text)
+    ∙ ap (λ t. t ++ drop head text) (kept ∙ ap (λ n. take n base) long)
+    ∙ sym (stands-spelled f.prefix (take f.length base) now (merged rest (parts_of windows other)) (drop head text) stands)
+    ∙ ap spelled (sym (ap (λ ps. merged ps (parts_of windows other)) based.list ∙ merged-behind f.prefix (take f.length base) rest (parts_of windows other) (read-unprefixed rest based.read) (text-mergeable other no_prefix)))
+
+-- what stands behind the prefix of a base that is spelled as it stands
+pub spelled-stands : (base : List ℕ) (head : ℕ) → IsSpelled base → head ≡ raw_length (prefix_of windows base) → Stands (is_empty (drop head base)) (drop 1 (parts_of windows base)) (drop head base)
+spelled-stands base head own size =
+    let shape = spelled-shaped base own in
+    let f = shape.found in
+    let s = separators windows base in
+    let rest : drop 1 (parts_of windows base) ≡ body_parts s (drop f.length base) = ap (drop 1) (parts_of-some base f shape.is) in
+    let at : f.length ≡ head = sym (size ∙ ap raw_length shape.is) in
+    subst (λ n. Stands (is_empty (drop n base)) (drop 1 (parts_of windows base)) (drop n base)) at
+    (subst (λ ps. Stands (is_empty (drop f.length base)) ps (drop f.length base)) (sym rest) (behind-stands s (separators-windows base) (body_parts s (drop f.length base)) shape.others (drop f.length base) shape.behind))
+
+-- such a base has a prefix
+pub spelled-prefixed_list : (base : List ℕ) → spells_anew windows base ≡ true → has_prefix (kinds (parts_of windows base)) ≡ true
+spelled-prefixed_list base anew = by (kinds (parts_of windows base)) anew
+  where
+    by : (ks : List Kind) → has_any_verbatim_prefix ks ≡ true → has_prefix ks ≡ true
+    by [] e = cc
+    by (prefix p ∷ ks) e = refl
+    by (root ∷ ks) e = cc
+    by (current ∷ ks) e = cc
+    by (parent ∷ ks) e = cc
+    by (normal name ∷ ks) e = cc
+
+-- a base that stands in a text, written in place: what is left of the text before it, and its prefix
+module _ (old new : List ℕ) (start head kept : ℕ) (inside : start + head ≤ kept) (within : kept ≤ length old) (same : take (start + head) new ≡ take (start + head) (take kept old)) where
+  pub place-before : take start new ≡ take start old
+  place-before =
+      sym (take-take start (start + head) new (omega arith)) ∙ ap (take start) same ∙ take-take start (start + head) (take kept old) (omega arith)
+      ∙ take-take start kept old (omega arith)
+
+  pub place-range : slice_range old start kept ≡ drop start (take kept old)
+  place-range = let whole : kept ≡ start + (kept - start) = omega arith in sym (drop-take start (kept - start) old) ∙ ap (λ n. drop start (take n old)) (sym whole)
+
+  pub place-prefix : take head (drop start new) ≡ take head (slice_range old start kept)
+  place-prefix =
+      sym (drop-take start head new) ∙ ap (drop start) same ∙ drop-take start head (take kept old) ∙ ap (take head) (sym place-range)
+
+  pub place-text : take start new ++ drop start new ≡ take start old ++ drop start new
+  place-text = ap (λ t. t ++ drop start new) place-before
+
+  -- what stands behind the prefix, once the text is cut
+  pub place-behind : drop (start + head) (take kept old) ≡ drop head (slice_range old start kept)
+  place-behind = sym (drop-drop head start (take kept old)) ∙ ap (drop head) (sym place-range)

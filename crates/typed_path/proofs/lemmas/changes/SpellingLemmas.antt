@@ -8,42 +8,33 @@ use Rattle.typed_path.specs.components.Prefix.{Found, is_empty, prefix_of}
 use Rattle.typed_path.specs.components.Comps.{parts_of}
 use Rattle.typed_path.specs.queries.Queries.{is_verbatim_prefix}
 use Rattle.typed_path.specs.changes.Push.{spelled}
-use Rattle.typed_path.specs.changes.Spelled.{is_row, ends_with_root, IsSpelled, IsReady, IsRooted}
+use Rattle.typed_path.specs.changes.Spelled.{is_row, IsSpelled}
 use Rattle.typed_path.proofs.lemmas.components.SeparatorLemmas.{separators-windows}
 use Rattle.typed_path.proofs.lemmas.components.PrefixLemmas.{some_is}
 use Rattle.typed_path.proofs.lemmas.changes.SpelledTexts.{Behind, nothing, rooted, spelled-shaped, behind-spelled}
 use Rattle.typed_path.proofs.lemmas.changes.SpelledRows.{row-read, row-spelled}
-use Rattle.typed_path.proofs.lemmas.changes.ReadyLemmas.{later-unrooted}
 use Rattle.typed_path.proofs.lemmas.promises.WindowsContained.{verbatim-none, verbatim-some}
 
 -- what stands behind a verbatim prefix tells how a push spells its text anew
 module _ (t : List ℕ) (f : Found) (is : prefix_of windows t ≡ Some f) (marked : is_verbatim_prefix f.prefix ≡ true) where
-  behind-told : (ps qs : List Part) (text : List ℕ) → drop f.length t ≡ text → Behind (separators windows t) ps qs text
-      → IsSpelled t × (ends_with_root (kinds (parts_of windows t)) ≡ ends_with_root (kinds ps))
-  behind-told ps qs text e behind =
-      let all = behind-spelled t f ps qs is marked (subst (Behind (separators windows t) ps qs) (sym e) behind) in
-      (all.0, ap (λ rs. ends_with_root (kinds rs)) all.1 ∙ by ps)
-    where
-      by : (ps : List Part) → ends_with_root (kinds (prefix_part f.prefix (take f.length t) ∷ ps)) ≡ ends_with_root (kinds ps)
-      by [] = refl
-      by (p ∷ ps) = refl
+  behind-told : (ps qs : List Part) (text : List ℕ) → drop f.length t ≡ text → Behind (separators windows t) ps qs text → IsSpelled t
+  behind-told ps qs text e behind = (behind-spelled t f ps qs is marked (subst (Behind (separators windows t) ps qs) (sym e) behind)).0
 
   -- nothing
-  pub alone-ready : drop f.length t ≡ [] → IsReady t
-  alone-ready e = behind-told [] [] [] e nothing
+  pub alone-spelled : drop f.length t ≡ [] → IsSpelled t
+  alone-spelled e = behind-told [] [] [] e nothing
 
   -- a root
-  pub root-rooted : drop f.length t ≡ backslash ∷ [] → IsRooted t
-  root-rooted e = behind-told (root_part (backslash ∷ []) ∷ []) [] (backslash ∷ []) e (rooted [] tt)
+  pub root-spelled : drop f.length t ≡ backslash ∷ [] → IsSpelled t
+  root-spelled e = behind-told (root_part (backslash ∷ []) ∷ []) [] (backslash ∷ []) e (rooted [] tt)
 
   -- or a root and a row
-  pub row-ready : (text : List ℕ) → drop f.length t ≡ backslash ∷ text → is_row (separators windows t) text ≡ true → IsReady t
-  row-ready text e h =
+  pub row-spelled_text : (text : List ℕ) → drop f.length t ≡ backslash ∷ text → is_row (separators windows t) text ≡ true → IsSpelled t
+  row-spelled_text text e h =
       let s = separators windows t in
       let row = row-read s text (separators-windows t) h in
       let ps = row.first ∷ row.others in
-      let told = behind-told (root_part (backslash ∷ []) ∷ ps) ps (backslash ∷ text) e (subst (λ u. Behind s (root_part (backslash ∷ []) ∷ ps) ps (backslash ∷ u)) row.same (rooted ps row.later)) in
-      (told.0, told.1 ∙ later-unrooted s [] row.first row.others row.later)
+      behind-told (root_part (backslash ∷ []) ∷ ps) ps (backslash ∷ text) e (subst (λ u. Behind s (root_part (backslash ∷ []) ∷ ps) ps (backslash ∷ u)) row.same (rooted ps row.later))
 
   -- of a text that is spelled as it stands
   told : IsSpelled t → (drop f.length t ≡ []) ⊎ ((text : List ℕ) × (drop f.length t ≡ backslash ∷ text) × ((text ≡ []) ⊎ (is_row (separators windows t) text ≡ true)))

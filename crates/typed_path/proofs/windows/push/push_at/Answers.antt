@@ -1,13 +1,13 @@
 use Rattle.std.proofs.Common.{◌≡◌, ◌≤◌, ◌+◌, ◌++◌, List, length, take, OnOk, slice_range, sym, ap, subst, ◌∙◌, append-nil, append_assoc, length-append, arith}
-use Rattle.std.specs.Prelude.{ℕ, Result, Ok, Err}
+use Rattle.std.specs.Prelude.{ℕ, Result, Ok, Err, true, false}
 use Rattle.std.proofs.lemmas.List.{length-take-le}
 use Rattle.typed_path.specs.components.Dialect.{windows}
 use Rattle.typed_path.specs.components.Part.{kinds, parts}
 use Rattle.typed_path.specs.components.Comps.{parts_of}
-use Rattle.typed_path.specs.components.Prefix.{prefix_of}
+use Rattle.typed_path.specs.components.Prefix.{is_empty, prefix_of}
 use Rattle.typed_path.specs.queries.Queries.{has_prefix, has_any_verbatim_prefix, begins_with_root}
 use Rattle.typed_path.specs.changes.Push.{push_windows, raw_length, raw_prefix, ended_windows}
-use Rattle.typed_path.proofs.lemmas.changes.PushLemmas.{push-empty, push-anew, push-rooted, push-relative, path-length, up_to-end, up_to-inside}
+use Rattle.typed_path.proofs.lemmas.changes.PushLemmas.{fits-plain, fits-prefixed, fits-merged, push-empty, push-prefixed, push-anew, push-rooted, push-relative, path-length, up_to-end, up_to-inside}
 use Rattle.typed_path.proofs.windows.push.push_at.Goals as goal
 
 on_ok : {A E P Q : Type 0} (r : Result A E) → (P → Q) → OnOk r P → OnOk r Q
@@ -20,21 +20,41 @@ verbatim_of : {t u : List ℕ} (start end : ℕ) → t ≡ u
 verbatim_of start end e = ap (λ t. has_any_verbatim_prefix (kinds (parts_of windows (slice_range t start end)))) e
 
 pub returns-then-is_empty-clause-ok : goal.returns-then-is_empty-clause-ok
-returns-then-is_empty-clause-ok c =
+returns-then-is_empty-clause-ok c = λ known.
     let text = c.args.text.now.items in
     let base = slice_range text c.args.start c.args.kept in
     c.truncate.ensures.items ∙ up_to-end text c.args.start c.args.kept c.requires.ordered c.requires.within
     ∙ ap (λ u. take c.args.start text ++ u) (sym (push-empty base c.args.other.now (sym c.is_empty.ensures ∙ c.if-is_empty.true)))
 
+-- the path is merged into its base
+module _ (c : goal.After-merge_at) where
+  abbrev merged_base : List ℕ
+  merged_base = slice_range c.args.text.now.items c.args.start c.args.kept
+
+  some : is_empty c.args.other.now ≡ false
+  some = sym c.is_empty.ensures ∙ c.if-is_empty.false
+
+  no_prefix : has_prefix (kinds (parts_of windows c.args.other.now)) ≡ false
+  no_prefix = sym (c.has_prefix.ensures ∙ ap (λ cs. has_prefix (kinds (parts cs))) c.cursor-path.ensures.items) ∙ c.if-has_prefix.false
+
+  marked : has_any_verbatim_prefix (kinds (parts_of windows merged_base)) ≡ true
+  marked = sym (verbatim_of c.args.start c.args.kept c.deref.ensures.value) ∙ sym c.has_verbatim_kind.ensures ∙ c.if-has_verbatim_kind.true
+
 pub returns-then-has_verbatim_kind-clause-ok : goal.returns-then-has_verbatim_kind-clause-ok
-returns-then-has_verbatim_kind-clause-ok c =
-    let text = c.args.text.now.items in
-    let other = c.args.other.now in
-    let some = sym c.is_empty.ensures ∙ c.if-is_empty.false in
-    let no_prefix = sym (c.has_prefix.ensures ∙ ap (λ cs. has_prefix (kinds (parts cs))) c.cursor-path.ensures.items) ∙ c.if-has_prefix.false in
-    let marked = sym (verbatim_of c.args.start c.args.kept c.deref.ensures.value) ∙ sym c.has_verbatim_kind.ensures ∙ c.if-has_verbatim_kind.true in
-    let anew = push-anew (slice_range text c.args.start c.args.kept) other some no_prefix marked in
-    on_ok c.push_anew.result (λ e. e ∙ ap (λ u. take c.args.start text ++ u) (sym anew)) c.push_anew.ensures.ok
+returns-then-has_verbatim_kind-clause-ok c = λ known.
+    on_ok c.merge_at.result (λ e. e ∙ ap (λ u. take c.args.start c.args.text.now.items ++ u) (sym (push-anew (merged_base c) c.args.other.now (some c) (no_prefix c) (marked c)))) (c.merge_at.ensures.ok known)
+
+pub returns-then-has_verbatim_kind-clause-succeeds : goal.returns-then-has_verbatim_kind-clause-succeeds
+returns-then-has_verbatim_kind-clause-succeeds c = λ room within known fits.
+    let both = fits-merged room (merged_base c) c.args.other.now (some c) (no_prefix c) (marked c) fits in
+    c.merge_at.ensures.succeeds known (marked c, both.0) (omega (arith, both.1, within, path-length c.args.text.now.items c.args.start c.args.kept c.requires.ordered c.requires.within, c.requires.ordered))
+
+pub returns-then-has_prefix-clause-succeeds : goal.returns-then-has_prefix-clause-succeeds
+returns-then-has_prefix-clause-succeeds c = λ room within known fits.
+    let base = slice_range c.args.text.now.items c.args.start c.args.kept in
+    let prefixed : has_prefix (kinds (parts_of windows c.args.other.now)) ≡ true = sym (c.has_prefix.ensures ∙ ap (λ cs. has_prefix (kinds (parts cs))) c.cursor-path.ensures.items) ∙ c.if-has_prefix.true in
+    let is = push-prefixed base c.args.other.now (sym c.is_empty.ensures ∙ c.if-is_empty.false) prefixed in
+    c.put_over.ensures.succeeds (omega (arith, fits-prefixed room base c.args.other.now prefixed fits, ap length is, within))
 
 -- a rooted path, behind the prefix of its base
 module _ (c : goal.After-put_over-then-begins_with_root) where
@@ -55,7 +75,7 @@ module _ (c : goal.After-put_over-then-begins_with_root) where
   prefix_is = c.prefix_len.ensures.length ∙ ap (λ t. raw_length (prefix_of windows (slice_range t c.args.start c.args.kept))) c.deref.ensures.value
 
 pub returns-then-begins_with_root-clause-ok : goal.returns-then-begins_with_root-clause-ok
-returns-then-begins_with_root-clause-ok c =
+returns-then-begins_with_root-clause-ok c = λ known.
     let text = c.args.text.now.items in
     let start = c.args.start in
     let other = c.args.other.now in
@@ -69,10 +89,12 @@ returns-then-begins_with_root-clause-ok c =
 
 pub returns-then-begins_with_root-clause-succeeds : goal.returns-then-begins_with_root-clause-succeeds
 returns-then-begins_with_root-clause-succeeds c =
-    λ plain fits.
+    λ room within known fits.
+    let plain = sym (verbatim_of c.args.start c.args.kept c.deref.ensures.value) ∙ sym c.has_verbatim_kind.ensures ∙ c.if-has_verbatim_kind.false in
+    let fitting = fits-plain room (rooted_base c) c.args.other.now plain fits in
     let size = ap length (rooted c) ∙ length-append (raw_prefix (rooted_base c)) c.args.other.now in
     let raw = ap (λ n. length (take n (rooted_base c))) (sym (prefix_is c)) ∙ length-take-le c.prefix_len.result (rooted_base c) (prefix_within c) in
-    c.put_over-then-begins_with_root.ensures.succeeds (omega (arith, size, raw, fits))
+    c.put_over-then-begins_with_root.ensures.succeeds (omega (arith, size, raw, fitting, within))
 
 -- a relative path, behind the base and its separator
 module _ (c : goal.After-put_over-2) where
@@ -93,7 +115,7 @@ module _ (c : goal.After-put_over-2) where
       ∙ ap (λ u. u ++ c.args.other.now) separator_is
 
 pub returns-clause-ok : goal.returns-clause-ok
-returns-clause-ok c =
+returns-clause-ok c = λ known.
     let text = c.args.text.now.items in
     let start = c.args.start in
     let other = c.args.other.now in
@@ -107,9 +129,11 @@ returns-clause-ok c =
 
 pub returns-clause-succeeds : goal.returns-clause-succeeds
 returns-clause-succeeds c =
-    λ plain fits.
+    λ room within known fits.
+    let plain = sym (verbatim_of c.args.start c.args.kept c.deref.ensures.value) ∙ sym c.has_verbatim_kind.ensures ∙ c.if-has_verbatim_kind.false in
+    let fitting = fits-plain room (relative_base c) c.args.other.now plain fits in
     let separator = c.separator_behind-separator.result.now in
     let size = ap length (relative c) ∙ length-append (relative_base c ++ separator) c.args.other.now in
     let front = length-append (relative_base c) separator in
     let base = path-length c.args.text.now.items c.args.start c.args.kept c.requires.ordered c.requires.within in
-    c.put_over-2.ensures.succeeds (omega (arith, size, front, base, fits, c.requires.ordered))
+    c.put_over-2.ensures.succeeds (omega (arith, size, front, base, fitting, within, c.requires.ordered))
