@@ -1,43 +1,43 @@
--- Texts of Windows that are spelled as they are read, and names that a push puts behind them as they stand.
+-- Texts of Windows that a push spells anew as they stand.
 use Rattle.std.specs.Prelude.{codes}
 use Rattle.std.proofs.Common.{refl}
-use Rattle.typed_path.specs.changes.Spelled.{IsReady, IsRooted}
+use Rattle.typed_path.specs.changes.Spelled.{IsSpelled}
 
-drive : IsReady (codes "\\\\?\\C:")
-drive = ((refl, refl), refl)
+drive : IsSpelled (codes "\\\\?\\C:")
+drive = (refl, refl)
 
-drive-root : IsRooted (codes "\\\\?\\C:\\")
-drive-root = ((refl, refl), refl)
+drive-root : IsSpelled (codes "\\\\?\\C:\\")
+drive-root = (refl, refl)
 
-drive-names : IsReady (codes "\\\\?\\C:\\a\\..\\.\\b/c")
-drive-names = ((refl, refl), refl)
+drive-names : IsSpelled (codes "\\\\?\\C:\\a\\..\\.\\b/c")
+drive-names = (refl, refl)
 
-drive-slashes : IsReady (codes "//?/C:\\a")
-drive-slashes = ((refl, refl), refl)
+drive-slashes : IsSpelled (codes "//?/C:\\a")
+drive-slashes = (refl, refl)
 
-drive-slashes-root : IsRooted (codes "//?/C:\\")
-drive-slashes-root = ((refl, refl), refl)
+drive-slashes-root : IsSpelled (codes "//?/C:\\")
+drive-slashes-root = (refl, refl)
 
-share : IsReady (codes "\\\\?\\UNC\\s\\h\\a")
-share = ((refl, refl), refl)
+share : IsSpelled (codes "\\\\?\\UNC\\s\\h\\a")
+share = (refl, refl)
 
-share-root : IsRooted (codes "\\\\?\\UNC\\s\\h\\")
-share-root = ((refl, refl), refl)
+share-root : IsSpelled (codes "\\\\?\\UNC\\s\\h\\")
+share-root = (refl, refl)
 
-server : IsReady (codes "\\\\?\\UNC\\s")
-server = ((refl, refl), refl)
+server : IsSpelled (codes "\\\\?\\UNC\\s")
+server = (refl, refl)
 
-server-separator : IsReady (codes "\\\\?\\UNC\\s\\")
-server-separator = ((refl, refl), refl)
+server-separator : IsSpelled (codes "\\\\?\\UNC\\s\\")
+server-separator = (refl, refl)
 
-server-root : IsRooted (codes "\\\\?\\UNC\\s\\\\")
-server-root = ((refl, refl), refl)
+server-root : IsSpelled (codes "\\\\?\\UNC\\s\\\\")
+server-root = (refl, refl)
 
-unc : IsReady (codes "\\\\?\\UNC")
-unc = ((refl, refl), refl)
+unc : IsSpelled (codes "\\\\?\\UNC")
+unc = (refl, refl)
 
-unc-root : IsRooted (codes "\\\\?\\UNC\\")
-unc-root = ((refl, refl), refl)
+unc-root : IsSpelled (codes "\\\\?\\UNC\\")
+unc-root = (refl, refl)
 
-no_name : IsRooted (codes "\\\\?\\\\")
-no_name = ((refl, refl), refl)
+no_name : IsSpelled (codes "\\\\?\\\\")
+no_name = (refl, refl)

@@ -15,7 +15,7 @@ use crate::scan::{
     Found, PieceKind, Separators, WindowsPrefix, cut_at_separator, drive, find_prefix, piece_of,
 };
 use crate::windows::encoding::cursor;
-use crate::windows::push::push_next;
+use crate::windows::push::{push_at, push_next};
 use crate::windows::spelled::is_separated;
 use std::alloc::AllocError;
 
@@ -209,6 +209,19 @@ fn push_resolved(text: &mut Vec<u8>, start: usize, path: &[u8]) -> Result<(), Al
     Ok(())
 }
 
+/// Pushes a path onto the one that stands behind the first bytes of a text.
+fn push_behind(text: &mut Vec<u8>, start: usize, other: &[u8]) -> Result<(), AllocError>
+    requires { start ≤ length text.old.items }
+    ensures ok { OnOk result
+        (drop start text.new.items ≡ push_windows (drop start text.old.items) other.now) }
+    ensures kept { take start text.new.items ≡ take start text.old.items }
+    ensures long { start ≤ length text.new.items }
+    ensures capacity { vec_capacity text.old ≤ vec_capacity text.new }
+{
+    let len = text.len();
+    push_at(text, start, len, other, None)
+}
+
 /// Pushes the prefix and the root of a path onto the empty path at the end of a text, and answers the
 /// names that no parent takes away.
 fn push_heads<'a>(
@@ -227,9 +240,7 @@ fn push_heads<'a>(
     let mut components = cursor(path);
     'pieces: while let Some(piece) = components.front() {
         match piece.kind {
-            PieceKind::Prefix(_) | PieceKind::RootDir => {
-                push_next(text, start, piece.text, None)?;
-            }
+            PieceKind::Prefix(_) | PieceKind::RootDir => push_behind(text, start, piece.text)?,
             PieceKind::CurDir => {}
             PieceKind::ParentDir => {
                 names.pop();

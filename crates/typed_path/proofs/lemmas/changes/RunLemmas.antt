@@ -1,11 +1,11 @@
 -- Lists of operations, one operation more.
-use Rattle.std.proofs.Common.{◌≡◌, ℕ, ◌+◌, ◌<◌, ◌≤◌, subst, List, [], ◌∷◌, ◌++◌, map, length, take, drop, get_or, Bor, OnErr, refl, sym, ap, ◌∙◌, arith}
+use Rattle.std.proofs.Common.{◌≡◌, Bool, true, false, ℕ, ◌+◌, ◌<◌, ◌≤◌, subst, List, [], ◌∷◌, ◌++◌, map, length, take, drop, get_or, Bor, OnErr, refl, sym, ap, ◌∙◌, arith}
 use Rattle.std.specs.Prelude.{Result, Ok, Err}
 use Rattle.std.proofs.lemmas.List.{take-map, drop-map, take_more, drop_more, map-append, length-map}
 use Rattle.std.proofs.lemmas.List.Sums.{fold-append}
 use Rattle.typed_path.specs.declared.script.run.PathOp.{PathOp}
 use Rattle.typed_path.specs.components.Dialect.{Dialect}
-use Rattle.typed_path.specs.changes.Push.{push, push_all, FitsPush}
+use Rattle.typed_path.specs.changes.Push.{push, push_all, FitsPush, FitsBy, merges}
 use Rattle.typed_path.specs.changes.Changes.{without_file_name}
 use Rattle.typed_path.specs.changes.Run.{Operation, push_op, push_checked_op, pop_op, set_file_name_op, set_extension_op, clear_op, extend_op, Response, step, text_after, replies, FitsEach, FitsStep, FitsAll}
 use Rattle.typed_path.specs.views.RunViews.{operation_of, operations_of, pushes_of, first_pushes, AreTaken, StopsAt}
@@ -87,7 +87,11 @@ on_err (Err e) p = p
 
 -- room that is enough stays enough where it grows
 pub fits_push-more : (d : Dialect) (room more : ℕ) (t path : List ℕ) → room ≤ more → FitsPush d room t path → FitsPush d more t path
-fits_push-more d room more t path h fits = (fits.0, omega arith)
+fits_push-more d room more t path h fits = by (merges d t path) fits
+  where
+    by : (b : Bool) → FitsBy d room t path b → FitsBy d more t path b
+    by true f = (f.0, omega (arith, f.1, h))
+    by false f = omega (arith, f, h)
 
 pub fits_each-more : (d : Dialect) (room more : ℕ) (t : List ℕ) (paths : List (List ℕ)) → room ≤ more → FitsEach d room t paths → FitsEach d more t paths
 fits_each-more d room more t [] h fits = tt

@@ -3,7 +3,7 @@ use Rattle.std.specs.Vec.{vec_capacity}
 use Rattle.typed_path.specs.components.Dialect.{windows}
 use Rattle.typed_path.specs.components.Part.{parts}
 use Rattle.typed_path.specs.changes.Push.{push_all}
-use Rattle.typed_path.specs.changes.Spelled.{IsSpelling}
+use Rattle.typed_path.specs.changes.Spelled.{IsKnown}
 use Rattle.typed_path.specs.conversions.Convert.{crossed, crossed_all}
 use Rattle.typed_path.specs.views.CursorViews.{items_left}
 use Rattle.typed_path.proofs.windows.crossed.push_each.Given as goal
@@ -17,4 +17,4 @@ invariant-pieces l =
     × (take l.start l.text.items ≡ take l.start l.fn.text.items)
     × (l.start ≤ length l.text.items)
     × (vec_capacity l.fn.text ≤ vec_capacity l.text)
-    × IsSpelling l.spelling (drop l.start l.text.items)
+    × IsKnown windows l.known (drop l.start l.text.items)

@@ -2,6 +2,7 @@ use Rattle.std.proofs.Common.{◌≡◌, ℕ, ◌+◌, ◌<◌, arith, length, g
 use Rattle.std.proofs.lemmas.List.{drop-map, drop_more}
 use Rattle.typed_path.specs.components.Dialect.{windows}
 use Rattle.typed_path.specs.changes.Push.{push_windows, push_all}
+use Rattle.typed_path.proofs.lemmas.changes.PutCrossed.{put-whole}
 use Rattle.typed_path.proofs.windows.normal.push_resolved.Goals as goal
 
 -- one more name pushed
@@ -14,10 +15,11 @@ pushed_next goal text next names i n within pushed h =
     ∙ ap (push_all windows next) (sym (drop-map (λ m. m.now) (i + 1) names))
 
 pub names-preserved : goal.names-preserved
-names-preserved c = (
-  pushed_next _ _ _ c.as_slice-name-items.result.now c.names.name-index _ c.names-test.true c.in_ok-spelling.ensures.ok c.names.invariant.0,
-  c.in_ok-spelling.ensures.kept ∙ c.names.invariant.1,
-  c.in_ok-spelling.ensures.long,
-  omega (arith, c.in_ok-spelling.ensures.capacity, c.names.invariant.3),
-  c.in_ok-spelling.ensures.spelling,
-)
+names-preserved c =
+    let whole = put-whole c.args.start c.names.text.items _ _ c.names.invariant.2 (c.in_ok-known.ensures.ok c.names.invariant.4) in (
+      pushed_next _ _ _ c.as_slice-name-items.result.now c.names.name-index _ c.names-test.true whole.0 c.names.invariant.0,
+      whole.1 ∙ c.names.invariant.1,
+      whole.2,
+      omega (arith, c.in_ok-known.ensures.capacity, c.names.invariant.3),
+      c.in_ok-known.ensures.known c.names.invariant.4,
+    )

@@ -3,7 +3,7 @@ use Rattle.std.specs.Vec.{vec_capacity}
 use Rattle.typed_path.specs.components.Dialect.{windows}
 use Rattle.typed_path.specs.places.Places.{normal_text}
 use Rattle.typed_path.specs.changes.Push.{push_all}
-use Rattle.typed_path.specs.changes.Spelled.{IsSpelling}
+use Rattle.typed_path.specs.changes.Spelled.{IsKnown}
 use Rattle.typed_path.proofs.windows.normal.push_resolved.Given as goal
 
 abbrev pub invariant-names : goal.invariant-names
@@ -12,4 +12,4 @@ invariant-names l =
     × (take l.start l.text.items ≡ take l.start l.fn.text.items)
     × (l.start ≤ length l.text.items)
     × (vec_capacity l.fn.text ≤ vec_capacity l.text)
-    × IsSpelling l.spelling (drop l.start l.text.items)
+    × IsKnown windows l.known (drop l.start l.text.items)

@@ -1,14 +1,13 @@
-use Rattle.std.proofs.Common.{rules, ◌≡◌, ◌≤◌, ◌+◌, ◌++◌, ℕ, List, IsTrue, take, drop, slice_range, length, IfOk, IsOk, OnOk, OnErr, ◌-◌, ◌*◌, ◌<◌, ◌/◌, ◌%◌, Bool, true, false, nat_eq, nat_lt, [], ◌∷◌, slice_index_or, slice_set, bit_and, bit_or, Fits, w8, w32, w64, Bor, MutBor}
-use Rattle.std.specs.Vec.{vec_capacity}
+use Rattle.std.proofs.Common.{◌≡◌, true≢false, length, drop, slice_range, refl, sym, ap, subst, ◌∙◌}
 use Rattle.typed_path.specs.components.Dialect.{windows}
-use Rattle.typed_path.specs.components.Comps.{parts_of}
-use Rattle.typed_path.specs.components.Part.{kinds}
-use Rattle.typed_path.specs.components.Prefix.{prefix_of}
-use Rattle.typed_path.specs.changes.Push.{push_windows, ended_windows, is_disk_alone, raw_length, FitsPush}
+use Rattle.typed_path.specs.changes.Push.{FitsPush}
 use Rattle.typed_path.specs.changes.Spelled.{IsKnown}
-use Rattle.typed_path.specs.queries.Queries.{has_any_verbatim_prefix}
+use Rattle.typed_path.proofs.lemmas.changes.PutCrossed.{whole_range}
 use Rattle.typed_path.proofs.windows.push.push_next.Goals as goal
 
--- src/windows/push.rt:127:5
 pub returns-in_err-push_at-clause-succeeds : goal.returns-in_err-push_at-clause-succeeds
-returns-in_err-push_at-clause-succeeds c = ?
+returns-in_err-push_at-clause-succeeds c = λ room within known fits.
+    let old = c.args.text.now.items in
+    let size : c.len-len.result ≡ length old = c.len-len.ensures ∙ c.args.text.now.ok.0 in
+    let whole : drop c.args.start old ≡ slice_range old c.args.start c.len-len.result = sym (whole_range old old c.args.start refl) ∙ ap (slice_range old c.args.start) (sym size) in
+    absurd (true≢false (sym (c.in_err-push_at.ensures.succeeds room within (subst (IsKnown windows c.args.known) whole known) (subst (λ t. FitsPush windows room t c.args.other.now) whole fits))))

@@ -48,7 +48,7 @@ returns-then-last-ne0-clause-left c = λ ps stands.
 
 -- no name is left
 module _ (text : List ℕ) (parted : Bool) (ps : List Part) (stands : Stands parted ps text) (long : 1 < length text) (last : ℕ) (within : last ≤ length (names text last))
-  (is : IsAfterLastMatch (is_separator Backslash) (names text last) last) (dotless : is_dots (drop last (drop 1 text)) ≡ false) (none : last ≡ 0) where
+    (is : IsAfterLastMatch (is_separator Backslash) (names text last) last) (dotless : is_dots (drop last (drop 1 text)) ≡ false) (none : last ≡ 0) where
   alone : (n : ℕ) → (if parted then 0 else 1) ≡ n → Stands parted (without_last_name ps) (take n text)
   alone n e = subst (λ m. Stands parted (without_last_name ps) (take m text)) e (stands-alone parted ps text stands long last (place text last within is) dotless none)
 

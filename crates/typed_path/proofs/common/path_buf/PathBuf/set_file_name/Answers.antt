@@ -1,4 +1,5 @@
-use Rattle.std.proofs.Common.{◌≡◌, List, ℕ, length, take, ap, ◌∙◌}
+use Rattle.std.proofs.Common.{◌≡◌, List, ℕ, length, take, sym, ap, subst, ◌∙◌}
+use Rattle.typed_path.specs.changes.Push.{FitsPush}
 use Rattle.typed_path.specs.changes.Changes.{without_file_name}
 use Rattle.typed_path.specs.components.Dialect.{Dialect}
 use Rattle.typed_path.proofs.lemmas.changes.NameSpans.{without_file_name-front}
@@ -23,4 +24,4 @@ returns-clause-succeeds g c =
     c.as_bytes-kept.ensures ∙ c.without_file_name.ensures ∙ ap (without_file_name d) c.as_path.ensures in
     let room = ap (λ o. o.capacity) c.self.view_is in
     let succeeds = rw (kept_is d _ _ _ kept (ap (λ o. o.bytes) c.self.view_is)) at c.push_over.ensures.succeeds in
-    λ fits. succeeds (fits.0, rw room fits.1)
+    λ fits. succeeds (subst (λ n. FitsPush d n (without_file_name d c.args.self.now.bytes) c.args.name.now) (sym room) fits)

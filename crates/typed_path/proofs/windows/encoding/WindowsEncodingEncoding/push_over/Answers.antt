@@ -1,7 +1,8 @@
 use Rattle.std.proofs.Common.{◌≡◌, ◌-◌, min, length, take, slice_range, false, sym, ap, subst, ◌∙◌, arith}
 use Rattle.std.proofs.lemmas.List.{take_min}
+use Rattle.std.specs.Vec.{vec_capacity}
 use Rattle.typed_path.specs.components.Dialect.{windows}
-use Rattle.typed_path.specs.changes.Push.{push_windows, spells_anew}
+use Rattle.typed_path.specs.changes.Push.{FitsPush}
 use Rattle.typed_path.proofs.windows.encoding.WindowsEncodingEncoding.push_over.Goals as goal
 
 -- the bytes that are kept
@@ -12,5 +13,4 @@ kept c =
 
 pub returns-clause-succeeds : goal.returns-clause-succeeds
 returns-clause-succeeds c = λ fits.
-    c.push_at.ensures.succeeds (subst (λ t. spells_anew windows t ≡ false) (kept c) fits.0)
-    (omega (arith, fits.1, ap (λ t. length (push_windows t c.args.other.now)) (kept c)))
+    c.push_at.ensures.succeeds (vec_capacity c.args.path.now) (omega arith) tt (subst (λ t. FitsPush windows (vec_capacity c.args.path.now) t c.args.other.now) (kept c) fits)
