@@ -7,7 +7,6 @@ mod encoding;
 mod merged;
 mod names;
 mod normal;
-mod order;
 mod prefix;
 mod push;
 mod readings;

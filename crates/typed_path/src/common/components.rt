@@ -36,6 +36,15 @@ impl<'a, T: Encoding> Components<'a, T> {
         }
     }
 
+    /// The reading itself.
+    #[inline(always)]
+    pub(crate) fn cursor(self) -> Cursor<'a>
+        ensures items { items_left result ≡ components_items self.entry }
+        ensures slice { slice_left result ≡ components_slice self.entry }
+    {
+        self.cursor
+    }
+
     /// Takes the first component that is left. It answers none for good once all are taken.
     #[inline(always)]
     pub fn next(&mut self) -> Option<Piece<'a>>

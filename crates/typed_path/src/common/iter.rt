@@ -8,6 +8,7 @@ use std::iter::FusedIterator;
 
 /// The texts of the components that are left to be read.
 #[derive_where(Clone, Copy)]
+#[derive_where(PartialEq, Eq, PartialOrd, Ord; T: Encoding)]
 pub struct Iter<'a, T> {
     components: Components<'a, T>,
 }

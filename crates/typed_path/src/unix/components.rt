@@ -14,7 +14,7 @@ use std::fmt;
 use std::iter::FusedIterator;
 
 /// The components of a Unix path that are left to be read.
-#[derive(Clone, Copy)]
+#[derive(Clone, Copy, PartialEq, Eq, PartialOrd, Ord)]
 pub struct UnixComponents<'a> {
     components: Components<'a, UnixEncoding>,
     ghost written: { components_parts components ≡ as_written (components_parts components) },

@@ -1,25 +1,24 @@
 //! The components of a Windows path.
 
 ghost use Rattle.std.specs.Prelude.{◌≡◌};
-ghost use Rattle.typed_path.specs.components.Part.{parts};
 ghost use Rattle.typed_path.specs.components.WindowsParts.{as_windows_writes, written_windows};
-ghost use Rattle.typed_path.specs.views.CursorViews.{items_left};
+ghost use Rattle.typed_path.specs.views.PathViews.{components_parts};
 ghost use Rattle.typed_path.specs.views.PieceViews.{part_of};
 ghost use Rattle.typed_path.specs.views.WindowsViews.{windows_part};
 
-use crate::common::{Encoding, Path, Reversed};
-use crate::scan::{Cursor, Piece, PieceKind, WindowsPrefix};
+use crate::common::{Components, Encoding, Path, Reversed};
+use crate::scan::{Piece, PieceKind, WindowsPrefix};
 use crate::windows::component::WindowsComponent;
-use crate::windows::encoding::{WindowsEncoding, absolute, cursor, rooted};
+use crate::windows::encoding::WindowsEncoding;
 use crate::windows::prefix::WindowsPrefixComponent;
 use std::fmt;
 use std::iter::FusedIterator;
 
 /// The components of a Windows path that are left to be read.
-#[derive(Clone, Copy)]
+#[derive(Clone, Copy, PartialEq, Eq, PartialOrd, Ord)]
 pub struct WindowsComponents<'a> {
-    cursor: Cursor<'a>,
-    ghost written: { parts (items_left cursor) ≡ as_windows_writes (parts (items_left cursor)) },
+    components: Components<'a, WindowsEncoding>,
+    ghost written: { components_parts components ≡ as_windows_writes (components_parts components) },
 }
 
 /// The component that a piece of a Windows path is.
@@ -60,7 +59,7 @@ impl<'a> WindowsComponents<'a> {
         ensures slice { windows_slice result ≡ path_bytes path.entry }
     {
         WindowsComponents {
-            cursor: cursor(path.as_bytes()),
+            components: path.components(),
         }
     }
 
@@ -72,7 +71,7 @@ impl<'a> WindowsComponents<'a> {
         ensures slice { windows_slice self.new
             ≡ slice_after_front (windows_items self.old) (windows_slice self.old) }
     {
-        let piece = self.cursor.front()?;
+        let piece = self.components.next()?;
         Some(windows_component(piece))
     }
 
@@ -84,7 +83,7 @@ impl<'a> WindowsComponents<'a> {
         ensures slice { windows_slice self.new
             ≡ slice_after_back (windows_items self.old) (windows_slice self.old) }
     {
-        let piece = self.cursor.back()?;
+        let piece = self.components.next_back()?;
         Some(windows_component(piece))
     }
 
@@ -100,7 +99,7 @@ impl<'a> WindowsComponents<'a> {
     pub fn as_bytes(self) -> &'a [u8]
         ensures { result.now ≡ windows_slice self.entry }
     {
-        self.cursor.as_bytes()
+        self.components.as_bytes()
     }
 
     /// The slice left, as a path in the encoding that the caller names.
@@ -115,7 +114,7 @@ impl<'a> WindowsComponents<'a> {
     pub fn is_absolute(self) -> bool
         ensures { result ≡ is_absolute windows (kinds (windows_parts self.entry)) }
     {
-        absolute(&self.cursor)
+        self.components.is_absolute()
     }
 
     /// Whether the components that are left begin with a root, written or implied: every prefix but
@@ -123,7 +122,7 @@ impl<'a> WindowsComponents<'a> {
     pub fn has_root(self) -> bool
         ensures { result ≡ has_root windows (kinds (windows_parts self.entry)) }
     {
-        rooted(&self.cursor)
+        self.components.has_root()
     }
 
     /// Whether a prefix is the first component that is left.
@@ -138,7 +137,7 @@ impl<'a> WindowsComponents<'a> {
         ensures { option_map prefix_component_part result
             ≡ prefix_among (windows_parts self.entry) }
     {
-        windows_component(self.cursor.prefix_piece()?).prefix()
+        windows_component(self.components.cursor().prefix_piece()?).prefix()
     }
 
     /// Which prefix is the first component that is left, where one is.
@@ -146,7 +145,7 @@ impl<'a> WindowsComponents<'a> {
         ensures { option_map prefix_view result
             ≡ first_prefix (kinds (windows_parts self.entry)) }
     {
-        self.cursor.prefix()
+        self.components.cursor().prefix()
     }
 
     /// Whether a prefix of one of the three verbatim kinds is first: `\\?\name`,
@@ -207,7 +206,7 @@ impl<'a> WindowsComponents<'a> {
     pub fn has_physical_root(self) -> bool
         ensures { result ≡ has_physical_root (kinds (windows_parts self.entry)) }
     {
-        self.cursor.has_physical_root()
+        self.components.cursor().has_physical_root()
     }
 
     /// Whether a prefix other than `C:` is first, which implies a root.

@@ -1,7 +1,5 @@
-use Rattle.std.proofs.Common.{subst, sym, ap, ◌≡◌, ◌∙◌}
-use Rattle.typed_path.specs.components.Dialect.{windows}
+use Rattle.std.proofs.Common.{subst, sym, ◌≡◌}
 use Rattle.typed_path.specs.components.Part.{parts}
-use Rattle.typed_path.specs.components.Comps.{comps}
 use Rattle.typed_path.specs.components.WindowsParts.{as_windows_writes}
 use Rattle.typed_path.specs.views.PathViews.{path_bytes}
 use Rattle.typed_path.proofs.lemmas.components.WrittenLemmas.{windows_written-parts_of}
@@ -9,5 +7,5 @@ use Rattle.typed_path.proofs.windows.components.WindowsComponents.new.Goals as g
 
 pub invariant_of-result : goal.invariant_of-result
 invariant_of-result c = record {
-  written = subst (λ cs. parts cs ≡ as_windows_writes (parts cs)) (sym (c.cursor.ensures.items ∙ ap (comps windows) c.as_bytes.ensures)) (windows_written-parts_of (path_bytes c.args.path));
+  written = subst (λ cs. parts cs ≡ as_windows_writes (parts cs)) (sym c.components.ensures.items) (windows_written-parts_of (path_bytes c.args.path));
 }
