@@ -3,6 +3,7 @@
 mod ancestors;
 mod component;
 mod components;
+mod concrete;
 mod debug;
 mod encoding;
 mod hash;
@@ -26,6 +27,7 @@ mod texts;
 pub use ancestors::Ancestors;
 pub use component::Component;
 pub use components::Components;
+pub use concrete::{Concrete, ConcreteComponents};
 pub use encoding::Encoding;
 pub use iter::Iter;
 pub(crate) use order::{compare, is_same};

@@ -4,7 +4,7 @@ ghost use Rattle.std.specs.Prelude.{◌≡◌, ◌↔◌, ℕ, ◌+◌, ◌<◌,
 ghost use Rattle.std.specs.List.{list_any};
 ghost use Rattle.std.specs.Cmp.{IsTotalOrder};
 ghost use Rattle.std.specs.declared.cmp.Ordering.{Ordering};
-ghost use Rattle.typed_path.specs.components.Dialect.{Dialect, unix, dot, slash};
+ghost use Rattle.typed_path.specs.components.Dialect.{Dialect, dot, slash};
 ghost use Rattle.typed_path.specs.components.Part.{Placed};
 ghost use Rattle.typed_path.specs.components.Prefix.{Found, prefix_of};
 ghost use Rattle.typed_path.specs.components.Comps.{comps};
@@ -15,7 +15,7 @@ ghost use Rattle.typed_path.specs.promises.Joins.{JoinAppends, StripJoins};
 ghost use Rattle.typed_path.specs.queries.Names.{is_a_dot, stem_of, extension_of};
 ghost use Rattle.typed_path.specs.order.Same.{IsSame, is_same, path_cmp, kind_cmp};
 ghost use Rattle.typed_path.specs.views.UnixViews.{unix_part};
-ghost use Rattle.typed_path.specs.views.UnixIterViews.{unix_slice};
+ghost use Rattle.typed_path.specs.views.ConcreteViews.{concrete_slice};
 ghost use Rattle.typed_path.specs.order.Words.{path_words, unix_words};
 ghost use Rattle.typed_path.specs.views.PathViews.{path_bytes, iter_slice};
 ghost use Rattle.typed_path.specs.promises.Promises.{ReadsAsResolved, StaysNormal, IsCanonical, HashAlike};
@@ -23,18 +23,17 @@ ghost use Rattle.typed_path.specs.promises.Promises.{ReadsAsResolved, StaysNorma
 mod conversions;
 mod windows;
 
-use crate::common::{Encoding, Iter, Path};
+use crate::common::{ConcreteComponents, Encoding, Iter, Path};
 use crate::constants::unix::{
     CURRENT_DIR, CURRENT_DIR_STR, DISALLOWED_FILENAME_BYTES, DISALLOWED_FILENAME_CHARS, PARENT_DIR,
     PARENT_DIR_STR, SEPARATOR, SEPARATOR_STR,
 };
-use crate::unix::{UnixComponent, UnixComponents};
+use crate::unix::UnixComponent;
 pub use conversions::{platform_is_unix, unix_paths_cross_to_windows, windows_paths_cross_to_unix};
 use std::hash::Hash;
 pub use windows::{
     normal_stays_stable, windows_components_compare_by_kind, windows_constants_are_these,
-    windows_iterators_compare_by_what_is_left, windows_prefix_components_compare_by_kind,
-    windows_prefixes_compare_by_kind,
+    windows_prefix_components_compare_by_kind, windows_prefixes_compare_by_kind,
 };
 
 /// A normal text of Unix reads as what the list of its path resolves to.
@@ -100,17 +99,17 @@ pub fn iterators_compare_by_what_is_left<'a, T: Encoding>(one: Iter<'a, T>, othe
         ≡ path_cmp T.dialect (iter_slice one.entry) (iter_slice other.entry) }
 {}
 
-/// The same of the iterators of Unix components.
-pub fn unix_iterators_compare_by_what_is_left<'a>(
-    one: UnixComponents<'a>,
-    other: UnixComponents<'a>,
+/// The same of the iterators over the values of an encoding's own type.
+pub fn concrete_iterators_compare_by_what_is_left<'a, T: Encoding>(
+    one: ConcreteComponents<'a, T>,
+    other: ConcreteComponents<'a, T>,
 )
-    ensures equality { ⟦<UnixComponents<'a> as PartialEq>⟧.eq one.entry other.entry
-        ≡ is_same unix (unix_slice one.entry) (unix_slice other.entry) }
-    ensures partial_order { ⟦<UnixComponents<'a> as PartialOrd>⟧.partial_cmp one.entry other.entry
-        ≡ Some (path_cmp unix (unix_slice one.entry) (unix_slice other.entry)) }
-    ensures order { ⟦<UnixComponents<'a> as Ord>⟧.cmp one.entry other.entry
-        ≡ path_cmp unix (unix_slice one.entry) (unix_slice other.entry) }
+    ensures equality { ⟦<ConcreteComponents<'a, T> as PartialEq>⟧.eq one.entry other.entry
+        ≡ is_same T.dialect (concrete_slice one.entry) (concrete_slice other.entry) }
+    ensures partial_order { ⟦<ConcreteComponents<'a, T> as PartialOrd>⟧.partial_cmp one.entry other.entry
+        ≡ Some (path_cmp T.dialect (concrete_slice one.entry) (concrete_slice other.entry)) }
+    ensures order { ⟦<ConcreteComponents<'a, T> as Ord>⟧.cmp one.entry other.entry
+        ≡ path_cmp T.dialect (concrete_slice one.entry) (concrete_slice other.entry) }
 {}
 
 /// A file name without an extension is its stem; one with an extension is its stem, a dot and the

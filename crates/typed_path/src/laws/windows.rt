@@ -1,14 +1,13 @@
 //! The laws of Windows: of normal texts, and of single values.
 
-ghost use Rattle.std.specs.Prelude.{◌≡◌, ◌↔◌, true, Some, IfSome, [], ◌∷◌, ◌++◌, codes, map};
-ghost use Rattle.typed_path.specs.components.Dialect.{windows, dot, slash, backslash};
+ghost use Rattle.std.specs.Prelude.{◌≡◌, ◌↔◌, true, IfSome, [], ◌∷◌, ◌++◌, codes, map};
+ghost use Rattle.typed_path.specs.components.Dialect.{dot, slash, backslash};
 ghost use Rattle.typed_path.specs.promises.Promises.{StaysStable};
 ghost use Rattle.typed_path.specs.components.Part.{prefix};
 ghost use Rattle.typed_path.specs.queries.Queries.{prefix_in, reserved_names};
-ghost use Rattle.typed_path.specs.order.Same.{is_same, path_cmp, kind_cmp};
+ghost use Rattle.typed_path.specs.order.Same.{kind_cmp};
 ghost use Rattle.typed_path.specs.order.Words.{prefix_words, windows_words};
 ghost use Rattle.typed_path.specs.views.PieceViews.{prefix_view};
-ghost use Rattle.typed_path.specs.views.WindowsIterViews.{windows_slice};
 ghost use Rattle.typed_path.specs.views.WindowsViews.{prefix_component_part, windows_part};
 
 use crate::constants::windows::{
@@ -16,7 +15,7 @@ use crate::constants::windows::{
     DISALLOWED_FILENAME_CHARS, PARENT_DIR, PARENT_DIR_STR, RESERVED_DEVICE_NAMES,
     RESERVED_DEVICE_NAMES_STR, SEPARATOR, SEPARATOR_STR,
 };
-use crate::windows::{WindowsComponent, WindowsComponents, WindowsPrefix, WindowsPrefixComponent};
+use crate::windows::{WindowsComponent, WindowsPrefix, WindowsPrefixComponent};
 use std::hash::Hash;
 
 /// A normal text of Windows reads as what the list of its path resolves to, but for a root put in
@@ -78,17 +77,4 @@ pub fn windows_components_compare_by_kind<'a>(
         ≡ kind_cmp (windows_part one.entry).kind (windows_part other.entry).kind }
     ensures hash { ⟦<WindowsComponent<'a> as Hash>⟧.hash_input one.entry
         ≡ windows_words (windows_part one.entry).kind }
-{}
-
-/// What an iterator has left is equal and in order as the path of its slice left, read anew.
-pub fn windows_iterators_compare_by_what_is_left<'a>(
-    one: WindowsComponents<'a>,
-    other: WindowsComponents<'a>,
-)
-    ensures equality { ⟦<WindowsComponents<'a> as PartialEq>⟧.eq one.entry other.entry
-        ≡ is_same windows (windows_slice one.entry) (windows_slice other.entry) }
-    ensures partial_order { ⟦<WindowsComponents<'a> as PartialOrd>⟧.partial_cmp one.entry other.entry
-        ≡ Some (path_cmp windows (windows_slice one.entry) (windows_slice other.entry)) }
-    ensures order { ⟦<WindowsComponents<'a> as Ord>⟧.cmp one.entry other.entry
-        ≡ path_cmp windows (windows_slice one.entry) (windows_slice other.entry) }
 {}

@@ -11,7 +11,7 @@ use Rattle.typed_path.specs.components.Dialect.{unix, windows, slash, dot, root_
 use Rattle.typed_path.specs.components.Part.{Prefix, disk, Kind, prefix, root, current, parent, normal, Part, kinds, parent_part, name_part, root_part, prefix_part, is_name, is_parent}
 use Rattle.typed_path.specs.components.Prefix.{Found, is_drive_letter, drive, prefix_of}
 use Rattle.typed_path.specs.components.Comps.{parts_of}
-use Rattle.typed_path.specs.components.WindowsParts.{written_windows}
+use Rattle.typed_path.specs.components.Written.{written_windows}
 use Rattle.typed_path.specs.queries.Queries.{is_disk, is_root, begins_with_root, have_allowed_bytes}
 use Rattle.typed_path.specs.changes.Push.{ended_with, push_unix, push_all}
 use Rattle.typed_path.specs.conversions.Convert.{crossed, crossed_all}

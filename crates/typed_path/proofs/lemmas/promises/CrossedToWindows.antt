@@ -9,7 +9,7 @@ use Rattle.typed_path.specs.components.Dialect.{unix, windows, backslash, dot, i
 use Rattle.typed_path.specs.components.Part.{Kind, prefix, root, current, parent, normal, Part, kinds, texts, parent_part, name_part, root_part}
 use Rattle.typed_path.specs.components.Prefix.{prefix_of}
 use Rattle.typed_path.specs.components.Comps.{parts_of}
-use Rattle.typed_path.specs.components.WindowsParts.{written_windows}
+use Rattle.typed_path.specs.components.Written.{written_windows}
 use Rattle.typed_path.specs.queries.Queries.{begins_with_root, has_prefix, have_allowed_bytes}
 use Rattle.typed_path.specs.changes.Push.{is_disk_alone, ended_with, push_windows, push_all}
 use Rattle.typed_path.specs.conversions.Convert.{crossed, crossed_all, converted_checked}

@@ -37,6 +37,12 @@ module _ {X : Type 0} (view : X → Part) where
       (yields_pushed r (but_last (c ∷ cs)) new d.0 (e ∙ ap last_part d.1 ∙ last_part-push (but_last (c ∷ cs)) d.0) f)
 
   -- so fewer are left
+  pub progress_first : {S : Type 0} (rest : S → List Part) (can : S → Type 0) → ((s : S) → can s) → (s t : S) (r : Option X)
+      → YieldsFirstBy view rest s r t → MakesProgress can (item_count rest) s r t
+  progress_first rest can all s t None h = record { on = λ finite. tt; keeps = tt; rests = λ finite. tt }
+  progress_first rest can all s t (Some x) h =
+      record { on = λ finite. (all t, tt, omega (arith, ap length h)); keeps = all t; rests = λ finite. tt }
+
   pub progress : {S : Type 0} (rest : S → List Part) (can : S → Type 0) → ((s : S) → can s) → (s t : S) (r : Option X)
       → YieldsLastBy view rest s r t → MakesProgress can (item_count rest) s r t
   progress rest can all s t None h = record { on = λ finite. tt; keeps = tt; rests = λ finite. tt }
