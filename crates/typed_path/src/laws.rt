@@ -23,7 +23,7 @@ ghost use Rattle.typed_path.specs.promises.Promises.{ReadsAsResolved, StaysNorma
 mod conversions;
 mod windows;
 
-use crate::common::{ConcreteComponents, Encoding, Iter, Path};
+use crate::common::{Ancestors, Components, ConcreteComponents, Encoding, Iter, Path};
 use crate::constants::unix::{
     CURRENT_DIR, CURRENT_DIR_STR, DISALLOWED_FILENAME_BYTES, DISALLOWED_FILENAME_CHARS, PARENT_DIR,
     PARENT_DIR_STR, SEPARATOR, SEPARATOR_STR,
@@ -110,6 +110,27 @@ pub fn concrete_iterators_compare_by_what_is_left<'a, T: Encoding>(
         ≡ Some (path_cmp T.dialect (concrete_slice one.entry) (concrete_slice other.entry)) }
     ensures order { ⟦<ConcreteComponents<'a, T> as Ord>⟧.cmp one.entry other.entry
         ≡ path_cmp T.dialect (concrete_slice one.entry) (concrete_slice other.entry) }
+{}
+
+/// The clone of an iterator is never refused, and is that iterator.
+pub fn iterators_are_cloned<'a, T: Encoding>(
+    components: Components<'a, T>,
+    texts: Iter<'a, T>,
+    ancestors: Ancestors<'a, T>,
+    values: ConcreteComponents<'a, T>,
+)
+    ensures components { ⟦<Components<'a, T> as Clone>⟧.is_infallible components.entry }
+    ensures texts { ⟦<Iter<'a, T> as Clone>⟧.is_infallible texts.entry }
+    ensures ancestors { ⟦<Ancestors<'a, T> as Clone>⟧.is_infallible ancestors.entry }
+    ensures values { ⟦<ConcreteComponents<'a, T> as Clone>⟧.is_infallible values.entry }
+    ensures same_components { (copy : _) → ⟦<Components<'a, T> as Clone>⟧.is_clone components.entry copy
+        → copy ≡ components.entry }
+    ensures same_texts { (copy : _) → ⟦<Iter<'a, T> as Clone>⟧.is_clone texts.entry copy
+        → copy ≡ texts.entry }
+    ensures same_ancestors { (copy : _) → ⟦<Ancestors<'a, T> as Clone>⟧.is_clone ancestors.entry copy
+        → copy ≡ ancestors.entry }
+    ensures same_values { (copy : _) → ⟦<ConcreteComponents<'a, T> as Clone>⟧.is_clone values.entry copy
+        → copy ≡ values.entry }
 {}
 
 /// A file name without an extension is its stem; one with an extension is its stem, a dot and the

@@ -68,7 +68,7 @@ abbrev pub has_physical_root : List Kind → Bool
 has_physical_root (prefix p ∷ ks) = begins_with_root ks
 has_physical_root ks = begins_with_root ks
 
--- the prefix that a single component is
+-- whether a single component is a prefix, and which
 abbrev pub is_prefix : Kind → Bool
 is_prefix (prefix p) = true
 is_prefix k = false

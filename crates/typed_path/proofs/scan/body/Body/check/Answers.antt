@@ -7,9 +7,9 @@ use Rattle.typed_path.specs.views.BodyViews.{body_slice, body_items}
 use Rattle.typed_path.specs.readings.Steps.{first_part}
 use Rattle.typed_path.specs.views.PieceViews.{part_of}
 use Rattle.typed_path.specs.changes.Fault.{fault_behind, fault_at}
-use Rattle.typed_path.specs.changes.Checked.{error_of, SeparatesDisallowed, AllowsEach}
+use Rattle.typed_path.specs.changes.Checked.{error_of, SeparatesDisallowed}
 use Rattle.typed_path.specs.queries.Queries.{is_valid_kind}
-use Rattle.typed_path.proofs.lemmas.changes.AllowedLemmas.{allowed-body_from}
+use Rattle.typed_path.proofs.lemmas.changes.AllowedLemmas.{AllowsEach, allowed-body_from}
 use Rattle.std.specs.Result.{IsErrAnd}
 use Rattle.typed_path.proofs.lemmas.components.CountLemmas.{body_from-count}
 use Rattle.typed_path.proofs.lemmas.changes.FaultLemmas.{fault_behind-at, taken-first}
