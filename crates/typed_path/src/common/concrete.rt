@@ -150,11 +150,13 @@ impl<'a, T: Concrete<'a>> ConcreteComponents<'a, T> {
 
 impl<'a, T: Concrete<'a>> Iterator for ConcreteComponents<'a, T> {
     ghost use Rattle.std.specs.Iterator.{YieldsFirstBy, item_count};
-    ghost use Rattle.typed_path.specs.views.ConcreteViews.{concrete_parts};
+    ghost use Rattle.typed_path.specs.readings.Steps.{LeavesFront};
+    ghost use Rattle.typed_path.specs.views.ConcreteViews.{concrete_items, concrete_slice, concrete_parts};
 
     type Item = T::Component;
 
-    ghost next_gives = { YieldsFirstBy T.part concrete_parts };
+    ghost next_gives = { λ s component t. YieldsFirstBy T.part concrete_parts s component t
+        × LeavesFront concrete_items concrete_slice s t };
 
     ghost remaining = { item_count concrete_parts };
 
@@ -166,9 +168,11 @@ impl<'a, T: Concrete<'a>> Iterator for ConcreteComponents<'a, T> {
 
 impl<'a, T: Concrete<'a>> DoubleEndedIterator for ConcreteComponents<'a, T> {
     ghost use Rattle.std.specs.Iterator.{YieldsLastBy};
-    ghost use Rattle.typed_path.specs.views.ConcreteViews.{concrete_parts};
+    ghost use Rattle.typed_path.specs.readings.Steps.{LeavesBack};
+    ghost use Rattle.typed_path.specs.views.ConcreteViews.{concrete_items, concrete_slice, concrete_parts};
 
-    ghost next_back_gives = { YieldsLastBy T.part concrete_parts };
+    ghost next_back_gives = { λ s component t. YieldsLastBy T.part concrete_parts s component t
+        × LeavesBack concrete_items concrete_slice s t };
 
     #[inline(always)]
     fn next_back(&mut self) -> Option<T::Component> {
