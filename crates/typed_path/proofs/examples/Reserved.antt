@@ -4,7 +4,7 @@ use Rattle.typed_path.specs.declared.errors.CheckedPathError.TheVariants.{Invali
 use Rattle.typed_path.specs.components.Dialect.{unix, windows}
 use Rattle.typed_path.specs.conversions.Convert.{converted, converted_checked}
 use Rattle.typed_path.specs.lines.Lines.{reply}
-use Rattle.typed_path.specs.changes.Run.{done, refused}
+use Rattle.typed_path.specs.changes.Run.{refused}
 use Rattle.typed_path.proofs.examples.Words.{valid, pushed, checked, normalized}
 
 -- which names are valid

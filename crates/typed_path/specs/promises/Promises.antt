@@ -7,8 +7,6 @@ use Rattle.typed_path.specs.components.Prefix.{prefix_of, is_empty}
 use Rattle.typed_path.specs.components.Comps.{parts_of}
 use Rattle.typed_path.specs.order.Same.{IsSame}
 use Rattle.typed_path.specs.queries.Queries.{have_allowed_bytes}
-use Rattle.typed_path.specs.changes.Push.{push}
-use Rattle.typed_path.specs.changes.Fault.{fault}
 use Rattle.typed_path.specs.places.Places.{resolve, place, normal_text}
 
 abbrev pub prefix_kind : Dialect → List ℕ → Option Prefix
