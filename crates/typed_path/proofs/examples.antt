@@ -10,4 +10,5 @@ pub mod WindowsPaths
 pub mod Spelled
 pub mod Order
 pub mod Conversions
+pub mod Reserved
 pub mod Replies

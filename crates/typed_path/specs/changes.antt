@@ -3,5 +3,6 @@ pub mod Push
 pub mod Fault
 pub mod Changes
 pub mod Checked
+pub mod Reserved
 pub mod Run
 pub mod Spelled

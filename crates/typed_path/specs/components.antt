@@ -3,5 +3,4 @@ pub mod Dialect
 pub mod Part
 pub mod Prefix
 pub mod Comps
-pub mod UnixParts
-pub mod WindowsParts
+pub mod Written

@@ -5,8 +5,7 @@ pub mod CursorViews
 pub mod PathViews
 pub mod ReversedViews
 pub mod UnixViews
-pub mod UnixIterViews
+pub mod ConcreteViews
 pub mod WindowsViews
-pub mod WindowsIterViews
 pub mod OwnedViews
 pub mod RunViews

@@ -15,14 +15,15 @@ ghost use Rattle.typed_path.specs.promises.Joins.{JoinAppends, StripJoins};
 ghost use Rattle.typed_path.specs.queries.Names.{is_a_dot, stem_of, extension_of};
 ghost use Rattle.typed_path.specs.order.Same.{IsSame, is_same, path_cmp, kind_cmp};
 ghost use Rattle.typed_path.specs.views.UnixViews.{unix_part};
+ghost use Rattle.typed_path.specs.views.ConcreteViews.{concrete_slice};
 ghost use Rattle.typed_path.specs.order.Words.{path_words, unix_words};
-ghost use Rattle.typed_path.specs.views.PathViews.{path_bytes};
+ghost use Rattle.typed_path.specs.views.PathViews.{path_bytes, iter_slice};
 ghost use Rattle.typed_path.specs.promises.Promises.{ReadsAsResolved, StaysNormal, IsCanonical, HashAlike};
 
 mod conversions;
 mod windows;
 
-use crate::common::{Encoding, Path};
+use crate::common::{Ancestors, Components, ConcreteComponents, Encoding, Iter, Path};
 use crate::constants::unix::{
     CURRENT_DIR, CURRENT_DIR_STR, DISALLOWED_FILENAME_BYTES, DISALLOWED_FILENAME_CHARS, PARENT_DIR,
     PARENT_DIR_STR, SEPARATOR, SEPARATOR_STR,
@@ -36,16 +37,19 @@ pub use windows::{
 };
 
 /// A normal text of Unix reads as what the list of its path resolves to.
+#[tactic(auto, using(crate::proofs::lemmas::promises::UnixNormal::reads_as_resolved))]
 pub fn normal_reads_as_resolved(path: &[u8])
     ensures { ReadsAsResolved path.now }
 {}
 
 /// A normal text of Unix is its own normal text.
+#[tactic(auto, using(crate::proofs::lemmas::promises::UnixNormal::stays_normal))]
 pub fn normal_stays_normal(path: &[u8])
     ensures { StaysNormal path.now }
 {}
 
 /// Two paths of Unix have one normal text exactly if their lists resolve to the same kinds.
+#[tactic(auto, using(crate::proofs::lemmas::promises::UnixNormal::is_canonical))]
 pub fn normal_is_canonical(path: &[u8], other: &[u8])
     ensures { IsCanonical path.now other.now }
 {}
@@ -73,6 +77,7 @@ pub fn order_agrees_with_equality(path: &[u8], other: &[u8])
 {}
 
 /// Equal paths feed the same to a hasher.
+#[tactic(auto, using(crate::proofs::lemmas::order::OrderLaws::hash_alike))]
 pub fn equal_paths_hash_alike(path: &[u8], other: &[u8])
     ghost d: { Dialect }
     ensures { HashAlike d path.now other.now }
@@ -86,6 +91,50 @@ pub fn paths_compare_by_components<'a, T: Encoding>(one: Path<'a, T>, other: Pat
         ≡ path_cmp T.dialect (path_bytes one.entry) (path_bytes other.entry) }
     ensures hash { ⟦<Path<'a, T> as Hash>⟧.hash_input one.entry
         ≡ path_words T.dialect (path_bytes one.entry) }
+{}
+
+/// What an iterator has left is equal and in order as the path of its slice left, read anew.
+pub fn iterators_compare_by_what_is_left<'a, T: Encoding>(one: Iter<'a, T>, other: Iter<'a, T>)
+    ensures equality { ⟦<Iter<'a, T> as PartialEq>⟧.eq one.entry other.entry
+        ≡ is_same T.dialect (iter_slice one.entry) (iter_slice other.entry) }
+    ensures partial_order { ⟦<Iter<'a, T> as PartialOrd>⟧.partial_cmp one.entry other.entry
+        ≡ Some (path_cmp T.dialect (iter_slice one.entry) (iter_slice other.entry)) }
+    ensures order { ⟦<Iter<'a, T> as Ord>⟧.cmp one.entry other.entry
+        ≡ path_cmp T.dialect (iter_slice one.entry) (iter_slice other.entry) }
+{}
+
+/// The same of the iterators over the values of an encoding's own type.
+pub fn concrete_iterators_compare_by_what_is_left<'a, T: Encoding>(
+    one: ConcreteComponents<'a, T>,
+    other: ConcreteComponents<'a, T>,
+)
+    ensures equality { ⟦<ConcreteComponents<'a, T> as PartialEq>⟧.eq one.entry other.entry
+        ≡ is_same T.dialect (concrete_slice one.entry) (concrete_slice other.entry) }
+    ensures partial_order { ⟦<ConcreteComponents<'a, T> as PartialOrd>⟧.partial_cmp one.entry other.entry
+        ≡ Some (path_cmp T.dialect (concrete_slice one.entry) (concrete_slice other.entry)) }
+    ensures order { ⟦<ConcreteComponents<'a, T> as Ord>⟧.cmp one.entry other.entry
+        ≡ path_cmp T.dialect (concrete_slice one.entry) (concrete_slice other.entry) }
+{}
+
+/// The clone of an iterator is never refused, and is that iterator.
+pub fn iterators_are_cloned<'a, T: Encoding>(
+    components: Components<'a, T>,
+    texts: Iter<'a, T>,
+    ancestors: Ancestors<'a, T>,
+    values: ConcreteComponents<'a, T>,
+)
+    ensures components { ⟦<Components<'a, T> as Clone>⟧.is_infallible components.entry }
+    ensures texts { ⟦<Iter<'a, T> as Clone>⟧.is_infallible texts.entry }
+    ensures ancestors { ⟦<Ancestors<'a, T> as Clone>⟧.is_infallible ancestors.entry }
+    ensures values { ⟦<ConcreteComponents<'a, T> as Clone>⟧.is_infallible values.entry }
+    ensures same_components { (copy : _) → ⟦<Components<'a, T> as Clone>⟧.is_clone components.entry copy
+        → copy ≡ components.entry }
+    ensures same_texts { (copy : _) → ⟦<Iter<'a, T> as Clone>⟧.is_clone texts.entry copy
+        → copy ≡ texts.entry }
+    ensures same_ancestors { (copy : _) → ⟦<Ancestors<'a, T> as Clone>⟧.is_clone ancestors.entry copy
+        → copy ≡ ancestors.entry }
+    ensures same_values { (copy : _) → ⟦<ConcreteComponents<'a, T> as Clone>⟧.is_clone values.entry copy
+        → copy ≡ values.entry }
 {}
 
 /// A file name without an extension is its stem; one with an extension is its stem, a dot and the
@@ -144,11 +193,13 @@ pub fn steps_agree_with_counts(path: &[u8])
 
 /// What was taken from the front of a list of components, what is left, and what was taken from the
 /// back are together the list, in order.
+#[tactic(auto, using(crate::proofs::lemmas::readings::ReadingLemmas::is_whole))]
 pub fn ends_and_rest_are_the_list()
     ensures { (cs : List Placed) (i j : ℕ) → IsWhole cs i j }
 {}
 
 /// The list of a parent is the list without its last component, each component at its place.
+#[tactic(auto, using(crate::proofs::lemmas::queries::WindowsParent::parent_list))]
 pub fn parent_is_the_list_without_its_last(path: &[u8])
     ghost d: { Dialect }
     ensures { (parent : List ℕ) → parent_of d path.now ≡ Some parent
@@ -157,11 +208,13 @@ pub fn parent_is_the_list_without_its_last(path: &[u8])
 
 /// A relative Unix path joined to a base that is not empty is read as the list of the base and,
 /// behind it, that of the path without a current directory at its beginning.
+#[tactic(auto, using(crate::proofs::lemmas::promises::UnixJoin::join_appends))]
 pub fn join_appends(base: &[u8], path: &[u8])
     ensures { JoinAppends base.now path.now }
 {}
 
 /// Where a Unix path begins with a base, what is left behind the base, joined to it, equals the path.
+#[tactic(auto, using(crate::proofs::lemmas::promises::UnixStrip::strip_joins))]
 pub fn strip_joins(path: &[u8], base: &[u8])
     ensures { StripJoins path.now base.now }
 {}

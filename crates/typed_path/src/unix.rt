@@ -5,7 +5,6 @@ mod components;
 mod crossed;
 mod encoding;
 mod normal;
-mod order;
 mod readings;
 
 use crate::common::{Path, PathBuf};

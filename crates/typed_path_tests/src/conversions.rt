@@ -40,7 +40,8 @@ fn converts_as<T: Encoding, U: Encoding>(alloc: Global, row: Row) -> Result<bool
 #[test]
 fn to_windows(rt: HostRuntime) -> Result<(), Fail> {
     use CheckedPathError::{InvalidFilename, UnexpectedPrefix};
-    let rows: [Row; 8] = [
+    let rows: [Row; 9] = [
+        (b"/tmp/aux.h", br"\tmp\aux.h", Err(InvalidFilename)),
         (b"/tmp/a:b", b"a:b", Err(UnexpectedPrefix)),
         (b"/tmp/ab:c", br"\tmp\ab:c", Err(InvalidFilename)),
         (b"/C:", b"C:", Err(UnexpectedPrefix)),
@@ -57,7 +58,8 @@ fn to_windows(rt: HostRuntime) -> Result<(), Fail> {
     for row in rows {
         assert!(rt; converts_as::<UnixEncoding, WindowsEncoding>(rt.alloc(), row)?);
     }
-    let own: [Row; 2] = [
+    let own: [Row; 3] = [
+        (br"\\s\con\x", br"\\s\con\x", Ok(br"\x")),
         (br"C:\x", br"C:\x", Err(UnexpectedPrefix)),
         (br"\\s\h\x", br"\\s\h\x", Ok(br"\x")),
     ];

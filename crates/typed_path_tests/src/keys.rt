@@ -5,8 +5,8 @@ use std::collections::{BTreeMap, BTreeSet, HashMap, HashSet};
 use std::hash::{DefaultHasher, Hash, Hasher};
 use std::test::Fail;
 use typed_path::{
-    Encoding, Path, PathBuf, UnixEncoding, UnixPath, WindowsComponents, WindowsEncoding,
-    WindowsPath, WindowsPathBuf,
+    Encoding, Path, PathBuf, Piece, PieceKind, UnixEncoding, UnixPath, WindowsComponents,
+    WindowsEncoding, WindowsPath, WindowsPathBuf,
 };
 
 /// A hasher that tells its words apart: where one ends, it takes the length of it in.
@@ -166,6 +166,12 @@ fn half_read_iterators(rt: HostRuntime) {
     let _ = ends.next_back();
     assert!(rt; ends == UnixPath::new(b"a").components());
     assert!(rt; ends < UnixPath::new(b"b").components());
+    let name = Piece {
+        kind: PieceKind::Normal,
+        text: b"a",
+    };
+    assert!(rt; ends.next() == Some(name));
+    assert!(rt; ends.next() < Some(name));
 }
 
 #[test]

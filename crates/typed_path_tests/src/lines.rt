@@ -39,7 +39,7 @@ fn answered(
 
 #[test]
 fn replies(rt: HostRuntime) -> Result<(), Fail> {
-    let rows: [(&[u8], &[u8]); 33] = [
+    let rows: [(&[u8], &[u8]); 34] = [
         (
             b"normalize\tunix\tfoo/bar//baz/./asdf/quux/..",
             b"ok\tfoo/bar/baz/asdf\n",
@@ -96,6 +96,10 @@ fn replies(rt: HostRuntime) -> Result<(), Fail> {
         (
             b"convert_checked\twindows\twindows\tC:\\x\n",
             b"err\tUnexpectedPrefix\n",
+        ),
+        (
+            b"join_checked\twindows\tC:\\x\taux.h\n",
+            b"err\tInvalidFilename\n",
         ),
         (
             b"convert_checked\tunix\twindows\t/tmp/ab:c\n",

@@ -105,6 +105,15 @@ fn questions_and_changes(rt: HostRuntime) -> Result<(), Fail> {
         (br"b\..\C:", false),
         (b"C:", true),
         (b"//./COM1/x", true),
+        (br"\\.\COM1", true),
+        (b"con.txt", false),
+        (b"Nul", false),
+        (br"a\COM0.x.y", false),
+        (b".con", true),
+        (b"com10", true),
+        (b"con ", true),
+        (b"lpt", true),
+        (b"c.on", true),
     ] {
         assert!(rt; WindowsPath::new(text).is_valid() == valid);
     }

@@ -12,6 +12,7 @@ pub mod MergeLemmas
 pub mod FaultLemmas
 pub mod FaultlessLemmas
 pub mod AllowedLemmas
+pub mod ReservedLemmas
 pub mod ConvertLemmas
 pub mod EndedNames
 pub mod PushedNames

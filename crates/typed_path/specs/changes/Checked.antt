@@ -1,13 +1,12 @@
 -- What a checked call was refused for.
 use Rattle.std.specs.Prelude.{◌≡◌, ℕ, List, Bool, true, not, ◌&&◌, Result, Ok, Err, Option, Some, None}
-use Rattle.std.specs.List.{All, AllByRecursion}
+use Rattle.std.specs.List.{All}
 use Rattle.typed_path.specs.declared.scan.separators.Separators.{Separators}
 use Rattle.typed_path.specs.declared.errors.CheckedPathError.{CheckedPathError}
 use Rattle.typed_path.specs.declared.errors.PathError.{PathError}
 use Rattle.typed_path.specs.declared.errors.PathError.TheVariants.{Checked, OutOfMemory}
-use Rattle.typed_path.specs.components.Dialect.{Dialect, dialect_of, is_separator}
-use Rattle.typed_path.specs.components.Part.{Kind}
-use Rattle.typed_path.specs.queries.Queries.{is_disallowed, is_valid_kind}
+use Rattle.typed_path.specs.components.Dialect.{dialect_of, is_separator}
+use Rattle.typed_path.specs.queries.Queries.{is_disallowed}
 
 -- the refusal of a path; none where the call succeeds, and where memory is refused
 abbrev pub refusal : {A : Type 0} → Result A PathError → Option CheckedPathError
@@ -27,7 +26,3 @@ is_stray s b = is_disallowed (dialect_of s) b && not (is_separator s b)
 -- each byte of a text that no name may have is a separator
 abbrev pub SeparatesDisallowed : Separators → List ℕ → Type 0
 SeparatesDisallowed s text = All (λ b. is_disallowed (dialect_of s) b ≡ true → is_separator s b ≡ true) text
-
--- each name of a list is allowed
-abbrev pub AllowsEach : Dialect → List Kind → Type 0
-AllowsEach d ks = AllByRecursion (λ k. is_valid_kind d k ≡ true) ks

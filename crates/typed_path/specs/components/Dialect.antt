@@ -65,3 +65,8 @@ root_of windows = backslash ∷ []
 abbrev pub label_of : Dialect → List ℕ
 label_of unix = codes "unix"
 label_of windows = codes "windows"
+
+-- what the iterator over the components of a dialect is called
+abbrev pub iterator_name : Dialect → List ℕ
+iterator_name unix = codes "UnixComponents"
+iterator_name windows = codes "WindowsComponents"

@@ -40,7 +40,7 @@ IsSame d t u = kinds (parts_of d t) ≡ kinds (parts_of d u)
 abbrev pub path_cmp : Dialect → List ℕ → List ℕ → Ordering
 path_cmp d t u = kinds_cmp (kinds (parts_of d t)) (kinds (parts_of d u))
 
--- the same as a test: whether the order tells them apart
+-- the same as a test: whether the order does not tell them apart
 abbrev pub is_same : Dialect → List ℕ → List ℕ → Bool
 is_same d t u = is_eq (path_cmp d t u)
 

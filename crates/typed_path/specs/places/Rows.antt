@@ -21,10 +21,6 @@ rows_of s names = flat_map (λ name. name ++ row_end s ∷ []) names
 abbrev pub rows : List (List ℕ) → List ℕ
 rows names = rows_of Slash names
 
--- a root, or nothing
-abbrev pub IsHead : List ℕ → Type 0
-IsHead head = (head ≡ []) ⊎ (head ≡ slash ∷ [])
-
 -- a path is a root and the rest, or begins with no separator
 abbrev pub IsParted : List ℕ → List ℕ → List ℕ → Type 0
 IsParted path head rest =

@@ -5,7 +5,7 @@ use Rattle.typed_path.specs.components.Dialect.{unix, windows, backslash, root_o
 use Rattle.typed_path.specs.components.Part.{disk, Kind, prefix, current, normal, Part, kinds, name_part, root_part, is_name, is_parent}
 use Rattle.typed_path.specs.components.Comps.{parts_of}
 use Rattle.typed_path.specs.order.Same.{IsSame}
-use Rattle.typed_path.specs.queries.Queries.{is_root, have_allowed_bytes}
+use Rattle.typed_path.specs.queries.Queries.{is_root, is_valid, have_allowed_bytes}
 use Rattle.typed_path.specs.conversions.Convert.{converted, converted_checked}
 
 -- no name holds a `\`
@@ -16,10 +16,10 @@ lack_backslash ks = list_all lacks ks
     lacks (normal name) = not (list_any (λ b. b == backslash) name)
     lacks k = true
 
--- the checked conversion to Windows accepts a Unix path without `\` in a name exactly where no name has a byte that Windows allows in no name
+-- the checked conversion to Windows accepts a Unix path without `\` in a name exactly where Windows allows each name
 abbrev pub CrossesWhereAllowed : List ℕ → Type 0
 CrossesWhereAllowed t =
-    lack_backslash (kinds (parts_of unix t)) ≡ true → IsOk (converted_checked unix windows t) ↔ (have_allowed_bytes windows (kinds (parts_of unix t)) ≡ true)
+    lack_backslash (kinds (parts_of unix t)) ≡ true → IsOk (converted_checked unix windows t) ↔ (is_valid windows (kinds (parts_of unix t)) ≡ true)
 
 -- what it answers then is read as the same components
 abbrev pub CrossesAsItIs : List ℕ → Type 0

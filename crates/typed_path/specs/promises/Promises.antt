@@ -7,8 +7,6 @@ use Rattle.typed_path.specs.components.Prefix.{prefix_of, is_empty}
 use Rattle.typed_path.specs.components.Comps.{parts_of}
 use Rattle.typed_path.specs.order.Same.{IsSame}
 use Rattle.typed_path.specs.queries.Queries.{have_allowed_bytes}
-use Rattle.typed_path.specs.changes.Push.{push}
-use Rattle.typed_path.specs.changes.Fault.{fault}
 use Rattle.typed_path.specs.places.Places.{resolve, place, normal_text}
 
 abbrev pub prefix_kind : Dialect → List ℕ → Option Prefix
@@ -18,10 +16,6 @@ prefix_kind d t = option_map (λ f. f.prefix) (prefix_of d t)
 abbrev pub LiesWithin : Dialect → List ℕ → List ℕ → List ℕ → Type 0
 LiesWithin d base path joined =
     prefix_kind d joined ≡ prefix_kind d base → place d joined ≡ place d base ++ kinds (resolve (parts_of d path))
-
--- containment of checked joins
-abbrev pub IsContained : Dialect → List ℕ → List ℕ → Type 0
-IsContained d base path = fault d path ≡ None → LiesWithin d base path (push d base path)
 
 abbrev pub keeps_by_prefix : List ℕ → Option Prefix → Bool
 keeps_by_prefix base None =
@@ -40,9 +34,6 @@ keeps_prefix windows base = keeps_by_prefix base (prefix_kind windows base)
 
 abbrev pub HasPrefixOf : Dialect → List ℕ → List ℕ → Type 0
 HasPrefixOf d base joined = keeps_prefix d base ≡ true → prefix_kind d joined ≡ prefix_kind d base
-
-abbrev pub KeepsPrefix : Dialect → List ℕ → List ℕ → Type 0
-KeepsPrefix d base path = fault d path ≡ None → HasPrefixOf d base (push d base path)
 
 -- the canonical form: a normal text of Unix reads as what the list resolves to, stays under a second pass, and is equal to another exactly where both lists resolve alike
 abbrev pub ReadsAsResolved : List ℕ → Type 0
@@ -84,9 +75,6 @@ pub record IsStableForm (t normal : List ℕ) : Type 0 where
 abbrev pub HasStableForm : List ℕ → List ℕ → Type 0
 HasStableForm t normal =
     have_allowed_bytes windows (kinds (parts_of windows t)) ≡ true → is_verbatim_unc_name (prefix_kind windows t) ≡ false → IsStableForm t normal
-
-abbrev pub IsStable : List ℕ → Type 0
-IsStable t = IsStableForm t (normal_text windows t)
 
 abbrev pub StaysStable : List ℕ → Type 0
 StaysStable t = HasStableForm t (normal_text windows t)

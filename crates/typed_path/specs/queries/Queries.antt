@@ -1,14 +1,14 @@
 -- What a path answers, read off its component list.
-use Rattle.std.specs.Prelude.{ℕ, ◌+◌, ◌==◌, List, [], ◌∷◌, codes, Bool, true, false, not, ◌||◌, length, if◌then◌else◌, Option, Some, None, option_and_then}
-use Rattle.std.specs.List.{list_any, list_all, starts_with, ends_with}
+use Rattle.std.specs.Prelude.{ℕ, ◌+◌, ◌==◌, List, [], ◌∷◌, codes, Bool, true, false, not, ◌||◌, ◌&&◌, length, if◌then◌else◌, Option, Some, None, option_and_then}
+use Rattle.std.specs.List.{list_any, list_all, starts_with, ends_with, before_first}
 use Rattle.std.specs.Option.{option_map}
-use Rattle.std.specs.Str.{bytes_eq}
+use Rattle.std.specs.Str.{bytes_eq, str_eq_ignore_ascii_case}
 use Rattle.typed_path.specs.components.Dialect.{Dialect, unix, windows, slash, backslash, colon, question}
 use Rattle.typed_path.specs.components.Part.{Prefix, verbatim, verbatim_unc, verbatim_disk, device_ns, unc, disk, Kind, prefix, root, normal, Part, texts}
 use Rattle.typed_path.specs.components.Prefix.{is_empty}
 use Rattle.typed_path.specs.components.Comps.{comps, parts_of}
 use Rattle.typed_path.specs.readings.Left.{left, last_of}
-use Rattle.typed_path.specs.queries.Names.{stem_of, extension_of}
+use Rattle.typed_path.specs.queries.Names.{is_a_dot, stem_of, extension_of}
 
 abbrev pub begins_with_root : List Kind → Bool
 begins_with_root (root ∷ ks) = true
@@ -68,7 +68,7 @@ abbrev pub has_physical_root : List Kind → Bool
 has_physical_root (prefix p ∷ ks) = begins_with_root ks
 has_physical_root ks = begins_with_root ks
 
--- the prefix that a single component is
+-- whether a single component is a prefix, and which
 abbrev pub is_prefix : Kind → Bool
 is_prefix (prefix p) = true
 is_prefix k = false
@@ -151,11 +151,17 @@ reserved_names =
     ∷ codes "LPT1" ∷ codes "LPT2" ∷ codes "LPT3" ∷ codes "LPT4" ∷ codes "LPT5"
     ∷ codes "LPT6" ∷ codes "LPT7" ∷ codes "LPT8" ∷ codes "LPT9" ∷ codes "LPT0" ∷ []
 
+-- a name stands for a device: on Windows, where its bytes before its first dot are, ASCII case aside, one of the names that do
+abbrev pub is_reserved : Dialect → List ℕ → Bool
+is_reserved unix name = false
+is_reserved windows name = list_any (λ device. str_eq_ignore_ascii_case (before_first is_a_dot name) device) reserved_names
+
 abbrev pub has_allowed_bytes : Dialect → List ℕ → Bool
 has_allowed_bytes d name = not (list_any (is_disallowed d) name)
 
+-- a name is valid: each of its bytes is allowed, and it stands for no device
 abbrev pub is_valid_name : Dialect → List ℕ → Bool
-is_valid_name d name = has_allowed_bytes d name
+is_valid_name d name = has_allowed_bytes d name && not (is_reserved d name)
 
 abbrev pub is_valid_kind : Dialect → Kind → Bool
 is_valid_kind d (normal name) = is_valid_name d name
@@ -165,12 +171,12 @@ abbrev pub is_valid : Dialect → List Kind → Bool
 is_valid d ks = list_all (is_valid_kind d) ks
 
 -- no name has a byte that no name may have, whatever else a valid name must be
+abbrev pub kind_has_allowed_bytes : Dialect → Kind → Bool
+kind_has_allowed_bytes d (normal name) = has_allowed_bytes d name
+kind_has_allowed_bytes d k = true
+
 abbrev pub have_allowed_bytes : Dialect → List Kind → Bool
-have_allowed_bytes d ks = list_all has_allowed ks
-  where
-    has_allowed : Kind → Bool
-    has_allowed (normal name) = has_allowed_bytes d name
-    has_allowed k = true
+have_allowed_bytes d ks = list_all (kind_has_allowed_bytes d) ks
 
 -- the last component, where it is a name
 abbrev pub name_of : Kind → Option (List ℕ)

@@ -1,5 +1,5 @@
 -- What is left of a text, by where it begins.
-use Rattle.std.specs.Prelude.{ℕ, List, [], ◌∷◌, Bool, true, not, ◌||◌, ◌&&◌, ◌==◌, nat_lt, length, Option, option_map}
+use Rattle.std.specs.Prelude.{◌≡◌, ℕ, drop, List, [], ◌∷◌, Bool, true, not, ◌||◌, ◌&&◌, ◌==◌, nat_lt, length, Option, option_map}
 use Rattle.std.specs.Option.{unwrap_or}
 use Rattle.std.specs.List.{before_first, after_last}
 use Rattle.typed_path.specs.declared.scan.separators.Separators.{Separators}
@@ -8,7 +8,7 @@ use Rattle.typed_path.specs.declared.scan.begin.Begin.TheVariants.{Body, Inside}
 use Rattle.typed_path.specs.components.Dialect.{is_separator, is_verbatim}
 use Rattle.typed_path.specs.components.Part.{Part, Placed, end_of}
 use Rattle.typed_path.specs.components.Comps.{body, later_body, is_dot}
-use Rattle.typed_path.specs.readings.Left.{first_of, last_of}
+use Rattle.typed_path.specs.readings.Left.{first_of, last_of, but_last, slice_after_front, slice_after_back}
 
 -- the components of a text that begins at a place
 abbrev pub body_from : Begin → Separators → ℕ → List ℕ → List Placed
@@ -38,3 +38,11 @@ first_part cs = option_map (λ c. c.part) (first_of cs)
 
 abbrev pub last_part : List Placed → Option Part
 last_part cs = option_map (λ c. c.part) (last_of cs)
+
+-- which components, each at its place, and which slice a step of an iterator from the front leaves
+abbrev pub LeavesFront : {S : Type 0} → (S → List Placed) → (S → List ℕ) → S → S → Type 0
+LeavesFront items slice s t = (items t ≡ drop 1 (items s)) × (slice t ≡ slice_after_front (items s) (slice s))
+
+-- and one from the back
+abbrev pub LeavesBack : {S : Type 0} → (S → List Placed) → (S → List ℕ) → S → S → Type 0
+LeavesBack items slice s t = (items t ≡ but_last (items s)) × (slice t ≡ slice_after_back (items s) (slice s))

@@ -5,8 +5,11 @@ ghost use Rattle.typed_path.specs.components.Dialect.{Dialect, root_of, dot};
 ghost use Rattle.typed_path.specs.components.Part.{Part, root as root_kind, parent as parent_kind, current as current_kind, is_name, is_parent, is_current};
 ghost use Rattle.typed_path.specs.queries.Queries.{is_root as is_root_kind, is_valid_kind};
 
+use std::fmt;
+use std::hash::Hash;
+
 /// A component of a path of one encoding.
-pub trait Component<'a>: Sized {
+pub trait Component<'a>: Copy + fmt::Debug + Ord + Hash {
     ghost dialect: { Dialect };
 
     ghost part: { Self → Part };

@@ -36,6 +36,15 @@ impl<'a, T: Encoding> Components<'a, T> {
         }
     }
 
+    /// The reading itself.
+    #[inline(always)]
+    pub(crate) fn cursor(self) -> Cursor<'a>
+        ensures items { items_left result ≡ components_items self.entry }
+        ensures slice { slice_left result ≡ components_slice self.entry }
+    {
+        self.cursor
+    }
+
     /// Takes the first component that is left. It answers none for good once all are taken.
     #[inline(always)]
     pub fn next(&mut self) -> Option<Piece<'a>>
@@ -103,12 +112,14 @@ impl<'a, T: Encoding> Components<'a, T> {
 
 impl<'a, T: Encoding> Iterator for Components<'a, T> {
     ghost use Rattle.std.specs.Iterator.{YieldsFirstBy, item_count};
-    ghost use Rattle.typed_path.specs.views.PathViews.{components_parts};
+    ghost use Rattle.typed_path.specs.readings.Steps.{LeavesFront};
+    ghost use Rattle.typed_path.specs.views.PathViews.{components_items, components_slice, components_parts};
     ghost use Rattle.typed_path.specs.views.PieceViews.{part_of};
 
     type Item = Piece<'a>;
 
-    ghost next_gives = { YieldsFirstBy part_of components_parts };
+    ghost next_gives = { λ s piece t. YieldsFirstBy part_of components_parts s piece t
+        × LeavesFront components_items components_slice s t };
 
     ghost remaining = { item_count components_parts };
 
@@ -120,10 +131,12 @@ impl<'a, T: Encoding> Iterator for Components<'a, T> {
 
 impl<'a, T: Encoding> DoubleEndedIterator for Components<'a, T> {
     ghost use Rattle.std.specs.Iterator.{YieldsLastBy};
-    ghost use Rattle.typed_path.specs.views.PathViews.{components_parts};
+    ghost use Rattle.typed_path.specs.readings.Steps.{LeavesBack};
+    ghost use Rattle.typed_path.specs.views.PathViews.{components_items, components_slice, components_parts};
     ghost use Rattle.typed_path.specs.views.PieceViews.{part_of};
 
-    ghost next_back_gives = { YieldsLastBy part_of components_parts };
+    ghost next_back_gives = { λ s piece t. YieldsLastBy part_of components_parts s piece t
+        × LeavesBack components_items components_slice s t };
 
     #[inline(always)]
     fn next_back(&mut self) -> Option<Piece<'a>> {

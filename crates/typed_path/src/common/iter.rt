@@ -8,6 +8,7 @@ use std::iter::FusedIterator;
 
 /// The texts of the components that are left to be read.
 #[derive_where(Clone, Copy)]
+#[derive_where(PartialEq, Eq, PartialOrd, Ord; T: Encoding)]
 pub struct Iter<'a, T> {
     components: Components<'a, T>,
 }
@@ -71,11 +72,13 @@ impl<'a, T: Encoding> Iter<'a, T> {
 
 impl<'a, T: Encoding> Iterator for Iter<'a, T> {
     ghost use Rattle.std.specs.Iterator.{YieldsFirstRef, item_count};
-    ghost use Rattle.typed_path.specs.views.PathViews.{iter_texts};
+    ghost use Rattle.typed_path.specs.readings.Steps.{LeavesFront};
+    ghost use Rattle.typed_path.specs.views.PathViews.{iter_items, iter_slice, iter_texts};
 
     type Item = &'a [u8];
 
-    ghost next_gives = { YieldsFirstRef iter_texts };
+    ghost next_gives = { λ s text t. YieldsFirstRef iter_texts s text t
+        × LeavesFront iter_items iter_slice s t };
 
     ghost remaining = { item_count iter_texts };
 
@@ -88,9 +91,11 @@ impl<'a, T: Encoding> Iterator for Iter<'a, T> {
 
 impl<'a, T: Encoding> DoubleEndedIterator for Iter<'a, T> {
     ghost use Rattle.std.specs.Iterator.{YieldsLastRef};
-    ghost use Rattle.typed_path.specs.views.PathViews.{iter_texts};
+    ghost use Rattle.typed_path.specs.readings.Steps.{LeavesBack};
+    ghost use Rattle.typed_path.specs.views.PathViews.{iter_items, iter_slice, iter_texts};
 
-    ghost next_back_gives = { YieldsLastRef iter_texts };
+    ghost next_back_gives = { λ s text t. YieldsLastRef iter_texts s text t
+        × LeavesBack iter_items iter_slice s t };
 
     #[inline(always)]
     fn next_back(&mut self) -> Option<&'a [u8]> {

@@ -2,7 +2,6 @@
 
 use crate::common::components::Components;
 use crate::common::encoding::Encoding;
-use crate::common::iter::Iter;
 use crate::common::order::{compare, is_same};
 use crate::common::path::Path;
 use crate::common::path_buf::PathBuf;
@@ -254,70 +253,5 @@ impl<'a, T: Encoding> Ord for Components<'a, T> {
     #[inline]
     fn cmp(&self, other: &Components<'a, T>) -> Ordering {
         compare::<T>(self.as_bytes(), other.as_bytes())
-    }
-}
-
-/// As the paths of the slices left, read anew.
-impl<'a, T: Encoding> PartialEq for Iter<'a, T> {
-    ghost use Rattle.std.specs.Cmp.{eq_by_cmp_equiv, on_total, partial_equiv_from_equiv};
-    ghost use Rattle.std.specs.Ordering.{on};
-    ghost use Rattle.typed_path.specs.order.Same.{is_same};
-    ghost use Rattle.typed_path.specs.order.Laws.{path_cmp_total};
-    ghost use Rattle.typed_path.specs.views.PathViews.{iter_slice};
-
-    ghost eq = { on iter_slice (is_same T.dialect) };
-
-    ghost laws = { partial_equiv_from_equiv (eq_by_cmp_equiv (on_total iter_slice (path_cmp_total T.dialect))) };
-
-    #[inline]
-    fn eq(&self, other: &Iter<'a, T>) -> bool {
-        is_same::<T>(self.as_path().as_bytes(), other.as_path().as_bytes())
-    }
-}
-
-impl<'a, T: Encoding> Eq for Iter<'a, T> {
-    ghost use Rattle.std.specs.Cmp.{eq_by_cmp_equiv, on_total};
-    ghost use Rattle.typed_path.specs.order.Laws.{path_cmp_total};
-    ghost use Rattle.typed_path.specs.views.PathViews.{iter_slice};
-
-    ghost laws = { eq_by_cmp_equiv (on_total iter_slice (path_cmp_total T.dialect)) };
-}
-
-impl<'a, T: Encoding> PartialOrd for Iter<'a, T> {
-    ghost use Rattle.std.specs.Cmp.{on_total, partial_order_from_total};
-    ghost use Rattle.std.specs.Ordering.{as_partial_cmp, on};
-    ghost use Rattle.typed_path.specs.order.Same.{path_cmp};
-    ghost use Rattle.typed_path.specs.order.Laws.{path_cmp_total};
-    ghost use Rattle.typed_path.specs.views.PathViews.{iter_slice};
-
-    ghost partial_cmp = { as_partial_cmp (on iter_slice (path_cmp T.dialect)) };
-
-    ghost laws = { partial_order_from_total (on_total iter_slice (path_cmp_total T.dialect)) };
-
-    #[inline]
-    fn partial_cmp(&self, other: &Iter<'a, T>) -> Option<Ordering> {
-        Some(self.cmp(other))
-    }
-}
-
-impl<'a, T: Encoding> Ord for Iter<'a, T> {
-    ghost use Rattle.std.specs.Prelude.{refl};
-    ghost use Rattle.std.specs.Cmp.{on_total};
-    ghost use Rattle.std.specs.Ordering.{on};
-    ghost use Rattle.typed_path.specs.order.Same.{path_cmp};
-    ghost use Rattle.typed_path.specs.order.Laws.{path_cmp_total};
-    ghost use Rattle.typed_path.specs.views.PathViews.{iter_slice};
-
-    ghost cmp = { on iter_slice (path_cmp T.dialect) };
-
-    ghost total = { on_total iter_slice (path_cmp_total T.dialect) };
-
-    ghost matches_partial_cmp = { λ p q. refl };
-
-    ghost matches_eq = { λ p q. refl };
-
-    #[inline]
-    fn cmp(&self, other: &Iter<'a, T>) -> Ordering {
-        compare::<T>(self.as_path().as_bytes(), other.as_path().as_bytes())
     }
 }

@@ -1,10 +1,13 @@
-//! A file name, split at its last dot.
+//! Names in a text: split at their last dot, put behind it where its memory is found first, and
+//! taken off its end.
 
-ghost use Rattle.std.specs.Prelude.{◌≡◌, ◌≤◌, ◌+◌, ◌++◌, length, option_copied, OnOk, IsOk};
-ghost use Rattle.std.specs.Vec.{vec_capacity};
+ghost use Rattle.std.specs.Prelude.{◌≡◌, ◌<◌, ◌≤◌, ◌+◌, ◌-◌, ◌++◌, ℕ, List, take, length, option_copied, IsOk, OnOk, OnErr};
+ghost use Rattle.std.specs.Vec.{vec_len, vec_capacity};
 ghost use Rattle.typed_path.specs.changes.Changes.{dotted};
+ghost use Rattle.typed_path.specs.places.Rows.{rows_of, AreRowsOf};
 ghost use Rattle.typed_path.specs.queries.Names.{stem_of, extension_of};
 
+use crate::scan::Separators;
 use memchr::memrchr;
 use std::alloc::AllocError;
 
@@ -46,4 +49,59 @@ pub fn put_extension(stem: &mut Vec<u8>, extension: &[u8]) -> Result<(), AllocEr
     }
     stem.push(b'.')?;
     stem.extend_from_slice(extension)
+}
+
+/// Cuts a path to its first bytes, and puts a separator and another path behind them.
+pub fn put_over(
+    path: &mut Vec<u8>,
+    kept: usize,
+    separator: &[u8],
+    other: &[u8],
+) -> Result<(), AllocError>
+    requires within { kept ≤ length path.old.items }
+    requires short { length separator.now ≤ 1 }
+    ensures ok { OnOk result
+        (path.new.items ≡ take kept path.old.items ++ separator.now ++ other.now) }
+    ensures err { OnErr result (path.new.items ≡ path.old.items) }
+    ensures capacity { vec_capacity path.old ≤ vec_capacity path.new }
+    ensures succeeds { kept + length separator.now + length other.now ≤ vec_capacity path.old
+        → IsOk result }
+{
+    let len = kept + separator.len() + other.len();
+    path.reserve(len.saturating_sub(path.len()))?;
+    path.truncate(kept);
+    path.extend_from_slice(separator)?;
+    path.extend_from_slice(other)
+}
+
+/// Takes the last name off, and the separator behind it, where a name stands behind the first bytes.
+#[inline(always)]
+pub fn drop_name(text: &mut Vec<u8>, len: usize, separators: Separators)
+    requires { len ≤ length text.old.items }
+    ensures dropped { (head : List ℕ) (names : List (List ℕ)) → length head ≡ len
+        → AreRowsOf separators text.old.items head names
+        → text.new.items ≡ head ++ rows_of separators (take (length names - 1) names) }
+    ensures kept { take len text.new.items ≡ take len text.old.items }
+    ensures long { len ≤ length text.new.items }
+    ensures room { vec_len text.new ≤ vec_len text.old }
+    ensures capacity { vec_capacity text.new ≡ vec_capacity text.old }
+{
+    if len < text.len() {
+        let start = separators.last_in(&text[len..text.len() - 1]);
+        text.truncate(len + start);
+    }
+}
+
+/// Takes the separator behind the last name off, where a name stands behind the first bytes.
+#[inline(always)]
+pub fn drop_separator(text: &mut Vec<u8>, len: usize)
+    ensures capacity { vec_capacity text.new ≡ vec_capacity text.old }
+    ensures named { len < length text.old.items
+        → text.new.items ≡ take (length text.old.items - 1) text.old.items }
+    ensures alone { length text.old.items ≤ len → text.new.items ≡ text.old.items }
+    ensures kept { take len text.new.items ≡ take len text.old.items }
+{
+    if len < text.len() {
+        text.pop();
+    }
 }

@@ -54,7 +54,8 @@ impl<T: Encoding> PathBuf<T> {
 
     /// The path of a copy of these bytes.
     pub fn from_bytes(alloc: Global, bytes: &[u8]) -> Result<PathBuf<T>, AllocError>
-        ensures { IfOk result (λ p. p.bytes ≡ bytes.now) }
+        ensures bytes { IfOk result (λ p. p.bytes ≡ bytes.now) }
+        ensures succeeds { bytes.now ≡ [] → IsOk result }
     {
         let mut inner = Vec::with_capacity(alloc, bytes.len())?;
         inner.extend_from_slice(bytes)?;
@@ -63,7 +64,8 @@ impl<T: Encoding> PathBuf<T> {
 
     /// The path of a copy of this text.
     pub fn from_str(alloc: Global, text: &str) -> Result<PathBuf<T>, AllocError>
-        ensures { IfOk result (λ p. p.bytes ≡ text.now) }
+        ensures bytes { IfOk result (λ p. p.bytes ≡ text.now) }
+        ensures succeeds { text.now ≡ [] → IsOk result }
     {
         PathBuf::from_bytes(alloc, text.as_bytes())
     }

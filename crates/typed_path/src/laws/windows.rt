@@ -21,6 +21,7 @@ use std::hash::Hash;
 /// A normal text of Windows reads as what the list of its path resolves to, but for a root put in
 /// behind a verbatim drive, leads where the path does and is its own normal text, where no name has a
 /// byte that no name may have and the prefix is not the verbatim one named `UNC`.
+#[tactic(auto, using(crate::proofs::lemmas::promises::WindowsStable::stays_stable))]
 pub fn normal_stays_stable(path: &[u8])
     ensures { StaysStable path.now }
 {}

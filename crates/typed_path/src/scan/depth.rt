@@ -4,7 +4,7 @@ ghost use Rattle.std.specs.Prelude.{◌≡◌, ◌≤◌, ◌<◌, ◌+◌, ◌^
 ghost use Rattle.typed_path.specs.components.Part.{Kind};
 ghost use Rattle.typed_path.specs.changes.Fault.{fault_at, judged};
 ghost use Rattle.typed_path.specs.components.Dialect.{dialect_of};
-ghost use Rattle.typed_path.specs.queries.Queries.{is_valid_kind};
+ghost use Rattle.typed_path.specs.queries.Queries.{kind_has_allowed_bytes};
 ghost use Rattle.typed_path.specs.views.PieceViews.{part_of};
 
 use crate::errors::CheckedPathError;
@@ -12,8 +12,8 @@ use crate::scan::piece::{Piece, PieceKind};
 use crate::scan::separators::Separators;
 
 /// How many names are left behind a component that no parent has taken, where so many were left
-/// before it; or what the component is refused for. A name that is known to be allowed is not
-/// looked at.
+/// before it; or what the component is refused for. Of a name that is known to have allowed bytes
+/// the bytes are not looked at.
 pub fn depth_behind(
     piece: Piece<'_>,
     depth: usize,
@@ -22,7 +22,7 @@ pub fn depth_behind(
 ) -> Result<usize, CheckedPathError>
     requires fits { depth + 1 < 2 ^ 64 }
     requires allowed { IsTrue allowed
-        → is_valid_kind (dialect_of separators) (part_of piece).kind ≡ true }
+        → kind_has_allowed_bytes (dialect_of separators) (part_of piece).kind ≡ true }
     ensures within { IfOk result (λ deeper. deeper ≤ depth + 1) }
     ensures judged { (ks : List Kind)
         → fault_at (dialect_of separators) depth ((part_of piece.entry).kind ∷ ks)
@@ -35,7 +35,9 @@ pub fn depth_behind(
         PieceKind::ParentDir => depth
             .checked_sub(1)
             .ok_or(CheckedPathError::PathTraversalAttack),
-        PieceKind::Normal if allowed || separators.is_valid_name(piece.text) => Ok(depth + 1),
+        PieceKind::Normal
+            if (allowed || separators.has_allowed_bytes(piece.text))
+                && !separators.is_reserved(piece.text) => { Ok(depth + 1) }
         PieceKind::Normal => Err(CheckedPathError::InvalidFilename),
     }
 }

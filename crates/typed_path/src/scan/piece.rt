@@ -3,7 +3,7 @@
 use crate::scan::prefix::WindowsPrefix;
 
 /// What a component is.
-#[derive(Clone, Copy, Debug)]
+#[derive(Clone, Copy, Debug, PartialEq, Eq, PartialOrd, Ord, Hash)]
 pub enum PieceKind<'a> {
     /// The prefix of a Windows path.
     Prefix(WindowsPrefix<'a>),
@@ -18,7 +18,7 @@ pub enum PieceKind<'a> {
 }
 
 /// One component of a path: what it is, and its text.
-#[derive(Clone, Copy, Debug)]
+#[derive(Clone, Copy, Debug, PartialEq, Eq, PartialOrd, Ord, Hash)]
 pub struct Piece<'a> {
     /// What the component is.
     pub kind: PieceKind<'a>,

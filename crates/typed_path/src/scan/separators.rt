@@ -1,12 +1,16 @@
 //! Which bytes separate the components of a text.
 
 ghost use Rattle.std.specs.Prelude.{◌≡◌, ◌≤◌, ◌==◌, ◌||◌, ℕ, length, IsTrue};
-ghost use Rattle.std.specs.List.{position_or_len, list_any, IsAfterLastMatch};
+ghost use Rattle.std.specs.List.{position_or_len, list_any, before_first, IsAfterLastMatch};
+ghost use Rattle.std.specs.Str.{str_eq_ignore_ascii_case};
 ghost use Rattle.typed_path.specs.components.Dialect.{windows, separators, is_separator, is_verbatim, root_text, dialect_of};
-ghost use Rattle.typed_path.specs.queries.Queries.{is_disallowed, is_valid_name};
+ghost use Rattle.typed_path.specs.queries.Queries.{is_disallowed, has_allowed_bytes, is_reserved, is_valid_name};
+ghost use Rattle.typed_path.specs.queries.Names.{is_a_dot};
 ghost use Rattle.typed_path.specs.changes.Checked.{SeparatesDisallowed, is_stray};
+ghost use Rattle.typed_path.specs.changes.Reserved.{begins_device, may_be_reserved};
 
 use crate::constants::unix;
+use crate::constants::windows::RESERVED_DEVICE_NAMES;
 use crate::scan::lanes::{first_between, last_between};
 use memchr::memchr;
 
@@ -86,15 +90,36 @@ impl Separators {
         }
     }
 
-    /// Whether a name of such a text is allowed.
+    /// Whether a name of such a text is allowed: by its bytes, and as it stands for no device.
     pub fn is_valid_name(self, name: &[u8]) -> bool
         ensures { result ≡ is_valid_name (dialect_of self) name.now }
+    {
+        self.has_allowed_bytes(name) && !self.is_reserved(name)
+    }
+
+    /// Whether a name of such a text has no byte that no name may have.
+    pub fn has_allowed_bytes(self, name: &[u8]) -> bool
+        ensures { result ≡ has_allowed_bytes (dialect_of self) name.now }
     {
         !name.iter().any(|byte| self.is_disallowed(*byte))
     }
 
-    /// Whether one look at the bytes tells that each name of such a text is allowed. False says
-    /// nothing.
+    /// Whether a name of such a text stands for a device.
+    #[inline(always)]
+    #[tactic(auto, using(crate::proofs::lemmas::changes::ReservedLemmas::unlike_device))]
+    pub fn is_reserved(self, name: &[u8]) -> bool
+        ensures { result ≡ is_reserved (dialect_of self) name.now }
+    {
+        match self {
+            Separators::Slash => false,
+            Separators::Backslash | Separators::Either => {
+                may_be_reserved(name) && is_device(name)
+            }
+        }
+    }
+
+    /// Whether one look at the bytes tells that no name of such a text has a byte that no name may
+    /// have. False says nothing.
     pub fn allows_names_of(self, bytes: &[u8]) -> bool
         ensures { IsTrue result → SeparatesDisallowed self bytes.now }
     {
@@ -158,4 +183,55 @@ fn is_disallowed_on_windows(byte: u8) -> bool
         | (byte == b'<')
         | (byte == b'|')
         | (byte == 0)
+}
+
+/// Whether a name may stand for a device: it begins as one does, and its first dot, or its end, comes
+/// within five bytes.
+#[inline(always)]
+fn may_be_reserved(name: &[u8]) -> bool
+    ensures { result ≡ may_be_reserved name.now }
+{
+    match name {
+        [a, b, c, d, e, ..] => {
+            begins_device(a.to_ascii_lowercase())
+                & ((*b == b'.') | (*c == b'.') | (*d == b'.') | (*e == b'.'))
+        }
+        [a, ..] => begins_device(a.to_ascii_lowercase()),
+        [] => false,
+    }
+}
+
+/// Whether the name of a device begins with this letter, a small one.
+#[inline(always)]
+fn begins_device(byte: u8) -> bool
+    ensures { result ≡ begins_device byte }
+{
+    (byte == b'c') | (byte == b'p') | (byte == b'a') | (byte == b'n') | (byte == b'l')
+}
+
+/// Whether the bytes of a name before its first dot are, ASCII case aside, the name of a device.
+fn is_device(name: &[u8]) -> bool
+    ensures { result ≡ is_reserved windows name.now }
+{
+    let stem = before_dot(name);
+    RESERVED_DEVICE_NAMES
+        .iter()
+        .any(|device| is_same_aside_case(stem, device))
+}
+
+/// What stands before the first dot of a name, or the whole where it has none.
+fn before_dot(name: &[u8]) -> &[u8]
+    ensures { result.now ≡ before_first is_a_dot name.now }
+{
+    match memchr(b'.', name) {
+        Some(at) => &name[..at],
+        None => name,
+    }
+}
+
+/// Whether two texts are one, ASCII case aside.
+fn is_same_aside_case(text: &[u8], other: &[u8]) -> bool
+    ensures { result ≡ str_eq_ignore_ascii_case text.now other.now }
+{
+    text.eq_ignore_ascii_case(other)
 }

@@ -6,13 +6,17 @@ use Rattle.typed_path.specs.declared.scan.separators.Separators.{Separators}
 use Rattle.typed_path.specs.declared.scan.begin.Begin.{Begin}
 use Rattle.typed_path.specs.declared.scan.begin.Begin.TheVariants.{Body, Inside}
 use Rattle.typed_path.specs.components.Dialect.{Dialect, dialect_of, is_separator, is_verbatim, root_text}
-use Rattle.typed_path.specs.components.Part.{Part, kinds, parts, root_part, current_part, parent_part, name_part}
+use Rattle.typed_path.specs.components.Part.{Part, Kind, kinds, parts, root_part, current_part, parent_part, name_part}
 use Rattle.typed_path.specs.components.Comps.{is_dot, is_dot_dot}
-use Rattle.typed_path.specs.queries.Queries.{is_disallowed, is_valid_kind}
+use Rattle.typed_path.specs.queries.Queries.{is_disallowed, kind_has_allowed_bytes}
 use Rattle.typed_path.specs.readings.Steps.{body_from}
-use Rattle.typed_path.specs.changes.Checked.{SeparatesDisallowed, AllowsEach}
+use Rattle.typed_path.specs.changes.Checked.{SeparatesDisallowed}
 use Rattle.typed_path.proofs.lemmas.lists.SplitLemmas.{AllByRecursion-append}
 use Rattle.typed_path.proofs.lemmas.components.PartLemmas.{pieces, later_part, later_parts, first_parts, body_parts, parts-body, parts-later_body}
+
+-- each name of a list has allowed bytes
+abbrev pub AllowsEach : Dialect → List Kind → Type 0
+AllowsEach d ks = AllByRecursion (λ k. kind_has_allowed_bytes d k ≡ true) ks
 
 -- no byte of a piece is one that no name may have
 abbrev IsAllowed : Dialect → List ℕ → Type 0
@@ -20,7 +24,7 @@ IsAllowed d piece = list_any (is_disallowed d) piece ≡ false
 
 -- the component of a piece is allowed
 abbrev IsAllowedPart : Dialect → Part → Type 0
-IsAllowedPart d p = is_valid_kind d p.kind ≡ true
+IsAllowedPart d p = kind_has_allowed_bytes d p.kind ≡ true
 
 -- between two separators no such byte stands
 allowed-pieces : (s : Separators) (text : List ℕ) → SeparatesDisallowed s text → AllByRecursion (IsAllowed (dialect_of s)) (pieces s text)

@@ -8,24 +8,16 @@ use Rattle.std.proofs.lemmas.Option.{same_Some}
 use Rattle.typed_path.specs.declared.scan.piece.Piece.{Piece}
 use Rattle.typed_path.specs.declared.scan.separators.Separators.{Separators}
 use Rattle.typed_path.specs.declared.scan.separators.Separators.TheVariants.{Slash, Backslash, Either}
-use Rattle.typed_path.specs.components.Dialect.{unix, windows, separators, root_text, begins_verbatim}
+use Rattle.typed_path.specs.components.Dialect.{Dialect, unix, windows, separators, root_text, begins_verbatim}
 use Rattle.typed_path.specs.components.Part.{Part, Placed, parts, current_part, parent_part, name_part, root_part, prefix_part}
 use Rattle.typed_path.specs.components.Prefix.{Found, prefix_of}
 use Rattle.typed_path.specs.components.Comps.{Segment, segments, first, later, body_of, body, comps_behind, parts_of}
 use Rattle.typed_path.specs.readings.Left.{but_last}
 use Rattle.typed_path.specs.readings.Steps.{first_part, last_part}
 use Rattle.typed_path.specs.views.PieceViews.{part_of}
-use Rattle.typed_path.specs.components.UnixParts.{written_unix, as_written}
-use Rattle.typed_path.specs.components.WindowsParts.{written_windows, as_windows_writes}
+use Rattle.typed_path.specs.components.Written.{written, as_written}
 use Rattle.typed_path.proofs.lemmas.components.SegmentViews.{Seen, empty, passed_dot, kept_dot, dot_dot, word, seen}
 use Rattle.typed_path.proofs.lemmas.readings.LeftLemmas.{last_pushed, last_part-push}
-
--- how a dialect writes a part, whatever its text
-abbrev pub by_unix : Part → Part
-by_unix p = written_unix p.kind
-
-abbrev pub by_windows : Part → Part
-by_windows p = written_windows p.text p.kind
 
 module _ (write : Part → Part) where
   abbrev Written : List Placed → Type 0
@@ -106,23 +98,24 @@ module _ (write : Part → Part) where
   written-first p [] h e = cc
   written-first p (c ∷ cs) h e = subst (λ q. q ≡ write q) (sym (same_Some _ _ e)) cc
 
--- what Unix reads is told by the kinds
-pub written-parts_of : (text : List ℕ) → parts_of unix text ≡ as_written (parts_of unix text)
-written-parts_of text = written-body by_unix Slash (record { root = refl; current = refl; parent = refl; name = λ name. refl }) 0 text
+-- what is read behind a prefix is written as its dialect writes it
+writes_unix : WritesBody (written unix) Slash
+writes_unix = record { root = refl; current = refl; parent = refl; name = λ name. refl }
 
--- and so is what Windows reads, but for the raw text of a prefix
-writes_windows : (verbatim : Bool) → WritesBody by_windows (if verbatim then Backslash else Either)
+writes_windows : (verbatim : Bool) → WritesBody (written windows) (if verbatim then Backslash else Either)
 writes_windows true = record { root = refl; current = refl; parent = refl; name = λ name. refl }
 writes_windows false = record { root = refl; current = refl; parent = refl; name = λ name. refl }
 
-pub windows_written-parts_of : (text : List ℕ) → parts_of windows text ≡ as_windows_writes (parts_of windows text)
-windows_written-parts_of text = behind (prefix_of windows text)
+-- and so is the whole list
+pub written-parts_of : (d : Dialect) (text : List ℕ) → parts_of d text ≡ as_written d (parts_of d text)
+written-parts_of unix text = written-body (written unix) Slash writes_unix 0 text
+written-parts_of windows text = behind (prefix_of windows text)
   where
     s : Separators
     s = separators windows text
 
-    behind : (f : Option Found) → parts (comps_behind s text f) ≡ as_windows_writes (parts (comps_behind s text f))
-    behind None = written-body by_windows s (writes_windows (begins_verbatim text)) 0 text
+    behind : (f : Option Found) → parts (comps_behind s text f) ≡ as_written windows (parts (comps_behind s text f))
+    behind None = written-body (written windows) s (writes_windows (begins_verbatim text)) 0 text
     behind (Some f) =
-        written-cons by_windows (prefix_part f.prefix (take f.length text)) (parts (body s f.length (drop f.length text))) refl
-        (written-body by_windows s (writes_windows (begins_verbatim text)) f.length (drop f.length text))
+        written-cons (written windows) (prefix_part f.prefix (take f.length text)) (parts (body s f.length (drop f.length text))) refl
+        (written-body (written windows) s (writes_windows (begins_verbatim text)) f.length (drop f.length text))

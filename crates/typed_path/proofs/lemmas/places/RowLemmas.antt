@@ -1,5 +1,5 @@
 -- The normal text of Unix, written row by row.
-use Rattle.std.proofs.Common.{◌≡◌, inl, inr, ℕ, suc, ◌+◌, ◌-◌, ◌<◌, ◌==◌, ◌||◌, Bool, true, false, cond, List, [], ◌∷◌, ◌++◌, length, take, slice_index, fold, refl, sym, ap, ◌∙◌, append_assoc, append-nil, subst, arith, ne_eqb, eqb-true, get_or}
+use Rattle.std.proofs.Common.{◌⊎◌, ◌≡◌, inl, inr, ℕ, suc, ◌+◌, ◌-◌, ◌<◌, ◌==◌, ◌||◌, Bool, true, false, cond, List, [], ◌∷◌, ◌++◌, length, take, slice_index, fold, refl, sym, ap, ◌∙◌, append_assoc, append-nil, subst, arith, ne_eqb, eqb-true, get_or}
 use Rattle.std.specs.List.{onto_first, AllByRecursion}
 use Rattle.std.proofs.lemmas.List.{length-append, get_or-append-add}
 use Rattle.std.proofs.lemmas.List.Splits.{slice_split-cons_yes, slice_split-cons_no}
@@ -11,7 +11,7 @@ use Rattle.typed_path.specs.components.Part.{Part, name_part, current_part, pare
 use Rattle.typed_path.specs.components.Comps.{is_dot, is_dot_dot}
 use Rattle.typed_path.specs.changes.Push.{ended_with, push_all}
 use Rattle.typed_path.specs.places.Places.{normal_text, resolve}
-use Rattle.typed_path.specs.places.Rows.{row_end, rows_of, rows, IsHead, IsNormal, settled, names_left}
+use Rattle.typed_path.specs.places.Rows.{row_end, rows_of, rows, IsNormal, settled, names_left}
 use Rattle.typed_path.proofs.lemmas.lists.SplitLemmas.{IsUnseparated, slice_split-some, slice_split-unseparated, AllByRecursion-append}
 use Rattle.typed_path.proofs.lemmas.components.PartLemmas.{pieces, named_part, later_part, later_parts, first_parts, body_parts, IsCleanName}
 use Rattle.typed_path.proofs.lemmas.places.SettleLemmas.{heads_first, Comes, comes-current, comes-parent, comes-parent_alone, comes-name, comes-head, comes-end}
@@ -122,6 +122,10 @@ push_all-rows front name (next ∷ names) clean each =
     ∙ push_all-rows base next names each.0 each.1
     ∙ ap (λ text. text ++ rows names) (append_assoc base next (slash ∷ []))
     ∙ append_assoc base (next ++ slash ∷ []) (rows names)
+
+-- a root, or nothing
+abbrev IsHead : List ℕ → Type 0
+IsHead head = (head ≡ []) ⊎ (head ≡ slash ∷ [])
 
 -- a head ends as it is
 ended_with-head : (head : List ℕ) → IsHead head → ended_with slash head ≡ head

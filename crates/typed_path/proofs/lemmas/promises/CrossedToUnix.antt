@@ -11,7 +11,7 @@ use Rattle.typed_path.specs.components.Dialect.{unix, windows, slash, dot, root_
 use Rattle.typed_path.specs.components.Part.{Prefix, disk, Kind, prefix, root, current, parent, normal, Part, kinds, parent_part, name_part, root_part, prefix_part, is_name, is_parent}
 use Rattle.typed_path.specs.components.Prefix.{Found, is_drive_letter, drive, prefix_of}
 use Rattle.typed_path.specs.components.Comps.{parts_of}
-use Rattle.typed_path.specs.components.WindowsParts.{written_windows}
+use Rattle.typed_path.specs.components.Written.{written_windows}
 use Rattle.typed_path.specs.queries.Queries.{is_disk, is_root, begins_with_root, have_allowed_bytes}
 use Rattle.typed_path.specs.changes.Push.{ended_with, push_unix, push_all}
 use Rattle.typed_path.specs.conversions.Convert.{crossed, crossed_all}
@@ -20,6 +20,7 @@ use Rattle.typed_path.proofs.lemmas.components.SeparatorLemmas.{OfWindows, separ
 use Rattle.typed_path.proofs.lemmas.components.PartLemmas.{body_parts, body_parts-read, IsCleanName, IsWritten, IsLater, IsLaterPart, IsWritten-later, AreRead}
 use Rattle.typed_path.proofs.lemmas.components.ReadLemmas.{Read, of_disk, prefix-read}
 use Rattle.typed_path.proofs.lemmas.components.FirmLemmas.{drive-letter}
+use Rattle.typed_path.proofs.lemmas.changes.CrossedLemmas.{valid-allowed}
 use Rattle.typed_path.proofs.lemmas.components.PlainNames.{plain-clean, allowed-plain}
 use Rattle.typed_path.proofs.lemmas.changes.JoinLemmas.{later_parts-name, body_parts-name}
 use Rattle.typed_path.proofs.lemmas.changes.FaultlessLemmas.{parts_of-none, parts_of-some}
@@ -216,6 +217,6 @@ back-read (p ∷ ps) read lacks allowed =
 -- the answer, converted to Unix, equals the path
 pub crosses_back : (t : List ℕ) → CrossesBack t
 crosses_back t lacks u accepted =
-    let allowed = (converted_checked-ok t u lacks accepted).0 in
+    let allowed = valid-allowed windows (kinds (parts_of unix t)) (converted_checked-ok t u lacks accepted).0 in
     ap kinds (crosses_to_unix u (ap (have_allowed_bytes windows) (crosses_as_it_is t lacks u accepted) ∙ allowed) ∙ ap on_unix (accepted-read t u lacks accepted))
     ∙ back-read (parts_of unix t) (parts_of-read t) lacks allowed

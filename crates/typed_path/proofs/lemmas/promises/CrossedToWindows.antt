@@ -9,7 +9,7 @@ use Rattle.typed_path.specs.components.Dialect.{unix, windows, backslash, dot, i
 use Rattle.typed_path.specs.components.Part.{Kind, prefix, root, current, parent, normal, Part, kinds, texts, parent_part, name_part, root_part}
 use Rattle.typed_path.specs.components.Prefix.{prefix_of}
 use Rattle.typed_path.specs.components.Comps.{parts_of}
-use Rattle.typed_path.specs.components.WindowsParts.{written_windows}
+use Rattle.typed_path.specs.components.Written.{written_windows}
 use Rattle.typed_path.specs.queries.Queries.{begins_with_root, has_prefix, have_allowed_bytes}
 use Rattle.typed_path.specs.changes.Push.{is_disk_alone, ended_with, push_windows, push_all}
 use Rattle.typed_path.specs.conversions.Convert.{crossed, crossed_all, converted_checked}
@@ -22,7 +22,7 @@ use Rattle.typed_path.proofs.lemmas.changes.JoinLemmas.{later_parts-name, body_p
 use Rattle.typed_path.proofs.lemmas.changes.FaultlessLemmas.{parts_of-none}
 use Rattle.typed_path.proofs.lemmas.changes.PushLemmas.{push-relative}
 use Rattle.typed_path.proofs.lemmas.changes.EndedNames.{a_name, ended_with-append, ended-spelled}
-use Rattle.typed_path.proofs.lemmas.changes.CrossedLemmas.{crossed-plain}
+use Rattle.typed_path.proofs.lemmas.changes.CrossedLemmas.{crossed-plain, valid-allowed}
 use Rattle.typed_path.proofs.lemmas.promises.EndedBases.{read-no_drive}
 use Rattle.typed_path.proofs.lemmas.promises.WindowsContained.{verbatim-none}
 use Rattle.typed_path.proofs.lemmas.promises.ReadAgain.{push-first}
@@ -217,7 +217,7 @@ parts_of-read t = subst (AreRead Slash) (sym (parts_of-unix t)) (body_parts-read
 pub accepted-read : (t u : List ℕ) → lack_backslash (kinds (parts_of unix t)) ≡ true → converted_checked unix windows t ≡ Ok u → parts_of windows u ≡ on_windows (parts_of unix t)
 accepted-read t u lacks accepted =
     let ok = converted_checked-ok t u lacks accepted in
-    ap (parts_of windows) (sym ok.1) ∙ crossed-read (parts_of unix t) (parts_of-read t) lacks ok.0
+    ap (parts_of windows) (sym ok.1) ∙ crossed-read (parts_of unix t) (parts_of-read t) lacks (valid-allowed windows (kinds (parts_of unix t)) ok.0)
 
 -- the components are kept
 pub crosses_as_it_is : (t : List ℕ) → CrossesAsItIs t

@@ -8,8 +8,8 @@ use Rattle.typed_path.specs.components.Prefix.{Found}
 use Rattle.typed_path.specs.components.Comps.{parts_of}
 use Rattle.typed_path.specs.queries.Queries.{begins_with_root, has_prefix}
 use Rattle.typed_path.specs.changes.Push.{push_all, push_windows}
-use Rattle.typed_path.specs.places.Places.{resolve, with_implied_root}
-use Rattle.typed_path.specs.promises.Promises.{with_drive_root, IsStable}
+use Rattle.typed_path.specs.places.Places.{normal_text, resolve, with_implied_root}
+use Rattle.typed_path.specs.promises.Promises.{with_drive_root, IsStableForm}
 use Rattle.typed_path.proofs.lemmas.places.SettleLemmas.{texts-names}
 use Rattle.typed_path.proofs.lemmas.places.ResolveLemmas.{resolve-kept, resolve-same}
 use Rattle.typed_path.proofs.lemmas.places.DriveRoots.{with_drive_root-kept, with_drive_root-place}
@@ -22,7 +22,7 @@ pub record IsReadAgain (ps : List Part) : Type 0 where
   pub same_text : push_all windows [] (texts (with_drive_root ps)) ≡ push_all windows [] (texts ps)
 
 -- where the list that a path resolves to is, its normal text is stable
-pub stable-again : (t : List ℕ) → IsReadAgain (resolve (parts_of windows t)) → IsStable t
+pub stable-again : (t : List ℕ) → IsReadAgain (resolve (parts_of windows t)) → IsStableForm t (normal_text windows t)
 stable-again t again =
     let ps = resolve (parts_of windows t) in
     let settled : resolve (with_drive_root ps) ≡ with_drive_root ps = resolve-same (with_drive_root ps) (with_drive_root-kept ps (resolve-kept (parts_of windows t))) in

@@ -10,7 +10,7 @@ use Rattle.typed_path.specs.promises.Joins.{without_leading_current}
 use Rattle.typed_path.specs.changes.Push.{push_unix}
 use Rattle.typed_path.specs.changes.Fault.{fault}
 use Rattle.typed_path.specs.places.Places.{resolve, with_implied_root, place}
-use Rattle.typed_path.specs.promises.Promises.{IsContained, KeepsPrefix}
+use Rattle.typed_path.specs.promises.Promises.{LiesWithin, HasPrefixOf}
 use Rattle.typed_path.proofs.lemmas.components.PartLemmas.{AreRead}
 use Rattle.typed_path.proofs.lemmas.promises.UnixNormal.{resolved-read}
 use Rattle.typed_path.proofs.lemmas.promises.UnixJoin.{join_appends}
@@ -52,12 +52,12 @@ resolve-pushed (b ∷ base) path accepted =
     ∙ resolve-append (parts_of unix (b ∷ base)) (without_leading_current (parts_of unix path)) closed
     ∙ ap (λ ps. resolve (parts_of unix (b ∷ base)) ++ ps) (resolve-without_leading_current (parts_of unix path))
 
-pub contained : (base path : List ℕ) → IsContained unix base path
+pub contained : (base path : List ℕ) → fault unix path ≡ None → LiesWithin unix base path (push_unix base path)
 contained base path accepted stays =
     place-unix (push_unix base path)
     ∙ ap kinds (resolve-pushed base path accepted)
     ∙ map-append (λ p. p.kind) (resolve (parts_of unix base)) (resolve (parts_of unix path))
     ∙ ap (λ ks. ks ++ kinds (resolve (parts_of unix path))) (sym (place-unix base))
 
-pub keeps : (base path : List ℕ) → KeepsPrefix unix base path
+pub keeps : (base path : List ℕ) → fault unix path ≡ None → HasPrefixOf unix base (push_unix base path)
 keeps base path accepted kept = refl

@@ -9,9 +9,10 @@ use Rattle.typed_path.specs.components.Part.{Prefix, Kind, prefix, Part, kinds}
 use Rattle.typed_path.specs.components.Prefix.{Found, prefix_of}
 use Rattle.typed_path.specs.components.Comps.{parts_of}
 use Rattle.typed_path.specs.queries.Queries.{is_verbatim_prefix, has_any_verbatim_prefix}
-use Rattle.typed_path.specs.changes.Push.{spelled, merged, ended_windows}
+use Rattle.typed_path.specs.changes.Push.{push_windows, spelled, merged, ended_windows}
 use Rattle.typed_path.specs.places.Places.{resolve, place}
-use Rattle.typed_path.specs.promises.Promises.{prefix_kind, LiesWithin, IsContained}
+use Rattle.typed_path.specs.changes.Fault.{fault}
+use Rattle.typed_path.specs.promises.Promises.{prefix_kind, LiesWithin}
 use Rattle.typed_path.proofs.lemmas.components.PartLemmas.{body_parts, body_parts-read, AreRead, IsWritten, parts_behind}
 use Rattle.typed_path.proofs.lemmas.components.WindowsCuts.{verbatim_text}
 use Rattle.typed_path.proofs.lemmas.places.PlacedBehind.{place_of}
@@ -110,7 +111,7 @@ module _ (base path : List ℕ) (fine : IsFaultless path) where
       by (Some f) is = within-spelled f is (sym (verbatim-some base f is) ∙ anew)
 
 -- a path that is not refused stays within its base
-pub contained : (base path : List ℕ) → IsContained windows base path
+pub contained : (base path : List ℕ) → fault windows path ≡ None → LiesWithin windows base path (push_windows base path)
 contained base [] accepted = λ stays. sym (append-nil (place windows base))
 contained base (b ∷ path) accepted =
     let fine = faultless (b ∷ path) accepted in

@@ -8,7 +8,8 @@ use Rattle.typed_path.specs.components.Prefix.{Found, prefix_of}
 use Rattle.typed_path.specs.components.Comps.{parts_of}
 use Rattle.typed_path.specs.queries.Queries.{is_disk, is_verbatim_prefix, has_any_verbatim_prefix}
 use Rattle.typed_path.specs.changes.Push.{is_disk_alone, spelled, merged, ended_windows, push_windows}
-use Rattle.typed_path.specs.promises.Promises.{keeps_by_prefix, prefix_kind, KeepsPrefix}
+use Rattle.typed_path.specs.changes.Fault.{fault}
+use Rattle.typed_path.specs.promises.Promises.{keeps_by_prefix, prefix_kind, HasPrefixOf}
 use Rattle.typed_path.proofs.lemmas.components.SeparatorLemmas.{separators-windows}
 use Rattle.typed_path.proofs.lemmas.components.PartLemmas.{body_parts, body_parts-read}
 use Rattle.typed_path.proofs.lemmas.components.ReadLemmas.{Read, of_disk, prefix-read}
@@ -80,7 +81,7 @@ module _ (base : List ℕ) (b : ℕ) (bs : List ℕ) (fine : IsFaultless (b ∷ 
         ∙ ap (option_map (λ g. g.prefix)) (spelled-keeps base written.0 f _ is firm (verbatim-no_drive f.prefix marked) (merged-read base path f is marked fine) written.2 separated)
 
 -- every base that is listed keeps its prefix
-pub keeps : (base path : List ℕ) → KeepsPrefix windows base path
+pub keeps : (base path : List ℕ) → fault windows path ≡ None → HasPrefixOf windows base (push_windows base path)
 keeps base [] accepted kept = refl
 keeps base (b ∷ bs) accepted kept = by (prefix_of windows base) refl kept
   where

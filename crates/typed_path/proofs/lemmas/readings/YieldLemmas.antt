@@ -1,11 +1,13 @@
 -- A step from either end, as the step of an iterator.
-use Rattle.std.proofs.Common.{◌≡◌, ◌<◌, List, [], ◌∷◌, ◌++◌, drop, length, Option, Some, None, refl, ap, sym, subst, ◌∙◌, option_map, arith}
+use Rattle.std.proofs.Common.{◌≡◌, ℕ, ◌<◌, List, [], ◌∷◌, ◌++◌, drop, length, Option, Some, None, refl, ap, sym, subst, ◌∙◌, option_map, arith}
 use Rattle.std.specs.Iterator.{MakesProgress, YieldsFirstBy, YieldsLastBy, item_count}
+use Rattle.std.proofs.lemmas.Iterator.{YieldsList}
+use Rattle.std.proofs.lemmas.Iterator.Consumers.{YieldsList-from_shown}
 use Rattle.std.proofs.lemmas.Option.{same_Some}
 use Rattle.std.proofs.lemmas.List.{map-append, length-append}
 use Rattle.typed_path.specs.components.Part.{Part, Placed, parts}
 use Rattle.typed_path.specs.readings.Left.{but_last}
-use Rattle.typed_path.specs.readings.Steps.{first_part, last_part}
+use Rattle.typed_path.specs.readings.Steps.{first_part, last_part, LeavesFront}
 use Rattle.typed_path.proofs.lemmas.readings.LeftLemmas.{last_part-push, last_pushed}
 
 -- a component taken from the front is one fewer
@@ -37,8 +39,21 @@ module _ {X : Type 0} (view : X → Part) where
       (yields_pushed r (but_last (c ∷ cs)) new d.0 (e ∙ ap last_part d.1 ∙ last_part-push (but_last (c ∷ cs)) d.0) f)
 
   -- so fewer are left
+  pub progress_first : {S : Type 0} (rest : S → List Part) (can : S → Type 0) → ((s : S) → can s) → (s t : S) (r : Option X)
+      → YieldsFirstBy view rest s r t → MakesProgress can (item_count rest) s r t
+  progress_first rest can all s t None h = record { on = λ finite. tt; keeps = tt; rests = λ finite. tt }
+  progress_first rest can all s t (Some x) h =
+      record { on = λ finite. (all t, tt, omega (arith, ap length h)); keeps = all t; rests = λ finite. tt }
+
   pub progress : {S : Type 0} (rest : S → List Part) (can : S → Type 0) → ((s : S) → can s) → (s t : S) (r : Option X)
       → YieldsLastBy view rest s r t → MakesProgress can (item_count rest) s r t
   progress rest can all s t None h = record { on = λ finite. tt; keeps = tt; rests = λ finite. tt }
   progress rest can all s t (Some x) h =
       record { on = λ finite. (all t, tt, omega (arith, length-append (rest t) (view x ∷ []), ap length h)); keeps = all t; rests = λ finite. tt }
+
+-- an iterator that says of each step what it answers and what it leaves yields the list that it has left
+pub yields_left : {S A : Type 0} (view : A → Part) (items : S → List Placed) (slice : S → List ℕ) {s : S} (ps : List Part) → parts (items s) ≡ ps
+    → YieldsList (λ t r u. YieldsFirstBy view (λ v. parts (items v)) t r u × LeavesFront items slice t u) view s ps
+yields_left view items slice {s} ps e =
+    subst (YieldsList (λ t r u. YieldsFirstBy view (λ v. parts (items v)) t r u × LeavesFront items slice t u) view s) e
+    (YieldsList-from_shown (λ t r u. YieldsFirstBy view (λ v. parts (items v)) t r u × LeavesFront items slice t u) view (λ v. parts (items v)) (λ t u h. ap length h.0.0) (λ t x u h. h.0) s)

@@ -17,4 +17,4 @@ all_shown old new replies left ps none ended h =
     ∙ ap (λ bs. old ++ (bs ++ line_feed ∷ [])) (sym (join_with_byte-map tab component_field (codes "ok") ps))
 
 pub returns : goal.returns
-returns g c = all_shown _ _ _ _ (parts_of g.T.Encoding.dialect (path_bytes c.args.path)) c.in-None.ensures.steps.0 c.in_ok-push.ensures.items c.pieces.invariant
+returns g c = all_shown _ _ _ _ (parts_of g.T.Encoding.dialect (path_bytes c.args.path)) c.in-None.ensures.steps.0.0 c.in_ok-push.ensures.items c.pieces.invariant

@@ -4,7 +4,7 @@ use Rattle.typed_path.proofs.lemmas.readings.YieldLemmas.{yields_last, progress}
 use Rattle.typed_path.proofs.common.components.ComponentsDoubleEndedIterator.next_back.Goals as goal
 
 pub returns-clause-steps : goal.returns-clause-steps
-returns-clause-steps g c = yields_last part_of c.next_back.result _ _ c.next_back.ensures.taken c.next_back.ensures.items
+returns-clause-steps g c = (yields_last part_of c.next_back.result _ _ c.next_back.ensures.taken c.next_back.ensures.items, (c.next_back.ensures.items, c.next_back.ensures.slice))
 
 pub returns-clause-goes : goal.returns-clause-goes
-returns-clause-goes g c = progress part_of components_parts _ (λ s. tt) _ _ c.next_back.result (returns-clause-steps g c)
+returns-clause-goes g c = progress part_of components_parts _ (λ s. tt) _ _ c.next_back.result (returns-clause-steps g c).0

@@ -1,6 +1,10 @@
 use Rattle.typed_path.specs.views.PieceViews.{part_of}
-use Rattle.typed_path.proofs.lemmas.readings.YieldLemmas.{yields_first}
+use Rattle.typed_path.specs.views.PathViews.{components_parts}
+use Rattle.typed_path.proofs.lemmas.readings.YieldLemmas.{yields_first, progress_first}
 use Rattle.typed_path.proofs.common.components.ComponentsIterator.next.Goals as goal
 
 pub returns-clause-steps : goal.returns-clause-steps
-returns-clause-steps g c = yields_first part_of c.next.result _ _ c.next.ensures.taken c.next.ensures.items
+returns-clause-steps g c = (yields_first part_of c.next.result _ _ c.next.ensures.taken c.next.ensures.items, (c.next.ensures.items, c.next.ensures.slice))
+
+pub returns-clause-goes : goal.returns-clause-goes
+returns-clause-goes g c = progress_first part_of components_parts _ (λ s. tt) _ _ c.next.result (returns-clause-steps g c).0

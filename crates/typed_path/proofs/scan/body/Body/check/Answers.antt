@@ -7,9 +7,9 @@ use Rattle.typed_path.specs.views.BodyViews.{body_slice, body_items}
 use Rattle.typed_path.specs.readings.Steps.{first_part}
 use Rattle.typed_path.specs.views.PieceViews.{part_of}
 use Rattle.typed_path.specs.changes.Fault.{fault_behind, fault_at}
-use Rattle.typed_path.specs.changes.Checked.{error_of, SeparatesDisallowed, AllowsEach}
-use Rattle.typed_path.specs.queries.Queries.{is_valid_kind}
-use Rattle.typed_path.proofs.lemmas.changes.AllowedLemmas.{allowed-body_from}
+use Rattle.typed_path.specs.changes.Checked.{error_of, SeparatesDisallowed}
+use Rattle.typed_path.specs.queries.Queries.{kind_has_allowed_bytes}
+use Rattle.typed_path.proofs.lemmas.changes.AllowedLemmas.{AllowsEach, allowed-body_from}
 use Rattle.std.specs.Result.{IsErrAnd}
 use Rattle.typed_path.proofs.lemmas.components.CountLemmas.{body_from-count}
 use Rattle.typed_path.proofs.lemmas.changes.FaultLemmas.{fault_behind-at, taken-first}
@@ -34,7 +34,7 @@ depth_behind-requires c =
     record {
       fits = omega (arith, some.1, few, size, c.pieces.invariant.deep);
       allowed = λ told.
-          subst (λ s. is_valid_kind (dialect_of s) (part_of c.in-Some.piece).kind ≡ true) (sym c.in-Some.ensures.separators)
+          subst (λ s. kind_has_allowed_bytes (dialect_of s) (part_of c.in-Some.piece).kind ≡ true) (sym c.in-Some.ensures.separators)
           (subst (AllowsEach (dialect_of c.pieces.self.separators)) some.0 (c.pieces.invariant.allowed told)).0;
     }
 
