@@ -2,6 +2,8 @@
 #![tactic(auto)]
 
 #[cfg(test)]
+mod ample;
+#[cfg(test)]
 mod conversions;
 #[cfg(test)]
 mod ends;
@@ -18,6 +20,8 @@ mod paths;
 mod prefixes;
 #[cfg(test)]
 mod streams;
+#[cfg(test)]
+mod verbatim;
 #[cfg(test)]
 mod windows;
 #[cfg(test)]
