@@ -19,6 +19,8 @@ mod paths;
 #[cfg(test)]
 mod prefixes;
 #[cfg(test)]
+mod slow;
+#[cfg(test)]
 mod streams;
 #[cfg(test)]
 mod verbatim;
