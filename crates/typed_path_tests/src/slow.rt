@@ -272,19 +272,12 @@ fn are_read_alike<T: Encoding>(
 const SHORT: [(usize, usize); 6] = [(0, 1), (1, 7), (2, 49), (3, 343), (4, 2_401), (5, 16_807)];
 
 #[test]
-fn every_short_text_of_unix(rt: HostRuntime) -> Result<(), Fail> {
+fn every_short_text(rt: HostRuntime) -> Result<(), Fail> {
+    let alloc = rt.alloc();
     for (length, count) in SHORT {
-        let alike = are_read_alike::<UnixEncoding>(rt.alloc(), false, b"", length, count)?;
-        assert!(rt; alike, "{length} bytes");
-    }
-    Ok(())
-}
-
-#[test]
-fn every_short_text_of_windows(rt: HostRuntime) -> Result<(), Fail> {
-    for (length, count) in SHORT {
-        let alike = are_read_alike::<WindowsEncoding>(rt.alloc(), true, b"", length, count)?;
-        assert!(rt; alike, "{length} bytes");
+        let unix = are_read_alike::<UnixEncoding>(alloc, false, b"", length, count)?;
+        let windows = are_read_alike::<WindowsEncoding>(alloc, true, b"", length, count)?;
+        assert!(rt; unix && windows, "{length} bytes");
     }
     Ok(())
 }
