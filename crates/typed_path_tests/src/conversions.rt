@@ -3,16 +3,13 @@
 use std::alloc::{AllocError, Global};
 use std::test::Fail;
 use typed_path::{
-    AbsolutizeError, CheckedPathError, Encoding, NativePath, Path, PathBuf, PathError,
-    PlatformEncoding, PlatformPath, UnixEncoding, UnixPath, WindowsEncoding, WindowsPath,
+    AbsolutizeError, CheckedPathError, Encoding, NativeComponent, NativeEncoding, NativePath,
+    NativePathBuf, Path, PathBuf, PathError, Piece, PlatformEncoding, PlatformPath,
+    PlatformPathBuf, UnixEncoding, UnixPath, WindowsEncoding, WindowsPath,
 };
 
 /// A path, what it becomes, and what the checked conversion answers.
-type Row = (
-    &'static [u8],
-    &'static [u8],
-    Result<&'static [u8], CheckedPathError>,
-);
+pub type Row<'a> = (&'a [u8], &'a [u8], Result<&'a [u8], CheckedPathError>);
 
 /// Whether a checked answer is as wanted.
 fn is_as<U: Encoding>(
@@ -27,7 +24,10 @@ fn is_as<U: Encoding>(
 }
 
 /// Whether a path becomes what a row says, by either conversion.
-fn converts_as<T: Encoding, U: Encoding>(alloc: Global, row: Row) -> Result<bool, AllocError> {
+pub fn converts_as<T: Encoding, U: Encoding>(
+    alloc: Global,
+    row: Row<'_>,
+) -> Result<bool, AllocError> {
     let (path, text, checked) = row;
     let path = Path::<T>::new(path);
     let converted = path.with_encoding::<U>(alloc)?;
@@ -40,7 +40,7 @@ fn converts_as<T: Encoding, U: Encoding>(alloc: Global, row: Row) -> Result<bool
 #[test]
 fn to_windows(rt: HostRuntime) -> Result<(), Fail> {
     use CheckedPathError::{InvalidFilename, UnexpectedPrefix};
-    let rows: [Row; 9] = [
+    let rows: [Row<'_>; 9] = [
         (b"/tmp/aux.h", br"\tmp\aux.h", Err(InvalidFilename)),
         (b"/tmp/a:b", b"a:b", Err(UnexpectedPrefix)),
         (b"/tmp/ab:c", br"\tmp\ab:c", Err(InvalidFilename)),
@@ -58,9 +58,10 @@ fn to_windows(rt: HostRuntime) -> Result<(), Fail> {
     for row in rows {
         assert!(rt; converts_as::<UnixEncoding, WindowsEncoding>(rt.alloc(), row)?);
     }
-    let own: [Row; 3] = [
+    let own: [Row<'_>; 4] = [
         (br"\\s\con\x", br"\\s\con\x", Ok(br"\x")),
         (br"C:\x", br"C:\x", Err(UnexpectedPrefix)),
+        (br"\\.\COM1\x", br"\\.\COM1\x", Ok(br"\x")),
         (br"\\s\h\x", br"\\s\h\x", Ok(br"\x")),
     ];
     for row in own {
@@ -72,8 +73,9 @@ fn to_windows(rt: HostRuntime) -> Result<(), Fail> {
 #[test]
 fn to_unix_and_the_platform(rt: HostRuntime) -> Result<(), Fail> {
     use CheckedPathError::UnexpectedRoot;
-    let rows: [Row; 5] = [
+    let rows: [Row<'_>; 6] = [
         (br"C:\x", b"/x", Ok(b"/x")),
+        (br"\\.\COM1\x", b"/x", Ok(b"/x")),
         (b"C:tmp", b"C:/tmp", Ok(b"C:/tmp")),
         (br"\\s\h\x", b"/x", Ok(b"/x")),
         (br"\\?\C:\a\.\b", b"/a/./b", Ok(b"/a/./b")),
@@ -83,7 +85,7 @@ fn to_unix_and_the_platform(rt: HostRuntime) -> Result<(), Fail> {
         assert!(rt; converts_as::<WindowsEncoding, UnixEncoding>(rt.alloc(), row)?);
         assert!(rt; converts_as::<WindowsEncoding, PlatformEncoding>(rt.alloc(), row)?);
     }
-    let own: Row = (b"a//b", b"a//b", Ok(b"a/b"));
+    let own: Row<'_> = (b"a//b", b"a//b", Ok(b"a/b"));
     assert!(rt; converts_as::<UnixEncoding, PlatformEncoding>(rt.alloc(), own)?);
     assert!(rt; converts_as::<PlatformEncoding, UnixEncoding>(rt.alloc(), own)?);
     Ok(())
@@ -115,12 +117,41 @@ fn named_encodings(rt: HostRuntime) -> Result<(), Fail> {
         br"a\b".as_slice()
     );
     assert!(rt; is_as(unix.with_windows_encoding_checked(alloc), Ok(br"a\b")));
-    assert!(rt; NativePath::new(b"/a").is_absolute());
+    Ok(())
+}
+
+/// Whether a piece has the text.
+fn has_text(piece: Option<Piece<'_>>, text: &[u8]) -> bool {
+    piece.is_some_and(|piece| piece.text == text)
+}
+
+/// Whether a path is read as on Unix: parted by `/` alone, and without a prefix.
+fn is_read_as_on_unix<T: Encoding>(path: Path<'_, T>) -> bool {
+    let mut components = path.components();
+    has_text(components.next(), br"C:\a")
+        && has_text(components.next(), b"b")
+        && components.next().is_none()
+}
+
+#[test]
+fn names_of_the_machine(rt: HostRuntime) -> Result<(), Fail> {
+    let text = br"C:\a/b";
+    let native = NativePathBuf::from_bytes(rt.alloc(), text)?;
+    let platform = PlatformPathBuf::from_bytes(rt.alloc(), text)?;
+    assert!(rt; is_read_as_on_unix(native.as_path()) && is_read_as_on_unix(NativePath::new(text)));
+    assert!(rt;
+        is_read_as_on_unix(platform.as_path()) && is_read_as_on_unix(PlatformPath::new(text))
+    );
+    assert!(rt; is_read_as_on_unix(Path::<NativeEncoding>::new(text)));
+    assert!(rt; is_read_as_on_unix(Path::<PlatformEncoding>::new(text)));
+    assert!(rt; NativeComponent::try_from(br"C:\a") == Ok(NativeComponent::Normal(br"C:\a")));
+    assert!(rt; NativeComponent::try_from(text).is_err());
+    assert!(rt; NativePath::new(b"/a").is_absolute() && PlatformPath::new(b"/a").is_absolute());
     Ok(())
 }
 
 /// Whether a path becomes this absolute text from a directory, or is refused where there is none.
-fn absolutizes_as<T: Encoding>(
+pub fn absolutizes_as<T: Encoding>(
     alloc: Global,
     directory: &[u8],
     path: &[u8],

@@ -1,27 +1,32 @@
-//! The searches for separators, at every length and every place.
+//! The searches for separators, at every length and every place, for both encodings.
 
 use std::test::Fail;
-use typed_path::UnixPath;
+use typed_path::{Encoding, Path, UnixEncoding, UnixPath, WindowsEncoding};
 
 /// The longest text that is looked at: three whole blocks and a rest.
 const LONGEST: usize = 100;
 
-/// The text of the first component of a text without dots, found byte by byte.
-fn first_text(text: &[u8]) -> &[u8] {
+/// The text of the first component of a text without dots, found byte by byte. The first of the
+/// separators is how a root is written.
+fn first_text<'a>(text: &'a [u8], separators: &'a [u8; 2]) -> &'a [u8] {
     for (place, byte) in text.iter().enumerate() {
-        if *byte == b'/' {
-            return &text[..place.max(1)];
+        if *byte == separators[0] || *byte == separators[1] {
+            return if place == 0 {
+                &separators[..1]
+            } else {
+                &text[..place]
+            };
         }
     }
     text
 }
 
 /// The text of its last component.
-fn last_text(text: &[u8]) -> &[u8] {
+fn last_text<'a>(text: &'a [u8], separators: &'a [u8; 2]) -> &'a [u8] {
     let mut begin = 0;
     let mut end = 0;
     for (place, byte) in text.iter().enumerate() {
-        if *byte != b'/' {
+        if *byte != separators[0] && *byte != separators[1] {
             if place != end {
                 begin = place;
             }
@@ -29,36 +34,58 @@ fn last_text(text: &[u8]) -> &[u8] {
         }
     }
     if end == 0 {
-        return &text[..text.len().min(1)];
+        return &separators[..text.len().min(1)];
     }
     text.get(begin..end).unwrap_or(b"")
 }
 
-/// The texts of the first component and of the last.
-fn ends_of(text: &[u8]) -> (&[u8], &[u8]) {
-    let components = UnixPath::new(text).components();
+/// Whether the first component of a text, and the last, are those that are found byte by byte.
+fn ends_are_found<T: Encoding>(text: &[u8], separators: &[u8; 2]) -> bool {
+    let components = Path::<T>::new(text).components();
     let (mut from_front, mut from_back) = (components, components);
-    (
-        from_front.next().map_or(b"", |piece| piece.text),
-        from_back.next_back().map_or(b"", |piece| piece.text),
-    )
+    let first = from_front.next().map_or(b"".as_slice(), |piece| piece.text);
+    let last = from_back
+        .next_back()
+        .map_or(b"".as_slice(), |piece| piece.text);
+    first == first_text(text, separators) && last == last_text(text, separators)
+}
+
+/// Whether this is so of every text of some length that is separators alone, or has one at some
+/// place and perhaps another elsewhere, or none.
+fn are_found_at_each_place<T: Encoding>(length: usize, separators: &[u8; 2]) -> bool {
+    let length = length.min(LONGEST);
+    for place in 0..=length {
+        for further in [LONGEST / 2, LONGEST] {
+            let mut bytes = [b'a'; LONGEST + 1];
+            if let Some(byte) = bytes.get_mut(further) {
+                *byte = separators[0];
+            }
+            bytes[place] = if place % 2 == length % 2 {
+                separators[0]
+            } else {
+                separators[1]
+            };
+            if !ends_are_found::<T>(&bytes[..length], separators) {
+                return false;
+            }
+        }
+    }
+    let mut bytes = [separators[0]; LONGEST];
+    bytes[LONGEST / 2] = separators[1];
+    ends_are_found::<T>(&bytes[..length], separators)
 }
 
 #[test]
 fn separators_are_found_at_each_place(rt: HostRuntime) -> Result<(), Fail> {
     for length in 0..=LONGEST {
-        for place in 0..=length {
-            let mut bytes = [b'a'; LONGEST + 1];
-            bytes[place] = b'/';
-            let text = &bytes[..length];
-            let (first, last) = ends_of(text);
-            assert_eq!(rt; first, first_text(text), "first of {length}, at {place}");
-            assert_eq!(rt; last, last_text(text), "last of {length}, at {place}");
-        }
-        let text = &[b'/'; LONGEST][..length];
-        let (first, last) = ends_of(text);
-        assert_eq!(rt; first, first_text(text), "first of {length} separators");
-        assert_eq!(rt; last, last_text(text), "last of {length} separators");
+        assert!(rt;
+            are_found_at_each_place::<UnixEncoding>(length, b"//"),
+            "Unix, {length} bytes"
+        );
+        assert!(rt;
+            are_found_at_each_place::<WindowsEncoding>(length, br"\/"),
+            "Windows, {length} bytes"
+        );
     }
     Ok(())
 }

@@ -2,6 +2,8 @@
 #![tactic(auto)]
 
 #[cfg(test)]
+mod ample;
+#[cfg(test)]
 mod conversions;
 #[cfg(test)]
 mod ends;
@@ -17,7 +19,11 @@ mod paths;
 #[cfg(test)]
 mod prefixes;
 #[cfg(test)]
+mod slow;
+#[cfg(test)]
 mod streams;
+#[cfg(test)]
+mod verbatim;
 #[cfg(test)]
 mod windows;
 #[cfg(test)]

@@ -1,5 +1,6 @@
 //! Replies to lines, in whatever pieces they come and whatever fails.
 
+use crate::ample::repeated;
 use crate::streams::{Drops, Pieces};
 use std::alloc::Global;
 use std::io;
@@ -104,6 +105,10 @@ fn replies(rt: HostRuntime) -> Result<(), Fail> {
         (
             b"convert_checked\tunix\twindows\t/tmp/ab:c\n",
             b"err\tInvalidFilename\n",
+        ),
+        (
+            b"join\tunix\t/etc\ta\njoin\twindows\tC:\\x\tb\nconvert_checked\tunix\tunix\tc//d\n",
+            b"ok\t/etc/a\nok\tC:\\x\\b\nok\tc/d\n",
         ),
         (b"convert\tunix\tmac\ta\n", b"err\tBadLine\n"),
         (b"convert\tunix\ta\n", b"err\tBadLine\n"),
@@ -248,15 +253,24 @@ fn streams_of_std(rt: HostRuntime) -> Result<(), Fail> {
 }
 
 #[test]
-fn a_line_of_megabytes(rt: HostRuntime) -> Result<(), Fail> {
-    let mut line = Vec::with_capacity(rt.alloc(), 3_000_020)?;
-    line.extend_from_slice(b"normalize\tunix\t")?;
-    for _ in 0..600_000 {
-        line.extend_from_slice(b"a/../")?;
-    }
-    let (written, outcome) = answered(rt.alloc(), line.as_slice(), ALL, ALL);
+fn long_lines(rt: HostRuntime) -> Result<(), Fail> {
+    let alloc = rt.alloc();
+    let mut lines = repeated(alloc, b"normalize\tunix\t", b"a/../", 600_000, b"\n")?;
+    let one = repeated(alloc, b"join\tunix\t", b"/name", 1_000, b"\t")?;
+    lines.extend_from_slice(one.as_slice())?;
+    let two = repeated(alloc, b"", b"name/", 1_000, b"\njoin\twindows\t")?;
+    lines.extend_from_slice(two.as_slice())?;
+    let three = repeated(alloc, b"\\\\?\\C:\\x\t", b"name/", 2_000, b"\n")?;
+    lines.extend_from_slice(three.as_slice())?;
+
+    let mut wanted = repeated(alloc, b"ok\t\nok\t", b"/name", 1_000, b"/")?;
+    let two = repeated(alloc, b"", b"name/", 1_000, b"\nok\t")?;
+    wanted.extend_from_slice(two.as_slice())?;
+    let three = repeated(alloc, b"\\\\?\\C:\\x", b"\\name", 2_000, b"\n")?;
+    wanted.extend_from_slice(three.as_slice())?;
+    let (written, outcome) = answered(alloc, lines.as_slice(), ALL, ALL);
     assert_eq!(rt; outcome, Ok(()));
-    assert_eq!(rt; written.as_slice(), b"ok\t\n".as_slice());
+    assert_eq!(rt; written.as_slice(), wanted.as_slice());
     Ok(())
 }
 

@@ -4,14 +4,16 @@ use crate::owned::joins_as;
 use crate::paths::normalizes_as;
 use std::test::Fail;
 use typed_path::{
-    CheckedPathError, End, PieceKind, WindowsEncoding, WindowsPath, WindowsPathBuf, WindowsPrefix,
-    read_ends,
+    CheckedPathError, End, PieceKind, PlatformEncoding, WindowsComponents, WindowsEncoding,
+    WindowsPath, WindowsPathBuf, WindowsPrefix, read_ends,
 };
 
 #[test]
 fn pushes(rt: HostRuntime) -> Result<(), Fail> {
-    let rows: [(&[u8], &[u8], &[u8]); 12] = [
+    let rows: [(&[u8], &[u8], &[u8]); 14] = [
         (br"C:\a\b", br"\c", br"C:\c"),
+        (br"\\?\UNC\s\h", b"a", br"\\?\UNC\s\h\a"),
+        (br"\\?\C:\x", b"/y", br"\\?\C:\y"),
         (br"\\s\h\x", b"/y", br"\\s\h/y"),
         (b"C:", b"a", b"C:a"),
         (b"a/", b"b", br"a/\b"),
@@ -64,8 +66,10 @@ fn checked_joins(rt: HostRuntime) -> Result<(), Fail> {
 
 #[test]
 fn normal_texts(rt: HostRuntime) -> Result<(), Fail> {
-    let rows: [(&[u8], &[u8]); 12] = [
+    let rows: [(&[u8], &[u8]); 14] = [
         (br"C:\a\.\..\b", br"C:\b"),
+        (br"x\C:", b"C:"),
+        (br"\\?\x\a/b\c\..", br"\\?\x\a\b"),
         (br"\\s\h\..\x", br"\\s\h\x"),
         (b"//?/x/a/../b", br"//?/x\b"),
         (br"\\s\\x", br"\\s\\x"),
@@ -164,5 +168,57 @@ fn requests_from_both_ends(rt: HostRuntime) -> Result<(), Fail> {
                 )
             })
     );
+    Ok(())
+}
+
+#[test]
+fn texts_for_programmers(rt: HostRuntime) -> Result<(), Fail> {
+    let alloc = rt.alloc();
+    let path = WindowsPath::new(br"C:\a");
+    let owned = path.to_path_buf(alloc)?;
+    let prefixes = [
+        WindowsPrefix::Verbatim(b"x"),
+        WindowsPrefix::VerbatimUNC(b"s", b"h"),
+        WindowsPrefix::VerbatimDisk(b'C'),
+        WindowsPrefix::DeviceNS(b"d"),
+        WindowsPrefix::UNC(b"s", b""),
+    ];
+    let rows = [
+        (
+            format!(in alloc; "{path:?}")?,
+            "Path { _encoding: \"windows\", inner: [67, 58, 92, 97] }",
+        ),
+        (
+            format!(in alloc; "{owned:?}")?,
+            "PathBuf { _encoding: \"windows\", inner: [67, 58, 92, 97] }",
+        ),
+        (
+            format!(in alloc; "{:?}", WindowsComponents::new(path))?,
+            "WindowsComponents([Prefix(WindowsPrefixComponent { raw: [67, 58], kind: Disk(67) }), RootDir, Normal([97])])",
+        ),
+        (
+            format!(in alloc; "{:?}", WindowsPath::new(br"\..").components())?,
+            "Components([Piece { kind: RootDir, text: [92] }, Piece { kind: ParentDir, text: [46, 46] }])",
+        ),
+        (
+            format!(in alloc; "{:?}", path.iter())?,
+            "Iter([[67, 58], [92], [97]])",
+        ),
+        (
+            format!(in alloc; "{prefixes:?}")?,
+            "[Verbatim([120]), VerbatimUNC([115], [104]), VerbatimDisk(67), DeviceNS([100]), UNC([115], [])]",
+        ),
+        (
+            format!(in alloc; "{WindowsEncoding:?} {WindowsEncoding}")?,
+            "WindowsEncoding WindowsEncoding",
+        ),
+        (
+            format!(in alloc; "{PlatformEncoding:?} {PlatformEncoding}")?,
+            "PlatformEncoding PlatformEncoding",
+        ),
+    ];
+    for (printed, wanted) in rows {
+        assert_eq!(rt; printed.as_str(), wanted);
+    }
     Ok(())
 }

@@ -1,0 +1,295 @@
+//! A slow reading of texts, by whole splits, and every short text read by it and by calls.
+
+use std::alloc::{AllocError, Global};
+use std::test::Fail;
+use typed_path::{
+    Encoding, End, Path, Piece, PieceKind, UnixEncoding, WindowsEncoding, WindowsPrefix, read_ends,
+};
+
+/// The bytes that the short texts are made of.
+const BYTES: [u8; 7] = [b'/', b'\\', b'.', b'?', b':', b'a', b'C'];
+
+/// The separators of Windows texts that are not read verbatim.
+const BOTH: &[u8] = br"\/";
+
+/// A component, and where it begins and ends in the text.
+#[derive(Clone, Copy)]
+struct Part<'a> {
+    piece: Piece<'a>,
+    begin: usize,
+    end: usize,
+}
+
+/// What separates a text: `/` on Unix, and on Windows both, or `\` alone behind `\\?\`.
+fn separators(windows: bool, text: &[u8]) -> &'static [u8] {
+    if !windows {
+        b"/"
+    } else if text.starts_with(br"\\?\") {
+        br"\"
+    } else {
+        BOTH
+    }
+}
+
+/// The name up to the next separator or the end of a text, and what stands behind it.
+fn name<'a>(text: &'a [u8], separators: &[u8]) -> (&'a [u8], &'a [u8]) {
+    let name = text
+        .split(|byte| separators.contains(byte))
+        .next()
+        .unwrap_or(b"");
+    (name, text.get(name.len()..).unwrap_or(b""))
+}
+
+/// A server, a separator and a share that may both be absent, and what stands behind them.
+fn names<'a>(text: &'a [u8], separators: &[u8]) -> Option<(&'a [u8], &'a [u8], &'a [u8])> {
+    let (server, behind) = name(text, separators);
+    if server.is_empty() {
+        return None;
+    }
+    match behind.split_first() {
+        Some((_, behind)) => {
+            let (share, behind) = name(behind, separators);
+            Some((server, share, behind))
+        }
+        None => Some((server, b"", behind)),
+    }
+}
+
+/// What stands behind two separators, a sign and a separator.
+fn behind_mark(text: &[u8], sign: u8) -> Option<&[u8]> {
+    match text {
+        [one, two, mark, three, behind @ ..]
+            if BOTH.contains(one) && BOTH.contains(two) && *mark == sign && BOTH.contains(three) =>
+            { Some(behind) }
+        _ => None,
+    }
+}
+
+/// An ASCII letter with a colon, and what stands behind them.
+fn drive(text: &[u8]) -> Option<(u8, &[u8])> {
+    match text {
+        [letter, b':', behind @ ..] if letter.is_ascii_alphabetic() => {
+            Some((letter.to_ascii_uppercase(), behind))
+        }
+        _ => None,
+    }
+}
+
+/// The prefix that stands behind a verbatim mark: the first of three cases.
+fn verbatim<'a>(text: &'a [u8], own: &[u8]) -> Option<(WindowsPrefix<'a>, &'a [u8])> {
+    if let [b'U', b'N', b'C', separator, behind @ ..] = text {
+        if own.contains(separator) {
+            if let Some((server, share, behind)) = names(behind, own) {
+                return Some((WindowsPrefix::VerbatimUNC(server, share), behind));
+            }
+        }
+    }
+    if let Some((letter, behind)) = drive(text) {
+        return Some((WindowsPrefix::VerbatimDisk(letter), behind));
+    }
+    if text.is_empty() {
+        return None;
+    }
+    let (name, behind) = name(text, own);
+    Some((WindowsPrefix::Verbatim(name), behind))
+}
+
+/// The prefix of a Windows text, and what stands behind it: the first of six cases.
+fn prefix(text: &[u8]) -> Option<(WindowsPrefix<'_>, &[u8])> {
+    if let Some(behind) = behind_mark(text, b'?') {
+        if let Some(found) = verbatim(behind, separators(true, text)) {
+            return Some(found);
+        }
+    }
+    if let Some(behind) = behind_mark(text, b'.') {
+        let (name, behind) = name(behind, BOTH);
+        if !name.is_empty() {
+            return Some((WindowsPrefix::DeviceNS(name), behind));
+        }
+    }
+    if let [one, two, behind @ ..] = text {
+        if BOTH.contains(one) && BOTH.contains(two) {
+            if let Some((server, share, behind)) = names(behind, BOTH) {
+                return Some((WindowsPrefix::UNC(server, share), behind));
+            }
+        }
+    }
+    let (letter, behind) = drive(text)?;
+    Some((WindowsPrefix::Disk(letter), behind))
+}
+
+/// The kind of a segment, by whether it is the first of its body and whether each `.` counts; none
+/// where it vanishes.
+fn kind_of(segment: &[u8], first: bool, dots: bool) -> Option<PieceKind<'static>> {
+    match segment {
+        [] if first => Some(PieceKind::RootDir),
+        [] => None,
+        [b'.'] if first || dots => Some(PieceKind::CurDir),
+        [b'.'] => None,
+        [b'.', b'.'] => Some(PieceKind::ParentDir),
+        _ => Some(PieceKind::Normal),
+    }
+}
+
+/// The components of a text.
+fn parts_of(alloc: Global, windows: bool, text: &[u8]) -> Result<Vec<Part<'_>>, AllocError> {
+    let mut parts = Vec::new(alloc);
+    let mut rest = text;
+    if windows {
+        if let Some((kind, behind)) = prefix(text) {
+            let end = text.len().saturating_sub(behind.len());
+            let raw = text.get(..end).unwrap_or(b"");
+            let kind = PieceKind::Prefix(kind);
+            let piece = Piece { kind, text: raw };
+            parts.push(Part {
+                piece,
+                begin: 0,
+                end,
+            })?;
+            rest = behind;
+        }
+    }
+    if rest.is_empty() {
+        return Ok(parts);
+    }
+    let own = separators(windows, text);
+    let root: &[u8] = if windows { br"\" } else { b"/" };
+    let mut begin = text.len().saturating_sub(rest.len());
+    for (number, segment) in rest.split(|byte| own.contains(byte)).enumerate() {
+        let end = begin.saturating_add(segment.len());
+        if let Some(kind) = kind_of(segment, number == 0, own.len() == 1 && windows) {
+            let piece = Piece {
+                kind,
+                text: if segment.is_empty() { root } else { segment },
+            };
+            let end = end.max(begin.saturating_add(1));
+            parts.push(Part { piece, begin, end })?;
+        }
+        begin = end.saturating_add(1);
+    }
+    Ok(parts)
+}
+
+/// Whether two components have one kind and one text.
+fn is_same(piece: Piece<'_>, other: Piece<'_>) -> bool {
+    let is_same_kind = match (piece.kind, other.kind) {
+        (PieceKind::Prefix(one), PieceKind::Prefix(two)) => one == two,
+        (PieceKind::RootDir, PieceKind::RootDir)
+        | (PieceKind::CurDir, PieceKind::CurDir)
+        | (PieceKind::ParentDir, PieceKind::ParentDir)
+        | (PieceKind::Normal, PieceKind::Normal) => true,
+        _ => false,
+    };
+    is_same_kind && piece.text == other.text
+}
+
+/// Whether a reading from these ends gives these components, with the slice left after each step.
+fn is_read_as<T: Encoding>(
+    alloc: Global,
+    text: &[u8],
+    parts: &[Part<'_>],
+    ends: &[End],
+) -> Result<bool, AllocError> {
+    let mut components = Path::<T>::new(text).components();
+    let mut answers = Vec::with_capacity(alloc, 1)?;
+    let mut left = parts;
+    let (mut from, mut to) = (0, text.len());
+    for end in ends {
+        let taken = match end {
+            End::Front => left.split_first(),
+            End::Back => left.split_last(),
+        };
+        if let Some((_, rest)) = taken {
+            left = rest;
+            match (end, left.first(), left.last()) {
+                (End::Front, Some(first), _) => from = first.begin,
+                (End::Back, _, Some(last)) => to = last.end,
+                _ => to = from,
+            }
+        }
+        answers.clear();
+        read_ends(&mut components, &[*end], &mut answers)?;
+        let is_taken = match (answers.first(), taken) {
+            (Some(Some(piece)), Some((part, _))) => is_same(*piece, part.piece),
+            (Some(None), None) => true,
+            _ => false,
+        };
+        if !is_taken || components.as_bytes() != text.get(from..to).unwrap_or(b"?") {
+            return Ok(false);
+        }
+    }
+    Ok(true)
+}
+
+/// Whether a text is read alike from the front alone, from the back alone, and from both in turn.
+fn is_read_alike<T: Encoding>(
+    alloc: Global,
+    windows: bool,
+    text: &[u8],
+) -> Result<bool, AllocError> {
+    let parts = parts_of(alloc, windows, text)?;
+    let turns = [
+        End::Front,
+        End::Back,
+        End::Front,
+        End::Back,
+        End::Front,
+        End::Back,
+        End::Front,
+    ];
+    Ok(
+        is_read_as::<T>(alloc, text, &parts, &[End::Front; 7])?
+            && is_read_as::<T>(alloc, text, &parts, &[End::Back; 7])?
+            && is_read_as::<T>(alloc, text, &parts, &turns)?,
+    )
+}
+
+/// Whether this is so of all texts of so many bytes behind a beginning.
+fn are_read_alike<T: Encoding>(
+    alloc: Global,
+    windows: bool,
+    begin: &[u8],
+    length: usize,
+    count: usize,
+) -> Result<bool, AllocError> {
+    let mut text = Vec::new(alloc);
+    for number in 0..count {
+        text.clear();
+        text.extend_from_slice(begin)?;
+        let mut rest = number;
+        for _ in 0..length {
+            text.push(BYTES.get(rest % 7).copied().unwrap_or(b'a'))?;
+            rest /= 7;
+        }
+        if !is_read_alike::<T>(alloc, windows, text.as_slice())? {
+            return Ok(false);
+        }
+    }
+    Ok(true)
+}
+
+/// The lengths of the short texts, and how many texts there are of each.
+const SHORT: [(usize, usize); 6] = [(0, 1), (1, 7), (2, 49), (3, 343), (4, 2_401), (5, 16_807)];
+
+#[test]
+fn every_short_text(rt: HostRuntime) -> Result<(), Fail> {
+    let alloc = rt.alloc();
+    for (length, count) in SHORT {
+        let unix = are_read_alike::<UnixEncoding>(alloc, false, b"", length, count)?;
+        let windows = are_read_alike::<WindowsEncoding>(alloc, true, b"", length, count)?;
+        assert!(rt; unix && windows, "{length} bytes");
+    }
+    Ok(())
+}
+
+#[test]
+fn every_short_text_behind_a_mark(rt: HostRuntime) -> Result<(), Fail> {
+    let marks: [&[u8]; 5] = [br"\\?\", b"//?/", br"\\?\UNC\", b"//?/UNC/", br"\/.\"];
+    for mark in marks {
+        for (length, count) in [(1, 7), (2, 49), (3, 343), (4, 2_401)] {
+            let alike = are_read_alike::<WindowsEncoding>(rt.alloc(), true, mark, length, count)?;
+            assert!(rt; alike, "{length} bytes behind {mark:?}");
+        }
+    }
+    Ok(())
+}
