@@ -171,7 +171,8 @@ pub trait Encoding: Sized {
     }
 
     /// Judges a path that is to be pushed, on its own: it is refused for its first component that
-    /// offends. Pushed onto any base, a path that is not refused lies within that base.
+    /// offends. A path that is not refused lies within each base that it is pushed onto, where the
+    /// result has the prefix of that base. It always has for the bases that `keeps_prefix` lists.
     fn check(path: &[u8]) -> Result<(), CheckedPathError>
         ensures refused { error_of result ≡ fault dialect path.now }
         ensures prefix { OnOk result
