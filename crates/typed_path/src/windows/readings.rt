@@ -58,6 +58,10 @@ impl<'a> TryFrom<&'a str> for WindowsPrefix<'a> {
 }
 
 /// Reads bytes that are one prefix, and keeps them.
+///
+/// # Errors
+///
+/// Those of a `WindowsPrefix`.
 impl<'a> TryFrom<&'a [u8]> for WindowsPrefixComponent<'a> {
     ghost use Rattle.typed_path.specs.views.WindowsViews.{IsPrefixComponentReading};
 
