@@ -1,4 +1,26 @@
-//! The paths of Unix and of Windows on every machine.
+//! The paths of Unix and of Windows, read and written in the same way on every machine.
+//!
+//! A path is any list of bytes, and none is malformed. What it answers is read off its components.
+//! A checked join stays within its base, where the result has the prefix of that base:
+//!
+//! ```rust
+//! use std::alloc::Global;
+//! use typed_path::{PathError, UnixPath, UnixPathBuf};
+//!
+//! /// Where the entry of an archive is to be written.
+//! pub fn target(alloc: Global, base: UnixPath<'_>, name: &[u8]) -> Result<UnixPathBuf, PathError> {
+//!     base.join_checked(alloc, UnixPath::new(name))
+//! }
+//! ```
+//!
+//! For the base `/etc` and the name `abc/../def` this is `/etc/abc/../def`; `..` is refused with
+//! `PathTraversalAttack`, and `/sneaky` with `UnexpectedRoot`.
+//!
+//! [`Path`] is lent and Copy, [`PathBuf`] owns its bytes and grows. Both take their encoding as a
+//! type: [`UnixEncoding`], [`WindowsEncoding`] or [`PlatformEncoding`], with the names [`UnixPath`],
+//! [`WindowsPath`] and [`PlatformPath`] for the lent ones. A call that needs memory answers a
+//! `Result`, and where memory is refused it leaves what it was handed as it was, unless it says
+//! otherwise. The laws that callers may cite stand in [`laws`].
 #![tactic(auto)]
 
 mod common;

@@ -9,11 +9,12 @@ ghost use Rattle.typed_path_uses.specs.Uses.{place_within, places, places_within
 use std::alloc::Global;
 use typed_path::{Encoding, Path, PathBuf, PathError};
 
-/// Where an entry is unpacked: at the place of the base, and then at the names that the entry's own
-/// name leads to. A name that would lead out of the base is refused by name.
+/// Where an entry is unpacked. Where the base keeps its prefix, that is at the place of the base, and
+/// then at the names that the entry's own name leads to. A name that would lead out of the base is
+/// refused.
 ///
-/// The base is any on Unix, and on Windows one that keeps its prefix, as `C:\out` or
-/// `\\server\share\out`.
+/// Every base of Unix keeps its prefix, and so do `C:\out` and `\\server\share\out` on Windows. Of a
+/// base that may lose it, as `\\server`, nothing is promised.
 pub fn target<T: Encoding>(
     alloc: Global,
     base: Path<'_, T>,
@@ -25,7 +26,8 @@ pub fn target<T: Encoding>(
     base.join_checked(alloc, Path::new(name))
 }
 
-/// Where all entries are unpacked, in their order; or the refusal of the first that is refused.
+/// Where all entries are unpacked, in their order, each as `target` has it; or the refusal of the
+/// first that is refused.
 pub fn targets<T: Encoding>(
     alloc: Global,
     base: Path<'_, T>,

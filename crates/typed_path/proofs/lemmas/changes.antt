@@ -1,4 +1,29 @@
 -- What changes a path.
+-- JoinLemmas: the components of a text with more put behind a separator at its end
+-- EndedLemmas: a base of Windows with a separator put behind it, where it needs one
+-- PlainNames: what a push onto a text that it spells anew makes of a plain name
+-- SpellLemmas: a list as it is read behind a prefix of Windows, spelled and read again
+-- SpelledTexts: what stands behind the prefix of a text of Windows that is spelled as it is read
+-- SpelledRows: texts of Windows that hold components with `\` between them, as they are read
+-- NamesBehind: names merged into a list of Windows, and spelled behind it
+-- ReadyPrefixes: the prefix of a text that is spelled as it is read, with a plain name put behind it: it stays, or a share takes the whole text
+-- ReadyLemmas: a plain name pushed onto a text that is spelled as it is read: it is put behind the text, which stays so
+-- SpellingLemmas: how a push spells a text of Windows anew, told by what stands behind the prefix
+-- MergeLemmas: a list of names, currents and parents that overdraws nothing, merged into another: what it resolves to is put behind
+-- FaultLemmas: a path judged component by component, and what holds of one that is not refused
+-- FaultlessLemmas: a path of Windows that is not refused has no prefix and no root
+-- AllowedLemmas: the names of a text in which each byte that no name may have is a separator
+-- ConvertLemmas: checked pushes of components in a row, one component at a time
+-- EndedNames: a root or a name, and names behind it, spelled, with one more name put behind that
+-- PushedNames: plain names pushed one by one behind a prefix that stays, and a root or a name: they are spelled behind these
+-- NameSpans: a path without its file name, and where the stem of the name ends
+-- RunLemmas: lists of operations, one operation more
+-- PushLemmas: what a push of Windows asks of its base, and a base that is written anew
+-- CrossedLemmas: names of Unix that are names of Windows too, and components that are pushed one by one unless one of them has a fault
+-- MergedNames: a path without a prefix and a root, merged component by component into a text of Windows that is spelled as it is read
+-- ReadyNames: names with `\` between them, put behind a text of Windows that is spelled as it is read: it stays so
+-- ReadyParents: what `..` leaves of a text of Windows that is spelled as it is read
+-- PutCrossed: components of another dialect pushed one by one onto the path at the end of a text
 pub mod JoinLemmas
 pub mod EndedLemmas
 pub mod PlainNames

@@ -1,4 +1,13 @@
 -- What a path answers about itself.
+-- ParentLemmas: the list of a parent: the list without its last component
+-- WindowsParent: the list of a Windows parent: the list without its last component
+-- AncestorLemmas: a path and those above it, one step up
+-- StripLemmas: a base taken off a path, component by component
+-- BaseLemmas: a text that begins with the bytes of another, read as that one and what stands behind it
+-- EndLemmas: the end of a path compared with another, component by component
+-- DotLemmas: the last dot of a name
+-- NameLemmas: a file name, its stem and its extension
+-- TextLemmas: bytes that are a text, and bytes that are none
 pub mod ParentLemmas
 pub mod WindowsParent
 pub mod AncestorLemmas

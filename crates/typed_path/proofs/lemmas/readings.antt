@@ -1,4 +1,16 @@
 -- Readings from both ends.
+-- BackLemmas: the last component of a text, and the text before it
+-- TrimLemmas: the bytes at the end of a text that belong to no component
+-- LeftLemmas: what is left of a list and of its slice once the last component is taken
+-- ReadingLemmas: a reading from both ends, step by step, and its closed forms
+-- SliceLeft: the slice left of a reading, by how many components were taken
+-- SliceLemmas: the slice that a reading step by step leaves, by how many components were taken
+-- YieldLemmas: a step from either end, as the step of an iterator
+-- PrefixSteps: steps of a reading whose prefix is still to be taken
+-- CursorSteps: steps of a cursor whose prefix is still to be taken
+-- EndSteps: one more request of a list of them
+-- MaskLemmas: what masks say of places, and searches of a range put together from what was seen of it
+-- SingleReadings: a text that two steps from the front tell to be one component
 pub mod BackLemmas
 pub mod TrimLemmas
 pub mod LeftLemmas

@@ -34,7 +34,8 @@ pub trait Component<'a>: Copy + fmt::Debug + Ord + Hash {
     fn is_current(&self) -> bool
         ensures { result ≡ is_current (part self.now).kind };
 
-    /// Whether the component is no name, or a name that the encoding allows.
+    /// Whether the component is no name, or a name that the encoding allows: `ab:c` is one of Unix, and
+    /// none of Windows.
     fn is_valid(&self) -> bool
         ensures { result ≡ is_valid_kind dialect (part self.now).kind };
 

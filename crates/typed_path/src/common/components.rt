@@ -78,7 +78,8 @@ impl<'a, T: Encoding> Components<'a, T> {
     /// The slice left: from the first component that is left to the end of the last.
     ///
     /// It is the whole text before the first step, and keeps what stands behind the last component
-    /// until a step from the back. Once all components are taken it is empty.
+    /// until a step from the back. Once all components are taken it is empty. Of the Unix path
+    /// `/a/./b//` it is `a/./b//` after one step from the front, and `/a` after one from the back.
     #[inline(always)]
     pub fn as_bytes(self) -> &'a [u8]
         ensures { result.now ≡ components_slice self.entry }

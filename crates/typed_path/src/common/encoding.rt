@@ -171,7 +171,14 @@ pub trait Encoding: Sized {
     }
 
     /// Judges a path that is to be pushed, on its own: it is refused for its first component that
-    /// offends. Pushed onto any base, a path that is not refused lies within that base.
+    /// offends. A path that is not refused lies within each base that it is pushed onto, where the
+    /// result has the prefix of that base. It always has for the bases that `keeps_prefix` lists.
+    ///
+    /// # Errors
+    ///
+    /// The first component that offends says which: `UnexpectedPrefix`, `UnexpectedRoot`,
+    /// `PathTraversalAttack` for a `..` that no earlier name makes up for, as in `a/../..`, or
+    /// `InvalidFilename`.
     fn check(path: &[u8]) -> Result<(), CheckedPathError>
         ensures refused { error_of result ≡ fault dialect path.now }
         ensures prefix { OnOk result

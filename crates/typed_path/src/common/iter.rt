@@ -63,6 +63,8 @@ impl<'a, T: Encoding> Iter<'a, T> {
     }
 
     /// The slice left, as a path.
+    ///
+    /// Of the Unix path `/a/b` it is `a/b` after one step from the front.
     pub fn as_path(self) -> Path<'a, T>
         ensures { path_bytes result ≡ iter_slice self.entry }
     {

@@ -25,6 +25,8 @@ impl<'a, T: Encoding> Path<'a, T> {
 
     /// The path with another pushed onto it: an absolute one stands in its place, and with an empty
     /// one it is a copy.
+    ///
+    /// On Unix `/etc` with `a` is `/etc/a`; on Windows `C:\a\b` with `\c` is `C:\c`.
     pub fn join(self, alloc: Global, path: Path<'_, T>) -> Result<PathBuf<T>, AllocError>
         ensures { IfOk result (λ p. p.bytes
             ≡ push_spec.push T.dialect (path_bytes self.entry) (path_bytes path.entry)) }
@@ -37,12 +39,16 @@ impl<'a, T: Encoding> Path<'a, T> {
         Ok(PathBuf::from_vec(joined))
     }
 
-    /// The path with another pushed onto it, unless that has a component that offends: a prefix, a
-    /// root, a `..` that no earlier name of it makes up for, or a name that the encoding does not
-    /// allow.
+    /// The path with another pushed onto it, unless that has a component that offends.
     ///
-    /// The answer lies within this path, as far as it keeps the prefix of this one. A path that is
-    /// refused costs no memory.
+    /// The answer lies within this path, where it has the prefix of this one: on Unix `/etc` with
+    /// `abc/../def` is `/etc/abc/../def`. A path that is refused costs no memory.
+    ///
+    /// # Errors
+    ///
+    /// `Checked` where the pushed path has a prefix, a root, a `..` that no earlier name of it makes up
+    /// for, or a name that the encoding does not allow: the first of these says which. `OutOfMemory`
+    /// where it has none of them, and memory is refused.
     pub fn join_checked(self, alloc: Global, path: Path<'_, T>) -> Result<PathBuf<T>, PathError>
         ensures refused { refusal result ≡ fault T.dialect (path_bytes path.entry) }
         ensures joined { IfOk result (λ p. p.bytes
@@ -56,6 +62,8 @@ impl<'a, T: Encoding> Path<'a, T> {
     }
 
     /// A copy with another file name, or with the name pushed where there is none.
+    ///
+    /// On Unix `a//b/` with `c` is `a/c`, and `a/..` with `c` is `a/../c`.
     pub fn with_file_name(self, alloc: Global, name: &[u8]) -> Result<PathBuf<T>, AllocError>
         ensures { IfOk result
             (λ p. p.bytes ≡ with_file_name T.dialect (path_bytes self.entry) name.now) }
@@ -65,6 +73,8 @@ impl<'a, T: Encoding> Path<'a, T> {
 
     /// A copy whose file name has another extension, or none where the new one is empty. Without a
     /// file name it is a mere copy.
+    ///
+    /// `a.tar.gz` with `zip` is `a.tar.zip`, and with an empty one `a.tar`.
     pub fn with_extension(self, alloc: Global, extension: &[u8]) -> Result<PathBuf<T>, AllocError>
         ensures { IfOk result
             (λ p. p.bytes ≡ with_extension T.dialect (path_bytes self.entry) extension.now) }

@@ -14,6 +14,8 @@ impl<'a, T: Encoding> Path<'a, T> {
     ghost use Rattle.typed_path.specs.views.PathViews.{path_bytes};
 
     /// Whether the path has the same components as the path of these bytes.
+    ///
+    /// The Unix path `/a/./b//` has those of `/a/b`.
     #[inline]
     pub fn eq_bytes(self, other: &[u8]) -> bool
         ensures { result ≡ is_same T.dialect (path_bytes self.entry) other.now }
@@ -22,6 +24,8 @@ impl<'a, T: Encoding> Path<'a, T> {
     }
 
     /// The order of the path and the path of these bytes, by their components.
+    ///
+    /// On Unix `a/b` is less than `ab`, since `a` is less than `ab`.
     #[inline]
     pub fn cmp_bytes(self, other: &[u8]) -> Ordering
         ensures { result ≡ path_cmp T.dialect (path_bytes self.entry) other.now }

@@ -27,6 +27,8 @@ impl<'a, T: Encoding> Path<'a, T> {
 
     /// The path without its last component, or none where there is no component or nothing is above
     /// the last one.
+    ///
+    /// On Unix that of `/a/./b//` is `/a`, that of `a` is the empty path, and `/` has none.
     pub fn parent(self) -> Option<Path<'a, T>>
         ensures { option_map path_bytes result ≡ parent_of T.dialect (path_bytes self.entry) }
     {
@@ -39,6 +41,8 @@ impl<'a, T: Encoding> Path<'a, T> {
     }
 
     /// The path, and then each parent of the one before.
+    ///
+    /// Those of the Unix path `/a/b/.` are `/a/b/.`, `/a` and `/`.
     pub fn ancestors(self) -> Ancestors<'a, T>
         ensures { ancestors_left T.dialect result ≡ ancestors_of T.dialect (path_bytes self.entry) }
     {
@@ -46,6 +50,8 @@ impl<'a, T: Encoding> Path<'a, T> {
     }
 
     /// The last component, where it is a name.
+    ///
+    /// Of `a/b//` it is `b`, and `a/..` has none.
     pub fn file_name(self) -> Option<&'a [u8]>
         ensures { option_copied result ≡ file_name_of T.dialect (path_bytes self.entry) }
     {
@@ -58,6 +64,8 @@ impl<'a, T: Encoding> Path<'a, T> {
     }
 
     /// The file name up to its last dot, or the whole of it where no dot but a first one is there.
+    ///
+    /// Of `a.tar.gz` it is `a.tar`, and of `.bashrc` it is `.bashrc`.
     pub fn file_stem(self) -> Option<&'a [u8]>
         ensures { option_copied result ≡ file_stem_of T.dialect (path_bytes self.entry) }
     {
@@ -66,6 +74,8 @@ impl<'a, T: Encoding> Path<'a, T> {
     }
 
     /// What stands in the file name behind its last dot, where that is not its first byte.
+    ///
+    /// Of `a.tar.gz` it is `gz`, of `a.` it is empty, and `.bashrc` has none.
     pub fn extension(self) -> Option<&'a [u8]>
         ensures { option_copied result ≡ extension T.dialect (path_bytes self.entry) }
     {
@@ -97,6 +107,8 @@ impl<'a, T: Encoding> Path<'a, T> {
     }
 
     /// The texts of the components, from either end.
+    ///
+    /// Those of the Unix path `/a/./b` are `/`, `a` and `b`.
     #[inline(always)]
     pub fn iter(self) -> Iter<'a, T>
         ensures items { iter_items result ≡ comps T.dialect (path_bytes self.entry) }

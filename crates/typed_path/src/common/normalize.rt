@@ -13,6 +13,8 @@ impl<'a, T: Encoding> Path<'a, T> {
 
     /// The path without `.`, and without `..` and the names that these take away.
     ///
+    /// That of the Unix path `foo/bar//baz/./asdf/quux/..` is `foo/bar/baz/asdf`.
+    ///
     /// The components that are left are pushed one by one onto the empty path. A `..` that finds no
     /// name to take away vanishes. On Unix the answer is read as just these components, is its own
     /// normal text, and is the same, byte for byte, for all paths that lead to the same. On Windows,

@@ -43,6 +43,8 @@ impl<'a, T: Encoding> Path<'a, T> {
     ghost use Rattle.typed_path.specs.views.PathViews.{path_bytes, components_items, components_slice};
 
     /// The components of the path, from either end.
+    ///
+    /// The Unix path `/a/./b//` has the root, `a` and `b`.
     #[inline(always)]
     pub fn components(self) -> Components<'a, T>
         ensures items { components_items result ≡ comps T.dialect (path_bytes self.entry) }
@@ -52,6 +54,8 @@ impl<'a, T: Encoding> Path<'a, T> {
     }
 
     /// Whether the path leads to one place, whatever the current directory is.
+    ///
+    /// On Windows `C:\a` does, and neither `C:a` nor `\a`.
     pub fn is_absolute(self) -> bool
         ensures { result ≡ is_absolute T.dialect
             (kinds (parts_of T.dialect (path_bytes self.entry))) }
@@ -68,6 +72,8 @@ impl<'a, T: Encoding> Path<'a, T> {
     }
 
     /// Whether the path begins with a root, written or implied by a prefix.
+    ///
+    /// On Windows `\a` and `\\s\h` do, and `C:a` does not.
     pub fn has_root(self) -> bool
         ensures { result ≡ has_root T.dialect (kinds (parts_of T.dialect (path_bytes self.entry))) }
     {
@@ -75,6 +81,8 @@ impl<'a, T: Encoding> Path<'a, T> {
     }
 
     /// Whether the encoding allows every name of the path.
+    ///
+    /// `ab:c` is allowed on Unix, and not on Windows.
     pub fn is_valid(self) -> bool
         ensures { result ≡ is_valid T.dialect (kinds (parts_of T.dialect (path_bytes self.entry))) }
     {

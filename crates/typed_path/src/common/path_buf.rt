@@ -90,6 +90,8 @@ impl<T: Encoding> PathBuf<T> {
 
     /// Pushes a path onto this one: an absolute one replaces it, an empty one changes nothing.
     ///
+    /// On Unix `b` makes `a` into `a/b`; on Windows `..` makes `\\?\C:\a` into `\\?\C:\`.
+    ///
     /// Where the result fits the room that there is, memory is not asked for, unless the path is
     /// spelled anew. Where memory is refused the path is as it was, and has no less room.
     pub fn push(&mut self, path: Path<'_, T>) -> Result<(), AllocError>
@@ -104,12 +106,17 @@ impl<T: Encoding> PathBuf<T> {
         T::push(&mut self.inner, path.as_bytes())
     }
 
-    /// Pushes a path onto this one, unless it has a component that offends: a prefix, a root, a `..`
-    /// that no earlier name of it makes up for, or a name that the encoding does not allow.
+    /// Pushes a path onto this one, unless it has a component that offends.
     ///
-    /// Pushed, it lies within this path, as far as this one keeps its prefix. Where it is refused
-    /// nothing changes, and no memory is asked for; where memory is refused the path is as it was, and
-    /// has no less room.
+    /// Pushed, it lies within this path, where this one keeps its prefix: on Unix `abc/../def` makes
+    /// `/etc` into `/etc/abc/../def`.
+    ///
+    /// # Errors
+    ///
+    /// `Checked` where the pushed path has a prefix, a root, a `..` that no earlier name of it makes up
+    /// for, or a name that the encoding does not allow: the first of these says which. Then nothing
+    /// changes, and no memory is asked for. `OutOfMemory` where it has none of them, and memory is
+    /// refused: the path is as it was, and has no less room.
     pub fn push_checked(&mut self, path: Path<'_, T>) -> Result<(), PathError>
         ensures refused { refusal result ≡ fault T.dialect (path_bytes path.entry) }
         ensures ok { OnOk result
@@ -128,6 +135,8 @@ impl<T: Encoding> PathBuf<T> {
     }
 
     /// Cuts the path to its parent, where it has one, and answers whether it has.
+    ///
+    /// The Unix path `/a/b//` becomes `/a`, and `/` stays.
     pub fn pop(&mut self) -> bool
         ensures bytes { self.new.bytes ≡ popped T.dialect self.old.bytes }
         ensures flag { result ≡ is_some (parent_of T.dialect self.old.bytes) }
@@ -142,6 +151,8 @@ impl<T: Encoding> PathBuf<T> {
     }
 
     /// Gives the path another file name, or pushes the name where it has none.
+    ///
+    /// On Unix `c` makes `a//b/` into `a/c`, and `a/..` into `a/../c`.
     ///
     /// Where memory is refused the path is as it was, and has no less room.
     pub fn set_file_name(&mut self, name: &[u8]) -> Result<(), AllocError>
@@ -159,6 +170,8 @@ impl<T: Encoding> PathBuf<T> {
 
     /// Gives the file name another extension, or takes the extension away where the new one is
     /// empty, and answers whether there is a file name. Without one nothing changes.
+    ///
+    /// `zip` makes `a.tar.gz` into `a.tar.zip`.
     ///
     /// Where memory is refused the path is as it was, and has no less room.
     pub fn set_extension(&mut self, extension: &[u8]) -> Result<bool, AllocError>

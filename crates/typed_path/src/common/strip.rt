@@ -40,8 +40,12 @@ impl<'a, T: Encoding> Path<'a, T> {
 
     /// What is left of the path behind a base.
     ///
-    /// It is refused exactly where the path does not begin with the base's components, compared as
-    /// they are written.
+    /// Of the Unix path `/a/./b/c` it is `b/c` behind `/a`.
+    ///
+    /// # Errors
+    ///
+    /// `StripPrefixError` exactly where the path does not begin with the base's components, compared
+    /// as they are written: on Windows `c:\a` does not begin with `C:`.
     pub fn strip_prefix(self, base: Path<'_, T>) -> Result<Path<'a, T>, StripPrefixError>
         ensures { stripped_to path_bytes result
             ≡ stripped T.dialect (path_bytes self.entry) (path_bytes base.entry) }
@@ -50,6 +54,8 @@ impl<'a, T: Encoding> Path<'a, T> {
     }
 
     /// Whether the path begins with the components of another, as they are written.
+    ///
+    /// `a/b` begins with `a`, and `ab` does not.
     pub fn starts_with(self, base: Path<'_, T>) -> bool
         ensures { result ≡ path_starts_with T.dialect (path_bytes self.entry)
             (path_bytes base.entry) }
@@ -58,6 +64,8 @@ impl<'a, T: Encoding> Path<'a, T> {
     }
 
     /// Whether the path ends with the components of another, as they are written.
+    ///
+    /// `a/b/c` ends with `b/c`, and `a/bc` does not end with `c`.
     pub fn ends_with(self, end: Path<'_, T>) -> bool
         ensures { result ≡ path_ends_with T.dialect (path_bytes self.entry) (path_bytes end.entry) }
     {

@@ -29,7 +29,8 @@ impl<'a, T: Encoding> Path<'a, T> {
 
     /// The path as a text, with U+FFFD where its bytes are none.
     ///
-    /// Where they are UTF-8, the text is lent and no memory is asked for.
+    /// Where they are UTF-8, the text is lent and no memory is asked for. Of the bytes `0x61 0xFF` it
+    /// is `a` and U+FFFD.
     pub fn to_string_lossy(self, alloc: Global) -> Result<CowStr<'a>, AllocError>
         ensures text { IfOk result
             (λ text. cow_str_bytes text ≡ utf8_lossy (path_bytes self.entry)) }

@@ -14,9 +14,15 @@ impl<'a, T: Encoding> Path<'a, T> {
     ghost use Rattle.typed_path.specs.conversions.Convert.{platform, converted, absolute_from};
 
     /// The normal text of the path where it is absolute, and else of the directory in this path's
-    /// encoding with the path pushed onto it. That is refused as `Ambiguous` where it is not absolute
-    /// either, as `C:a` is on Windows behind any directory, or a path behind a directory that is
-    /// relative.
+    /// encoding with the path pushed onto it.
+    ///
+    /// Of the Unix path `a/../b` it is `/home/u/b`, from `/home/u`.
+    ///
+    /// # Errors
+    ///
+    /// `Ambiguous` where the path is absolute neither alone nor behind the directory, as `C:a` on
+    /// Windows behind any, or a path behind a directory that is relative. `OutOfMemory` where memory
+    /// is refused.
     pub fn absolutize(
         self,
         alloc: Global,

@@ -22,6 +22,8 @@ impl<'a, T: Encoding> Path<'a, T> {
     /// The path in another encoding: its components pushed one by one onto the empty path. The root,
     /// and every prefix but a drive, becomes the root of that encoding; all else is pushed as it
     /// stands. In an encoding of the same label it is a copy.
+    ///
+    /// From Windows to Unix `C:\x` is `/x`, and `C:tmp` is `C:/tmp`.
     pub fn with_encoding<U: Encoding>(self, alloc: Global) -> Result<PathBuf<U>, AllocError>
         ensures { IfOk result
             (λ p. p.bytes ≡ converted T.dialect U.dialect (path_bytes self.entry)) }
@@ -32,8 +34,13 @@ impl<'a, T: Encoding> Path<'a, T> {
         Ok(PathBuf::from_vec(text))
     }
 
-    /// The same by checked pushes, also in an encoding of the same label: the first component that is
-    /// no root, `.` or `..`, and that a checked push refuses, refuses the whole.
+    /// The same by checked pushes, also in an encoding of the same label.
+    ///
+    /// # Errors
+    ///
+    /// `Checked` by the first component that is no root, `.` or `..`, and that a checked push refuses:
+    /// from Unix to Windows `/tmp/ab:c` is refused as `InvalidFilename`. `OutOfMemory` where memory is
+    /// refused before such a component is met.
     pub fn with_encoding_checked<U: Encoding>(self, alloc: Global) -> Result<PathBuf<U>, PathError>
         ensures ok { IfOk result (λ p.
             converted_checked T.dialect U.dialect (path_bytes self.entry) ≡ Ok p.bytes) }

@@ -48,6 +48,8 @@ fn find_near(byte: u8, text: &[u8]) -> Option<usize>
 }
 
 /// What stands before the first separator, and what stands behind it.
+///
+/// The search is that of the steps, in place: a call for each segment would cost more than it saves.
 #[inline(always)]
 pub fn cut_at_separator(separators: Separators, text: &[u8]) -> Option<(&[u8], &[u8])>
     ensures pieces { MatchOption result

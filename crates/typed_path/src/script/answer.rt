@@ -32,9 +32,13 @@ fn write_all<W: Sink>(writer: &mut W, bytes: &[u8]) -> Result<(), Failed>
 /// Reads lines of commands to the end of the input, and writes a reply to each.
 ///
 /// A line is complete once its line feed, or the end of the input, was read; every complete line is
-/// answered before the next read. `Read` and `Write` come where the reader or the writer failed;
-/// `OutOfMemory` comes before a byte of the reply to the line at which memory was refused, and then
-/// replies that were not written yet are given up. Nothing is flushed.
+/// answered before the next read. The line `join<TAB>unix<TAB>/a<TAB>b` is answered `ok<TAB>/a/b`.
+/// Nothing is flushed.
+///
+/// # Errors
+///
+/// `Read` or `Write` where the reader or the writer failed. `OutOfMemory` before a byte of the reply
+/// to the line at which memory was refused; replies that were not written yet are given up then.
 pub fn answer_lines<R: Source, W: Sink>(
     alloc: Global,
     reader: &mut R,

@@ -22,7 +22,11 @@ pub enum End {
 
 /// Takes one component for each end that is named, and appends the answers: none once all are taken.
 ///
-/// All room is found first; where it is refused, nothing changes.
+/// Of the Unix path `/a/b` the ends `Back` and `Front` give `b` and the root.
+///
+/// # Errors
+///
+/// `AllocError` where memory is refused. All room is found first, so nothing has changed then.
 pub fn read_ends<'a, T: Encoding>(
     components: &mut Components<'a, T>,
     ends: &[End],

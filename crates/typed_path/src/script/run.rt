@@ -43,9 +43,14 @@ pub enum Reply {
 
 /// Does operations on a path in their order, and appends a reply for each.
 ///
-/// Room for a reply is found before its operation. Where memory is refused, the replies are those of
-/// the operations done, and the path is the one behind them, with the pushes that an `Extend` had
-/// done.
+/// Of the Unix path `/etc` the operations `Push(b"a.txt")` and `Pop` leave `/etc`, and the replies
+/// `Done` and `Flag(true)`. A refused push is a reply.
+///
+/// # Errors
+///
+/// `AllocError` where memory is refused. Room for a reply is found before its operation, so the
+/// replies are then those of the operations done, and the path is the one behind them, with the
+/// pushes that an `Extend` had done.
 pub fn run_ops<T: Encoding>(
     path: &mut PathBuf<T>,
     operations: &[PathOp<'_>],

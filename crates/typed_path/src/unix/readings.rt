@@ -5,10 +5,12 @@ use crate::errors::ParseError;
 use crate::unix::component::UnixComponent;
 use crate::unix::components::UnixComponents;
 
-/// Reads bytes that are one component.
+/// Reads bytes that are one component: `a//.` is the name `a`.
 ///
-/// Where they have none they are refused with `no component found`, and where they have two or more
-/// with `found more than one component`.
+/// # Errors
+///
+/// `no component found` where they have none, and `found more than one component` where they have two
+/// or more, as `/a`.
 impl<'a> TryFrom<&'a [u8]> for UnixComponent<'a> {
     ghost use Rattle.typed_path.specs.views.UnixViews.{IsUnixReading};
 

@@ -75,7 +75,7 @@ impl<'a> ConcreteComponents<'a, WindowsEncoding> {
     }
 
     /// Whether a prefix of one of the three verbatim kinds is first: `\\?\name`,
-    /// `\\?\UNC\server\share` or `\\?\C:`.
+    /// `\\?\UNC\server\share` or `\\?\C:`. One is in `//?/C:/a`, and none in `C:\a`.
     pub fn has_any_verbatim_prefix(self) -> bool
         ensures { result ≡ has_any_verbatim_prefix (kinds (concrete_parts self.entry)) }
     {
@@ -128,14 +128,14 @@ impl<'a> ConcreteComponents<'a, WindowsEncoding> {
     }
 
     /// Whether a root is written: it is the first component that is left, or right behind the
-    /// prefix.
+    /// prefix, as in `C:\a`. None is in `C:a` and `\\s\h`.
     pub fn has_physical_root(self) -> bool
         ensures { result ≡ has_physical_root (kinds (concrete_parts self.entry)) }
     {
         self.cursor().has_physical_root()
     }
 
-    /// Whether a prefix other than `C:` is first, which implies a root.
+    /// Whether a prefix other than `C:` is first, which implies a root, as in `\\s\h`.
     pub fn has_implicit_root(self) -> bool
         ensures { result ≡ has_implicit_root (kinds (concrete_parts self.entry)) }
     {

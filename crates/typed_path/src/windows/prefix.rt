@@ -23,6 +23,8 @@ impl<'a> WindowsPrefix<'a> {
 
     /// How many bytes the prefix has where it is written with one separator between names, or the
     /// largest number where it has more.
+    ///
+    /// That of `\\server\share` has 14, and that of `\\server\` has 8.
     pub fn len(self) -> usize
         ensures { result ≡ min (prefix_length (prefix_view self.entry)) usize.MAX }
     {

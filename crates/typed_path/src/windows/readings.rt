@@ -7,10 +7,12 @@ use crate::windows::component::WindowsComponent;
 use crate::windows::components::WindowsComponents;
 use crate::windows::prefix::WindowsPrefixComponent;
 
-/// Reads bytes that are one prefix.
+/// Reads bytes that are one prefix: `c:` is the drive `C`.
 ///
-/// Where they have none they are refused with `not a prefix`, and where more stands behind it with
-/// `contains more than prefix`.
+/// # Errors
+///
+/// `not a prefix` where they have none, and `contains more than prefix` where more stands behind it,
+/// as in `C:\`.
 impl<'a> TryFrom<&'a [u8]> for WindowsPrefix<'a> {
     ghost use Rattle.typed_path.specs.views.WindowsViews.{IsPrefixReading};
 
@@ -56,6 +58,10 @@ impl<'a> TryFrom<&'a str> for WindowsPrefix<'a> {
 }
 
 /// Reads bytes that are one prefix, and keeps them.
+///
+/// # Errors
+///
+/// Those of a `WindowsPrefix`.
 impl<'a> TryFrom<&'a [u8]> for WindowsPrefixComponent<'a> {
     ghost use Rattle.typed_path.specs.views.WindowsViews.{IsPrefixComponentReading};
 
@@ -95,10 +101,12 @@ impl<'a> TryFrom<&'a str> for WindowsPrefixComponent<'a> {
     }
 }
 
-/// Reads bytes that are one component.
+/// Reads bytes that are one component: `c:` is a prefix, and `a/` is the name `a`.
 ///
-/// Where they have none they are refused with `no component found`, and where they have two or more
-/// with `found more than one component`.
+/// # Errors
+///
+/// `no component found` where they have none, and `found more than one component` where they have two
+/// or more, as `C:\`.
 impl<'a> TryFrom<&'a [u8]> for WindowsComponent<'a> {
     ghost use Rattle.typed_path.specs.views.WindowsViews.{IsWindowsReading};
 
