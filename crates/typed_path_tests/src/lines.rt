@@ -40,7 +40,7 @@ fn answered(
 
 #[test]
 fn replies(rt: HostRuntime) -> Result<(), Fail> {
-    let rows: [(&[u8], &[u8]); 34] = [
+    let rows: [(&[u8], &[u8]); 35] = [
         (
             b"normalize\tunix\tfoo/bar//baz/./asdf/quux/..",
             b"ok\tfoo/bar/baz/asdf\n",
