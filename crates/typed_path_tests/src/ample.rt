@@ -30,10 +30,9 @@ pub fn repeated(
 /// Whether what is made of the empty path is empty, and a name joined to it is that name.
 fn is_made_of_nothing<T: Encoding>(alloc: Global) -> Result<bool, AllocError> {
     let empty = Path::<T>::new(b"");
-    let made: [PathBuf<T>; 8] = [
+    let made: [PathBuf<T>; 7] = [
         PathBuf::from_bytes(alloc, b"")?.clone()?,
         PathBuf::new(alloc).clone()?,
-        PathBuf::from_iter(alloc, [empty, empty])?,
         empty.to_path_buf(alloc)?,
         empty.join(alloc, empty)?,
         empty.normalize(alloc)?,

@@ -192,25 +192,29 @@ fn is_read_as<T: Encoding>(
 ) -> Result<bool, AllocError> {
     let mut components = Path::<T>::new(text).components();
     let mut answers = Vec::with_capacity(alloc, 1)?;
-    let mut left = parts;
+    let (mut first, mut last) = (0usize, parts.len());
     let (mut from, mut to) = (0, text.len());
     for end in ends {
-        let taken = match end {
-            End::Front => left.split_first(),
-            End::Back => left.split_last(),
+        let place = match end {
+            End::Front => first,
+            End::Back => last.saturating_sub(1),
         };
-        if let Some((_, rest)) = taken {
-            left = rest;
-            match (end, left.first(), left.last()) {
-                (End::Front, Some(first), _) => from = first.begin,
-                (End::Back, _, Some(last)) => to = last.end,
+        let taken = if first < last { parts.get(place) } else { None };
+        if taken.is_some() {
+            match end {
+                End::Front => first = first.saturating_add(1),
+                End::Back => last = last.saturating_sub(1),
+            }
+            match (end, parts.get(first), parts.get(last.saturating_sub(1))) {
+                (End::Front, Some(next), _) if first < last => from = next.begin,
+                (End::Back, _, Some(before)) if first < last => to = before.end,
                 _ => to = from,
             }
         }
         answers.clear();
         read_ends(&mut components, &[*end], &mut answers)?;
         let is_taken = match (answers.first(), taken) {
-            (Some(Some(piece)), Some((part, _))) => is_same(*piece, part.piece),
+            (Some(Some(piece)), Some(part)) => is_same(*piece, part.piece),
             (Some(None), None) => true,
             _ => false,
         };
