@@ -92,8 +92,9 @@ impl<T: Encoding> PathBuf<T> {
     ///
     /// On Unix `b` makes `a` into `a/b`; on Windows `..` makes `\\?\C:\a` into `\\?\C:\`.
     ///
-    /// Where the result fits the room that there is, memory is not asked for, unless the path is
-    /// spelled anew. Where memory is refused the path is as it was, and has no less room.
+    /// Where the result fits the room that there is, memory is not asked for. A path under a verbatim
+    /// prefix of Windows has to stand as a push would spell it, and wants room for a byte more. Where
+    /// memory is refused the path is as it was, and has no less room.
     pub fn push(&mut self, path: Path<'_, T>) -> Result<(), AllocError>
         ensures ok { OnOk result
             (self.new.bytes ≡ push_spec.push T.dialect self.old.bytes (path_bytes path.entry)) }
