@@ -1,10 +1,10 @@
 -- The lemmas, by subject.
 pub mod lists
 pub mod components
-pub mod readings
+pub mod scan
 pub mod queries
 pub mod order
 pub mod changes
 pub mod places
 pub mod promises
-pub mod lines
+pub mod script

@@ -1,10 +1,10 @@
 pub mod components
-pub mod readings
+pub mod scan
 pub mod queries
 pub mod order
 pub mod changes
 pub mod places
 pub mod conversions
-pub mod lines
+pub mod script
 pub mod promises
 pub mod views

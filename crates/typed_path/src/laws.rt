@@ -8,8 +8,8 @@ ghost use Rattle.typed_path.specs.components.Dialect.{Dialect, dot, slash};
 ghost use Rattle.typed_path.specs.components.Part.{Placed};
 ghost use Rattle.typed_path.specs.components.Prefix.{Found, prefix_of};
 ghost use Rattle.typed_path.specs.components.Comps.{comps};
-ghost use Rattle.typed_path.specs.readings.Left.{Side, reads, left, items_between, but_last};
-ghost use Rattle.typed_path.specs.readings.Reading.{answers_after, items_after, slice_after, fronts, backs, IsWhole, IsLaidOut};
+ghost use Rattle.typed_path.specs.scan.Left.{Side, reads, left, items_between, but_last};
+ghost use Rattle.typed_path.specs.scan.Reading.{answers_after, items_after, slice_after, fronts, backs, IsWhole, IsLaidOut};
 ghost use Rattle.typed_path.specs.queries.Queries.{parent_of};
 ghost use Rattle.typed_path.specs.promises.Joins.{JoinAppends, StripJoins};
 ghost use Rattle.typed_path.specs.queries.Names.{is_a_dot, stem_of, extension_of};
@@ -193,7 +193,7 @@ pub fn steps_agree_with_counts(path: &[u8])
 
 /// What was taken from the front of a list of components, what is left, and what was taken from the
 /// back are together the list, in order.
-#[tactic(auto, using(crate::proofs::lemmas::readings::ReadingLemmas::is_whole))]
+#[tactic(auto, using(crate::proofs::lemmas::scan::ReadingLemmas::is_whole))]
 pub fn ends_and_rest_are_the_list()
     ensures { (cs : List Placed) (i j : ℕ) → IsWhole cs i j }
 {}

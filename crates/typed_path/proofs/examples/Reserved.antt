@@ -3,7 +3,7 @@ use Rattle.std.specs.Prelude.{◌≡◌, codes, refl, true, false, Ok, Err}
 use Rattle.typed_path.specs.declared.errors.CheckedPathError.TheVariants.{InvalidFilename, PathTraversalAttack}
 use Rattle.typed_path.specs.components.Dialect.{unix, windows}
 use Rattle.typed_path.specs.conversions.Convert.{converted, converted_checked}
-use Rattle.typed_path.specs.lines.Lines.{reply}
+use Rattle.typed_path.specs.script.Lines.{reply}
 use Rattle.typed_path.specs.changes.Run.{refused}
 use Rattle.typed_path.proofs.examples.Words.{valid, pushed, checked, normalized}
 

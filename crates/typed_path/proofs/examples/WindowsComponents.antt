@@ -4,7 +4,7 @@ use Rattle.typed_path.specs.components.Dialect.{windows}
 use Rattle.typed_path.specs.components.Part.{unc, disk, verbatim_disk, current_part, root, current, normal}
 use Rattle.typed_path.specs.components.Comps.{parts_of}
 use Rattle.typed_path.specs.order.Same.{IsSame}
-use Rattle.typed_path.specs.readings.Left.{front, back}
+use Rattle.typed_path.specs.scan.Left.{front, back}
 use Rattle.typed_path.specs.components.Prefix.{prefix_of, found}
 use Rattle.typed_path.specs.queries.Queries.{has_prefix, has_any_verbatim_prefix, has_implicit_root, has_physical_root, parent_of, file_name_of, file_stem_of, extension, stripped}
 use Rattle.typed_path.proofs.examples.Words.{windows_parts, windows_root, named, written, read, rest, kinds_left, kinds_in, absolute, rooted, valid}

@@ -5,7 +5,7 @@ use Rattle.std.specs.Option.{option_map}
 use Rattle.typed_path.specs.components.Dialect.{Dialect, unix, windows, slash, backslash}
 use Rattle.typed_path.specs.components.Part.{Prefix, Kind, Part, kinds, parts, prefix_part, root_part, name_part}
 use Rattle.typed_path.specs.components.Comps.{comps, parts_of}
-use Rattle.typed_path.specs.readings.Left.{left, items_between, Side, reads}
+use Rattle.typed_path.specs.scan.Left.{left, items_between, Side, reads}
 use Rattle.typed_path.specs.queries.Queries.{is_absolute, has_root, is_valid}
 use Rattle.typed_path.specs.changes.Push.{push}
 use Rattle.typed_path.specs.places.Places.{normal_text}

@@ -3,7 +3,7 @@ use Rattle.std.specs.Prelude.{ℕ, ◌+◌, List, [], ◌∷◌, ◌++◌, lengt
 use Rattle.typed_path.specs.components.Dialect.{Dialect, dot}
 use Rattle.typed_path.specs.components.Part.{Placed}
 use Rattle.typed_path.specs.components.Comps.{comps}
-use Rattle.typed_path.specs.readings.Left.{last_of}
+use Rattle.typed_path.specs.scan.Left.{last_of}
 use Rattle.typed_path.specs.queries.Names.{stem_of}
 use Rattle.typed_path.specs.queries.Queries.{parent_of, file_name_of}
 use Rattle.typed_path.specs.changes.Push.{push}

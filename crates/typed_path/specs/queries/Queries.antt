@@ -7,7 +7,7 @@ use Rattle.typed_path.specs.components.Dialect.{Dialect, unix, windows, slash, b
 use Rattle.typed_path.specs.components.Part.{Prefix, verbatim, verbatim_unc, verbatim_disk, device_ns, unc, disk, Kind, prefix, root, normal, Part, texts}
 use Rattle.typed_path.specs.components.Prefix.{is_empty}
 use Rattle.typed_path.specs.components.Comps.{comps, parts_of}
-use Rattle.typed_path.specs.readings.Left.{left, last_of}
+use Rattle.typed_path.specs.scan.Left.{left, last_of}
 use Rattle.typed_path.specs.queries.Names.{is_a_dot, stem_of, extension_of}
 
 abbrev pub begins_with_root : List Kind → Bool

@@ -2,7 +2,7 @@
 use Rattle.std.specs.Prelude.{ℕ, List, slice_range}
 use Rattle.typed_path.specs.declared.scan.body.Body.{Body}
 use Rattle.typed_path.specs.components.Part.{Placed}
-use Rattle.typed_path.specs.readings.Steps.{body_from}
+use Rattle.typed_path.specs.scan.Steps.{body_from}
 
 abbrev pub body_slice : Body → List ℕ
 body_slice c = slice_range c.text.now c.from c.to

@@ -15,8 +15,8 @@ pub struct Components<'a, T> {
 
 impl<'a, T: Encoding> Components<'a, T> {
     ghost use Rattle.std.specs.Prelude.{◌≡◌, drop, option_map, Some};
-    ghost use Rattle.typed_path.specs.readings.Left.{but_last, last_of, slice_after_front, slice_after_back};
-    ghost use Rattle.typed_path.specs.readings.Steps.{first_part, last_part};
+    ghost use Rattle.typed_path.specs.scan.Left.{but_last, last_of, slice_after_front, slice_after_back};
+    ghost use Rattle.typed_path.specs.scan.Steps.{first_part, last_part};
     ghost use Rattle.typed_path.specs.views.PieceViews.{part_of};
     ghost use Rattle.typed_path.specs.views.CursorViews.{slice_left, items_left};
     ghost use Rattle.typed_path.specs.components.Part.{Placed, end_of, kinds};
@@ -113,7 +113,7 @@ impl<'a, T: Encoding> Components<'a, T> {
 
 impl<'a, T: Encoding> Iterator for Components<'a, T> {
     ghost use Rattle.std.specs.Iterator.{YieldsFirstBy, item_count};
-    ghost use Rattle.typed_path.specs.readings.Steps.{LeavesFront};
+    ghost use Rattle.typed_path.specs.scan.Steps.{LeavesFront};
     ghost use Rattle.typed_path.specs.views.PathViews.{components_items, components_slice, components_parts};
     ghost use Rattle.typed_path.specs.views.PieceViews.{part_of};
 
@@ -132,7 +132,7 @@ impl<'a, T: Encoding> Iterator for Components<'a, T> {
 
 impl<'a, T: Encoding> DoubleEndedIterator for Components<'a, T> {
     ghost use Rattle.std.specs.Iterator.{YieldsLastBy};
-    ghost use Rattle.typed_path.specs.readings.Steps.{LeavesBack};
+    ghost use Rattle.typed_path.specs.scan.Steps.{LeavesBack};
     ghost use Rattle.typed_path.specs.views.PathViews.{components_items, components_slice, components_parts};
     ghost use Rattle.typed_path.specs.views.PieceViews.{part_of};
 

@@ -59,8 +59,8 @@ impl<'a, T: Concrete<'a>> ConcreteComponents<'a, T> {
     ghost use Rattle.std.specs.Prelude.{◌≡◌, drop, option_map};
     ghost use Rattle.typed_path.specs.components.Part.{kinds};
     ghost use Rattle.typed_path.specs.components.Comps.{comps};
-    ghost use Rattle.typed_path.specs.readings.Left.{but_last, slice_after_front, slice_after_back};
-    ghost use Rattle.typed_path.specs.readings.Steps.{first_part, last_part};
+    ghost use Rattle.typed_path.specs.scan.Left.{but_last, slice_after_front, slice_after_back};
+    ghost use Rattle.typed_path.specs.scan.Steps.{first_part, last_part};
     ghost use Rattle.typed_path.specs.queries.Queries.{is_absolute, has_root};
     ghost use Rattle.typed_path.specs.views.CursorViews.{slice_left, items_left};
     ghost use Rattle.typed_path.specs.views.PathViews.{path_bytes};
@@ -150,7 +150,7 @@ impl<'a, T: Concrete<'a>> ConcreteComponents<'a, T> {
 
 impl<'a, T: Concrete<'a>> Iterator for ConcreteComponents<'a, T> {
     ghost use Rattle.std.specs.Iterator.{YieldsFirstBy, item_count};
-    ghost use Rattle.typed_path.specs.readings.Steps.{LeavesFront};
+    ghost use Rattle.typed_path.specs.scan.Steps.{LeavesFront};
     ghost use Rattle.typed_path.specs.views.ConcreteViews.{concrete_items, concrete_slice, concrete_parts};
 
     type Item = T::Component;
@@ -168,7 +168,7 @@ impl<'a, T: Concrete<'a>> Iterator for ConcreteComponents<'a, T> {
 
 impl<'a, T: Concrete<'a>> DoubleEndedIterator for ConcreteComponents<'a, T> {
     ghost use Rattle.std.specs.Iterator.{YieldsLastBy};
-    ghost use Rattle.typed_path.specs.readings.Steps.{LeavesBack};
+    ghost use Rattle.typed_path.specs.scan.Steps.{LeavesBack};
     ghost use Rattle.typed_path.specs.views.ConcreteViews.{concrete_items, concrete_slice, concrete_parts};
 
     ghost next_back_gives = { λ s component t. YieldsLastBy T.part concrete_parts s component t

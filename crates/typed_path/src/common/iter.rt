@@ -15,10 +15,10 @@ pub struct Iter<'a, T> {
 
 impl<'a, T: Encoding> Iter<'a, T> {
     ghost use Rattle.std.specs.Prelude.{◌≡◌, drop, option_map, option_copied};
-    ghost use Rattle.typed_path.specs.readings.Left.{but_last, slice_after_front, slice_after_back};
+    ghost use Rattle.typed_path.specs.scan.Left.{but_last, slice_after_front, slice_after_back};
     ghost use Rattle.typed_path.specs.views.PathViews.{path_bytes, iter_components, iter_items, iter_slice};
     ghost use Rattle.typed_path.specs.views.ReversedViews.{reversed_source};
-    ghost use Rattle.typed_path.specs.readings.Steps.{first_part, last_part};
+    ghost use Rattle.typed_path.specs.scan.Steps.{first_part, last_part};
 
     /// The texts of the components that are left.
     #[inline(always)]
@@ -74,7 +74,7 @@ impl<'a, T: Encoding> Iter<'a, T> {
 
 impl<'a, T: Encoding> Iterator for Iter<'a, T> {
     ghost use Rattle.std.specs.Iterator.{YieldsFirstRef, item_count};
-    ghost use Rattle.typed_path.specs.readings.Steps.{LeavesFront};
+    ghost use Rattle.typed_path.specs.scan.Steps.{LeavesFront};
     ghost use Rattle.typed_path.specs.views.PathViews.{iter_items, iter_slice, iter_texts};
 
     type Item = &'a [u8];
@@ -93,7 +93,7 @@ impl<'a, T: Encoding> Iterator for Iter<'a, T> {
 
 impl<'a, T: Encoding> DoubleEndedIterator for Iter<'a, T> {
     ghost use Rattle.std.specs.Iterator.{YieldsLastRef};
-    ghost use Rattle.typed_path.specs.readings.Steps.{LeavesBack};
+    ghost use Rattle.typed_path.specs.scan.Steps.{LeavesBack};
     ghost use Rattle.typed_path.specs.views.PathViews.{iter_items, iter_slice, iter_texts};
 
     ghost next_back_gives = { λ s text t. YieldsLastRef iter_texts s text t

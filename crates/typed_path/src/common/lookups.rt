@@ -10,7 +10,7 @@ use crate::scan::Piece;
 impl<'a, T: Encoding> Path<'a, T> {
     ghost use Rattle.std.specs.Prelude.{◌≡◌, ◌≤◌, length, option_map, option_copied, IfSome};
     ghost use Rattle.typed_path.specs.components.Comps.{comps};
-    ghost use Rattle.typed_path.specs.readings.Steps.{last_part};
+    ghost use Rattle.typed_path.specs.scan.Steps.{last_part};
     ghost use Rattle.typed_path.specs.views.PieceViews.{part_of};
     ghost use Rattle.typed_path.specs.queries.Queries.{parent_of, file_name_of, file_stem_of, extension};
     ghost use Rattle.typed_path.specs.views.PathViews.{path_bytes, iter_items, iter_slice, ancestors_left};

@@ -2,7 +2,7 @@
 
 ghost use Rattle.std.specs.Prelude.{◌≡◌, ◌≤◌, ◌<◌, ◌++◌, true, drop, length, IfSome, IsTrue};
 ghost use Rattle.typed_path.specs.components.Comps.{body, later_body};
-ghost use Rattle.typed_path.specs.readings.Steps.{is_clean};
+ghost use Rattle.typed_path.specs.scan.Steps.{is_clean};
 ghost use Rattle.typed_path.specs.declared.scan.begin.Begin.{Begin};
 
 use crate::scan::separators::Separators;

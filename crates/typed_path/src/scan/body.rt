@@ -1,7 +1,7 @@
 //! The place of a reading from both ends, behind the prefix.
 
 ghost use Rattle.std.specs.Prelude.{◌≡◌, ◌≤◌, true, slice_range, length};
-ghost use Rattle.typed_path.specs.readings.Steps.{is_clean};
+ghost use Rattle.typed_path.specs.scan.Steps.{is_clean};
 
 use crate::errors::CheckedPathError;
 use crate::scan::begin::Begin;
@@ -27,10 +27,10 @@ impl<'a> Body<'a> {
     ghost use Rattle.std.specs.Prelude.{◌≡◌, ◌≤◌, [], true, drop, length, option_map, IfSome, IfNone};
     ghost use Rattle.typed_path.specs.components.Comps.{body, later_body};
     ghost use Rattle.typed_path.specs.declared.scan.begin.Begin.{Begin};
-    ghost use Rattle.typed_path.specs.readings.Left.{but_last, last_of, slice_after_front, slice_after_back};
+    ghost use Rattle.typed_path.specs.scan.Left.{but_last, last_of, slice_after_front, slice_after_back};
     ghost use Rattle.typed_path.specs.components.Part.{Placed, end_of, kinds, parts};
     ghost use Rattle.typed_path.specs.queries.Queries.{begins_with_root};
-    ghost use Rattle.typed_path.specs.readings.Steps.{first_part, last_part, end_from};
+    ghost use Rattle.typed_path.specs.scan.Steps.{first_part, last_part, end_from};
     ghost use Rattle.typed_path.specs.views.PieceViews.{part_of};
     ghost use Rattle.typed_path.specs.views.BodyViews.{body_slice, body_items};
     ghost use Rattle.typed_path.specs.changes.Checked.{error_of};

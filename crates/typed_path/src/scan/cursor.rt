@@ -3,7 +3,7 @@
 ghost use Rattle.std.specs.Prelude.{◌≡◌, ◌≤◌, ◌-◌, length, slice_range};
 ghost use Rattle.typed_path.specs.components.Part.{prefix_part};
 ghost use Rattle.typed_path.specs.views.PieceViews.{part_of, prefix_view};
-ghost use Rattle.typed_path.specs.readings.Pending.{pending};
+ghost use Rattle.typed_path.specs.scan.Pending.{pending};
 
 use crate::errors::CheckedPathError;
 use crate::scan::body::Body;
@@ -23,10 +23,10 @@ impl<'a> Cursor<'a> {
     ghost use Rattle.std.specs.Prelude.{◌≡◌, ◌≤◌, [], ◌++◌, true, length, take, drop, option_map, Some, None};
     ghost use Rattle.typed_path.specs.components.Comps.{body, later_body, component};
     ghost use Rattle.typed_path.specs.declared.scan.begin.Begin.{Begin};
-    ghost use Rattle.typed_path.specs.readings.Left.{but_last, last_of, slice_after_front, slice_after_back};
+    ghost use Rattle.typed_path.specs.scan.Left.{but_last, last_of, slice_after_front, slice_after_back};
     ghost use Rattle.typed_path.specs.components.Part.{Placed, end_of, kinds, parts, prefix_part};
     ghost use Rattle.typed_path.specs.queries.Queries.{begins_with_root, first_prefix, prefix_among, has_prefix, has_physical_root};
-    ghost use Rattle.typed_path.specs.readings.Steps.{first_part, last_part, is_clean};
+    ghost use Rattle.typed_path.specs.scan.Steps.{first_part, last_part, is_clean};
     ghost use Rattle.typed_path.specs.views.PieceViews.{part_of, prefix_view};
     ghost use Rattle.typed_path.specs.views.CursorViews.{slice_left, items_left, cursor_separators};
     ghost use Rattle.typed_path.specs.changes.Checked.{error_of};

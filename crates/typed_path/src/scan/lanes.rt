@@ -2,7 +2,7 @@
 
 ghost use Rattle.std.specs.Prelude.{◌≡◌, ◌≢◌, ◌≤◌, ◌<◌, ◌+◌, ◌==◌, ℕ, length, slice_index};
 ghost use Rattle.std.specs.Int.{bit_at};
-ghost use Rattle.typed_path.specs.readings.Masks.{IsMask, separates, IsFirstSeparator, IsBehindLastSeparator};
+ghost use Rattle.typed_path.specs.scan.Masks.{IsMask, separates, IsFirstSeparator, IsBehindLastSeparator};
 
 use crate::scan::separators::Separators;
 use std::simd::prelude::*;
@@ -43,7 +43,7 @@ fn lowest(mask: u64) -> usize
 
 /// The highest bit that is set.
 #[inline(always)]
-#[tactic(auto, using(crate::proofs::lemmas::readings::MaskLemmas::highest_is_set, crate::proofs::lemmas::readings::MaskLemmas::clear_above))]
+#[tactic(auto, using(crate::proofs::lemmas::scan::MaskLemmas::highest_is_set, crate::proofs::lemmas::scan::MaskLemmas::clear_above))]
 fn highest(mask: u64) -> usize
     requires { mask ≢ 0 }
     ensures within { result < 64 }

@@ -2,7 +2,7 @@
 
 ghost use Rattle.std.specs.Prelude.{◌≡◌, ◌≤◌, ◌<◌, ◌+◌, ◌++◌, ℕ, true, not, take, drop, length, IfSome, IfNone};
 ghost use Rattle.typed_path.specs.components.Comps.{component, first, later_body};
-ghost use Rattle.typed_path.specs.readings.Steps.{body_from, is_clean, is_trimmed, end_from};
+ghost use Rattle.typed_path.specs.scan.Steps.{body_from, is_clean, is_trimmed, end_from};
 ghost use Rattle.typed_path.specs.views.PieceViews.{part_of};
 ghost use Rattle.typed_path.specs.declared.scan.begin.Begin.{Begin};
 

@@ -2,7 +2,7 @@
 
 ghost use Rattle.std.specs.Prelude.{◌≡◌, ◌<◌, [], length, true, OnOk, OnErr, IfErr, IsErrOf};
 ghost use Rattle.std.specs.Io.KnownBytes.{Appends};
-ghost use Rattle.typed_path.specs.lines.Streams.{streams, AnswersAll, StopsReading, StopsWriting, RunsOut, WritesPart};
+ghost use Rattle.typed_path.specs.script.Streams.{streams, AnswersAll, StopsReading, StopsWriting, RunsOut, WritesPart};
 
 use crate::errors::LineError;
 use crate::script::dialogue::Dialogue;

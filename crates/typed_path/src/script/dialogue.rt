@@ -1,7 +1,7 @@
 //! Lines that come in pieces.
 
 ghost use Rattle.std.specs.Prelude.{◌≡◌, [], ◌∷◌};
-ghost use Rattle.typed_path.specs.lines.Lines.{split_lines};
+ghost use Rattle.typed_path.specs.script.Lines.{split_lines};
 
 use crate::scan::cut_near;
 use crate::script::lines::put_reply;
@@ -21,7 +21,7 @@ pub struct Dialogue {
 
 impl Dialogue {
     ghost use Rattle.std.specs.Prelude.{◌≡◌, [], ◌∷◌, ◌++◌, OnOk};
-    ghost use Rattle.typed_path.specs.lines.Lines.{split_lines, reply, replies_to, complete_lines, open_line, all_lines};
+    ghost use Rattle.typed_path.specs.script.Lines.{split_lines, reply, replies_to, complete_lines, open_line, all_lines};
 
     pub fn new(alloc: Global) -> Dialogue
         ensures line { result.line.items ≡ [] }

@@ -4,8 +4,8 @@ ghost use Rattle.std.specs.Prelude.{◌≡◌, ◌≤◌, ◌+◌, ◌++◌, len
 ghost use Rattle.std.specs.Vec.{vec_len, vec_capacity};
 ghost use Rattle.typed_path.specs.views.PieceViews.{part_of};
 ghost use Rattle.typed_path.specs.views.PathViews.{components_items, components_slice};
-ghost use Rattle.typed_path.specs.readings.Reading.{answers_after, items_after, slice_after};
-ghost use Rattle.typed_path.specs.readings.Ends.{sides, taken_parts};
+ghost use Rattle.typed_path.specs.scan.Reading.{answers_after, items_after, slice_after};
+ghost use Rattle.typed_path.specs.scan.Ends.{sides, taken_parts};
 
 use crate::common::{Components, Encoding};
 use crate::scan::Piece;

@@ -6,8 +6,8 @@ ghost use Rattle.typed_path.specs.changes.Push.{push};
 ghost use Rattle.typed_path.specs.views.PieceViews.{part_of, prefix_view};
 ghost use Rattle.typed_path.specs.views.PathViews.{path_bytes};
 ghost use Rattle.typed_path.specs.conversions.Convert.{converted, converted_checked};
-ghost use Rattle.typed_path.specs.lines.Lines.{tab, equals_sign, fields_of, reply, reply_fields, reply_line, text_reply, components_reply, reply_in, pair_reply_in, convert_reply_in, joined_reply, converted_reply, in_named, dialect_named, refusal_name, bad_line, component_field, kind_name, prefix_name};
-ghost use Rattle.typed_path.specs.lines.Commands.{command_name, texts_reply};
+ghost use Rattle.typed_path.specs.script.Lines.{tab, equals_sign, fields_of, reply, reply_fields, reply_line, text_reply, components_reply, reply_in, pair_reply_in, convert_reply_in, joined_reply, converted_reply, in_named, dialect_named, refusal_name, bad_line, component_field, kind_name, prefix_name};
+ghost use Rattle.typed_path.specs.script.Commands.{command_name, texts_reply};
 
 use crate::common::{Encoding, Path};
 use crate::conversions::{convert_checked, put_converted};

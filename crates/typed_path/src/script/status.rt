@@ -1,7 +1,7 @@
 //! The status with which the program ends.
 
 ghost use Rattle.std.specs.Prelude.{◌≡◌};
-ghost use Rattle.typed_path.specs.lines.Status.{status_of};
+ghost use Rattle.typed_path.specs.script.Status.{status_of};
 
 use crate::errors::LineError;
 

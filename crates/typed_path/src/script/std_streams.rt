@@ -2,7 +2,7 @@
 
 ghost use Rattle.std.specs.Prelude.{◌≡◌, ◌<◌, ◌≤◌, ◌-◌, ◌^◌, true, false, None, if◌then◌else◌, length, take, IfOk, OnOk, OnErr};
 ghost use Rattle.std.specs.Io.KnownBytes.{Consumes, IsAtEnd};
-ghost use Rattle.typed_path.specs.lines.Streams.{KeepsIfTold};
+ghost use Rattle.typed_path.specs.script.Streams.{KeepsIfTold};
 
 use crate::script::streams::{Failed, Sink, Source};
 use std::io::{Read, Write};

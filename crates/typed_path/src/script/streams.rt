@@ -2,7 +2,7 @@
 
 ghost use Rattle.std.specs.Prelude.{◌≡◌, ◌<◌, ◌≤◌, ℕ, List, Bool, Option, true, length, take, IfOk, OnOk, OnErr};
 ghost use Rattle.std.specs.Io.KnownBytes.{Appends, Consumes, IsAtEnd};
-ghost use Rattle.typed_path.specs.lines.Streams.{KeepsIfTold};
+ghost use Rattle.typed_path.specs.script.Streams.{KeepsIfTold};
 
 use thiserror::Error;
 

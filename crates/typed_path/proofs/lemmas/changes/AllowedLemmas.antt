@@ -9,7 +9,7 @@ use Rattle.typed_path.specs.components.Dialect.{Dialect, dialect_of, is_separato
 use Rattle.typed_path.specs.components.Part.{Part, Kind, kinds, parts, root_part, current_part, parent_part, name_part}
 use Rattle.typed_path.specs.components.Comps.{is_dot, is_dot_dot}
 use Rattle.typed_path.specs.queries.Queries.{is_disallowed, kind_has_allowed_bytes}
-use Rattle.typed_path.specs.readings.Steps.{body_from}
+use Rattle.typed_path.specs.scan.Steps.{body_from}
 use Rattle.typed_path.specs.changes.Checked.{SeparatesDisallowed}
 use Rattle.typed_path.proofs.lemmas.lists.SplitLemmas.{AllByRecursion-append}
 use Rattle.typed_path.proofs.lemmas.components.PartLemmas.{pieces, later_part, later_parts, first_parts, body_parts, parts-body, parts-later_body}

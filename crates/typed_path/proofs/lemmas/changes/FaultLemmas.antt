@@ -9,7 +9,7 @@ use Rattle.std.proofs.lemmas.Bool.{le-leb, lt-leb}
 use Rattle.typed_path.specs.declared.errors.CheckedPathError.TheVariants.{InvalidFilename}
 use Rattle.typed_path.specs.components.Dialect.{Dialect}
 use Rattle.typed_path.specs.components.Part.{Kind, prefix, root, current, parent, normal, is_name, is_parent, Part, Placed, kinds, parts}
-use Rattle.typed_path.specs.readings.Steps.{first_part}
+use Rattle.typed_path.specs.scan.Steps.{first_part}
 use Rattle.typed_path.specs.queries.Queries.{is_valid_name, begins_with_root}
 use Rattle.typed_path.specs.changes.Fault.{fault_behind, fault_at}
 use Rattle.typed_path.specs.places.Places.{overdraws}

@@ -9,14 +9,14 @@ use Rattle.typed_path.specs.declared.scan.piece.PieceKind.TheVariants.{Prefix, R
 use Rattle.typed_path.specs.components.Part.{Kind, normal, Part, Placed, is_name, end_of, name_part}
 use Rattle.typed_path.specs.views.PieceViews.{part_of, kind_view}
 use Rattle.typed_path.specs.queries.Names.{stem_of}
-use Rattle.typed_path.specs.readings.Reading.{AreInOrder}
+use Rattle.typed_path.specs.scan.Reading.{AreInOrder}
 use Rattle.typed_path.specs.components.Comps.{comps}
-use Rattle.typed_path.specs.readings.Left.{last_of, but_last, slice_after_back}
-use Rattle.typed_path.specs.readings.Steps.{last_part}
+use Rattle.typed_path.specs.scan.Left.{last_of, but_last, slice_after_back}
+use Rattle.typed_path.specs.scan.Steps.{last_part}
 use Rattle.typed_path.specs.queries.Queries.{is_root, name_of, parent_of, file_name_of}
 use Rattle.typed_path.specs.changes.Changes.{popped, without_file_name, start_of_last, stem_end}
 use Rattle.typed_path.proofs.lemmas.queries.ParentLemmas.{parent_left, parent-front}
-use Rattle.typed_path.proofs.lemmas.readings.LeftLemmas.{last_of-push, last_pushed}
+use Rattle.typed_path.proofs.lemmas.scan.LeftLemmas.{last_of-push, last_pushed}
 use Rattle.typed_path.proofs.lemmas.components.PlaceLemmas.{comps-laid_out}
 
 -- a path cut to its parent is a front of it

@@ -7,8 +7,8 @@ use Rattle.typed_path.specs.declared.scan.separators.Separators.{Separators}
 use Rattle.typed_path.specs.components.Dialect.{is_separator, root_text}
 use Rattle.typed_path.specs.components.Part.{Part, Placed, root_part}
 use Rattle.typed_path.specs.components.Comps.{placed, first, body_of, body, later_body, component}
-use Rattle.typed_path.specs.readings.Left.{start_at, end_at}
-use Rattle.typed_path.specs.readings.Reading.{AreInOrder}
+use Rattle.typed_path.specs.scan.Left.{start_at, end_at}
+use Rattle.typed_path.specs.scan.Reading.{AreInOrder}
 use Rattle.typed_path.proofs.lemmas.lists.SplitLemmas.{slice_split-some}
 use Rattle.typed_path.proofs.lemmas.lists.WidthLemmas.{width, width-slice_split, slice_split-take, slice_split-drop}
 use Rattle.typed_path.proofs.lemmas.components.ComponentCuts.{laid, TakesSegment, first_takes, root_text-length, laid_in_order, start_cut, end_cut}

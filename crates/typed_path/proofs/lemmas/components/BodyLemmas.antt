@@ -7,9 +7,9 @@ use Rattle.std.proofs.lemmas.List.Sums.{prefix_len_passes, prefix_len_stops}
 use Rattle.typed_path.specs.declared.scan.separators.Separators.{Separators}
 use Rattle.typed_path.specs.declared.scan.begin.Begin.{Begin}
 use Rattle.typed_path.specs.declared.scan.begin.Begin.TheVariants.{Body, Inside}
-use Rattle.typed_path.specs.readings.Steps.{body_from, is_clean, counts}
+use Rattle.typed_path.specs.scan.Steps.{body_from, is_clean, counts}
 use Rattle.typed_path.specs.components.Dialect.{is_separator, is_verbatim, root_text}
-use Rattle.typed_path.specs.readings.Left.{slice_after_front}
+use Rattle.typed_path.specs.scan.Left.{slice_after_front}
 use Rattle.typed_path.specs.components.Part.{Part, Placed, current_part, parent_part, name_part, root_part}
 use Rattle.typed_path.specs.components.Comps.{Segment, placed, segments, later, first, later_body, body_of, named, is_dot, component}
 use Rattle.std.proofs.lemmas.Bool.{cases_lt, not-true, not-false}

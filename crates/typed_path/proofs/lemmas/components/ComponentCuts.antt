@@ -5,8 +5,8 @@ use Rattle.typed_path.specs.declared.scan.separators.Separators.TheVariants.{Sla
 use Rattle.typed_path.specs.components.Dialect.{root_text}
 use Rattle.typed_path.specs.components.Part.{Part, Placed, current_part, parent_part, name_part, root_part}
 use Rattle.typed_path.specs.components.Comps.{Segment, placed, later, first, component}
-use Rattle.typed_path.specs.readings.Left.{start_at, end_at}
-use Rattle.typed_path.specs.readings.Reading.{AreInOrder}
+use Rattle.typed_path.specs.scan.Left.{start_at, end_at}
+use Rattle.typed_path.specs.scan.Reading.{AreInOrder}
 use Rattle.typed_path.proofs.lemmas.components.SegmentViews.{Seen, empty, passed_dot, kept_dot, dot_dot, word, seen}
 use Rattle.typed_path.proofs.lemmas.lists.WidthLemmas.{width}
 

@@ -9,7 +9,7 @@ use Rattle.typed_path.specs.components.Dialect.{Dialect, windows, separators, is
 use Rattle.typed_path.specs.components.Prefix.{Found, prefix_of}
 use Rattle.typed_path.specs.components.Part.{Placed, parts, current_part}
 use Rattle.typed_path.specs.components.Comps.{is_dot, body, later_body, comps, comps_behind, parts_of}
-use Rattle.typed_path.specs.readings.Steps.{body_from}
+use Rattle.typed_path.specs.scan.Steps.{body_from}
 use Rattle.typed_path.proofs.lemmas.components.BodyCuts.{body-filled}
 use Rattle.typed_path.proofs.lemmas.components.PartLemmas.{pieces, named_part, later_part, later_parts, first_parts, parts-body, parts-later_body}
 use Rattle.typed_path.proofs.lemmas.lists.SplitLemmas.{slice_split-some}

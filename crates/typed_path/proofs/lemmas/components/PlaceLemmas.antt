@@ -5,8 +5,8 @@ use Rattle.typed_path.specs.components.Dialect.{Dialect, separators}
 use Rattle.typed_path.specs.components.Part.{Placed, end_of}
 use Rattle.typed_path.specs.components.Prefix.{Found, prefix_of}
 use Rattle.typed_path.specs.components.Comps.{comps, comps_behind, body}
-use Rattle.typed_path.specs.readings.Left.{start_at, end_at}
-use Rattle.typed_path.specs.readings.Reading.{AreInOrder, IsLaidOut}
+use Rattle.typed_path.specs.scan.Left.{start_at, end_at}
+use Rattle.typed_path.specs.scan.Reading.{AreInOrder, IsLaidOut}
 use Rattle.typed_path.proofs.lemmas.components.PrefixLemmas.{FoundFits, prefix-fits}
 use Rattle.typed_path.proofs.lemmas.components.BodyCuts.{body_in_order, body-starts}
 

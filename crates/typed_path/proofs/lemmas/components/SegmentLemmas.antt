@@ -11,7 +11,7 @@ use Rattle.typed_path.specs.declared.scan.begin.Begin.TheVariants.{Body, Inside}
 use Rattle.typed_path.specs.components.Dialect.{is_separator}
 use Rattle.typed_path.specs.components.Part.{Placed}
 use Rattle.typed_path.specs.components.Comps.{placed, segments, later, first, body_of, later_body}
-use Rattle.typed_path.specs.readings.Steps.{body_from, is_clean, counts}
+use Rattle.typed_path.specs.scan.Steps.{body_from, is_clean, counts}
 use Rattle.typed_path.proofs.lemmas.lists.SplitLemmas.{slice_split-some, slice_split-append}
 
 -- where the piece behind these pieces begins

@@ -12,12 +12,12 @@ use Rattle.typed_path.specs.components.Dialect.{Dialect, unix, windows, separato
 use Rattle.typed_path.specs.components.Part.{Part, Placed, parts, current_part, parent_part, name_part, root_part, prefix_part}
 use Rattle.typed_path.specs.components.Prefix.{Found, prefix_of}
 use Rattle.typed_path.specs.components.Comps.{Segment, segments, first, later, body_of, body, comps_behind, parts_of}
-use Rattle.typed_path.specs.readings.Left.{but_last}
-use Rattle.typed_path.specs.readings.Steps.{first_part, last_part}
+use Rattle.typed_path.specs.scan.Left.{but_last}
+use Rattle.typed_path.specs.scan.Steps.{first_part, last_part}
 use Rattle.typed_path.specs.views.PieceViews.{part_of}
 use Rattle.typed_path.specs.components.Written.{written, as_written}
 use Rattle.typed_path.proofs.lemmas.components.SegmentViews.{Seen, empty, passed_dot, kept_dot, dot_dot, word, seen}
-use Rattle.typed_path.proofs.lemmas.readings.LeftLemmas.{last_pushed, last_part-push}
+use Rattle.typed_path.proofs.lemmas.scan.LeftLemmas.{last_pushed, last_part-push}
 
 module _ (write : Part → Part) where
   abbrev Written : List Placed → Type 0

@@ -8,8 +8,8 @@ use Rattle.std.proofs.lemmas.Option.{same_Some}
 use Rattle.typed_path.specs.components.Dialect.{Dialect}
 use Rattle.typed_path.specs.components.Part.{Kind, prefix, root, current, parent, normal, Part, Placed, end_of, parts}
 use Rattle.typed_path.specs.components.Comps.{comps, parts_of}
-use Rattle.typed_path.specs.readings.Reading.{AreInOrder}
-use Rattle.typed_path.specs.readings.Steps.{first_part}
+use Rattle.typed_path.specs.scan.Reading.{AreInOrder}
+use Rattle.typed_path.specs.scan.Steps.{first_part}
 use Rattle.typed_path.specs.promises.Promises.{count, words_by_kind, fed_length}
 use Rattle.typed_path.specs.order.Words.{writes_of, path_words}
 use Rattle.typed_path.proofs.lemmas.components.PlaceLemmas.{comps-laid_out}

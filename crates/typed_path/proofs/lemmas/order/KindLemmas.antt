@@ -9,11 +9,11 @@ use Rattle.std.proofs.lemmas.Option.{same_Some}
 use Rattle.std.proofs.lemmas.Cmp.{tied_itself}
 use Rattle.std.proofs.Math.Bool.{and-false, and-true, and_assoc}
 use Rattle.typed_path.specs.components.Part.{normal, Kind, Part, Placed, parts, kinds}
-use Rattle.typed_path.specs.readings.Left.{but_last}
-use Rattle.typed_path.specs.readings.Steps.{first_part, last_part}
+use Rattle.typed_path.specs.scan.Left.{but_last}
+use Rattle.typed_path.specs.scan.Steps.{first_part, last_part}
 use Rattle.typed_path.specs.order.Same.{bytes_cmp, kind_cmp, kinds_cmp, left_cmp}
 use Rattle.typed_path.specs.order.Laws.{kind_cmp_total}
-use Rattle.typed_path.proofs.lemmas.readings.LeftLemmas.{last_pushed, last_part-push}
+use Rattle.typed_path.proofs.lemmas.scan.LeftLemmas.{last_pushed, last_part-push}
 
 -- whether they have the same left
 abbrev pub is_left_same : List Placed → List Placed → Bool

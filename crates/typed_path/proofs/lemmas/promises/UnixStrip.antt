@@ -9,12 +9,12 @@ use Rattle.typed_path.specs.components.Dialect.{unix, slash, is_separator}
 use Rattle.typed_path.specs.components.Part.{Kind, prefix, root, current, parent, normal, kinds, texts, parts, current_part, parent_part, name_part}
 use Rattle.typed_path.specs.components.Comps.{comps, parts_of, is_dot, is_dot_dot}
 use Rattle.typed_path.specs.queries.Queries.{begins_with_root, path_starts_with}
-use Rattle.typed_path.specs.readings.Left.{left, start_at}
+use Rattle.typed_path.specs.scan.Left.{left, start_at}
 use Rattle.typed_path.specs.changes.Push.{push_unix}
 use Rattle.typed_path.specs.promises.Joins.{StripJoins}
 use Rattle.typed_path.proofs.lemmas.lists.SplitLemmas.{map-through, AllByRecursion-weaker}
 use Rattle.typed_path.proofs.lemmas.components.PartLemmas.{pieces, body_parts, body_parts-read, later_parts, parts-later_body, IsWritten, IsWrittenPart, IsCleanName, each-written}
-use Rattle.typed_path.proofs.lemmas.readings.SliceLeft.{left-taken, left-all, left-front}
+use Rattle.typed_path.proofs.lemmas.scan.SliceLeft.{left-taken, left-all, left-front}
 use Rattle.typed_path.proofs.lemmas.components.BodyCuts.{body-filled, tail}
 use Rattle.typed_path.proofs.lemmas.promises.UnixNormal.{parts_of-unix}
 use Rattle.typed_path.proofs.lemmas.promises.UnixJoin.{push_unix-behind}

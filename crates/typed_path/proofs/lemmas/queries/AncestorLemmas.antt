@@ -4,7 +4,7 @@ use Rattle.std.specs.Prelude.{Option, Some, None, option_and_then}
 use Rattle.std.proofs.lemmas.List.{length-take-le, nil_from_length}
 use Rattle.typed_path.specs.components.Dialect.{Dialect}
 use Rattle.typed_path.specs.components.Comps.{comps}
-use Rattle.typed_path.specs.readings.Left.{left, last_of}
+use Rattle.typed_path.specs.scan.Left.{left, last_of}
 use Rattle.typed_path.specs.queries.Queries.{is_root, parent_of}
 use Rattle.typed_path.specs.queries.Ancestry.{upwards, ancestors_of}
 use Rattle.typed_path.proofs.lemmas.queries.WindowsParent.{parent_list}

@@ -9,12 +9,12 @@ use Rattle.typed_path.specs.components.Dialect.{unix, is_separator}
 use Rattle.typed_path.specs.components.Part.{Placed, parts, texts}
 use Rattle.typed_path.specs.components.Comps.{comps, body, later_body}
 use Rattle.typed_path.specs.queries.Queries.{path_starts_with, stripped}
-use Rattle.typed_path.specs.readings.Left.{left, start_at}
-use Rattle.typed_path.specs.readings.Steps.{is_clean}
+use Rattle.typed_path.specs.scan.Left.{left, start_at}
+use Rattle.typed_path.specs.scan.Steps.{is_clean}
 use Rattle.typed_path.proofs.lemmas.components.BodyCuts.{body-filled}
 use Rattle.typed_path.proofs.lemmas.components.BodyLemmas.{later_body-separator, body_from-starts}
 use Rattle.typed_path.proofs.lemmas.components.SegmentLemmas.{body_from-append, body_from-separator}
-use Rattle.typed_path.proofs.lemmas.readings.SliceLeft.{left-taken, left-front}
+use Rattle.typed_path.proofs.lemmas.scan.SliceLeft.{left-taken, left-front}
 
 -- no component reaches over the border between two texts: the first ends with a separator
 pub body-ended : (s : Separators) (front us rest : List ℕ) (x : ℕ) → front ≡ us ++ x ∷ [] → is_separator s x ≡ true

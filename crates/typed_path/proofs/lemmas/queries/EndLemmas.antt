@@ -7,9 +7,9 @@ use Rattle.std.proofs.lemmas.List.{map-append, length-append, drop-append-le, dr
 use Rattle.std.proofs.lemmas.Option.{same_Some}
 use Rattle.std.proofs.Math.Bool.{and-false, and-true, and_assoc}
 use Rattle.typed_path.specs.components.Part.{Part, Placed, parts, texts}
-use Rattle.typed_path.specs.readings.Left.{but_last}
-use Rattle.typed_path.specs.readings.Steps.{last_part}
-use Rattle.typed_path.proofs.lemmas.readings.LeftLemmas.{last_pushed, last_part-push}
+use Rattle.typed_path.specs.scan.Left.{but_last}
+use Rattle.typed_path.specs.scan.Steps.{last_part}
+use Rattle.typed_path.proofs.lemmas.scan.LeftLemmas.{last_pushed, last_part-push}
 use lib.Pointwise.{pointwise}
 
 abbrev pub ends : List Placed → List Placed → Bool

@@ -7,14 +7,14 @@ use Rattle.typed_path.specs.declared.scan.separators.Separators.{Separators}
 use Rattle.typed_path.specs.declared.scan.separators.Separators.TheVariants.{Slash}
 use Rattle.typed_path.specs.components.Dialect.{Dialect, unix}
 use Rattle.typed_path.specs.components.Part.{Part, Placed}
-use Rattle.typed_path.specs.readings.Steps.{last_part}
+use Rattle.typed_path.specs.scan.Steps.{last_part}
 use Rattle.typed_path.specs.components.Comps.{comps, body}
 use Rattle.typed_path.specs.queries.Queries.{is_root, parent_of}
-use Rattle.typed_path.specs.readings.Left.{back, left, last_of, but_last, end_at, slice_after_back}
-use Rattle.typed_path.proofs.lemmas.readings.SliceLeft.{left-taken, left-parent}
+use Rattle.typed_path.specs.scan.Left.{back, left, last_of, but_last, end_at, slice_after_back}
+use Rattle.typed_path.proofs.lemmas.scan.SliceLeft.{left-taken, left-parent}
 use Rattle.typed_path.proofs.lemmas.components.BodyCuts.{body-take}
 use Rattle.typed_path.proofs.lemmas.components.PlaceLemmas.{comps-laid_out}
-use Rattle.typed_path.proofs.lemmas.readings.SliceLemmas.{stepwise_slices}
+use Rattle.typed_path.proofs.lemmas.scan.SliceLemmas.{stepwise_slices}
 
 -- what a parent tells: a last component that is no root, and the slice left without it
 pub record HasParent (d : Dialect) (t p : List ℕ) : Type 0 where

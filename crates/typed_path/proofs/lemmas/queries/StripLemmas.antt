@@ -7,13 +7,13 @@ use Rattle.std.proofs.lemmas.List.{drop-drop, length-drop}
 use Rattle.typed_path.specs.components.Dialect.{Dialect}
 use Rattle.std.proofs.lemmas.Option.{same_Some}
 use Rattle.typed_path.specs.components.Part.{Part, Placed, parts, texts}
-use Rattle.typed_path.specs.readings.Steps.{first_part}
+use Rattle.typed_path.specs.scan.Steps.{first_part}
 use Rattle.typed_path.specs.components.Comps.{comps}
-use Rattle.typed_path.specs.readings.Left.{front, left, slice_after_front}
-use Rattle.typed_path.specs.readings.Reading.{slice_after, fronts, backs}
+use Rattle.typed_path.specs.scan.Left.{front, left, slice_after_front}
+use Rattle.typed_path.specs.scan.Reading.{slice_after, fronts, backs}
 use Rattle.typed_path.specs.queries.Queries.{path_starts_with, stripped}
 use Rattle.typed_path.proofs.lemmas.components.PlaceLemmas.{comps-laid_out}
-use Rattle.typed_path.proofs.lemmas.readings.SliceLemmas.{stepwise_slices}
+use Rattle.typed_path.proofs.lemmas.scan.SliceLemmas.{stepwise_slices}
 
 fronts-replicate : (k : ℕ) → fronts (replicate k front) ≡ k
 fronts-replicate zero = refl

@@ -9,9 +9,9 @@ use Rattle.typed_path.specs.components.Part.{Placed, prefix_part, root_part}
 use Rattle.typed_path.specs.components.Prefix.{Found, prefix_of}
 use Rattle.typed_path.specs.components.Comps.{comps, comps_behind, body, body_of, component, placed}
 use Rattle.typed_path.specs.queries.Queries.{is_root, parent_of}
-use Rattle.typed_path.specs.readings.Left.{left, last_of, but_last, end_at}
+use Rattle.typed_path.specs.scan.Left.{left, last_of, but_last, end_at}
 use Rattle.typed_path.proofs.lemmas.components.PrefixLemmas.{FoundFits, prefix-fits, some_is}
-use Rattle.typed_path.proofs.lemmas.readings.SliceLeft.{left-taken, left-parent}
+use Rattle.typed_path.proofs.lemmas.scan.SliceLeft.{left-taken, left-parent}
 use Rattle.typed_path.proofs.lemmas.components.BodyCuts.{body-take}
 use Rattle.typed_path.proofs.lemmas.queries.ParentLemmas.{has_parent, last-filled, body_parent, unix_parent_of}
 use Rattle.typed_path.proofs.lemmas.components.PrefixCuts.{IsBehind}

@@ -2,7 +2,7 @@ use Rattle.std.proofs.Common.{sym, ◌∙◌, Some, None}
 use Rattle.typed_path.specs.views.CursorViews.{items_left}
 use Rattle.typed_path.specs.views.PieceViews.{part_of}
 use Rattle.typed_path.proofs.lemmas.changes.ConvertLemmas.{pushed-next, refused-whole, pushed-all, refusal-passed}
-use Rattle.typed_path.proofs.lemmas.readings.YieldLemmas.{yields_first}
+use Rattle.typed_path.proofs.lemmas.scan.YieldLemmas.{yields_first}
 use Rattle.typed_path.proofs.conversions.between.convert_checked.Goals as goal
 
 pub pieces-preserved : goal.pieces-preserved

@@ -1,5 +1,5 @@
 use Rattle.std.proofs.Common.{◌+◌, slice_index}
-use Rattle.typed_path.proofs.lemmas.readings.MaskLemmas.{mask-or, mask-alike}
+use Rattle.typed_path.proofs.lemmas.scan.MaskLemmas.{mask-or, mask-alike}
 use Rattle.typed_path.proofs.scan.lanes.marks_at.Goals as goal
 
 pub returns : goal.returns

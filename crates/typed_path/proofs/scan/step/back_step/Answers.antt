@@ -4,9 +4,9 @@ use Rattle.typed_path.specs.components.Dialect.{is_separator}
 use Rattle.typed_path.specs.components.Comps.{component}
 use Rattle.typed_path.specs.views.PieceViews.{part_of}
 use Rattle.typed_path.specs.declared.scan.begin.Begin.{Begin}
-use Rattle.typed_path.specs.readings.Steps.{body_from, is_clean, end_from}
+use Rattle.typed_path.specs.scan.Steps.{body_from, is_clean, end_from}
 use Rattle.typed_path.proofs.lemmas.lists.LastLemmas.{IsLastPlace}
-use Rattle.typed_path.proofs.lemmas.readings.BackLemmas.{IsLast, last-at_end, last-before_end, is_clean-kept, end_from-trimmed}
+use Rattle.typed_path.proofs.lemmas.scan.BackLemmas.{IsLast, last-at_end, last-before_end, is_clean-kept, end_from-trimmed}
 use Rattle.typed_path.proofs.scan.step.back_step.Goals as goal
 use Rattle.typed_path.proofs.scan.step.back_step.Goals.{After-piece_of-piece}
 

@@ -6,7 +6,7 @@ use Rattle.typed_path.specs.declared.scan.begin.Begin.{Begin}
 use Rattle.typed_path.specs.components.Dialect.{is_separator}
 use Rattle.typed_path.specs.components.Part.{Part}
 use Rattle.typed_path.specs.components.Comps.{component, first, later_body}
-use Rattle.typed_path.specs.readings.Steps.{body_from, is_clean}
+use Rattle.typed_path.specs.scan.Steps.{body_from, is_clean}
 use Rattle.typed_path.specs.views.PieceViews.{part_of}
 use Rattle.typed_path.proofs.lemmas.components.BodyLemmas.{body_from-first}
 use Rattle.typed_path.proofs.scan.step.front_step.Goals as goal

@@ -1,4 +1,4 @@
-use Rattle.typed_path.proofs.lemmas.lines.CommandLemmas.{no_command}
+use Rattle.typed_path.proofs.lemmas.script.CommandLemmas.{no_command}
 use Rattle.typed_path.proofs.script.lines.command_of.Goals as goal
 
 pub returns-clause-none : goal.returns-clause-none

@@ -1,7 +1,7 @@
 use Rattle.std.proofs.Common.{◌∷◌, ap, sym, ◌∙◌}
-use Rattle.typed_path.specs.lines.Lines.{bad_line}
-use Rattle.typed_path.specs.lines.Commands.{command_name, texts_reply}
-use Rattle.typed_path.proofs.lemmas.lines.CommandLemmas.{put_same, too_many}
+use Rattle.typed_path.specs.script.Lines.{bad_line}
+use Rattle.typed_path.specs.script.Commands.{command_name, texts_reply}
+use Rattle.typed_path.proofs.lemmas.script.CommandLemmas.{put_same, too_many}
 use Rattle.typed_path.proofs.script.lines.put_command.Goals as goal
 
 pub returns-in-Some-cut_at : goal.returns-in-Some-cut_at

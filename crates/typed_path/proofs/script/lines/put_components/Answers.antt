@@ -3,8 +3,8 @@ use Rattle.std.specs.Prelude.{codes}
 use Rattle.typed_path.specs.components.Part.{Part}
 use Rattle.typed_path.specs.components.Comps.{parts_of}
 use Rattle.typed_path.specs.views.PathViews.{path_bytes}
-use Rattle.typed_path.specs.lines.Lines.{tab, line_feed, reply_line, components_reply, component_field}
-use Rattle.typed_path.proofs.lemmas.lines.FieldLemmas.{fields_behind, join_with_byte-map}
+use Rattle.typed_path.specs.script.Lines.{tab, line_feed, reply_line, components_reply, component_field}
+use Rattle.typed_path.proofs.lemmas.script.FieldLemmas.{fields_behind, join_with_byte-map}
 use Rattle.typed_path.proofs.script.lines.put_components.Goals as goal
 
 -- the reply is complete once no component is left and the line feed stands

@@ -2,7 +2,7 @@ use Rattle.std.proofs.Common.{◌≡◌, ◌++◌}
 use Rattle.std.specs.Prelude.{codes}
 use Rattle.typed_path.specs.components.Comps.{parts_of}
 use Rattle.typed_path.specs.views.PathViews.{path_bytes, components_parts}
-use Rattle.typed_path.proofs.lemmas.lines.FieldLemmas.{fields_behind}
+use Rattle.typed_path.proofs.lemmas.script.FieldLemmas.{fields_behind}
 use Rattle.typed_path.proofs.script.lines.put_components.Given as goal
 
 abbrev pub invariant-pieces : goal.invariant-pieces

@@ -3,8 +3,8 @@ use Rattle.std.specs.Prelude.{Ok, Err, Some, ⊤}
 use Rattle.typed_path.specs.changes.Checked.{refusal}
 use Rattle.typed_path.specs.components.Comps.{parts_of}
 use Rattle.typed_path.specs.conversions.Convert.{push_checked_each}
-use Rattle.typed_path.specs.lines.Lines.{joined_reply, converted_reply}
-use Rattle.typed_path.proofs.lemmas.lines.CommandLemmas.{put_same}
+use Rattle.typed_path.specs.script.Lines.{joined_reply, converted_reply}
+use Rattle.typed_path.proofs.lemmas.script.CommandLemmas.{put_same}
 use Rattle.typed_path.proofs.script.lines.put_converted_checked.Goals as goal
 
 pub returns-in-Err-Checked : goal.returns-in-Err-Checked

@@ -1,7 +1,7 @@
 use Rattle.std.proofs.Common.{ap, sym, ◌∙◌}
-use Rattle.typed_path.specs.lines.Lines.{reply_fields, bad_line}
-use Rattle.typed_path.specs.lines.Commands.{command_name}
-use Rattle.typed_path.proofs.lemmas.lines.CommandLemmas.{put_same, no_encoding}
+use Rattle.typed_path.specs.script.Lines.{reply_fields, bad_line}
+use Rattle.typed_path.specs.script.Commands.{command_name}
+use Rattle.typed_path.proofs.lemmas.script.CommandLemmas.{put_same, no_encoding}
 use Rattle.typed_path.proofs.script.lines.put_reply.Goals as goal
 
 pub returns : goal.returns

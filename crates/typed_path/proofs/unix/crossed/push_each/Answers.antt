@@ -8,7 +8,7 @@ use Rattle.typed_path.specs.changes.Push.{push_all, push_unix}
 use Rattle.typed_path.specs.conversions.Convert.{crossed, crossed_room}
 use Rattle.typed_path.specs.views.CursorViews.{items_left}
 use Rattle.typed_path.specs.views.PieceViews.{part_of}
-use Rattle.typed_path.proofs.lemmas.readings.YieldLemmas.{yields_first}
+use Rattle.typed_path.proofs.lemmas.scan.YieldLemmas.{yields_first}
 use Rattle.typed_path.proofs.lemmas.changes.PutCrossed.{crossed-next, crossed-end}
 use Rattle.typed_path.proofs.unix.crossed.push_each.Goals as goal
 

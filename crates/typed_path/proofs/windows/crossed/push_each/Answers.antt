@@ -7,7 +7,7 @@ use Rattle.typed_path.specs.changes.Push.{push_all, push_windows}
 use Rattle.typed_path.specs.conversions.Convert.{crossed}
 use Rattle.typed_path.specs.views.CursorViews.{items_left}
 use Rattle.typed_path.specs.views.PieceViews.{part_of}
-use Rattle.typed_path.proofs.lemmas.readings.YieldLemmas.{yields_first, fewer}
+use Rattle.typed_path.proofs.lemmas.scan.YieldLemmas.{yields_first, fewer}
 use Rattle.typed_path.proofs.lemmas.changes.PutCrossed.{put-whole, crossed-next, crossed-end}
 use Rattle.typed_path.proofs.windows.crossed.push_each.Goals as goal
 

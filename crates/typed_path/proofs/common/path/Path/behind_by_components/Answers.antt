@@ -2,7 +2,7 @@ use Rattle.std.proofs.Common.{◌≡◌, List, [], ◌∷◌, refl, sym, ap, ◌
 use Rattle.std.specs.Prelude.{Some, None}
 use Rattle.std.proofs.lemmas.Bool.{not-true, not-false}
 use Rattle.typed_path.specs.components.Part.{Placed}
-use Rattle.typed_path.specs.readings.Steps.{first_part}
+use Rattle.typed_path.specs.scan.Steps.{first_part}
 use Rattle.typed_path.specs.views.PathViews.{path_bytes}
 use Rattle.typed_path.specs.views.PieceViews.{part_of}
 use Rattle.typed_path.proofs.lemmas.queries.StripLemmas.{Strips-start, Strips-end, Strips-short, Strips-differ, Strips-step}

@@ -7,7 +7,7 @@ use Rattle.typed_path.specs.components.Comps.{parts_of}
 use Rattle.typed_path.specs.views.PathViews.{path_bytes, components_items, components_slice}
 use Rattle.typed_path.specs.queries.Queries.{is_valid_kind, is_valid}
 use Rattle.typed_path.specs.views.PieceViews.{part_of}
-use Rattle.typed_path.proofs.lemmas.readings.YieldLemmas.{yields_left}
+use Rattle.typed_path.proofs.lemmas.scan.YieldLemmas.{yields_left}
 use Rattle.typed_path.proofs.common.path.Path.is_valid.Goals as goal
 
 -- a test of each part's kind

@@ -1,8 +1,8 @@
 use Rattle.std.proofs.Common.{sym, ap, ◌∙◌}
 use Rattle.std.specs.Prelude.{Some}
 use Rattle.typed_path.specs.components.Comps.{comps}
-use Rattle.typed_path.specs.readings.Left.{slice_after_back}
-use Rattle.typed_path.specs.readings.Steps.{last_part}
+use Rattle.typed_path.specs.scan.Left.{slice_after_back}
+use Rattle.typed_path.specs.scan.Steps.{last_part}
 use Rattle.typed_path.specs.views.PieceViews.{part_of}
 use Rattle.typed_path.specs.views.PathViews.{path_bytes, components_slice}
 use Rattle.typed_path.proofs.lemmas.queries.ParentLemmas.{parent_left}

@@ -4,7 +4,7 @@ use Rattle.std.proofs.lemmas.List.{length-take-le, length-drop}
 use Rattle.typed_path.specs.components.Part.{Placed, kinds, parts}
 use Rattle.typed_path.specs.components.Dialect.{dialect_of}
 use Rattle.typed_path.specs.views.BodyViews.{body_slice, body_items}
-use Rattle.typed_path.specs.readings.Steps.{first_part}
+use Rattle.typed_path.specs.scan.Steps.{first_part}
 use Rattle.typed_path.specs.views.PieceViews.{part_of}
 use Rattle.typed_path.specs.changes.Fault.{fault_behind, fault_at}
 use Rattle.typed_path.specs.changes.Checked.{error_of, SeparatesDisallowed}

@@ -1,8 +1,8 @@
 use Rattle.std.proofs.Common.{◌≡◌, ◌+◌, slice_range, drop, ap, sym, ◌∙◌, ◌++◌}
 use Rattle.typed_path.specs.declared.scan.begin.Begin.TheVariants.{Inside}
 use Rattle.typed_path.specs.components.Comps.{later_body, component}
-use Rattle.typed_path.specs.readings.Left.{slice_after_front}
-use Rattle.typed_path.specs.readings.Steps.{body_from}
+use Rattle.typed_path.specs.scan.Left.{slice_after_front}
+use Rattle.typed_path.specs.scan.Steps.{body_from}
 use Rattle.typed_path.specs.views.PieceViews.{part_of}
 use Rattle.typed_path.proofs.lemmas.components.BodyLemmas.{slice_after_front-first, slice_range-later}
 use Rattle.typed_path.proofs.scan.body.Body.front.Goals as goal

@@ -3,11 +3,11 @@ use Rattle.std.specs.Prelude.{option_map, unwrap_or}
 use Rattle.typed_path.specs.declared.scan.cursor.Cursor.{Cursor}
 use Rattle.typed_path.specs.declared.scan.prefix.Found.{Found}
 use Rattle.typed_path.specs.components.Part.{Placed, end_of}
-use Rattle.typed_path.specs.readings.Left.{last_of}
-use Rattle.typed_path.specs.readings.Steps.{end_from}
+use Rattle.typed_path.specs.scan.Left.{last_of}
+use Rattle.typed_path.specs.scan.Steps.{end_from}
 use Rattle.typed_path.specs.views.BodyViews.{body_items}
 use Rattle.typed_path.specs.views.CursorViews.{items_left}
-use Rattle.typed_path.proofs.lemmas.readings.CursorSteps.{last_end-pending}
+use Rattle.typed_path.proofs.lemmas.scan.CursorSteps.{last_end-pending}
 use Rattle.typed_path.proofs.scan.cursor.Cursor.last_end.Goals as goal
 
 -- where the last component ends, with a prefix before the body or none

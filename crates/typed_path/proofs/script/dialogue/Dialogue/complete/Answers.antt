@@ -1,6 +1,6 @@
 use Rattle.std.proofs.Common.{sym, subst, ◌≡◌, ◌∷◌, []}
-use Rattle.typed_path.specs.lines.Lines.{split_lines}
-use Rattle.typed_path.proofs.lemmas.lines.LineLemmas.{joined-open}
+use Rattle.typed_path.specs.script.Lines.{split_lines}
+use Rattle.typed_path.proofs.lemmas.script.LineLemmas.{joined-open}
 use Rattle.typed_path.proofs.script.dialogue.Dialogue.complete.Goals as goal
 
 pub invariant_of-self-in-Break-branch-2 : goal.invariant_of-self-in-Break-branch-2

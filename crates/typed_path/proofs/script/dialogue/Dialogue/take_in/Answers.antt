@@ -1,6 +1,6 @@
 use Rattle.std.proofs.Common.{◌≡◌, ℕ, List, [], ◌∷◌, ◌++◌, Bool, true, false, cond, append_assoc, sym, ap, subst, ◌∙◌}
-use Rattle.typed_path.specs.lines.Lines.{split_lines, reply, replies_to, complete_lines, open_line}
-use Rattle.typed_path.proofs.lemmas.lines.LineLemmas.{joined-open, complete_lines-joined, open_line-joined}
+use Rattle.typed_path.specs.script.Lines.{split_lines, reply, replies_to, complete_lines, open_line}
+use Rattle.typed_path.proofs.lemmas.script.LineLemmas.{joined-open, complete_lines-joined, open_line-joined}
 use Rattle.typed_path.proofs.script.dialogue.Dialogue.take_in.Goals as goal
 
 -- the replies once one more line is complete

@@ -1,5 +1,5 @@
 use Rattle.std.proofs.Common.{◌≡◌, ◌++◌, length}
-use Rattle.typed_path.specs.lines.Lines.{replies_to, complete_lines, open_line}
+use Rattle.typed_path.specs.script.Lines.{replies_to, complete_lines, open_line}
 use Rattle.typed_path.proofs.script.dialogue.Dialogue.take_in.Given as goal
 
 abbrev pub invariant-lines : goal.invariant-lines

@@ -4,13 +4,13 @@ use Rattle.typed_path.specs.declared.scan.cursor.Cursor.{Cursor}
 use Rattle.typed_path.specs.declared.scan.body.Body.{Body}
 use Rattle.typed_path.specs.declared.scan.prefix.Found.{Found}
 use Rattle.typed_path.specs.components.Part.{Part, Placed, end_of, prefix_part}
-use Rattle.typed_path.specs.readings.Left.{last_of, but_last, slice_after_front, slice_after_back}
-use Rattle.typed_path.specs.readings.Pending.{pending}
-use Rattle.typed_path.specs.readings.Steps.{first_part, last_part, end_from}
+use Rattle.typed_path.specs.scan.Left.{last_of, but_last, slice_after_front, slice_after_back}
+use Rattle.typed_path.specs.scan.Pending.{pending}
+use Rattle.typed_path.specs.scan.Steps.{first_part, last_part, end_from}
 use Rattle.typed_path.specs.views.PieceViews.{prefix_view}
 use Rattle.typed_path.specs.views.BodyViews.{body_items, body_slice}
 use Rattle.typed_path.specs.views.CursorViews.{start_left, prefix_left, slice_left, items_left}
-use Rattle.typed_path.proofs.lemmas.readings.PrefixSteps.{prefix_taken, prefix-text, prefix-length, whole-earlier, but_last-behind, last_of-behind, end_from-behind, slice_after_back-behind, filled-last, empty-last}
+use Rattle.typed_path.proofs.lemmas.scan.PrefixSteps.{prefix_taken, prefix-text, prefix-length, whole-earlier, but_last-behind, last_of-behind, end_from-behind, slice_after_back-behind, filled-last, empty-last}
 
 -- the component that is the prefix, before a body that begins at a place
 abbrev pub prefix_before : Found → List ℕ → ℕ → Placed

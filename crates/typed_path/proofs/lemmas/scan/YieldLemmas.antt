@@ -6,9 +6,9 @@ use Rattle.std.proofs.lemmas.Iterator.Consumers.{YieldsList-from_shown}
 use Rattle.std.proofs.lemmas.Option.{same_Some}
 use Rattle.std.proofs.lemmas.List.{map-append, length-append}
 use Rattle.typed_path.specs.components.Part.{Part, Placed, parts}
-use Rattle.typed_path.specs.readings.Left.{but_last}
-use Rattle.typed_path.specs.readings.Steps.{first_part, last_part, LeavesFront}
-use Rattle.typed_path.proofs.lemmas.readings.LeftLemmas.{last_part-push, last_pushed}
+use Rattle.typed_path.specs.scan.Left.{but_last}
+use Rattle.typed_path.specs.scan.Steps.{first_part, last_part, LeavesFront}
+use Rattle.typed_path.proofs.lemmas.scan.LeftLemmas.{last_part-push, last_pushed}
 
 -- a component taken from the front is one fewer
 pub fewer : (p : Part) (cs ds : List Placed) → Some p ≡ first_part cs → ds ≡ drop 1 cs → length ds < length cs

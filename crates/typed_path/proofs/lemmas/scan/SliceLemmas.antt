@@ -4,10 +4,10 @@ use Rattle.std.proofs.lemmas.Bool.{cases_lt, cond-true, cond-false, ne_eqb, lt-l
 use Rattle.std.proofs.lemmas.List.{drop-drop, drop-take, take-take}
 use Rattle.std.proofs.lemmas.Option.{slice_get-get_or}
 use Rattle.typed_path.specs.components.Part.{Placed, end_of}
-use Rattle.typed_path.specs.readings.Left.{left, items_between, answer, start_at, end_at, Side, front, back, slice_after_front, slice_after_back, cut_to, end_before_last, last_of}
-use Rattle.typed_path.specs.readings.Reading.{items_behind, slice_behind, slice_after, fronts, backs, IsLaidOut}
-use Rattle.typed_path.proofs.lemmas.readings.ReadingLemmas.{nowhere, between-length, between-none, between-get, between-front, between-back, between-last, between-all}
-use Rattle.typed_path.proofs.lemmas.readings.SliceLeft.{left_start, left_end, left-taken, left-inside, left-all}
+use Rattle.typed_path.specs.scan.Left.{left, items_between, answer, start_at, end_at, Side, front, back, slice_after_front, slice_after_back, cut_to, end_before_last, last_of}
+use Rattle.typed_path.specs.scan.Reading.{items_behind, slice_behind, slice_after, fronts, backs, IsLaidOut}
+use Rattle.typed_path.proofs.lemmas.scan.ReadingLemmas.{nowhere, between-length, between-none, between-get, between-front, between-back, between-last, between-all}
+use Rattle.typed_path.proofs.lemmas.scan.SliceLeft.{left_start, left_end, left-taken, left-inside, left-all}
 use Rattle.typed_path.proofs.lemmas.components.PlaceLemmas.{ends-within, start-end, end-start}
 
 -- a step from the front to the end

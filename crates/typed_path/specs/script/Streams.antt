@@ -1,7 +1,7 @@
 -- What a dialogue of lines read and wrote, and how it ended.
 use Rattle.std.specs.Prelude.{◌≡◌, ◌⊎◌, ℕ, List, ◌++◌, Bool, true, Option, Some, None, ⊤, take}
 use Rattle.std.specs.Io.KnownBytes.{Appends, Consumes, IsAtEnd}
-use Rattle.typed_path.specs.lines.Lines.{answers, replies_to, complete_lines}
+use Rattle.typed_path.specs.script.Lines.{answers, replies_to, complete_lines}
 
 -- what a reader and a writer tell: the bytes left, the bytes written, and whether they have failed
 pub record Streams : Type 0 where

@@ -5,8 +5,8 @@ use Rattle.typed_path.specs.declared.scan.piece.Piece.{Piece}
 use Rattle.typed_path.specs.declared.script.ends.End.{End}
 use Rattle.typed_path.specs.declared.script.ends.End.TheVariants.{Front}
 use Rattle.typed_path.specs.components.Part.{Part, Placed}
-use Rattle.typed_path.specs.readings.Reading.{answer_of, items_behind, slice_behind, answers_after, items_after, slice_after}
-use Rattle.typed_path.specs.readings.Ends.{side_of, sides, taken_parts}
+use Rattle.typed_path.specs.scan.Reading.{answer_of, items_behind, slice_behind, answers_after, items_after, slice_after}
+use Rattle.typed_path.specs.scan.Ends.{side_of, sides, taken_parts}
 use Rattle.typed_path.specs.views.PieceViews.{part_of}
 
 module _ (ends : List End) (i : ℕ) (more : i < length ends) (end : End) (at : get_or ends i Front ≡ end) (cs ds : List Placed) (items : ds ≡ items_behind cs (side_of end)) where

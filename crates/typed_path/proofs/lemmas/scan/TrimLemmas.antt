@@ -9,7 +9,7 @@ use Rattle.typed_path.specs.declared.scan.begin.Begin.{Begin}
 use Rattle.typed_path.specs.components.Dialect.{is_separator, is_verbatim}
 use Rattle.typed_path.specs.components.Part.{Placed}
 use Rattle.typed_path.specs.components.Comps.{Segment, named, is_dot, later, later_body}
-use Rattle.typed_path.specs.readings.Steps.{body_from, is_clean, is_trimmed, counts}
+use Rattle.typed_path.specs.scan.Steps.{body_from, is_clean, is_trimmed, counts}
 use Rattle.typed_path.proofs.lemmas.lists.SplitLemmas.{IsUnseparated}
 use Rattle.typed_path.proofs.lemmas.lists.LastLemmas.{last_place, after_last-drop, behind_last-unseparated, cut_last}
 use Rattle.typed_path.proofs.lemmas.components.SegmentLemmas.{body_from-append, body_from-separator, is_clean-append, is_clean-separator}

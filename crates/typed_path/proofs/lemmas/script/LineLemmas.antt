@@ -2,7 +2,7 @@
 use Rattle.std.proofs.Common.{◌≡◌, ℕ, List, [], ◌∷◌, ◌++◌, Bool, true, false, cond, append_assoc, eqb, refl, sym, ap, ◌∙◌}
 use Rattle.std.specs.List.{slice_split, onto_first}
 use Rattle.std.proofs.lemmas.List.Splits.{slice_split-cons_no}
-use Rattle.typed_path.specs.lines.Lines.{line_feed, split_lines, ended, last_line, all_lines, complete_lines, open_line, lines_of, reply, replies_to}
+use Rattle.typed_path.specs.script.Lines.{line_feed, split_lines, ended, last_line, all_lines, complete_lines, open_line, lines_of, reply, replies_to}
 use Rattle.typed_path.proofs.lemmas.lists.SplitLemmas.{slice_split-some}
 
 ended-cons : (p : List ℕ) (q : List ℕ) (ps qs : List (List ℕ)) → qs ≡ q ∷ ps → ended (p ∷ qs) ≡ p ∷ ended qs

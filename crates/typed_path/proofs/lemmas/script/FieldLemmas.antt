@@ -2,7 +2,7 @@
 use Rattle.std.proofs.Common.{◌≡◌, ℕ, List, [], ◌∷◌, ◌++◌, map, append-nil, sym, ap}
 use Rattle.std.specs.List.{flat_map, join_with_byte}
 use Rattle.typed_path.specs.components.Part.{Part}
-use Rattle.typed_path.specs.lines.Lines.{tab, component_field}
+use Rattle.typed_path.specs.script.Lines.{tab, component_field}
 
 -- the fields that show components, each behind a tab
 abbrev pub fields_behind : List Part → List ℕ

@@ -6,8 +6,8 @@ use Rattle.std.proofs.lemmas.List.Splits.{join_with_byte-slice_split}
 use Rattle.std.proofs.lemmas.Slice.Eq.{bytes_eq-Decides}
 use Rattle.std.proofs.lemmas.Bool.{false_from_ne_true}
 use Rattle.typed_path.specs.components.Dialect.{Dialect, unix, windows}
-use Rattle.typed_path.specs.lines.Lines.{tab, fields_of, reply_in, convert_reply_in, pair_reply_in, reply_fields, reply_line, bad_line, dialect_named, in_named}
-use Rattle.typed_path.specs.lines.Commands.{texts_reply}
+use Rattle.typed_path.specs.script.Lines.{tab, fields_of, reply_in, convert_reply_in, pair_reply_in, reply_fields, reply_line, bad_line, dialect_named, in_named}
+use Rattle.typed_path.specs.script.Commands.{texts_reply}
 use Rattle.typed_path.proofs.lemmas.lists.SplitLemmas.{slice_split-some}
 
 -- a reply is the same where its fields are

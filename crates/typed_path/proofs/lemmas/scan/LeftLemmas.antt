@@ -6,8 +6,8 @@ use Rattle.std.proofs.lemmas.List.{reverse-append, length-append, length-take, t
 use Rattle.typed_path.specs.declared.scan.separators.Separators.{Separators}
 use Rattle.typed_path.specs.declared.scan.begin.Begin.{Begin}
 use Rattle.typed_path.specs.components.Part.{Placed, end_of}
-use Rattle.typed_path.specs.readings.Left.{first_of, last_of, but_last, cut_to, slice_after_back}
-use Rattle.typed_path.specs.readings.Steps.{body_from, is_clean, end_from, last_part}
+use Rattle.typed_path.specs.scan.Left.{first_of, last_of, but_last, cut_to, slice_after_back}
+use Rattle.typed_path.specs.scan.Steps.{body_from, is_clean, end_from, last_part}
 use Rattle.typed_path.proofs.lemmas.components.BodyLemmas.{body_from-empty, body_from-starts}
 
 -- the last component of a list that ends with one

@@ -6,10 +6,10 @@ use Rattle.typed_path.specs.declared.scan.separators.Separators.{Separators}
 use Rattle.typed_path.specs.declared.scan.begin.Begin.{Begin}
 use Rattle.typed_path.specs.components.Part.{Part, Placed, end_of}
 use Rattle.typed_path.specs.components.Comps.{component}
-use Rattle.typed_path.specs.readings.Left.{last_of, but_last, cut_to, slice_after_front, slice_after_back}
-use Rattle.typed_path.specs.readings.Steps.{body_from, is_clean, end_from, last_part}
+use Rattle.typed_path.specs.scan.Left.{last_of, but_last, cut_to, slice_after_front, slice_after_back}
+use Rattle.typed_path.specs.scan.Steps.{body_from, is_clean, end_from, last_part}
 use Rattle.typed_path.proofs.lemmas.components.BodyLemmas.{slice_after_front-first, slice_range-later}
-use Rattle.typed_path.proofs.lemmas.readings.LeftLemmas.{last_of-push, last_part-push, but_last-push, last_pushed}
+use Rattle.typed_path.proofs.lemmas.scan.LeftLemmas.{last_of-push, last_part-push, but_last-push, last_pushed}
 
 -- a component before a list that is not empty: the last of the list stays the last
 pub last_of-behind : (p c : Placed) (cs : List Placed) → last_of (p ∷ c ∷ cs) ≡ last_of (c ∷ cs)

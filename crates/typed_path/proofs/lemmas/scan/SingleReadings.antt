@@ -3,7 +3,7 @@ use Rattle.std.proofs.Common.{◌≡◌, ◌<◌, List, [], ◌∷◌, drop, len
 use Rattle.std.specs.Prelude.{Some, None}
 use Rattle.std.proofs.lemmas.Option.{same_Some}
 use Rattle.typed_path.specs.components.Part.{Part, Placed, parts}
-use Rattle.typed_path.specs.readings.Steps.{first_part}
+use Rattle.typed_path.specs.scan.Steps.{first_part}
 
 -- no component
 pub no_component : (cs : List Placed) → None ≡ first_part cs → parts cs ≡ []

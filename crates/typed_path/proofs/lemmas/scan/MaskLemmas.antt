@@ -8,7 +8,7 @@ use Rattle.std.proofs.lemmas.Bool.{cases_lt}
 use Rattle.std.proofs.lemmas.List.{get_or-map, get_or_past, length-map}
 use Rattle.std.proofs.lemmas.Nat.Bits.{bit_at-zero, bit_at_or}
 use Rattle.std.proofs.lemmas.Simd.{bit_mask_l, length-chunk, get_or-chunk}
-use Rattle.typed_path.specs.readings.Masks.{IsMask}
+use Rattle.typed_path.specs.scan.Masks.{IsMask}
 use lib.Lanes.{chunk}
 
 -- ---- masks

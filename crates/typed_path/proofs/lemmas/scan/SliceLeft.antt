@@ -3,7 +3,7 @@ use Rattle.std.proofs.Common.{◌≡◌, ℕ, ◌+◌, ◌-◌, ◌<◌, ◌==�
 use Rattle.std.proofs.lemmas.Bool.{and_left, and_from, cond-true, cond-false, eq-eqb, lt-ltb}
 use Rattle.std.proofs.lemmas.List.{take_all, take_rest}
 use Rattle.typed_path.specs.components.Part.{Placed}
-use Rattle.typed_path.specs.readings.Left.{left, start_at, end_at}
+use Rattle.typed_path.specs.scan.Left.{left, start_at, end_at}
 
 module _ (cs : List Placed) (text : List ℕ) (i j : ℕ) where
   -- where the slice left begins

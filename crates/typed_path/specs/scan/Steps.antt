@@ -8,7 +8,7 @@ use Rattle.typed_path.specs.declared.scan.begin.Begin.TheVariants.{Body, Inside}
 use Rattle.typed_path.specs.components.Dialect.{is_separator, is_verbatim}
 use Rattle.typed_path.specs.components.Part.{Part, Placed, end_of}
 use Rattle.typed_path.specs.components.Comps.{body, later_body, is_dot}
-use Rattle.typed_path.specs.readings.Left.{first_of, last_of, but_last, slice_after_front, slice_after_back}
+use Rattle.typed_path.specs.scan.Left.{first_of, last_of, but_last, slice_after_front, slice_after_back}
 
 -- the components of a text that begins at a place
 abbrev pub body_from : Begin → Separators → ℕ → List ℕ → List Placed

@@ -1,7 +1,7 @@
 -- The commands as the code tells them, and what each is called.
 use Rattle.std.specs.Prelude.{ℕ, List, [], ◌∷◌, codes}
 use Rattle.typed_path.specs.components.Dialect.{Dialect}
-use Rattle.typed_path.specs.lines.Lines.{reply_in, pair_reply_in, bad_line}
+use Rattle.typed_path.specs.script.Lines.{reply_in, pair_reply_in, bad_line}
 use Rattle.typed_path.specs.declared.script.lines.Command.{Command}
 use Rattle.typed_path.specs.declared.script.lines.Command.TheVariants.{Normalize, Components, Join, JoinChecked, Convert, ConvertChecked}
 

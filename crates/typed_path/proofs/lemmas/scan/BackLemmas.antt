@@ -12,13 +12,13 @@ use Rattle.std.specs.Option.{unwrap_or}
 use Rattle.typed_path.specs.components.Dialect.{dot, is_separator, root_text}
 use Rattle.typed_path.specs.components.Part.{Part, end_of, current_part, parent_part, name_part, root_part}
 use Rattle.typed_path.specs.components.Comps.{Segment, component, first, later_body}
-use Rattle.typed_path.specs.readings.Steps.{body_from, is_clean, is_trimmed, counts, end_from}
+use Rattle.typed_path.specs.scan.Steps.{body_from, is_clean, is_trimmed, counts, end_from}
 use Rattle.typed_path.proofs.lemmas.lists.SplitLemmas.{IsUnseparated}
 use Rattle.typed_path.proofs.lemmas.lists.LastLemmas.{IsLastPlace, last_place, after_last-drop, behind_last-unseparated, cut_last}
 use Rattle.typed_path.proofs.lemmas.components.BodyLemmas.{later_body-separator, later-first, body_from-empty, body_from-first}
 use Rattle.typed_path.proofs.lemmas.components.SegmentLemmas.{body_from-append, is_clean-append}
-use Rattle.typed_path.proofs.lemmas.readings.TrimLemmas.{later_body-last}
-use Rattle.typed_path.proofs.lemmas.readings.LeftLemmas.{last_of-push}
+use Rattle.typed_path.proofs.lemmas.scan.TrimLemmas.{later_body-last}
+use Rattle.typed_path.proofs.lemmas.scan.LeftLemmas.{last_of-push}
 
 -- how long the component of a segment is: the root is one byte long
 abbrev width : List ℕ → ℕ

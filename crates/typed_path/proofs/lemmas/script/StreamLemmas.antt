@@ -3,9 +3,9 @@ use Rattle.std.proofs.Common.{◌≡◌, inl, inr, ℕ, List, [], ◌∷◌, ◌
 use Rattle.std.specs.Prelude.{Option, Some, None}
 use Rattle.std.specs.Io.KnownBytes.{Appends, Consumes, IsAtEnd}
 use Rattle.std.proofs.lemmas.List.{take_at}
-use Rattle.typed_path.specs.lines.Lines.{answers, replies_to, complete_lines, open_line, all_lines}
-use Rattle.typed_path.specs.lines.Streams.{Streams, streams, KeepsIfTold, ConsumesIfTold, AppendsIfTold, WritesPart, AnswersAll, StopsWriting, RunsOut}
-use Rattle.typed_path.proofs.lemmas.lines.LineLemmas.{complete_lines-append, open_line-append, lines_of-open, replies_to-append}
+use Rattle.typed_path.specs.script.Lines.{answers, replies_to, complete_lines, open_line, all_lines}
+use Rattle.typed_path.specs.script.Streams.{Streams, streams, KeepsIfTold, ConsumesIfTold, AppendsIfTold, WritesPart, AnswersAll, StopsWriting, RunsOut}
+use Rattle.typed_path.proofs.lemmas.script.LineLemmas.{complete_lines-append, open_line-append, lines_of-open, replies_to-append}
 
 pub Appends-nothing : (told : Option (List ℕ)) → Appends told told []
 Appends-nothing None = tt

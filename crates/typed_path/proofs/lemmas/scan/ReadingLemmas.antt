@@ -4,8 +4,8 @@ use Rattle.std.proofs.lemmas.List.{length-drop, length-take, length-reverse, tak
 use Rattle.std.proofs.lemmas.Bool.{cases_lt, cond-true, cond-false, lt-ltb, le-ltb}
 use Rattle.std.proofs.lemmas.Option.{slice_get-get_or}
 use Rattle.typed_path.specs.components.Part.{Placed, current_part}
-use Rattle.typed_path.specs.readings.Left.{Side, front, back, first_of, last_of, but_last, items_between, answer, reads_after, reads}
-use Rattle.typed_path.specs.readings.Reading.{answers_after, items_after, fronts, backs, IsWhole}
+use Rattle.typed_path.specs.scan.Left.{Side, front, back, first_of, last_of, but_last, items_between, answer, reads_after, reads}
+use Rattle.typed_path.specs.scan.Reading.{answers_after, items_after, fronts, backs, IsWhole}
 
 -- what was taken from the back stands at the end of the list
 reverse-take-reverse : {X : Type 0} (xs : List X) (j : ℕ) → j ≤ length xs → reverse (take j (reverse xs)) ≡ drop (length xs - j) xs

@@ -3,7 +3,7 @@ use Rattle.std.specs.Prelude.{List, map, Option, option_map}
 use Rattle.typed_path.specs.declared.script.ends.End.{End}
 use Rattle.typed_path.specs.declared.script.ends.End.TheVariants.{Front, Back}
 use Rattle.typed_path.specs.components.Part.{Part, Placed}
-use Rattle.typed_path.specs.readings.Left.{Side, front, back}
+use Rattle.typed_path.specs.scan.Left.{Side, front, back}
 
 abbrev pub side_of : End → Side
 side_of Front = front
