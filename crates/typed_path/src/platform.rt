@@ -86,12 +86,17 @@ impl Encoding for PlatformEncoding {
         UnixEncoding::push_over(path, kept, other)
     }
 
-    fn put_normal(text: &mut Vec<u8>, path: &[u8]) -> Result<(), AllocError> {
-        UnixEncoding::put_normal(text, path)
+    fn push_next(
+        text: &mut Vec<u8>,
+        start: usize,
+        other: &[u8],
+        known: Option<usize>,
+    ) -> Result<Option<usize>, AllocError> {
+        UnixEncoding::push_next(text, start, other, known)
     }
 
-    fn put_crossed(text: &mut Vec<u8>, components: Cursor<'_>) -> Result<(), AllocError> {
-        UnixEncoding::put_crossed(text, components)
+    fn put_normal(text: &mut Vec<u8>, path: &[u8]) -> Result<(), AllocError> {
+        UnixEncoding::put_normal(text, path)
     }
 
     fn check(path: &[u8]) -> Result<(), CheckedPathError> {

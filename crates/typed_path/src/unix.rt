@@ -2,9 +2,9 @@
 
 mod component;
 mod components;
-mod crossed;
 mod encoding;
 mod normal;
+mod push;
 mod readings;
 
 use crate::common::{Path, PathBuf};

@@ -2,7 +2,6 @@
 
 mod component;
 mod components;
-mod crossed;
 mod encoding;
 mod normal;
 mod prefix;

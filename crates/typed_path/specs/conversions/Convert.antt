@@ -1,5 +1,5 @@
 -- A path in another dialect, made absolute, and told apart.
-use Rattle.std.specs.Prelude.{ℕ, List, [], ◌∷◌, Bool, true, false, ◌||◌, ◌==◌, ◌+◌, map, length, sum_by, slice_index, is_some, if◌then◌else◌, Option, Some, None, Ok, Err}
+use Rattle.std.specs.Prelude.{ℕ, List, [], ◌∷◌, Bool, true, false, ◌||◌, ◌==◌, map, slice_index, is_some, if◌then◌else◌, Option, Some, None, Ok, Err}
 use Rattle.std.specs.declared.result.Result.{Result}
 use Rattle.typed_path.specs.declared.errors.CheckedPathError.{CheckedPathError}
 use Rattle.typed_path.specs.components.Dialect.{Dialect, unix, windows, backslash, root_of}
@@ -23,10 +23,6 @@ crossed e p = if is_root p.kind then root_of e else p.text
 -- components pushed one by one, as they are written in a dialect
 abbrev pub crossed_all : Dialect → List Part → List ℕ
 crossed_all e ps = push_all e [] (map (crossed e) ps)
-
--- the room that this takes at most: each component as it is written, and a separator
-abbrev pub crossed_room : Dialect → List Part → ℕ
-crossed_room e ps = sum_by (λ p. length (crossed e p) + 1) ps
 
 -- a path in another dialect; in its own it stays as it is
 abbrev pub converted : Dialect → Dialect → List ℕ → List ℕ

@@ -15,10 +15,10 @@ ghost use Rattle.typed_path.specs.queries.Queries.{is_absolute, has_root, is_val
 ghost use Rattle.typed_path.specs.places.Places.{normal_text, keeps_nothing_aside};
 ghost use Rattle.typed_path.specs.changes.Push as push_spec;
 ghost use Rattle.typed_path.specs.changes.Push.{FitsPush};
+ghost use Rattle.typed_path.specs.changes.Spelled.{IsKnown};
 ghost use Rattle.typed_path.specs.changes.Fault.{fault};
 ghost use Rattle.typed_path.specs.order.Words.{path_words};
 ghost use Rattle.typed_path.specs.order.Same.{left_cmp, path_cmp};
-ghost use Rattle.typed_path.specs.conversions.Convert.{crossed_all, crossed_room};
 
 use crate::common::hash::feed;
 use crate::errors::{CheckedPathError, PathError};
@@ -135,6 +135,29 @@ pub trait Encoding: Sized {
         Self::push_over(path, path.len(), other)
     }
 
+    /// Pushes a path onto the one that stands behind the first bytes of a text, of which something may
+    /// be known, and answers what is known of what stands there then. Where memory is refused, the text
+    /// is as it was.
+    ///
+    /// So paths that are pushed one by one need not read what stands there anew for each.
+    fn push_next(
+        text: &mut Vec<u8>,
+        start: usize,
+        other: &[u8],
+        known: Option<usize>,
+    ) -> Result<Option<usize>, AllocError>
+        ensures ok { IsKnown dialect known (drop start text.old.items) → OnOk result
+            (text.new.items ≡ take start text.old.items
+            ++ push_spec.push dialect (drop start text.old.items) other.now) }
+        ensures known { start ≤ length text.old.items
+            → IsKnown dialect known (drop start text.old.items)
+            → IfOk result (λ next. IsKnown dialect next (drop start text.new.items)) }
+        ensures err { OnErr result (text.new.items ≡ text.old.items) }
+        ensures capacity { vec_capacity text.old ≤ vec_capacity text.new }
+        ensures succeeds { (room : ℕ) → start + room ≤ vec_capacity text.old
+            → IsKnown dialect known (drop start text.old.items)
+            → FitsPush dialect room (drop start text.old.items) other.now → IsOk result };
+
     /// Puts the normal text of a path behind a text: what its list resolves to, pushed one by one
     /// onto the empty path. Where memory is refused, the text is as it was. Where there is room for
     /// the whole path and a byte more behind the text, it succeeds on Unix, where nothing else is
@@ -146,20 +169,6 @@ pub trait Encoding: Sized {
         ensures succeeds { keeps_nothing_aside dialect ≡ true
             → vec_len text.old + length path.now < vec_capacity text.old
             → IsOk result };
-
-    /// Puts the components that are left of a reading, of whichever encoding, behind a text as they
-    /// are written in this one: pushed one by one onto the empty path, the root and every prefix but a
-    /// drive as this encoding's root. Where memory is refused, the text is as it was. Where there is
-    /// room behind the text for the components as they are written, with a byte more for each, it
-    /// succeeds on Unix, where nothing else is kept aside.
-    fn put_crossed(text: &mut Vec<u8>, components: Cursor<'_>) -> Result<(), AllocError>
-        ensures ok { OnOk result (text.new.items
-            ≡ text.old.items ++ crossed_all dialect (parts (items_left components.entry))) }
-        ensures err { OnErr result (text.new.items ≡ text.old.items) }
-        ensures capacity { vec_capacity text.old ≤ vec_capacity text.new }
-        ensures succeeds { keeps_nothing_aside dialect ≡ true
-            → vec_len text.old + crossed_room dialect (parts (items_left components.entry))
-            ≤ vec_capacity text.old → IsOk result };
 
     /// The normal text of a path, in room for one byte more than the path has.
     fn normal(alloc: Global, path: &[u8]) -> Result<Vec<u8>, AllocError>

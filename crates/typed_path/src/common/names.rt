@@ -105,3 +105,21 @@ pub fn drop_separator(text: &mut Vec<u8>, len: usize)
         text.pop();
     }
 }
+
+/// Cuts a text back to its first bytes where memory was refused.
+#[inline(always)]
+pub fn cut_back(
+    text: &mut Vec<u8>,
+    len: usize,
+    done: Result<(), AllocError>,
+) -> Result<(), AllocError>
+    ensures same { result ≡ done }
+    ensures ok { OnOk result (text.new.items ≡ text.old.items) }
+    ensures err { OnErr result (text.new.items ≡ take len text.old.items) }
+    ensures capacity { vec_capacity text.new ≡ vec_capacity text.old }
+{
+    if done.is_err() {
+        text.truncate(len);
+    }
+    done
+}

@@ -61,8 +61,9 @@ impl<'p, T: Encoding> Extend<Path<'p, T>> for PathBuf<T> {
 
     fn extend<U: IntoIterator<Item = Path<'p, T>>>(&mut self, paths: U) -> Result<(), AllocError> {
         let mut rest = paths.into_iter();
-        while let Some(path) = rest.next() {
-            self.push(path)?;
+        let mut known = None;
+        'paths: while let Some(path) = rest.next() {
+            known = self.push_next(path, known)?;
         }
         Ok(())
     }

@@ -31,6 +31,7 @@ impl<T: Encoding> PathBuf<T> {
     ghost use Rattle.typed_path.specs.promises.Promises.{HasPrefixOf, LiesWithin};
     ghost use Rattle.typed_path.specs.changes.Push as push_spec;
     ghost use Rattle.typed_path.specs.changes.Push.{FitsPush};
+    ghost use Rattle.typed_path.specs.changes.Spelled.{IsKnown};
     ghost use Rattle.typed_path.specs.changes.Fault.{fault};
     ghost use Rattle.typed_path.specs.queries.Queries.{parent_of, file_name_of};
     ghost use Rattle.typed_path.specs.changes.Changes.{popped, without_file_name, with_file_name, with_extension};
@@ -105,6 +106,26 @@ impl<T: Encoding> PathBuf<T> {
             → IsOk result }
     {
         T::push(&mut self.inner, path.as_bytes())
+    }
+
+    /// Pushes a path onto this one, of which something may be known, and answers what is known of it
+    /// then: so paths that are pushed one by one need not read this one anew for each.
+    pub(crate) fn push_next(
+        &mut self,
+        path: Path<'_, T>,
+        known: Option<usize>,
+    ) -> Result<Option<usize>, AllocError>
+        ensures ok { IsKnown T.dialect known self.old.bytes → OnOk result
+            (self.new.bytes ≡ push_spec.push T.dialect self.old.bytes (path_bytes path.entry)) }
+        ensures known { IsKnown T.dialect known self.old.bytes
+            → IfOk result (λ next. IsKnown T.dialect next self.new.bytes) }
+        ensures err { OnErr result (self.new.bytes ≡ self.old.bytes) }
+        ensures capacity { self.old.capacity ≤ self.new.capacity }
+        ensures succeeds { IsKnown T.dialect known self.old.bytes
+            → FitsPush T.dialect self.old.capacity self.old.bytes (path_bytes path.entry)
+            → IsOk result }
+    {
+        T::push_next(&mut self.inner, 0, path.as_bytes(), known)
     }
 
     /// Pushes a path onto this one, unless it has a component that offends.

@@ -1,14 +1,16 @@
 //! A path of one encoding written in another.
 
-ghost use Rattle.std.specs.Prelude.{◌≡◌, ◌++◌, OnOk, OnErr, Result, Ok, Err, Some};
+ghost use Rattle.std.specs.Prelude.{◌≡◌, ◌≤◌, ◌+◌, ◌++◌, ℕ, [], map, take, drop, length, IsOk, OnOk, OnErr, Result, Ok, Err, Some};
+ghost use Rattle.std.specs.Vec.{vec_capacity};
 ghost use Rattle.typed_path.specs.declared.errors.CheckedPathError.{CheckedPathError};
 ghost use Rattle.typed_path.specs.components.Comps.{parts_of};
-ghost use Rattle.typed_path.specs.conversions.Convert.{same_dialect, converted, crossed, passes, push_unless, crossing_fault, push_checked_each};
-ghost use Rattle.typed_path.specs.changes.Checked.{refusal};
+ghost use Rattle.typed_path.specs.conversions.Convert.{same_dialect, converted, crossed, crossed_all, passes, crossing_fault, push_checked_each};
+ghost use Rattle.typed_path.specs.changes.Checked.{refusal, error_of};
+ghost use Rattle.typed_path.specs.changes.Run.{FitsEach};
 ghost use Rattle.typed_path.specs.views.PieceViews.{part_of};
 
-use crate::common::{Encoding, Path, PathBuf};
-use crate::errors::PathError;
+use crate::common::{Encoding, Path, PathBuf, cut_back};
+use crate::errors::{CheckedPathError, PathError};
 use crate::scan::{Piece, PieceKind};
 use std::alloc::{AllocError, Global};
 
@@ -72,10 +74,35 @@ pub fn put_converted<T: Encoding, U: Encoding>(
     ensures err { OnErr result (text.new.items ≡ text.old.items) }
 {
     if have_one_label::<T, U>() {
-        text.extend_from_slice(path)
-    } else {
-        U::put_crossed(text, T::cursor(path))
+        return text.extend_from_slice(path);
     }
+    let len = text.len();
+    let done = push_each::<T, U>(text, len, path);
+    cut_back(text, len, done)
+}
+
+/// Pushes the components of a path, as they are written in another encoding, onto the empty path at
+/// the end of a text.
+fn push_each<T: Encoding, U: Encoding>(
+    text: &mut Vec<u8>,
+    start: usize,
+    path: &[u8],
+) -> Result<(), AllocError>
+    requires { length text.old.items ≡ start }
+    ensures ok { OnOk result (drop start text.new.items
+        ≡ crossed_all U.dialect (parts_of T.dialect path.now)) }
+    ensures kept { take start text.new.items ≡ take start text.old.items }
+    ensures long { start ≤ length text.new.items }
+    ensures succeeds { (room : ℕ) → start + room ≤ vec_capacity text.old
+        → FitsEach U.dialect room [] (map (crossed U.dialect) (parts_of T.dialect path.now))
+        → IsOk result }
+{
+    let mut components = T::cursor(path);
+    let mut known = None;
+    'pieces: while let Some(piece) = T::front(&mut components) {
+        known = U::push_next(text, start, piece.crossed(U::root_text()), known)?;
+    }
+    Ok(())
 }
 
 /// Pushes the components of a path onto one of another encoding by checked pushes, and ends at the
@@ -90,26 +117,23 @@ pub fn convert_checked<T: Encoding, U: Encoding>(
         → push_checked_each U.dialect (Ok text.old.items) (parts_of T.dialect path.now) ≡ Err e }
 {
     let mut components = T::cursor(path);
+    let mut known = None;
     'pieces: while let Some(piece) = T::front(&mut components) {
-        push_piece_checked::<U>(text, piece)?;
+        judge::<U>(piece)?;
+        known = U::push_next(text, 0, piece.crossed(U::root_text()), known)?;
     }
     Ok(())
 }
 
-/// Pushes a component onto a path of another encoding, unless it is no root, `.` or `..` and a
-/// checked push refuses it.
-fn push_piece_checked<U: Encoding>(text: &mut Vec<u8>, piece: Piece<'_>) -> Result<(), PathError>
-    ensures ok { OnOk result (push_unless U.dialect text.old.items
-        (crossing_fault U.dialect (part_of piece.entry))
-        (crossed U.dialect (part_of piece.entry)) ≡ Ok text.new.items) }
-    ensures refused { (e : CheckedPathError) → refusal result ≡ Some e
-        → push_unless U.dialect text.old.items (crossing_fault U.dialect (part_of piece.entry))
-        (crossed U.dialect (part_of piece.entry)) ≡ Err e }
+/// Judges a component that is to be pushed onto a path of another encoding. A root, `.` or `..` is
+/// never refused.
+fn judge<U: Encoding>(piece: Piece<'_>) -> Result<(), CheckedPathError>
+    ensures { error_of result ≡ crossing_fault U.dialect (part_of piece.entry) }
 {
     if passes(piece) {
-        Ok(U::push(text, piece.crossed(U::root_text()))?)
+        Ok(())
     } else {
-        U::push_checked(text, piece.text)
+        U::check(piece.text)
     }
 }
 

@@ -133,8 +133,9 @@ fn push_each<T: Encoding>(path: &mut PathBuf<T>, others: &[&[u8]]) -> Result<(),
         (map (λ b. b.now) others.now)
         → IsOk result }
 {
+    let mut known = None;
     'others: for other in others {
-        path.push(Path::new(other))?;
+        known = path.push_next(Path::new(other), known)?;
     }
     Ok(())
 }

@@ -3,11 +3,11 @@
 ghost use Rattle.std.specs.Prelude.{false};
 ghost use Rattle.typed_path.specs.components.Dialect.{unix};
 
-use crate::common::{Encoding, put_over};
+use crate::common::Encoding;
 use crate::errors::CheckedPathError;
 use crate::scan::{Cursor, Piece, Separators, base_end, cursors_behind_shared};
-use crate::unix::crossed::put_crossed;
 use crate::unix::normal::put_normal;
+use crate::unix::push::push_at;
 use std::alloc::AllocError;
 use std::fmt;
 
@@ -81,25 +81,24 @@ impl Encoding for UnixEncoding {
 
     fn push_over(path: &mut Vec<u8>, kept: usize, other: &[u8]) -> Result<(), AllocError> {
         let kept = kept.min(path.len());
-        match other {
-            [] => {
-                path.truncate(kept);
-                Ok(())
-            }
-            [b'/', ..] => put_over(path, 0, b"", other),
-            _ => match &path[..kept] {
-                [] | [.., b'/'] => put_over(path, kept, b"", other),
-                _ => put_over(path, kept, b"/", other),
-            },
-        }
+        push_at(path, 0, kept, other)
+    }
+
+    // Nothing needs to be known of a path: what a push puts depends on its last byte alone.
+    #[inline]
+    fn push_next(
+        text: &mut Vec<u8>,
+        start: usize,
+        other: &[u8],
+        _known: Option<usize>,
+    ) -> Result<Option<usize>, AllocError> {
+        let len = text.len();
+        push_at(text, start.min(len), len, other)?;
+        Ok(None)
     }
 
     fn put_normal(text: &mut Vec<u8>, path: &[u8]) -> Result<(), AllocError> {
         put_normal(text, path)
-    }
-
-    fn put_crossed(text: &mut Vec<u8>, components: Cursor<'_>) -> Result<(), AllocError> {
-        put_crossed(text, components)
     }
 
     fn check(path: &[u8]) -> Result<(), CheckedPathError> {

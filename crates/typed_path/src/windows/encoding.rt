@@ -10,9 +10,8 @@ ghost use Rattle.typed_path.specs.views.CursorViews.{slice_left, items_left, cur
 use crate::common::Encoding;
 use crate::errors::CheckedPathError;
 use crate::scan::{Cursor, Piece, Separators, WindowsPrefix, find_prefix};
-use crate::windows::crossed::put_crossed;
 use crate::windows::normal::put_normal;
-use crate::windows::push::push_at;
+use crate::windows::push::{push_at, push_next};
 use std::alloc::AllocError;
 use std::fmt;
 
@@ -79,12 +78,19 @@ impl Encoding for WindowsEncoding {
         push_at(path, 0, kept, other, None)
     }
 
-    fn put_normal(text: &mut Vec<u8>, path: &[u8]) -> Result<(), AllocError> {
-        put_normal(text, path)
+    #[inline]
+    fn push_next(
+        text: &mut Vec<u8>,
+        start: usize,
+        other: &[u8],
+        known: Option<usize>,
+    ) -> Result<Option<usize>, AllocError> {
+        let start = start.min(text.len());
+        push_next(text, start, other, known)
     }
 
-    fn put_crossed(text: &mut Vec<u8>, components: Cursor<'_>) -> Result<(), AllocError> {
-        put_crossed(text, components)
+    fn put_normal(text: &mut Vec<u8>, path: &[u8]) -> Result<(), AllocError> {
+        put_normal(text, path)
     }
 
     fn check(path: &[u8]) -> Result<(), CheckedPathError> {

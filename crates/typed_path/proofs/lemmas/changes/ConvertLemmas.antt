@@ -2,6 +2,7 @@
 use Rattle.std.proofs.Common.{◌≡◌, ℕ, List, [], ◌∷◌, Some, refl, sym, ap, ◌∙◌}
 use Rattle.std.specs.Prelude.{Result, Ok, Err, IsErrAnd}
 use Rattle.typed_path.specs.declared.errors.PathError.{PathError}
+use Rattle.typed_path.specs.declared.errors.PathError.TheVariants.{Checked}
 use Rattle.typed_path.specs.changes.Checked.{refusal}
 use Rattle.typed_path.specs.declared.errors.CheckedPathError.{CheckedPathError}
 use Rattle.typed_path.specs.components.Dialect.{Dialect}
@@ -27,7 +28,7 @@ refused-whole e base f p ps qs split refused = ap (push_checked_each e (Ok base)
 pub pushed-all : (e : Dialect) (base : List ℕ) (ps : List Part) → ps ≡ [] → push_checked_each e (Ok base) ps ≡ Ok base
 pushed-all e base ps none = ap (push_checked_each e (Ok base)) none
 
--- a refusal that a call passes on
-pub refusal-passed : {A : Type 0} (r : Result A PathError) (e : PathError) → IsErrAnd r (λ y. y ≡ e) → (f : CheckedPathError) → refusal r ≡ Some f → refusal {A = A} (Err e) ≡ Some f
-refusal-passed (Ok x) e is f told = absurd is
-refusal-passed {A = A} (Err y) e is f told = ap (λ z. refusal {A = A} (Err z)) (sym is) ∙ told
+-- a fault that a call passes on
+pub fault-passed : {A : Type 0} (r : Result A PathError) (f : CheckedPathError) → IsErrAnd r (λ y. y ≡ Checked f) → (e : CheckedPathError) → refusal r ≡ Some e → Some f ≡ Some e
+fault-passed (Ok x) f is e told = absurd is
+fault-passed {A = A} (Err y) f is e told = ap (λ z. refusal {A = A} (Err z)) (sym is) ∙ told

@@ -1,10 +1,11 @@
 -- Components of another dialect pushed one by one onto the path at the end of a text.
-use Rattle.std.proofs.Common.{◌≡◌, ◌≤◌, ◌+◌, ◌-◌, ℕ, List, [], ◌∷◌, ◌++◌, map, length, take, drop, slice_range, sym, ap, ◌∙◌, length-append, length-take-le, arith}
+use Rattle.std.proofs.Common.{◌≡◌, ◌≤◌, ◌+◌, ◌-◌, ℕ, List, [], ◌∷◌, ◌++◌, map, length, take, drop, slice_range, sym, ap, subst, ◌∙◌, length-append, length-take-le, arith}
 use Rattle.std.proofs.Math.Seq.{drop-append_seam, take-append_seam}
 use Rattle.std.proofs.lemmas.List.{drop-take, take_all, length-drop}
 use Rattle.typed_path.specs.components.Dialect.{Dialect}
 use Rattle.typed_path.specs.components.Part.{Part}
-use Rattle.typed_path.specs.changes.Push.{push, push_all}
+use Rattle.typed_path.specs.changes.Push.{push, push_all, FitsPush}
+use Rattle.typed_path.specs.changes.Run.{FitsEach}
 use Rattle.typed_path.specs.conversions.Convert.{crossed}
 
 -- one component more is pushed
@@ -12,6 +13,11 @@ pub crossed-next : (e : Dialect) (goal text next : List ℕ) (p : Part) (old res
     → goal ≡ push_all e text (map (crossed e) old) → goal ≡ push_all e next (map (crossed e) rest)
 crossed-next e goal text next p old rest step pushed h =
     h ∙ ap (λ ps. push_all e text (map (crossed e) ps)) step ∙ ap (λ t. push_all e t (map (crossed e) rest)) (sym pushed)
+
+-- and there is room for it, and for those behind it
+pub crossed-fits : (e : Dialect) (room : ℕ) (text : List ℕ) (p : Part) (old rest : List Part) → old ≡ p ∷ rest → FitsEach e room text (map (crossed e) old)
+    → FitsPush e room text (crossed e p) × FitsEach e room (push e text (crossed e p)) (map (crossed e) rest)
+crossed-fits e room text p old rest step fits = subst (λ ps. FitsEach e room text (map (crossed e) ps)) step fits
 
 -- none is left
 pub crossed-end : (e : Dialect) (goal text : List ℕ) (ps : List Part) → ps ≡ [] → goal ≡ push_all e text (map (crossed e) ps) → text ≡ goal
