@@ -1,5 +1,5 @@
 -- A path in another dialect, made absolute, and told apart.
-use Rattle.std.specs.Prelude.{ℕ, List, [], ◌∷◌, Bool, true, false, ◌||◌, ◌==◌, map, slice_index, is_some, if◌then◌else◌, Option, Some, None, Ok, Err}
+use Rattle.std.specs.Prelude.{ℕ, List, [], ◌∷◌, Bool, true, false, ◌||◌, ◌==◌, ◌≤◌, map, length, slice_index, is_some, if◌then◌else◌, Option, Some, None, Ok, Err}
 use Rattle.std.specs.declared.result.Result.{Result}
 use Rattle.typed_path.specs.declared.errors.CheckedPathError.{CheckedPathError}
 use Rattle.typed_path.specs.components.Dialect.{Dialect, unix, windows, backslash, root_of}
@@ -8,6 +8,7 @@ use Rattle.typed_path.specs.components.Prefix.{prefix_of}
 use Rattle.typed_path.specs.components.Comps.{parts_of}
 use Rattle.typed_path.specs.queries.Queries.{is_root, is_absolute}
 use Rattle.typed_path.specs.changes.Push.{push, push_all}
+use Rattle.typed_path.specs.changes.Run.{FitsEach}
 use Rattle.typed_path.specs.changes.Fault.{fault}
 use Rattle.typed_path.specs.places.Places.{normal_text}
 
@@ -27,6 +28,14 @@ crossed_all e ps = push_all e [] (map (crossed e) ps)
 -- a path in another dialect; in its own it stays as it is
 abbrev pub converted : Dialect → Dialect → List ℕ → List ℕ
 converted d e t = if same_dialect d e then t else crossed_all e (parts_of d t)
+
+-- there is room for a path in another dialect: for its bytes where they are copied, and else for each push
+abbrev pub FitsConvertedBy : Dialect → Dialect → ℕ → List ℕ → Bool → Type 0
+FitsConvertedBy d e room t true = length t ≤ room
+FitsConvertedBy d e room t false = FitsEach e room [] (map (crossed e) (parts_of d t))
+
+abbrev pub FitsConverted : Dialect → Dialect → ℕ → List ℕ → Type 0
+FitsConverted d e room t = FitsConvertedBy d e room t (same_dialect d e)
 
 -- roots, `.` and `..` are never refused
 abbrev pub passes : Kind → Bool

@@ -42,8 +42,3 @@ place d t = with_implied_root (kinds (resolve (parts_of d t)))
 -- the normal text: what the list resolves to, pushed one by one
 abbrev pub normal_text : Dialect → List ℕ → List ℕ
 normal_text d t = push_all d [] (texts (resolve (parts_of d t)))
-
--- whether the normal text is written with nothing kept aside: on Windows a name may replace the text, so names wait until the list is read
-abbrev pub keeps_nothing_aside : Dialect → Bool
-keeps_nothing_aside unix = true
-keeps_nothing_aside windows = false

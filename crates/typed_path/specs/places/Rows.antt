@@ -1,11 +1,12 @@
 -- The normal text as it is written behind a text: a head, and then each name with a separator behind it.
-use Rattle.std.specs.Prelude.{◌≡◌, ◌⊎◌, ◌<◌, ◌≤◌, ℕ, ◌-◌, List, [], ◌∷◌, ◌++◌, true, false, ◌||◌, ◌==◌, length, take, drop, if◌then◌else◌, Some, None}
+use Rattle.std.specs.Prelude.{◌≡◌, ◌⊎◌, ◌<◌, ◌≤◌, ℕ, ◌-◌, List, [], ◌∷◌, ◌++◌, true, false, ◌||◌, ◌==◌, length, take, drop, if◌then◌else◌, Some, None, ⊤}
 use Rattle.std.specs.List.{list_any, flat_map, fold, slice_split, All, AllByRecursion}
 use Rattle.typed_path.specs.declared.scan.separators.Separators.{Separators}
 use Rattle.typed_path.specs.declared.scan.separators.Separators.TheVariants.{Slash, Backslash, Either}
-use Rattle.typed_path.specs.components.Dialect.{windows, slash, backslash, separators, is_separator, is_verbatim}
+use Rattle.typed_path.specs.components.Dialect.{Dialect, unix, windows, slash, backslash, separators, is_separator, is_verbatim}
 use Rattle.typed_path.specs.components.Comps.{is_dot, is_dot_dot}
-use Rattle.typed_path.specs.components.Prefix.{Found, drive}
+use Rattle.typed_path.specs.components.Prefix.{Found, drive, prefix_of}
+use Rattle.typed_path.specs.changes.Push.{raw_length, raw_prefix, spells_anew}
 use Rattle.typed_path.specs.places.Places.{normal_text}
 use Rattle.typed_path.specs.promises.Promises.{is_verbatim_unc_name}
 
@@ -76,3 +77,13 @@ pub record TakesRows (path : List ℕ) (f : Found) (root rest : List ℕ) : Type
   pub no_unc : is_verbatim_unc_name (Some f.prefix) ≡ false
   pub ends : length root ≡ 0 → length rest ≡ 0
   pub slashless : is_verbatim (separators windows path) ≡ true → list_any (is_separator Slash) (drop f.length path) ≡ false
+
+-- each name of a path is put behind the ones before it in the normal text: on Windows it has no verbatim kind, and behind its prefix no piece begins with a drive, which would replace what stands
+abbrev pub HasPlainNames : Dialect → List ℕ → Type 0
+HasPlainNames unix path = ⊤
+HasPlainNames windows path =
+    (spells_anew windows path ≡ false) × HaveNoDrives (slice_split (is_separator Either) (drop (raw_length (prefix_of windows path)) path))
+
+-- a path of Windows is its prefix, a root or none, and the rest
+abbrev pub IsHeadOf : List ℕ → List ℕ → List ℕ → List ℕ → Type 0
+IsHeadOf path raw root rest = (raw ≡ raw_prefix path) × IsPartedEither (drop (raw_length (prefix_of windows path)) path) root rest

@@ -12,7 +12,8 @@ ghost use Rattle.typed_path.specs.views.PieceViews.{part_of};
 ghost use Rattle.typed_path.specs.views.CursorViews.{slice_left, items_left};
 ghost use Rattle.typed_path.specs.components.Part.{kinds, parts};
 ghost use Rattle.typed_path.specs.queries.Queries.{is_absolute, has_root, is_valid_name, stripped};
-ghost use Rattle.typed_path.specs.places.Places.{normal_text, keeps_nothing_aside};
+ghost use Rattle.typed_path.specs.places.Places.{normal_text};
+ghost use Rattle.typed_path.specs.places.Rows.{HasPlainNames};
 ghost use Rattle.typed_path.specs.changes.Push as push_spec;
 ghost use Rattle.typed_path.specs.changes.Push.{FitsPush};
 ghost use Rattle.typed_path.specs.changes.Spelled.{IsKnown};
@@ -64,20 +65,14 @@ pub trait Encoding: Sized {
         ensures taken { option_map part_of result ≡ first_part (items_left cursor.old) }
         ensures items { items_left cursor.new ≡ drop 1 (items_left cursor.old) }
         ensures slice { slice_left cursor.new
-            ≡ slice_after_front (items_left cursor.old) (slice_left cursor.old) }
-    {
-        cursor.front()
-    }
+            ≡ slice_after_front (items_left cursor.old) (slice_left cursor.old) };
 
     /// Takes the last component that is left, with the separators before it.
     fn back<'a>(cursor: &mut Cursor<'a>) -> Option<Piece<'a>>
         ensures taken { option_map part_of result ≡ last_part (items_left cursor.old) }
         ensures items { items_left cursor.new ≡ but_last (items_left cursor.old) }
         ensures slice { slice_left cursor.new
-            ≡ slice_after_back (items_left cursor.old) (slice_left cursor.old) }
-    {
-        cursor.back()
-    }
+            ≡ slice_after_back (items_left cursor.old) (slice_left cursor.old) };
 
     /// Whether the components that are left begin an absolute path.
     fn absolute(cursor: &Cursor<'_>) -> bool
@@ -160,13 +155,13 @@ pub trait Encoding: Sized {
 
     /// Puts the normal text of a path behind a text: what its list resolves to, pushed one by one
     /// onto the empty path. Where memory is refused, the text is as it was. Where there is room for
-    /// the whole path and a byte more behind the text, it succeeds on Unix, where nothing else is
-    /// kept aside.
+    /// the whole path and a byte more behind the text, it succeeds for each path whose names are put
+    /// one behind the other.
     fn put_normal(text: &mut Vec<u8>, path: &[u8]) -> Result<(), AllocError>
         ensures ok { OnOk result (text.new.items ≡ text.old.items ++ normal_text dialect path.now) }
         ensures err { OnErr result (text.new.items ≡ text.old.items) }
         ensures capacity { vec_capacity text.old ≤ vec_capacity text.new }
-        ensures succeeds { keeps_nothing_aside dialect ≡ true
+        ensures succeeds { HasPlainNames dialect path.now
             → vec_len text.old + length path.now < vec_capacity text.old
             → IsOk result };
 

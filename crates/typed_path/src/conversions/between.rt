@@ -4,7 +4,7 @@ ghost use Rattle.std.specs.Prelude.{◌≡◌, ◌≤◌, ◌+◌, ◌++◌, ℕ
 ghost use Rattle.std.specs.Vec.{vec_capacity};
 ghost use Rattle.typed_path.specs.declared.errors.CheckedPathError.{CheckedPathError};
 ghost use Rattle.typed_path.specs.components.Comps.{parts_of};
-ghost use Rattle.typed_path.specs.conversions.Convert.{same_dialect, converted, crossed, crossed_all, passes, crossing_fault, push_checked_each};
+ghost use Rattle.typed_path.specs.conversions.Convert.{same_dialect, converted, FitsConverted, crossed, crossed_all, passes, crossing_fault, push_checked_each};
 ghost use Rattle.typed_path.specs.changes.Checked.{refusal, error_of};
 ghost use Rattle.typed_path.specs.changes.Run.{FitsEach};
 ghost use Rattle.typed_path.specs.views.PieceViews.{part_of};
@@ -72,6 +72,8 @@ pub fn put_converted<T: Encoding, U: Encoding>(
     ensures ok { OnOk result (text.new.items
         ≡ text.old.items ++ converted T.dialect U.dialect path.now) }
     ensures err { OnErr result (text.new.items ≡ text.old.items) }
+    ensures succeeds { (room : ℕ) → length text.old.items + room ≤ vec_capacity text.old
+        → FitsConverted T.dialect U.dialect room path.now → IsOk result }
 {
     if have_one_label::<T, U>() {
         return text.extend_from_slice(path);

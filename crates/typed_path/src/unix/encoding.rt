@@ -50,7 +50,6 @@ impl Encoding for UnixEncoding {
         cursors_behind_shared(path, other, Separators::Slash)
     }
 
-    // A default body keeps its hint to itself, so both steps stand here too.
     #[inline(always)]
     fn front<'a>(cursor: &mut Cursor<'a>) -> Option<Piece<'a>> {
         cursor.front()

@@ -1,16 +1,17 @@
 //! The normal text of a Windows path.
 
-ghost use Rattle.std.specs.Prelude.{◌≡◌, ◌<◌, ◌≤◌, ◌-◌, ◌++◌, ℕ, List, [], take, drop, length, map, IsTrue, IfSome, IfOk, OnOk, OnErr, None};
-ghost use Rattle.std.specs.Vec.{vec_capacity};
+ghost use Rattle.std.specs.Prelude.{◌≡◌, ◌<◌, ◌≤◌, ◌+◌, ◌-◌, ◌++◌, ℕ, List, [], false, take, drop, length, map, IsTrue, IsSome, IfSome, IsOk, IfOk, OnOk, OnErr, None};
+ghost use Rattle.std.specs.List.{slice_split};
+ghost use Rattle.std.specs.Vec.{vec_len, vec_capacity};
 ghost use Rattle.typed_path.specs.declared.scan.separators.Separators.{Separators};
-ghost use Rattle.typed_path.specs.components.Dialect.{windows};
+ghost use Rattle.typed_path.specs.components.Dialect.{windows, is_separator};
 ghost use Rattle.typed_path.specs.components.Prefix.{prefix_of, drive};
-ghost use Rattle.typed_path.specs.changes.Push.{push_windows, push_all};
+ghost use Rattle.typed_path.specs.changes.Push.{push_windows, push_all, spells_anew};
 ghost use Rattle.typed_path.specs.places.Places.{normal_text};
-ghost use Rattle.typed_path.specs.places.Rows.{rows_of, settled, AreRowsOf, ArePlainRows, IsRowHead, IsPartedEither, TakesRows};
+ghost use Rattle.typed_path.specs.places.Rows.{rows_of, settled, AreRowsOf, ArePlainRows, IsRowHead, IsPartedEither, TakesRows, HaveNoDrives, HasPlainNames, IsHeadOf};
 ghost use Rattle.typed_path.specs.views.PieceViews.{found_of};
 
-use crate::common::{drop_name, drop_separator};
+use crate::common::{cut_back, drop_name, drop_separator};
 use crate::scan::{
     Found, PieceKind, Separators, WindowsPrefix, cut_at_separator, drive, find_prefix, piece_of,
 };
@@ -31,13 +32,12 @@ pub fn put_normal(text: &mut Vec<u8>, path: &[u8]) -> Result<(), AllocError>
     ensures ok { OnOk result (text.new.items ≡ text.old.items ++ normal_text windows path.now) }
     ensures err { OnErr result (text.new.items ≡ text.old.items) }
     ensures capacity { vec_capacity text.old ≤ vec_capacity text.new }
+    ensures succeeds { HasPlainNames windows path.now
+        → vec_len text.old + length path.now < vec_capacity text.old → IsOk result }
 {
     let len = text.len();
-    if let Err(refused) = put_resolved(text, len, path) {
-        text.truncate(len);
-        return Err(refused);
-    }
-    Ok(())
+    let done = put_resolved(text, len, path);
+    cut_back(text, len, done)
 }
 
 /// Puts the normal text of a path behind a text, row by row or push by push.
@@ -48,6 +48,8 @@ fn put_resolved(text: &mut Vec<u8>, start: usize, path: &[u8]) -> Result<(), All
     ensures kept { take start text.new.items ≡ take start text.old.items }
     ensures long { start ≤ length text.new.items }
     ensures capacity { vec_capacity text.old ≤ vec_capacity text.new }
+    ensures succeeds { HasPlainNames windows path.now
+        → vec_len text.old + length path.now < vec_capacity text.old → IsOk result }
 {
     if let Some(head) = head_of(path) {
         if put_rows(text, head)? {
@@ -72,8 +74,11 @@ struct Head<'a> {
 /// The head of a path behind which names are put in rows, where it is one.
 #[inline(always)]
 fn head_of(path: &[u8]) -> Option<Head<'_>>
-    ensures { IfSome result (λ head.
+    ensures rows { IfSome result (λ head.
         IsRowHead path.now (head.prefix.now ++ head.root.now) head.rest.now) }
+    ensures head { IfSome result (λ head.
+        IsHeadOf path.now head.prefix.now head.root.now head.rest.now) }
+    ensures found { spells_anew windows path.now ≡ false → IsSome result }
 {
     let Some(found) = find_prefix(path) else {
         return Some(head_behind(path, 0));
@@ -93,8 +98,10 @@ fn head_of(path: &[u8]) -> Option<Head<'_>>
 #[inline(always)]
 fn takes_rows(path: &[u8], found: Found<'_>, head: Head<'_>) -> bool
     requires { found.length ≤ length path.now }
-    ensures { IsTrue result → TakesRows path.now (found_of found.entry)
+    ensures takes { IsTrue result → TakesRows path.now (found_of found.entry)
         head.entry.root.now head.entry.rest.now }
+    ensures told { TakesRows path.now (found_of found.entry)
+        head.entry.root.now head.entry.rest.now → IsTrue result }
 {
     let behind = &path[found.length..];
     !matches!(found.kind, WindowsPrefix::Verbatim(b"UNC"))
@@ -133,6 +140,10 @@ fn put_rows(text: &mut Vec<u8>, head: Head<'_>) -> Result<bool, AllocError>
         → text.new.items ≡ text.old.items ++ normal_text windows path) }
     ensures kept { take (length text.old.items) text.new.items ≡ text.old.items }
     ensures capacity { vec_capacity text.old ≤ vec_capacity text.new }
+    ensures succeeds { vec_len text.old + length head.entry.prefix.now + length head.entry.root.now
+        + length head.entry.rest.now < vec_capacity text.old → IsOk result }
+    ensures told { HaveNoDrives (slice_split (is_separator Separators.Either) head.entry.rest.now)
+        → IfOk result (λ done. IsTrue done) }
 {
     text.extend_from_slice(head.prefix)?;
     text.extend_from_slice(head.root)?;
@@ -154,6 +165,9 @@ fn settle_all(text: &mut Vec<u8>, len: usize, path: &[u8]) -> Result<bool, Alloc
     ensures kept { take len text.new.items ≡ take len text.old.items }
     ensures long { len ≤ length text.new.items }
     ensures capacity { vec_capacity text.old ≤ vec_capacity text.new }
+    ensures succeeds { vec_len text.old + length path.now < vec_capacity text.old → IsOk result }
+    ensures told { HaveNoDrives (slice_split (is_separator Separators.Either) path.now)
+        → IfOk result (λ plain. IsTrue plain) }
 {
     let mut rest = path;
     'segments: while let Some((segment, behind)) = cut_at_separator(Separators::Either, rest) {
@@ -174,9 +188,12 @@ fn settle(text: &mut Vec<u8>, len: usize, segment: &[u8]) -> Result<bool, AllocE
         → length head ≡ len → AreRowsOf Separators.Either text.old.items head names
         → text.new.items ≡ head ++ rows_of Separators.Either (settled names segment.now)) }
     ensures plain { IfOk result (λ plain. IsTrue plain → drive segment.now ≡ None) }
+    ensures told { drive segment.now ≡ None → IfOk result (λ plain. IsTrue plain) }
     ensures kept { take len text.new.items ≡ take len text.old.items }
     ensures long { len ≤ length text.new.items }
+    ensures room { vec_len text.new ≤ vec_len text.old + length segment.now + 1 }
     ensures capacity { vec_capacity text.old ≤ vec_capacity text.new }
+    ensures succeeds { vec_len text.old + length segment.now < vec_capacity text.old → IsOk result }
 {
     if drive(segment).is_some() {
         return Ok(false);

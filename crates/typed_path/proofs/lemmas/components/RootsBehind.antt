@@ -1,14 +1,19 @@
 -- What stands right behind a prefix of Windows that is not the whole text: a root, unless the prefix is a drive.
-use Rattle.std.proofs.Common.{◌≡◌, ℕ, ◌+◌, ◌<◌, ◌≤◌, Bool, true, false, if◌then◌else◌, ◌⊎◌, inl, inr, List, length, drop, Some, refl, sym, ap, ◌∙◌, subst, length-drop, arith}
+use Rattle.std.proofs.Common.{◌≡◌, ℕ, [], ◌∷◌, ◌+◌, ◌<◌, ◌≤◌, Bool, true, false, if◌then◌else◌, ◌⊎◌, inl, inr, List, length, drop, Some, refl, sym, ap, ◌∙◌, subst, take, length-take, length-drop, arith}
+use Rattle.std.specs.List.{list_any, slice_split}
+use Rattle.std.proofs.lemmas.Bool.{both_ways}
 use Rattle.std.proofs.lemmas.List.{drop-drop}
 use Rattle.std.proofs.lemmas.List.Splits.{slice_split-cons_yes}
 use Rattle.typed_path.specs.declared.scan.separators.Separators.{Separators}
-use Rattle.typed_path.specs.declared.scan.separators.Separators.TheVariants.{Backslash, Either}
-use Rattle.typed_path.specs.components.Dialect.{windows, separators, is_separator}
-use Rattle.typed_path.specs.components.Part.{verbatim_disk, kinds}
+use Rattle.typed_path.specs.declared.scan.separators.Separators.TheVariants.{Slash, Backslash, Either}
+use Rattle.typed_path.specs.components.Dialect.{windows, separators, is_separator, is_verbatim}
+use Rattle.typed_path.specs.components.Part.{Prefix, verbatim, verbatim_unc, verbatim_disk, device_ns, unc, disk, kinds}
 use Rattle.typed_path.specs.components.Prefix.{Found, found, name, names_length, prefix_of}
 use Rattle.typed_path.specs.queries.Queries.{is_disk, is_verbatim_prefix, begins_with_root}
+use Rattle.typed_path.specs.changes.Push.{raw_length}
 use Rattle.typed_path.specs.places.Places.{resolve}
+use Rattle.typed_path.specs.places.Rows.{IsPartedEither, TakesRows, IsHeadOf, HaveNoDrives, HasPlainNames}
+use Rattle.typed_path.specs.promises.Promises.{is_verbatim_unc_name}
 use Rattle.typed_path.proofs.lemmas.components.PartLemmas.{first_parts, body_parts}
 use Rattle.typed_path.proofs.lemmas.components.SizeLemmas.{plain-kind}
 use Rattle.typed_path.proofs.lemmas.components.ReadLemmas.{Read, of_verbatim_unc, of_verbatim_disk, of_verbatim, of_device, of_unc, of_disk, prefix-read}
@@ -63,3 +68,65 @@ root-behind text f is other more = by f is more (behind_prefix text f read other
         same : (b : Bool) → is_verbatim_prefix f.prefix ≡ b → s ≡ separators windows text
         same true e = kind e
         same false e = plain e ∙ sym (ap (λ b. if b then Backslash else Either) (plain-kind text f is e (omega (arith, long, more))))
+
+-- a part that stands behind a place is a root and the rest, or begins with no separator
+ends-parted : (s : Separators) (text root rest : List ℕ) → s ≡ Either → Apart s text → IsPartedEither text root rest → length root ≡ 0 → length rest ≡ 0
+ends-parted s _ root rest e nothing (inl cut) none = cc
+ends-parted s _ root rest e nothing (inr cut) none = ap length cut.1
+ends-parted s _ root rest e (parted b bs separates) (inl cut) none = absurd (omega (arith, ap length cut.3, none))
+ends-parted s _ root rest e (parted b bs separates) (inr cut) none =
+    absurd (both_ways (is_separator s b) (ap (λ z. is_separator z b) e ∙ cut.2 b bs refl) separates)
+
+-- names stand in rows behind each prefix that is no drive and has no verbatim kind
+pub plain-takes : (text root rest : List ℕ) (f : Found) → prefix_of windows text ≡ Some f → is_disk f.prefix ≡ false → is_verbatim_prefix f.prefix ≡ false → IsPartedEither (drop f.length text) root rest
+    → TakesRows text f root rest
+plain-takes text root rest f is other plain cut = record { no_unc = no-unc f.prefix plain; ends = ends (drop f.length text) refl; slashless = slashless (drop f.length text) refl }
+  where
+    no-unc : (p : Prefix) → is_verbatim_prefix p ≡ false → is_verbatim_unc_name (Some p) ≡ false
+    no-unc (verbatim n) e = cc
+    no-unc (verbatim_unc server share) e = refl
+    no-unc (verbatim_disk letter) e = refl
+    no-unc (device_ns n) e = refl
+    no-unc (unc server share) e = refl
+    no-unc (disk letter) e = refl
+
+    more : (b : ℕ) (bs : List ℕ) → drop f.length text ≡ b ∷ bs → f.length < length text
+    more b bs e = omega (arith, ap length e, length-drop f.length text)
+
+    ends-behind : (g : Found) → is_verbatim_prefix g.prefix ≡ false → IsPartedEither (drop g.length text) root rest → BehindPrefix text g → length root ≡ 0 → length rest ≡ 0
+    ends-behind _ e h (behind_drive letter n) = cc
+    ends-behind g e h (apart s kind either behind) = ends-parted s (drop g.length text) root rest (either e) behind h
+
+    ends : (t : List ℕ) → drop f.length text ≡ t → length root ≡ 0 → length rest ≡ 0
+    ends [] e = ends-parted Either [] root rest refl nothing (subst (λ t. IsPartedEither t root rest) e cut)
+    ends (b ∷ bs) e = ends-behind f plain cut (behind_prefix text f (prefix-read text f is) other (more b bs e))
+
+    slashless : (t : List ℕ) → drop f.length text ≡ t → is_verbatim (separators windows text) ≡ true → list_any (is_separator Slash) (drop f.length text) ≡ false
+    slashless [] e v = ap (list_any (is_separator Slash)) e
+    slashless (b ∷ bs) e v =
+        let long = more b bs e in
+        let four = parted-long (separators windows text) text f (prefix-read text f is) other long in
+        absurd (both_ways (is_verbatim (separators windows text)) (ap (λ z. is_verbatim (if z then Backslash else Either)) (plain-kind text f is plain (omega (arith, long, four)))) v)
+
+-- a path of Windows in its prefix, a root or none, and the rest
+pub head-cut : (path raw root rest : List ℕ) (f : Found) → prefix_of windows path ≡ Some f → raw ≡ take f.length path → IsPartedEither (drop f.length path) root rest → IsHeadOf path raw root rest
+head-cut path raw root rest f is e cut = rw is (e, cut)
+
+-- these are no longer than it
+pub head-size : (path raw root rest : List ℕ) → IsHeadOf path raw root rest → length raw + length root + length rest ≤ length path
+head-size path raw root rest h =
+    let behind = sizes (drop (raw_length (prefix_of windows path)) path) h.1 in
+    omega (arith, behind, ap length h.0, length-take (raw_length (prefix_of windows path)) path, length-drop (raw_length (prefix_of windows path)) path)
+  where
+    sizes : (text : List ℕ) → IsPartedEither text root rest → length root + length rest ≤ length text
+    sizes text (inl cut) = omega (arith, ap length cut.2, ap length cut.3)
+    sizes text (inr cut) = omega (arith, ap length cut.0, ap length cut.1)
+
+-- where no piece behind the prefix begins with a drive, none of the rest does
+pub head-drives : (path raw root rest : List ℕ) → IsHeadOf path raw root rest → HasPlainNames windows path → HaveNoDrives (slice_split (is_separator Either) rest)
+head-drives path raw root rest h plain = by (drop (raw_length (prefix_of windows path)) path) h.1 plain.1
+  where
+    by : (text : List ℕ) → IsPartedEither text root rest → HaveNoDrives (slice_split (is_separator Either) text) → HaveNoDrives (slice_split (is_separator Either) rest)
+    by text (inl cut) none =
+        (subst HaveNoDrives (slice_split-cons_yes (is_separator Either) cut.0 rest cut.1) (subst (λ t. HaveNoDrives (slice_split (is_separator Either) t)) cut.2 none)).1
+    by text (inr cut) none = subst (λ t. HaveNoDrives (slice_split (is_separator Either) t)) (sym cut.1) none

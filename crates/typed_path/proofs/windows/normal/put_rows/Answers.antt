@@ -27,16 +27,23 @@ returns-clause-ok c = λ done path is.
     (λ more. c.drop_separator.ensures.named (omega (arith, size, sizes, more)))
     (λ fits. c.drop_separator.ensures.alone (omega (arith, size, sizes, fits)))
 
+-- what stood before the head stays
+kept-before : (before prefix root first begun new : List ℕ) (len : ℕ) → first ≡ before ++ prefix → begun ≡ first ++ root → length begun ≡ len → take len new ≡ take len begun → take (length before) new ≡ before
+kept-before before prefix root first begun new len one two size e =
+    let is : begun ≡ before ++ (prefix ++ root) = two ∙ ap (λ t. t ++ root) one ∙ append_assoc before prefix root in
+    let fits : length before ≤ len = omega (arith, size, ap length is, length-append before (prefix ++ root)) in
+    sym (take-take (length before) len new fits) ∙ ap (take (length before)) (e ∙ ap (take len) is) ∙ take-take (length before) len (before ++ (prefix ++ root)) fits
+    ∙ take_at before (prefix ++ root) (length before) refl
+
 pub returns-clause-kept : goal.returns-clause-kept
 returns-clause-kept c =
-    let before = c.args.text.now.items in
-    let prefix = c.args.head.prefix.now in
-    let root = c.args.head.root.now in
-    let len = c.len-len.result in
-    let begun : c.extend_from_slice-2.new.self.items ≡ before ++ (prefix ++ root) =
-    c.in_ok-extend_from_slice-2.ensures.items ∙ ap (λ t. t ++ root) c.in_ok-extend_from_slice.ensures.items ∙ append_assoc before prefix root in
-    let fits : length before ≤ len = omega (arith, c.len-len.ensures, c.extend_from_slice-2.new.self.ok, ap length begun, length-append before (prefix ++ root)) in
-    sym (take-take (length before) len c.drop_separator.new.text.items fits)
-    ∙ ap (take (length before)) (c.drop_separator.ensures.kept ∙ c.in_ok-settle_all.ensures.kept ∙ ap (take len) begun)
-    ∙ take-take (length before) len (before ++ (prefix ++ root)) fits
-    ∙ take_at before (prefix ++ root) (length before) refl
+    kept-before _ _ _ _ _ _ c.len-len.result c.in_ok-extend_from_slice.ensures.items c.in_ok-extend_from_slice-2.ensures.items (omega (arith, c.len-len.ensures, c.extend_from_slice-2.new.self.ok))
+    (c.drop_separator.ensures.kept ∙ c.in_ok-settle_all.ensures.kept)
+
+pub returns-in_err-settle_all-clause-kept : goal.returns-in_err-settle_all-clause-kept
+returns-in_err-settle_all-clause-kept c =
+    kept-before _ _ _ _ _ _ c.len-len.result c.in_ok-extend_from_slice.ensures.items c.in_ok-extend_from_slice-2.ensures.items (omega (arith, c.len-len.ensures, c.extend_from_slice-2.new.self.ok)) c.settle_all.ensures.kept
+
+pub returns-then-not-branch-clause-kept : goal.returns-then-not-branch-clause-kept
+returns-then-not-branch-clause-kept c =
+    kept-before _ _ _ _ _ _ c.len-len.result c.in_ok-extend_from_slice.ensures.items c.in_ok-extend_from_slice-2.ensures.items (omega (arith, c.len-len.ensures, c.extend_from_slice-2.new.self.ok)) c.settle_all.ensures.kept

@@ -40,6 +40,9 @@ returns-in-Prefix c = record {
       are.is ∙ ap (λ ns. head ++ rows_of Either ns) (sym kind);
   plain = λ _. sym c.drive.ensures ∙ is_none c.drive.result (sym c.if-is_some.ensures);
   kept = refl;
+  told = λ _. refl;
   long = c.requires;
+  room = omega arith;
   capacity = omega arith;
+  succeeds = λ _. refl;
 }

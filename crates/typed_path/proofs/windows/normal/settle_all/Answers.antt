@@ -1,7 +1,9 @@
-use Rattle.std.proofs.Common.{◌≡◌, ◌∙◌, List, ℕ, None, Bool, IfOk, refl, arith}
+use Rattle.std.proofs.Common.{◌≡◌, ◌∙◌, List, ℕ, None, Bool, IfOk, refl, subst, arith}
 use Rattle.std.specs.Prelude.{Result, Ok, Err}
+use Rattle.std.proofs.lemmas.Bool.{both_ways}
 use Rattle.typed_path.specs.declared.scan.separators.Separators.TheVariants.{Either}
 use Rattle.typed_path.specs.components.Prefix.{drive}
+use Rattle.typed_path.specs.places.Rows.{HaveNoDrives}
 use Rattle.typed_path.proofs.lemmas.places.RowSteps.{standing-start, standing-step, standing-end, standing-each}
 use Rattle.typed_path.proofs.windows.normal.settle_all.Goals as goal
 
@@ -10,7 +12,7 @@ abbrev IsNoDrive : List ℕ → Type 0
 IsNoDrive name = drive name ≡ None
 
 pub segments-init : goal.segments-init
-segments-init c = record { standing = λ head size are. standing-start Either IsNoDrive _ head c.args.path.now are; kept = refl; long = c.requires; capacity = omega arith }
+segments-init c = record { standing = λ head size are. standing-start Either IsNoDrive _ head c.args.path.now are; kept = refl; long = c.requires; capacity = omega arith; room = λ fits. fits; drives = λ none. none }
 
 pub segments-preserved : goal.segments-preserved
 segments-preserved c = record {
@@ -20,7 +22,17 @@ segments-preserved c = record {
   kept = c.settle.ensures.kept ∙ c.segments.invariant.kept;
   long = c.settle.ensures.long;
   capacity = omega (arith, c.segments.invariant.capacity, c.settle.ensures.capacity);
+  room = λ fits. omega (arith, c.segments.invariant.room fits, c.settle.ensures.room, c.settle.ensures.capacity, c.in-Some.ensures.sizes);
+  drives = λ none. (subst HaveNoDrives c.in-Some.ensures.pieces (c.segments.invariant.drives none)).1;
 }
+
+-- the segment that comes begins with no drive
+pub returns-then-not-branch-clause-told : goal.returns-then-not-branch-clause-told
+returns-then-not-branch-clause-told c = λ none.
+    absurd (both_ways _ c.if-not-branch.true (c.in_ok-settle.ensures.told (subst HaveNoDrives c.in-Some.ensures.pieces (c.segments.invariant.drives none)).0))
+
+pub returns-clause-told : goal.returns-clause-told
+returns-clause-told c = λ none. c.settle-2.ensures.told (subst HaveNoDrives c.in_default.ensures.pieces (c.segments.invariant.drives none)).0
 
 -- what holds on success of two things holds of what follows from them
 on_ok : {E : Type 0} {P Q R : Bool → Type 0} (r : Result Bool E) → ((x : Bool) → P x → Q x → R x) → IfOk r P → IfOk r Q → IfOk r R

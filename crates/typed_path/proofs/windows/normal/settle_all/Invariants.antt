@@ -1,7 +1,9 @@
-use Rattle.std.proofs.Common.{◌≡◌, ◌≤◌, vec_capacity, ℕ, List, [], length, take, None}
+use Rattle.std.proofs.Common.{◌≡◌, ◌≤◌, ◌<◌, ◌+◌, vec_len, vec_capacity, ℕ, List, [], length, take, None}
+use Rattle.std.specs.List.{slice_split}
 use Rattle.typed_path.specs.declared.scan.separators.Separators.TheVariants.{Either}
+use Rattle.typed_path.specs.components.Dialect.{is_separator}
 use Rattle.typed_path.specs.components.Prefix.{drive}
-use Rattle.typed_path.specs.places.Rows.{AreRowsOf}
+use Rattle.typed_path.specs.places.Rows.{AreRowsOf, HaveNoDrives}
 use Rattle.typed_path.proofs.lemmas.places.RowSteps.{Standing}
 use Rattle.typed_path.proofs.windows.normal.settle_all.Given as goal
 
@@ -11,6 +13,8 @@ invariant-segments l = record {
   kept : take l.len l.text.items ≡ take l.len l.fn.text.items;
   long : l.len ≤ length l.text.items;
   capacity : vec_capacity l.fn.text ≤ vec_capacity l.text;
+  room : vec_len l.fn.text + length l.path < vec_capacity l.fn.text → vec_len l.text + length l.rest < vec_capacity l.text;
+  drives : HaveNoDrives (slice_split (is_separator Either) l.path) → HaveNoDrives (slice_split (is_separator Either) l.rest);
 }
 
 abbrev pub decreases-segments : goal.decreases-segments
