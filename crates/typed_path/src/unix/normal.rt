@@ -6,7 +6,7 @@ ghost use Rattle.typed_path.specs.components.Dialect.{unix};
 ghost use Rattle.typed_path.specs.places.Places.{normal_text};
 ghost use Rattle.typed_path.specs.places.Rows.{rows, settled, names_left, AreRows, IsParted};
 
-use crate::common::{drop_name, drop_separator};
+use crate::common::{cut_back, drop_name, drop_separator};
 use crate::scan::{PieceKind, Separators, cut_at_separator, piece_of};
 use std::alloc::AllocError;
 
@@ -21,14 +21,23 @@ pub fn put_normal(text: &mut Vec<u8>, path: &[u8]) -> Result<(), AllocError>
     ensures succeeds { vec_len text.old + length path.now < vec_capacity text.old → IsOk result }
 {
     let len = text.len();
+    let done = put_rows(text, path);
+    cut_back(text, len, done)
+}
+
+/// Puts the normal text of a path behind a text: the root, and the names that are left behind it.
+#[inline(always)]
+fn put_rows(text: &mut Vec<u8>, path: &[u8]) -> Result<(), AllocError>
+    ensures ok { OnOk result (text.new.items ≡ text.old.items ++ normal_text unix path.now) }
+    ensures kept { take (length text.old.items) text.new.items ≡ text.old.items }
+    ensures capacity { vec_capacity text.old ≤ vec_capacity text.new }
+    ensures succeeds { vec_len text.old + length path.now < vec_capacity text.old → IsOk result }
+{
     let (root, rest) = split_root(path);
     text.extend_from_slice(root)?;
-    let head = text.len();
-    if let Err(refused) = settle_all(text, head, rest) {
-        text.truncate(len);
-        return Err(refused);
-    }
-    drop_separator(text, head);
+    let len = text.len();
+    settle_all(text, len, rest)?;
+    drop_separator(text, len);
     Ok(())
 }
 

@@ -2,7 +2,7 @@ use Rattle.std.proofs.Common.{◌≡◌, ◌++◌, List, ℕ, [], length, ap, sy
 use Rattle.typed_path.specs.declared.scan.separators.Separators.TheVariants.{Slash}
 use Rattle.typed_path.specs.places.Rows.{AreRows}
 use Rattle.typed_path.proofs.lemmas.places.RowSteps.{rows-start, parted-end}
-use Rattle.typed_path.proofs.unix.normal.put_normal.Goals as goal
+use Rattle.typed_path.proofs.unix.normal.put_rows.Goals as goal
 
 pub returns-clause-ok : goal.returns-clause-ok
 returns-clause-ok c =
@@ -11,8 +11,8 @@ returns-clause-ok c =
     let head = before ++ root in
     let P : List ℕ → Type 0 = λ t. AreRows t head [] in
     let begun : c.extend_from_slice.new.self.items ≡ head = c.in_ok-extend_from_slice.ensures.items in
-    let size : length head ≡ c.len-head.result = omega (arith, c.len-head.ensures, c.extend_from_slice.new.self.ok, ap length begun) in
-    let text = c.in_default.ensures.ok head size (subst P (sym begun) (rows-start Slash head)) in
+    let size : length head ≡ c.len-len.result = omega (arith, c.len-len.ensures, c.extend_from_slice.new.self.ok, ap length begun) in
+    let text = c.in_ok-settle_all.ensures.ok head size (subst P (sym begun) (rows-start Slash head)) in
     parted-end c.args.path.now before root c.split_root.result.1.now _ _ c.split_root.ensures text
     (λ more. c.drop_separator.ensures.named (omega (arith, size, more)))
     (λ fits. c.drop_separator.ensures.alone (omega (arith, size, fits)))
