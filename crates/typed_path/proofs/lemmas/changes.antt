@@ -5,9 +5,6 @@
 -- SpellLemmas: a list as it is read behind a prefix of Windows, spelled and read again
 -- SpelledTexts: what stands behind the prefix of a text of Windows that is spelled as it is read
 -- SpelledRows: texts of Windows that hold components with `\` between them, as they are read
--- NamesBehind: names merged into a list of Windows, and spelled behind it
--- ReadyPrefixes: the prefix of a text that is spelled as it is read, with a plain name put behind it: it stays, or a share takes the whole text
--- ReadyLemmas: a plain name pushed onto a text that is spelled as it is read: it is put behind the text, which stays so
 -- SpellingLemmas: how a push spells a text of Windows anew, told by what stands behind the prefix
 -- MergeLemmas: a list of names, currents and parents that overdraws nothing, merged into another: what it resolves to is put behind
 -- FaultLemmas: a path judged component by component, and what holds of one that is not refused
@@ -20,10 +17,13 @@
 -- RunLemmas: lists of operations, one operation more
 -- PushLemmas: what a push of Windows asks of its base, and a base that is written anew
 -- CrossedLemmas: names of Unix that are names of Windows too, and components that are pushed one by one unless one of them has a fault
--- MergedNames: a path without a prefix and a root, merged component by component into a text of Windows that is spelled as it is read
--- ReadyNames: names with `\` between them, put behind a text of Windows that is spelled as it is read: it stays so
--- ReadyParents: what `..` leaves of a text of Windows that is spelled as it is read
 -- PutCrossed: components of another dialect pushed one by one onto the path at the end of a text
+-- Standing: what stands behind a prefix that is written anew, with one component more and without its last name
+-- MergedStanding: components merged into what stands behind a prefix that is written anew, and what comes of it as one text
+-- ReadStanding: components as they are read, which stand behind a prefix or are merged there, and the room that they take
+-- KeptPrefixes: the prefix of a text that is spelled as it is read, and has more than a root behind that: it stays, whatever stands behind the root
+-- SpelledAgain: a text that is spelled as it is read, once a path is merged into it: it stays so, and keeps its prefix where more than a root stood behind that
+-- ReservedLemmas: names that stand for devices, how they begin, and where their first dot comes
 pub mod JoinLemmas
 pub mod EndedLemmas
 pub mod PlainNames

@@ -19,15 +19,6 @@ first-unprefixed : (k : Kind) (ks ls : List Kind) → has_prefix (k ∷ ks) ≡ 
 first-unprefixed (prefix p) ks ls e = cc
 first-unprefixed k ks ls e = refl
 
--- what stands behind a prefix is such
-pub stands-unprefixed : (parted : Bool) (ps : List Part) (text : List ℕ) → Stands parted ps text → IsUnprefixed ps
-stands-unprefixed parted ps text h = by parted h.names h.standing h.list
-  where
-    by : (b : Bool) (ns : List Part) → AllByRecursion IsStanding ns → ps ≡ (if b then [] else root_part (backslash ∷ []) ∷ []) ++ ns → IsUnprefixed ps
-    by false ns all e = ap (λ qs. has_prefix (kinds qs)) e
-    by true [] all e = ap (λ qs. has_prefix (kinds qs)) e
-    by true (n ∷ ns) all e = ap (λ qs. has_prefix (kinds qs)) e ∙ first-unprefixed n.kind [] (kinds ns) all.0.unprefixed
-
 -- there is nothing that a root leaves of it
 alone-nothing : (ps : List Part) → IsUnprefixed ps → prefix_alone ps ≡ []
 alone-nothing [] e = refl
@@ -36,16 +27,6 @@ alone-nothing (p ∷ ps) e = by p.kind e
     by : (k : Kind) → has_prefix (k ∷ kinds ps) ≡ false → (if has_prefix (k ∷ []) then p ∷ [] else []) ≡ []
     by (prefix q) e = cc
     by k e = refl
-
--- a root
-pub stands-root : (parted : Bool) (ps : List Part) (old new : List ℕ) (p : Part) → Stands parted ps old → p.text ≡ backslash ∷ [] → p.kind ≡ root → new ≡ backslash ∷ [] → Stands false (prefix_alone ps ++ p ∷ []) new
-stands-root parted ps old new p h text kind is =
-    record {
-      names = [];
-      standing = tt;
-      list = ap (λ qs. qs ++ p ∷ []) (alone-nothing ps (stands-unprefixed parted ps old h)) ∙ (λ i. record { kind = kind i; text = text i } ∷ []);
-      written = is;
-    }
 
 -- lists that begin with no prefix stay so
 merge-unprefixed : (ps : List Part) (k : Kind) (text : List ℕ) → IsUnprefixed ps → IsMergeable (record { kind = k; text = text }) k → IsUnprefixed (merge_by_kind ps (record { kind = k; text = text }) k)
@@ -107,11 +88,7 @@ pub merging-begin : (parted : Bool) (old : List ℕ) (all : List Part) → AreMe
 merging-begin parted old all are = record { lists = λ ps stands. (ps, stands, refl); left = are }
 
 module _ {parted : Bool} {old : List ℕ} {all : List Part} {now : Bool} {text : List ℕ} where
-  -- the next component is one that is merged
-  pub merging-one : (p : Part) (some rest : List Part) → IsMerging parted old all now text some → some ≡ p ∷ rest → IsMergeable p p.kind
-  merging-one p some rest h step = (subst AreMergeable step h.left).0
-
-  -- it is
+  -- the next component is merged
   pub merging-next : (p : Part) (some rest : List Part) (next : Bool) (new : List ℕ) → IsMerging parted old all now text some → some ≡ p ∷ rest
       → ((ps : List Part) → Stands now ps text → Stands next (merge_by_kind ps p p.kind) new) → IsMerging parted old all next new rest
   merging-next p some rest next new h step one =
