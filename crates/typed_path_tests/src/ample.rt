@@ -65,7 +65,8 @@ type Push = (
     &'static [u8],
 );
 
-/// Whether a long path is pushed and joined as a row says, with checks and without.
+/// Whether a long path is pushed and joined as a row says, with checks and without, in room for no
+/// more than twice both.
 fn pushes_long<T: Encoding>(alloc: Global, row: Push) -> Result<bool, AllocError> {
     let (base, text, times, begin, wanted) = row;
     let path = repeated(alloc, b"", text, times, b"")?;
@@ -75,8 +76,11 @@ fn pushes_long<T: Encoding>(alloc: Global, row: Push) -> Result<bool, AllocError
     pushed.push(Path::new(base))?;
     pushed.push(path)?;
     let joined = Path::new(base).join(alloc, path)?;
+    let room = 2 * (base.len() + path.as_bytes().len() + 1);
     Ok(
-        pushed.as_path().as_bytes() == wanted.as_slice()
+        pushed.capacity() <= room
+            && joined.capacity() <= room
+            && pushed.as_path().as_bytes() == wanted.as_slice()
             && pushed.clone()?.as_path().as_bytes() == wanted.as_slice()
             && joined.as_path().as_bytes() == wanted.as_slice()
             && joins_as::<T>(alloc, base, path.as_bytes(), Ok(wanted.as_slice()))?,
