@@ -1,5 +1,7 @@
 -- What a dialogue of lines read and wrote, and how it ended.
-use Rattle.std.specs.Prelude.{◌≡◌, ◌⊎◌, ℕ, List, ◌++◌, Bool, true, Option, Some, None, ⊤, take}
+use Rattle.std.specs.Prelude.{◌≡◌, ◌⊎◌, ℕ, List, ◌++◌, Bool, true, Option, Some, None, ⊤, take, Result, OnOk, IsErrOf}
+use Rattle.typed_path.specs.declared.errors.LineError.{LineError}
+use Rattle.typed_path.specs.declared.errors.LineError.TheVariants.{Read, Write, OutOfMemory}
 use Rattle.std.specs.Io.KnownBytes.{Appends, Consumes, IsAtEnd}
 use Rattle.typed_path.specs.script.Lines.{answers, replies_to, complete_lines}
 
@@ -80,3 +82,10 @@ pub record RunsOut (before after : Streams) : Type 0 where
 -- a beginning of the bytes was put behind, as far as a writer that failed still tells
 abbrev pub WritesPart : Option (List ℕ) → Option (List ℕ) → List ℕ → Type 0
 WritesPart before after bytes = (written : List ℕ) × IsBeginning written bytes × AppendsIfTold before after written
+
+-- how a run of lines ends, by its result
+pub record Ends (result : Result (Unit {0}) LineError) (before after : Streams) : Type 0 where
+  pub ok : OnOk result (AnswersAll before after)
+  pub read : IsErrOf result Read → StopsReading before after
+  pub write : IsErrOf result Write → StopsWriting before after
+  pub memory : IsErrOf result OutOfMemory → RunsOut before after

@@ -2,7 +2,7 @@
 
 ghost use Rattle.std.specs.Prelude.{◌≡◌, ◌<◌, [], length, true, OnOk, OnErr, IfErr, IsErrOf};
 ghost use Rattle.std.specs.Io.KnownBytes.{Appends};
-ghost use Rattle.typed_path.specs.script.Streams.{streams, AnswersAll, StopsReading, StopsWriting, RunsOut, WritesPart};
+ghost use Rattle.typed_path.specs.script.Streams.{streams, AnswersAll, StopsReading, StopsWriting, RunsOut, Ends, WritesPart};
 
 use crate::errors::LineError;
 use crate::script::dialogue::Dialogue;
@@ -80,22 +80,7 @@ fn converse<R: Source, W: Sink>(
     requires room { 0 < length buffer.old }
     requires no_line { dialogue.old.line.items ≡ [] }
     requires no_replies { dialogue.old.replies.items ≡ [] }
-    ensures ok { OnOk result (AnswersAll
-        (streams (R.remaining reader.old) (R.has_failed reader.old)
-        (W.contents writer.old) (W.has_failed writer.old))
-        (streams (R.remaining reader.new) (R.has_failed reader.new)
-        (W.contents writer.new) (W.has_failed writer.new))) }
-    ensures read { IsErrOf result LineError.Read → StopsReading
-        (streams (R.remaining reader.old) (R.has_failed reader.old)
-        (W.contents writer.old) (W.has_failed writer.old))
-        (streams (R.remaining reader.new) (R.has_failed reader.new)
-        (W.contents writer.new) (W.has_failed writer.new)) }
-    ensures write { IsErrOf result LineError.Write → StopsWriting
-        (streams (R.remaining reader.old) (R.has_failed reader.old)
-        (W.contents writer.old) (W.has_failed writer.old))
-        (streams (R.remaining reader.new) (R.has_failed reader.new)
-        (W.contents writer.new) (W.has_failed writer.new)) }
-    ensures memory { IsErrOf result LineError.OutOfMemory → RunsOut
+    ensures { Ends result
         (streams (R.remaining reader.old) (R.has_failed reader.old)
         (W.contents writer.old) (W.has_failed writer.old))
         (streams (R.remaining reader.new) (R.has_failed reader.new)

@@ -1,10 +1,12 @@
 -- Bytes that were read and written, step after step.
 use Rattle.std.proofs.Common.{◌≡◌, inl, inr, ℕ, List, [], ◌∷◌, ◌++◌, Bool, true, append_assoc, append-nil, take, length, refl, sym, ap, subst, ◌∙◌}
-use Rattle.std.specs.Prelude.{Option, Some, None}
+use Rattle.std.specs.Prelude.{Option, Some, None, Result, Ok, Err, OnOk, OnErr, IfErr, IsErrAnd}
 use Rattle.std.specs.Io.KnownBytes.{Appends, Consumes, IsAtEnd}
 use Rattle.std.proofs.lemmas.List.{take_at}
+use Rattle.typed_path.specs.declared.errors.LineError.{LineError}
+use Rattle.typed_path.specs.declared.errors.LineError.TheVariants.{Read, Write, OutOfMemory}
 use Rattle.typed_path.specs.script.Lines.{answers, replies_to, complete_lines, open_line, all_lines}
-use Rattle.typed_path.specs.script.Streams.{Streams, streams, KeepsIfTold, ConsumesIfTold, AppendsIfTold, WritesPart, AnswersAll, StopsWriting, RunsOut}
+use Rattle.typed_path.specs.script.Streams.{Streams, Ends, streams, KeepsIfTold, ConsumesIfTold, AppendsIfTold, WritesPart, AnswersAll, StopsWriting, RunsOut}
 use Rattle.typed_path.proofs.lemmas.script.LineLemmas.{complete_lines-append, open_line-append, lines_of-open, replies_to-append}
 
 pub Appends-nothing : (told : Option (List ℕ)) → Appends told told []
@@ -161,3 +163,18 @@ module _ {before now : Streams} {line : List ℕ} (r : Reads before now line) wh
     input_unfailed = e ∙ r.input_unfailed;
     output_failed = f;
   }
+
+-- a run that ends with one error ends as that one says
+module _ (before after : Streams) where
+  pub ends-writing : (r : Result (Unit {0}) LineError) → IsErrAnd r (λ e. e ≡ Write) → StopsWriting before after → Ends r before after
+  ends-writing (Ok x) is h = absurd is
+  ends-writing (Err e) is h = subst (λ y. Ends (Err y) before after) (sym is) (record { ok = tt; read = λ f. cc; write = λ _. h; memory = λ f. cc })
+
+  pub ends-out : (r : Result (Unit {0}) LineError) → IsErrAnd r (λ e. e ≡ OutOfMemory) → RunsOut before after → Ends r before after
+  ends-out (Ok x) is h = absurd is
+  ends-out (Err e) is h = subst (λ y. Ends (Err y) before after) (sym is) (record { ok = tt; read = λ f. cc; write = λ f. cc; memory = λ _. h })
+
+  -- the last replies are written, or the writer fails
+  pub ends-sent : (r : Result (Unit {0}) LineError) → IfErr r (λ e. e ≡ Write) → OnOk r (AnswersAll before after) → OnErr r (StopsWriting before after) → Ends r before after
+  ends-sent (Ok x) is all part = record { ok = all; read = λ f. cc; write = λ f. cc; memory = λ f. cc }
+  ends-sent (Err e) is all part = ends-writing (Err e) is part
