@@ -16,7 +16,7 @@ mod step;
 pub use base::base_end;
 pub use begin::Begin;
 pub use cursor::Cursor;
-pub use cut::{cut_at, cut_at_separator, cut_near, text_behind};
+pub use cut::{cut_at, cut_at_separator, text_behind};
 pub use piece::{Piece, PieceKind};
 pub use prefix::{Found, WindowsPrefix, after_mark, drive, find_prefix};
 pub use separators::Separators;

@@ -6,26 +6,11 @@ ghost use Rattle.memchr.specs.Find.{IsFirstByte, is_byte};
 ghost use Rattle.typed_path.specs.components.Dialect.{is_separator};
 
 use crate::scan::separators::Separators;
-use memchr::{memchr, memchr_iter};
+use memchr::memchr_iter;
 
-/// What stands before the first such byte, and what stands behind it.
+/// What stands before the first such byte, and what stands behind it. The bytes at the front are
+/// looked at before the rest is searched in wide steps, since the byte mostly is near.
 pub fn cut_at(byte: u8, text: &[u8]) -> Option<(&[u8], &[u8])>
-    ensures pieces { MatchOption result
-        (slice_split (λ b. b == byte) text.now ≡ text.now ∷ [])
-        (λ cut. slice_split (λ b. b == byte) text.now
-        ≡ cut.0.now ∷ slice_split (λ b. b == byte) cut.1.now) }
-    ensures open { IfSome result (λ cut. slice_split (λ b. b == byte) cut.0.now ≡ cut.0.now ∷ []) }
-    ensures shorter { IfSome result (λ cut. length cut.1.now < length text.now) }
-{
-    match memchr(byte, text) {
-        None => None,
-        Some(at) => Some((&text[..at], &text[at + 1..])),
-    }
-}
-
-/// The same, where the next such byte is likely to be near: the bytes at the front are looked at
-/// before the rest is searched in wide steps.
-pub fn cut_near(byte: u8, text: &[u8]) -> Option<(&[u8], &[u8])>
     ensures pieces { MatchOption result
         (slice_split (λ b. b == byte) text.now ≡ text.now ∷ [])
         (λ cut. slice_split (λ b. b == byte) text.now

@@ -3,7 +3,7 @@
 ghost use Rattle.std.specs.Prelude.{◌≡◌, [], ◌∷◌};
 ghost use Rattle.typed_path.specs.script.Lines.{split_lines};
 
-use crate::scan::cut_near;
+use crate::scan::cut_at;
 use crate::script::lines::put_reply;
 use std::alloc::{AllocError, Global};
 
@@ -43,7 +43,7 @@ impl Dialogue {
             (self.new.line.items ≡ open_line (self.old.line.items ++ input.now)) }
     {
         let mut rest = input;
-        'lines: while let Some((piece, behind)) = cut_near(b'\n', rest) {
+        'lines: while let Some((piece, behind)) = cut_at(b'\n', rest) {
             self.complete(piece)?;
             rest = behind;
         }

@@ -117,31 +117,6 @@ fn put_plain(text: &mut Vec<u8>, start: usize, name: &[u8]) -> Result<(), AllocE
 }
 
 /// Pushes a path onto the one that stands behind the first bytes of a text, of which something may be
-/// known. Where memory is refused, the text is as it was.
-fn push_onto(
-    text: &mut Vec<u8>,
-    start: usize,
-    other: &[u8],
-    known: Option<usize>,
-) -> Result<(), AllocError>
-    requires { start ≤ length text.old.items }
-    ensures ok { IsKnown windows known (drop start text.old.items) → OnOk result (text.new.items
-        ≡ take start text.old.items ++ push_windows (drop start text.old.items) other.now) }
-    ensures err { OnErr result (text.new.items ≡ text.old.items) }
-    ensures capacity { vec_capacity text.old ≤ vec_capacity text.new }
-    ensures succeeds { (room : ℕ) → start + room ≤ vec_capacity text.old
-        → IsKnown windows known (drop start text.old.items)
-        → FitsPush windows room (drop start text.old.items) other.now
-        → IsOk result }
-{
-    if known.is_none() && is_plain(other) && !has_verbatim_kind(&text[start..]) {
-        return put_plain(text, start, other);
-    }
-    let len = text.len();
-    push_at(text, start, len, other, known)
-}
-
-/// Pushes a path onto the one that stands behind the first bytes of a text, of which something may be
 /// known, and answers what is known of what stands there then. Where memory is refused, the text is as
 /// it was.
 ///
@@ -166,7 +141,12 @@ pub fn push_next(
         → IsOk result }
 {
     let stays = keeps_prefix(text.len() - start, other, known);
-    push_onto(text, start, other, known)?;
+    if known.is_none() && is_plain(other) && !has_verbatim_kind(&text[start..]) {
+        put_plain(text, start, other)?;
+    } else {
+        let len = text.len();
+        push_at(text, start, len, other, known)?;
+    }
     if stays {
         return Ok(known);
     }

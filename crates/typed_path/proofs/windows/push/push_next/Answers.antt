@@ -1,5 +1,16 @@
-use Rattle.std.proofs.Common.{true≢false, sym}
+use Rattle.std.proofs.Common.{◌≡◌, true≢false, length, drop, slice_range, refl, sym, ap, subst, ◌∙◌}
+use Rattle.typed_path.specs.components.Dialect.{windows}
+use Rattle.typed_path.specs.changes.Push.{FitsPush}
+use Rattle.typed_path.specs.changes.Spelled.{IsKnown}
+use Rattle.typed_path.proofs.lemmas.changes.PutCrossed.{whole_range}
 use Rattle.typed_path.proofs.windows.push.push_next.Goals as goal
 
-pub returns-in_err-push_onto-clause-succeeds : goal.returns-in_err-push_onto-clause-succeeds
-returns-in_err-push_onto-clause-succeeds c = λ room within known fits. absurd (true≢false (sym (c.in_err-push_onto.ensures.succeeds room within known fits)))
+pub returns-in_err-put_plain-clause-succeeds : goal.returns-in_err-put_plain-clause-succeeds
+returns-in_err-put_plain-clause-succeeds c = λ room within known fits. absurd (true≢false (sym (c.in_err-put_plain.ensures.succeeds room within fits)))
+
+pub returns-in_err-push_at-clause-succeeds : goal.returns-in_err-push_at-clause-succeeds
+returns-in_err-push_at-clause-succeeds c = λ room within known fits.
+    let old = c.args.text.now.items in
+    let size : c.len-len.result ≡ length old = c.len-len.ensures ∙ c.args.text.now.ok.0 in
+    let whole : drop c.args.start old ≡ slice_range old c.args.start c.len-len.result = sym (whole_range old old c.args.start refl) ∙ ap (slice_range old c.args.start) (sym size) in
+    absurd (true≢false (sym (c.in_err-push_at.ensures.succeeds room within (subst (IsKnown windows c.args.known) whole known) (subst (λ t. FitsPush windows room t c.args.other.now) whole fits))))
