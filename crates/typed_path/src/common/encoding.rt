@@ -20,7 +20,7 @@ ghost use Rattle.typed_path.specs.order.Words.{path_words};
 ghost use Rattle.typed_path.specs.order.Same.{left_cmp, path_cmp};
 ghost use Rattle.typed_path.specs.conversions.Convert.{crossed_all, crossed_room};
 
-use crate::common::hash::feed;
+use crate::common::hash::{feed, feed_prefix};
 use crate::errors::{CheckedPathError, PathError};
 use crate::scan::{Cursor, Piece};
 use std::alloc::{AllocError, Global};
@@ -104,10 +104,12 @@ pub trait Encoding: Sized {
     fn hash<H: Hasher>(path: &[u8], state: &mut H)
         ensures { state.new ≡ fold H.write state.old (path_words dialect path.now) }
     {
-        let mut cursor = Self::cursor(path);
+        let cursor = Self::cursor(path);
+        feed_prefix(cursor.prefix(), state);
+        let mut body = cursor.body();
         let mut len = 0;
-        'pieces: while let Some(piece) = Self::front(&mut cursor) {
-            len += feed(piece, state);
+        'steps: while let Some(step) = body.front() {
+            len += feed(step, state);
         }
         state.write_usize(len);
     }

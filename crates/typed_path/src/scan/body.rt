@@ -6,7 +6,7 @@ ghost use Rattle.typed_path.specs.scan.Steps.{is_clean};
 use crate::errors::CheckedPathError;
 use crate::scan::begin::Begin;
 use crate::scan::depth::depth_behind;
-use crate::scan::piece::Piece;
+use crate::scan::piece::Step;
 use crate::scan::separators::Separators;
 use crate::scan::step::{back_step, front_step, trim_blanks};
 
@@ -31,7 +31,7 @@ impl<'a> Body<'a> {
     ghost use Rattle.typed_path.specs.components.Part.{Placed, end_of, kinds, parts};
     ghost use Rattle.typed_path.specs.queries.Queries.{begins_with_root};
     ghost use Rattle.typed_path.specs.scan.Steps.{first_part, last_part, end_from};
-    ghost use Rattle.typed_path.specs.views.PieceViews.{part_of};
+    ghost use Rattle.typed_path.specs.views.PieceViews.{step_part};
     ghost use Rattle.typed_path.specs.views.BodyViews.{body_slice, body_items};
     ghost use Rattle.typed_path.specs.changes.Checked.{error_of};
     ghost use Rattle.typed_path.specs.components.Dialect.{dialect_of};
@@ -110,16 +110,16 @@ impl<'a> Body<'a> {
     {
         let allowed = self.separators.allows_names_of(self.as_bytes());
         let mut depth = 0usize;
-        'pieces: while let Some(piece) = self.front() {
-            depth = depth_behind(piece, depth, self.separators, allowed)?;
+        'steps: while let Some(step) = self.front() {
+            depth = depth_behind(step, depth, self.separators, allowed)?;
         }
         Ok(())
     }
 
     /// Takes the first component that is left.
     #[inline(always)]
-    pub fn front(&mut self) -> Option<Piece<'a>>
-        ensures taken { option_map part_of result ≡ first_part (body_items self.old) }
+    pub fn front(&mut self) -> Option<Step<'a>>
+        ensures taken { option_map step_part result ≡ first_part (body_items self.old) }
         ensures items { body_items self.new ≡ drop 1 (body_items self.old) }
         ensures slice { body_slice self.new
             ≡ slice_after_front (body_items self.old) (body_slice self.old) }
@@ -129,16 +129,16 @@ impl<'a> Body<'a> {
         if left.is_empty() {
             return None;
         }
-        let (piece, taken) = front_step(left, self.separators);
+        let (step, taken) = front_step(left, self.separators);
         self.from += taken;
         self.begin = Begin::Inside;
-        Some(piece)
+        Some(step)
     }
 
     /// Takes the last component that is left.
     #[inline(always)]
-    pub fn back(&mut self) -> Option<Piece<'a>>
-        ensures taken { option_map part_of result ≡ last_part (body_items self.old) }
+    pub fn back(&mut self) -> Option<Step<'a>>
+        ensures taken { option_map step_part result ≡ last_part (body_items self.old) }
         ensures items { body_items self.new ≡ but_last (body_items self.old) }
         ensures slice { body_slice self.new
             ≡ slice_after_back (body_items self.old) (body_slice self.old) }
@@ -153,8 +153,8 @@ impl<'a> Body<'a> {
         if left.is_empty() {
             return None;
         }
-        let (piece, kept) = back_step(left, self.separators);
+        let (step, kept) = back_step(left, self.separators);
         self.to = self.from + kept;
-        Some(piece)
+        Some(step)
     }
 }
