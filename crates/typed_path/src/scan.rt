@@ -21,5 +21,5 @@ pub use cut::{cut_at, cut_at_separator, cut_near, text_behind};
 pub use piece::{Piece, PieceKind, Step, StepKind};
 pub use prefix::{Found, WindowsPrefix, after_mark, drive, find_prefix};
 pub use separators::Separators;
-pub use shared::cursors_behind_shared;
+pub use shared::bodies_behind_shared;
 pub use step::step_of;

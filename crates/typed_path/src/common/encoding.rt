@@ -17,7 +17,6 @@ ghost use Rattle.typed_path.specs.changes.Push as push_spec;
 ghost use Rattle.typed_path.specs.changes.Push.{FitsPush};
 ghost use Rattle.typed_path.specs.changes.Fault.{fault};
 ghost use Rattle.typed_path.specs.order.Words.{path_words};
-ghost use Rattle.typed_path.specs.order.Same.{left_cmp, path_cmp};
 ghost use Rattle.typed_path.specs.conversions.Convert.{crossed_all, crossed_room};
 
 use crate::common::hash::{feed, feed_prefix};
@@ -49,15 +48,6 @@ pub trait Encoding: Sized {
     fn cursor(path: &[u8]) -> Cursor<'_>
         ensures items { items_left result ≡ comps dialect path.now }
         ensures slice { slice_left result ≡ path.now };
-
-    /// Readings of two texts that compare as the texts do. Components that both begin with may be
-    /// left out of both.
-    fn cursors<'a>(path: &'a [u8], other: &'a [u8]) -> (Cursor<'a>, Cursor<'a>)
-        ensures { left_cmp (items_left result.0) (items_left result.1)
-            ≡ path_cmp dialect path.now other.now }
-    {
-        (Self::cursor(path), Self::cursor(other))
-    }
 
     /// Takes the first component that is left, with the separators behind it.
     fn front<'a>(cursor: &mut Cursor<'a>) -> Option<Piece<'a>>

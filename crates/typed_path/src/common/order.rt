@@ -1,17 +1,18 @@
 //! Equality and order of paths, by their components.
 //!
-//! Prefixes come first, so that the loops over the other components hold none.
+//! Prefixes come first, so that the loops over the other components hold none. The loops stand in
+//! functions that are generic over the encoding, which build each step in for its separators.
 
 ghost use Rattle.std.specs.Prelude.{◌≡◌, List, ◌∷◌, None, option_map};
 ghost use Rattle.std.specs.Ordering.{is_eq};
 ghost use Rattle.typed_path.specs.components.Part.{Prefix, Kind, prefix, kinds, parts};
 ghost use Rattle.typed_path.specs.queries.Queries.{first_prefix};
-ghost use Rattle.typed_path.specs.order.Same.{kind_cmp, are_same_prefixes, kinds_cmp, left_cmp, is_same, path_cmp};
+ghost use Rattle.typed_path.specs.order.Same.{kind_cmp, are_same_prefixes, kinds_cmp, is_same, path_cmp};
 ghost use Rattle.typed_path.specs.views.BodyViews.{body_items};
 ghost use Rattle.typed_path.specs.views.PieceViews.{prefix_view, step_part, step_place};
 
 use crate::common::encoding::Encoding;
-use crate::scan::{Body, Step, StepKind, WindowsPrefix};
+use crate::scan::{Body, Step, StepKind, WindowsPrefix, bodies_behind_shared};
 use std::cmp::Ordering;
 
 /// The place of a kind among those that stand behind the prefix.
@@ -74,42 +75,6 @@ fn have_same_prefixes(own: Option<WindowsPrefix<'_>>, other: Option<WindowsPrefi
     }
 }
 
-/// Whether two bodies have the same components left, read from the back.
-#[inline(always)]
-fn have_same_steps(mut rest: Body<'_>, mut wanted: Body<'_>) -> bool
-    ensures { result ≡ is_eq (left_cmp (body_items rest.entry) (body_items wanted.entry)) }
-{
-    'steps: while let Some(step) = wanted.back() {
-        let Some(own) = rest.back() else {
-            return false;
-        };
-        if !is_same_step(own, step) {
-            return false;
-        }
-    }
-    rest.back().is_none()
-}
-
-/// The order of the components that two bodies have left, read from the front.
-#[inline(always)]
-fn compare_bodies(mut rest: Body<'_>, mut wanted: Body<'_>) -> Ordering
-    ensures { result ≡ left_cmp (body_items rest.entry) (body_items wanted.entry) }
-{
-    'steps: while let Some(step) = wanted.front() {
-        let Some(own) = rest.front() else {
-            return Ordering::Less;
-        };
-        let order = compare_steps(own, step);
-        if order.is_ne() {
-            return order;
-        }
-    }
-    match rest.front() {
-        Some(_) => Ordering::Greater,
-        None => Ordering::Equal,
-    }
-}
-
 /// The order of a list that begins with a prefix and one that has none: it comes first, but for the
 /// empty list.
 fn order_of_prefixed(mut bare: Body<'_>) -> Ordering
@@ -127,30 +92,56 @@ fn order_of_prefixed(mut bare: Body<'_>) -> Ordering
 fn have_same_components<T: Encoding>(path: &[u8], other: &[u8]) -> bool
     ensures { result ≡ is_same T.dialect path.now other.now }
 {
-    let rest = T::cursor(path);
-    let wanted = T::cursor(other);
-    have_same_prefixes(rest.prefix(), wanted.prefix())
-        && have_same_steps(rest.body(), wanted.body())
+    let own = T::cursor(path);
+    let others = T::cursor(other);
+    if !have_same_prefixes(own.prefix(), others.prefix()) {
+        return false;
+    }
+    let mut rest = own.body();
+    let mut wanted = others.body();
+    'steps: while let Some(step) = wanted.back() {
+        let Some(own) = rest.back() else {
+            return false;
+        };
+        if !is_same_step(own, step) {
+            return false;
+        }
+    }
+    rest.back().is_none()
 }
 
-/// The order of the components of two texts, the prefix first and then from the front.
+/// The order of the components of two texts, the prefix first and then from the front. Those that
+/// both begin with, by their bytes, are not read.
 fn compare_components<T: Encoding>(path: &[u8], other: &[u8]) -> Ordering
     ensures { result ≡ path_cmp T.dialect path.now other.now }
 {
-    let rest = T::cursor(path);
-    let wanted = T::cursor(other);
-    match (rest.prefix(), wanted.prefix()) {
-        (Some(own), Some(other)) => {
-            let order = compare_prefixes(own, other);
+    let own = T::cursor(path);
+    let others = T::cursor(other);
+    match (own.prefix(), others.prefix()) {
+        (Some(prefix), Some(other)) => {
+            let order = compare_prefixes(prefix, other);
             if order.is_ne() {
                 return order;
             }
         }
-        (Some(_), None) => return order_of_prefixed(wanted.body()),
-        (None, Some(_)) => return order_of_prefixed(rest.body()).reverse(),
+        (Some(_), None) => return order_of_prefixed(others.body()),
+        (None, Some(_)) => return order_of_prefixed(own.body()).reverse(),
         (None, None) => {}
     }
-    compare_bodies(rest.body(), wanted.body())
+    let (mut rest, mut wanted) = bodies_behind_shared(own.body(), others.body());
+    'steps: while let Some(step) = wanted.front() {
+        let Some(own) = rest.front() else {
+            return Ordering::Less;
+        };
+        let order = compare_steps(own, step);
+        if order.is_ne() {
+            return order;
+        }
+    }
+    match rest.front() {
+        Some(_) => Ordering::Greater,
+        None => Ordering::Equal,
+    }
 }
 
 /// Whether two texts have the same components. Where their bytes are equal, neither is read.

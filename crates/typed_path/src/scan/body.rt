@@ -24,7 +24,7 @@ pub struct Body<'a> {
 }
 
 impl<'a> Body<'a> {
-    ghost use Rattle.std.specs.Prelude.{◌≡◌, ◌≤◌, [], true, drop, length, option_map, IfSome, IfNone};
+    ghost use Rattle.std.specs.Prelude.{◌≡◌, ◌≤◌, [], true, drop, length, option_map, IfSome, IfNone, IsTrue};
     ghost use Rattle.typed_path.specs.components.Comps.{body, later_body};
     ghost use Rattle.typed_path.specs.declared.scan.begin.Begin.{Begin};
     ghost use Rattle.typed_path.specs.scan.Left.{but_last, last_of, slice_after_front, slice_after_back};
@@ -57,6 +57,7 @@ impl<'a> Body<'a> {
     }
 
     /// A reading of what stands in a text from a component on, behind others.
+    #[inline(always)]
     pub fn inside(text: &'a [u8], from: usize, separators: Separators) -> Body<'a>
         requires within { from ≤ length text.now }
         requires clean { is_clean Begin.Inside separators (drop from text.now) ≡ true }
@@ -78,6 +79,14 @@ impl<'a> Body<'a> {
         ensures { result.now ≡ body_slice self.now }
     {
         &self.text[self.from..self.to]
+    }
+
+    /// Whether no step from the front was taken.
+    #[inline(always)]
+    pub fn is_whole(&self) -> bool
+        ensures { IsTrue result → self.now.begin ≡ Begin.Body }
+    {
+        matches!(self.begin, Begin::Body)
     }
 
     /// Whether the first component that is left is the root.

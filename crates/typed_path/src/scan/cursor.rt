@@ -47,18 +47,6 @@ impl<'a> Cursor<'a> {
         }
     }
 
-    /// A reading of what stands in a text from a component on, behind others.
-    pub(crate) fn inside(text: &'a [u8], from: usize, separators: Separators) -> Cursor<'a>
-        requires within { from ≤ length text.now }
-        requires clean { is_clean Begin.Inside separators (drop from text.now) ≡ true }
-        ensures { items_left result ≡ later_body separators from (drop from text.now) }
-    {
-        Cursor {
-            prefix: None,
-            body: Body::inside(text, from, separators),
-        }
-    }
-
     /// A reading of a whole text that begins with a prefix.
     #[inline(always)]
     pub(crate) fn with_prefix(

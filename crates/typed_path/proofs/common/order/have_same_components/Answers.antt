@@ -3,27 +3,46 @@ use Rattle.std.specs.Prelude.{option_map}
 use Rattle.std.specs.Ordering.{is_eq}
 use Rattle.typed_path.specs.queries.Queries.{behind_prefix}
 use Rattle.typed_path.specs.order.Same.{left_cmp}
+use Rattle.typed_path.specs.views.BodyViews.{body_items}
 use Rattle.typed_path.specs.views.CursorViews.{items_left}
-use Rattle.typed_path.specs.views.PieceViews.{prefix_view}
-use Rattle.typed_path.proofs.lemmas.order.KindLemmas.{is_left_same}
+use Rattle.typed_path.specs.views.PieceViews.{prefix_view, step_part}
+use Rattle.typed_path.proofs.lemmas.order.KindLemmas.{is_left_same, same-end, same-fewer, same-differ, same-alike}
 use Rattle.typed_path.proofs.lemmas.order.PrefixFirst.{same-prefixes}
 use Rattle.typed_path.proofs.common.order.have_same_components.Goals as goal
 
-pub returns-then-have_same_prefixes : goal.returns-then-have_same_prefixes
-returns-then-have_same_prefixes g c =
-    let cs = items_left c.cursor-rest.result in
-    let ds = items_left c.cursor-wanted.result in
-    c.have_same_steps.ensures
-    ∙ ap is_eq (ap₂ left_cmp c.body.ensures c.body-then-have_same_prefixes.ensures)
-    ∙ sym (same-prefixes cs ds (option_map prefix_view c.prefix.result) (option_map prefix_view c.prefix-2.result) c.prefix.ensures c.prefix-2.ensures
-    ∙ ap (λ b. b && is_left_same (behind_prefix cs) (behind_prefix ds)) (sym c.have_same_prefixes.ensures ∙ c.if-have_same_prefixes.true))
-    ∙ ap is_eq (ap₂ left_cmp c.cursor-rest.ensures.items c.cursor-wanted.ensures.items)
+pub returns-then-not-have_same_prefixes : goal.returns-then-not-have_same_prefixes
+returns-then-not-have_same_prefixes g c =
+    let cs = items_left c.cursor-own.result in
+    let ds = items_left c.cursor-others.result in
+    sym (same-prefixes cs ds (option_map prefix_view c.prefix.result) (option_map prefix_view c.prefix-2.result) c.prefix.ensures c.prefix-2.ensures
+    ∙ ap (λ b. b && is_left_same (behind_prefix cs) (behind_prefix ds)) (sym c.have_same_prefixes.ensures ∙ c.if-not-have_same_prefixes.true))
+    ∙ ap is_eq (ap₂ left_cmp c.cursor-own.ensures.items c.cursor-others.ensures.items)
 
-pub returns-else-have_same_prefixes : goal.returns-else-have_same_prefixes
-returns-else-have_same_prefixes g c =
-    let cs = items_left c.cursor-rest.result in
-    let ds = items_left c.cursor-wanted.result in
-    c.if-have_same_prefixes.false
-    ∙ sym (same-prefixes cs ds (option_map prefix_view c.prefix.result) (option_map prefix_view c.prefix-2.result) c.prefix.ensures c.prefix-2.ensures
-    ∙ ap (λ b. b && is_left_same (behind_prefix cs) (behind_prefix ds)) (sym c.have_same_prefixes.ensures ∙ c.if-have_same_prefixes.false))
-    ∙ ap is_eq (ap₂ left_cmp c.cursor-rest.ensures.items c.cursor-wanted.ensures.items)
+pub steps-init : goal.steps-init
+steps-init g c =
+    let cs = items_left c.cursor-own.result in
+    let ds = items_left c.cursor-others.result in
+    ap is_eq (sym (ap₂ left_cmp c.cursor-own.ensures.items c.cursor-others.ensures.items))
+    ∙ same-prefixes cs ds (option_map prefix_view c.prefix.result) (option_map prefix_view c.prefix-2.result) c.prefix.ensures c.prefix-2.ensures
+    ∙ ap (λ b. b && is_left_same (behind_prefix cs) (behind_prefix ds)) (sym c.have_same_prefixes.ensures ∙ c.if-not-have_same_prefixes.false)
+    ∙ ap is_eq (sym (ap₂ left_cmp c.body-rest.ensures c.body-wanted.ensures))
+
+pub returns-in_default-back : goal.returns-in_default-back
+returns-in_default-back g c =
+    sym (c.steps.invariant ∙ same-fewer (body_items c.steps.rest) (body_items c.steps.wanted) (step_part c.in-Some.step) c.in-Some.ensures.taken c.in_default-back.ensures.taken)
+
+pub returns-then-not-is_same_step : goal.returns-then-not-is_same_step
+returns-then-not-is_same_step g c =
+    sym (c.steps.invariant
+    ∙ same-differ (body_items c.steps.rest) (body_items c.steps.wanted) (step_part c.in-Some.step) (step_part c.in-Some-back.own) c.in-Some.ensures.taken c.in-Some-back.ensures.taken (sym c.is_same_step.ensures ∙ c.if-not-is_same_step.true))
+
+pub steps-preserved : goal.steps-preserved
+steps-preserved g c =
+    c.steps.invariant
+    ∙ same-alike (body_items c.steps.rest) (body_items c.steps.wanted) (body_items c.back-in-Some.new.self) (body_items c.back.new.self) (step_part c.in-Some.step) (step_part c.in-Some-back.own)
+    c.in-Some.ensures.taken c.in-Some-back.ensures.taken (sym c.is_same_step.ensures ∙ c.if-not-is_same_step.false) c.in-Some-back.ensures.items c.in-Some.ensures.items
+
+pub returns : goal.returns
+returns g c =
+    same-end step_part (body_items c.steps.rest) (body_items c.steps.wanted) c.back-2.result c.is_none.result c.in_default.ensures.taken c.back-2.ensures.taken c.is_none.ensures
+    ∙ sym c.steps.invariant
