@@ -51,10 +51,6 @@ impl Encoding for PlatformEncoding {
         UnixEncoding::cursor(path)
     }
 
-    fn cursors<'a>(path: &'a [u8], other: &'a [u8]) -> (Cursor<'a>, Cursor<'a>) {
-        UnixEncoding::cursors(path, other)
-    }
-
     #[inline(always)]
     fn front<'a>(cursor: &mut Cursor<'a>) -> Option<Piece<'a>> {
         UnixEncoding::front(cursor)

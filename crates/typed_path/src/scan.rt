@@ -15,10 +15,11 @@ mod step;
 
 pub use base::base_end;
 pub use begin::Begin;
+pub use body::Body;
 pub use cursor::Cursor;
 pub use cut::{cut_at, cut_at_separator, text_behind};
-pub use piece::{Piece, PieceKind};
+pub use piece::{Piece, PieceKind, Step, StepKind};
 pub use prefix::{Found, WindowsPrefix, after_mark, drive, find_prefix};
 pub use separators::Separators;
-pub use shared::cursors_behind_shared;
-pub use step::piece_of;
+pub use shared::bodies_behind_shared;
+pub use step::step_of;

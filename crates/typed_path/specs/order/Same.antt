@@ -1,9 +1,9 @@
 -- When two component lists are the same, and which is less.
-use Rattle.std.specs.Prelude.{◌≡◌, ℕ, List, [], ◌∷◌, Bool}
+use Rattle.std.specs.Prelude.{◌≡◌, ℕ, List, [], ◌∷◌, Bool, true, false, Option, Some, None}
 use Rattle.std.specs.declared.cmp.Ordering.{Ordering}
 use Rattle.std.specs.Ordering.{nat_cmp, is_eq}
 use Rattle.std.specs.Cmp.Lexicographic.{slice_cmp}
-use Rattle.typed_path.specs.components.Part.{verbatim, verbatim_unc, verbatim_disk, device_ns, unc, disk, Kind, prefix, root, current, parent, normal, Placed, kinds, parts}
+use Rattle.typed_path.specs.components.Part.{Prefix, verbatim, verbatim_unc, verbatim_disk, device_ns, unc, disk, Kind, prefix, root, current, parent, normal, Placed, kinds, parts}
 use Rattle.typed_path.specs.components.Dialect.{Dialect}
 use Rattle.typed_path.specs.components.Comps.{parts_of}
 
@@ -28,6 +28,12 @@ bytes_cmp = slice_cmp nat_cmp
 
 abbrev pub kind_cmp : Kind → Kind → Ordering
 kind_cmp k l = slice_cmp bytes_cmp (key k) (key l)
+
+-- two lists begin with the same prefix, or with none
+abbrev pub are_same_prefixes : Option Prefix → Option Prefix → Bool
+are_same_prefixes None None = true
+are_same_prefixes (Some p) (Some q) = is_eq (kind_cmp (prefix p) (prefix q))
+are_same_prefixes o r = false
 
 -- the order of lists: that of the first kinds in which they differ
 abbrev pub kinds_cmp : List Kind → List Kind → Ordering

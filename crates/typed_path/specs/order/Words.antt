@@ -1,5 +1,5 @@
 -- What a single component and a path feed to a hasher.
-use Rattle.std.specs.Prelude.{ℕ, List, [], ◌∷◌, ◌++◌, pos, sum_by}
+use Rattle.std.specs.Prelude.{ℕ, List, [], ◌∷◌, ◌++◌, pos, sum_by, Option, Some, None}
 use Rattle.std.specs.List.{flat_map}
 use Rattle.std.specs.Hash.{HashWrites, isize, slice, u8, usize}
 use Rattle.typed_path.specs.components.Dialect.{Dialect, dot}
@@ -23,6 +23,11 @@ prefix_words (verbatim_disk letter) = isize (pos 2) ++ u8 letter
 prefix_words (device_ns name) = isize (pos 3) ++ slice u8 name
 prefix_words (unc server share) = isize (pos 4) ++ (slice u8 server ++ slice u8 share)
 prefix_words (disk letter) = isize (pos 5) ++ u8 letter
+
+-- the prefix of a path, where it has one
+abbrev pub words_before : Option Prefix → HashWrites
+words_before None = []
+words_before (Some p) = prefix_words p
 
 -- a component of Windows: the place of its kind among those of Windows, and the prefix or the name
 abbrev pub windows_words : Kind → HashWrites

@@ -4,7 +4,7 @@ use Rattle.std.specs.List.{list_any, list_all, starts_with, ends_with, before_fi
 use Rattle.std.specs.Option.{option_map}
 use Rattle.std.specs.Str.{bytes_eq, str_eq_ignore_ascii_case}
 use Rattle.typed_path.specs.components.Dialect.{Dialect, unix, windows, slash, backslash, colon, question}
-use Rattle.typed_path.specs.components.Part.{Prefix, verbatim, verbatim_unc, verbatim_disk, device_ns, unc, disk, Kind, prefix, root, normal, Part, texts}
+use Rattle.typed_path.specs.components.Part.{Prefix, verbatim, verbatim_unc, verbatim_disk, device_ns, unc, disk, Kind, prefix, root, normal, Part, Placed, texts}
 use Rattle.typed_path.specs.components.Prefix.{is_empty}
 use Rattle.typed_path.specs.components.Comps.{comps, parts_of}
 use Rattle.typed_path.specs.scan.Left.{left, last_of}
@@ -85,6 +85,11 @@ prefix_part_in p = if is_prefix p.kind then Some p else None
 abbrev pub prefix_among : List Part → Option Part
 prefix_among [] = None
 prefix_among (p ∷ ps) = prefix_part_in p
+
+-- the components behind the prefix, or all where there is none
+abbrev pub behind_prefix : List Placed → List Placed
+behind_prefix [] = []
+behind_prefix (c ∷ cs) = if is_prefix c.part.kind then cs else c ∷ cs
 
 -- a prefix of one kind alone
 abbrev pub has_verbatim_prefix : List Kind → Bool

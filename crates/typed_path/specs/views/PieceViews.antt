@@ -6,6 +6,9 @@ use Rattle.typed_path.specs.declared.scan.prefix.Found.{Found}
 use Rattle.typed_path.specs.declared.scan.piece.Piece.{Piece}
 use Rattle.typed_path.specs.declared.scan.piece.PieceKind.{PieceKind}
 use Rattle.typed_path.specs.declared.scan.piece.PieceKind.TheVariants.{Prefix, RootDir, CurDir, ParentDir, Normal}
+use Rattle.typed_path.specs.declared.scan.piece.Step.{Step}
+use Rattle.typed_path.specs.declared.scan.piece.StepKind.{StepKind}
+use Rattle.typed_path.specs.declared.scan.piece.StepKind.TheVariants as step
 use Rattle.typed_path.specs.components.Part.{verbatim, verbatim_unc, verbatim_disk, device_ns, unc, disk, Kind, prefix, root, current, parent, normal, Part}
 use Rattle.typed_path.specs.components.Part as part
 use Rattle.typed_path.specs.components.Prefix as definitions
@@ -29,14 +32,24 @@ kind_view CurDir text = current
 kind_view ParentDir text = parent
 kind_view Normal text = normal text
 
--- the place of a kind among all kinds, where each prefix has the first
-abbrev pub kind_place : PieceKind → ℕ
-kind_place (Prefix p) = 0
-kind_place RootDir = 1
-kind_place CurDir = 2
-kind_place ParentDir = 3
-kind_place Normal = 4
-
 -- the component that a piece is
 abbrev pub part_of : Piece → Part
 part_of p = record { kind = kind_view p.kind p.text.now; text = p.text.now }
+
+-- the same of a component behind the prefix
+abbrev pub step_view : StepKind → List ℕ → Kind
+step_view step.RootDir text = root
+step_view step.CurDir text = current
+step_view step.ParentDir text = parent
+step_view step.Normal text = normal text
+
+-- the place of its kind among those that stand behind the prefix
+abbrev pub step_place : StepKind → ℕ
+step_place step.RootDir = 0
+step_place step.CurDir = 1
+step_place step.ParentDir = 2
+step_place step.Normal = 3
+
+-- the component that it is
+abbrev pub step_part : Step → Part
+step_part s = record { kind = step_view s.kind s.text.now; text = s.text.now }

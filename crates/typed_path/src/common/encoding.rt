@@ -19,9 +19,8 @@ ghost use Rattle.typed_path.specs.changes.Push.{FitsPush};
 ghost use Rattle.typed_path.specs.changes.Spelled.{IsKnown};
 ghost use Rattle.typed_path.specs.changes.Fault.{fault};
 ghost use Rattle.typed_path.specs.order.Words.{path_words};
-ghost use Rattle.typed_path.specs.order.Same.{left_cmp, path_cmp};
 
-use crate::common::hash::feed;
+use crate::common::hash::{feed, feed_prefix};
 use crate::errors::{CheckedPathError, PathError};
 use crate::scan::{Cursor, Piece};
 use std::alloc::{AllocError, Global};
@@ -50,15 +49,6 @@ pub trait Encoding: Sized {
     fn cursor(path: &[u8]) -> Cursor<'_>
         ensures items { items_left result ≡ comps dialect path.now }
         ensures slice { slice_left result ≡ path.now };
-
-    /// Readings of two texts that compare as the texts do. Components that both begin with may be
-    /// left out of both.
-    fn cursors<'a>(path: &'a [u8], other: &'a [u8]) -> (Cursor<'a>, Cursor<'a>)
-        ensures { left_cmp (items_left result.0) (items_left result.1)
-            ≡ path_cmp dialect path.now other.now }
-    {
-        (Self::cursor(path), Self::cursor(other))
-    }
 
     /// Takes the first component that is left, with the separators behind it.
     fn front<'a>(cursor: &mut Cursor<'a>) -> Option<Piece<'a>>
@@ -99,10 +89,12 @@ pub trait Encoding: Sized {
     fn hash<H: Hasher>(path: &[u8], state: &mut H)
         ensures { state.new ≡ fold H.write state.old (path_words dialect path.now) }
     {
-        let mut cursor = Self::cursor(path);
+        let cursor = Self::cursor(path);
+        feed_prefix(cursor.prefix(), state);
+        let mut body = cursor.body();
         let mut len = 0;
-        'pieces: while let Some(piece) = Self::front(&mut cursor) {
-            len += feed(piece, state);
+        'steps: while let Some(step) = body.front() {
+            len += feed(step, state);
         }
         state.write_usize(len);
     }

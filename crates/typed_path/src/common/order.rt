@@ -1,89 +1,144 @@
 //! Equality and order of paths, by their components.
+//!
+//! Prefixes come first, so that the loops over the other components hold none. The loops stand in
+//! functions that are generic over the encoding, which build each step in for its separators.
 
-ghost use Rattle.std.specs.Prelude.{◌≡◌};
+ghost use Rattle.std.specs.Prelude.{◌≡◌, List, ◌∷◌, None, option_map};
 ghost use Rattle.std.specs.Ordering.{is_eq};
-ghost use Rattle.typed_path.specs.order.Same.{kind_cmp, is_same, path_cmp};
-ghost use Rattle.typed_path.specs.views.PieceViews.{part_of, kind_place};
+ghost use Rattle.typed_path.specs.components.Part.{Prefix, Kind, prefix, kinds, parts};
+ghost use Rattle.typed_path.specs.queries.Queries.{first_prefix};
+ghost use Rattle.typed_path.specs.order.Same.{kind_cmp, are_same_prefixes, kinds_cmp, is_same, path_cmp};
+ghost use Rattle.typed_path.specs.views.BodyViews.{body_items};
+ghost use Rattle.typed_path.specs.views.PieceViews.{prefix_view, step_part, step_place};
 
 use crate::common::encoding::Encoding;
-use crate::scan::{Piece, PieceKind};
+use crate::scan::{Body, Step, StepKind, WindowsPrefix, bodies_behind_shared};
 use std::cmp::Ordering;
 
-/// Whether two components are of one kind, with one name. How a prefix is written is no part of it.
+/// The place of a kind among those that stand behind the prefix.
 #[inline(always)]
-fn is_same_kind(piece: Piece<'_>, other: Piece<'_>) -> bool
-    ensures { result ≡ is_eq (kind_cmp (part_of piece.entry).kind (part_of other.entry).kind) }
+fn place(kind: StepKind) -> u8
+    ensures { result ≡ step_place kind }
 {
-    match (piece.kind, other.kind) {
-        (PieceKind::Normal, PieceKind::Normal) => piece.text == other.text,
-        (PieceKind::Prefix(prefix), PieceKind::Prefix(wanted)) => prefix.cmp(&wanted).is_eq(),
-        (PieceKind::RootDir, PieceKind::RootDir)
-        | (PieceKind::CurDir, PieceKind::CurDir)
-        | (PieceKind::ParentDir, PieceKind::ParentDir) => true,
-        _ => false,
+    match kind {
+        StepKind::RootDir => 0,
+        StepKind::CurDir => 1,
+        StepKind::ParentDir => 2,
+        StepKind::Normal => 3,
     }
 }
 
-/// The place of a kind among all kinds, where each prefix has the first.
+/// Whether two components are of one kind, with one name.
 #[inline(always)]
-fn place(kind: PieceKind<'_>) -> u8
-    ensures { result ≡ kind_place kind.entry }
+fn is_same_step(step: Step<'_>, other: Step<'_>) -> bool
+    ensures { result ≡ is_eq (kind_cmp (step_part step.entry).kind (step_part other.entry).kind) }
 {
-    match kind {
-        PieceKind::Prefix(_) => 0,
-        PieceKind::RootDir => 1,
-        PieceKind::CurDir => 2,
-        PieceKind::ParentDir => 3,
-        PieceKind::Normal => 4,
+    match (step.kind, other.kind) {
+        (StepKind::Normal, StepKind::Normal) => step.text == other.text,
+        (StepKind::RootDir, StepKind::RootDir)
+        | (StepKind::CurDir, StepKind::CurDir)
+        | (StepKind::ParentDir, StepKind::ParentDir) => true,
+        _ => false,
     }
 }
 
 /// The order of two components: by kind, and then by name.
 #[inline(always)]
-fn compare_kinds(piece: Piece<'_>, other: Piece<'_>) -> Ordering
-    ensures { result ≡ kind_cmp (part_of piece.entry).kind (part_of other.entry).kind }
+fn compare_steps(step: Step<'_>, other: Step<'_>) -> Ordering
+    ensures { result ≡ kind_cmp (step_part step.entry).kind (step_part other.entry).kind }
 {
-    if let (PieceKind::Normal, PieceKind::Normal) = (piece.kind, other.kind) {
-        return piece.text.cmp(other.text);
+    if let (StepKind::Normal, StepKind::Normal) = (step.kind, other.kind) {
+        return step.text.cmp(other.text);
     }
-    if let (PieceKind::Prefix(prefix), PieceKind::Prefix(wanted)) = (piece.kind, other.kind) {
-        return prefix.cmp(&wanted);
-    }
-    place(piece.kind).cmp(&place(other.kind))
+    place(step.kind).cmp(&place(other.kind))
 }
 
-/// Whether two texts have the same components, read from the back.
+/// The order of two prefixes: by kind, and then by names. How they are written is no part of it.
+#[inline(always)]
+fn compare_prefixes(own: WindowsPrefix<'_>, other: WindowsPrefix<'_>) -> Ordering
+    ensures { result
+        ≡ kind_cmp (prefix (prefix_view own.entry)) (prefix (prefix_view other.entry)) }
+{
+    own.cmp(&other)
+}
+
+/// Whether two paths have the same prefix, or both none.
+#[inline(always)]
+fn have_same_prefixes(own: Option<WindowsPrefix<'_>>, other: Option<WindowsPrefix<'_>>) -> bool
+    ensures { result ≡ are_same_prefixes (option_map prefix_view own.entry)
+        (option_map prefix_view other.entry) }
+{
+    match (own, other) {
+        (Some(own), Some(other)) => compare_prefixes(own, other).is_eq(),
+        (None, None) => true,
+        _ => false,
+    }
+}
+
+/// The order of a list that begins with a prefix and one that has none: it comes first, but for the
+/// empty list.
+fn order_of_prefixed(mut bare: Body<'_>) -> Ordering
+    ensures { (p : Prefix) (ks : List Kind)
+        → None ≡ first_prefix (kinds (parts (body_items bare.entry)))
+        → result ≡ kinds_cmp (prefix p ∷ ks) (kinds (parts (body_items bare.entry))) }
+{
+    match bare.front() {
+        Some(_) => Ordering::Less,
+        None => Ordering::Greater,
+    }
+}
+
+/// Whether two texts have the same components, the prefix first and then from the back.
 fn have_same_components<T: Encoding>(path: &[u8], other: &[u8]) -> bool
     ensures { result ≡ is_same T.dialect path.now other.now }
 {
-    let mut rest = T::cursor(path);
-    let mut wanted = T::cursor(other);
-    'pieces: while let Some(piece) = T::back(&mut wanted) {
-        let Some(own) = T::back(&mut rest) else {
+    let own = T::cursor(path);
+    let others = T::cursor(other);
+    if !have_same_prefixes(own.prefix(), others.prefix()) {
+        return false;
+    }
+    let mut rest = own.body();
+    let mut wanted = others.body();
+    'steps: while let Some(step) = wanted.back() {
+        let Some(own) = rest.back() else {
             return false;
         };
-        if !is_same_kind(own, piece) {
+        if !is_same_step(own, step) {
             return false;
         }
     }
-    T::back(&mut rest).is_none()
+    rest.back().is_none()
 }
 
-/// The order of the components of two texts, read from the front.
+/// The order of the components of two texts, the prefix first and then from the front. Those that
+/// both begin with, by their bytes, are not read.
 fn compare_components<T: Encoding>(path: &[u8], other: &[u8]) -> Ordering
     ensures { result ≡ path_cmp T.dialect path.now other.now }
 {
-    let (mut rest, mut wanted) = T::cursors(path, other);
-    'pieces: while let Some(piece) = T::front(&mut wanted) {
-        let Some(own) = T::front(&mut rest) else {
+    let own = T::cursor(path);
+    let others = T::cursor(other);
+    match (own.prefix(), others.prefix()) {
+        (Some(prefix), Some(other)) => {
+            let order = compare_prefixes(prefix, other);
+            if order.is_ne() {
+                return order;
+            }
+        }
+        (Some(_), None) => return order_of_prefixed(others.body()),
+        (None, Some(_)) => return order_of_prefixed(own.body()).reverse(),
+        (None, None) => {}
+    }
+    let (mut rest, mut wanted) = bodies_behind_shared(own.body(), others.body());
+    'steps: while let Some(step) = wanted.front() {
+        let Some(own) = rest.front() else {
             return Ordering::Less;
         };
-        let order = compare_kinds(own, piece);
+        let order = compare_steps(own, step);
         if order.is_ne() {
             return order;
         }
     }
-    match T::front(&mut rest) {
+    match rest.front() {
         Some(_) => Ordering::Greater,
         None => Ordering::Equal,
     }

@@ -6,7 +6,7 @@ ghost use Rattle.typed_path.specs.scan.Steps.{is_clean};
 use crate::errors::CheckedPathError;
 use crate::scan::begin::Begin;
 use crate::scan::depth::depth_behind;
-use crate::scan::piece::Piece;
+use crate::scan::piece::Step;
 use crate::scan::separators::Separators;
 use crate::scan::step::{back_step, front_step, trim_blanks};
 
@@ -24,14 +24,14 @@ pub struct Body<'a> {
 }
 
 impl<'a> Body<'a> {
-    ghost use Rattle.std.specs.Prelude.{◌≡◌, ◌≤◌, [], true, drop, length, option_map, IfSome, IfNone};
+    ghost use Rattle.std.specs.Prelude.{◌≡◌, ◌≤◌, [], true, drop, length, option_map, IfSome, IfNone, IsTrue};
     ghost use Rattle.typed_path.specs.components.Comps.{body, later_body};
     ghost use Rattle.typed_path.specs.declared.scan.begin.Begin.{Begin};
     ghost use Rattle.typed_path.specs.scan.Left.{but_last, last_of, slice_after_front, slice_after_back};
     ghost use Rattle.typed_path.specs.components.Part.{Placed, end_of, kinds, parts};
     ghost use Rattle.typed_path.specs.queries.Queries.{begins_with_root};
     ghost use Rattle.typed_path.specs.scan.Steps.{first_part, last_part, end_from};
-    ghost use Rattle.typed_path.specs.views.PieceViews.{part_of};
+    ghost use Rattle.typed_path.specs.views.PieceViews.{step_part};
     ghost use Rattle.typed_path.specs.views.BodyViews.{body_slice, body_items};
     ghost use Rattle.typed_path.specs.changes.Checked.{error_of};
     ghost use Rattle.typed_path.specs.components.Dialect.{dialect_of};
@@ -57,6 +57,7 @@ impl<'a> Body<'a> {
     }
 
     /// A reading of what stands in a text from a component on, behind others.
+    #[inline(always)]
     pub fn inside(text: &'a [u8], from: usize, separators: Separators) -> Body<'a>
         requires within { from ≤ length text.now }
         requires clean { is_clean Begin.Inside separators (drop from text.now) ≡ true }
@@ -78,6 +79,14 @@ impl<'a> Body<'a> {
         ensures { result.now ≡ body_slice self.now }
     {
         &self.text[self.from..self.to]
+    }
+
+    /// Whether no step from the front was taken.
+    #[inline(always)]
+    pub fn is_whole(&self) -> bool
+        ensures { IsTrue result → self.now.begin ≡ Begin.Body }
+    {
+        matches!(self.begin, Begin::Body)
     }
 
     /// Whether the first component that is left is the root.
@@ -110,16 +119,16 @@ impl<'a> Body<'a> {
     {
         let allowed = self.separators.allows_names_of(self.as_bytes());
         let mut depth = 0usize;
-        'pieces: while let Some(piece) = self.front() {
-            depth = depth_behind(piece, depth, self.separators, allowed)?;
+        'steps: while let Some(step) = self.front() {
+            depth = depth_behind(step, depth, self.separators, allowed)?;
         }
         Ok(())
     }
 
     /// Takes the first component that is left.
     #[inline(always)]
-    pub fn front(&mut self) -> Option<Piece<'a>>
-        ensures taken { option_map part_of result ≡ first_part (body_items self.old) }
+    pub fn front(&mut self) -> Option<Step<'a>>
+        ensures taken { option_map step_part result ≡ first_part (body_items self.old) }
         ensures items { body_items self.new ≡ drop 1 (body_items self.old) }
         ensures slice { body_slice self.new
             ≡ slice_after_front (body_items self.old) (body_slice self.old) }
@@ -129,16 +138,16 @@ impl<'a> Body<'a> {
         if left.is_empty() {
             return None;
         }
-        let (piece, taken) = front_step(left, self.separators);
+        let (step, taken) = front_step(left, self.separators);
         self.from += taken;
         self.begin = Begin::Inside;
-        Some(piece)
+        Some(step)
     }
 
     /// Takes the last component that is left.
     #[inline(always)]
-    pub fn back(&mut self) -> Option<Piece<'a>>
-        ensures taken { option_map part_of result ≡ last_part (body_items self.old) }
+    pub fn back(&mut self) -> Option<Step<'a>>
+        ensures taken { option_map step_part result ≡ last_part (body_items self.old) }
         ensures items { body_items self.new ≡ but_last (body_items self.old) }
         ensures slice { body_slice self.new
             ≡ slice_after_back (body_items self.old) (body_slice self.old) }
@@ -153,8 +162,8 @@ impl<'a> Body<'a> {
         if left.is_empty() {
             return None;
         }
-        let (piece, kept) = back_step(left, self.separators);
+        let (step, kept) = back_step(left, self.separators);
         self.to = self.from + kept;
-        Some(piece)
+        Some(step)
     }
 }

@@ -25,9 +25,10 @@ impl<'a> Cursor<'a> {
     ghost use Rattle.typed_path.specs.declared.scan.begin.Begin.{Begin};
     ghost use Rattle.typed_path.specs.scan.Left.{but_last, last_of, slice_after_front, slice_after_back};
     ghost use Rattle.typed_path.specs.components.Part.{Placed, end_of, kinds, parts, prefix_part};
-    ghost use Rattle.typed_path.specs.queries.Queries.{begins_with_root, first_prefix, prefix_among, has_prefix, has_physical_root};
+    ghost use Rattle.typed_path.specs.queries.Queries.{begins_with_root, first_prefix, prefix_among, behind_prefix, has_prefix, has_physical_root};
     ghost use Rattle.typed_path.specs.scan.Steps.{first_part, last_part, is_clean};
     ghost use Rattle.typed_path.specs.views.PieceViews.{part_of, prefix_view};
+    ghost use Rattle.typed_path.specs.views.BodyViews.{body_items};
     ghost use Rattle.typed_path.specs.views.CursorViews.{slice_left, items_left, cursor_separators};
     ghost use Rattle.typed_path.specs.changes.Checked.{error_of};
     ghost use Rattle.typed_path.specs.components.Dialect.{dialect_of};
@@ -43,18 +44,6 @@ impl<'a> Cursor<'a> {
         Cursor {
             prefix: None,
             body: Body::new(text, 0, separators),
-        }
-    }
-
-    /// A reading of what stands in a text from a component on, behind others.
-    pub(crate) fn inside(text: &'a [u8], from: usize, separators: Separators) -> Cursor<'a>
-        requires within { from ≤ length text.now }
-        requires clean { is_clean Begin.Inside separators (drop from text.now) ≡ true }
-        ensures { items_left result ≡ later_body separators from (drop from text.now) }
-    {
-        Cursor {
-            prefix: None,
-            body: Body::inside(text, from, separators),
         }
     }
 
@@ -119,6 +108,14 @@ impl<'a> Cursor<'a> {
         Some(prefix_piece(self.body.text, self.body.from, found))
     }
 
+    /// What is left behind the prefix.
+    #[inline(always)]
+    pub(crate) fn body(&self) -> Body<'a>
+        ensures { body_items result ≡ behind_prefix (items_left self.now) }
+    {
+        self.body
+    }
+
     /// Whether the first component that is left, the prefix aside, is the root.
     #[inline(always)]
     pub(crate) fn has_physical_root(&self) -> bool
@@ -166,7 +163,7 @@ impl<'a> Cursor<'a> {
     {
         match self.prefix {
             Some(found) => Some(self.take_prefix(found)),
-            None => self.body.front(),
+            None => Some(self.body.front()?.piece()),
         }
     }
 
@@ -192,8 +189,8 @@ impl<'a> Cursor<'a> {
         ensures slice { slice_left self.new
             ≡ slice_after_back (items_left self.old) (slice_left self.old) }
     {
-        if let Some(piece) = self.body.back() {
-            return Some(piece);
+        if let Some(step) = self.body.back() {
+            return Some(step.piece());
         }
         let found = self.prefix?;
         Some(self.take_prefix(found))

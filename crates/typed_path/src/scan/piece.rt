@@ -26,6 +26,51 @@ pub struct Piece<'a> {
     pub text: &'a [u8],
 }
 
+/// What a component behind the prefix is.
+#[derive(Clone, Copy, Debug)]
+pub enum StepKind {
+    /// The root directory.
+    RootDir,
+    /// The current directory, `.`.
+    CurDir,
+    /// The parent directory, `..`.
+    ParentDir,
+    /// A name.
+    Normal,
+}
+
+/// One component behind the prefix. A `Piece` has room for a prefix, which a walk would copy at each
+/// step; this has none.
+#[derive(Clone, Copy, Debug)]
+pub struct Step<'a> {
+    /// What the component is.
+    pub kind: StepKind,
+    /// How it is written.
+    pub text: &'a [u8],
+}
+
+impl<'a> Step<'a> {
+    ghost use Rattle.std.specs.Prelude.{◌≡◌};
+    ghost use Rattle.typed_path.specs.views.PieceViews.{part_of, step_part};
+
+    /// The same component as one of a whole path.
+    #[inline(always)]
+    pub fn piece(self) -> Piece<'a>
+        ensures { part_of result ≡ step_part self.entry }
+    {
+        let kind = match self.kind {
+            StepKind::RootDir => PieceKind::RootDir,
+            StepKind::CurDir => PieceKind::CurDir,
+            StepKind::ParentDir => PieceKind::ParentDir,
+            StepKind::Normal => PieceKind::Normal,
+        };
+        Piece {
+            kind,
+            text: self.text,
+        }
+    }
+}
+
 impl<'a> Piece<'a> {
     ghost use Rattle.std.specs.Prelude.{◌≡◌, ◌==◌, length};
     ghost use Rattle.typed_path.specs.queries.Queries.{is_root};

@@ -60,6 +60,19 @@ impl Separators {
         byte == one || byte == other
     }
 
+    /// Whether both are one set.
+    #[inline(always)]
+    pub fn is_same(self, other: Separators) -> bool
+        ensures { IsTrue result → self ≡ other }
+    {
+        matches!(
+            (self, other),
+            (Separators::Slash, Separators::Slash)
+                | (Separators::Backslash, Separators::Backslash)
+                | (Separators::Either, Separators::Either)
+        )
+    }
+
     /// Whether a later `.` is a component.
     #[inline(always)]
     pub fn is_verbatim(self) -> bool

@@ -3,10 +3,10 @@
 ghost use Rattle.std.specs.Prelude.{◌≡◌, ◌≤◌, ◌<◌, ◌+◌, ◌++◌, ℕ, true, not, take, drop, length, IfSome, IfNone};
 ghost use Rattle.typed_path.specs.components.Comps.{component, first, later_body};
 ghost use Rattle.typed_path.specs.scan.Steps.{body_from, is_clean, is_trimmed, end_from};
-ghost use Rattle.typed_path.specs.views.PieceViews.{part_of};
+ghost use Rattle.typed_path.specs.views.PieceViews.{step_part};
 ghost use Rattle.typed_path.specs.declared.scan.begin.Begin.{Begin};
 
-use crate::scan::piece::{Piece, PieceKind};
+use crate::scan::piece::{Step, StepKind};
 use crate::scan::separators::Separators;
 
 /// How many bytes at the front of what stands behind a component hold none: a separator, or a `.`
@@ -49,33 +49,33 @@ pub fn skip_blanks(text: &[u8], separators: Separators) -> usize
 
 /// The component that a segment is, where it is one.
 #[inline(always)]
-pub fn piece_of(segment: &[u8], separators: Separators) -> Piece<'_>
+pub fn step_of(segment: &[u8], separators: Separators) -> Step<'_>
     ensures { (at : ℕ) → first separators (record { text = segment.now; start = at })
-        ≡ component (part_of result) at }
+        ≡ component (step_part result) at }
 {
     let (kind, text) = match segment {
-        [] => (PieceKind::RootDir, separators.root_text()),
-        [b'.'] => (PieceKind::CurDir, segment),
-        [b'.', b'.'] => (PieceKind::ParentDir, segment),
-        name => (PieceKind::Normal, name),
+        [] => (StepKind::RootDir, separators.root_text()),
+        [b'.'] => (StepKind::CurDir, segment),
+        [b'.', b'.'] => (StepKind::ParentDir, segment),
+        name => (StepKind::Normal, name),
     };
-    Piece { kind, text }
+    Step { kind, text }
 }
 
 /// The first component of a text that is not empty, and how many bytes stand before the next one.
 #[inline(always)]
-pub fn front_step(text: &[u8], separators: Separators) -> (Piece<'_>, usize)
+pub fn front_step(text: &[u8], separators: Separators) -> (Step<'_>, usize)
     requires { 0 < length text.now }
     ensures within { result.1 ≤ length text.now }
     ensures first { (begin : Begin) (at : ℕ) → is_clean begin separators text.now ≡ true
         → body_from begin separators at text.now
-        ≡ component (part_of result.0) at
+        ≡ component (step_part result.0) at
         ++ later_body separators (at + result.1) (drop result.1 text.now) }
     ensures clean { is_clean Begin.Inside separators (drop result.1 text.now) ≡ true }
 {
     let end = separators.first_in(text);
     let behind = skip_blanks(&text[end..], separators);
-    (piece_of(&text[..end], separators), end + behind)
+    (step_of(&text[..end], separators), end + behind)
 }
 
 /// Whether the last byte of a text belongs to no component: it is a separator, or a `.` behind one. A byte that stands
@@ -114,13 +114,13 @@ pub fn trim_blanks(text: &[u8], separators: Separators) -> usize
 
 /// The last component of a text that is not empty, and how many bytes stand up to the end of the one before it.
 #[inline(always)]
-pub fn back_step(text: &[u8], separators: Separators) -> (Piece<'_>, usize)
+pub fn back_step(text: &[u8], separators: Separators) -> (Step<'_>, usize)
     requires { 0 < length text.now }
     ensures within { result.1 ≤ length text.now }
     ensures last { (begin : Begin) (at : ℕ) → is_clean begin separators text.now ≡ true
         → (place : ℕ) × (body_from begin separators at text.now
         ≡ body_from begin separators at (take result.1 text.now)
-        ++ component (part_of result.0) place) }
+        ++ component (step_part result.0) place) }
     ensures ends { (begin : Begin) (at : ℕ) → is_clean begin separators text.now ≡ true
         → end_from at (body_from begin separators at (take result.1 text.now)) ≡ at + result.1 }
     ensures clean { (begin : Begin) → is_clean begin separators text.now ≡ true
@@ -128,9 +128,9 @@ pub fn back_step(text: &[u8], separators: Separators) -> (Piece<'_>, usize)
 {
     let last = &text[..trim_blanks(text, separators)];
     let start = separators.last_in(last);
-    let piece = piece_of(&last[start..], separators);
+    let step = step_of(&last[start..], separators);
     if start == last.len() {
-        return (piece, 0);
+        return (step, 0);
     }
-    (piece, trim_blanks(&last[..start], separators))
+    (step, trim_blanks(&last[..start], separators))
 }

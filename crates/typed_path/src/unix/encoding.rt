@@ -5,7 +5,7 @@ ghost use Rattle.typed_path.specs.components.Dialect.{unix};
 
 use crate::common::Encoding;
 use crate::errors::CheckedPathError;
-use crate::scan::{Cursor, Piece, Separators, base_end, cursors_behind_shared};
+use crate::scan::{Cursor, Piece, Separators, base_end};
 use crate::unix::normal::put_normal;
 use crate::unix::push::push_at;
 use std::alloc::AllocError;
@@ -44,10 +44,6 @@ impl Encoding for UnixEncoding {
     #[inline(always)]
     fn cursor(path: &[u8]) -> Cursor<'_> {
         Cursor::new(path, Separators::Slash)
-    }
-
-    fn cursors<'a>(path: &'a [u8], other: &'a [u8]) -> (Cursor<'a>, Cursor<'a>) {
-        cursors_behind_shared(path, other, Separators::Slash)
     }
 
     #[inline(always)]

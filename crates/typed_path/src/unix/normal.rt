@@ -7,7 +7,7 @@ ghost use Rattle.typed_path.specs.places.Places.{normal_text};
 ghost use Rattle.typed_path.specs.places.Rows.{rows, settled, names_left, AreRows, IsParted};
 
 use crate::common::{cut_back, drop_name, drop_separator};
-use crate::scan::{PieceKind, Separators, cut_at_separator, piece_of};
+use crate::scan::{Separators, StepKind, cut_at_separator, step_of};
 use std::alloc::AllocError;
 
 /// Puts the normal text of a path behind a text, in one pass.
@@ -81,13 +81,13 @@ fn settle(text: &mut Vec<u8>, len: usize, segment: &[u8]) -> Result<(), AllocErr
     ensures capacity { vec_capacity text.old ≤ vec_capacity text.new }
     ensures succeeds { vec_len text.old + length segment.now < vec_capacity text.old → IsOk result }
 {
-    match piece_of(segment, Separators::Slash).kind {
-        PieceKind::ParentDir => drop_name(text, len, Separators::Slash),
-        PieceKind::Normal => {
+    match step_of(segment, Separators::Slash).kind {
+        StepKind::ParentDir => drop_name(text, len, Separators::Slash),
+        StepKind::Normal => {
             text.extend_from_slice(segment)?;
             text.push(b'/')?;
         }
-        PieceKind::Prefix(_) | PieceKind::RootDir | PieceKind::CurDir => {}
+        StepKind::RootDir | StepKind::CurDir => {}
     }
     Ok(())
 }

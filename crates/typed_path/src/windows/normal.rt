@@ -13,7 +13,8 @@ ghost use Rattle.typed_path.specs.views.PieceViews.{found_of};
 
 use crate::common::{cut_back, drop_name, drop_separator};
 use crate::scan::{
-    Found, PieceKind, Separators, WindowsPrefix, cut_at_separator, drive, find_prefix, piece_of,
+    Found, PieceKind, Separators, StepKind, WindowsPrefix, cut_at_separator, drive, find_prefix,
+    step_of,
 };
 use crate::windows::encoding::cursor;
 use crate::windows::push::{push_at, push_next};
@@ -198,13 +199,13 @@ fn settle(text: &mut Vec<u8>, len: usize, segment: &[u8]) -> Result<bool, AllocE
     if drive(segment).is_some() {
         return Ok(false);
     }
-    match piece_of(segment, Separators::Either).kind {
-        PieceKind::ParentDir => drop_name(text, len, Separators::Either),
-        PieceKind::Normal => {
+    match step_of(segment, Separators::Either).kind {
+        StepKind::ParentDir => drop_name(text, len, Separators::Either),
+        StepKind::Normal => {
             text.extend_from_slice(segment)?;
             text.push(b'\\')?;
         }
-        PieceKind::Prefix(_) | PieceKind::RootDir | PieceKind::CurDir => {}
+        StepKind::RootDir | StepKind::CurDir => {}
     }
     Ok(true)
 }

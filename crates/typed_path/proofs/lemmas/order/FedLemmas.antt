@@ -1,17 +1,18 @@
 -- What a path feeds to a hasher, component by component.
-use Rattle.std.proofs.Common.{◌≡◌, ℕ, ◌+◌, ◌≤◌, List, [], ◌∷◌, ◌++◌, length, drop, fold, flat_map, sum_by, refl, sym, ap, subst, ◌∙◌, arith, zero-le, append_assoc}
-use Rattle.std.specs.Prelude.{Some, None}
+use Rattle.std.proofs.Common.{◌≡◌, ℕ, ◌+◌, ◌≤◌, List, [], ◌∷◌, ◌++◌, length, drop, fold, flat_map, sum_by, Bool, true, false, refl, sym, ap, ap₂, subst, ◌∙◌, arith, zero-le, append_assoc, append-nil}
+use Rattle.std.specs.Prelude.{Option, Some, None, if◌then◌else◌}
 use Rattle.std.specs.Hash.{HashWrites, usize}
 use Rattle.std.proofs.lemmas.Grind.{flat_map-append}
 use Rattle.std.proofs.lemmas.List.Sums.{fold-append, sum_by-cons}
 use Rattle.std.proofs.lemmas.Option.{same_Some}
 use Rattle.typed_path.specs.components.Dialect.{Dialect}
-use Rattle.typed_path.specs.components.Part.{Kind, prefix, root, current, parent, normal, Part, Placed, end_of, parts}
+use Rattle.typed_path.specs.components.Part.{Prefix, Kind, prefix, root, current, parent, normal, Part, Placed, end_of, kinds, parts}
 use Rattle.typed_path.specs.components.Comps.{comps, parts_of}
 use Rattle.typed_path.specs.scan.Reading.{AreInOrder}
 use Rattle.typed_path.specs.scan.Steps.{first_part}
 use Rattle.typed_path.specs.promises.Promises.{count, words_by_kind, fed_length}
-use Rattle.typed_path.specs.order.Words.{writes_of, path_words}
+use Rattle.typed_path.specs.order.Words.{prefix_words, words_before, writes_of, path_words}
+use Rattle.typed_path.specs.queries.Queries.{first_prefix, is_prefix, behind_prefix}
 use Rattle.typed_path.proofs.lemmas.components.PlaceLemmas.{comps-laid_out}
 
 -- how many bytes of a component are counted, and what it feeds
@@ -36,7 +37,7 @@ counted-in_order at end (c ∷ cs) order =
     omega (arith, order.0, counted-within c.part.text c.part.kind, counted-in_order (end_of c) end cs order.1, sum_by-cons counted c.part (parts cs))
 
 -- so it is with those of a path
-pub counted-fits : (d : Dialect) (t : List ℕ) (cs : List Placed) → cs ≡ comps d t → 0 + sum_by counted (parts cs) ≤ length t
+counted-fits : (d : Dialect) (t : List ℕ) (cs : List Placed) → cs ≡ comps d t → 0 + sum_by counted (parts cs) ≤ length t
 counted-fits d t cs is = subst (λ xs. 0 + sum_by counted (parts xs) ≤ length t) (sym is) (counted-in_order 0 (length t) (comps d t) (comps-laid_out d t).in_order)
 
 -- what components feed, and then a count to which theirs are added
@@ -72,6 +73,25 @@ module _ {S : Type 0} (write : S → List ℕ → S) where
           ∙ ap (λ u. fold write u (fed_from (n + m) cs)) (ap (λ q. fold write s (writes_part q)) (sym part) ∙ sym wrote)
           ∙ ap (λ xs. fold write t (fed_from (n + m) xs)) (sym rest)
 
+  -- the prefix was fed, where there was one
+  pub fed-prefix : (s t : S) (cs ds : List Placed) (o : Option Prefix) → o ≡ first_prefix (kinds (parts cs)) → ds ≡ behind_prefix cs → t ≡ fold write s (words_before o)
+      → fold write s (fed_from 0 cs) ≡ fold write t (fed_from 0 ds)
+  fed-prefix s t [] ds o first behind wrote = ap₂ (λ u xs. fold write u (fed_from 0 xs)) (sym (wrote ∙ ap (λ q. fold write s (words_before q)) first)) (sym behind)
+  fed-prefix s t (c ∷ cs) ds o first behind wrote = by c.part.kind refl first behind
+    where
+      same : o ≡ None → ds ≡ c ∷ cs → fold write s (fed_from 0 (c ∷ cs)) ≡ fold write t (fed_from 0 ds)
+      same none all = ap₂ (λ u xs. fold write u (fed_from 0 xs)) (sym (wrote ∙ ap (λ q. fold write s (words_before q)) none)) (sym all)
+
+      by : (k : Kind) → c.part.kind ≡ k → o ≡ first_prefix (k ∷ kinds (parts cs)) → ds ≡ (if is_prefix k then cs else c ∷ cs) → fold write s (fed_from 0 (c ∷ cs)) ≡ fold write t (fed_from 0 ds)
+      by (prefix p) kind some rest =
+          fed-step 0 0 s t c.part (c ∷ cs) ds refl rest
+          (wrote ∙ ap (λ q. fold write s (words_before q)) some ∙ ap (fold write s) (sym (append-nil (prefix_words p))) ∙ ap (λ k. fold write s (flat_map writes_of (words_by_kind c.part.text k))) (sym kind))
+          (ap (fed_length c.part.text) (sym kind))
+      by root kind none rest = same none rest
+      by current kind none rest = same none rest
+      by parent kind none rest = same none rest
+      by (normal name) kind none rest = same none rest
+
   -- nothing is left but the count
   pub fed-end : (n : ℕ) (s : S) (cs : List Placed) → None ≡ first_part cs → fold write s (fed_from n cs) ≡ fold write s (usize n)
   fed-end n s [] none = ap (λ k. fold write s (usize k)) (omega arith)
@@ -82,3 +102,12 @@ pub counted-step : (n m top : ℕ) (p : Part) (cs ds : List Placed) → Some p �
 counted-step n m top p [] ds first behind same fits = cc
 counted-step n m top p (c ∷ cs) ds first behind same fits =
     omega (arith, sum_by-cons counted c.part (parts cs), same, ap counted (same_Some _ _ first), ap (λ xs. sum_by counted (parts xs)) behind, fits)
+
+-- no more is counted behind the prefix
+counted-behind : (b : Bool) (c : Placed) (cs : List Placed) → sum_by counted (parts (if b then cs else c ∷ cs)) ≤ sum_by counted (parts (c ∷ cs))
+counted-behind true c cs = omega (arith, sum_by-cons counted c.part (parts cs))
+counted-behind false c cs = omega arith
+
+pub counted-bare : (d : Dialect) (t : List ℕ) (cs ds : List Placed) → cs ≡ comps d t → ds ≡ behind_prefix cs → 0 + sum_by counted (parts ds) ≤ length t
+counted-bare d t [] ds is behind = omega (arith, ap (λ xs. sum_by counted (parts xs)) behind, counted-fits d t [] is)
+counted-bare d t (c ∷ cs) ds is behind = omega (arith, ap (λ xs. sum_by counted (parts xs)) behind, counted-behind (is_prefix c.part.kind) c cs, counted-fits d t (c ∷ cs) is)

@@ -20,7 +20,7 @@ abbrev pub is_left_same : List Placed → List Placed → Bool
 is_left_same cs ds = is_eq (left_cmp cs ds)
 
 -- one answer and then another are `Equal` where both are
-is_eq-then : (a b : Ordering) → is_eq (ordering_then a b) ≡ (is_eq a && is_eq b)
+pub is_eq-then : (a b : Ordering) → is_eq (ordering_then a b) ≡ (is_eq a && is_eq b)
 is_eq-then Less b = refl
 is_eq-then Equal b = refl
 is_eq-then Greater b = refl
@@ -140,12 +140,12 @@ cmp-step (c ∷ cs) (w ∷ ws) p q some own =
     ∙ ap (λ x. ordering_then (kind_cmp x.kind p.kind) (left_cmp cs ws)) (sym (same_Some _ _ own))
 
 -- one answer and then another are the first where that is not `Equal`, and else the second
-then-decided : (a b : Ordering) → is_ne a ≡ true → ordering_then a b ≡ a
+pub then-decided : (a b : Ordering) → is_ne a ≡ true → ordering_then a b ≡ a
 then-decided Less b differ = refl
 then-decided Equal b differ = cc
 then-decided Greater b differ = refl
 
-then-tied : (a b : Ordering) → is_ne a ≡ false → ordering_then a b ≡ b
+pub then-tied : (a b : Ordering) → is_ne a ≡ false → ordering_then a b ≡ b
 then-tied Less b alike = cc
 then-tied Equal b alike = refl
 then-tied Greater b alike = cc

@@ -2,50 +2,50 @@ use Rattle.std.proofs.Common.{◌≡◌, ℕ, ◌+◌, ◌≤◌, ◌<◌, ◌++
 use Rattle.std.proofs.lemmas.List.{take_rest, take-take, length-take, length-take-le}
 use Rattle.typed_path.specs.components.Dialect.{is_separator}
 use Rattle.typed_path.specs.components.Comps.{component}
-use Rattle.typed_path.specs.views.PieceViews.{part_of}
+use Rattle.typed_path.specs.views.PieceViews.{step_part}
 use Rattle.typed_path.specs.declared.scan.begin.Begin.{Begin}
 use Rattle.typed_path.specs.scan.Steps.{body_from, is_clean, end_from}
 use Rattle.typed_path.proofs.lemmas.lists.LastLemmas.{IsLastPlace}
 use Rattle.typed_path.proofs.lemmas.scan.BackLemmas.{IsLast, last-at_end, last-before_end, is_clean-kept, end_from-trimmed}
 use Rattle.typed_path.proofs.scan.step.back_step.Goals as goal
-use Rattle.typed_path.proofs.scan.step.back_step.Goals.{After-piece_of-piece}
+use Rattle.typed_path.proofs.scan.step.back_step.Goals.{After-step_of-step}
 
 -- the text up to the end of its last component
-abbrev trimmed : After-piece_of-piece → List ℕ
+abbrev trimmed : After-step_of-step → List ℕ
 trimmed c = take c.trim_blanks.result c.args.text.now
 
 -- where its last segment begins
-place_of : (c : After-piece_of-piece) → IsLastPlace (is_separator c.args.separators) (trimmed c) c.last_in-start.result
+place_of : (c : After-step_of-step) → IsLastPlace (is_separator c.args.separators) (trimmed c) c.last_in-start.result
 place_of c = record { within = c.last_in-start.ensures.within; last = c.last_in-start.ensures.last }
 
 -- it is not empty
-some_of : (c : After-piece_of-piece) → 0 < length (trimmed c)
+some_of : (c : After-step_of-step) → 0 < length (trimmed c)
 some_of c = omega (arith, c.trim_blanks.ensures.some c.requires, length-take-le c.trim_blanks.result c.args.text.now c.trim_blanks.ensures.within)
 
 -- and begins as the whole text does
-clean_of : (c : After-piece_of-piece) (begin : Begin) → is_clean begin c.args.separators c.args.text.now ≡ true → is_clean begin c.args.separators (trimmed c) ≡ true
+clean_of : (c : After-step_of-step) (begin : Begin) → is_clean begin c.args.separators c.args.text.now ≡ true → is_clean begin c.args.separators (trimmed c) ≡ true
 clean_of c begin clean = c.trim_blanks.ensures.clean begin ∙ clean
 
--- its last segment is the piece
-items_of : (c : After-piece_of-piece) (begin : Begin) (at : ℕ) (kept : List ℕ) → (h : IsLast begin c.args.separators at (trimmed c) kept (drop c.last_in-start.result (trimmed c)))
-    → body_from begin c.args.separators at c.args.text.now ≡ body_from begin c.args.separators at kept ++ component (part_of c.piece_of-piece.result) h.place
+-- its last segment is the component
+items_of : (c : After-step_of-step) (begin : Begin) (at : ℕ) (kept : List ℕ) → (h : IsLast begin c.args.separators at (trimmed c) kept (drop c.last_in-start.result (trimmed c)))
+    → body_from begin c.args.separators at c.args.text.now ≡ body_from begin c.args.separators at kept ++ component (step_part c.step_of-step.result) h.place
 items_of c begin at kept h =
     sym (c.trim_blanks.ensures.same begin at)
     ∙ h.items
-    ∙ ap (λ cs. body_from begin c.args.separators at kept ++ cs) (rw take_rest at (c.piece_of-piece.ensures h.place))
+    ∙ ap (λ cs. body_from begin c.args.separators at kept ++ cs) (rw take_rest at (c.step_of-step.ensures h.place))
 
 pub returns-then-start-last-clause-last : goal.returns-then-start-last-clause-last
 returns-then-start-last-clause-last c = λ begin at clean.
-    let step = (goal.at.returns-then-start-last-clause-last c).After-piece_of-piece in
+    let step = (goal.at.returns-then-start-last-clause-last c).After-step_of-step in
     let h = last-at_end begin c.args.separators at (trimmed step) c.last_in-start.result (some_of step) (place_of step) c.trim_blanks.ensures.trimmed (clean_of step begin clean) c.if-start-last.true in
     (h.place, items_of step begin at [] h)
 
--- the text before the piece, with the separator between the two
-abbrev front : After-piece_of-piece → List ℕ
+-- the text before the component, with the separator between the two
+abbrev front : After-step_of-step → List ℕ
 front c = take c.last_in-start.result (trimmed c)
 
 -- a part of it is one of the whole text
-front_part : (c : After-piece_of-piece) (n : ℕ) → n ≤ length (front c) → take n (front c) ≡ take n c.args.text.now
+front_part : (c : After-step_of-step) (n : ℕ) → n ≤ length (front c) → take n (front c) ≡ take n c.args.text.now
 front_part c n within =
     let size = length-take c.last_in-start.result (trimmed c) in
     let sizes = length-take c.trim_blanks.result c.args.text.now in
@@ -53,25 +53,25 @@ front_part c n within =
 
 pub returns-clause-last : goal.returns-clause-last
 returns-clause-last c = λ begin at clean.
-    let step = (goal.at.returns-clause-last c).After-piece_of-piece in
+    let step = (goal.at.returns-clause-last c).After-step_of-step in
     let within = c.last_in-start.ensures.within in
     let h = last-before_end begin c.args.separators at (trimmed step) c.last_in-start.result (some_of step) (place_of step) c.trim_blanks.ensures.trimmed (clean_of step begin clean) (omega arith) in
     let kept = front_part step c.trim_blanks-2.result c.trim_blanks-2.ensures.within in (
       h.place,
       items_of step begin at (front step) h
-          ∙ ap (λ cs. cs ++ component (part_of c.piece_of-piece.result) h.place) (sym (c.trim_blanks-2.ensures.same begin at) ∙ ap (body_from begin c.args.separators at) kept),
+          ∙ ap (λ cs. cs ++ component (step_part c.step_of-step.result) h.place) (sym (c.trim_blanks-2.ensures.same begin at) ∙ ap (body_from begin c.args.separators at) kept),
     )
 
 pub returns-clause-clean : goal.returns-clause-clean
 returns-clause-clean c = λ begin clean.
-    let step = (goal.at.returns-clause-clean c).After-piece_of-piece in
+    let step = (goal.at.returns-clause-clean c).After-step_of-step in
     ap (is_clean begin c.args.separators) (sym (front_part step c.trim_blanks-2.result c.trim_blanks-2.ensures.within))
     ∙ c.trim_blanks-2.ensures.clean begin
     ∙ is_clean-kept begin c.args.separators (trimmed step) c.last_in-start.result (place_of step) (clean_of step begin clean)
 
 pub returns-clause-ends : goal.returns-clause-ends
 returns-clause-ends c = λ begin at clean.
-    let step = (goal.at.returns-clause-ends c).After-piece_of-piece in
+    let step = (goal.at.returns-clause-ends c).After-step_of-step in
     let n = c.trim_blanks-2.result in
     let within = c.trim_blanks-2.ensures.within in
     let kept = take n (front step) in

@@ -7,14 +7,14 @@ use Rattle.typed_path.specs.components.Dialect.{is_separator}
 use Rattle.typed_path.specs.components.Part.{Part}
 use Rattle.typed_path.specs.components.Comps.{component, first, later_body}
 use Rattle.typed_path.specs.scan.Steps.{body_from, is_clean}
-use Rattle.typed_path.specs.views.PieceViews.{part_of}
+use Rattle.typed_path.specs.views.PieceViews.{step_part}
 use Rattle.typed_path.proofs.lemmas.components.BodyLemmas.{body_from-first}
 use Rattle.typed_path.proofs.scan.step.front_step.Goals as goal
 
 pub returns-clause-first : goal.returns-clause-first
 returns-clause-first c = λ begin at clean.
-    first_and_rest begin c.args.separators at c.args.text.now (part_of c.piece_of.result) c.first_in-end.result c.skip_blanks-behind.result
-    c.requires clean c.first_in-end.ensures.first (c.piece_of.ensures at) (rw take_rest at c.skip_blanks-behind.ensures.same (at + c.first_in-end.result))
+    first_and_rest begin c.args.separators at c.args.text.now (step_part c.step_of.result) c.first_in-end.result c.skip_blanks-behind.result
+    c.requires clean c.first_in-end.ensures.first (c.step_of.ensures at) (rw take_rest at c.skip_blanks-behind.ensures.same (at + c.first_in-end.result))
   where
     first_and_rest : (begin : Begin) (s : Separators) (at : ℕ) (text : List ℕ) (p : Part) (end blank : ℕ)
         → 0 < length text → is_clean begin s text ≡ true → end ≡ position_or_len (is_separator s) text

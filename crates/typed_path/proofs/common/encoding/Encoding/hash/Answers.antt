@@ -1,28 +1,36 @@
-use Rattle.std.proofs.Common.{fold, sym, ap, ◌∙◌}
-use Rattle.std.specs.Prelude.{length}
+use Rattle.std.proofs.Common.{fold, sym, ap, arith, ◌∙◌}
+use Rattle.std.specs.Prelude.{length, option_map}
+use Rattle.typed_path.specs.views.BodyViews.{body_items}
 use Rattle.typed_path.specs.views.CursorViews.{items_left}
-use Rattle.typed_path.specs.views.PieceViews.{part_of}
-use Rattle.typed_path.proofs.lemmas.order.FedLemmas.{counted-fits, counted-step, path_words-fed, fed-step, fed-end}
+use Rattle.typed_path.specs.views.PieceViews.{prefix_view, step_part}
+use Rattle.typed_path.proofs.lemmas.changes.FaultLemmas.{taken-first}
+use Rattle.typed_path.proofs.lemmas.order.FedLemmas.{counted-bare, counted-step, path_words-fed, fed-prefix, fed-step, fed-end}
 use Rattle.typed_path.proofs.common.encoding.Encoding.hash.Goals as goal
 
-pub pieces-init : goal.pieces-init
-pieces-init g c =
-    let d = g.Self.Encoding.dialect in (
-      ap (fold g.H.Hasher.write c.args.state.now) (path_words-fed d c.args.path.now (items_left c.cursor-cursor.result) c.cursor-cursor.ensures.items),
-      counted-fits d c.args.path.now (items_left c.cursor-cursor.result) c.cursor-cursor.ensures.items,
+pub steps-init : goal.steps-init
+steps-init g c =
+    let d = g.Self.Encoding.dialect in
+    let cs = items_left c.cursor-cursor.result in
+    let ds = body_items c.body-body.result in (
+      ap (fold g.H.Hasher.write c.args.state.now) (path_words-fed d c.args.path.now cs c.cursor-cursor.ensures.items)
+          ∙ fed-prefix g.H.Hasher.write c.args.state.now c.feed_prefix.new.state cs ds (option_map prefix_view c.prefix.result) c.prefix.ensures c.body-body.ensures c.feed_prefix.ensures,
+      counted-bare d c.args.path.now cs ds c.cursor-cursor.ensures.items c.body-body.ensures,
     )
 
-pub pieces-preserved : goal.pieces-preserved
-pieces-preserved g c =
-    let p = part_of c.in-Some.piece in
-    let old = items_left c.pieces.cursor in
-    let new = items_left c.front.new.cursor in (
-      c.pieces.invariant.0
-          ∙ fed-step g.H.Hasher.write c.pieces.len c.feed-len.result c.pieces.state c.feed-len.new.state p old new c.in-Some.ensures.taken c.in-Some.ensures.items c.feed-len.ensures.words c.feed-len.ensures.counted,
-      counted-step c.pieces.len c.feed-len.result (length c.args.path.now) p old new c.in-Some.ensures.taken c.in-Some.ensures.items c.feed-len.ensures.counted c.pieces.invariant.1,
+pub steps-smaller : goal.steps-smaller
+steps-smaller g c = omega (arith, (taken-first (body_items c.steps.body) _ c.in-Some.ensures.taken).1, ap length c.in-Some.ensures.items)
+
+pub steps-preserved : goal.steps-preserved
+steps-preserved g c =
+    let p = step_part c.in-Some.step in
+    let old = body_items c.steps.body in
+    let new = body_items c.front.new.self in (
+      c.steps.invariant.0
+          ∙ fed-step g.H.Hasher.write c.steps.len c.feed-len.result c.steps.state c.feed-len.new.state p old new c.in-Some.ensures.taken c.in-Some.ensures.items c.feed-len.ensures.words c.feed-len.ensures.counted,
+      counted-step c.steps.len c.feed-len.result (length c.args.path.now) p old new c.in-Some.ensures.taken c.in-Some.ensures.items c.feed-len.ensures.counted c.steps.invariant.1,
     )
 
 pub returns : goal.returns
 returns g c =
     c.write_usize.ensures
-    ∙ sym (c.pieces.invariant.0 ∙ fed-end g.H.Hasher.write c.pieces.len c.pieces.state (items_left c.pieces.cursor) c.in_default.ensures.taken)
+    ∙ sym (c.steps.invariant.0 ∙ fed-end g.H.Hasher.write c.steps.len c.steps.state (body_items c.steps.body) c.in_default.ensures.taken)

@@ -3,7 +3,7 @@ use Rattle.typed_path.specs.components.Comps.{component}
 use Rattle.typed_path.specs.scan.Left.{but_last, slice_after_back}
 use Rattle.typed_path.specs.scan.Steps.{body_from, is_clean, last_part, end_from}
 use Rattle.typed_path.specs.views.BodyViews.{body_items}
-use Rattle.typed_path.specs.views.PieceViews.{part_of}
+use Rattle.typed_path.specs.views.PieceViews.{step_part}
 use Rattle.typed_path.proofs.lemmas.scan.LeftLemmas.{last_part-push, but_last-push, starts-body_from, slice_after_back-push, slice_range-earlier}
 use Rattle.typed_path.proofs.scan.body.Body.back.Goals as goal
 use Rattle.typed_path.proofs.scan.body.Body.back.Goals.{After-back_step-kept}
@@ -21,7 +21,7 @@ clean_left c = rw c.as_bytes-left.ensures c.args.self.now.starts_clean
 
 -- the components left before it, as those that are left behind it and the one taken
 items_split : (c : After-back_step-kept) → (place : ℕ) × (body_items c.args.self.now
-    ≡ body_from c.args.self.now.begin c.args.self.now.separators c.args.self.now.from (take c.back_step-kept.result.1 c.as_bytes-left.result.now) ++ component (part_of c.back_step-kept.result.0) place)
+    ≡ body_from c.args.self.now.begin c.args.self.now.separators c.args.self.now.from (take c.back_step-kept.result.1 c.as_bytes-left.result.now) ++ component (step_part c.back_step-kept.result.0) place)
 items_split c =
     let v = c.args.self.now in
     let last = c.back_step-kept.ensures.last v.begin v.from (clean_left c) in
@@ -32,7 +32,7 @@ returns-clause-taken c =
     let split = items_split (goal.at.returns-clause-taken c).After-back_step-kept in
     let v = c.args.self.now in
     let cs = body_from v.begin v.separators v.from (take c.back_step-kept.result.1 c.as_bytes-left.result.now) in
-    sym (ap last_part split.1 ∙ last_part-push cs (record { part = part_of c.back_step-kept.result.0; start = split.0 }))
+    sym (ap last_part split.1 ∙ last_part-push cs (record { part = step_part c.back_step-kept.result.0; start = split.0 }))
 
 pub returns-clause-items : goal.returns-clause-items
 returns-clause-items c =
@@ -41,7 +41,7 @@ returns-clause-items c =
     let v = c.args.self.now in
     let cs = body_from v.begin v.separators v.from (take c.back_step-kept.result.1 c.as_bytes-left.result.now) in
     ap (body_from v.begin v.separators v.from) (slice_before step)
-    ∙ sym (ap but_last split.1 ∙ but_last-push cs (record { part = part_of c.back_step-kept.result.0; start = split.0 }))
+    ∙ sym (ap but_last split.1 ∙ but_last-push cs (record { part = step_part c.back_step-kept.result.0; start = split.0 }))
 
 pub returns-clause-slice : goal.returns-clause-slice
 returns-clause-slice c =
@@ -52,7 +52,7 @@ returns-clause-slice c =
     let left = c.as_bytes-left.result.now in
     let cs = body_from v.begin v.separators v.from (take k left) in
     slice_before step
-    ∙ sym (slice_after_back-push v.from k left cs (record { part = part_of c.back_step-kept.result.0; start = split.0 })
+    ∙ sym (slice_after_back-push v.from k left cs (record { part = step_part c.back_step-kept.result.0; start = split.0 })
     (starts-body_from v.begin v.separators v.from (take k left) (c.back_step-kept.ensures.clean v.begin (clean_left step))) (c.back_step-kept.ensures.ends v.begin v.from (clean_left step)))
     ∙ ap (λ ds. slice_after_back ds left) (sym split.1)
     ∙ ap (slice_after_back (body_items v)) c.as_bytes-left.ensures
@@ -63,5 +63,5 @@ returns-clause-end c =
     let split = items_split step in
     let v = c.args.self.now in
     let cs = body_from v.begin v.separators v.from (take c.back_step-kept.result.1 c.as_bytes-left.result.now) in
-    sym (ap (λ ds. end_from v.from (but_last ds)) split.1 ∙ ap (end_from v.from) (but_last-push cs (record { part = part_of c.back_step-kept.result.0; start = split.0 }))
+    sym (ap (λ ds. end_from v.from (but_last ds)) split.1 ∙ ap (end_from v.from) (but_last-push cs (record { part = step_part c.back_step-kept.result.0; start = split.0 }))
     ∙ c.back_step-kept.ensures.ends v.begin v.from (clean_left step))

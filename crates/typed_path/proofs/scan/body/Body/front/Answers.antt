@@ -3,7 +3,7 @@ use Rattle.typed_path.specs.declared.scan.begin.Begin.TheVariants.{Inside}
 use Rattle.typed_path.specs.components.Comps.{later_body, component}
 use Rattle.typed_path.specs.scan.Left.{slice_after_front}
 use Rattle.typed_path.specs.scan.Steps.{body_from}
-use Rattle.typed_path.specs.views.PieceViews.{part_of}
+use Rattle.typed_path.specs.views.PieceViews.{step_part}
 use Rattle.typed_path.proofs.lemmas.components.BodyLemmas.{slice_after_front-first, slice_range-later}
 use Rattle.typed_path.proofs.scan.body.Body.front.Goals as goal
 use Rattle.typed_path.proofs.scan.body.Body.front.Goals.{After-front_step-taken}
@@ -17,7 +17,7 @@ slice_behind c =
 
 -- the components before it
 items_before : (c : After-front_step-taken) → body_from c.args.self.now.begin c.args.self.now.separators c.args.self.now.from c.as_bytes-left.result.now
-    ≡ component (part_of c.front_step-taken.result.0) c.args.self.now.from
+    ≡ component (step_part c.front_step-taken.result.0) c.args.self.now.from
     ++ later_body c.args.self.now.separators (c.args.self.now.from + c.front_step-taken.result.1) (drop c.front_step-taken.result.1 c.as_bytes-left.result.now)
 items_before c =
     let v = c.args.self.now in
@@ -40,6 +40,6 @@ returns-clause-slice c =
     let k = c.front_step-taken.result.1 in
     let step = (goal.at.returns-clause-slice c).After-front_step-taken in
     slice_behind step
-    ∙ sym (slice_after_front-first Inside v.separators (part_of c.front_step-taken.result.0) v.from k c.as_bytes-left.result.now c.front_step-taken.ensures.clean)
+    ∙ sym (slice_after_front-first Inside v.separators (step_part c.front_step-taken.result.0) v.from k c.as_bytes-left.result.now c.front_step-taken.ensures.clean)
     ∙ ap (λ cs. slice_after_front cs c.as_bytes-left.result.now) (sym (items_before step))
     ∙ ap (λ t. slice_after_front (body_from v.begin v.separators v.from t) t) c.as_bytes-left.ensures

@@ -1,13 +1,13 @@
-use Rattle.typed_path.specs.views.PieceViews.{part_of}
+use Rattle.typed_path.specs.views.PieceViews.{part_of, step_part}
 use Rattle.typed_path.proofs.lemmas.scan.CursorSteps.{with_body, step-items, step-slice, back-none}
 use Rattle.typed_path.proofs.scan.cursor.Cursor.back.Goals as goal
 
 pub returns-in-Some-clause-items : goal.returns-in-Some-clause-items
-returns-in-Some-clause-items c = step-items c.args.self.now c.back.new.self c.in-Some.ensures.from c.in-Some.ensures.text (part_of c.in-Some.piece) c.in-Some.ensures.taken c.in-Some.ensures.items
+returns-in-Some-clause-items c = step-items c.args.self.now c.back.new.self c.in-Some.ensures.from c.in-Some.ensures.text (step_part c.in-Some.step) c.in-Some.ensures.taken c.in-Some.ensures.items
 
 pub returns-in-Some-clause-slice : goal.returns-in-Some-clause-slice
 returns-in-Some-clause-slice c =
-    step-slice c.args.self.now c.back.new.self c.in-Some.ensures.from c.in-Some.ensures.text (part_of c.in-Some.piece) c.in-Some.ensures.taken c.in-Some.ensures.items
+    step-slice c.args.self.now c.back.new.self c.in-Some.ensures.from c.in-Some.ensures.text (step_part c.in-Some.step) c.in-Some.ensures.taken c.in-Some.ensures.items
     c.in-Some.ensures.shorter c.in-Some.ensures.end c.in-Some.ensures.slice
 
 pub returns-clause-taken : goal.returns-clause-taken
