@@ -1,4 +1,4 @@
-use Rattle.std.proofs.Common.{drop, ap₂, ◌∙◌}
+use Rattle.std.proofs.Common.{◌++◌, drop, ap, ap₂, ◌∙◌, arith}
 use Rattle.typed_path.specs.components.Comps.{body, later_body}
 use Rattle.typed_path.specs.order.Same.{left_cmp}
 use Rattle.typed_path.proofs.lemmas.order.KindLemmas.{cmp-behind}
@@ -11,5 +11,6 @@ returns-in-Some-Some c =
     let u = c.args.other.now in
     let n = c.in-Some-Some.from in
     let m = c.in-Some-Some.other_from in
+    let front = body s 0 c.shared_front-front.result.now in
     ap₂ left_cmp c.inside.ensures c.inside-in-Some-Some.ensures
-    ∙ cmp-behind (body s 0 c.shared_front-front.result.now) (later_body s n (drop n t)) (later_body s m (drop m u)) (body s 0 t) (body s 0 u) c.in-Some-Some.ensures.items c.in-Some-Some.ensures'.items
+    ∙ cmp-behind front (later_body s n (drop n t)) (later_body s m (drop m u)) (body s 0 t) (body s 0 u) (c.in-Some-Some.ensures.items 0 ∙ ap (λ k. front ++ later_body s k (drop n t)) (omega arith)) (c.in-Some-Some.ensures'.items 0 ∙ ap (λ k. front ++ later_body s k (drop m u)) (omega arith))
