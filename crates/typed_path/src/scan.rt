@@ -12,6 +12,7 @@ mod prefix;
 mod separators;
 mod shared;
 mod step;
+mod valid;
 
 pub use base::base_end;
 pub use begin::Begin;
@@ -22,3 +23,4 @@ pub use prefix::{Found, WindowsPrefix, after_mark, drive, find_prefix};
 pub use separators::Separators;
 pub use shared::cursors_behind_shared;
 pub use step::piece_of;
+pub use valid::has_valid_names;

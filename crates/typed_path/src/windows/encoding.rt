@@ -9,7 +9,7 @@ ghost use Rattle.typed_path.specs.views.CursorViews.{slice_left, items_left, cur
 
 use crate::common::Encoding;
 use crate::errors::CheckedPathError;
-use crate::scan::{Cursor, Piece, Separators, WindowsPrefix, base_end, find_prefix};
+use crate::scan::{Cursor, Piece, Separators, WindowsPrefix, base_end, find_prefix, has_valid_names};
 use crate::windows::crossed::put_crossed;
 use crate::windows::normal::put_normal;
 use crate::windows::push::{prefix_len, push_at};
@@ -86,6 +86,11 @@ impl Encoding for WindowsEncoding {
 
     fn valid(name: &[u8]) -> bool {
         Separators::Either.is_valid_name(name)
+    }
+
+    fn valid_names(path: &[u8]) -> bool {
+        let (_, body) = path.split_at(prefix_len(path));
+        has_valid_names(body, Separators::of_windows(path))
     }
 
     fn push_over(path: &mut Vec<u8>, kept: usize, other: &[u8]) -> Result<(), AllocError> {
