@@ -78,6 +78,10 @@ impl Encoding for PlatformEncoding {
         UnixEncoding::valid(name)
     }
 
+    fn valid_names(path: &[u8]) -> bool {
+        UnixEncoding::valid_names(path)
+    }
+
     fn push_over(path: &mut Vec<u8>, kept: usize, other: &[u8]) -> Result<(), AllocError> {
         UnixEncoding::push_over(path, kept, other)
     }

@@ -12,6 +12,7 @@ mod prefix;
 mod separators;
 mod shared;
 mod step;
+mod valid;
 
 pub use base::base_end;
 pub use begin::Begin;
@@ -23,3 +24,4 @@ pub use prefix::{Found, WindowsPrefix, after_mark, drive, find_prefix};
 pub use separators::Separators;
 pub use shared::bodies_behind_shared;
 pub use step::step_of;
+pub use valid::has_valid_names;

@@ -8,6 +8,7 @@
 -- DotLemmas: the last dot of a name
 -- NameLemmas: a file name, its stem and its extension
 -- TextLemmas: bytes that are a text, and bytes that are none
+-- ValidLemmas: the names of a text are valid where no byte strays and no segment stands for a device
 pub mod ParentLemmas
 pub mod WindowsParent
 pub mod AncestorLemmas
@@ -17,3 +18,4 @@ pub mod EndLemmas
 pub mod DotLemmas
 pub mod NameLemmas
 pub mod TextLemmas
+pub mod ValidLemmas

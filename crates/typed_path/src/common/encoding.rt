@@ -5,13 +5,13 @@ ghost use Rattle.std.specs.Vec.{vec_len, vec_capacity};
 ghost use Rattle.typed_path.specs.changes.Checked.{refusal, error_of};
 ghost use Rattle.typed_path.specs.promises.Promises.{HasPrefixOf, LiesWithin};
 ghost use Rattle.typed_path.specs.components.Dialect.{Dialect, root_of, label_of};
-ghost use Rattle.typed_path.specs.components.Comps.{comps};
+ghost use Rattle.typed_path.specs.components.Comps.{comps, parts_of};
 ghost use Rattle.typed_path.specs.scan.Left.{but_last, slice_after_front, slice_after_back};
 ghost use Rattle.typed_path.specs.scan.Steps.{first_part, last_part};
 ghost use Rattle.typed_path.specs.views.PieceViews.{part_of};
 ghost use Rattle.typed_path.specs.views.CursorViews.{slice_left, items_left};
 ghost use Rattle.typed_path.specs.components.Part.{kinds, parts};
-ghost use Rattle.typed_path.specs.queries.Queries.{is_absolute, has_root, is_valid_name, stripped};
+ghost use Rattle.typed_path.specs.queries.Queries.{is_absolute, has_root, is_valid_name, is_valid, stripped};
 ghost use Rattle.typed_path.specs.places.Places.{normal_text};
 ghost use Rattle.typed_path.specs.places.Rows.{HasPlainNames};
 ghost use Rattle.typed_path.specs.changes.Push as push_spec;
@@ -83,6 +83,10 @@ pub trait Encoding: Sized {
     /// Whether the encoding allows a name.
     fn valid(name: &[u8]) -> bool
         ensures { result ≡ is_valid_name dialect name.now };
+
+    /// Whether the encoding allows every name of a path.
+    fn valid_names(path: &[u8]) -> bool
+        ensures { result ≡ is_valid dialect (kinds (parts_of dialect path.now)) };
 
     /// Feeds a path to a hasher: its prefix, by kind and names, then the text of each later component
     /// but the root's, and last the sum of the lengths of these texts.

@@ -86,6 +86,6 @@ impl<'a, T: Encoding> Path<'a, T> {
     pub fn is_valid(self) -> bool
         ensures { result ≡ is_valid T.dialect (kinds (parts_of T.dialect (path_bytes self.entry))) }
     {
-        self.components().all(|piece| piece.is_valid::<T>())
+        T::valid_names(self.bytes)
     }
 }

@@ -1,6 +1,6 @@
 //! A base taken off a text by its bytes, with no reading of either.
 
-ghost use Rattle.std.specs.Prelude.{◌≡◌, ◌≤◌, ◌<◌, ◌++◌, true, drop, length, IfSome, IsTrue};
+ghost use Rattle.std.specs.Prelude.{◌≡◌, ◌≤◌, ◌<◌, ◌+◌, ◌++◌, ℕ, true, drop, length, IfSome, IsTrue};
 ghost use Rattle.typed_path.specs.components.Comps.{body, later_body};
 ghost use Rattle.typed_path.specs.scan.Steps.{is_clean};
 ghost use Rattle.typed_path.specs.declared.scan.begin.Begin.{Begin};
@@ -12,9 +12,9 @@ use crate::scan::step::skip_blanks;
 /// there, or one is empty.
 #[inline(always)]
 fn is_border(front: &[u8], rest: &[u8], separators: Separators) -> bool
-    ensures { IsTrue result → 0 < length front.now
-        → body separators 0 (front.now ++ rest.now)
-        ≡ body separators 0 front.now ++ later_body separators (length front.now) rest.now }
+    ensures { IsTrue result → 0 < length front.now → (at : ℕ)
+        → body separators at (front.now ++ rest.now)
+        ≡ body separators at front.now ++ later_body separators (at + length front.now) rest.now }
 {
     let Some((last, _)) = front.split_last() else {
         return true;
@@ -31,8 +31,8 @@ fn is_border(front: &[u8], rest: &[u8], separators: Separators) -> bool
 pub fn base_end(text: &[u8], base: &[u8], separators: Separators) -> Option<usize>
     ensures within { IfSome result (λ n. n ≤ length text.now) }
     ensures some { IfSome result (λ n. 0 < length base.now) }
-    ensures items { IfSome result (λ n. body separators 0 text.now
-        ≡ body separators 0 base.now ++ later_body separators n (drop n text.now)) }
+    ensures items { IfSome result (λ n. (at : ℕ) → body separators at text.now
+        ≡ body separators at base.now ++ later_body separators (at + n) (drop n text.now)) }
     ensures clean { IfSome result (λ n.
         is_clean Begin.Inside separators (drop n text.now) ≡ true) }
 {

@@ -136,15 +136,21 @@ impl Separators {
     pub fn allows_names_of(self, bytes: &[u8]) -> bool
         ensures { IsTrue result → SeparatesDisallowed self bytes.now }
     {
+        !self.has_stray(bytes)
+    }
+
+    /// Whether a text has a byte that no name may have and that is no separator.
+    pub fn has_stray(self, bytes: &[u8]) -> bool
+        ensures { result ≡ list_any (is_stray self) bytes.now }
+    {
         match self {
-            Separators::Slash => memchr(b'\0', bytes).is_none(),
-            Separators::Backslash | Separators::Either => !self.has_stray(bytes),
+            Separators::Slash => memchr(b'\0', bytes).is_some(),
+            Separators::Backslash | Separators::Either => self.has_stray_by_one(bytes),
         }
     }
 
-    /// Whether a text has a byte that no name may have and that is no separator. It has no branch
-    /// by the byte, so that many are looked at at once.
-    fn has_stray(self, bytes: &[u8]) -> bool
+    /// The same, byte by byte. It has no branch by the byte, so that many are looked at at once.
+    fn has_stray_by_one(self, bytes: &[u8]) -> bool
         ensures { result ≡ list_any (is_stray self) bytes.now }
     {
         let mut stray = false;

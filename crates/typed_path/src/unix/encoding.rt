@@ -5,7 +5,7 @@ ghost use Rattle.typed_path.specs.components.Dialect.{unix};
 
 use crate::common::Encoding;
 use crate::errors::CheckedPathError;
-use crate::scan::{Cursor, Piece, Separators, base_end};
+use crate::scan::{Cursor, Piece, Separators, base_end, has_valid_names};
 use crate::unix::normal::put_normal;
 use crate::unix::push::push_at;
 use std::alloc::AllocError;
@@ -72,6 +72,10 @@ impl Encoding for UnixEncoding {
 
     fn valid(name: &[u8]) -> bool {
         Separators::Slash.is_valid_name(name)
+    }
+
+    fn valid_names(path: &[u8]) -> bool {
+        has_valid_names(path, Separators::Slash)
     }
 
     fn push_over(path: &mut Vec<u8>, kept: usize, other: &[u8]) -> Result<(), AllocError> {

@@ -9,9 +9,9 @@ ghost use Rattle.typed_path.specs.views.CursorViews.{slice_left, items_left, cur
 
 use crate::common::Encoding;
 use crate::errors::CheckedPathError;
-use crate::scan::{Cursor, Piece, Separators, WindowsPrefix, find_prefix};
+use crate::scan::{Cursor, Piece, Separators, WindowsPrefix, base_end, find_prefix, has_valid_names};
 use crate::windows::normal::put_normal;
-use crate::windows::push::{push_at, push_next};
+use crate::windows::push::{prefix_len, push_at, push_next};
 use std::alloc::AllocError;
 use std::fmt;
 
@@ -68,8 +68,27 @@ impl Encoding for WindowsEncoding {
         rooted(cursor)
     }
 
+    #[inline]
+    fn behind<'a>(path: &'a [u8], base: &[u8]) -> Option<&'a [u8]> {
+        let (prefix, body) = path.split_at(prefix_len(path));
+        let (base_prefix, base_body) = base.split_at(prefix_len(base));
+        let separators = Separators::of_windows(path);
+        if prefix != base_prefix
+            || separators.is_verbatim() != Separators::of_windows(base).is_verbatim()
+        {
+            return None;
+        }
+        let end = base_end(body, base_body, separators)?;
+        Some(&body[end..])
+    }
+
     fn valid(name: &[u8]) -> bool {
         Separators::Either.is_valid_name(name)
+    }
+
+    fn valid_names(path: &[u8]) -> bool {
+        let (_, body) = path.split_at(prefix_len(path));
+        has_valid_names(body, Separators::of_windows(path))
     }
 
     fn push_over(path: &mut Vec<u8>, kept: usize, other: &[u8]) -> Result<(), AllocError> {
