@@ -6,7 +6,6 @@ mod components;
 mod concrete;
 mod debug;
 mod encoding;
-mod hash;
 mod iter;
 mod joins;
 mod keys;

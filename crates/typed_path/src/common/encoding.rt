@@ -20,7 +20,7 @@ ghost use Rattle.typed_path.specs.changes.Spelled.{IsKnown};
 ghost use Rattle.typed_path.specs.changes.Fault.{fault};
 ghost use Rattle.typed_path.specs.order.Words.{path_words};
 
-use crate::common::hash::{feed, feed_prefix};
+use crate::common::order::{feed, feed_prefix};
 use crate::errors::{CheckedPathError, PathError};
 use crate::scan::{Cursor, Piece};
 use std::alloc::{AllocError, Global};

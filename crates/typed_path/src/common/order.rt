@@ -1,19 +1,23 @@
-//! Equality and order of paths, by their components.
+//! Equality and order of paths, by their components, and what a path feeds to a hasher.
 //!
 //! Prefixes come first, so that the loops over the other components hold none. The loops stand in
 //! functions that are generic over the encoding, which build each step in for its separators.
 
-ghost use Rattle.std.specs.Prelude.{◌≡◌, List, ◌∷◌, None, option_map};
+ghost use Rattle.std.specs.Prelude.{◌≡◌, List, ◌∷◌, None, option_map, fold};
+ghost use Rattle.std.specs.List.{flat_map};
 ghost use Rattle.std.specs.Ordering.{is_eq};
 ghost use Rattle.typed_path.specs.components.Part.{Prefix, Kind, prefix, kinds, parts};
 ghost use Rattle.typed_path.specs.queries.Queries.{first_prefix};
 ghost use Rattle.typed_path.specs.order.Same.{kind_cmp, are_same_prefixes, kinds_cmp, is_same, path_cmp};
+ghost use Rattle.typed_path.specs.order.Words.{writes_of, words_before};
+ghost use Rattle.typed_path.specs.promises.Promises.{words_by_kind, fed_length};
 ghost use Rattle.typed_path.specs.views.BodyViews.{body_items};
 ghost use Rattle.typed_path.specs.views.PieceViews.{prefix_view, step_part, step_place};
 
 use crate::common::encoding::Encoding;
 use crate::scan::{Body, Step, StepKind, WindowsPrefix, bodies_behind_shared};
 use std::cmp::Ordering;
+use std::hash::{Hash, Hasher};
 
 /// The place of a kind among those that stand behind the prefix.
 #[inline(always)]
@@ -161,4 +165,32 @@ pub(crate) fn compare<T: Encoding>(path: &[u8], other: &[u8]) -> Ordering
         return Ordering::Equal;
     }
     compare_components::<T>(path, other)
+}
+
+/// Feeds the prefix of a path to a hasher, where it has one: its kind and names.
+#[inline(always)]
+pub(crate) fn feed_prefix<H: Hasher>(prefix: Option<WindowsPrefix<'_>>, state: &mut H)
+    ensures { state.new
+        ≡ fold H.write state.old (words_before (option_map prefix_view prefix.entry)) }
+{
+    if let Some(prefix) = prefix {
+        prefix.hash(state);
+    }
+}
+
+/// Feeds a component behind the prefix to a hasher, and answers how many bytes of its text are
+/// counted.
+#[inline(always)]
+pub(crate) fn feed<H: Hasher>(step: Step<'_>, state: &mut H) -> usize
+    ensures words { state.new ≡ fold H.write state.old
+        (flat_map writes_of (words_by_kind (step_part step.entry).text (step_part step.entry).kind)) }
+    ensures counted { result ≡ fed_length (step_part step.entry).text (step_part step.entry).kind }
+{
+    match step.kind {
+        StepKind::RootDir => 0,
+        StepKind::CurDir | StepKind::ParentDir | StepKind::Normal => {
+            state.write(step.text);
+            step.text.len()
+        }
+    }
 }

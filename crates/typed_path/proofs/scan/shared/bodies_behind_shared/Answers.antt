@@ -1,4 +1,4 @@
-use Rattle.std.proofs.Common.{◌≡◌, ℕ, List, drop, refl, sym, ap, ap₂, ◌∙◌}
+use Rattle.std.proofs.Common.{◌≡◌, ◌++◌, ℕ, List, drop, refl, sym, ap, ap₂, ◌∙◌, arith}
 use Rattle.typed_path.specs.declared.scan.body.Body.{Body}
 use Rattle.typed_path.specs.declared.scan.begin.Begin.{Begin}
 use Rattle.typed_path.specs.declared.scan.separators.Separators.{Separators}
@@ -25,8 +25,11 @@ returns-in-Some-Some c =
     let u = c.as_bytes-other.result.now in
     let n = c.in-Some-Some.from in
     let m = c.in-Some-Some.other_from in
+    let front = body s 0 c.shared_front-front.result.now in
     ap₂ left_cmp c.inside.ensures.items c.inside-in-Some-Some.ensures.items
-    ∙ cmp-behind (body s 0 c.shared_front-front.result.now) (later_body s n (drop n t)) (later_body s m (drop m u)) (body s 0 t) (body s 0 u) c.in-Some-Some.ensures.items c.in-Some-Some.ensures'.items
+    ∙ cmp-behind front (later_body s n (drop n t)) (later_body s m (drop m u)) (body s 0 t) (body s 0 u)
+    (c.in-Some-Some.ensures.items 0 ∙ ap (λ k. front ++ later_body s k (drop n t)) (omega arith))
+    (c.in-Some-Some.ensures'.items 0 ∙ ap (λ k. front ++ later_body s k (drop m u)) (omega arith))
     ∙ ap₂ kinds_cmp
     (whole c.args.rest s t refl c.as_bytes-text.ensures (c.is_whole.ensures c.if-not-is_whole.false))
     (whole c.args.wanted s u (c.is_same.ensures c.if-not-is_same.false) c.as_bytes-other.ensures (c.is_whole-else-not-is_whole.ensures c.if-not-is_whole-2.false))
