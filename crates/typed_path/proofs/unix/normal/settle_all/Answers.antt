@@ -1,5 +1,6 @@
 use Rattle.std.proofs.Common.{OnOk, arith, refl, ◌∙◌}
 use Rattle.std.specs.Prelude.{⊤, Result, Ok, Err}
+use Rattle.std.proofs.lemmas.Result.{on_ok_weaker}
 use Rattle.typed_path.specs.declared.scan.separators.Separators.TheVariants.{Slash}
 use Rattle.typed_path.proofs.lemmas.places.RowSteps.{standing-start, standing-step, standing-end}
 use Rattle.typed_path.proofs.unix.normal.settle_all.Goals as goal
@@ -18,13 +19,8 @@ segments-preserved c = record {
   room = λ fits. omega (arith, c.segments.invariant.room fits, c.settle.ensures.room, c.settle.ensures.capacity, c.in-Some.ensures.sizes);
 }
 
--- what holds on success of one thing holds of what follows from it
-on_ok : {A E : Type 0} {P Q : Type 0} (r : Result A E) → (P → Q) → OnOk r P → OnOk r Q
-on_ok (Ok x) f p = f p
-on_ok (Err e) f p = tt
-
 pub returns-clause-ok : goal.returns-clause-ok
 returns-clause-ok c =
-    on_ok c.settle-2.result
+    on_ok_weaker c.settle-2.result
     (λ settles head size are. standing-end Slash (λ name. ⊤) _ _ head _ c.args.path.now c.in_default.ensures.pieces (λ names. settles head names size) (c.segments.invariant.standing head size are))
     c.settle-2.ensures.ok

@@ -1,12 +1,9 @@
 use Rattle.std.proofs.Common.{◌≡◌, ◌++◌, List, take, OnOk, slice_range, sym, ap, subst, ◌∙◌, append_assoc}
 use Rattle.std.specs.Prelude.{Result, Ok, Err}
+use Rattle.std.proofs.lemmas.Result.{on_ok_weaker}
 use Rattle.typed_path.specs.changes.Push.{push_unix}
 use Rattle.typed_path.proofs.lemmas.changes.PushLemmas.{up_to-end}
 use Rattle.typed_path.proofs.unix.push.push_at.Goals as goal
-
-on_ok : {A E P Q : Type 0} (r : Result A E) → (P → Q) → OnOk r P → OnOk r Q
-on_ok (Ok x) f p = f p
-on_ok (Err e) f p = tt
 
 pub returns-in-Some-clause-ok : goal.returns-in-Some-clause-ok
 returns-in-Some-clause-ok c =
@@ -16,7 +13,7 @@ returns-in-Some-clause-ok c =
     let separator = c.in-Some.separator.now in
     let other = c.args.other.now in
     let behind = subst (λ t. push_unix (slice_range t start c.args.kept) other ≡ slice_range t start c.args.kept ++ separator ++ other) c.deref.ensures.value c.in-Some.ensures.behind in
-    on_ok c.put_over.result
+    on_ok_weaker c.put_over.result
     (λ e. e ∙ ap (λ u. u ++ separator ++ other) (up_to-end text start c.args.kept c.requires.ordered c.requires.within)
     ∙ ap (λ u. u ++ other) (append_assoc (take start text) base separator)
     ∙ append_assoc (take start text) (base ++ separator) other

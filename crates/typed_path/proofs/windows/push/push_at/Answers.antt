@@ -1,6 +1,7 @@
 use Rattle.std.proofs.Common.{◌≡◌, ◌≤◌, ◌+◌, ◌++◌, List, length, take, OnOk, slice_range, sym, ap, subst, ◌∙◌, append-nil, append_assoc, length-append, arith}
 use Rattle.std.specs.Prelude.{ℕ, Result, Ok, Err, true, false}
 use Rattle.std.proofs.lemmas.List.{length-take-le}
+use Rattle.std.proofs.lemmas.Result.{on_ok_weaker}
 use Rattle.typed_path.specs.components.Dialect.{windows}
 use Rattle.typed_path.specs.components.Part.{kinds, parts}
 use Rattle.typed_path.specs.components.Comps.{parts_of}
@@ -9,10 +10,6 @@ use Rattle.typed_path.specs.queries.Queries.{has_prefix, has_any_verbatim_prefix
 use Rattle.typed_path.specs.changes.Push.{push_windows, raw_length, raw_prefix, ended_windows}
 use Rattle.typed_path.proofs.lemmas.changes.PushLemmas.{fits-plain, fits-prefixed, fits-merged, push-empty, push-prefixed, push-anew, push-rooted, push-relative, path-length, up_to-end, up_to-inside}
 use Rattle.typed_path.proofs.windows.push.push_at.Goals as goal
-
-on_ok : {A E P Q : Type 0} (r : Result A E) → (P → Q) → OnOk r P → OnOk r Q
-on_ok (Ok x) f p = f p
-on_ok (Err e) f p = tt
 
 -- whether the path at a place of a text is verbatim, where the text is another's
 verbatim_of : {t u : List ℕ} (start end : ℕ) → t ≡ u
@@ -42,7 +39,7 @@ module _ (c : goal.After-merge_at) where
 
 pub returns-then-has_verbatim_kind-clause-ok : goal.returns-then-has_verbatim_kind-clause-ok
 returns-then-has_verbatim_kind-clause-ok c = λ known.
-    on_ok c.merge_at.result (λ e. e ∙ ap (λ u. take c.args.start c.args.text.now.items ++ u) (sym (push-anew (merged_base c) c.args.other.now (some c) (no_prefix c) (marked c)))) (c.merge_at.ensures.ok known)
+    on_ok_weaker c.merge_at.result (λ e. e ∙ ap (λ u. take c.args.start c.args.text.now.items ++ u) (sym (push-anew (merged_base c) c.args.other.now (some c) (no_prefix c) (marked c)))) (c.merge_at.ensures.ok known)
 
 pub returns-then-has_verbatim_kind-clause-succeeds : goal.returns-then-has_verbatim_kind-clause-succeeds
 returns-then-has_verbatim_kind-clause-succeeds c = λ room within known fits.
@@ -79,7 +76,7 @@ returns-then-begins_with_root-clause-ok c = λ known.
     let text = c.args.text.now.items in
     let start = c.args.start in
     let other = c.args.other.now in
-    on_ok c.put_over-then-begins_with_root.result
+    on_ok_weaker c.put_over-then-begins_with_root.result
     (λ e. e ∙ ap (λ u. u ++ other) (append-nil (take (start + c.prefix_len.result) text)
     ∙ up_to-inside text start c.args.kept c.requires.ordered c.requires.within c.prefix_len.result (prefix_within c)
     ∙ ap (λ m. take start text ++ take m (rooted_base c)) (prefix_is c))
@@ -120,7 +117,7 @@ returns-clause-ok c = λ known.
     let start = c.args.start in
     let other = c.args.other.now in
     let separator = c.separator_behind-separator.result.now in
-    on_ok c.put_over-2.result
+    on_ok_weaker c.put_over-2.result
     (λ e. e ∙ ap (λ u. u ++ separator ++ other) (up_to-end text start c.args.kept c.requires.ordered c.requires.within)
     ∙ ap (λ u. u ++ other) (append_assoc (take start text) (relative_base c) separator)
     ∙ append_assoc (take start text) (relative_base c ++ separator) other

@@ -1,16 +1,13 @@
 use Rattle.std.proofs.Common.{◌≡◌, ◌≤◌, ◌+◌, ◌++◌, List, length, take, drop, OnOk, refl, sym, ap, subst, ◌∙◌, take_all, append_assoc, length-append, length-take-le, arith}
 use Rattle.std.specs.Prelude.{ℕ, Result, Ok, Err}
 use Rattle.std.proofs.lemmas.List.{take-append-drop, length-drop}
+use Rattle.std.proofs.lemmas.Result.{on_ok_weaker}
 use Rattle.typed_path.specs.components.Dialect.{windows}
 use Rattle.typed_path.specs.changes.Push.{push_windows, ended_windows}
 use Rattle.typed_path.proofs.lemmas.changes.PushLemmas.{fits-plain}
 use Rattle.typed_path.proofs.lemmas.changes.PlainNames.{plain, push-plain_ended}
 use Rattle.typed_path.proofs.lemmas.changes.PutCrossed.{whole_range}
 use Rattle.typed_path.proofs.windows.push.put_plain.Goals as goal
-
-on_ok : {A E P Q : Type 0} (r : Result A E) → (P → Q) → OnOk r P → OnOk r Q
-on_ok (Ok x) f p = f p
-on_ok (Err e) f p = tt
 
 module _ (c : goal.After-put_over) where
   abbrev old : List ℕ
@@ -33,7 +30,7 @@ module _ (c : goal.After-put_over) where
 pub returns-clause-ok : goal.returns-clause-ok
 returns-clause-ok c =
     let name = c.args.name.now in
-    on_ok c.put_over.result
+    on_ok_weaker c.put_over.result
     (λ e. e
     ∙ ap (λ t. t ++ separator c ++ name) (take_all c.len-len.result (old c) (omega (arith, size c)) ∙ sym (take-append-drop c.args.start (old c)))
     ∙ ap (λ t. t ++ name) (append_assoc (take c.args.start (old c)) (base c) (separator c))
