@@ -10,7 +10,7 @@ ghost use Rattle.typed_path.specs.places.Places.{normal_text};
 ghost use Rattle.typed_path.specs.places.Rows.{rows_of, settled, AreRowsOf, ArePlainRows, IsRowHead, IsPartedEither, TakesRows};
 ghost use Rattle.typed_path.specs.views.PieceViews.{found_of};
 
-use crate::common::{drop_name, drop_separator};
+use crate::common::{behind_segment, drop_name, drop_separator};
 use crate::scan::{
     Found, PieceKind, Separators, WindowsPrefix, cut_at_separator, drive, find_prefix, piece_of,
 };
@@ -160,7 +160,7 @@ fn settle_all(text: &mut Vec<u8>, len: usize, path: &[u8]) -> Result<bool, Alloc
         if !settle(text, len, segment)? {
             return Ok(false);
         }
-        rest = behind;
+        rest = behind_segment(segment, behind, Separators::Either);
     }
     settle(text, len, rest)
 }

@@ -2,7 +2,7 @@ use Rattle.std.proofs.Common.{◌≡◌, ◌∙◌, List, ℕ, None, Bool, IfOk,
 use Rattle.std.specs.Prelude.{Result, Ok, Err}
 use Rattle.typed_path.specs.declared.scan.separators.Separators.TheVariants.{Either}
 use Rattle.typed_path.specs.components.Prefix.{drive}
-use Rattle.typed_path.proofs.lemmas.places.RowSteps.{standing-start, standing-step, standing-end, standing-each}
+use Rattle.typed_path.proofs.lemmas.places.RowSteps.{standing-start, standing-step, standing-over, standing-end, standing-each}
 use Rattle.typed_path.proofs.windows.normal.settle_all.Goals as goal
 
 -- no drive is at the front
@@ -15,8 +15,9 @@ segments-init c = record { standing = λ head size are. standing-start Either Is
 pub segments-preserved : goal.segments-preserved
 segments-preserved c = record {
   standing = λ head size are.
-      standing-step Either IsNoDrive _ _ head _ _ c.in-Some.segment.now c.args.path.now c.in-Some.ensures.pieces c.in-Some.ensures.open (c.in_ok-settle.ensures.plain c.if-not-branch.false)
-      (λ names. c.in_ok-settle.ensures.ok c.if-not-branch.false head names size) (c.segments.invariant.standing head size are);
+      standing-over Either IsNoDrive _ head c.in-Some.behind.now _ c.args.path.now c.behind_segment-rest.ensures.same
+      (standing-step Either IsNoDrive _ _ head _ c.in-Some.behind.now c.in-Some.segment.now c.args.path.now c.in-Some.ensures.pieces c.in-Some.ensures.open (c.in_ok-settle.ensures.plain c.if-not-branch.false)
+      (λ names. c.in_ok-settle.ensures.ok c.if-not-branch.false head names size) (c.segments.invariant.standing head size are));
   kept = c.settle.ensures.kept ∙ c.segments.invariant.kept;
   long = c.settle.ensures.long;
   capacity = omega (arith, c.segments.invariant.capacity, c.settle.ensures.capacity);
