@@ -17,6 +17,10 @@ for command in ("normalize", "components"):
     with open(f"{folder}/{command}", "w") as out:
         for i in range(lines):
             out.write(f"{command}\tunix\t{paths[i % len(paths)]}\n")
+with open(folder + "/empty", "w") as out:
+    out.write("\n" * lines)
+with open(folder + "/bad", "w") as out:
+    out.write("no command\tof/any/kind\nwhat\n" * (lines // 2))
 with open(folder + "/long", "w") as out:
     out.write("normalize\tunix\t" + "name/" * 1_000_000 + "\n")
 PY
@@ -37,7 +41,7 @@ print(f"{best:.3f}")
 PY
 }
 
-for command in normalize components; do
+for command in normalize components empty bad; do
   mine=$(seconds "$command" "$program")
   cat=$(seconds "$command" cat)
   python3 -c "print(f'$command: $lines lines in $mine s of processor time, {$lines / $mine / 1e6:.1f} million a second; cat $cat s')"

@@ -57,12 +57,14 @@ exports!((path: *const u8, len: usize):
     bench_file_name bench_extension bench_to_path_buf bench_normalize bench_first bench_hash bench_windows_hash
     bench_windows_walk
     bench_windows_walk_back bench_windows_first bench_windows_last bench_windows_parent
+    bench_windows_ancestors bench_is_valid bench_windows_is_valid bench_to_string_lossy
     bench_windows_file_name bench_windows_extension bench_windows_normalize bench_to_windows
     bench_to_windows_checked bench_windows_to_unix bench_windows_to_unix_checked);
 
 exports!((path: *const u8, len: usize, other: *const u8, other_len: usize):
     bench_starts_with bench_strip_prefix bench_ends_with bench_join bench_join_checked
     bench_with_file_name bench_with_extension bench_eq bench_cmp bench_windows_eq bench_windows_cmp bench_windows_join bench_windows_join_checked
+    bench_windows_starts_with bench_windows_strip_prefix
     bench_windows_with_extension bench_absolutize);
 
 exports!((texts: *const u8, len: usize, ends: *const usize, count: usize, other: *const u8, other_len: usize):
@@ -245,11 +247,18 @@ struct Corpus {
     doubled: Texts,
     /// With `.`, `..` and doubled separators here and there.
     dotted: Texts,
+    /// The same, with each separator written eight times, or as `/./././`.
+    runs: Texts,
+    dot_runs: Texts,
+    /// The same, where a byte of each name is no text.
+    broken: Texts,
     /// As on Windows, with each of the prefixes, and the same texts with slashes alone; and each time
     /// a base with that prefix.
     windows: Vec<[(Texts, Vec<u8>); 2]>,
     /// The paths without a root, with backslashes.
     windows_relative: Texts,
+    /// As on Windows, behind a prefix of 4 KiB, and the same texts with slashes alone.
+    windows_long: [Texts; 2],
 }
 
 /// A text with one byte in the place of another.
@@ -275,6 +284,47 @@ fn behind_prefix(corpus: &Corpus, prefix: &[u8], separator: u8) -> Texts {
     paths
 }
 
+/// The same behind prefixes that take turns, with both separators, and with dots here and there where
+/// the paths stand apart.
+fn mixed(corpus: &Corpus, draw: &mut Draw) -> Texts {
+    if corpus.few == 1 {
+        let mut paths = behind_prefix(corpus, b"C:", b'/');
+        (0..paths.text.len()).filter(|at| at % 2 == 1).for_each(|at| {
+            if paths.text[at] == b'/' {
+                paths.text[at] = b'\\';
+            }
+        });
+        return paths;
+    }
+    let mut paths = Texts::default();
+    for at in 0..corpus.paths.places.len() {
+        let path = corpus.paths.at(at);
+        let (_, prefix) = PREFIXES[at % PREFIXES.len()];
+        let mut whole = prefix.to_vec();
+        if !prefix.is_empty() && !path.starts_with(b"/") {
+            whole.push(b'\\');
+        }
+        for byte in path {
+            let drawn: &[u8] = match draw.below(16) {
+                _ if *byte != b'/' => &[*byte],
+                0 => br"\..\",
+                1 => br"/.\",
+                2 => br"\/",
+                3..9 => b"/",
+                _ => br"\",
+            };
+            whole.extend_from_slice(drawn);
+        }
+        paths.push(&whole);
+    }
+    paths
+}
+
+/// The same texts with slashes alone.
+fn slashed(texts: &Texts) -> Texts {
+    Texts { text: replaced(&texts.text, b'\\', b'/'), places: texts.places.clone(), ends: texts.ends.clone() }
+}
+
 impl Corpus {
     fn new(label: &'static str, few: usize, paths: Texts, draw: &mut Draw) -> Corpus {
         let mut corpus = Corpus {
@@ -291,8 +341,12 @@ impl Corpus {
             begins_otherwise: Texts::default(),
             doubled: Texts::default(),
             dotted: Texts::default(),
+            runs: Texts::default(),
+            dot_runs: Texts::default(),
+            broken: Texts::default(),
             windows: Vec::new(),
             windows_relative: Texts::default(),
+            windows_long: [Texts::default(), Texts::default()],
         };
         for at in 0..few {
             let path = corpus.paths.at(at);
@@ -339,6 +393,13 @@ impl Corpus {
             corpus.otherwise.push(&otherwise);
             corpus.end.push(&end[1..]);
             corpus.dotted.push(&dotted);
+            let written = |separator: &[u8]| {
+                let names: Vec<_> = path.split(|byte| *byte == b'/').collect();
+                names.join(separator)
+            };
+            corpus.runs.push(&written(b"////////"));
+            corpus.dot_runs.push(&written(b"/./././"));
+            corpus.broken.push(&written(b"/\xFF"));
         }
         corpus.windows = PREFIXES
             .iter()
@@ -349,6 +410,11 @@ impl Corpus {
                 })
             })
             .collect();
+        let paths = mixed(&corpus, draw);
+        let other = slashed(&paths);
+        corpus.windows.push([(paths, br"C:\srv/files".to_vec()), (other, b"C:/srv/files".to_vec())]);
+        let long = [br"\\server\".as_slice(), &[b's'; 4096]].concat();
+        corpus.windows_long = [b'\\', b'/'].map(|byte| behind_prefix(&corpus, &replaced(&long, b'\\', byte), byte));
         for at in 0..few {
             let relative = replaced(corpus.relative.at(at), b'/', b'\\');
             corpus.windows_relative.push(&relative);
@@ -578,6 +644,12 @@ fn rows(corpus: &Corpus) -> Vec<Row<'_>> {
         ),
         whole.one("`normalize`", paths, bench_normalize, std_normalize),
         whole.one("`normalize`, with dots", &corpus.dotted, bench_normalize, std_normalize),
+        whole.one("`normalize`, runs of separators", &corpus.runs, bench_normalize, std_normalize),
+        whole.one("`normalize`, runs of `./`", &corpus.dot_runs, bench_normalize, std_normalize),
+        whole.one("`is_valid`, beside one search", paths, bench_is_valid, std_is_valid),
+        whole.one("`to_string_lossy`, no text", &corpus.broken, bench_to_string_lossy, |path| {
+            black_box(path.to_string_lossy()).len()
+        }),
         whole.alone("`with_windows_encoding`", paths, bench_to_windows),
         whole.alone("`with_windows_encoding_checked`", paths, bench_to_windows_checked),
         whole.two(
@@ -607,6 +679,22 @@ fn rows(corpus: &Corpus) -> Vec<Row<'_>> {
     ]
 }
 
+/// A beginning of a path: to the first separator behind its middle.
+fn half(path: &[u8]) -> &[u8] {
+    let middle = path.len() / 2;
+    let more = path[middle..].iter().position(|byte| matches!(byte, b'/' | b'\\'));
+    &path[..middle + more.unwrap_or(path.len() - middle)]
+}
+
+/// Calls on Windows paths behind a long prefix, beside the same on Unix.
+fn long_prefix_rows(corpus: &Corpus) -> Vec<Row<'_>> {
+    let [paths, other] = &corpus.windows_long;
+    let kind = Kind { corpus, reads: Reads::Components };
+    let ours = each(kind.calls(), move |at| unsafe { bench_windows_ancestors(paths.at(at).as_ptr(), paths.at(at).len()) });
+    let theirs = each(kind.calls(), move |at| unsafe { bench_ancestors(other.at(at).as_ptr(), other.at(at).len()) });
+    vec![kind.row("`for` over `ancestors()`", ours, theirs)]
+}
+
 /// Calls on Windows paths behind a prefix, beside those of Unix on the same texts with slashes.
 fn windows_rows(corpus: &Corpus, at: usize) -> Vec<Row<'_>> {
     let [(paths, base), (other, other_base)] = &corpus.windows[at];
@@ -618,6 +706,11 @@ fn windows_rows(corpus: &Corpus, at: usize) -> Vec<Row<'_>> {
     };
     let call = |two: Two, path: &[u8], other: &[u8]| unsafe { two(path.as_ptr(), path.len(), other.as_ptr(), other.len()) };
     let whole = Kind { corpus, reads: Reads::Whole };
+    let halved = |label, windows: Two, unix: Two| {
+        let ours = each(whole.calls(), move |at| call(windows, paths.at(at), half(paths.at(at))));
+        let theirs = each(whole.calls(), move |at| call(unix, other.at(at), half(other.at(at))));
+        whole.row(label, ours, theirs)
+    };
     let joined = |label, windows: Two, unix: Two| {
         let ours = each(whole.calls(), move |at| call(windows, base, corpus.windows_relative.at(at)));
         let theirs = each(whole.calls(), move |at| call(unix, other_base, corpus.relative.at(at)));
@@ -639,6 +732,15 @@ fn windows_rows(corpus: &Corpus, at: usize) -> Vec<Row<'_>> {
             each(whole.calls(), move |at| call(bench_with_extension, other.at(at), EXTENSION)),
         ),
         one("`normalize`", Reads::Whole, bench_windows_normalize, bench_normalize),
+        one("`for` over `ancestors()`", Reads::Components, bench_windows_ancestors, bench_ancestors),
+        // Windows has names that stand for devices, so only that there is an answer is compared.
+        whole.row(
+            "`is_valid`",
+            each(whole.calls(), move |at| usize::from(unsafe { bench_windows_is_valid(paths.at(at).as_ptr(), paths.at(at).len()) } < 2)),
+            each(whole.calls(), move |at| usize::from(unsafe { bench_is_valid(other.at(at).as_ptr(), other.at(at).len()) } < 2)),
+        ),
+        halved("`starts_with` of the first half", bench_windows_starts_with, bench_starts_with),
+        halved("`strip_prefix` of the first half", bench_windows_strip_prefix, bench_strip_prefix),
         whole.row(
             "`==`, separators otherwise",
             each(whole.calls(), move |at| call(bench_windows_eq, paths.at(at), other.at(at))),
@@ -668,6 +770,11 @@ fn std_hash(path: &Path) -> usize {
     let mut state = DefaultHasher::new();
     path.hash(&mut state);
     usize::from(state.finish() != 0)
+}
+
+/// By a search for the one byte that no name may have, since std has no such call.
+fn std_is_valid(path: &Path) -> usize {
+    usize::from(!path.as_os_str().as_bytes().contains(&0))
 }
 
 fn starts_with(path: &Path, base: &Path) -> usize {
@@ -708,6 +815,11 @@ fn head(first: &str, corpora: &[Corpus]) {
     println!("|---|{}", "---|".repeat(corpora.len()));
 }
 
+/// The rows whose label has a word.
+fn asked<'a>(rows: Vec<Row<'a>>, word: &str) -> Vec<Row<'a>> {
+    rows.into_iter().filter(|row| row.label.contains(word)).collect()
+}
+
 fn main() {
     let sweeps: usize = std::env::args().nth(1).map_or(5, |sweeps| sweeps.parse().unwrap());
     let word = std::env::args().nth(2).unwrap_or_default();
@@ -724,11 +836,11 @@ fn main() {
         long(&text, &mut draw),
     ];
     let pieces = [cut("1 KiB", &text, 1 << 10, &mut draw), cut("32 KiB", &text, 1 << 15, &mut draw)];
-    let asked = |corpus| rows(corpus).into_iter().filter(|row| row.label.contains(&word)).collect::<Vec<_>>();
-    let mut tables: Vec<_> = corpora.iter().chain(&pieces).map(asked).collect();
-    let mut windows: Vec<Vec<_>> = (0..PREFIXES.len())
-        .map(|at| corpora.iter().map(|corpus| windows_rows(corpus, at)).collect())
+    let mut tables: Vec<_> = corpora.iter().chain(&pieces).map(|corpus| asked(rows(corpus), &word)).collect();
+    let mut windows: Vec<Vec<_>> = (0..=PREFIXES.len())
+        .map(|at| corpora.iter().map(|corpus| asked(windows_rows(corpus, at), &word)).collect())
         .collect();
+    windows.push(corpora.iter().map(|corpus| asked(long_prefix_rows(corpus), &word)).collect());
     for (corpus, rows) in corpora.iter().chain(&pieces).zip(&tables).chain(corpora.iter().zip(&windows[0])) {
         rows.iter().for_each(|row| row.check(corpus.label));
     }
@@ -777,7 +889,7 @@ fn main() {
     }
     println!("\nNanoseconds a call, a Windows path / the same text with slashes on Unix (ratio):\n");
     head("Call", &corpora);
-    for ((prefix, _), tables) in PREFIXES.iter().zip(&windows) {
+    for (prefix, tables) in PREFIXES.iter().map(|(prefix, _)| *prefix).chain(["mixed", "a long prefix"]).zip(&windows) {
         for at in 0..tables[0].len() {
             let cells = tables.iter().map(|rows| cell(&rows[at], 1.0));
             line(std::iter::once(format!("{}, {prefix}", tables[0][at].label)).chain(cells));

@@ -54,3 +54,9 @@ pub extern "C" fn bench_first(path: &[u8]) -> usize {
     let first = UnixPath::new(path).components().next();
     first.map_or(1, |piece| piece.text.len())
 }
+
+/// Whether every name of the path is allowed.
+#[unsafe(no_mangle)]
+pub extern "C" fn bench_is_valid(path: &[u8]) -> usize {
+    usize::from(UnixPath::new(path).is_valid())
+}

@@ -1,6 +1,7 @@
 //! Owned paths made of lent ones: their length.
 
 use std::alloc::{AllocError, Global};
+use std::borrow::CowStr;
 use typed_path::{UnixPath, UnixPathBuf};
 
 /// The length of a path that was made.
@@ -43,4 +44,14 @@ pub extern "C" fn bench_with_extension(alloc: Global, path: &[u8], extension: &[
 #[unsafe(no_mangle)]
 pub extern "C" fn bench_normalize(alloc: Global, path: &[u8]) -> usize {
     length_of(UnixPath::new(path).normalize(alloc))
+}
+
+/// The path as a text.
+#[unsafe(no_mangle)]
+pub extern "C" fn bench_to_string_lossy(alloc: Global, path: &[u8]) -> usize {
+    match UnixPath::new(path).to_string_lossy(alloc) {
+        Ok(CowStr::Borrowed(text)) => text.len(),
+        Ok(CowStr::Owned(text)) => text.len(),
+        Err(_) => 0,
+    }
 }

@@ -59,6 +59,35 @@ pub extern "C" fn bench_windows_extension(path: &[u8]) -> usize {
     extension.map_or(1, |extension| extension.len())
 }
 
+/// The path, its parent, the parent of that, and so on: the sum of their lengths.
+#[unsafe(no_mangle)]
+pub extern "C" fn bench_windows_ancestors(path: &[u8]) -> usize {
+    let mut sum = 0usize;
+    for ancestor in WindowsPath::new(path).ancestors() {
+        sum = sum.wrapping_add(ancestor.as_bytes().len());
+    }
+    sum
+}
+
+/// Whether the path begins with a base.
+#[unsafe(no_mangle)]
+pub extern "C" fn bench_windows_starts_with(path: &[u8], base: &[u8]) -> usize {
+    usize::from(WindowsPath::new(path).starts_with(WindowsPath::new(base)))
+}
+
+/// What is left of the path behind a base.
+#[unsafe(no_mangle)]
+pub extern "C" fn bench_windows_strip_prefix(path: &[u8], base: &[u8]) -> usize {
+    let rest = WindowsPath::new(path).strip_prefix(WindowsPath::new(base));
+    rest.map_or(1, |rest| rest.as_bytes().len())
+}
+
+/// Whether every name of the path is allowed.
+#[unsafe(no_mangle)]
+pub extern "C" fn bench_windows_is_valid(path: &[u8]) -> usize {
+    usize::from(WindowsPath::new(path).is_valid())
+}
+
 /// The length of a path that was made.
 fn length_of(made: Result<WindowsPathBuf, AllocError>) -> usize {
     made.map_or(0, |path| path.as_path().as_bytes().len())

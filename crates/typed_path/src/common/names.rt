@@ -1,10 +1,12 @@
 //! Names in a text: split at their last dot, put behind it where its memory is found first, and
 //! taken off its end.
 
-ghost use Rattle.std.specs.Prelude.{◌≡◌, ◌<◌, ◌≤◌, ◌+◌, ◌-◌, ◌++◌, ℕ, List, take, length, option_copied, IsOk, OnOk, OnErr};
+ghost use Rattle.std.specs.Prelude.{◌≡◌, ◌<◌, ◌≤◌, ◌+◌, ◌-◌, ◌++◌, ℕ, List, fold, take, length, option_copied, IfSome, IsOk, OnOk, OnErr};
+ghost use Rattle.std.specs.List.{slice_split};
+ghost use Rattle.typed_path.specs.components.Dialect.{is_separator};
 ghost use Rattle.std.specs.Vec.{vec_len, vec_capacity};
 ghost use Rattle.typed_path.specs.changes.Changes.{dotted};
-ghost use Rattle.typed_path.specs.places.Rows.{rows_of, AreRowsOf};
+ghost use Rattle.typed_path.specs.places.Rows.{rows_of, settled, AreRowsOf, HaveNoDrives};
 ghost use Rattle.typed_path.specs.queries.Names.{stem_of, extension_of};
 
 use crate::scan::Separators;
@@ -122,4 +124,42 @@ pub fn cut_back(
         text.truncate(len);
     }
     done
+}
+
+/// What stands behind a separator that a text begins with, or behind a `.` and a separator.
+#[inline(always)]
+fn behind_blank(text: &[u8], separators: Separators) -> Option<&[u8]>
+    ensures same { IfSome result (λ rest. (names : List (List ℕ))
+        → fold settled names (slice_split (is_separator separators) text.now)
+        ≡ fold settled names (slice_split (is_separator separators) rest.now)) }
+    ensures drives { IfSome result (λ rest.
+        HaveNoDrives (slice_split (is_separator separators) text.now)
+        → HaveNoDrives (slice_split (is_separator separators) rest.now)) }
+    ensures shorter { IfSome result (λ rest. length rest.now < length text.now) }
+{
+    match text {
+        [first, rest @ ..] if separators.contains(*first) => Some(rest),
+        [b'.', second, rest @ ..] if separators.contains(*second) => Some(rest),
+        _ => None,
+    }
+}
+
+/// What is left behind a segment: where it is empty or `.`, without the segments like it that come
+/// next, so that a run of separators is not cut one by one.
+#[inline(always)]
+pub fn behind_segment<'a>(segment: &[u8], rest: &'a [u8], separators: Separators) -> &'a [u8]
+    ensures same { (names : List (List ℕ))
+        → fold settled names (slice_split (is_separator separators) rest.now)
+        ≡ fold settled names (slice_split (is_separator separators) result.now) }
+    ensures drives { HaveNoDrives (slice_split (is_separator separators) rest.now)
+        → HaveNoDrives (slice_split (is_separator separators) result.now) }
+    ensures shorter { length result.now ≤ length rest.now }
+{
+    let mut left = rest;
+    if matches!(segment, [] | [b'.']) {
+        'blanks: while let Some(behind) = behind_blank(left, separators) {
+            left = behind;
+        }
+    }
+    left
 }

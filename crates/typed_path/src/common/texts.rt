@@ -1,5 +1,9 @@
 //! Paths as texts.
 
+ghost use Rattle.std.specs.Prelude.{◌≡◌, IfOk};
+ghost use Rattle.std.specs.Str.Lossy.{utf8_lossy};
+ghost use Rattle.std.specs.String.{string_bytes};
+
 use crate::common::encoding::Encoding;
 use crate::common::path::Path;
 use std::alloc::{AllocError, Global};
@@ -39,7 +43,7 @@ impl<'a, T: Encoding> Path<'a, T> {
     {
         match self.to_str() {
             Some(text) => Ok(CowStr::Borrowed(text)),
-            None => Ok(CowStr::Owned(String::from_utf8_lossy(alloc, self.as_bytes())?)),
+            None => Ok(CowStr::Owned(replaced(alloc, self.as_bytes())?)),
         }
     }
 
@@ -49,6 +53,20 @@ impl<'a, T: Encoding> Path<'a, T> {
     {
         Display { path: self }
     }
+}
+
+/// The text of bytes, with U+FFFD where they are none. Room for as many bytes is found first.
+fn replaced(alloc: Global, bytes: &[u8]) -> Result<String, AllocError>
+    ensures { IfOk result (λ text. string_bytes text ≡ utf8_lossy bytes.now) }
+{
+    let mut text = String::with_capacity(alloc, bytes.len())?;
+    'chunks: for chunk in bytes.utf8_chunks() {
+        text.push_str(chunk.valid())?;
+        if !chunk.invalid().is_empty() {
+            text.push('\u{FFFD}')?;
+        }
+    }
+    Ok(text)
 }
 
 /// Writes bytes as a text, with U+FFFD where they are none.

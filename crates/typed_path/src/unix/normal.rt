@@ -6,7 +6,7 @@ ghost use Rattle.typed_path.specs.components.Dialect.{unix};
 ghost use Rattle.typed_path.specs.places.Places.{normal_text};
 ghost use Rattle.typed_path.specs.places.Rows.{rows, settled, names_left, AreRows, IsParted};
 
-use crate::common::{cut_back, drop_name, drop_separator};
+use crate::common::{behind_segment, cut_back, drop_name, drop_separator};
 use crate::scan::{Separators, StepKind, cut_at_separator, step_of};
 use std::alloc::AllocError;
 
@@ -64,12 +64,13 @@ fn settle_all(text: &mut Vec<u8>, len: usize, path: &[u8]) -> Result<(), AllocEr
     let mut rest = path;
     'segments: while let Some((segment, behind)) = cut_at_separator(Separators::Slash, rest) {
         settle(text, len, segment)?;
-        rest = behind;
+        rest = behind_segment(segment, behind, Separators::Slash);
     }
     settle(text, len, rest)
 }
 
 /// Settles one more segment behind the names that stand.
+#[inline(always)]
 fn settle(text: &mut Vec<u8>, len: usize, segment: &[u8]) -> Result<(), AllocError>
     requires { len ≤ length text.old.items }
     ensures ok { OnOk result ((head : List ℕ) (names : List (List ℕ)) → length head ≡ len

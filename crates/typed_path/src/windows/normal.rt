@@ -11,7 +11,7 @@ ghost use Rattle.typed_path.specs.places.Places.{normal_text};
 ghost use Rattle.typed_path.specs.places.Rows.{rows_of, settled, AreRowsOf, ArePlainRows, IsRowHead, IsPartedEither, TakesRows, HaveNoDrives, HasPlainNames, IsHeadOf};
 ghost use Rattle.typed_path.specs.views.PieceViews.{found_of};
 
-use crate::common::{cut_back, drop_name, drop_separator};
+use crate::common::{behind_segment, cut_back, drop_name, drop_separator};
 use crate::scan::{
     Found, PieceKind, Separators, StepKind, WindowsPrefix, cut_at_separator, drive, find_prefix,
     step_of,
@@ -175,7 +175,7 @@ fn settle_all(text: &mut Vec<u8>, len: usize, path: &[u8]) -> Result<bool, Alloc
         if !settle(text, len, segment)? {
             return Ok(false);
         }
-        rest = behind;
+        rest = behind_segment(segment, behind, Separators::Either);
     }
     settle(text, len, rest)
 }

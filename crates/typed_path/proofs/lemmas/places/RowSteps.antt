@@ -141,6 +141,11 @@ module _ (s : Separators) (P : List ℕ → Type 0) where
         left = stands.left ∙ ap (fold settled stands.names) split;
       }
 
+  -- segments that add nothing are passed over
+  pub standing-over : (text head rest behind whole : List ℕ) → ((names : List (List ℕ)) → fold settled names (slice_split (is_separator s) rest) ≡ fold settled names (slice_split (is_separator s) behind))
+      → Standing s P text head rest whole → Standing s P text head behind whole
+  standing-over text head rest behind whole same stands = record { names = stands.names; rows = stands.rows; each = stands.each; left = stands.left ∙ same stands.names }
+
   -- the last segment
   pub standing-end : (text new head rest whole : List ℕ) → slice_split (is_separator s) rest ≡ rest ∷ []
       → ((names : List (List ℕ)) → AreRowsOf s text head names → new ≡ head ++ rows_of s (settled names rest)) → Standing s P text head rest whole → new ≡ head ++ rows_of s (names_left_of s whole)

@@ -2,7 +2,7 @@ use Rattle.std.proofs.Common.{OnOk, arith, refl, ◌∙◌}
 use Rattle.std.specs.Prelude.{⊤, Result, Ok, Err}
 use Rattle.std.proofs.lemmas.Result.{on_ok_weaker}
 use Rattle.typed_path.specs.declared.scan.separators.Separators.TheVariants.{Slash}
-use Rattle.typed_path.proofs.lemmas.places.RowSteps.{standing-start, standing-step, standing-end}
+use Rattle.typed_path.proofs.lemmas.places.RowSteps.{standing-start, standing-step, standing-over, standing-end}
 use Rattle.typed_path.proofs.unix.normal.settle_all.Goals as goal
 
 pub segments-init : goal.segments-init
@@ -11,12 +11,13 @@ segments-init c = record { standing = λ head size are. standing-start Slash (λ
 pub segments-preserved : goal.segments-preserved
 segments-preserved c = record {
   standing = λ head size are.
-      standing-step Slash (λ name. ⊤) _ _ head _ _ c.in-Some.segment.now c.args.path.now c.in-Some.ensures.pieces c.in-Some.ensures.open tt
-      (λ names. c.in_ok-settle.ensures.ok head names size) (c.segments.invariant.standing head size are);
+      standing-over Slash (λ name. ⊤) _ head c.in-Some.behind.now _ c.args.path.now c.behind_segment-rest.ensures.same
+      (standing-step Slash (λ name. ⊤) _ _ head _ c.in-Some.behind.now c.in-Some.segment.now c.args.path.now c.in-Some.ensures.pieces c.in-Some.ensures.open tt
+      (λ names. c.in_ok-settle.ensures.ok head names size) (c.segments.invariant.standing head size are));
   kept = c.settle.ensures.kept ∙ c.segments.invariant.kept;
   long = c.settle.ensures.long;
   capacity = omega (arith, c.segments.invariant.capacity, c.settle.ensures.capacity);
-  room = λ fits. omega (arith, c.segments.invariant.room fits, c.settle.ensures.room, c.settle.ensures.capacity, c.in-Some.ensures.sizes);
+  room = λ fits. omega (arith, c.segments.invariant.room fits, c.settle.ensures.room, c.settle.ensures.capacity, c.in-Some.ensures.sizes, c.behind_segment-rest.ensures.shorter);
 }
 
 pub returns-clause-ok : goal.returns-clause-ok

@@ -4,7 +4,7 @@ use Rattle.std.proofs.lemmas.Bool.{both_ways}
 use Rattle.typed_path.specs.declared.scan.separators.Separators.TheVariants.{Either}
 use Rattle.typed_path.specs.components.Prefix.{drive}
 use Rattle.typed_path.specs.places.Rows.{HaveNoDrives}
-use Rattle.typed_path.proofs.lemmas.places.RowSteps.{standing-start, standing-step, standing-end, standing-each}
+use Rattle.typed_path.proofs.lemmas.places.RowSteps.{standing-start, standing-step, standing-over, standing-end, standing-each}
 use Rattle.typed_path.proofs.windows.normal.settle_all.Goals as goal
 
 -- no drive is at the front
@@ -17,13 +17,14 @@ segments-init c = record { standing = λ head size are. standing-start Either Is
 pub segments-preserved : goal.segments-preserved
 segments-preserved c = record {
   standing = λ head size are.
-      standing-step Either IsNoDrive _ _ head _ _ c.in-Some.segment.now c.args.path.now c.in-Some.ensures.pieces c.in-Some.ensures.open (c.in_ok-settle.ensures.plain c.if-not-branch.false)
-      (λ names. c.in_ok-settle.ensures.ok c.if-not-branch.false head names size) (c.segments.invariant.standing head size are);
+      standing-over Either IsNoDrive _ head c.in-Some.behind.now _ c.args.path.now c.behind_segment-rest.ensures.same
+      (standing-step Either IsNoDrive _ _ head _ c.in-Some.behind.now c.in-Some.segment.now c.args.path.now c.in-Some.ensures.pieces c.in-Some.ensures.open (c.in_ok-settle.ensures.plain c.if-not-branch.false)
+      (λ names. c.in_ok-settle.ensures.ok c.if-not-branch.false head names size) (c.segments.invariant.standing head size are));
   kept = c.settle.ensures.kept ∙ c.segments.invariant.kept;
   long = c.settle.ensures.long;
   capacity = omega (arith, c.segments.invariant.capacity, c.settle.ensures.capacity);
-  room = λ fits. omega (arith, c.segments.invariant.room fits, c.settle.ensures.room, c.settle.ensures.capacity, c.in-Some.ensures.sizes);
-  drives = λ none. (subst HaveNoDrives c.in-Some.ensures.pieces (c.segments.invariant.drives none)).1;
+  room = λ fits. omega (arith, c.segments.invariant.room fits, c.settle.ensures.room, c.settle.ensures.capacity, c.in-Some.ensures.sizes, c.behind_segment-rest.ensures.shorter);
+  drives = λ none. c.behind_segment-rest.ensures.drives (subst HaveNoDrives c.in-Some.ensures.pieces (c.segments.invariant.drives none)).1;
 }
 
 -- the segment that comes begins with no drive
