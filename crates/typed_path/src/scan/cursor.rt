@@ -8,7 +8,7 @@ ghost use Rattle.typed_path.specs.scan.Pending.{pending};
 use crate::errors::CheckedPathError;
 use crate::scan::body::Body;
 use crate::scan::piece::{Piece, PieceKind};
-use crate::scan::prefix::{Found, WindowsPrefix};
+use crate::scan::prefix::{Found, WindowsPrefix, find_prefix};
 use crate::scan::separators::Separators;
 
 /// The place of a reading of a text: what is still to be taken of its prefix, and of its body.
@@ -21,7 +21,7 @@ pub struct Cursor<'a> {
 
 impl<'a> Cursor<'a> {
     ghost use Rattle.std.specs.Prelude.{◌≡◌, ◌≤◌, [], ◌++◌, true, length, take, drop, option_map, Some, None};
-    ghost use Rattle.typed_path.specs.components.Comps.{body, later_body, component};
+    ghost use Rattle.typed_path.specs.components.Comps.{body, comps, later_body, component};
     ghost use Rattle.typed_path.specs.declared.scan.begin.Begin.{Begin};
     ghost use Rattle.typed_path.specs.scan.Left.{but_last, last_of, slice_after_front, slice_after_back};
     ghost use Rattle.typed_path.specs.components.Part.{Placed, end_of, kinds, parts, prefix_part};
@@ -31,7 +31,7 @@ impl<'a> Cursor<'a> {
     ghost use Rattle.typed_path.specs.views.BodyViews.{body_items};
     ghost use Rattle.typed_path.specs.views.CursorViews.{slice_left, items_left, cursor_separators};
     ghost use Rattle.typed_path.specs.changes.Checked.{error_of};
-    ghost use Rattle.typed_path.specs.components.Dialect.{dialect_of};
+    ghost use Rattle.typed_path.specs.components.Dialect.{windows, dialect_of};
     ghost use Rattle.typed_path.specs.changes.Fault.{fault_behind};
 
     /// A reading of a whole text that has no prefix.
@@ -65,6 +65,20 @@ impl<'a> Cursor<'a> {
         Cursor {
             prefix: Some(prefix),
             body: Body::new(text, prefix.length, separators),
+        }
+    }
+
+    /// A reading of a whole text of Windows.
+    #[inline(always)]
+    pub(crate) fn of_windows(text: &'a [u8]) -> Cursor<'a>
+        ensures items { items_left result ≡ comps windows text.now }
+        ensures slice { slice_left result ≡ text.now }
+        ensures dialect { dialect_of (cursor_separators result) ≡ windows }
+    {
+        let separators = Separators::of_windows(text);
+        match find_prefix(text) {
+            Some(found) => Cursor::with_prefix(text, found, separators),
+            None => Cursor::new(text, separators),
         }
     }
 

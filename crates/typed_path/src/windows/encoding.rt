@@ -1,15 +1,14 @@
 //! The encoding of Windows paths.
 
 ghost use Rattle.std.specs.Prelude.{◌≡◌, false};
-ghost use Rattle.typed_path.specs.components.Dialect.{windows, dialect_of};
-ghost use Rattle.typed_path.specs.components.Comps.{comps};
+ghost use Rattle.typed_path.specs.components.Dialect.{windows};
 ghost use Rattle.typed_path.specs.components.Part.{kinds, parts};
 ghost use Rattle.typed_path.specs.queries.Queries.{is_absolute, has_root};
-ghost use Rattle.typed_path.specs.views.CursorViews.{slice_left, items_left, cursor_separators};
+ghost use Rattle.typed_path.specs.views.CursorViews.{items_left};
 
 use crate::common::Encoding;
 use crate::errors::CheckedPathError;
-use crate::scan::{Cursor, Piece, Separators, WindowsPrefix, base_end, find_prefix, has_valid_names};
+use crate::scan::{Cursor, Piece, Separators, WindowsPrefix, base_end, has_valid_names};
 use crate::windows::normal::put_normal;
 use crate::windows::push::{prefix_len, push_at, push_next};
 use std::alloc::AllocError;
@@ -47,7 +46,7 @@ impl Encoding for WindowsEncoding {
 
     #[inline(always)]
     fn cursor(path: &[u8]) -> Cursor<'_> {
-        cursor(path)
+        Cursor::of_windows(path)
     }
 
     #[inline(always)]
@@ -112,21 +111,7 @@ impl Encoding for WindowsEncoding {
     }
 
     fn check(path: &[u8]) -> Result<(), CheckedPathError> {
-        cursor(path).check()
-    }
-}
-
-/// A reading of the components of a text.
-#[inline(always)]
-pub fn cursor(path: &[u8]) -> Cursor<'_>
-    ensures items { items_left result ≡ comps windows path.now }
-    ensures slice { slice_left result ≡ path.now }
-    ensures dialect { dialect_of (cursor_separators result) ≡ windows }
-{
-    let separators = Separators::of_windows(path);
-    match find_prefix(path) {
-        Some(found) => Cursor::with_prefix(path, found, separators),
-        None => Cursor::new(path, separators),
+        Cursor::of_windows(path).check()
     }
 }
 

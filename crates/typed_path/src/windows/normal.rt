@@ -13,10 +13,9 @@ ghost use Rattle.typed_path.specs.views.PieceViews.{found_of};
 
 use crate::common::{behind_segment, cut_back, drop_name, drop_separator};
 use crate::scan::{
-    Found, PieceKind, Separators, StepKind, WindowsPrefix, cut_at_separator, drive, find_prefix,
-    step_of,
+    Cursor, Found, PieceKind, Separators, StepKind, WindowsPrefix, cut_at_separator, drive,
+    find_prefix, step_of,
 };
-use crate::windows::encoding::cursor;
 use crate::windows::push::{push_at, push_next};
 use crate::windows::spelled::is_separated;
 use std::alloc::AllocError;
@@ -255,7 +254,7 @@ fn push_heads<'a>(
     ensures capacity { vec_capacity text.old ≤ vec_capacity text.new }
 {
     let mut names = Vec::with_capacity(*text.allocator(), NAMES)?;
-    let mut components = cursor(path);
+    let mut components = Cursor::of_windows(path);
     'pieces: while let Some(piece) = components.front() {
         match piece.kind {
             PieceKind::Prefix(_) | PieceKind::RootDir => push_behind(text, start, piece.text)?,

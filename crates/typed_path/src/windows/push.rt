@@ -11,8 +11,7 @@ ghost use Rattle.typed_path.specs.changes.Spelled.{IsKnown, is_plain};
 ghost use Rattle.typed_path.specs.queries.Queries.{has_any_verbatim_prefix};
 
 use crate::common::put_over;
-use crate::scan::{after_mark, drive, find_prefix};
-use crate::windows::encoding::cursor;
+use crate::scan::{Cursor, after_mark, drive, find_prefix};
 use crate::windows::spelled::{is_plain, spelled_head};
 use crate::windows::verbatim::merge_at;
 use std::alloc::AllocError;
@@ -82,7 +81,7 @@ pub fn push_at(
         text.truncate(kept);
         return Ok(());
     }
-    let path = cursor(other);
+    let path = Cursor::of_windows(other);
     if path.has_prefix() {
         return put_over(text, start, b"", other);
     }

@@ -14,7 +14,6 @@ ghost use Rattle.typed_path.specs.views.PieceViews.{part_of};
 
 use crate::common::put_over;
 use crate::scan::{Cursor, Piece, PieceKind, Separators};
-use crate::windows::encoding::cursor;
 use crate::windows::push::prefix_len;
 use crate::windows::spelled::{is_dots, spelled_head};
 use std::alloc::{AllocError, Global};
@@ -161,10 +160,10 @@ fn spelled_anew(alloc: Global, base: &[u8], other: &[u8]) -> Result<Vec<u8>, All
     let room = base.len().saturating_add(other.len()).saturating_add(2);
     let mut text = Vec::with_capacity(alloc, room)?;
     text.extend_from_slice(&base[..head])?;
-    let mut rest = cursor(base);
+    let mut rest = Cursor::of_windows(base);
     rest.front();
     let parted = put_each(&mut text, head, rest)?;
-    merge_each(&mut text, head, parted, cursor(other))?;
+    merge_each(&mut text, head, parted, Cursor::of_windows(other))?;
     Ok(text)
 }
 
@@ -204,7 +203,7 @@ fn merge_in_place(
     let parted = start + head == kept;
     text.reserve((kept + other.len() + 1).saturating_sub(text.len()))?;
     text.truncate(kept);
-    merge_each(text, start + head, parted, cursor(other))?;
+    merge_each(text, start + head, parted, Cursor::of_windows(other))?;
     Ok(())
 }
 

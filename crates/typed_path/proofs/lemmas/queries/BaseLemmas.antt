@@ -124,7 +124,7 @@ stripped-behind_prefix t b n (Some f) (Some g) e h same raw some items clean =
     let whole = drop-drop n f.length t in
     stripped-split windows s t b (f.length + n) (P ++ B) (omega arith)
     (ap (λ r. r ∷ texts (parts B)) raw ∙ ap (λ m. take g.length b ∷ texts (parts (body s m (drop g.length b)))) long
-        ∙ ap (λ r. take g.length b ∷ texts (parts (body r g.length (drop g.length b)))) same ∙ ap (λ q. texts (parts (comps_behind (separators windows b) b q))) (sym h))
+    ∙ ap (λ r. take g.length b ∷ texts (parts (body r g.length (drop g.length b)))) same ∙ ap (λ q. texts (parts (comps_behind (separators windows b) b q))) (sym h))
     (ap (comps_behind s t) e ∙ ap (λ cs. P ++ cs) (items f.length) ∙ ap (λ r. P ++ (B ++ later_body s (f.length + n) r)) whole)
     (ap (is_clean Inside s) (sym whole) ∙ clean)
     ∙ ap Some (sym whole)

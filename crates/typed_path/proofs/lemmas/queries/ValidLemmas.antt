@@ -153,7 +153,7 @@ stray-nul b = by (b == slash) refl
 pub stray-slash : (text : List ℕ) (found : Option ℕ) → IsFirstByte (is_byte 0) text found → is_some found ≡ list_any (is_stray Slash) text
 stray-slash text None nowhere =
     sym (list_any_none (is_stray Slash) text (λ k d within.
-        ap (is_stray Slash) (get_or_default text k d 0 within) ∙ stray-nul (slice_index text k) ∙ false_from_ne_true _ (λ e. nowhere k (omega arith) within e)))
+    ap (is_stray Slash) (get_or_default text k d 0 within) ∙ stray-nul (slice_index text k) ∙ false_from_ne_true _ (λ e. nowhere k (omega arith) within e)))
 stray-slash text (Some n) (first, passes) =
     let within = first.high in
     sym (list_any_at (is_stray Slash) text n 0 within (stray-nul (slice_index text n) ∙ passes))

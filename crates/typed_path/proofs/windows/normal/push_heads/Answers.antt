@@ -54,7 +54,7 @@ comes-popped {goal} {text} {word} {ps} (Some n) old new e some h =
 
 pub pieces-init : goal.pieces-init
 pieces-init c = (
-  comes-start c.args.path.now _ _ _ (drop_all c.args.start c.args.text.now.items (omega (arith, c.requires))) (ap (map (λ n. n.now)) c.in_ok-names.ensures.items) (ap parts c.cursor-components.ensures.items),
+  comes-start c.args.path.now _ _ _ (drop_all c.args.start c.args.text.now.items (omega (arith, c.requires))) (ap (map (λ n. n.now)) c.in_ok-names.ensures.items) (ap parts c.of_windows-components.ensures.items),
   refl,
   omega (arith, c.requires),
   omega arith,

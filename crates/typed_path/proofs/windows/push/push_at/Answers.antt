@@ -32,7 +32,7 @@ module _ (c : goal.After-merge_at) where
   some = sym c.is_empty.ensures ∙ c.if-is_empty.false
 
   no_prefix : has_prefix (kinds (parts_of windows c.args.other.now)) ≡ false
-  no_prefix = sym (c.has_prefix.ensures ∙ ap (λ cs. has_prefix (kinds (parts cs))) c.cursor-path.ensures.items) ∙ c.if-has_prefix.false
+  no_prefix = sym (c.has_prefix.ensures ∙ ap (λ cs. has_prefix (kinds (parts cs))) c.of_windows-path.ensures.items) ∙ c.if-has_prefix.false
 
   marked : has_any_verbatim_prefix (kinds (parts_of windows merged_base)) ≡ true
   marked = sym (verbatim_of c.args.start c.args.kept c.deref.ensures.value) ∙ sym c.has_verbatim_kind.ensures ∙ c.if-has_verbatim_kind.true
@@ -49,7 +49,7 @@ returns-then-has_verbatim_kind-clause-succeeds c = λ room within known fits.
 pub returns-then-has_prefix-clause-succeeds : goal.returns-then-has_prefix-clause-succeeds
 returns-then-has_prefix-clause-succeeds c = λ room within known fits.
     let base = slice_range c.args.text.now.items c.args.start c.args.kept in
-    let prefixed : has_prefix (kinds (parts_of windows c.args.other.now)) ≡ true = sym (c.has_prefix.ensures ∙ ap (λ cs. has_prefix (kinds (parts cs))) c.cursor-path.ensures.items) ∙ c.if-has_prefix.true in
+    let prefixed : has_prefix (kinds (parts_of windows c.args.other.now)) ≡ true = sym (c.has_prefix.ensures ∙ ap (λ cs. has_prefix (kinds (parts cs))) c.of_windows-path.ensures.items) ∙ c.if-has_prefix.true in
     let is = push-prefixed base c.args.other.now (sym c.is_empty.ensures ∙ c.if-is_empty.false) prefixed in
     c.put_over.ensures.succeeds (omega (arith, fits-prefixed room base c.args.other.now prefixed fits, ap length is, within))
 
@@ -61,9 +61,9 @@ module _ (c : goal.After-put_over-then-begins_with_root) where
   rooted : push_windows rooted_base c.args.other.now ≡ raw_prefix rooted_base ++ c.args.other.now
   rooted =
       push-rooted rooted_base c.args.other.now (sym c.is_empty.ensures ∙ c.if-is_empty.false)
-      (sym (c.has_prefix.ensures ∙ ap (λ cs. has_prefix (kinds (parts cs))) c.cursor-path.ensures.items) ∙ c.if-has_prefix.false)
+      (sym (c.has_prefix.ensures ∙ ap (λ cs. has_prefix (kinds (parts cs))) c.of_windows-path.ensures.items) ∙ c.if-has_prefix.false)
       (sym (verbatim_of c.args.start c.args.kept c.deref.ensures.value) ∙ sym c.has_verbatim_kind.ensures ∙ c.if-has_verbatim_kind.false)
-      (sym (c.begins_with_root.ensures ∙ ap (λ cs. begins_with_root (kinds (parts cs))) c.cursor-path.ensures.items) ∙ c.if-begins_with_root.true)
+      (sym (c.begins_with_root.ensures ∙ ap (λ cs. begins_with_root (kinds (parts cs))) c.of_windows-path.ensures.items) ∙ c.if-begins_with_root.true)
 
   prefix_within : c.prefix_len.result ≤ length rooted_base
   prefix_within = subst (λ t. c.prefix_len.result ≤ length (slice_range t c.args.start c.args.kept)) c.deref.ensures.value c.prefix_len.ensures.within
@@ -106,9 +106,9 @@ module _ (c : goal.After-put_over-2) where
   relative : push_windows relative_base c.args.other.now ≡ relative_base ++ c.separator_behind-separator.result.now ++ c.args.other.now
   relative =
       push-relative relative_base c.args.other.now (sym c.is_empty.ensures ∙ c.if-is_empty.false)
-      (sym (c.has_prefix.ensures ∙ ap (λ cs. has_prefix (kinds (parts cs))) c.cursor-path.ensures.items) ∙ c.if-has_prefix.false)
+      (sym (c.has_prefix.ensures ∙ ap (λ cs. has_prefix (kinds (parts cs))) c.of_windows-path.ensures.items) ∙ c.if-has_prefix.false)
       (sym (verbatim_of c.args.start c.args.kept c.deref.ensures.value) ∙ sym c.has_verbatim_kind.ensures ∙ c.if-has_verbatim_kind.false)
-      (sym (c.begins_with_root.ensures ∙ ap (λ cs. begins_with_root (kinds (parts cs))) c.cursor-path.ensures.items) ∙ c.if-begins_with_root.false)
+      (sym (c.begins_with_root.ensures ∙ ap (λ cs. begins_with_root (kinds (parts cs))) c.of_windows-path.ensures.items) ∙ c.if-begins_with_root.false)
       ∙ ap (λ u. u ++ c.args.other.now) separator_is
 
 pub returns-clause-ok : goal.returns-clause-ok

@@ -14,13 +14,13 @@ use Rattle.typed_path.proofs.lemmas.changes.ReadStanding.{text-mergeable, room-t
 use Rattle.typed_path.proofs.windows.verbatim.merge_in_place.Goals as goal
 
 pub merge_each-requires-clause-mergeable : goal.merge_each-requires-clause-mergeable
-merge_each-requires-clause-mergeable c = subst AreMergeable (sym (ap parts c.cursor.ensures.items)) (text-mergeable c.args.other.now c.requires.no_prefix)
+merge_each-requires-clause-mergeable c = subst AreMergeable (sym (ap parts c.of_windows.ensures.items)) (text-mergeable c.args.other.now c.requires.no_prefix)
 
 -- the room that was found is enough
 refuted : goal.After-from_residual-in_err-merge_each → ⊥
 refuted c =
-    let room : room_of (parts (items_left c.cursor.result)) ≤ length c.args.other.now + 1 =
-    subst (λ ps. room_of ps ≤ length c.args.other.now + 1) (sym (ap parts c.cursor.ensures.items)) (room-text c.args.other.now c.requires.no_prefix) in
+    let room : room_of (parts (items_left c.of_windows.result)) ≤ length c.args.other.now + 1 =
+    subst (λ ps. room_of ps ≤ length c.args.other.now + 1) (sym (ap parts c.of_windows.ensures.items)) (room-text c.args.other.now c.requires.no_prefix) in
     true≢false (sym (c.in_err-merge_each.ensures.succeeds
     (omega (arith, room, c.truncate.ensures.len, c.truncate.ensures.capacity, c.in_ok-reserve.ensures.ok, c.in_ok-reserve.ensures.len, c.saturating_sub.ensures, c.len.ensures, c.requires.within))))
 
@@ -57,7 +57,7 @@ returns-clause-ok c = λ known.
     (subst (Stands (is_empty (drop head base)) (drop 1 (parts_of windows base))) (sym behind) (spelled-stands base head known.0 known.1)) in
     let merged_now : Stands now (merged (drop 1 (parts_of windows base)) (parts_of windows other)) (drop head (drop start new)) =
     subst (Stands now (merged (drop 1 (parts_of windows base)) (parts_of windows other))) (sym (drop-drop head start new))
-    (subst (λ qs. Stands now (merged (drop 1 (parts_of windows base)) qs) (drop (start + head) new)) (ap parts c.cursor.ensures.items) (c.in_ok-merge_each.ensures.stands (drop 1 (parts_of windows base)) stands)) in
+    (subst (λ qs. Stands now (merged (drop 1 (parts_of windows base)) qs) (drop (start + head) new)) (ap parts c.of_windows.ensures.items) (c.in_ok-merge_each.ensures.stands (drop 1 (parts_of windows base)) stands)) in
     sym (take-append-drop start new)
     ∙ place-text old new start head kept c.requires.inside c.requires.within same
     ∙ ap (λ t. take start old ++ t)

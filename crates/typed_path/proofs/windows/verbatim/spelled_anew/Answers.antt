@@ -16,20 +16,20 @@ parts-rest (x ∷ cs) = refl
 pub put_each-requires-clause-read : goal.put_each-requires-clause-read
 put_each-requires-clause-read c =
     let base = c.args.base.now in
-    subst AreReadBehind (sym (ap parts c.front.ensures.items ∙ parts-rest (items_left c.cursor-rest.result) ∙ ap (λ cs. drop 1 (parts cs)) c.cursor-rest.ensures.items)) (prefixed-based base c.requires.own).read
+    subst AreReadBehind (sym (ap parts c.front.ensures.items ∙ parts-rest (items_left c.of_windows-rest.result) ∙ ap (λ cs. drop 1 (parts cs)) c.of_windows-rest.ensures.items)) (prefixed-based base c.requires.own).read
 
 pub merge_each-requires-clause-mergeable : goal.merge_each-requires-clause-mergeable
-merge_each-requires-clause-mergeable c = subst AreMergeable (sym (ap parts c.cursor.ensures.items)) (text-mergeable c.args.other.now c.requires.no_prefix)
+merge_each-requires-clause-mergeable c = subst AreMergeable (sym (ap parts c.of_windows.ensures.items)) (text-mergeable c.args.other.now c.requires.no_prefix)
 
 pub returns : goal.returns
 returns c =
     let base = c.args.base.now in
     let other = c.args.other.now in
     let head = c.prefix_len-head.result in
-    let rest : parts (items_left c.front.new.self) ≡ drop 1 (parts_of windows base) = ap parts c.front.ensures.items ∙ parts-rest (items_left c.cursor-rest.result) ∙ ap (λ cs. drop 1 (parts cs)) c.cursor-rest.ensures.items in
+    let rest : parts (items_left c.front.new.self) ≡ drop 1 (parts_of windows base) = ap parts c.front.ensures.items ∙ parts-rest (items_left c.of_windows-rest.result) ∙ ap (λ cs. drop 1 (parts cs)) c.of_windows-rest.ensures.items in
     let raw : c.extend_from_slice.new.self.items ≡ take head base = c.in_ok-extend_from_slice.ensures.items ∙ ap (λ t. t ++ take head base) c.in_ok-text.ensures.items in
     let kept : take head c.merge_each.new.text.items ≡ take head base =
     c.in_ok-merge_each.ensures.kept ∙ c.in_ok-parted.ensures.kept ∙ ap (take head) raw ∙ take_all head (take head base) (omega (arith, length-take-le head base c.prefix_len-head.ensures.within)) in
     merged-text base other c.merge_each.new.text.items head c.in_ok-merge_each.field-0 c.requires.own c.requires.no_prefix c.prefix_len-head.ensures.length kept
-    (subst (λ qs. Stands c.in_ok-merge_each.field-0 (merged (drop 1 (parts_of windows base)) qs) (drop head c.merge_each.new.text.items)) (ap parts c.cursor.ensures.items)
+    (subst (λ qs. Stands c.in_ok-merge_each.field-0 (merged (drop 1 (parts_of windows base)) qs) (drop head c.merge_each.new.text.items)) (ap parts c.of_windows.ensures.items)
     (c.in_ok-merge_each.ensures.stands (drop 1 (parts_of windows base)) (subst (λ ps. Stands c.in_ok-parted.parted ps (drop head c.put_each.new.text.items)) rest c.in_ok-parted.ensures.stands)))

@@ -23,8 +23,8 @@ kept (Err e) path is = tt
 judged : (c : goal.After-check) → error_of c.check.result ≡ fault windows c.args.path.now
 judged c =
     c.check.ensures
-    ∙ ap (λ d. fault_behind d [] (kinds (parts (items_left c.cursor.result)))) c.cursor.ensures.dialect
-    ∙ ap (λ cs. fault_behind windows [] (kinds (parts cs))) c.cursor.ensures.items
+    ∙ ap (λ d. fault_behind d [] (kinds (parts (items_left c.of_windows.result)))) c.of_windows.ensures.dialect
+    ∙ ap (λ cs. fault_behind windows [] (kinds (parts cs))) c.of_windows.ensures.items
 
 pub returns-clause-prefix : goal.returns-clause-prefix
 returns-clause-prefix c = kept c.check.result c.args.path.now (judged c)
