@@ -1,8 +1,10 @@
 -- A path and those above it.
-use Rattle.std.specs.Prelude.{ℕ, zero, suc, List, [], ◌∷◌, length, Option, Some, None}
+use Rattle.std.specs.Prelude.{ℕ, zero, suc, List, [], ◌∷◌, length, Bool, true, if◌then◌else◌, Option, Some, None}
 use Rattle.typed_path.specs.components.Dialect.{Dialect}
+use Rattle.typed_path.specs.components.Part.{Placed}
 use Rattle.typed_path.specs.components.Comps.{comps}
-use Rattle.typed_path.specs.queries.Queries.{parent_of}
+use Rattle.typed_path.specs.scan.Left.{last_of, but_last, slice_after_back}
+use Rattle.typed_path.specs.queries.Queries.{is_root, parent_of}
 
 -- a text, its parent and so on, over at most so many parents
 abbrev pub upwards : Dialect → ℕ → Option (List ℕ) → List (List ℕ)
@@ -14,3 +16,21 @@ upwards d (suc n) (Some t) = t ∷ upwards d n (parent_of d t)
 -- a path, its parent and so on: at most as many parents as it has components
 abbrev pub ancestors_of : Dialect → List ℕ → List (List ℕ)
 ancestors_of d t = upwards d (length (comps d t)) (Some t)
+
+-- a reading from the back ends at a component above which nothing is, and where there is none
+abbrev pub is_top : Option Placed → Bool
+is_top None = true
+is_top (Some c) = is_root c.part.kind
+
+-- what is left of a reading, and what is left as it goes on from the back, over at most so many components
+abbrev pub upwards_from : ℕ → List Placed → List ℕ → List (List ℕ)
+upwards_from zero cs slice = slice ∷ []
+upwards_from (suc n) cs slice = slice ∷ (if is_top (last_of cs) then [] else upwards_from n (but_last cs) (slice_after_back cs slice))
+
+-- what is left behind the first of these
+abbrev pub readings_behind : List Placed → List ℕ → List (List ℕ)
+readings_behind cs slice = if is_top (last_of cs) then [] else upwards_from (length (but_last cs)) (but_last cs) (slice_after_back cs slice)
+
+-- the same of a reading, over all its components
+abbrev pub readings_above : List Placed → List ℕ → List (List ℕ)
+readings_above cs slice = upwards_from (length cs) cs slice

@@ -1,5 +1,5 @@
 -- The views of paths, of their iterators, and of what prints them.
-use Rattle.std.specs.Prelude.{ℕ, List, [], Option, Some, None}
+use Rattle.std.specs.Prelude.{ℕ, List, [], Option, Some, None, Bool, true, false}
 use Rattle.typed_path.specs.declared.common.path.Path.{Path}
 use Rattle.typed_path.specs.declared.common.components.Components.{Components}
 use Rattle.typed_path.specs.components.Part.{Part, Placed, parts, texts}
@@ -7,7 +7,7 @@ use Rattle.typed_path.specs.views.CursorViews.{slice_left, items_left}
 use Rattle.typed_path.specs.declared.common.iter.Iter.{Iter}
 use Rattle.typed_path.specs.declared.common.ancestors.Ancestors.{Ancestors}
 use Rattle.typed_path.specs.components.Dialect.{Dialect}
-use Rattle.typed_path.specs.queries.Ancestry.{ancestors_of}
+use Rattle.typed_path.specs.queries.Ancestry.{readings_above}
 use Rattle.typed_path.specs.declared.common.texts.Display.{Display}
 
 -- the bytes of a path
@@ -37,13 +37,13 @@ iter_slice i = components_slice (iter_components i)
 abbrev pub iter_texts : {T : Type 0} → Iter T → List (List ℕ)
 iter_texts i = texts (components_parts (iter_components i))
 
-abbrev pub ancestors_from : {T : Type 0} → Dialect → Option (Path T) → List (List ℕ)
-ancestors_from d None = []
-ancestors_from d (Some path) = ancestors_of d (path_bytes path)
+abbrev pub ancestors_from : {T : Type 0} → Bool → Components T → List (List ℕ)
+ancestors_from true c = []
+ancestors_from false c = readings_above (components_items c) (components_slice c)
 
 -- the texts that are still to come
-abbrev pub ancestors_left : {T : Type 0} → Dialect → Ancestors T → List (List ℕ)
-ancestors_left d a = ancestors_from d a.next
+abbrev pub ancestors_left : {T : Type 0} → Ancestors T → List (List ℕ)
+ancestors_left a = ancestors_from a.done a.rest
 
 abbrev pub displayed : {T : Type 0} → Display T → List ℕ
 displayed d = path_bytes d.path
