@@ -1,5 +1,5 @@
 -- The views of paths, of their iterators, and of what prints them.
-use Rattle.std.specs.Prelude.{ℕ, List, [], Option, Some, None}
+use Rattle.std.specs.Prelude.{ℕ, List, [], Option, Some, None, Bool, true, false}
 use Rattle.typed_path.specs.declared.common.path.Path.{Path}
 use Rattle.typed_path.specs.declared.common.components.Components.{Components}
 use Rattle.typed_path.specs.components.Part.{Part, Placed, parts, texts}
@@ -37,13 +37,13 @@ iter_slice i = components_slice (iter_components i)
 abbrev pub iter_texts : {T : Type 0} → Iter T → List (List ℕ)
 iter_texts i = texts (components_parts (iter_components i))
 
-abbrev pub ancestors_from : {T : Type 0} → Option (Components T) → List (List ℕ)
-ancestors_from None = []
-ancestors_from (Some c) = readings_above (components_items c) (components_slice c)
+abbrev pub ancestors_from : {T : Type 0} → Bool → Components T → List (List ℕ)
+ancestors_from true c = []
+ancestors_from false c = readings_above (components_items c) (components_slice c)
 
 -- the texts that are still to come
 abbrev pub ancestors_left : {T : Type 0} → Ancestors T → List (List ℕ)
-ancestors_left a = ancestors_from a.next
+ancestors_left a = ancestors_from a.done a.rest
 
 abbrev pub displayed : {T : Type 0} → Display T → List ℕ
 displayed d = path_bytes d.path

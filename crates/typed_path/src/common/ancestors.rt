@@ -14,7 +14,8 @@ use std::iter::FusedIterator;
 /// They are what is left of one reading from the back, so the prefix is read once.
 #[derive_where(Clone, Copy)]
 pub struct Ancestors<'a, T> {
-    next: Option<Components<'a, T>>,
+    rest: Components<'a, T>,
+    done: bool,
 }
 
 impl<'a, T: Encoding> Ancestors<'a, T> {
@@ -23,11 +24,13 @@ impl<'a, T: Encoding> Ancestors<'a, T> {
     ghost use Rattle.typed_path.specs.queries.Ancestry.{ancestors_of};
 
     /// The path and those above it.
+    #[inline(always)]
     pub(crate) fn new(path: Path<'a, T>) -> Ancestors<'a, T>
         ensures { ancestors_left result ≡ ancestors_of T.dialect (path_bytes path.entry) }
     {
         Ancestors {
-            next: Some(path.components()),
+            rest: path.components(),
+            done: false,
         }
     }
 
@@ -35,24 +38,23 @@ impl<'a, T: Encoding> Ancestors<'a, T> {
     pub(crate) fn path(self) -> Option<Path<'a, T>>
         ensures { option_map path_bytes result ≡ slice_get (ancestors_left self.entry) 0 }
     {
-        match self.next {
-            Some(components) => Some(Path::new(components.as_bytes())),
-            None => None,
+        if self.done {
+            return None;
         }
+        Some(Path::new(self.rest.as_bytes()))
     }
 }
 
-/// The reading without its last component, where that has something above it.
-fn above<T: Encoding>(components: Components<'_, T>) -> Option<Components<'_, T>>
-    ensures { ancestors_from result ≡ readings_behind
-        (components_items components.entry) (components_slice components.entry) }
+/// Takes the last component of a reading, and answers whether nothing is above it.
+#[inline(always)]
+fn take_last<T: Encoding>(rest: &mut Components<'_, T>) -> bool
+    ensures { ancestors_from result rest.new
+        ≡ readings_behind (components_items rest.old) (components_slice rest.old) }
 {
-    let mut rest = components;
-    let last = rest.next_back()?;
-    if last.is_root() {
-        return None;
+    match rest.next_back() {
+        Some(last) => last.is_root(),
+        None => true,
     }
-    Some(rest)
 }
 
 impl<'a, T: Encoding> Iterator for Ancestors<'a, T> {
@@ -65,10 +67,14 @@ impl<'a, T: Encoding> Iterator for Ancestors<'a, T> {
 
     ghost remaining = { item_count ancestors_left };
 
+    #[inline(always)]
     fn next(&mut self) -> Option<Path<'a, T>> {
-        let components = self.next?;
-        self.next = above(components);
-        Some(Path::new(components.as_bytes()))
+        if self.done {
+            return None;
+        }
+        let path = Path::new(self.rest.as_bytes());
+        self.done = take_last(&mut self.rest);
+        Some(path)
     }
 }
 

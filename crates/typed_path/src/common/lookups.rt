@@ -43,6 +43,7 @@ impl<'a, T: Encoding> Path<'a, T> {
     /// The path, and then each parent of the one before.
     ///
     /// Those of the Unix path `/a/b/.` are `/a/b/.`, `/a` and `/`.
+    #[inline(always)]
     pub fn ancestors(self) -> Ancestors<'a, T>
         ensures { ancestors_left result ≡ ancestors_of T.dialect (path_bytes self.entry) }
     {

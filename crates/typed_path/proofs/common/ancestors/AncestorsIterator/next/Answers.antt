@@ -1,6 +1,5 @@
 use Rattle.std.proofs.Common.{◌≡◌, ℕ, List, ◌∷◌, length, sym, ap, ◌∙◌, arith}
 use Rattle.std.specs.Prelude.{Option, Some}
-use Rattle.std.specs.ControlFlow.{continue_value}
 use Rattle.std.specs.Iterator.{MakesProgress, item_count}
 use Rattle.typed_path.specs.views.PathViews.{ancestors_from, ancestors_left, components_items, components_slice, path_bytes}
 use Rattle.typed_path.proofs.lemmas.queries.AncestorLemmas.{readings-step}
@@ -13,10 +12,10 @@ progress view rest can all s t x h = record { on = λ finite. (all t, tt, omega 
 
 pub returns-clause-steps : goal.returns-clause-steps
 returns-clause-steps g c =
-    let now = c.in_ok-components.components in
-    ap ancestors_from (c.branch-components.ensures ∙ ap continue_value c.in_ok-components.is) ∙ readings-step (components_items now) (components_slice now)
-    ∙ ap (λ ts. components_slice now ∷ ts) (sym c.above-self.ensures) ∙ ap (λ t. t ∷ ancestors_from c.above-self.result) (sym (c.new.ensures ∙ c.as_bytes.ensures))
+    let now = c.args.self.now.rest in
+    ap (λ done. ancestors_from done now) c.if-self.false ∙ readings-step (components_items now) (components_slice now)
+    ∙ ap (λ ts. components_slice now ∷ ts) (sym c.take_last-self.ensures) ∙ ap (λ t. t ∷ ancestors_from c.take_last-self.result c.take_last-self.new.rest) (sym (c.new-path.ensures ∙ c.as_bytes.ensures))
 
 pub returns-clause-goes : goal.returns-clause-goes
 returns-clause-goes g c =
-    progress path_bytes ancestors_left _ (λ s. tt) _ _ c.new.result (returns-clause-steps g c)
+    progress path_bytes ancestors_left _ (λ s. tt) _ _ c.new-path.result (returns-clause-steps g c)
