@@ -1,7 +1,6 @@
 //! Reading a text component by component.
 
 mod base;
-mod begin;
 mod body;
 mod cursor;
 mod cut;
@@ -15,8 +14,7 @@ mod step;
 mod valid;
 
 pub use base::base_end;
-pub use begin::Begin;
-pub use body::Body;
+pub use body::{Begin, Body};
 pub use cursor::Cursor;
 pub use cut::{cut_at, cut_at_separator, text_behind};
 pub use piece::{Piece, PieceKind, Step, StepKind};

@@ -3,7 +3,7 @@
 ghost use Rattle.std.specs.Prelude.{◌≡◌, ◌≤◌, ◌<◌, ◌+◌, ◌++◌, ℕ, true, drop, length, IfSome, IsTrue};
 ghost use Rattle.typed_path.specs.components.Comps.{body, later_body};
 ghost use Rattle.typed_path.specs.scan.Steps.{is_clean};
-ghost use Rattle.typed_path.specs.declared.scan.begin.Begin.{Begin};
+ghost use Rattle.typed_path.specs.declared.scan.body.Begin.{Begin};
 
 use crate::scan::separators::Separators;
 use crate::scan::step::skip_blanks;

@@ -4,11 +4,19 @@ ghost use Rattle.std.specs.Prelude.{◌≡◌, ◌≤◌, true, slice_range, len
 ghost use Rattle.typed_path.specs.scan.Steps.{is_clean};
 
 use crate::errors::CheckedPathError;
-use crate::scan::begin::Begin;
 use crate::scan::depth::depth_behind;
 use crate::scan::piece::Step;
 use crate::scan::separators::Separators;
 use crate::scan::step::{back_step, front_step, trim_blanks};
+
+/// Where the slice left of a reading begins.
+#[derive(Clone, Copy, Debug)]
+pub enum Begin {
+    /// At the beginning of the body: an empty first segment is the root, and `.` a component.
+    Body,
+    /// Behind a component: an empty segment is nothing, and `.` mostly too.
+    Inside,
+}
 
 /// The place of a reading of a body: where the components that are left begin and end in the text.
 #[derive(Clone, Copy, Debug)]
@@ -26,7 +34,7 @@ pub struct Body<'a> {
 impl<'a> Body<'a> {
     ghost use Rattle.std.specs.Prelude.{◌≡◌, ◌≤◌, [], true, drop, length, option_map, IfSome, IfNone, IsTrue};
     ghost use Rattle.typed_path.specs.components.Comps.{body, later_body};
-    ghost use Rattle.typed_path.specs.declared.scan.begin.Begin.{Begin};
+    ghost use Rattle.typed_path.specs.declared.scan.body.Begin.{Begin};
     ghost use Rattle.typed_path.specs.scan.Left.{but_last, last_of, slice_after_front, slice_after_back};
     ghost use Rattle.typed_path.specs.components.Part.{Placed, end_of, kinds, parts};
     ghost use Rattle.typed_path.specs.queries.Queries.{begins_with_root};

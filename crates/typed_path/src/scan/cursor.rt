@@ -22,7 +22,7 @@ pub struct Cursor<'a> {
 impl<'a> Cursor<'a> {
     ghost use Rattle.std.specs.Prelude.{◌≡◌, ◌≤◌, [], ◌++◌, true, length, take, drop, option_map, Some, None};
     ghost use Rattle.typed_path.specs.components.Comps.{body, comps, later_body, component};
-    ghost use Rattle.typed_path.specs.declared.scan.begin.Begin.{Begin};
+    ghost use Rattle.typed_path.specs.declared.scan.body.Begin.{Begin};
     ghost use Rattle.typed_path.specs.scan.Left.{but_last, last_of, slice_after_front, slice_after_back};
     ghost use Rattle.typed_path.specs.components.Part.{Placed, end_of, kinds, parts, prefix_part};
     ghost use Rattle.typed_path.specs.queries.Queries.{begins_with_root, first_prefix, prefix_among, behind_prefix, has_prefix, has_physical_root};

@@ -4,7 +4,7 @@ ghost use Rattle.std.specs.Prelude.{◌≡◌, ◌≤◌, ◌<◌, ◌+◌, ◌+
 ghost use Rattle.typed_path.specs.components.Comps.{component, first, later_body};
 ghost use Rattle.typed_path.specs.scan.Steps.{body_from, is_clean, is_trimmed, end_from};
 ghost use Rattle.typed_path.specs.views.PieceViews.{step_part};
-ghost use Rattle.typed_path.specs.declared.scan.begin.Begin.{Begin};
+ghost use Rattle.typed_path.specs.declared.scan.body.Begin.{Begin};
 
 use crate::scan::piece::{Step, StepKind};
 use crate::scan::separators::Separators;

@@ -3,8 +3,8 @@ use Rattle.std.proofs.Common.{◌≡◌, ℕ, Bool, true, false, not, cond, if�
 use Rattle.std.specs.List.{list_any, slice_split, onto_first, AllByRecursion}
 use Rattle.std.proofs.lemmas.List.Elements.{All-head, All-tail}
 use Rattle.typed_path.specs.declared.scan.separators.Separators.{Separators}
-use Rattle.typed_path.specs.declared.scan.begin.Begin.{Begin}
-use Rattle.typed_path.specs.declared.scan.begin.Begin.TheVariants.{Body, Inside}
+use Rattle.typed_path.specs.declared.scan.body.Begin.{Begin}
+use Rattle.typed_path.specs.declared.scan.body.Begin.TheVariants.{Body, Inside}
 use Rattle.typed_path.specs.components.Dialect.{Dialect, dialect_of, is_separator, is_verbatim, root_text}
 use Rattle.typed_path.specs.components.Part.{Part, Kind, kinds, parts, root_part, current_part, parent_part, name_part}
 use Rattle.typed_path.specs.components.Comps.{is_dot, is_dot_dot}

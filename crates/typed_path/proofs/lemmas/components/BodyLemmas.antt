@@ -5,8 +5,8 @@ use Rattle.std.proofs.lemmas.List.{drop-drop, drop-take, drop_more, drop_all, ta
 use Rattle.std.proofs.lemmas.List.Splits.{slice_split-cons_yes, slice_split_none, slice_split_first}
 use Rattle.std.proofs.lemmas.List.Sums.{prefix_len_passes, prefix_len_stops}
 use Rattle.typed_path.specs.declared.scan.separators.Separators.{Separators}
-use Rattle.typed_path.specs.declared.scan.begin.Begin.{Begin}
-use Rattle.typed_path.specs.declared.scan.begin.Begin.TheVariants.{Body, Inside}
+use Rattle.typed_path.specs.declared.scan.body.Begin.{Begin}
+use Rattle.typed_path.specs.declared.scan.body.Begin.TheVariants.{Body, Inside}
 use Rattle.typed_path.specs.scan.Steps.{body_from, is_clean, counts}
 use Rattle.typed_path.specs.components.Dialect.{is_separator, is_verbatim, root_text}
 use Rattle.typed_path.specs.scan.Left.{slice_after_front}

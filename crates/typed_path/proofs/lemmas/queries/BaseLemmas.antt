@@ -5,7 +5,7 @@ use Rattle.std.proofs.lemmas.List.{length-append, length-map, map-append, drop-d
 use Rattle.std.proofs.lemmas.Slice.Eq.{starts_is, bytes_eq-Decides}
 use Rattle.typed_path.specs.declared.scan.separators.Separators.{Separators}
 use Rattle.typed_path.specs.declared.scan.separators.Separators.TheVariants.{Backslash, Either}
-use Rattle.typed_path.specs.declared.scan.begin.Begin.TheVariants.{Body, Inside}
+use Rattle.typed_path.specs.declared.scan.body.Begin.TheVariants.{Body, Inside}
 use Rattle.typed_path.specs.changes.Push.{raw_length}
 use Rattle.typed_path.specs.components.Dialect.{Dialect, windows, separators, is_separator, is_verbatim, begins_verbatim}
 use Rattle.typed_path.specs.components.Part.{Placed, parts, texts, prefix_part}

@@ -5,8 +5,8 @@ use Rattle.std.proofs.lemmas.Bool.{cases_lt, or_cases, ne_eqb, ltb-true, not_fro
 use Rattle.std.proofs.lemmas.List.{length-append, length-drop, take_all, drop_all, nil_from_length}
 use Rattle.std.proofs.lemmas.List.Sums.{position_or_len_is}
 use Rattle.typed_path.specs.declared.scan.separators.Separators.{Separators}
-use Rattle.typed_path.specs.declared.scan.begin.Begin.{Begin}
-use Rattle.typed_path.specs.declared.scan.begin.Begin.TheVariants.{Body, Inside}
+use Rattle.typed_path.specs.declared.scan.body.Begin.{Begin}
+use Rattle.typed_path.specs.declared.scan.body.Begin.TheVariants.{Body, Inside}
 use Rattle.typed_path.specs.declared.scan.separators.Separators.TheVariants.{Slash, Backslash, Either}
 use Rattle.std.specs.Option.{unwrap_or}
 use Rattle.typed_path.specs.components.Dialect.{dot, is_separator, root_text}

@@ -4,7 +4,7 @@ use Rattle.std.specs.Prelude.{⊤}
 use Rattle.std.specs.Option.{unwrap_or}
 use Rattle.std.proofs.lemmas.List.{reverse-append, length-append, length-take, take_at, take_all, take_more, take-take}
 use Rattle.typed_path.specs.declared.scan.separators.Separators.{Separators}
-use Rattle.typed_path.specs.declared.scan.begin.Begin.{Begin}
+use Rattle.typed_path.specs.declared.scan.body.Begin.{Begin}
 use Rattle.typed_path.specs.components.Part.{Placed, end_of}
 use Rattle.typed_path.specs.scan.Left.{first_of, last_of, but_last, cut_to, slice_after_back}
 use Rattle.typed_path.specs.scan.Steps.{body_from, is_clean, end_from, last_part}

@@ -3,7 +3,7 @@ use Rattle.std.proofs.Common.{◌≡◌, ℕ, ◌+◌, ◌-◌, ◌≤◌, List,
 use Rattle.std.specs.Option.{unwrap_or}
 use Rattle.std.proofs.lemmas.List.{length-drop, length-take-le, take-take}
 use Rattle.typed_path.specs.declared.scan.separators.Separators.{Separators}
-use Rattle.typed_path.specs.declared.scan.begin.Begin.{Begin}
+use Rattle.typed_path.specs.declared.scan.body.Begin.{Begin}
 use Rattle.typed_path.specs.components.Part.{Part, Placed, end_of}
 use Rattle.typed_path.specs.components.Comps.{component}
 use Rattle.typed_path.specs.scan.Left.{last_of, but_last, cut_to, slice_after_front, slice_after_back}

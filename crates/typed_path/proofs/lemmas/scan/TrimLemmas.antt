@@ -5,7 +5,7 @@ use Rattle.std.proofs.lemmas.Bool.{cases_lt, or_parts, or_right, and_from, not_f
 use Rattle.std.proofs.lemmas.List.{length-append, take_at}
 use Rattle.std.proofs.lemmas.List.Splits.{slice_split_none}
 use Rattle.typed_path.specs.declared.scan.separators.Separators.{Separators}
-use Rattle.typed_path.specs.declared.scan.begin.Begin.{Begin}
+use Rattle.typed_path.specs.declared.scan.body.Begin.{Begin}
 use Rattle.typed_path.specs.components.Dialect.{is_separator, is_verbatim}
 use Rattle.typed_path.specs.components.Part.{Placed}
 use Rattle.typed_path.specs.components.Comps.{Segment, named, is_dot, later, later_body}

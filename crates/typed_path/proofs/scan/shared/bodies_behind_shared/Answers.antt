@@ -1,6 +1,6 @@
 use Rattle.std.proofs.Common.{◌≡◌, ◌++◌, ℕ, List, drop, refl, sym, ap, ap₂, ◌∙◌, arith}
 use Rattle.typed_path.specs.declared.scan.body.Body.{Body}
-use Rattle.typed_path.specs.declared.scan.begin.Begin.{Begin}
+use Rattle.typed_path.specs.declared.scan.body.Begin.{Begin}
 use Rattle.typed_path.specs.declared.scan.separators.Separators.{Separators}
 use Rattle.typed_path.specs.components.Part.{kinds, parts}
 use Rattle.typed_path.specs.components.Comps.{body, later_body}

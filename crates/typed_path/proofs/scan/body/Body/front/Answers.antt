@@ -1,5 +1,5 @@
 use Rattle.std.proofs.Common.{◌≡◌, ◌+◌, slice_range, drop, ap, sym, ◌∙◌, ◌++◌}
-use Rattle.typed_path.specs.declared.scan.begin.Begin.TheVariants.{Inside}
+use Rattle.typed_path.specs.declared.scan.body.Begin.TheVariants.{Inside}
 use Rattle.typed_path.specs.components.Comps.{later_body, component}
 use Rattle.typed_path.specs.scan.Left.{slice_after_front}
 use Rattle.typed_path.specs.scan.Steps.{body_from}
