@@ -1,12 +1,11 @@
 -- The views of paths, of their iterators, and of what prints them.
-use Rattle.std.specs.Prelude.{ℕ, List, [], Option, Some, None, Bool, true, false}
+use Rattle.std.specs.Prelude.{ℕ, List, [], Bool, true, false}
 use Rattle.typed_path.specs.declared.common.path.Path.{Path}
 use Rattle.typed_path.specs.declared.common.components.Components.{Components}
 use Rattle.typed_path.specs.components.Part.{Part, Placed, parts, texts}
 use Rattle.typed_path.specs.views.CursorViews.{slice_left, items_left}
 use Rattle.typed_path.specs.declared.common.iter.Iter.{Iter}
 use Rattle.typed_path.specs.declared.common.ancestors.Ancestors.{Ancestors}
-use Rattle.typed_path.specs.components.Dialect.{Dialect}
 use Rattle.typed_path.specs.queries.Ancestry.{readings_above}
 use Rattle.typed_path.specs.declared.common.texts.Display.{Display}
 

@@ -1,29 +1,25 @@
 -- The prefix of a text that is spelled as it is read, and has more than a root behind that: it stays, whatever stands behind the root.
-use Rattle.std.proofs.Common.{◌≡◌, ℕ, ◌+◌, ◌<◌, ◌≤◌, true, false, not, if◌then◌else◌, nat_lt, ◌⊎◌, inl, inr, List, [], ◌∷◌, ◌++◌, codes, length, take, drop, Some, None, option_and_then, refl, sym, ap, ◌∙◌, le_refl, take_all, length-append, length-take, length-drop, arith}
-use Rattle.std.specs.List.{position_or_len}
+use Rattle.std.proofs.Common.{◌≡◌, ℕ, ◌+◌, ◌<◌, true, false, not, if◌then◌else◌, nat_lt, inl, inr, List, [], ◌∷◌, ◌++◌, codes, length, take, drop, Some, None, option_and_then, refl, sym, ap, ◌∙◌, length-append, length-take, length-drop, arith}
 use Rattle.std.specs.Str.{bytes_eq}
 use Rattle.std.proofs.lemmas.Bool.{cases_lt, cases_Bool, cond-true, cond-false, lt-ltb, le-ltb, eqb-true}
 use Rattle.std.proofs.lemmas.List.{nil_from_length, drop-drop, take-append-drop}
-use Rattle.std.proofs.lemmas.List.Sums.{position_or_len_is}
 use Rattle.std.proofs.lemmas.Slice.Eq.{bytes_eq-Decides}
 use Rattle.std.proofs.Math.Seq.{drop-append-add}
 use Rattle.typed_path.specs.declared.scan.separators.Separators.{Separators}
-use Rattle.typed_path.specs.components.Dialect.{backslash, question, is_separator}
-use Rattle.typed_path.specs.components.Part.{Kind, verbatim, verbatim_unc, Part, name_part}
+use Rattle.typed_path.specs.components.Dialect.{backslash, question}
+use Rattle.typed_path.specs.components.Part.{Kind, verbatim_unc, Part}
 use Rattle.typed_path.specs.components.Prefix.{Found, found, is_empty, after_mark, after_unc, name, second_name, names_length, verbatim_unc_case}
 use Rattle.typed_path.specs.queries.Queries.{is_verbatim_prefix}
 use Rattle.typed_path.specs.changes.Push.{joint, spelled}
 use Rattle.typed_path.proofs.lemmas.components.SeparatorLemmas.{OfWindows, backslash-separates}
-use Rattle.typed_path.proofs.lemmas.components.PartLemmas.{IsLaterPart, IsCleanName}
-use Rattle.typed_path.proofs.lemmas.components.PrefixLemmas.{name-fits}
+use Rattle.typed_path.proofs.lemmas.components.PartLemmas.{IsLaterPart}
 use Rattle.typed_path.proofs.lemmas.components.PrefixCuts.{prefix_by, unless-none}
 use Rattle.typed_path.proofs.lemmas.components.NameCuts.{name-length, name-filled}
 use Rattle.typed_path.proofs.lemmas.components.MarkLemmas.{after_mark-reads, after_unc-reads, both-read}
 use Rattle.typed_path.proofs.lemmas.components.ReadLemmas.{Read, of_verbatim_unc, of_verbatim_disk, of_verbatim, IsBehindMark}
 use Rattle.typed_path.proofs.lemmas.components.ApartLemmas.{parted, name-recut, both-extend, mark-recut}
-use Rattle.typed_path.proofs.lemmas.components.FirmLemmas.{share_made, first-some, mark-extends, unc-extends, mark-again, firm-again}
+use Rattle.typed_path.proofs.lemmas.components.FirmLemmas.{share_made, first-some, mark-extends, unc-extends, firm-again}
 use Rattle.typed_path.proofs.lemmas.changes.SpellLemmas.{IsPiece, later-piece}
-use Rattle.typed_path.proofs.lemmas.changes.SpelledTexts.{Behind, nothing, rooted}
 
 module _ (s : Separators) where
   -- a share is found where its mark is

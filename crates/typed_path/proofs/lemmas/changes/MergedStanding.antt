@@ -1,13 +1,12 @@
 -- Components merged into what stands behind a prefix that is written anew, and what comes of it as one text.
-use Rattle.std.proofs.Common.{◌≡◌, ℕ, ◌+◌, ◌≤◌, ◌==◌, Bool, true, false, not, if◌then◌else◌, List, [], ◌∷◌, ◌++◌, length, sum_by, refl, sym, ap, subst, ◌∙◌, append_assoc, append-nil, arith}
-use Rattle.std.specs.Prelude.{⊤}
+use Rattle.std.proofs.Common.{◌≡◌, ℕ, ◌+◌, Bool, true, false, if◌then◌else◌, List, [], ◌∷◌, ◌++◌, length, refl, sym, ap, subst, ◌∙◌, append_assoc, append-nil, arith}
 use Rattle.std.specs.List.{AllByRecursion}
 use Rattle.std.proofs.lemmas.Bool.{cond_both}
 use Rattle.std.proofs.lemmas.List.Sums.{sum_by-cons}
 use Rattle.typed_path.specs.components.Dialect.{backslash}
 use Rattle.typed_path.specs.components.Part.{Kind, prefix, root, current, parent, normal, Prefix, Part, kinds, is_name, root_part, prefix_part}
 use Rattle.typed_path.specs.queries.Queries.{has_prefix, begins_with_root}
-use Rattle.typed_path.specs.changes.Push.{prefix_alone, without_last_name, merge_by_kind, merged, joint, spelled}
+use Rattle.typed_path.specs.changes.Push.{prefix_alone, without_last_name, merge_by_kind, merged, spelled}
 use Rattle.typed_path.specs.changes.Spelled.{names_behind, IsStanding, IsMergeable, AreMergeable, Stands, room_of}
 use Rattle.typed_path.proofs.lemmas.changes.SpellLemmas.{joint-relative}
 

@@ -1,7 +1,7 @@
 -- Components as they are read, which stand behind a prefix or are merged there, and the room that they take.
-use Rattle.std.proofs.Common.{◌≡◌, ℕ, suc, ◌+◌, ◌≤◌, ◌<◌, ne_eqb, ◌==◌, Bool, true, false, not, ◌||◌, if◌then◌else◌, List, [], ◌∷◌, ◌++◌, length, take, drop, slice_range, ◌-◌, Some, None, sum_by, refl, sym, ap, subst, ◌∙◌, append_assoc, append-nil, arith}
+use Rattle.std.proofs.Common.{◌≡◌, ℕ, suc, ◌+◌, ◌≤◌, ◌<◌, ne_eqb, ◌==◌, Bool, true, false, if◌then◌else◌, List, [], ◌∷◌, ◌++◌, length, take, drop, slice_range, ◌-◌, Some, None, refl, sym, ap, subst, ◌∙◌, append_assoc, append-nil, arith}
 use Rattle.std.specs.Prelude.{Option}
-use Rattle.std.specs.List.{AllByRecursion, slice_split}
+use Rattle.std.specs.List.{AllByRecursion}
 use Rattle.std.proofs.lemmas.Bool.{cond_both, both_ways}
 use Rattle.std.proofs.lemmas.List.{take-append-drop, take-take, drop-take, drop-drop}
 use Rattle.std.proofs.lemmas.List.Elements.{All-nil, All-cons}
@@ -14,13 +14,13 @@ use Rattle.typed_path.specs.components.Prefix.{Found, prefix_of, is_empty}
 use Rattle.typed_path.specs.components.Comps.{is_dot, is_dot_dot, parts_of}
 use Rattle.typed_path.specs.queries.Queries.{has_prefix, has_any_verbatim_prefix, begins_with_root}
 use Rattle.typed_path.specs.changes.Push.{spelled, merged, raw_length, spells_anew}
-use Rattle.typed_path.specs.changes.Spelled.{is_name_piece, IsStanding, IsReadFirst, AreReadBehind, IsMergeable, AreMergeable, Stands, IsSpelled, names_behind, room_of}
+use Rattle.typed_path.specs.changes.Spelled.{IsStanding, IsReadFirst, AreReadBehind, IsMergeable, AreMergeable, Stands, IsSpelled, names_behind, room_of}
 use Rattle.typed_path.proofs.lemmas.lists.SplitLemmas.{AllByRecursion-weaker}
 use Rattle.typed_path.proofs.lemmas.lists.WidthLemmas.{width, width-slice_split}
 use Rattle.typed_path.proofs.lemmas.components.SeparatorLemmas.{OfWindows, separators-windows, root_text-windows}
 use Rattle.typed_path.proofs.lemmas.components.PartLemmas.{pieces, first_part, later_part, first_parts, later_parts, body_parts, body_parts-read, AreRead, IsWritten, IsLater, IsLaterPart, IsWritten-later, named_part}
 use Rattle.typed_path.proofs.lemmas.changes.FaultlessLemmas.{parts_of-none, parts_of-some}
-use Rattle.typed_path.proofs.lemmas.changes.SpellLemmas.{IsPiece, later-piece, later-relative}
+use Rattle.typed_path.proofs.lemmas.changes.SpellLemmas.{IsPiece, later-piece}
 use Rattle.typed_path.proofs.lemmas.changes.SpelledRows.{backslash-free}
 use Rattle.typed_path.proofs.lemmas.changes.SpelledTexts.{Behind, nothing, rooted, spelled-shaped}
 use Rattle.typed_path.proofs.lemmas.changes.MergedStanding.{IsUnprefixed, merged-behind, spelled-standing, stands-spelled}

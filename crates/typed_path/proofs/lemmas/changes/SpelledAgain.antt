@@ -1,5 +1,5 @@
 -- A text that is spelled as it is read, once a path is merged into it: it stays so, and keeps its prefix where more than a root stood behind that.
-use Rattle.std.proofs.Common.{◌≡◌, ℕ, suc, ne_eqb, ◌+◌, ◌<◌, true, false, if◌then◌else◌, List, [], ◌∷◌, ◌++◌, length, take, drop, Some, None, refl, sym, ap, subst, ◌∙◌, append_assoc, length-take-le, length-drop, arith}
+use Rattle.std.proofs.Common.{◌≡◌, ℕ, suc, ne_eqb, ◌+◌, ◌<◌, false, if◌then◌else◌, List, [], ◌∷◌, ◌++◌, length, take, drop, Some, None, refl, sym, ap, subst, ◌∙◌, length-take-le, length-drop, arith}
 use Rattle.std.specs.List.{AllByRecursion}
 use Rattle.std.proofs.Math.Seq.{drop-append_seam, take-append_seam}
 use Rattle.std.proofs.lemmas.Bool.{cond_both}

@@ -1,11 +1,10 @@
 -- How a push spells a text of Windows anew, told by what stands behind the prefix.
-use Rattle.std.proofs.Common.{◌≡◌, ℕ, true, false, ◌⊎◌, inl, inr, List, [], ◌∷◌, take, drop, Some, None, refl, sym, ap, subst, ◌∙◌}
+use Rattle.std.proofs.Common.{◌≡◌, ℕ, true, false, ◌⊎◌, inl, inr, List, [], ◌∷◌, drop, Some, None, refl, sym, ap, subst, ◌∙◌}
 use Rattle.std.proofs.lemmas.Bool.{both_ways}
 use Rattle.typed_path.specs.declared.scan.separators.Separators.{Separators}
 use Rattle.typed_path.specs.components.Dialect.{windows, backslash, separators}
-use Rattle.typed_path.specs.components.Part.{Part, kinds, root_part, prefix_part}
+use Rattle.typed_path.specs.components.Part.{Part, root_part}
 use Rattle.typed_path.specs.components.Prefix.{Found, is_empty, prefix_of}
-use Rattle.typed_path.specs.components.Comps.{parts_of}
 use Rattle.typed_path.specs.queries.Queries.{is_verbatim_prefix}
 use Rattle.typed_path.specs.changes.Push.{spelled}
 use Rattle.typed_path.specs.changes.Spelled.{is_row, IsSpelled}

@@ -1,16 +1,16 @@
 -- What stands behind a prefix that is written anew: with one component more, and without its last name.
-use Rattle.std.proofs.Common.{◌≡◌, ℕ, suc, ◌+◌, ◌-◌, ◌<◌, ◌≤◌, ◌==◌, Bool, true, false, not, ◌||◌, if◌then◌else◌, List, [], ◌∷◌, ◌++◌, length, take, drop, refl, sym, ap, subst, ◌∙◌, append_assoc, append-nil, length-append, arith}
+use Rattle.std.proofs.Common.{◌≡◌, ℕ, suc, ◌+◌, ◌<◌, ◌≤◌, Bool, true, false, not, ◌||◌, if◌then◌else◌, List, [], ◌∷◌, ◌++◌, length, take, drop, refl, sym, ap, subst, ◌∙◌, append_assoc, append-nil, length-append, arith}
 use Rattle.std.specs.List.{AllByRecursion}
 use Rattle.std.proofs.Math.Seq.{take-append_seam, drop-append-add}
 use Rattle.std.proofs.lemmas.List.{nil_from_length}
 use Rattle.typed_path.specs.declared.scan.separators.Separators.TheVariants.{Backslash}
 use Rattle.typed_path.specs.components.Dialect.{backslash, is_separator}
-use Rattle.typed_path.specs.components.Part.{Part, is_name, root_part}
+use Rattle.typed_path.specs.components.Part.{Part, root_part}
 use Rattle.typed_path.specs.components.Prefix.{is_empty}
 use Rattle.typed_path.specs.components.Comps.{is_dot, is_dot_dot}
 use Rattle.typed_path.specs.changes.Push.{without_last_name}
-use Rattle.typed_path.specs.changes.Spelled.{names_behind, is_name_piece, IsStanding, Stands}
-use Rattle.typed_path.proofs.lemmas.lists.SplitLemmas.{IsUnseparated, AllByRecursion-append}
+use Rattle.typed_path.specs.changes.Spelled.{names_behind, IsStanding, Stands}
+use Rattle.typed_path.proofs.lemmas.lists.SplitLemmas.{AllByRecursion-append}
 use Rattle.typed_path.proofs.lemmas.lists.LastLemmas.{IsLastPlace, place-none, place-behind}
 use Rattle.typed_path.proofs.lemmas.changes.PushLemmas.{without_last_name-name, without_last_name-other}
 

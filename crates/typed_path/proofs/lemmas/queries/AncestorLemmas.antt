@@ -6,7 +6,6 @@ use Rattle.typed_path.specs.components.Dialect.{Dialect}
 use Rattle.typed_path.specs.components.Part.{Placed}
 use Rattle.typed_path.specs.components.Comps.{comps}
 use Rattle.typed_path.specs.scan.Left.{left, last_of, but_last, slice_after_back}
-use Rattle.typed_path.specs.scan.Steps.{last_part}
 use Rattle.typed_path.specs.queries.Queries.{is_root, parent_of}
 use Rattle.typed_path.specs.queries.Ancestry.{upwards, is_top, upwards_from, readings_behind, readings_above, ancestors_of}
 use Rattle.typed_path.proofs.lemmas.queries.ParentLemmas.{parent_left}

@@ -4,7 +4,7 @@ use Rattle.std.specs.Prelude.{Option, Some, None, Result, Ok, Err, OnOk, OnErr, 
 use Rattle.std.specs.Io.KnownBytes.{Appends, Consumes, IsAtEnd}
 use Rattle.std.proofs.lemmas.List.{take_at}
 use Rattle.typed_path.specs.declared.errors.LineError.{LineError}
-use Rattle.typed_path.specs.declared.errors.LineError.TheVariants.{Read, Write, OutOfMemory}
+use Rattle.typed_path.specs.declared.errors.LineError.TheVariants.{Write, OutOfMemory}
 use Rattle.typed_path.specs.script.Lines.{answers, replies_to, complete_lines, open_line, all_lines}
 use Rattle.typed_path.specs.script.Streams.{Streams, Ends, streams, KeepsIfTold, ConsumesIfTold, AppendsIfTold, WritesPart, AnswersAll, StopsWriting, RunsOut}
 use Rattle.typed_path.proofs.lemmas.script.LineLemmas.{complete_lines-append, open_line-append, lines_of-open, replies_to-append}

@@ -1,5 +1,5 @@
 use Rattle.std.proofs.Common.{◌≡◌, sym, ap, ◌∙◌, Some, None, arith}
-use Rattle.std.specs.Prelude.{ℕ, List, Ok, Err}
+use Rattle.std.specs.Prelude.{ℕ, List, Ok}
 use Rattle.typed_path.specs.components.Dialect.{Dialect}
 use Rattle.typed_path.specs.components.Part.{Part}
 use Rattle.typed_path.specs.changes.Checked.{error_of}
@@ -8,7 +8,7 @@ use Rattle.typed_path.specs.conversions.Convert.{crossed, crossing_fault, push_u
 use Rattle.typed_path.specs.views.CursorViews.{items_left}
 use Rattle.typed_path.specs.views.PieceViews.{part_of}
 use Rattle.typed_path.proofs.lemmas.changes.ConvertLemmas.{pushed-next, refused-whole, pushed-all, fault-passed}
-use Rattle.typed_path.proofs.lemmas.scan.YieldLemmas.{yields_first, fewer}
+use Rattle.typed_path.proofs.lemmas.scan.YieldLemmas.{yields_first}
 use Rattle.typed_path.proofs.conversions.between.convert_checked.Goals as goal
 
 -- a component that is not refused is pushed

@@ -1,4 +1,4 @@
-use Rattle.std.proofs.Common.{◌≡◌, ◌≤◌, ◌+◌, ℕ, [], length, map, take, drop}
+use Rattle.std.proofs.Common.{◌≡◌, ◌≤◌, ℕ, [], length, map, take, drop}
 use Rattle.std.specs.Vec.{vec_capacity}
 use Rattle.typed_path.specs.components.Part.{parts}
 use Rattle.typed_path.specs.components.Comps.{parts_of}

@@ -1,4 +1,4 @@
-use Rattle.std.proofs.Common.{◌≡◌, ℕ, List, [], ◌++◌, take, ap, subst, arith, ◌∙◌}
+use Rattle.std.proofs.Common.{◌≡◌, ℕ, List, [], ◌++◌, take, ap, arith, ◌∙◌}
 use Rattle.std.specs.Prelude.{Result, Ok, Err, OnOk, OnErr, IsErrAnd}
 use Rattle.typed_path.proofs.lemmas.script.StreamLemmas.{Reads-runs_out, Reads-step, Reads-stops_writing, Reads-answers_all, Reads-stops_at_end, ends-writing, ends-out, ends-sent}
 use Rattle.typed_path.proofs.script.answer.converse.Goals as goal

@@ -1,5 +1,5 @@
-use Rattle.std.proofs.Common.{OnOk, arith, refl, ◌∙◌}
-use Rattle.std.specs.Prelude.{⊤, Result, Ok, Err}
+use Rattle.std.proofs.Common.{arith, refl, ◌∙◌}
+use Rattle.std.specs.Prelude.{⊤}
 use Rattle.std.proofs.lemmas.Result.{on_ok_weaker}
 use Rattle.typed_path.specs.declared.scan.separators.Separators.TheVariants.{Slash}
 use Rattle.typed_path.proofs.lemmas.places.RowSteps.{standing-start, standing-step, standing-over, standing-end}

@@ -1,8 +1,7 @@
-use Rattle.std.proofs.Common.{◌≡◌, ◌≤◌, ◌+◌, ◌++◌, List, length, take, drop, OnOk, refl, sym, ap, subst, ◌∙◌, take_all, append_assoc, length-append, length-take-le, arith}
-use Rattle.std.specs.Prelude.{ℕ, Result, Ok, Err}
+use Rattle.std.proofs.Common.{◌≡◌, ◌++◌, List, length, take, drop, sym, ap, subst, ◌∙◌, take_all, append_assoc, length-append, arith}
+use Rattle.std.specs.Prelude.{ℕ}
 use Rattle.std.proofs.lemmas.List.{take-append-drop, length-drop}
 use Rattle.std.proofs.lemmas.Result.{on_ok_weaker}
-use Rattle.typed_path.specs.components.Dialect.{windows}
 use Rattle.typed_path.specs.changes.Push.{push_windows, ended_windows}
 use Rattle.typed_path.proofs.lemmas.changes.PushLemmas.{fits-plain}
 use Rattle.typed_path.proofs.lemmas.changes.PlainNames.{plain, push-plain_ended}

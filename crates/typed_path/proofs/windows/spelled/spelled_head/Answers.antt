@@ -1,11 +1,11 @@
-use Rattle.std.proofs.Common.{◌≡◌, true, false, sym, ap, subst, ◌∙◌}
+use Rattle.std.proofs.Common.{sym, ap, subst, ◌∙◌}
 use Rattle.std.proofs.lemmas.List.{take_rest}
 use Rattle.typed_path.specs.components.Dialect.{windows}
 use Rattle.typed_path.specs.changes.Push.{raw_length}
 use Rattle.typed_path.specs.changes.Spelled.{TellsSpelled}
 use Rattle.typed_path.specs.views.PieceViews.{found_of}
 use Rattle.typed_path.proofs.lemmas.components.PrefixLemmas.{prefix-fits}
-use Rattle.typed_path.proofs.lemmas.changes.SpellingLemmas.{plain-unspelled, none-unspelled}
+use Rattle.typed_path.proofs.lemmas.changes.SpellingLemmas.{plain-unspelled}
 use Rattle.typed_path.proofs.windows.spelled.spelled_head.Goals as goal
 
 pub slice_bounds-is_spelled_behind-count : goal.slice_bounds-is_spelled_behind-count

@@ -1,4 +1,4 @@
-use Rattle.std.proofs.Common.{◌≡◌, ◌≤◌, ◌∙◌, List, length, Option, Some, None, ap, arith}
+use Rattle.std.proofs.Common.{◌≡◌, ◌≤◌, List, length, Option, Some, None, arith}
 use Rattle.std.specs.Prelude.{ℕ, IfSome}
 use Rattle.typed_path.specs.components.Dialect.{windows}
 use Rattle.typed_path.specs.components.Prefix.{Found, prefix_of}

@@ -1,4 +1,4 @@
-use Rattle.std.proofs.Common.{◌≡◌, ◌≤◌, ◌<◌, ◌-◌, Bool, false, List, length, take, drop, slice_range, refl, sym, ap, subst, ◌∙◌, take_all, arith}
+use Rattle.std.proofs.Common.{◌≡◌, ◌≤◌, ◌<◌, Bool, false, List, length, take, drop, slice_range, refl, sym, ap, subst, ◌∙◌, take_all, arith}
 use Rattle.std.specs.Prelude.{ℕ, if◌then◌else◌}
 use Rattle.std.specs.List.{IsAfterLastMatch}
 use Rattle.typed_path.specs.declared.scan.separators.Separators.TheVariants.{Backslash}

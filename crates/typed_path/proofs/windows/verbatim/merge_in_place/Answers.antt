@@ -1,5 +1,5 @@
-use Rattle.std.proofs.Common.{◌≡◌, ◌≤◌, ◌+◌, ◌-◌, ◌==◌, ◌++◌, ◌<◌, ne_eqb, inl, inr, true≢false, Bool, List, length, take, drop, slice_range, refl, sym, ap, subst, ◌∙◌, length-take-le, length-drop, arith}
-use Rattle.std.specs.Prelude.{ℕ, not, true, false}
+use Rattle.std.proofs.Common.{◌≡◌, ◌≤◌, ◌+◌, ◌-◌, ◌==◌, ◌++◌, ne_eqb, inl, inr, true≢false, List, length, take, drop, slice_range, sym, ap, subst, ◌∙◌, length-drop, arith}
+use Rattle.std.specs.Prelude.{ℕ}
 use Rattle.std.proofs.lemmas.Bool.{eq-eqb, cases_lt}
 use Rattle.std.proofs.lemmas.List.{take-append-drop, drop-drop}
 use Rattle.typed_path.specs.components.Part.{parts}
@@ -10,7 +10,7 @@ use Rattle.typed_path.specs.changes.Push.{merged}
 use Rattle.typed_path.specs.changes.Spelled.{AreMergeable, Stands, room_of}
 use Rattle.typed_path.specs.views.CursorViews.{items_left}
 use Rattle.typed_path.proofs.lemmas.changes.PushLemmas.{path-length}
-use Rattle.typed_path.proofs.lemmas.changes.ReadStanding.{text-mergeable, room-text, spelled-stands, spelled-prefixed_list, merged-text, place-range, place-prefix, place-text, place-behind}
+use Rattle.typed_path.proofs.lemmas.changes.ReadStanding.{text-mergeable, room-text, spelled-stands, spelled-prefixed_list, merged-text, place-prefix, place-text, place-behind}
 use Rattle.typed_path.proofs.windows.verbatim.merge_in_place.Goals as goal
 
 pub merge_each-requires-clause-mergeable : goal.merge_each-requires-clause-mergeable

@@ -1,4 +1,4 @@
-use Rattle.std.proofs.Common.{◌≡◌, drop, refl, sym, ap, subst, ◌∙◌}
+use Rattle.std.proofs.Common.{drop, refl, sym, subst}
 use Rattle.typed_path.specs.changes.Push.{merge_by_kind}
 use Rattle.typed_path.specs.changes.Spelled.{Stands}
 use Rattle.typed_path.specs.views.PieceViews.{part_of, kind_view}

@@ -1,4 +1,4 @@
-use Rattle.std.proofs.Common.{◌≡◌, ◌++◌, ◌∷◌, [], List, length, drop, OnOk, ap, sym, ◌≤◌, ◌∙◌, length-append, length-drop, arith}
+use Rattle.std.proofs.Common.{◌≡◌, ◌++◌, ◌∷◌, [], List, length, drop, OnOk, ap, ◌≤◌, ◌∙◌, length-append, length-drop, arith}
 use Rattle.std.proofs.lemmas.List.{drop-append-le}
 use Rattle.std.specs.Prelude.{ℕ, Result, Ok, Err, is_ok, if◌then◌else◌}
 use Rattle.typed_path.specs.components.Dialect.{backslash}

@@ -1,9 +1,8 @@
-use Rattle.std.proofs.Common.{◌≡◌, ◌≤◌, ◌++◌, ◌∷◌, [], Bool, List, length, map, drop, take, refl, sym, ap, subst, ◌∙◌, length-append, arith}
-use Rattle.std.specs.Prelude.{Some, None, not, true, false}
+use Rattle.std.proofs.Common.{◌≡◌, ◌++◌, ◌∷◌, [], List, length, drop, take, refl, sym, ap, subst, ◌∙◌, length-append, arith}
+use Rattle.std.specs.Prelude.{Some, None, not, true}
 use Rattle.std.proofs.lemmas.List.{drop-append-le, drop_all, take-append-le}
 use Rattle.typed_path.specs.components.Dialect.{backslash}
-use Rattle.typed_path.specs.components.Part.{Placed, parts, kinds}
-use Rattle.typed_path.specs.queries.Queries.{begins_with_root}
+use Rattle.typed_path.specs.components.Part.{Placed, parts}
 use Rattle.typed_path.specs.views.CursorViews.{items_left}
 use Rattle.typed_path.specs.views.PieceViews.{part_of}
 use Rattle.typed_path.proofs.lemmas.scan.YieldLemmas.{yields_first}

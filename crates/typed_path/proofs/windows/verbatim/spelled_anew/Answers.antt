@@ -1,4 +1,4 @@
-use Rattle.std.proofs.Common.{◌≡◌, ◌≤◌, ◌++◌, ◌∷◌, ℕ, List, [], refl, take, drop, length, sym, ap, subst, ◌∙◌, append-nil, length-take-le, arith}
+use Rattle.std.proofs.Common.{◌≡◌, ◌++◌, ◌∷◌, List, [], refl, take, drop, sym, ap, subst, ◌∙◌, length-take-le, arith}
 use Rattle.std.proofs.lemmas.List.{take_all}
 use Rattle.typed_path.specs.components.Part.{Placed, parts}
 use Rattle.typed_path.specs.components.Dialect.{windows}

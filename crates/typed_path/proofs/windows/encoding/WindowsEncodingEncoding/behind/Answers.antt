@@ -1,11 +1,10 @@
-use Rattle.std.proofs.Common.{rules, ◌≡◌, ◌<◌, ◌+◌, ◌++◌, ℕ, Some, true, length, take, drop, refl, ap, sym, subst, ◌∙◌, arith}
+use Rattle.std.proofs.Common.{rules, ◌≡◌, ◌<◌, ◌+◌, ◌++◌, ℕ, Some, true, length, take, drop, refl, ap, sym, subst, ◌∙◌}
 use Rattle.std.proofs.lemmas.List.{take_rest}
 use Rattle.typed_path.specs.declared.scan.body.Begin.TheVariants.{Inside}
 use Rattle.typed_path.specs.changes.Push.{raw_length}
 use Rattle.typed_path.specs.components.Comps.{body, later_body}
 use Rattle.typed_path.specs.components.Dialect.{windows, separators, is_verbatim}
 use Rattle.typed_path.specs.components.Prefix.{prefix_of}
-use Rattle.typed_path.specs.queries.Queries.{stripped}
 use Rattle.typed_path.specs.scan.Steps.{is_clean}
 use Rattle.typed_path.proofs.lemmas.queries.BaseLemmas.{same_separators, stripped-behind_prefix}
 use Rattle.typed_path.proofs.windows.encoding.WindowsEncodingEncoding.behind.Goals as goal
