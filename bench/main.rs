@@ -183,11 +183,15 @@ impl Draw {
         lengths.start + self.below(lengths.len())
     }
 
-    /// A name that begins with a letter, with a dot here and there.
+    /// A name with a dot here and there. It begins with a letter, but none that a device of Windows
+    /// begins with, so that both dialects allow it.
     fn name(&mut self, lengths: Range<usize>) -> Vec<u8> {
+        let first = b"bdefghijkmoqrstuvwxyz";
         let bytes = b"abcdefghijklmnopqrstuvwxyz0123456789_-.";
         let len = self.within(lengths);
-        (0..len).map(|at| bytes[self.below(if at == 0 { 26 } else { bytes.len() })]).collect()
+        (0..len)
+            .map(|at| if at == 0 { first[self.below(first.len())] } else { bytes[self.below(bytes.len())] })
+            .collect()
     }
 
     /// So many names of 2 to 20 bytes.
