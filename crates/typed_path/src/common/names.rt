@@ -54,6 +54,7 @@ pub fn put_extension(stem: &mut Vec<u8>, extension: &[u8]) -> Result<(), AllocEr
 }
 
 /// Cuts a path to its first bytes, and puts a separator and another path behind them.
+#[inline(always)]
 pub fn put_over(
     path: &mut Vec<u8>,
     kept: usize,
@@ -72,7 +73,9 @@ pub fn put_over(
     let len = kept + separator.len() + other.len();
     path.reserve(len.saturating_sub(path.len()))?;
     path.truncate(kept);
-    path.extend_from_slice(separator)?;
+    if let [byte] = separator {
+        path.push(*byte)?;
+    }
     path.extend_from_slice(other)
 }
 

@@ -84,7 +84,7 @@ impl Encoding for UnixEncoding {
     }
 
     // Nothing needs to be known of a path: what a push puts depends on its last byte alone.
-    #[inline]
+    #[inline(always)]
     fn push_next(
         text: &mut Vec<u8>,
         start: usize,
