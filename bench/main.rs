@@ -64,6 +64,7 @@ exports!((path: *const u8, len: usize):
 exports!((path: *const u8, len: usize, other: *const u8, other_len: usize):
     bench_starts_with bench_strip_prefix bench_ends_with bench_join bench_join_checked
     bench_with_file_name bench_with_extension bench_eq bench_cmp bench_windows_eq bench_windows_cmp bench_windows_join bench_windows_join_checked
+    bench_extend bench_windows_extend
     bench_windows_starts_with bench_windows_strip_prefix
     bench_windows_with_extension bench_absolutize);
 
@@ -730,6 +731,7 @@ fn windows_rows(corpus: &Corpus, at: usize) -> Vec<Row<'_>> {
         one("`extension`", Reads::End, bench_windows_extension, bench_extension),
         joined("`join` onto a base", bench_windows_join, bench_join),
         joined("`join_checked` onto a base", bench_windows_join_checked, bench_join_checked),
+        joined("`extend` by names", bench_windows_extend, bench_extend),
         whole.row(
             "`with_extension`",
             each(whole.calls(), move |at| call(bench_windows_with_extension, paths.at(at), EXTENSION)),

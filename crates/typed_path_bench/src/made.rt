@@ -28,6 +28,19 @@ pub extern "C" fn bench_join_checked(alloc: Global, path: &[u8], other: &[u8]) -
     joined.map_or(0, |path| path.as_path().as_bytes().len())
 }
 
+/// A copy of the path with each name of another pushed onto it.
+fn extended(alloc: Global, path: &[u8], other: &[u8]) -> Result<UnixPathBuf, AllocError> {
+    let mut extended = UnixPathBuf::from_bytes(alloc, path)?;
+    extended.extend(UnixPath::new(other).iter().map(UnixPath::new))?;
+    Ok(extended)
+}
+
+/// The path extended by each name of another.
+#[unsafe(no_mangle)]
+pub extern "C" fn bench_extend(alloc: Global, path: &[u8], other: &[u8]) -> usize {
+    length_of(extended(alloc, path, other))
+}
+
 /// A copy with another file name.
 #[unsafe(no_mangle)]
 pub extern "C" fn bench_with_file_name(alloc: Global, path: &[u8], name: &[u8]) -> usize {

@@ -106,6 +106,19 @@ pub extern "C" fn bench_windows_join_checked(alloc: Global, path: &[u8], other: 
     joined.map_or(0, |path| path.as_path().as_bytes().len())
 }
 
+/// A copy of the path with each name of another pushed onto it.
+fn extended(alloc: Global, path: &[u8], other: &[u8]) -> Result<WindowsPathBuf, AllocError> {
+    let mut extended = WindowsPathBuf::from_bytes(alloc, path)?;
+    extended.extend(WindowsPath::new(other).iter().map(WindowsPath::new))?;
+    Ok(extended)
+}
+
+/// The path extended by each name of another.
+#[unsafe(no_mangle)]
+pub extern "C" fn bench_windows_extend(alloc: Global, path: &[u8], other: &[u8]) -> usize {
+    length_of(extended(alloc, path, other))
+}
+
 /// A copy with another extension.
 #[unsafe(no_mangle)]
 pub extern "C" fn bench_windows_with_extension(
