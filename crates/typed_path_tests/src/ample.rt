@@ -76,10 +76,10 @@ fn pushes_long<T: Encoding>(alloc: Global, row: Push) -> Result<bool, AllocError
     pushed.push(Path::new(base))?;
     pushed.push(path)?;
     let joined = Path::new(base).join(alloc, path)?;
-    let room = 2 * (base.len() + path.as_bytes().len() + 1);
+    let room = base.len() + path.as_bytes().len() + 1;
     Ok(
-        pushed.capacity() <= room
-            && joined.capacity() <= room
+        pushed.capacity() / 2 <= room
+            && joined.capacity() / 2 <= room
             && pushed.as_path().as_bytes() == wanted.as_slice()
             && pushed.clone()?.as_path().as_bytes() == wanted.as_slice()
             && joined.as_path().as_bytes() == wanted.as_slice()
