@@ -130,7 +130,9 @@ pub trait Encoding: Sized {
     /// be known, and answers what is known of what stands there then. Where memory is refused, the text
     /// is as it was.
     ///
-    /// So paths that are pushed one by one need not read what stands there anew for each.
+    /// What may be known is how many bytes the prefix takes of a Windows path that a push spells as it
+    /// stands; nothing is known of another. So paths that are pushed one by one need not read what stands
+    /// there anew for each. Where what is said to be known is not so, only the refusal is promised.
     fn push_next(
         text: &mut Vec<u8>,
         start: usize,

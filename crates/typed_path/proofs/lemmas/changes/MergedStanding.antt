@@ -83,9 +83,6 @@ pub record IsMerging (parted : Bool) (old : List ℕ) (all : List Part) (now : B
   pub lists : (ps : List Part) → Stands parted ps old → (qs : List Part) × Stands now qs text × (merged qs rest ≡ merged ps all)
   pub left : AreMergeable rest
 
-pub merging-begin : (parted : Bool) (old : List ℕ) (all : List Part) → AreMergeable all → IsMerging parted old all parted old all
-merging-begin parted old all are = record { lists = λ ps stands. (ps, stands, refl); left = are }
-
 module _ {parted : Bool} {old : List ℕ} {all : List Part} {now : Bool} {text : List ℕ} where
   -- the next component is merged
   pub merging-next : (p : Part) (some rest : List Part) (next : Bool) (new : List ℕ) → IsMerging parted old all now text some → some ≡ p ∷ rest

@@ -19,10 +19,6 @@ module _ (t : List ℕ) (f : Found) (is : prefix_of windows t ≡ Some f) (marke
   behind-told : (ps qs : List Part) (text : List ℕ) → drop f.length t ≡ text → Behind (separators windows t) ps qs text → IsSpelled t
   behind-told ps qs text e behind = (behind-spelled t f ps qs is marked (subst (Behind (separators windows t) ps qs) (sym e) behind)).0
 
-  -- nothing
-  pub alone-spelled : drop f.length t ≡ [] → IsSpelled t
-  alone-spelled e = behind-told [] [] [] e nothing
-
   -- a root
   pub root-spelled : drop f.length t ≡ backslash ∷ [] → IsSpelled t
   root-spelled e = behind-told (root_part (backslash ∷ []) ∷ []) [] (backslash ∷ []) e (rooted [] tt)
@@ -68,10 +64,6 @@ module _ (t : List ℕ) (f : Found) (is : prefix_of windows t ≡ Some f) (marke
     where
       tails : {b : ℕ} {bs cs : List ℕ} → b ∷ bs ≡ b ∷ cs → bs ≡ cs
       tails e = cc
-
--- a text without a verbatim prefix is not spelled anew
-pub none-unspelled : (t : List ℕ) → prefix_of windows t ≡ None → IsSpelled t → ⊥
-none-unspelled t none own = both_ways _ (verbatim-none t none) own.0
 
 pub plain-unspelled : (t : List ℕ) (f : Found) → prefix_of windows t ≡ Some f → is_verbatim_prefix f.prefix ≡ false → IsSpelled t → ⊥
 plain-unspelled t f is plain own = both_ways _ (verbatim-some t f is ∙ plain) own.0

@@ -121,12 +121,3 @@ head-size path raw root rest h =
     sizes : (text : List ℕ) → IsPartedEither text root rest → length root + length rest ≤ length text
     sizes text (inl cut) = omega (arith, ap length cut.2, ap length cut.3)
     sizes text (inr cut) = omega (arith, ap length cut.0, ap length cut.1)
-
--- where no piece behind the prefix begins with a drive, none of the rest does
-pub head-drives : (path raw root rest : List ℕ) → IsHeadOf path raw root rest → HasPlainNames windows path → HaveNoDrives (slice_split (is_separator Either) rest)
-head-drives path raw root rest h plain = by (drop (raw_length (prefix_of windows path)) path) h.1 plain.1
-  where
-    by : (text : List ℕ) → IsPartedEither text root rest → HaveNoDrives (slice_split (is_separator Either) text) → HaveNoDrives (slice_split (is_separator Either) rest)
-    by text (inl cut) none =
-        (subst HaveNoDrives (slice_split-cons_yes (is_separator Either) cut.0 rest cut.1) (subst (λ t. HaveNoDrives (slice_split (is_separator Either) t)) cut.2 none)).1
-    by text (inr cut) none = subst (λ t. HaveNoDrives (slice_split (is_separator Either) t)) (sym cut.1) none

@@ -41,10 +41,6 @@ body-begun s at (u ∷ us) rest more x some e separates =
     ∙ ap (λ cs. body s at (u ∷ us) ++ cs) (sym (later_body-separator s (at + length (u ∷ us)) x more separates))
     ∙ ap (λ r. body s at (u ∷ us) ++ later_body s (at + length (u ∷ us)) r) (sym e)
 
--- the second is empty
-pub body-alone : (s : Separators) (at : ℕ) (front : List ℕ) → body s at (front ++ []) ≡ body s at front ++ later_body s (at + length front) []
-body-alone s at front = ap (body s at) (append-nil front) ∙ sym (append-nil (body s at front))
-
 -- a text that is not empty has a component
 pub filled : (s : Separators) (at : ℕ) (b : List ℕ) → 0 < length b → 0 < length (body s at b)
 filled s at [] some = absurd (omega arith)

@@ -67,13 +67,6 @@ module _ (c m : Cursor) (f : Found) (e : c.prefix ≡ Some f) (g : m.prefix ≡ 
         ∙ sym (but_last-behind (prefix_before f c.body.text.now c.body.from) filled.0 filled.1)
         ∙ ap but_last (sym (items_left-pending c f e ∙ ap (λ cs. prefix_before f c.body.text.now c.body.from ∷ cs) filled.2))
 
-    pub back-taken : Some p ≡ last_part (items_left c)
-    back-taken =
-        let filled = filled-last (body_items c.body) p taken in
-        taken ∙ ap last_part filled.2
-        ∙ sym (ap (option_map (λ d. d.part)) (last_of-behind (prefix_before f c.body.text.now c.body.from) filled.0 filled.1))
-        ∙ ap last_part (sym (items_left-pending c f e ∙ ap (λ cs. prefix_before f c.body.text.now c.body.from ∷ cs) filled.2))
-
     pub back-slice : m.body.to ≤ c.body.to → m.body.to ≡ end_from c.body.from (but_last (body_items c.body)) → slice_left m ≡ slice_after_back (items_left c) (slice_left c)
     back-slice shorter end =
         let filled = filled-last (body_items c.body) p taken in

@@ -50,10 +50,3 @@ module _ {X : Type 0} (view : X → Part) where
   progress rest can all s t None h = record { on = λ finite. tt; keeps = tt; rests = λ finite. tt }
   progress rest can all s t (Some x) h =
       record { on = λ finite. (all t, tt, omega (arith, length-append (rest t) (view x ∷ []), ap length h)); keeps = all t; rests = λ finite. tt }
-
--- an iterator that says of each step what it answers and what it leaves yields the list that it has left
-pub yields_left : {S A : Type 0} (view : A → Part) (items : S → List Placed) (slice : S → List ℕ) {s : S} (ps : List Part) → parts (items s) ≡ ps
-    → YieldsList (λ t r u. YieldsFirstBy view (λ v. parts (items v)) t r u × LeavesFront items slice t u) view s ps
-yields_left view items slice {s} ps e =
-    subst (YieldsList (λ t r u. YieldsFirstBy view (λ v. parts (items v)) t r u × LeavesFront items slice t u) view s) e
-    (YieldsList-from_shown (λ t r u. YieldsFirstBy view (λ v. parts (items v)) t r u × LeavesFront items slice t u) view (λ v. parts (items v)) (λ t u h. ap length h.0.0) (λ t x u h. h.0) s)

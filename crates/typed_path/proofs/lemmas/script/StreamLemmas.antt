@@ -53,9 +53,6 @@ pub record Writes (before now : Option (List ℕ)) (bytes rest : List ℕ) : Typ
   pub split : bytes ≡ done ++ rest
   pub output : Appends before now done
 
-pub Writes-start : (told : Option (List ℕ)) (bytes : List ℕ) → Writes told told bytes bytes
-Writes-start told bytes = record { done = []; split = refl; output = Appends-nothing told }
-
 pub Writes-step : {before now : Option (List ℕ)} {bytes rest : List ℕ} (next : Option (List ℕ)) (more behind : List ℕ) → rest ≡ more ++ behind
     → Appends now next more → Writes before now bytes rest → Writes before next bytes behind
 Writes-step {before} {now} {bytes} {rest} next more behind e h w = record {
@@ -63,12 +60,6 @@ Writes-step {before} {now} {bytes} {rest} next more behind e h w = record {
   split = w.split ∙ ap (λ t. w.done ++ t) e ∙ sym (append_assoc w.done more behind);
   output = Appends-more before now next w.done more w.output h;
 }
-
-pub Writes-failed : {before now : Option (List ℕ)} {bytes rest : List ℕ} (next : Option (List ℕ)) → KeepsIfTold now next → Writes before now bytes rest → WritesPart before next bytes
-Writes-failed {before} {now} {bytes} {rest} next h w = (w.done, (rest, w.split), Appends-kept before now next w.done w.output h)
-
-pub Writes-end : {before now : Option (List ℕ)} {bytes : List ℕ} → Writes before now bytes [] → Appends before now bytes
-Writes-end {before} {now} {bytes} w = subst (λ t. Appends before now t) (sym (w.split ∙ append-nil w.done)) w.output
 
 -- how far a dialogue has come: what it read, and that the complete lines of it are answered
 pub record Reads (before now : Streams) (line : List ℕ) : Type 0 where
