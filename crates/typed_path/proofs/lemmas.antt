@@ -8,3 +8,4 @@ pub mod changes
 pub mod places
 pub mod promises
 pub mod script
+pub mod texts

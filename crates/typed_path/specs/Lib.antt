@@ -1,5 +1,6 @@
 pub mod components
 pub mod scan
+pub mod texts
 pub mod queries
 pub mod order
 pub mod changes

@@ -14,7 +14,7 @@ use Rattle.typed_path.proofs.lemmas.lists.WidthLemmas.{width, width-slice_split,
 use Rattle.typed_path.proofs.lemmas.components.ComponentCuts.{laid, TakesSegment, first_takes, root_text-length, laid_in_order, start_cut, end_cut}
 
 -- an empty first piece stands before a separator
-empty_first : (s : Separators) (b : ℕ) (bs piece : List ℕ) (pieces : List (List ℕ)) → slice_split (is_separator s) (b ∷ bs) ≡ piece ∷ pieces → length piece ≡ 0 → is_separator s b ≡ true
+pub empty_first : (s : Separators) (b : ℕ) (bs piece : List ℕ) (pieces : List (List ℕ)) → slice_split (is_separator s) (b ∷ bs) ≡ piece ∷ pieces → length piece ≡ 0 → is_separator s b ≡ true
 empty_first s b bs piece pieces split none = by (cases_Bool (is_separator s b))
   where
     by : (is_separator s b ≡ true) ⊎ (is_separator s b ≡ false) → is_separator s b ≡ true

@@ -38,7 +38,7 @@ items_behind-nil front = refl
 items_behind-nil back = refl
 
 -- so do all steps
-slice_after-nil : (slice : List ℕ) (sides : List Side) → slice_after [] slice sides ≡ slice
+pub slice_after-nil : (slice : List ℕ) (sides : List Side) → slice_after [] slice sides ≡ slice
 slice_after-nil slice [] = refl
 slice_after-nil slice (side ∷ sides) = rw (items_behind-nil side, slice_behind-nil slice side) (slice_after-nil slice sides)
 

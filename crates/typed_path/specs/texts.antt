@@ -1,0 +1,2 @@
+-- What is a text in UTF-8.
+pub mod Texts
