@@ -9,3 +9,8 @@ pub mod ConcreteViews
 pub mod WindowsViews
 pub mod OwnedViews
 pub mod RunViews
+pub mod TextViews
+pub mod ReadingViews
+pub mod TextPieceViews
+pub mod TextComponentViews
+pub mod TextAncestorViews

@@ -33,6 +33,7 @@ mod platform;
 mod scan;
 mod script;
 mod unix;
+mod utf8;
 mod windows;
 
 pub use common::{
@@ -50,6 +51,14 @@ pub use script::{
 };
 pub use std::borrow::CowStr;
 pub use unix::{UnixComponent, UnixComponents, UnixEncoding, UnixPath, UnixPathBuf};
+pub use utf8::{
+    Utf8Ancestors, Utf8Component, Utf8Components, Utf8Encoding, Utf8Iter, Utf8NativeComponent,
+    Utf8NativeEncoding, Utf8NativePath, Utf8NativePathBuf, Utf8Path, Utf8PathBuf, Utf8Piece,
+    Utf8PieceKind, Utf8PlatformEncoding, Utf8PlatformPath, Utf8PlatformPathBuf, Utf8Reading,
+    Utf8UnixComponent, Utf8UnixComponents, Utf8UnixEncoding, Utf8UnixPath, Utf8UnixPathBuf,
+    Utf8WindowsComponent, Utf8WindowsComponents, Utf8WindowsEncoding, Utf8WindowsPath,
+    Utf8WindowsPathBuf, Utf8WindowsPrefix, Utf8WindowsPrefixComponent,
+};
 pub use windows::{
     WindowsComponent, WindowsComponents, WindowsEncoding, WindowsPath, WindowsPathBuf,
     WindowsPrefix, WindowsPrefixComponent,

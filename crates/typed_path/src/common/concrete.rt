@@ -63,7 +63,7 @@ impl<'a, T: Concrete<'a>> ConcreteComponents<'a, T> {
     ghost use Rattle.typed_path.specs.scan.Steps.{first_part, last_part};
     ghost use Rattle.typed_path.specs.queries.Queries.{is_absolute, has_root};
     ghost use Rattle.typed_path.specs.views.CursorViews.{slice_left, items_left};
-    ghost use Rattle.typed_path.specs.views.PathViews.{path_bytes};
+    ghost use Rattle.typed_path.specs.views.PathViews.{path_bytes, components_items, components_slice};
     ghost use Rattle.typed_path.specs.views.ReversedViews.{reversed_source};
     ghost use Rattle.typed_path.specs.views.ConcreteViews.{concrete_items, concrete_slice, concrete_parts};
 
@@ -76,6 +76,16 @@ impl<'a, T: Concrete<'a>> ConcreteComponents<'a, T> {
         ConcreteComponents {
             components: path.components(),
         }
+    }
+
+    /// The components that are left of a reading, all of them as this encoding writes them.
+    #[inline(always)]
+    pub(crate) fn of(components: Components<'a, T>) -> ConcreteComponents<'a, T>
+        requires { components_parts components ≡ as_written T.dialect (components_parts components) }
+        ensures items { concrete_items result ≡ components_items components.entry }
+        ensures slice { concrete_slice result ≡ components_slice components.entry }
+    {
+        ConcreteComponents { components }
     }
 
     /// Takes the first component that is left. It answers none for good once all are taken.

@@ -1,0 +1,216 @@
+//! The components of a path of text, each as a value of the type that the iterator names.
+#![tactic(auto, using(crate::proofs::lemmas::texts::TextLaws::reading_laws))]
+
+ghost use Rattle.std.specs.Prelude.{◌≡◌, true};
+ghost use Rattle.typed_path.specs.components.Part.{Part};
+ghost use Rattle.typed_path.specs.components.Written.{written, as_written};
+ghost use Rattle.typed_path.specs.texts.Texts.{IsTextReading, is_text_part};
+ghost use Rattle.typed_path.specs.views.PathViews.{components_items, components_slice, components_parts};
+ghost use Rattle.typed_path.specs.views.PieceViews.{part_of};
+
+use crate::common::{Components, Concrete, ConcreteComponents, Reversed};
+use crate::scan::{Cursor, Piece};
+use crate::utf8::encoding::Utf8Encoding;
+use crate::utf8::path::Utf8Path;
+use crate::utf8::text::text_of;
+use std::alloc::AllocError;
+use std::fmt;
+use std::iter::FusedIterator;
+use std::marker::PhantomData;
+
+/// A value that a component of a path of text is read as.
+pub trait FromPiece<'a, T: Utf8Encoding>: Copy + fmt::Debug {
+    ghost Seen: { Type 0 };
+
+    ghost seen: { Self → Seen };
+
+    ghost seen_of: { Part → Seen };
+
+    /// The name of the iterator over such values.
+    const ITERATOR: &'static str;
+
+    /// The value that a piece is read as.
+    fn from_piece(piece: Piece<'a>) -> Self
+        requires text { is_text_part (part_of piece) ≡ true }
+        requires written { part_of piece ≡ written T.Bytes.dialect (part_of piece) }
+        ensures { seen result ≡ seen_of (part_of piece.entry) };
+}
+
+/// The components of a path of text that are left to be read, as values of one type.
+#[derive_where(PartialEq, Eq, PartialOrd, Ord; T: Utf8Encoding)]
+pub struct Utf8Reading<'a, T: Utf8Encoding, I> {
+    components: Components<'a, T::Bytes>,
+    item: PhantomData<I>,
+    ghost is_text: { ∥ IsTextReading (components_items components) (components_slice components) ∥₁ },
+    ghost written: { components_parts components ≡ as_written T.Bytes.dialect (components_parts components) },
+}
+
+impl<'a, T: Utf8Encoding, I> Clone for Utf8Reading<'a, T, I> {
+    ghost use Rattle.std.specs.Prelude.{⊤};
+
+    ghost is_clone = { λ reading copy. copy ≡ reading };
+
+    ghost is_infallible = { λ reading. ⊤ };
+
+    #[inline(always)]
+    fn clone(&self) -> Result<Utf8Reading<'a, T, I>, AllocError> {
+        Ok(*self)
+    }
+}
+
+impl<'a, T: Utf8Encoding, I> Copy for Utf8Reading<'a, T, I> {}
+
+impl<'a, T: Utf8Encoding, I> Utf8Reading<'a, T, I> {
+    ghost use Rattle.typed_path.specs.components.Part.{kinds};
+    ghost use Rattle.typed_path.specs.components.Comps.{comps};
+    ghost use Rattle.typed_path.specs.queries.Queries.{is_absolute, has_root};
+    ghost use Rattle.typed_path.specs.views.ConcreteViews.{concrete_items};
+    ghost use Rattle.typed_path.specs.views.CursorViews.{slice_left, items_left};
+    ghost use Rattle.typed_path.specs.views.TextViews.{utf8_bytes};
+    ghost use Rattle.typed_path.specs.views.ReadingViews.{reading_items, reading_slice, reading_parts};
+    ghost use Rattle.typed_path.specs.views.ReversedViews.{reversed_source};
+
+    /// The components of a path, from either end.
+    #[inline(always)]
+    pub fn new(path: Utf8Path<'a, T>) -> Utf8Reading<'a, T, I>
+        ensures items { reading_items result ≡ comps T.Bytes.dialect (utf8_bytes path.entry) }
+        ensures slice { reading_slice result ≡ utf8_bytes path.entry }
+    {
+        Utf8Reading {
+            components: path.as_bytes_path().components(),
+            item: PhantomData,
+        }
+    }
+
+    /// The reading itself.
+    #[inline(always)]
+    pub(crate) fn cursor(self) -> Cursor<'a>
+        ensures items { items_left result ≡ reading_items self.entry }
+        ensures slice { slice_left result ≡ reading_slice self.entry }
+    {
+        self.components.cursor()
+    }
+
+    /// The same components, of the path of the bytes.
+    #[inline(always)]
+    pub(super) fn bytes(self) -> ConcreteComponents<'a, T::Bytes>
+    where
+        T::Bytes: Concrete<'a>,
+        ensures items { concrete_items result ≡ reading_items self.entry }
+    {
+        ConcreteComponents::of(self.components)
+    }
+
+    /// What is left, from the last to the first.
+    #[inline(always)]
+    pub fn rev(self) -> Reversed<Utf8Reading<'a, T, I>>
+    where
+        I: FromPiece<'a, T>,
+        ensures { reversed_source result ≡ self.entry }
+    {
+        Reversed::new(self)
+    }
+
+    /// The slice left: from the first component that is left to the end of the last.
+    #[inline(always)]
+    pub fn as_str(self) -> &'a str
+        ensures { result.now ≡ reading_slice self.entry }
+    {
+        text_of(self.components.as_bytes())
+    }
+
+    /// Whether the components that are left begin an absolute path.
+    pub fn is_absolute(self) -> bool
+        ensures { result ≡ is_absolute T.Bytes.dialect (kinds (reading_parts self.entry)) }
+    {
+        self.components.is_absolute()
+    }
+
+    /// Whether the components that are left begin with a root, written or implied by a prefix.
+    pub fn has_root(self) -> bool
+        ensures { result ≡ has_root T.Bytes.dialect (kinds (reading_parts self.entry)) }
+    {
+        self.components.has_root()
+    }
+}
+
+impl<'a, T: Utf8Encoding> Utf8Reading<'a, T, &'a str> {
+    ghost use Rattle.typed_path.specs.views.TextViews.{utf8_bytes};
+    ghost use Rattle.typed_path.specs.views.ReadingViews.{reading_slice};
+
+    /// The slice left, as a path.
+    pub fn as_path(self) -> Utf8Path<'a, T>
+        ensures { utf8_bytes result ≡ reading_slice self.entry }
+    {
+        Utf8Path::new(self.as_str())
+    }
+}
+
+impl<'a, T: Utf8Encoding, I: FromPiece<'a, T>> Utf8Reading<'a, T, I> {
+    ghost use Rattle.std.specs.Prelude.{drop, option_map};
+    ghost use Rattle.typed_path.specs.scan.Left.{but_last, slice_after_front, slice_after_back};
+    ghost use Rattle.typed_path.specs.scan.Steps.{first_part, last_part};
+    ghost use Rattle.typed_path.specs.views.ReadingViews.{reading_items, reading_slice};
+
+    /// Takes the first component that is left. It answers none for good once all are taken.
+    #[inline(always)]
+    pub fn next(&mut self) -> Option<I>
+        ensures taken { option_map I.seen result
+            ≡ option_map I.seen_of (first_part (reading_items self.old)) }
+        ensures items { reading_items self.new ≡ drop 1 (reading_items self.old) }
+        ensures slice { reading_slice self.new
+            ≡ slice_after_front (reading_items self.old) (reading_slice self.old) }
+    {
+        let piece = self.components.next()?;
+        Some(I::from_piece(piece))
+    }
+
+    /// Takes the last component that is left. It answers none for good once all are taken.
+    #[inline(always)]
+    pub fn next_back(&mut self) -> Option<I>
+        ensures taken { option_map I.seen result
+            ≡ option_map I.seen_of (last_part (reading_items self.old)) }
+        ensures items { reading_items self.new ≡ but_last (reading_items self.old) }
+        ensures slice { reading_slice self.new
+            ≡ slice_after_back (reading_items self.old) (reading_slice self.old) }
+    {
+        let piece = self.components.next_back()?;
+        Some(I::from_piece(piece))
+    }
+}
+
+impl<'a, T: Utf8Encoding, I: FromPiece<'a, T>> Iterator for Utf8Reading<'a, T, I> {
+    ghost use Rattle.std.specs.Prelude.{map};
+    ghost use Rattle.std.specs.Iterator.{YieldsFirstBy, item_count};
+    ghost use Rattle.typed_path.specs.scan.Steps.{LeavesFront};
+    ghost use Rattle.typed_path.specs.views.ReadingViews.{reading_items, reading_slice, reading_parts};
+
+    type Item = I;
+
+    ghost next_gives = { λ s item t. YieldsFirstBy I.seen (λ r. map I.seen_of (reading_parts r)) s item t
+        × LeavesFront reading_items reading_slice s t };
+
+    ghost remaining = { item_count reading_parts };
+
+    #[inline(always)]
+    fn next(&mut self) -> Option<I> {
+        Utf8Reading::next(self)
+    }
+}
+
+impl<'a, T: Utf8Encoding, I: FromPiece<'a, T>> DoubleEndedIterator for Utf8Reading<'a, T, I> {
+    ghost use Rattle.std.specs.Prelude.{map};
+    ghost use Rattle.std.specs.Iterator.{YieldsLastBy};
+    ghost use Rattle.typed_path.specs.scan.Steps.{LeavesBack};
+    ghost use Rattle.typed_path.specs.views.ReadingViews.{reading_items, reading_slice, reading_parts};
+
+    ghost next_back_gives = { λ s item t. YieldsLastBy I.seen (λ r. map I.seen_of (reading_parts r)) s item t
+        × LeavesBack reading_items reading_slice s t };
+
+    #[inline(always)]
+    fn next_back(&mut self) -> Option<I> {
+        Utf8Reading::next_back(self)
+    }
+}
+
+impl<'a, T: Utf8Encoding, I: FromPiece<'a, T>> FusedIterator for Utf8Reading<'a, T, I> {}

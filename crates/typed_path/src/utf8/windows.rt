@@ -1,0 +1,370 @@
+//! Paths of text, written as on Windows.
+#![tactic(auto, using(crate::proofs::lemmas::texts::TextLaws::text_laws))]
+
+ghost use Rattle.std.specs.Prelude.{◌≡◌, true, false};
+ghost use Rattle.typed_path.specs.components.Dialect.{windows};
+ghost use Rattle.typed_path.specs.components.Part.{Part};
+ghost use Rattle.typed_path.specs.views.TextComponentViews.{text_windows_part};
+
+use crate::common::{Concrete, Encoding};
+use crate::constants::windows::{CURRENT_DIR_STR, PARENT_DIR_STR, SEPARATOR_STR};
+use crate::errors::ParseError;
+use crate::scan::Piece;
+use crate::utf8::component::Utf8Component;
+use crate::utf8::encoding::Utf8Encoding;
+use crate::utf8::path::Utf8Path;
+use crate::utf8::path_buf::Utf8PathBuf;
+use crate::utf8::prefix::{Utf8WindowsPrefix, Utf8WindowsPrefixComponent};
+use crate::utf8::reading::{FromPiece, Utf8Reading};
+use crate::utf8::text::text_of;
+use crate::windows::{WindowsComponent, WindowsEncoding};
+use std::fmt;
+use std::str;
+use std::str::Utf8Error;
+
+/// Texts of Windows paths.
+#[derive(Clone, Copy, Debug, Default, PartialEq, Eq, PartialOrd, Ord, Hash)]
+pub struct Utf8WindowsEncoding;
+
+/// A path of text that is written as on Windows.
+pub type Utf8WindowsPath<'a> = Utf8Path<'a, Utf8WindowsEncoding>;
+
+/// An owned path of text that is written as on Windows.
+pub type Utf8WindowsPathBuf = Utf8PathBuf<Utf8WindowsEncoding>;
+
+impl Utf8Encoding for Utf8WindowsEncoding {
+    type Bytes = WindowsEncoding;
+
+    ghost IS_PLATFORM = { false };
+
+    const IS_PLATFORM: bool = false;
+}
+
+/// Prints the name of the type.
+impl fmt::Display for Utf8WindowsEncoding {
+    ghost use Rattle.std.specs.Prelude.{codes, Some};
+
+    ghost output = { λ _. Some (codes "Utf8WindowsEncoding") };
+
+    fn fmt<W: fmt::Write>(&self, f: &mut fmt::Formatter<W>) -> fmt::Result {
+        f.pad("Utf8WindowsEncoding")
+    }
+}
+
+/// A component of a Windows path of text.
+///
+/// The order is prefixes by kind, the root, the current directory, the parent directory, and names by their bytes.
+#[derive(Clone, Copy, Debug, PartialEq, Eq, PartialOrd, Ord, Hash)]
+pub enum Utf8WindowsComponent<'a> {
+    /// The prefix, as `C:` or `\\server\share`.
+    Prefix(Utf8WindowsPrefixComponent<'a>),
+    /// The root directory, `\`.
+    RootDir,
+    /// The current directory, `.`.
+    CurDir,
+    /// The parent directory, `..`.
+    ParentDir,
+    /// A name.
+    Normal(&'a str),
+}
+
+/// The components of a Windows path of text that are left to be read.
+pub type Utf8WindowsComponents<'a> = Utf8Reading<'a, Utf8WindowsEncoding, Utf8WindowsComponent<'a>>;
+
+impl<'a> Utf8WindowsComponent<'a> {
+    ghost use Rattle.std.specs.Prelude.{is_ok, IfOk, option_map};
+    ghost use Rattle.typed_path.specs.queries.Queries.{is_prefix, prefix_in, prefix_part_in};
+    ghost use Rattle.typed_path.specs.views.TextPieceViews.{text_prefix};
+    ghost use Rattle.typed_path.specs.views.TextComponentViews.{text_prefix_part};
+    ghost use Rattle.typed_path.specs.texts.Texts.{is_text_part};
+    ghost use Rattle.typed_path.specs.views.TextViews.{utf8_bytes};
+    ghost use Rattle.typed_path.specs.views.WindowsViews.{windows_part};
+
+    /// The component of a path of bytes, where its text and its names are texts.
+    ///
+    /// # Errors
+    ///
+    /// The name, or the raw text of a prefix, that is no text.
+    #[tactic(auto, using(crate::proofs::lemmas::texts::TextLaws::component_laws))]
+    pub fn from_utf8(component: &WindowsComponent<'a>) -> Result<Utf8WindowsComponent<'a>, Utf8Error>
+        ensures ok { IfOk result (λ c. text_windows_part c ≡ windows_part component.now) }
+        ensures flag { is_ok result ≡ is_text_part (windows_part component.now) }
+    {
+        match component {
+            WindowsComponent::Prefix(prefix) => {
+                let prefix = Utf8WindowsPrefixComponent::from_utf8(prefix)?;
+                Ok(Utf8WindowsComponent::Prefix(prefix))
+            }
+            WindowsComponent::RootDir => Ok(Utf8WindowsComponent::RootDir),
+            WindowsComponent::CurDir => Ok(Utf8WindowsComponent::CurDir),
+            WindowsComponent::ParentDir => Ok(Utf8WindowsComponent::ParentDir),
+            WindowsComponent::Normal(name) => Ok(Utf8WindowsComponent::Normal(str::from_utf8(name)?)),
+        }
+    }
+
+    /// The same where it is known to be a text; it is not looked at again.
+    #[inline(always)]
+    pub fn from_utf8_unchecked(component: &WindowsComponent<'a>) -> Utf8WindowsComponent<'a>
+        requires { is_text_part (windows_part component.now) ≡ true }
+        ensures { text_windows_part result ≡ windows_part component.now }
+    {
+        match component {
+            WindowsComponent::Prefix(prefix) => {
+                Utf8WindowsComponent::Prefix(Utf8WindowsPrefixComponent::from_utf8_unchecked(prefix))
+            }
+            WindowsComponent::RootDir => Utf8WindowsComponent::RootDir,
+            WindowsComponent::CurDir => Utf8WindowsComponent::CurDir,
+            WindowsComponent::ParentDir => Utf8WindowsComponent::ParentDir,
+            WindowsComponent::Normal(name) => Utf8WindowsComponent::Normal(text_of(name)),
+        }
+    }
+
+    /// Whether the component is a prefix.
+    pub fn is_prefix(self) -> bool
+        ensures { result ≡ is_prefix (text_windows_part self.entry).kind }
+    {
+        matches!(self, Utf8WindowsComponent::Prefix(_))
+    }
+
+    /// The prefix with its text, where the component is one.
+    pub fn prefix(self) -> Option<Utf8WindowsPrefixComponent<'a>>
+        ensures { option_map text_prefix_part result
+            ≡ prefix_part_in (text_windows_part self.entry) }
+    {
+        match self {
+            Utf8WindowsComponent::Prefix(component) => Some(component),
+            _ => None,
+        }
+    }
+
+    /// Which prefix the component is, where it is one.
+    pub fn prefix_kind(self) -> Option<Utf8WindowsPrefix<'a>>
+        ensures { option_map text_prefix result ≡ prefix_in (text_windows_part self.entry).kind }
+    {
+        Some(self.prefix()?.kind())
+    }
+
+    /// The path of this one component, in the encoding that the caller names.
+    pub fn as_path<T: Utf8Encoding>(self) -> Utf8Path<'a, T>
+        ensures { utf8_bytes result ≡ (text_windows_part self.entry).text }
+    {
+        Utf8Path::new(self.as_str())
+    }
+}
+
+impl<'a> Utf8Component<'a> for Utf8WindowsComponent<'a> {
+    ghost dialect = { windows };
+
+    ghost part = { text_windows_part };
+
+    fn as_str(&self) -> &'a str {
+        match self {
+            Utf8WindowsComponent::Prefix(component) => component.as_str(),
+            Utf8WindowsComponent::RootDir => SEPARATOR_STR,
+            Utf8WindowsComponent::CurDir => CURRENT_DIR_STR,
+            Utf8WindowsComponent::ParentDir => PARENT_DIR_STR,
+            Utf8WindowsComponent::Normal(name) => name,
+        }
+    }
+
+    fn is_root(&self) -> bool {
+        match self {
+            Utf8WindowsComponent::RootDir => true,
+            Utf8WindowsComponent::Prefix(component) => !matches!(
+                component.kind(),
+                Utf8WindowsPrefix::Disk(_)
+            ),
+            _ => false,
+        }
+    }
+
+    fn is_normal(&self) -> bool {
+        matches!(self, Utf8WindowsComponent::Normal(_))
+    }
+
+    fn is_parent(&self) -> bool {
+        matches!(self, Utf8WindowsComponent::ParentDir)
+    }
+
+    fn is_current(&self) -> bool {
+        matches!(self, Utf8WindowsComponent::CurDir)
+    }
+
+    fn is_valid(&self) -> bool {
+        match self {
+            Utf8WindowsComponent::Normal(name) => WindowsEncoding::valid(name.as_bytes()),
+            _ => true,
+        }
+    }
+
+    fn len(&self) -> usize {
+        self.as_str().len()
+    }
+
+    fn is_empty(&self) -> bool {
+        self.as_str().is_empty()
+    }
+
+    fn root() -> Utf8WindowsComponent<'a> {
+        Utf8WindowsComponent::RootDir
+    }
+
+    fn parent() -> Utf8WindowsComponent<'a> {
+        Utf8WindowsComponent::ParentDir
+    }
+
+    fn current() -> Utf8WindowsComponent<'a> {
+        Utf8WindowsComponent::CurDir
+    }
+}
+
+/// Prints the text of the component.
+impl<'a> fmt::Display for Utf8WindowsComponent<'a> {
+    ghost use Rattle.std.specs.Prelude.{Some};
+
+    ghost output = { λ c. Some (text_windows_part c).text };
+
+    fn fmt<W: fmt::Write>(&self, f: &mut fmt::Formatter<W>) -> fmt::Result {
+        f.pad(self.as_str())
+    }
+}
+
+impl<'a> FromPiece<'a, Utf8WindowsEncoding> for Utf8WindowsComponent<'a> {
+    ghost Seen = { Part };
+
+    ghost seen = { text_windows_part };
+
+    ghost seen_of = { λ p. p };
+
+    const ITERATOR: &'static str = "Utf8WindowsComponents";
+
+    #[inline(always)]
+    fn from_piece(piece: Piece<'a>) -> Utf8WindowsComponent<'a> {
+        Utf8WindowsComponent::from_utf8_unchecked(&WindowsEncoding::component(piece))
+    }
+}
+
+/// Reads a text that is one component: `c:` is a prefix, and `a/` is the name `a`.
+///
+/// # Errors
+///
+/// Those of a `WindowsComponent`.
+impl<'a> TryFrom<&'a str> for Utf8WindowsComponent<'a> {
+    ghost use Rattle.typed_path.specs.views.TextComponentViews.{IsTextWindowsReading};
+
+    type Error = ParseError;
+
+    ghost try_from_gives = { λ text reading. IsTextWindowsReading text.now reading };
+
+    fn try_from(text: &'a str) -> Result<Utf8WindowsComponent<'a>, ParseError> {
+        match WindowsComponent::try_from(text) {
+            Ok(component) => Ok(Utf8WindowsComponent::from_utf8_unchecked(&component)),
+            Err(why) => Err(why),
+        }
+    }
+}
+
+impl<'a> Utf8Reading<'a, Utf8WindowsEncoding, Utf8WindowsComponent<'a>> {
+    ghost use Rattle.std.specs.Prelude.{option_map};
+    ghost use Rattle.typed_path.specs.components.Part.{kinds};
+    ghost use Rattle.typed_path.specs.queries.Queries.{first_prefix, prefix_among, has_prefix, has_any_verbatim_prefix, has_verbatim_prefix, has_verbatim_unc_prefix, has_verbatim_disk_prefix, has_device_ns_prefix, has_unc_prefix, has_disk_prefix, has_physical_root, has_implicit_root};
+    ghost use Rattle.typed_path.specs.views.TextPieceViews.{text_prefix};
+    ghost use Rattle.typed_path.specs.views.TextComponentViews.{text_prefix_part};
+    ghost use Rattle.typed_path.specs.views.TextViews.{utf8_bytes};
+    ghost use Rattle.typed_path.specs.views.ReadingViews.{reading_parts, reading_slice};
+
+    /// The slice left, as a path in the encoding that the caller names.
+    pub fn as_path<U: Utf8Encoding>(self) -> Utf8Path<'a, U>
+        ensures { utf8_bytes result ≡ reading_slice self.entry }
+    {
+        Utf8Path::new(self.as_str())
+    }
+
+    /// The prefix with its text, where it is the first component that is left.
+    pub fn prefix(self) -> Option<Utf8WindowsPrefixComponent<'a>>
+        ensures { option_map text_prefix_part result
+            ≡ prefix_among (reading_parts self.entry) }
+    {
+        Utf8WindowsPrefixComponent::of_option(self.bytes().prefix())
+    }
+
+    /// Which prefix is the first component that is left, where one is.
+    pub fn prefix_kind(self) -> Option<Utf8WindowsPrefix<'a>>
+        ensures { option_map text_prefix result
+            ≡ first_prefix (kinds (reading_parts self.entry)) }
+    {
+        Some(self.prefix()?.kind())
+    }
+
+    /// Whether a prefix is the first component that is left.
+    pub fn has_prefix(self) -> bool
+        ensures { result ≡ has_prefix (kinds (reading_parts self.entry)) }
+    {
+        self.bytes().has_prefix()
+    }
+
+    /// Whether a prefix of one of the three verbatim kinds is first: `\\?\name`,
+    /// `\\?\UNC\server\share` or `\\?\C:`. One is in `//?/C:/a`, and none in `C:\a`.
+    pub fn has_any_verbatim_prefix(self) -> bool
+        ensures { result ≡ has_any_verbatim_prefix (kinds (reading_parts self.entry)) }
+    {
+        self.bytes().has_any_verbatim_prefix()
+    }
+
+    /// Whether the prefix `\\?\name` is first.
+    pub fn has_verbatim_prefix(self) -> bool
+        ensures { result ≡ has_verbatim_prefix (kinds (reading_parts self.entry)) }
+    {
+        self.bytes().has_verbatim_prefix()
+    }
+
+    /// Whether the prefix `\\?\UNC\server\share` is first.
+    pub fn has_verbatim_unc_prefix(self) -> bool
+        ensures { result ≡ has_verbatim_unc_prefix (kinds (reading_parts self.entry)) }
+    {
+        self.bytes().has_verbatim_unc_prefix()
+    }
+
+    /// Whether the prefix `\\?\C:` is first.
+    pub fn has_verbatim_disk_prefix(self) -> bool
+        ensures { result ≡ has_verbatim_disk_prefix (kinds (reading_parts self.entry)) }
+    {
+        self.bytes().has_verbatim_disk_prefix()
+    }
+
+    /// Whether the prefix `\\.\name` is first.
+    pub fn has_device_ns_prefix(self) -> bool
+        ensures { result ≡ has_device_ns_prefix (kinds (reading_parts self.entry)) }
+    {
+        self.bytes().has_device_ns_prefix()
+    }
+
+    /// Whether the prefix `\\server\share` is first.
+    pub fn has_unc_prefix(self) -> bool
+        ensures { result ≡ has_unc_prefix (kinds (reading_parts self.entry)) }
+    {
+        self.bytes().has_unc_prefix()
+    }
+
+    /// Whether the prefix `C:` is first.
+    pub fn has_disk_prefix(self) -> bool
+        ensures { result ≡ has_disk_prefix (kinds (reading_parts self.entry)) }
+    {
+        self.bytes().has_disk_prefix()
+    }
+
+    /// Whether a root is written: it is the first component that is left, or right behind the
+    /// prefix, as in `C:\a`. None is in `C:a` and `\\s\h`.
+    pub fn has_physical_root(self) -> bool
+        ensures { result ≡ has_physical_root (kinds (reading_parts self.entry)) }
+    {
+        self.bytes().has_physical_root()
+    }
+
+    /// Whether a prefix other than `C:` is first, which implies a root, as in `\\s\h`.
+    pub fn has_implicit_root(self) -> bool
+        ensures { result ≡ has_implicit_root (kinds (reading_parts self.entry)) }
+    {
+        self.bytes().has_implicit_root()
+    }
+}
