@@ -5,11 +5,15 @@
 //!
 //! ```rust
 //! use std::alloc::Global;
-//! use typed_path::{PathError, UnixPath, UnixPathBuf};
+//! use typed_path::{PathError, Utf8UnixPath, Utf8UnixPathBuf};
 //!
 //! /// Where the entry of an archive is to be written.
-//! pub fn target(alloc: Global, base: UnixPath<'_>, name: &[u8]) -> Result<UnixPathBuf, PathError> {
-//!     base.join_checked(alloc, UnixPath::new(name))
+//! pub fn target(
+//!     alloc: Global,
+//!     base: Utf8UnixPath<'_>,
+//!     name: &str,
+//! ) -> Result<Utf8UnixPathBuf, PathError> {
+//!     base.join_checked(alloc, Utf8UnixPath::new(name))
 //! }
 //! ```
 //!
@@ -18,9 +22,11 @@
 //!
 //! [`Path`] is lent and Copy, [`PathBuf`] owns its bytes and grows. Both take their encoding as a
 //! type: [`UnixEncoding`], [`WindowsEncoding`] or [`PlatformEncoding`], with the names [`UnixPath`],
-//! [`WindowsPath`] and [`PlatformPath`] for the lent ones. A call that needs memory answers a
-//! `Result`, and where memory is refused it leaves what it was handed as it was, unless it says
-//! otherwise. The laws that callers may cite stand in [`laws`].
+//! [`WindowsPath`] and [`PlatformPath`] for the lent ones. [`Utf8Path`] and [`Utf8PathBuf`] are the
+//! same over texts, with the same names behind `Utf8`: each of their calls answers what that of the
+//! bytes does, and what it lends is a text. A call that needs memory answers a `Result`, and where
+//! memory is refused it leaves what it was handed as it was, unless it says otherwise. The laws that
+//! callers may cite stand in [`laws`].
 #![tactic(auto)]
 
 mod common;
