@@ -8,7 +8,6 @@ mod debug;
 mod encoding;
 mod iter;
 mod joins;
-mod keys;
 mod lookups;
 mod names;
 mod normalize;
