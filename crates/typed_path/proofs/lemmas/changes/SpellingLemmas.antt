@@ -1,5 +1,5 @@
 -- How a push spells a text of Windows anew, told by what stands behind the prefix.
-use Rattle.std.proofs.Common.{◌≡◌, ℕ, true, false, ◌⊎◌, inl, inr, List, [], ◌∷◌, drop, Some, None, refl, sym, ap, subst, ◌∙◌}
+use Rattle.std.proofs.Common.{◌≡◌, ℕ, true, false, ◌⊎◌, inl, inr, List, [], ◌∷◌, drop, Some, refl, sym, ap, subst, ◌∙◌}
 use Rattle.std.proofs.lemmas.Bool.{both_ways}
 use Rattle.typed_path.specs.declared.scan.separators.Separators.{Separators}
 use Rattle.typed_path.specs.components.Dialect.{windows, backslash, separators}
@@ -12,7 +12,7 @@ use Rattle.typed_path.proofs.lemmas.components.SeparatorLemmas.{separators-windo
 use Rattle.typed_path.proofs.lemmas.components.PrefixLemmas.{some_is}
 use Rattle.typed_path.proofs.lemmas.changes.SpelledTexts.{Behind, nothing, rooted, spelled-shaped, behind-spelled}
 use Rattle.typed_path.proofs.lemmas.changes.SpelledRows.{row-read, row-spelled}
-use Rattle.typed_path.proofs.lemmas.promises.WindowsContained.{verbatim-none, verbatim-some}
+use Rattle.typed_path.proofs.lemmas.promises.WindowsContained.{verbatim-some}
 
 -- what stands behind a verbatim prefix tells how a push spells its text anew
 module _ (t : List ℕ) (f : Found) (is : prefix_of windows t ≡ Some f) (marked : is_verbatim_prefix f.prefix ≡ true) where

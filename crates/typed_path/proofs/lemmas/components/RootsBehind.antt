@@ -1,6 +1,6 @@
 -- What stands right behind a prefix of Windows that is not the whole text: a root, unless the prefix is a drive.
 use Rattle.std.proofs.Common.{◌≡◌, ℕ, [], ◌∷◌, ◌+◌, ◌<◌, ◌≤◌, Bool, true, false, if◌then◌else◌, ◌⊎◌, inl, inr, List, length, drop, Some, refl, sym, ap, ◌∙◌, subst, take, length-take, length-drop, arith}
-use Rattle.std.specs.List.{list_any, slice_split}
+use Rattle.std.specs.List.{list_any}
 use Rattle.std.proofs.lemmas.Bool.{both_ways}
 use Rattle.std.proofs.lemmas.List.{drop-drop}
 use Rattle.std.proofs.lemmas.List.Splits.{slice_split-cons_yes}
@@ -12,7 +12,7 @@ use Rattle.typed_path.specs.components.Prefix.{Found, found, name, names_length,
 use Rattle.typed_path.specs.queries.Queries.{is_disk, is_verbatim_prefix, begins_with_root}
 use Rattle.typed_path.specs.changes.Push.{raw_length}
 use Rattle.typed_path.specs.places.Places.{resolve}
-use Rattle.typed_path.specs.places.Rows.{IsPartedEither, TakesRows, IsHeadOf, HaveNoDrives, HasPlainNames}
+use Rattle.typed_path.specs.places.Rows.{IsPartedEither, TakesRows, IsHeadOf}
 use Rattle.typed_path.specs.promises.Promises.{is_verbatim_unc_name}
 use Rattle.typed_path.proofs.lemmas.components.PartLemmas.{first_parts, body_parts}
 use Rattle.typed_path.proofs.lemmas.components.SizeLemmas.{plain-kind}

@@ -1,5 +1,5 @@
 -- A text that begins with the bytes of another, read as that one and what stands behind it.
-use Rattle.std.proofs.Common.{◌≡◌, ℕ, ◌+◌, ◌<◌, Bool, if◌then◌else◌, false, List, [], ◌∷◌, ◌++◌, true, cond, length, take, drop, refl, sym, ap, ◌∙◌, append-nil, append_assoc, length-take, arith}
+use Rattle.std.proofs.Common.{◌≡◌, ℕ, ◌+◌, ◌<◌, Bool, if◌then◌else◌, false, List, [], ◌∷◌, ◌++◌, true, cond, length, take, drop, refl, sym, ap, ◌∙◌, append_assoc, length-take, arith}
 use Rattle.std.specs.Prelude.{Option, Some, None}
 use Rattle.std.proofs.lemmas.List.{length-append, length-map, map-append, drop-drop}
 use Rattle.std.proofs.lemmas.Slice.Eq.{starts_is, bytes_eq-Decides}

@@ -1,5 +1,5 @@
 -- Steps of a cursor whose prefix is still to be taken.
-use Rattle.std.proofs.Common.{◌≡◌, ℕ, ◌-◌, ◌≤◌, List, ◌∷◌, length, slice_range, Option, Some, None, option_map, refl, sym, ap, ap₂, ◌∙◌, arith}
+use Rattle.std.proofs.Common.{◌≡◌, ℕ, ◌-◌, ◌≤◌, List, ◌∷◌, length, slice_range, Option, Some, None, refl, sym, ap, ap₂, ◌∙◌, arith}
 use Rattle.typed_path.specs.declared.scan.cursor.Cursor.{Cursor}
 use Rattle.typed_path.specs.declared.scan.body.Body.{Body}
 use Rattle.typed_path.specs.declared.scan.prefix.Found.{Found}
@@ -10,7 +10,7 @@ use Rattle.typed_path.specs.scan.Steps.{first_part, last_part, end_from}
 use Rattle.typed_path.specs.views.PieceViews.{prefix_view}
 use Rattle.typed_path.specs.views.BodyViews.{body_items, body_slice}
 use Rattle.typed_path.specs.views.CursorViews.{start_left, prefix_left, slice_left, items_left}
-use Rattle.typed_path.proofs.lemmas.scan.PrefixSteps.{prefix_taken, prefix-text, prefix-length, whole-earlier, but_last-behind, last_of-behind, end_from-behind, slice_after_back-behind, filled-last, empty-last}
+use Rattle.typed_path.proofs.lemmas.scan.PrefixSteps.{prefix_taken, prefix-text, prefix-length, whole-earlier, but_last-behind, end_from-behind, slice_after_back-behind, filled-last, empty-last}
 
 -- the component that is the prefix, before a body that begins at a place
 abbrev pub prefix_before : Found → List ℕ → ℕ → Placed

@@ -1,13 +1,11 @@
 -- A step from either end, as the step of an iterator.
-use Rattle.std.proofs.Common.{◌≡◌, ℕ, ◌<◌, List, [], ◌∷◌, ◌++◌, drop, length, Option, Some, None, refl, ap, sym, subst, ◌∙◌, option_map, arith}
+use Rattle.std.proofs.Common.{◌≡◌, ◌<◌, List, [], ◌∷◌, ◌++◌, drop, length, Option, Some, None, refl, ap, sym, subst, ◌∙◌, option_map, arith}
 use Rattle.std.specs.Iterator.{MakesProgress, YieldsFirstBy, YieldsLastBy, item_count}
-use Rattle.std.proofs.lemmas.Iterator.{YieldsList}
-use Rattle.std.proofs.lemmas.Iterator.Consumers.{YieldsList-from_shown}
 use Rattle.std.proofs.lemmas.Option.{same_Some}
 use Rattle.std.proofs.lemmas.List.{map-append, length-append}
 use Rattle.typed_path.specs.components.Part.{Part, Placed, parts}
 use Rattle.typed_path.specs.scan.Left.{but_last}
-use Rattle.typed_path.specs.scan.Steps.{first_part, last_part, LeavesFront}
+use Rattle.typed_path.specs.scan.Steps.{first_part, last_part}
 use Rattle.typed_path.proofs.lemmas.scan.LeftLemmas.{last_part-push, last_pushed}
 
 -- a component taken from the front is one fewer
