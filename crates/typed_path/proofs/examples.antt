@@ -12,3 +12,4 @@ pub mod Order
 pub mod Conversions
 pub mod Reserved
 pub mod Replies
+pub mod Texts

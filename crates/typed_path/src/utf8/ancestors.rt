@@ -9,7 +9,6 @@ use crate::common::Ancestors;
 use crate::utf8::encoding::Utf8Encoding;
 use crate::utf8::path::Utf8Path;
 use std::alloc::AllocError;
-use std::fmt;
 use std::iter::FusedIterator;
 
 /// A path of text, and then each parent of the one before.

@@ -33,13 +33,19 @@ impl<'a, T: Utf8Encoding> Utf8Path<'a, T> {
     /// # Errors
     ///
     /// Those of [`Path::with_encoding_checked`](crate::Path::with_encoding_checked).
-    pub fn with_encoding_checked<U: Utf8Encoding>(self, alloc: Global) -> Result<Utf8PathBuf<U>, PathError>
+    pub fn with_encoding_checked<U: Utf8Encoding>(
+        self,
+        alloc: Global,
+    ) -> Result<Utf8PathBuf<U>, PathError>
         ensures ok { IfOk result (λ p.
             converted_checked T.Bytes.dialect U.Bytes.dialect (utf8_bytes self.entry) ≡ Ok p.bytes) }
         ensures refused { (e : CheckedPathError) → refusal result ≡ Some e
             → converted_checked T.Bytes.dialect U.Bytes.dialect (utf8_bytes self.entry) ≡ Err e }
     {
-        owned!(self.as_bytes_path().with_encoding_checked::<U::Bytes>(alloc))
+        owned!(
+            self.as_bytes_path()
+                .with_encoding_checked::<U::Bytes>(alloc)
+        )
     }
 
     /// Whether the encoding has the label of Unix.
@@ -81,7 +87,10 @@ impl<'a, T: Utf8Encoding> Utf8Path<'a, T> {
     }
 
     /// The path as on Windows, refused as [`Utf8Path::with_encoding_checked`] does.
-    pub fn with_windows_encoding_checked(self, alloc: Global) -> Result<Utf8WindowsPathBuf, PathError>
+    pub fn with_windows_encoding_checked(
+        self,
+        alloc: Global,
+    ) -> Result<Utf8WindowsPathBuf, PathError>
         ensures ok { IfOk result
             (λ p. converted_checked T.Bytes.dialect windows (utf8_bytes self.entry) ≡ Ok p.bytes) }
         ensures refused { (e : CheckedPathError) → refusal result ≡ Some e
@@ -105,7 +114,10 @@ impl<'a, T: Utf8Encoding> Utf8Path<'a, T> {
     }
 
     /// The path as on the machine, refused as [`Utf8Path::with_encoding_checked`] does.
-    pub fn with_platform_encoding_checked(self, alloc: Global) -> Result<Utf8PlatformPathBuf, PathError>
+    pub fn with_platform_encoding_checked(
+        self,
+        alloc: Global,
+    ) -> Result<Utf8PlatformPathBuf, PathError>
         ensures ok { IfOk result
             (λ p. converted_checked T.Bytes.dialect platform (utf8_bytes self.entry) ≡ Ok p.bytes) }
         ensures refused { (e : CheckedPathError) → refusal result ≡ Some e
@@ -132,6 +144,9 @@ impl<'a, T: Utf8Encoding> Utf8Path<'a, T> {
         ensures ambiguous { result ≡ Err Ambiguous
             → absolute_from T.Bytes.dialect (utf8_bytes directory.entry) (utf8_bytes self.entry) ≡ None }
     {
-        owned!(self.as_bytes_path().absolutize(alloc, directory.as_bytes_path()))
+        let absolute = self
+            .as_bytes_path()
+            .absolutize(alloc, directory.as_bytes_path());
+        owned!(absolute)
     }
 }

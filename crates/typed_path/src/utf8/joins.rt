@@ -41,7 +41,11 @@ impl<'a, T: Utf8Encoding> Utf8Path<'a, T> {
     /// # Errors
     ///
     /// Those of [`Path::join_checked`](crate::Path::join_checked).
-    pub fn join_checked(self, alloc: Global, path: Utf8Path<'_, T>) -> Result<Utf8PathBuf<T>, PathError>
+    pub fn join_checked(
+        self,
+        alloc: Global,
+        path: Utf8Path<'_, T>,
+    ) -> Result<Utf8PathBuf<T>, PathError>
         ensures refused { refusal result ≡ fault T.Bytes.dialect (utf8_bytes path.entry) }
         ensures joined { IfOk result (λ p. p.bytes
             ≡ push_spec.push T.Bytes.dialect (utf8_bytes self.entry) (utf8_bytes path.entry)) }
@@ -49,7 +53,10 @@ impl<'a, T: Utf8Encoding> Utf8Path<'a, T> {
         ensures contained { IfOk result
             (λ p. LiesWithin T.Bytes.dialect (utf8_bytes self.entry) (utf8_bytes path.entry) p.bytes) }
     {
-        owned!(self.as_bytes_path().join_checked(alloc, path.as_bytes_path()))
+        owned!(
+            self.as_bytes_path()
+                .join_checked(alloc, path.as_bytes_path())
+        )
     }
 
     /// A copy with another file name, or with the name pushed where there is none.
@@ -64,11 +71,18 @@ impl<'a, T: Utf8Encoding> Utf8Path<'a, T> {
     /// file name it is a mere copy.
     ///
     /// `/tmp/日本語.txt/` with `z` is `/tmp/日本語.z`.
-    pub fn with_extension(self, alloc: Global, extension: &str) -> Result<Utf8PathBuf<T>, AllocError>
+    pub fn with_extension(
+        self,
+        alloc: Global,
+        extension: &str,
+    ) -> Result<Utf8PathBuf<T>, AllocError>
         ensures { IfOk result
             (λ p. p.bytes ≡ with_extension T.Bytes.dialect (utf8_bytes self.entry) extension.now) }
     {
-        owned!(self.as_bytes_path().with_extension(alloc, extension.as_bytes()))
+        owned!(
+            self.as_bytes_path()
+                .with_extension(alloc, extension.as_bytes())
+        )
     }
 
     /// The path without `.`, and without `..` and the names that these take away, in the form of

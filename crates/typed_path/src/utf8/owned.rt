@@ -8,7 +8,6 @@ use crate::utf8::encoding::Utf8Encoding;
 use crate::utf8::path::Utf8Path;
 use crate::utf8::path_buf::{Utf8PathBuf, owned};
 use std::alloc::{AllocError, Global};
-use std::str;
 
 impl<T: Utf8Encoding> Utf8PathBuf<T> {
     ghost use Rattle.std.specs.Prelude.{is_ok, IfOk, IfErr};
@@ -90,7 +89,10 @@ impl<'p, T: Utf8Encoding> Extend<Utf8Path<'p, T>> for Utf8PathBuf<T> {
     ghost extend_gives = { λ old paths new. new.bytes
         ≡ push_all T.Bytes.dialect old.bytes (map utf8_bytes paths) };
 
-    fn extend<U: IntoIterator<Item = Utf8Path<'p, T>>>(&mut self, paths: U) -> Result<(), AllocError> {
+    fn extend<U: IntoIterator<Item = Utf8Path<'p, T>>>(
+        &mut self,
+        paths: U,
+    ) -> Result<(), AllocError> {
         let mut rest = paths.into_iter();
         let mut known = None;
         'paths: while let Some(path) = rest.next() {

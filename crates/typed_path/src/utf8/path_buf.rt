@@ -5,10 +5,10 @@ ghost use Rattle.std.specs.Prelude.{◌≡◌, true};
 ghost use Rattle.std.specs.Str.{is_utf8};
 
 use crate::common::PathBuf;
+use crate::errors::PathError;
 use crate::utf8::encoding::Utf8Encoding;
 use crate::utf8::path::Utf8Path;
 use crate::utf8::text::string_of;
-use crate::errors::PathError;
 use std::alloc::{AllocError, Global};
 use std::marker::Model;
 

@@ -1,12 +1,12 @@
 //! Paths of text, written as on the machine.
 
+ghost use Rattle.std.specs.Prelude.{true};
+
 use crate::platform::PlatformEncoding;
 use crate::utf8::encoding::Utf8Encoding;
 use crate::utf8::path::Utf8Path;
 use crate::utf8::path_buf::Utf8PathBuf;
 use std::fmt;
-
-ghost use Rattle.std.specs.Prelude.{true};
 
 /// Texts of paths as on the machine.
 #[derive(Clone, Copy, Debug, Default, PartialEq, Eq, PartialOrd, Ord, Hash)]

@@ -52,7 +52,9 @@ impl<'a> Utf8WindowsPrefix<'a> {
             WindowsPrefix::VerbatimUNC(server, share) => {
                 Utf8WindowsPrefix::VerbatimUNC(str::from_utf8(server)?, str::from_utf8(share)?)
             }
-            WindowsPrefix::VerbatimDisk(letter) => Utf8WindowsPrefix::VerbatimDisk(char::from(letter)),
+            WindowsPrefix::VerbatimDisk(letter) => Utf8WindowsPrefix::VerbatimDisk(char::from(
+                letter,
+            )),
             WindowsPrefix::DeviceNS(name) => Utf8WindowsPrefix::DeviceNS(str::from_utf8(name)?),
             WindowsPrefix::UNC(server, share) => {
                 Utf8WindowsPrefix::UNC(str::from_utf8(server)?, str::from_utf8(share)?)
@@ -71,7 +73,9 @@ impl<'a> Utf8WindowsPrefix<'a> {
             WindowsPrefix::VerbatimUNC(server, share) => {
                 Utf8WindowsPrefix::VerbatimUNC(text_of(server), text_of(share))
             }
-            WindowsPrefix::VerbatimDisk(letter) => Utf8WindowsPrefix::VerbatimDisk(char::from(letter)),
+            WindowsPrefix::VerbatimDisk(letter) => Utf8WindowsPrefix::VerbatimDisk(char::from(
+                letter,
+            )),
             WindowsPrefix::DeviceNS(name) => Utf8WindowsPrefix::DeviceNS(text_of(name)),
             WindowsPrefix::UNC(server, share) => {
                 Utf8WindowsPrefix::UNC(text_of(server), text_of(share))

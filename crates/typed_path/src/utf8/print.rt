@@ -63,7 +63,9 @@ impl<'a, T: Utf8Encoding, I: FromPiece<'a, T>> fmt::Debug for Listed<'a, T, I> {
 impl<'a, T: Utf8Encoding, I: FromPiece<'a, T>> fmt::Debug for Utf8Reading<'a, T, I> {
     fn fmt<W: fmt::Write>(&self, f: &mut fmt::Formatter<W>) -> fmt::Result {
         let reading = *self;
-        f.debug_tuple(I::ITERATOR).field(&Listed { reading }).finish()
+        f.debug_tuple(I::ITERATOR)
+            .field(&Listed { reading })
+            .finish()
     }
 }
 

@@ -17,9 +17,8 @@ use crate::utf8::path::Utf8Path;
 use crate::utf8::path_buf::Utf8PathBuf;
 use crate::utf8::reading::{FromPiece, Utf8Reading};
 use crate::utf8::text::text_of;
-use std::fmt;
-use std::str;
 use std::str::Utf8Error;
+use std::{fmt, str};
 
 /// Texts of Unix paths.
 #[derive(Clone, Copy, Debug, Default, PartialEq, Eq, PartialOrd, Ord, Hash)]

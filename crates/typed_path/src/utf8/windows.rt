@@ -18,9 +18,8 @@ use crate::utf8::prefix::{Utf8WindowsPrefix, Utf8WindowsPrefixComponent};
 use crate::utf8::reading::{FromPiece, Utf8Reading};
 use crate::utf8::text::text_of;
 use crate::windows::{WindowsComponent, WindowsEncoding};
-use std::fmt;
-use std::str;
 use std::str::Utf8Error;
+use std::{fmt, str};
 
 /// Texts of Windows paths.
 #[derive(Clone, Copy, Debug, Default, PartialEq, Eq, PartialOrd, Ord, Hash)]
@@ -86,7 +85,9 @@ impl<'a> Utf8WindowsComponent<'a> {
     ///
     /// The name, or the raw text of a prefix, that is no text.
     #[tactic(auto, using(crate::proofs::lemmas::texts::TextLaws::component_laws))]
-    pub fn from_utf8(component: &WindowsComponent<'a>) -> Result<Utf8WindowsComponent<'a>, Utf8Error>
+    pub fn from_utf8(
+        component: &WindowsComponent<'a>,
+    ) -> Result<Utf8WindowsComponent<'a>, Utf8Error>
         ensures ok { IfOk result (λ c. text_windows_part c ≡ windows_part component.now) }
         ensures flag { is_ok result ≡ is_text_part (windows_part component.now) }
     {
@@ -98,7 +99,9 @@ impl<'a> Utf8WindowsComponent<'a> {
             WindowsComponent::RootDir => Ok(Utf8WindowsComponent::RootDir),
             WindowsComponent::CurDir => Ok(Utf8WindowsComponent::CurDir),
             WindowsComponent::ParentDir => Ok(Utf8WindowsComponent::ParentDir),
-            WindowsComponent::Normal(name) => Ok(Utf8WindowsComponent::Normal(str::from_utf8(name)?)),
+            WindowsComponent::Normal(name) => Ok(Utf8WindowsComponent::Normal(str::from_utf8(
+                name,
+            )?)),
         }
     }
 
@@ -110,7 +113,9 @@ impl<'a> Utf8WindowsComponent<'a> {
     {
         match component {
             WindowsComponent::Prefix(prefix) => {
-                Utf8WindowsComponent::Prefix(Utf8WindowsPrefixComponent::from_utf8_unchecked(prefix))
+                Utf8WindowsComponent::Prefix(Utf8WindowsPrefixComponent::from_utf8_unchecked(
+                    prefix,
+                ))
             }
             WindowsComponent::RootDir => Utf8WindowsComponent::RootDir,
             WindowsComponent::CurDir => Utf8WindowsComponent::CurDir,
