@@ -23,6 +23,8 @@ mod slow;
 #[cfg(test)]
 mod streams;
 #[cfg(test)]
+mod texts;
+#[cfg(test)]
 mod verbatim;
 #[cfg(test)]
 mod windows;
