@@ -3,10 +3,12 @@
 
 mod extractor;
 mod manifest;
+mod texts;
 mod tidy;
 mod walk;
 
 pub use extractor::{target, targets};
 pub use manifest::{entry_on_windows, rewritten};
+pub use texts::{text_key, text_target};
 pub use tidy::{are_one, key};
 pub use walk::listing;

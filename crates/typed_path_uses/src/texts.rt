@@ -1,0 +1,32 @@
+//! The entries of an archive whose names are texts.
+
+ghost use Rattle.std.specs.Prelude.{◌≡◌, true, IfOk};
+ghost use Rattle.std.specs.String.{string_bytes};
+ghost use Rattle.typed_path.specs.places.Places.{normal_text, place};
+ghost use Rattle.typed_path.specs.promises.Promises.{keeps_prefix};
+ghost use Rattle.typed_path.specs.views.TextViews.{utf8_bytes};
+ghost use Rattle.typed_path_uses.specs.Uses.{place_within};
+
+use std::alloc::{AllocError, Global};
+use typed_path::{PathError, Utf8Encoding, Utf8Path, Utf8PathBuf};
+
+/// Where an entry whose name is a text is unpacked: what [`target`](crate::target) promises of bytes.
+pub fn text_target<T: Utf8Encoding>(
+    alloc: Global,
+    base: Utf8Path<'_, T>,
+    name: &str,
+) -> Result<Utf8PathBuf<T>, PathError>
+    ensures { keeps_prefix T.Bytes.dialect (utf8_bytes base.entry) ≡ true → IfOk result
+        (λ p. place T.Bytes.dialect p.bytes
+        ≡ place_within T.Bytes.dialect (utf8_bytes base.entry) name.now) }
+{
+    base.join_checked(alloc, Utf8Path::new(name))
+}
+
+/// The key of an entry, to be shown: the normal text of its name.
+pub fn text_key<T: Utf8Encoding>(alloc: Global, name: Utf8Path<'_, T>) -> Result<String, AllocError>
+    ensures { IfOk result
+        (λ key. string_bytes key ≡ normal_text T.Bytes.dialect (utf8_bytes name.entry)) }
+{
+    Ok(name.normalize(alloc)?.into_string())
+}
