@@ -42,6 +42,7 @@ const PREFIXES: [(&str, &[u8]); 5] = [
 type One = unsafe extern "C" fn(*const u8, usize) -> usize;
 type Two = unsafe extern "C" fn(*const u8, usize, *const u8, usize) -> usize;
 type Room = unsafe extern "C" fn(*const u8, usize, *const usize, usize, *const u8, usize) -> usize;
+type Numbered = unsafe extern "C" fn(*const u8, usize, *const usize, usize, *const u8, usize, usize) -> usize;
 
 macro_rules! exports {
     ($parameters:tt: $($name:ident)*) => {
@@ -71,6 +72,9 @@ exports!((path: *const u8, len: usize, other: *const u8, other_len: usize):
 exports!((texts: *const u8, len: usize, ends: *const usize, count: usize, other: *const u8, other_len: usize):
     bench_room_lay bench_room_push bench_room_pop bench_room_file_name bench_room_extension
     bench_room_clone);
+
+exports!((texts: *const u8, len: usize, ends: *const usize, count: usize, other: *const u8, other_len: usize, call: usize):
+    bench_texts_of_text bench_texts_of_bytes);
 
 // The calls of std. A walk adds up the lengths of the texts, an answer is its length.
 
@@ -701,6 +705,35 @@ fn long_prefix_rows(corpus: &Corpus) -> Vec<Row<'_>> {
 }
 
 /// Calls on Windows paths behind a prefix, beside those of Unix on the same texts with slashes.
+/// The calls of paths of text that are timed beside those of their bytes, by their numbers in the
+/// exports.
+const TEXT_CALLS: [&str; 8] = [
+    "`for` over `components()`",
+    "`for` over `iter().rev()`",
+    "`parent`",
+    "`join_checked` of a name",
+    "`normalize`",
+    "`with_windows_encoding`",
+    "`with_windows_encoding_checked`",
+    "a copy, and `push` of a name",
+];
+
+/// Paths of text beside the paths of their bytes.
+fn text_rows(corpus: &Corpus) -> Vec<Row<'_>> {
+    let (paths, kind) = (&corpus.paths, Kind { corpus, reads: Reads::Whole });
+    let all = |of: Numbered, call| -> Option<Peer<'_>> {
+        let count = kind.calls();
+        Some(Box::new(move || unsafe {
+            of(paths.text.as_ptr(), paths.text.len(), paths.ends.as_ptr(), count, NAME.as_ptr(), NAME.len(), call)
+        }))
+    };
+    TEXT_CALLS
+        .into_iter()
+        .enumerate()
+        .map(|(call, label)| kind.row(label, all(bench_texts_of_text, call), all(bench_texts_of_bytes, call)))
+        .collect()
+}
+
 fn windows_rows(corpus: &Corpus, at: usize) -> Vec<Row<'_>> {
     let [(paths, base), (other, other_base)] = &corpus.windows[at];
     let one = |label, reads, windows: One, unix: One| {
@@ -847,11 +880,12 @@ fn main() {
         .map(|at| corpora.iter().map(|corpus| asked(windows_rows(corpus, at), &word)).collect())
         .collect();
     windows.push(corpora.iter().map(|corpus| asked(long_prefix_rows(corpus), &word)).collect());
-    for (corpus, rows) in corpora.iter().chain(&pieces).zip(&tables).chain(corpora.iter().zip(&windows[0])) {
+    let mut texts: Vec<_> = corpora.iter().map(|corpus| asked(text_rows(corpus), &word)).collect();
+    for (corpus, rows) in corpora.iter().chain(&pieces).zip(&tables).chain(corpora.iter().zip(&windows[0])).chain(corpora.iter().zip(&texts)) {
         rows.iter().for_each(|row| row.check(corpus.label));
     }
     for _ in 0..sweeps {
-        for row in tables.iter_mut().chain(windows.iter_mut().flatten()).flatten() {
+        for row in tables.iter_mut().chain(windows.iter_mut().flatten()).chain(&mut texts).flatten() {
             for _ in 0..ROUNDS {
                 row.time();
             }
@@ -892,6 +926,12 @@ fn main() {
         let bytes = [of(&kilo[at], &pieces[0]), of(&some[at], &pieces[1]), of(&mega[at], &corpora[3])];
         let ratio = format!("{:.2}", bytes[2] / bytes[0]);
         line([kilo[at].label.to_string()].into_iter().chain(bytes.map(shown)).chain([ratio]));
+    }
+    println!("\nNanoseconds a call, a path of text / the path of its bytes (ratio):\n");
+    head("Call", &corpora);
+    for at in 0..texts[0].len() {
+        let cells = texts.iter().map(|rows| cell(&rows[at], 1.0));
+        line(std::iter::once(texts[0][at].label.to_string()).chain(cells));
     }
     println!("\nNanoseconds a call, a Windows path / the same text with slashes on Unix (ratio):\n");
     head("Call", &corpora);

@@ -7,5 +7,6 @@ mod conversions;
 mod keys;
 mod made;
 mod room;
+mod texts;
 mod walks;
 mod windows;
