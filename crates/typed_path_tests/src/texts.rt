@@ -72,31 +72,36 @@ fn read_texts(rt: HostRuntime) -> Result<(), Fail> {
 }
 
 #[test]
-fn single_components(rt: HostRuntime) -> Result<(), Fail> {
-    assert!(rt;
-        Utf8WindowsPrefix::from_utf8(&WindowsPrefix::Disk(0xE9))
-            == Ok(Utf8WindowsPrefix::Disk('\u{E9}'))
-    );
+fn prefixes_of_texts(rt: HostRuntime) -> Result<(), Fail> {
+    let accented = Utf8WindowsPrefix::from_utf8(&WindowsPrefix::Disk(0xE9));
+    assert!(rt; accented == Ok(Utf8WindowsPrefix::Disk('\u{E9}')));
     let Ok(raw) = WindowsPrefixComponent::try_from(b"\xE9:") else {
         return Err(Fail::new("it is there"));
     };
     assert!(rt; Utf8WindowsPrefixComponent::from_utf8(&raw).is_err());
+    Ok(())
+}
+
+#[test]
+fn components_of_texts(rt: HostRuntime) {
     assert!(rt; Utf8WindowsPrefix::try_from("c:") == Ok(Utf8WindowsPrefix::Disk('C')));
     assert!(rt; Utf8WindowsPrefix::try_from("c:/").is_err());
     assert!(rt; Utf8UnixComponent::try_from("é//.") == Ok(Utf8UnixComponent::Normal("é")));
     assert!(rt; Utf8UnixComponent::try_from("") == Err("no component found"));
     assert!(rt; Utf8UnixComponent::try_from("/a") == Err("found more than one component"));
     assert!(rt; Utf8WindowsComponent::try_from("..") == Ok(Utf8WindowsComponent::ParentDir));
-    let mut windows = Utf8WindowsComponents::new(Utf8WindowsPath::new(r"\\?\C:\é"));
-    assert!(rt; windows.has_verbatim_disk_prefix());
-    assert!(rt; windows.prefix_kind() == Some(Utf8WindowsPrefix::VerbatimDisk('C')));
-    assert!(rt; windows.next_back() == Some(Utf8WindowsComponent::Normal("é")));
-    assert!(rt;
-        Utf8UnixComponents::new(Utf8UnixPath::new("/a")).next() == Some(Utf8UnixComponent::RootDir)
-    );
-    let native: Utf8NativeComponent<'_> = Utf8UnixComponent::CurDir;
-    assert_eq!(rt; native.as_str(), ".");
-    Ok(())
+}
+
+#[test]
+fn readings_of_texts(rt: HostRuntime) {
+    let path = Utf8WindowsPath::new(r"\\?\C:\é");
+    assert!(rt; Utf8WindowsComponents::new(path).has_verbatim_disk_prefix());
+    let kind = Utf8WindowsComponents::new(path).prefix_kind();
+    assert!(rt; kind == Some(Utf8WindowsPrefix::VerbatimDisk('C')));
+    let last = Utf8WindowsComponents::new(path).next_back();
+    assert!(rt; last == Some(Utf8WindowsComponent::Normal("é")));
+    let first = Utf8UnixComponents::new(Utf8UnixPath::new("/a")).next();
+    assert!(rt; first == Some(Utf8UnixComponent::RootDir));
 }
 
 #[test]
@@ -274,6 +279,8 @@ fn names_of_the_machine(rt: HostRuntime) -> Result<(), Fail> {
     assert!(rt; Utf8PlatformPath::new("/a").has_platform_encoding());
     assert!(rt; !Utf8NativePath::new("/a").has_platform_encoding());
     assert_eq!(rt; Utf8NativeEncoding::label(), "unix");
+    let current: Utf8NativeComponent<'_> = Utf8UnixComponent::CurDir;
+    assert_eq!(rt; current.as_str(), ".");
     let native: Utf8NativePathBuf = Utf8UnixPathBuf::new(rt.alloc());
     let platform: Utf8PlatformPathBuf = Utf8PathBuf::from_str(rt.alloc(), "/a")?;
     let windows: Utf8WindowsPathBuf = Utf8PathBuf::from_str(rt.alloc(), r"C:\a")?;
