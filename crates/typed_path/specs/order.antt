@@ -1,4 +1,5 @@
 -- Equality, order and hashing.
 pub mod Same
 pub mod Words
+pub mod TextWords
 pub mod Laws

@@ -21,6 +21,7 @@ ghost use Rattle.typed_path.specs.views.PathViews.{path_bytes, iter_slice};
 ghost use Rattle.typed_path.specs.promises.Promises.{ReadsAsResolved, StaysNormal, IsCanonical, HashAlike};
 
 mod conversions;
+mod texts;
 mod windows;
 
 use crate::common::{Ancestors, Components, ConcreteComponents, Encoding, Iter, Path};
@@ -31,6 +32,12 @@ use crate::constants::unix::{
 use crate::unix::UnixComponent;
 pub use conversions::{platform_is_unix, unix_paths_cross_to_windows, windows_paths_cross_to_unix};
 use std::hash::Hash;
+pub use texts::{
+    text_iterators_are_cloned, text_paths_compare_by_components, text_piece_kinds_compare_by_kind,
+    text_pieces_compare_by_kind_and_text, text_prefix_components_compare_by_kind,
+    text_prefixes_compare_by_kind, text_readings_compare_by_what_is_left,
+    text_unix_components_compare_by_kind, text_windows_components_compare_by_kind,
+};
 pub use windows::{
     normal_stays_stable, windows_components_compare_by_kind, windows_constants_are_these,
     windows_prefix_components_compare_by_kind, windows_prefixes_compare_by_kind,
