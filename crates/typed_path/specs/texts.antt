@@ -1,2 +1,3 @@
 -- What is a text in UTF-8.
 pub mod Texts
+pub mod TextErrors

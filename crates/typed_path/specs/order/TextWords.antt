@@ -1,5 +1,5 @@
 -- What single components of texts feed to a hasher: a name as a text, and the letter of a drive as a character.
-use Rattle.std.specs.Prelude.{List, ℕ, ◌++◌, [], pos}
+use Rattle.std.specs.Prelude.{◌++◌, [], pos}
 use Rattle.std.specs.Hash.{HashWrites, isize, str, char}
 use Rattle.typed_path.specs.components.Part.{Prefix, verbatim, verbatim_unc, verbatim_disk, device_ns, unc, disk, Kind, prefix, root, current, parent, normal, Part}
 

@@ -1,6 +1,7 @@
 -- Single components of texts, as pure data, and which readings of a text are right.
-use Rattle.std.specs.Prelude.{◌≡◌, ◌⊎◌, ◌<◌, ℕ, List, [], ◌∷◌, codes, length, Result, MatchResult, IfOk, is_ok}
+use Rattle.std.specs.Prelude.{◌≡◌, ◌⊎◌, ◌<◌, ℕ, List, [], ◌∷◌, codes, length, Result, MatchResult, IfOk, IfErr, is_ok}
 use Rattle.std.specs.Borrow.{Bor}
+use Rattle.std.specs.declared.str.Utf8Error.{Utf8Error}
 use Rattle.typed_path.specs.declared.utf8.prefix.Utf8WindowsPrefix.{Utf8WindowsPrefix}
 use Rattle.typed_path.specs.declared.utf8.prefix.Utf8WindowsPrefixComponent.{Utf8WindowsPrefixComponent}
 use Rattle.typed_path.specs.declared.unix.component.UnixComponent.{UnixComponent}
@@ -14,6 +15,7 @@ use Rattle.typed_path.specs.components.Part.{Part, prefix_part, root_part, curre
 use Rattle.typed_path.specs.components.Comps.{parts_of}
 use Rattle.typed_path.specs.views.TextPieceViews.{text_prefix}
 use Rattle.typed_path.specs.texts.Texts.{is_text_part}
+use Rattle.typed_path.specs.texts.TextErrors.{IsTextError, part_no_text}
 use Rattle.typed_path.specs.views.UnixViews.{unix_part}
 use Rattle.typed_path.specs.views.WindowsViews.{IsPrefixRefusal}
 
@@ -57,6 +59,9 @@ IsTextWindowsReading text reading = MatchResult reading
     (λ why. (parts_of dialect.windows text ≡ []) × (why.now ≡ codes "no component found")
     ⊎ (1 < length (parts_of dialect.windows text)) × (why.now ≡ codes "found more than one component"))
 
--- the same component of text, where its name is one
-abbrev pub IsTextOfUnix : {E : Type 0} → UnixComponent → Result Utf8UnixComponent E → Type 0
-IsTextOfUnix component made = IfOk made (λ c. text_unix_part c ≡ unix_part component) × (is_ok made ≡ is_text_part (unix_part component))
+-- the same component of text, where its name is one, or else why it is none
+abbrev pub IsTextOfUnix : UnixComponent → Result Utf8UnixComponent Utf8Error → Type 0
+IsTextOfUnix component made =
+    IfOk made (λ c. text_unix_part c ≡ unix_part component)
+    × (is_ok made ≡ is_text_part (unix_part component))
+    × IfErr made (IsTextError (part_no_text (unix_part component)))

@@ -47,8 +47,9 @@ impl<'a, T: Utf8Encoding> Clone for Utf8Path<'a, T> {
 impl<'a, T: Utf8Encoding> Copy for Utf8Path<'a, T> {}
 
 impl<'a, T: Utf8Encoding> Utf8Path<'a, T> {
-    ghost use Rattle.std.specs.Prelude.{not, option_map, is_ok, IfOk};
+    ghost use Rattle.std.specs.Prelude.{not, option_map, is_ok, IfOk, IfErr};
     ghost use Rattle.typed_path.specs.texts.Texts.{is_text_option};
+    ghost use Rattle.typed_path.specs.texts.TextErrors.{IsTextError};
     ghost use Rattle.typed_path.specs.components.Part.{kinds};
     ghost use Rattle.typed_path.specs.components.Comps.{comps, parts_of};
     ghost use Rattle.typed_path.specs.queries.Queries.{is_absolute, has_root, is_valid};
@@ -144,6 +145,7 @@ impl<'a, T: Utf8Encoding> Utf8Path<'a, T> {
     pub fn from_bytes_path(path: Path<'a, T::Bytes>) -> Result<Utf8Path<'a, T>, Utf8Error>
         ensures ok { IfOk result (λ p. utf8_bytes p ≡ path_bytes path.entry) }
         ensures flag { is_ok result ≡ is_utf8 (path_bytes path.entry) }
+        ensures err { IfErr result (IsTextError (path_bytes path.entry)) }
     {
         Ok(Utf8Path::new(str::from_utf8(path.as_bytes())?))
     }

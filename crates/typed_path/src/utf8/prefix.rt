@@ -32,9 +32,10 @@ pub enum Utf8WindowsPrefix<'a> {
 }
 
 impl<'a> Utf8WindowsPrefix<'a> {
-    ghost use Rattle.std.specs.Prelude.{min, is_ok, IfOk};
+    ghost use Rattle.std.specs.Prelude.{min, is_ok, IfOk, IfErr};
     ghost use Rattle.typed_path.specs.queries.Queries.{is_verbatim_prefix, prefix_length};
     ghost use Rattle.typed_path.specs.texts.Texts.{is_text_prefix};
+    ghost use Rattle.typed_path.specs.texts.TextErrors.{IsTextError, prefix_no_text};
     ghost use Rattle.typed_path.specs.views.PieceViews.{prefix_view};
     ghost use Rattle.typed_path.specs.views.TextPieceViews.{text_prefix};
 
@@ -46,6 +47,7 @@ impl<'a> Utf8WindowsPrefix<'a> {
     pub fn from_utf8(prefix: &WindowsPrefix<'a>) -> Result<Utf8WindowsPrefix<'a>, Utf8Error>
         ensures ok { IfOk result (λ p. text_prefix p ≡ prefix_view prefix.now) }
         ensures flag { is_ok result ≡ is_text_prefix (prefix_view prefix.now) }
+        ensures err { IfErr result (IsTextError (prefix_no_text (prefix_view prefix.now))) }
     {
         Ok(match *prefix {
             WindowsPrefix::Verbatim(name) => Utf8WindowsPrefix::Verbatim(str::from_utf8(name)?),
@@ -132,9 +134,10 @@ pub struct Utf8WindowsPrefixComponent<'a> {
 }
 
 impl<'a> Utf8WindowsPrefixComponent<'a> {
-    ghost use Rattle.std.specs.Prelude.{length, is_ok, IfOk, option_map};
+    ghost use Rattle.std.specs.Prelude.{length, is_ok, IfOk, IfErr, option_map};
     ghost use Rattle.typed_path.specs.components.Part.{prefix};
     ghost use Rattle.typed_path.specs.texts.Texts.{is_text_part, is_text_part_option};
+    ghost use Rattle.typed_path.specs.texts.TextErrors.{IsTextError, part_no_text};
     ghost use Rattle.typed_path.specs.views.TextPieceViews.{text_prefix};
     ghost use Rattle.typed_path.specs.views.TextComponentViews.{text_prefix_part};
     ghost use Rattle.typed_path.specs.views.WindowsViews.{prefix_component_part};
@@ -149,6 +152,7 @@ impl<'a> Utf8WindowsPrefixComponent<'a> {
     ) -> Result<Utf8WindowsPrefixComponent<'a>, Utf8Error>
         ensures ok { IfOk result (λ c. text_prefix_part c ≡ prefix_component_part component.now) }
         ensures flag { is_ok result ≡ is_text_part (prefix_component_part component.now) }
+        ensures err { IfErr result (IsTextError (part_no_text (prefix_component_part component.now))) }
     {
         let raw = str::from_utf8(component.as_bytes())?;
         let kind = Utf8WindowsPrefix::from_utf8(&component.kind())?;

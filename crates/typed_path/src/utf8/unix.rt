@@ -68,8 +68,9 @@ pub enum Utf8UnixComponent<'a> {
 pub type Utf8UnixComponents<'a> = Utf8Reading<'a, Utf8UnixEncoding, Utf8UnixComponent<'a>>;
 
 impl<'a> Utf8UnixComponent<'a> {
-    ghost use Rattle.std.specs.Prelude.{is_ok, IfOk};
+    ghost use Rattle.std.specs.Prelude.{is_ok, IfOk, IfErr};
     ghost use Rattle.typed_path.specs.texts.Texts.{is_text_part};
+    ghost use Rattle.typed_path.specs.texts.TextErrors.{IsTextError, part_no_text};
     ghost use Rattle.typed_path.specs.views.TextViews.{utf8_bytes};
     ghost use Rattle.typed_path.specs.views.UnixViews.{unix_part};
 
@@ -82,6 +83,7 @@ impl<'a> Utf8UnixComponent<'a> {
     pub fn from_utf8(component: &UnixComponent<'a>) -> Result<Utf8UnixComponent<'a>, Utf8Error>
         ensures ok { IfOk result (λ c. text_unix_part c ≡ unix_part component.now) }
         ensures flag { is_ok result ≡ is_text_part (unix_part component.now) }
+        ensures err { IfErr result (IsTextError (part_no_text (unix_part component.now))) }
     {
         match *component {
             UnixComponent::RootDir => Ok(Utf8UnixComponent::RootDir),

@@ -71,11 +71,12 @@ pub enum Utf8WindowsComponent<'a> {
 pub type Utf8WindowsComponents<'a> = Utf8Reading<'a, Utf8WindowsEncoding, Utf8WindowsComponent<'a>>;
 
 impl<'a> Utf8WindowsComponent<'a> {
-    ghost use Rattle.std.specs.Prelude.{is_ok, IfOk, option_map};
+    ghost use Rattle.std.specs.Prelude.{is_ok, IfOk, IfErr, option_map};
     ghost use Rattle.typed_path.specs.queries.Queries.{is_prefix, prefix_in, prefix_part_in};
     ghost use Rattle.typed_path.specs.views.TextPieceViews.{text_prefix};
     ghost use Rattle.typed_path.specs.views.TextComponentViews.{text_prefix_part};
     ghost use Rattle.typed_path.specs.texts.Texts.{is_text_part};
+    ghost use Rattle.typed_path.specs.texts.TextErrors.{IsTextError, part_no_text};
     ghost use Rattle.typed_path.specs.views.TextViews.{utf8_bytes};
     ghost use Rattle.typed_path.specs.views.WindowsViews.{windows_part};
 
@@ -90,6 +91,7 @@ impl<'a> Utf8WindowsComponent<'a> {
     ) -> Result<Utf8WindowsComponent<'a>, Utf8Error>
         ensures ok { IfOk result (λ c. text_windows_part c ≡ windows_part component.now) }
         ensures flag { is_ok result ≡ is_text_part (windows_part component.now) }
+        ensures err { IfErr result (IsTextError (part_no_text (windows_part component.now))) }
     {
         match component {
             WindowsComponent::Prefix(prefix) => {
