@@ -6,6 +6,8 @@ pub mod order
 pub mod changes
 pub mod places
 pub mod conversions
+pub mod typed
+pub mod values
 pub mod script
 pub mod promises
 pub mod views

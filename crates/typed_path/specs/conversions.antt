@@ -1,2 +1,2 @@
--- The other dialect, absolute texts, the derived dialect.
+-- The other dialect, absolute texts.
 pub mod Convert

@@ -14,3 +14,5 @@ pub mod ReadingViews
 pub mod TextPieceViews
 pub mod TextComponentViews
 pub mod TextAncestorViews
+pub mod TypedViews
+pub mod TypedTextViews

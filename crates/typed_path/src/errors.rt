@@ -135,3 +135,37 @@ impl<T: Drop> From<AllocFailed<T>> for LineError {
         LineError::OutOfMemory
     }
 }
+
+/// Why a path was not made a JSON value, or not made of one.
+#[derive(Clone, Copy, Debug, PartialEq, Eq, Hash, Error)]
+pub enum ValueError {
+    /// The bytes of the path are no text.
+    #[error("path is not UTF-8")]
+    NotUtf8,
+    /// The value is no JSON text.
+    #[error("value is not a text")]
+    NotText,
+    /// Memory was refused.
+    #[error("out of memory")]
+    OutOfMemory,
+}
+
+impl From<AllocError> for ValueError {
+    ghost use Rattle.typed_path.specs.declared.errors.ValueError.TheVariants.{OutOfMemory};
+
+    ghost from_gives = { λ _ e. e ≡ OutOfMemory };
+
+    fn from(_refused: AllocError) -> ValueError {
+        ValueError::OutOfMemory
+    }
+}
+
+impl<T: Drop> From<AllocFailed<T>> for ValueError {
+    ghost use Rattle.typed_path.specs.declared.errors.ValueError.TheVariants.{OutOfMemory};
+
+    ghost from_gives = { λ _ e. e ≡ OutOfMemory };
+
+    fn from(_refused: AllocFailed<T>) -> ValueError {
+        ValueError::OutOfMemory
+    }
+}

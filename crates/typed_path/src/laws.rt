@@ -22,6 +22,7 @@ ghost use Rattle.typed_path.specs.promises.Promises.{ReadsAsResolved, StaysNorma
 
 mod conversions;
 mod texts;
+mod typed;
 mod windows;
 
 use crate::common::{Ancestors, Components, ConcreteComponents, Encoding, Iter, Path};
@@ -37,6 +38,10 @@ pub use texts::{
     text_pieces_compare_by_kind_and_text, text_prefix_components_compare_by_kind,
     text_prefixes_compare_by_kind, text_readings_compare_by_what_is_left,
     text_unix_components_compare_by_kind, text_windows_components_compare_by_kind,
+};
+pub use typed::{
+    path_types_compare_by_place, typed_iterators_are_cloned, typed_readings_compare_by_kind,
+    typed_values_compare_by_kind,
 };
 pub use windows::{
     normal_stays_stable, windows_components_compare_by_kind, windows_constants_are_these,

@@ -38,8 +38,10 @@ mod native;
 mod platform;
 mod scan;
 mod script;
+mod typed;
 mod unix;
 mod utf8;
+mod value;
 mod windows;
 
 pub use common::{
@@ -47,6 +49,7 @@ pub use common::{
 };
 pub use errors::{
     AbsolutizeError, CheckedPathError, LineError, ParseError, PathError, StripPrefixError,
+    ValueError,
 };
 pub use native::{NativeComponent, NativeEncoding, NativePath, NativePathBuf};
 pub use platform::{PlatformEncoding, PlatformPath, PlatformPathBuf};
@@ -56,6 +59,11 @@ pub use script::{
     read_ends, run_ops,
 };
 pub use std::borrow::CowStr;
+pub use typed::{
+    PathType, TryAsRef, Typed, TypedAncestors, TypedComponent, TypedComponents, TypedDisplay,
+    TypedIter, TypedPath, TypedPathBuf, TypedReading, Utf8TypedAncestors, Utf8TypedComponent,
+    Utf8TypedComponents, Utf8TypedIter, Utf8TypedPath, Utf8TypedPathBuf,
+};
 pub use unix::{UnixComponent, UnixComponents, UnixEncoding, UnixPath, UnixPathBuf};
 pub use utf8::{
     Utf8Ancestors, Utf8Component, Utf8Components, Utf8Encoding, Utf8Iter, Utf8NativeComponent,

@@ -39,7 +39,7 @@ impl Hasher for Recorder {
 }
 
 /// What a recorder makes of a key.
-fn recorded<K: Hash>(key: &K) -> u64 {
+pub fn recorded<K: Hash>(key: &K) -> u64 {
     let mut state = Recorder::new();
     key.hash(&mut state);
     state.finish()

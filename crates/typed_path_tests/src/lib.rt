@@ -6,7 +6,11 @@ mod ample;
 #[cfg(test)]
 mod conversions;
 #[cfg(test)]
+mod endless;
+#[cfg(test)]
 mod ends;
+#[cfg(test)]
+mod hostile;
 #[cfg(test)]
 mod keys;
 mod lanes;
@@ -25,7 +29,13 @@ mod streams;
 #[cfg(test)]
 mod texts;
 #[cfg(test)]
+mod typed;
+#[cfg(test)]
+mod values;
+#[cfg(test)]
 mod verbatim;
+#[cfg(test)]
+mod watched;
 #[cfg(test)]
 mod windows;
 #[cfg(test)]

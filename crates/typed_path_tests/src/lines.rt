@@ -40,7 +40,7 @@ fn answered(
 
 #[test]
 fn replies(rt: HostRuntime) -> Result<(), Fail> {
-    let rows: [(&[u8], &[u8]); 35] = [
+    let rows: [(&[u8], &[u8]); 44] = [
         (
             b"normalize\tunix\tfoo/bar//baz/./asdf/quux/..",
             b"ok\tfoo/bar/baz/asdf\n",
@@ -110,6 +110,15 @@ fn replies(rt: HostRuntime) -> Result<(), Fail> {
             b"join\tunix\t/etc\ta\njoin\twindows\tC:\\x\tb\nconvert_checked\tunix\tunix\tc//d\n",
             b"ok\t/etc/a\nok\tC:\\x\\b\nok\tc/d\n",
         ),
+        (b"derive\ta:b\n", b"ok\twindows\n"),
+        (b"derive\t\n", b"ok\tunix\n"),
+        (b"derive\t\\\n", b"ok\twindows\n"),
+        (b"derive\t//a/b\n", b"ok\twindows\n"),
+        (b"derive\t///a\n", b"ok\tunix\n"),
+        (b"derive\t\xe9:x\n", b"ok\twindows\n"),
+        (b"derive\t\xd7:x\n", b"ok\tunix\n"),
+        (b"derive\ta\tb\n", b"err\tBadLine\n"),
+        (b"derive\n", b"err\tBadLine\n"),
         (b"convert\tunix\tmac\ta\n", b"err\tBadLine\n"),
         (b"convert\tunix\ta\n", b"err\tBadLine\n"),
         (b"normalize\tmac\ta\n", b"err\tBadLine\n"),
@@ -132,11 +141,16 @@ fn replies(rt: HostRuntime) -> Result<(), Fail> {
     Ok(())
 }
 
-const THREE: &[u8] = b"normalize\tunix\ta//b\nnormalize\tunix\t.\nx";
+const THREE: &[u8] = b"normalize\tunix\ta//b\nderive\ta:b\nx";
 
 #[test]
 fn failing_reader(rt: HostRuntime) -> Result<(), Fail> {
-    let rows: [(usize, &[u8]); 3] = [(19, b""), (20, b"ok\ta/b\n"), (37, b"ok\ta/b\nok\t\n")];
+    let rows: [(usize, &[u8]); 4] = [
+        (19, b""),
+        (20, b"ok\ta/b\n"),
+        (30, b"ok\ta/b\n"),
+        (31, b"ok\ta/b\nok\twindows\n"),
+    ];
     for (until, wanted) in rows {
         for piece in [ALL, 1] {
             let (written, outcome) = answered(rt.alloc(), THREE, piece, until);
@@ -247,7 +261,7 @@ fn streams_of_std(rt: HostRuntime) -> Result<(), Fail> {
     }
     assert_eq!(rt;
         written.as_slice(),
-        b"ok\ta/b\nok\t\nerr\tBadLine\n".as_slice()
+        b"ok\ta/b\nok\twindows\nerr\tBadLine\n".as_slice()
     );
     Ok(())
 }

@@ -7,17 +7,17 @@ use typed_path::{
 };
 
 /// The bytes that the short texts are made of.
-const BYTES: [u8; 7] = [b'/', b'\\', b'.', b'?', b':', b'a', b'C'];
+pub const BYTES: [u8; 7] = [b'/', b'\\', b'.', b'?', b':', b'a', b'C'];
 
 /// The separators of Windows texts that are not read verbatim.
 const BOTH: &[u8] = br"\/";
 
 /// A component, and where it begins and ends in the text.
 #[derive(Clone, Copy)]
-struct Part<'a> {
-    piece: Piece<'a>,
-    begin: usize,
-    end: usize,
+pub struct Part<'a> {
+    pub piece: Piece<'a>,
+    pub begin: usize,
+    pub end: usize,
 }
 
 /// What separates a text: `/` on Unix, and on Windows both, or `\` alone behind `\\?\`.
@@ -132,7 +132,7 @@ fn kind_of(segment: &[u8], first: bool, dots: bool) -> Option<PieceKind<'static>
 }
 
 /// The components of a text.
-fn parts_of(alloc: Global, windows: bool, text: &[u8]) -> Result<Vec<Part<'_>>, AllocError> {
+pub fn parts_of(alloc: Global, windows: bool, text: &[u8]) -> Result<Vec<Part<'_>>, AllocError> {
     let mut parts = Vec::new(alloc);
     let mut rest = text;
     if windows {
@@ -273,7 +273,7 @@ fn are_read_alike<T: Encoding>(
 }
 
 /// The lengths of the short texts, and how many texts there are of each.
-const SHORT: [(usize, usize); 6] = [(0, 1), (1, 7), (2, 49), (3, 343), (4, 2_401), (5, 16_807)];
+pub const SHORT: [(usize, usize); 6] = [(0, 1), (1, 7), (2, 49), (3, 343), (4, 2_401), (5, 16_807)];
 
 #[test]
 fn every_short_text(rt: HostRuntime) -> Result<(), Fail> {

@@ -2,7 +2,8 @@
 use Rattle.std.specs.Prelude.{◌≡◌, codes, [], ◌∷◌, refl, Some, None, Ok, Err}
 use Rattle.typed_path.specs.declared.errors.CheckedPathError.TheVariants.{InvalidFilename, UnexpectedPrefix, UnexpectedRoot}
 use Rattle.typed_path.specs.components.Dialect.{unix, windows}
-use Rattle.typed_path.specs.conversions.Convert.{converted, converted_checked, absolute_from, derived_dialect}
+use Rattle.typed_path.specs.conversions.Convert.{converted, converted_checked, absolute_from}
+use Rattle.typed_path.specs.typed.Kind.{derived_dialect}
 use Rattle.typed_path.specs.components.Comps.{parts_of}
 use Rattle.typed_path.proofs.examples.Words.{named}
 

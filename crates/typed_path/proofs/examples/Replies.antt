@@ -72,7 +72,35 @@ windows_checked_join = refl
 windows_checked_join_of_a_prefix : reply (codes "join_checked\twindows\tC:\\base\tD:a") ≡ codes "err\tUnexpectedPrefix\n"
 windows_checked_join_of_a_prefix = refl
 
+-- the dialect that a path looks like
+derived_of_a_drive : reply (codes "derive\ta:b") ≡ codes "ok\twindows\n"
+derived_of_a_drive = refl
+
+derived_of_the_empty_path : reply (codes "derive\t") ≡ codes "ok\tunix\n"
+derived_of_the_empty_path = refl
+
+derived_of_a_backslash : reply (codes "derive\t\\") ≡ codes "ok\twindows\n"
+derived_of_a_backslash = refl
+
+derived_of_a_share : reply (codes "derive\t//a/b") ≡ codes "ok\twindows\n"
+derived_of_a_share = refl
+
+derived_of_three_slashes : reply (codes "derive\t///a") ≡ codes "ok\tunix\n"
+derived_of_three_slashes = refl
+
+derived_of_a_letter_past_ascii : reply (codes "derive\t" ++ 233 ∷ codes ":x") ≡ codes "ok\twindows\n"
+derived_of_a_letter_past_ascii = refl
+
+derived_of_no_letter : reply (codes "derive\t" ++ 215 ∷ codes ":x") ≡ codes "ok\tunix\n"
+derived_of_no_letter = refl
+
 -- bad lines
+derive_without_a_path : reply (codes "derive") ≡ codes "err\tBadLine\n"
+derive_without_a_path = refl
+
+derive_of_two_paths : reply (codes "derive\ta\tb") ≡ codes "err\tBadLine\n"
+derive_of_two_paths = refl
+
 join_without_a_path : reply (codes "join\tunix\ta") ≡ codes "err\tBadLine\n"
 join_without_a_path = refl
 

@@ -1,4 +1,4 @@
--- A path in another dialect, made absolute, and told apart.
+-- A path in another dialect, and made absolute.
 use Rattle.std.specs.Prelude.{ℕ, List, [], ◌∷◌, Bool, true, false, ◌||◌, ◌==◌, ◌≤◌, map, length, slice_index, is_some, if◌then◌else◌, Option, Some, None, Ok, Err}
 use Rattle.std.specs.declared.result.Result.{Result}
 use Rattle.typed_path.specs.declared.errors.CheckedPathError.{CheckedPathError}
@@ -69,7 +69,3 @@ absolute_from d directory t =
     let joined = push d (converted platform d directory) t in
     if is_absolute d (kinds (parts_of d t)) then Some (normal_text d t)
     else (if is_absolute d (kinds (parts_of d joined)) then Some (normal_text d joined) else None)
-
--- which dialect a text looks like
-abbrev pub derived_dialect : List ℕ → Dialect
-derived_dialect t = if (slice_index t 0 == backslash || is_some (prefix_of windows t)) then windows else unix

@@ -8,6 +8,7 @@ use Rattle.typed_path.specs.places.Places.{normal_text}
 use Rattle.typed_path.specs.changes.Push.{push}
 use Rattle.typed_path.specs.changes.Fault.{fault}
 use Rattle.typed_path.specs.conversions.Convert.{converted, converted_checked}
+use Rattle.typed_path.specs.typed.Kind.{derived_dialect}
 use Rattle.typed_path.specs.declared.errors.CheckedPathError.{CheckedPathError}
 use Rattle.typed_path.specs.declared.errors.CheckedPathError.TheVariants.{InvalidFilename, PathTraversalAttack, UnexpectedPrefix, UnexpectedRoot}
 
@@ -121,6 +122,11 @@ converted_reply (Err refusal) = codes "err" ∷ refusal_name refusal ∷ []
 abbrev pub dialect_named : List ℕ → Option Dialect
 dialect_named field = if bytes_eq field (codes "unix") then Some unix else (if bytes_eq field (codes "windows") then Some windows else None)
 
+-- what a field calls a dialect
+abbrev pub dialect_name : Dialect → List ℕ
+dialect_name unix = codes "unix"
+dialect_name windows = codes "windows"
+
 -- what a dialect gives, or a bad line where none is named
 abbrev pub in_named : (Dialect → List (List ℕ)) → Option Dialect → List (List ℕ)
 in_named fields None = bad_line
@@ -139,11 +145,20 @@ pair_reply_in d command first path =
     else (if bytes_eq command (codes "join_checked") then joined_reply (push d first path) (fault d path)
     else in_named (convert_reply_in d command path) (dialect_named first))
 
+-- the fields of the reply that names the dialect that a path looks like
+abbrev pub derived_reply : List ℕ → List (List ℕ)
+derived_reply path = ok_reply (dialect_name (derived_dialect path) ∷ [])
+
+-- the fields of the reply to the fields of a line that names no dialect
+abbrev pub bare_reply : List (List ℕ) → List (List ℕ)
+bare_reply (command ∷ path ∷ []) = if bytes_eq command (codes "derive") then derived_reply path else bad_line
+bare_reply fields = bad_line
+
 -- the fields of the reply to the fields of a line
 abbrev pub reply_fields : List (List ℕ) → List (List ℕ)
 reply_fields (command ∷ dialect ∷ first ∷ path ∷ []) = in_named (λ d. pair_reply_in d command first path) (dialect_named dialect)
 reply_fields (command ∷ dialect ∷ path ∷ []) = in_named (λ d. reply_in d command path) (dialect_named dialect)
-reply_fields fields = bad_line
+reply_fields fields = bare_reply fields
 
 -- the reply to a line
 abbrev pub reply : List ℕ → List ℕ

@@ -8,7 +8,7 @@ use crate::errors::PathError;
 use std::alloc::{AllocError, Global};
 
 impl<'a, T: Encoding> Path<'a, T> {
-    ghost use Rattle.std.specs.Prelude.{◌≡◌, IfOk};
+    ghost use Rattle.std.specs.Prelude.{◌≡◌, [], IfOk, IsOk};
     ghost use Rattle.typed_path.specs.changes.Checked.{refusal};
     ghost use Rattle.typed_path.specs.views.PathViews.{path_bytes};
     ghost use Rattle.typed_path.specs.promises.Promises.{HasPrefixOf, LiesWithin};
@@ -18,7 +18,8 @@ impl<'a, T: Encoding> Path<'a, T> {
 
     /// A copy that owns its bytes.
     pub fn to_path_buf(self, alloc: Global) -> Result<PathBuf<T>, AllocError>
-        ensures { IfOk result (λ p. p.bytes ≡ path_bytes self.entry) }
+        ensures bytes { IfOk result (λ p. p.bytes ≡ path_bytes self.entry) }
+        ensures succeeds { path_bytes self.entry ≡ [] → IsOk result }
     {
         PathBuf::from_bytes(alloc, self.as_bytes())
     }

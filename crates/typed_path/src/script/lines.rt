@@ -6,18 +6,19 @@ ghost use Rattle.typed_path.specs.changes.Push.{push};
 ghost use Rattle.typed_path.specs.views.PieceViews.{part_of, prefix_view};
 ghost use Rattle.typed_path.specs.views.PathViews.{path_bytes};
 ghost use Rattle.typed_path.specs.conversions.Convert.{converted, converted_checked};
-ghost use Rattle.typed_path.specs.script.Lines.{tab, equals_sign, fields_of, reply, reply_fields, reply_line, text_reply, components_reply, reply_in, pair_reply_in, convert_reply_in, joined_reply, converted_reply, in_named, dialect_named, refusal_name, bad_line, component_field, kind_name, prefix_name};
+ghost use Rattle.typed_path.specs.script.Lines.{tab, equals_sign, fields_of, reply, reply_fields, reply_line, text_reply, components_reply, reply_in, pair_reply_in, convert_reply_in, joined_reply, converted_reply, in_named, dialect_named, derived_reply, bare_reply, refusal_name, bad_line, component_field, kind_name, prefix_name};
 ghost use Rattle.typed_path.specs.script.Commands.{command_name, texts_reply};
 
 use crate::common::{Encoding, Path};
 use crate::conversions::{convert_checked, put_converted};
 use crate::errors::{CheckedPathError, PathError};
 use crate::scan::{Piece, PieceKind, WindowsPrefix, cut_at, text_behind};
+use crate::typed::PathType;
 use crate::unix::UnixEncoding;
 use crate::windows::WindowsEncoding;
 use std::alloc::AllocError;
 
-/// What a line asks for.
+/// What a line that names an encoding asks for.
 #[derive(Clone, Copy)]
 pub enum Command {
     Normalize,
@@ -32,7 +33,8 @@ pub enum Command {
 fn command_of(line: &[u8]) -> Option<(Command, &[u8])>
     ensures some { IfSome result
         (λ found. fields_of line.now ≡ command_name found.0 ∷ fields_of found.1.now) }
-    ensures none { IfNone result (reply_fields (fields_of line.now) ≡ bad_line) }
+    ensures none { IfNone result
+        (reply_fields (fields_of line.now) ≡ bare_reply (fields_of line.now)) }
 {
     if let Some(rest) = text_behind(b"normalize\t", line) {
         return Some((Command::Normalize, rest));
@@ -66,7 +68,7 @@ pub fn put_reply(
     ensures { OnOk result (replies.new.items ≡ replies.old.items ++ reply line.now) }
 {
     let Some((command, rest)) = command_of(line) else {
-        return put_bad_line(replies);
+        return put_bare_reply(line, replies);
     };
     if let Some(texts) = text_behind(b"unix\t", rest) {
         return put_command::<UnixEncoding>(command, texts, scratch, replies);
@@ -75,6 +77,31 @@ pub fn put_reply(
         return put_command::<WindowsEncoding>(command, texts, scratch, replies);
     }
     put_bad_line(replies)
+}
+
+/// Puts the reply to a line that names no encoding behind others.
+fn put_bare_reply(line: &[u8], replies: &mut Vec<u8>) -> Result<(), AllocError>
+    ensures { OnOk result
+        (replies.new.items ≡ replies.old.items ++ reply_line (bare_reply (fields_of line.now))) }
+{
+    let Some(path) = text_behind(b"derive\t", line) else {
+        return put_bad_line(replies);
+    };
+    match cut_at(b'\t', path) {
+        None => put_derived(path, replies),
+        Some(_) => put_bad_line(replies),
+    }
+}
+
+/// Puts the reply that names the encoding that a path looks like behind others.
+fn put_derived(path: &[u8], replies: &mut Vec<u8>) -> Result<(), AllocError>
+    ensures { OnOk result
+        (replies.new.items ≡ replies.old.items ++ reply_line (derived_reply path.now)) }
+{
+    match PathType::derive(path) {
+        PathType::Unix => replies.extend_from_slice(b"ok\tunix\n"),
+        PathType::Windows => replies.extend_from_slice(b"ok\twindows\n"),
+    }
 }
 
 /// Puts the reply to a command on texts with a tab between behind others.

@@ -8,7 +8,7 @@ use crate::utf8::path_buf::{Utf8PathBuf, owned};
 use std::alloc::{AllocError, Global};
 
 impl<'a, T: Utf8Encoding> Utf8Path<'a, T> {
-    ghost use Rattle.std.specs.Prelude.{◌≡◌, IfOk};
+    ghost use Rattle.std.specs.Prelude.{◌≡◌, [], IfOk, IsOk};
     ghost use Rattle.typed_path.specs.changes.Checked.{refusal};
     ghost use Rattle.typed_path.specs.promises.Promises.{HasPrefixOf, LiesWithin, HasNormalForm};
     ghost use Rattle.typed_path.specs.places.Places.{normal_text};
@@ -19,7 +19,8 @@ impl<'a, T: Utf8Encoding> Utf8Path<'a, T> {
 
     /// A copy that owns its text.
     pub fn to_path_buf(self, alloc: Global) -> Result<Utf8PathBuf<T>, AllocError>
-        ensures { IfOk result (λ p. p.bytes ≡ utf8_bytes self.entry) }
+        ensures bytes { IfOk result (λ p. p.bytes ≡ utf8_bytes self.entry) }
+        ensures succeeds { utf8_bytes self.entry ≡ [] → IsOk result }
     {
         owned!(self.as_bytes_path().to_path_buf(alloc))
     }

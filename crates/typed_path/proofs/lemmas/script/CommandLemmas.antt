@@ -6,9 +6,11 @@ use Rattle.std.proofs.lemmas.List.Splits.{join_with_byte-slice_split}
 use Rattle.std.proofs.lemmas.Slice.Eq.{bytes_eq-Decides}
 use Rattle.std.proofs.lemmas.Bool.{false_from_ne_true}
 use Rattle.typed_path.specs.components.Dialect.{Dialect, unix, windows}
-use Rattle.typed_path.specs.script.Lines.{tab, fields_of, reply_in, convert_reply_in, pair_reply_in, reply_fields, reply_line, bad_line, dialect_named, in_named}
-use Rattle.typed_path.specs.script.Commands.{texts_reply}
-use Rattle.typed_path.proofs.lemmas.lists.SplitLemmas.{slice_split-some}
+use Rattle.typed_path.specs.script.Lines.{tab, fields_of, reply_in, convert_reply_in, pair_reply_in, reply_fields, reply_line, derived_reply, bare_reply, bad_line, dialect_named, in_named}
+use Rattle.typed_path.specs.script.Commands.{command_name, texts_reply}
+use Rattle.typed_path.specs.declared.script.lines.Command.{Command}
+use Rattle.typed_path.specs.declared.script.lines.Command.TheVariants.{Normalize, Components, Join, JoinChecked, Convert, ConvertChecked}
+use Rattle.typed_path.proofs.lemmas.lists.SplitLemmas.{slice_split-some, slice_split-append}
 
 -- a reply is the same where its fields are
 pub put_same : {A E : Type 0} (r : Result A E) (new old : List ℕ) (us vs : List (List ℕ)) → us ≡ vs → OnOk r (new ≡ old ++ reply_line us) → OnOk r (new ≡ old ++ reply_line vs)
@@ -35,13 +37,13 @@ bad_in_named : (fields : Dialect → List (List ℕ)) (d : Option Dialect) → (
 bad_in_named fields None bad = refl
 bad_in_named fields (Some d) bad = bad d
 
--- a line that begins with no command and its tab is a bad line
+-- a line that begins with no command on a dialect and its tab is answered as one that names none
 pub no_command : (line : List ℕ) → LacksField (codes "normalize") line → LacksField (codes "components") line → LacksField (codes "join") line → LacksField (codes "join_checked") line
     → LacksField (codes "convert") line → LacksField (codes "convert_checked") line
-    → reply_fields (fields_of line) ≡ bad_line
+    → reply_fields (fields_of line) ≡ bare_reply (fields_of line)
 no_command line normalize components join checked convert converts_checked = by (fields_of line) refl
   where
-    by : (fields : List (List ℕ)) → fields_of line ≡ fields → reply_fields fields ≡ bad_line
+    by : (fields : List (List ℕ)) → fields_of line ≡ fields → reply_fields fields ≡ bare_reply fields
     by [] e = refl
     by (f ∷ []) e = refl
     by (f ∷ d ∷ []) e = refl
@@ -59,18 +61,31 @@ no_command line normalize components join checked convert converts_checked = by 
 no_dialect : (first second : Bool) → first ≡ false → second ≡ false → cond first (Some unix) (cond second (Some windows) None) ≡ None
 no_dialect first second e f = cc
 
+-- a command on a dialect is none that names no dialect
+names_a_dialect : (c : Command) → bytes_eq (command_name c) (codes "derive") ≡ false
+names_a_dialect Normalize = refl
+names_a_dialect Components = refl
+names_a_dialect Join = refl
+names_a_dialect JoinChecked = refl
+names_a_dialect Convert = refl
+names_a_dialect ConvertChecked = refl
+
+-- so it is no command where one text alone stands behind it
+pub one_text : (c : Command) (text : List ℕ) → reply_fields (command_name c ∷ text ∷ []) ≡ bad_line
+one_text c text = ap (λ is. cond is (derived_reply text) bad_line) (names_a_dialect c)
+
 -- the fields behind a command, where they begin with no known encoding and its tab
-pub no_encoding : (command rest : List ℕ) → LacksField (codes "unix") rest → LacksField (codes "windows") rest → reply_fields (command ∷ fields_of rest) ≡ bad_line
-no_encoding command rest no_unix no_windows = by (fields_of rest) refl
+pub no_encoding : (c : Command) (rest : List ℕ) → LacksField (codes "unix") rest → LacksField (codes "windows") rest → reply_fields (command_name c ∷ fields_of rest) ≡ bad_line
+no_encoding c rest no_unix no_windows = by (fields_of rest) refl
   where
     named : (d second : List ℕ) (fields : List (List ℕ)) → fields_of rest ≡ d ∷ second ∷ fields → dialect_named d ≡ None
     named d second fields e = no_dialect _ _ (first_is_other rest (codes "unix") d second fields no_unix e) (first_is_other rest (codes "windows") d second fields no_windows e)
 
-    by : (fields : List (List ℕ)) → fields_of rest ≡ fields → reply_fields (command ∷ fields) ≡ bad_line
+    by : (fields : List (List ℕ)) → fields_of rest ≡ fields → reply_fields (command_name c ∷ fields) ≡ bad_line
     by [] e = refl
-    by (d ∷ []) e = refl
-    by (d ∷ p ∷ []) e = ap (in_named (λ dialect. reply_in dialect command p)) (named d p [] e)
-    by (d ∷ b ∷ p ∷ []) e = ap (in_named (λ dialect. pair_reply_in dialect command b p)) (named d b (p ∷ []) e)
+    by (d ∷ []) e = one_text c d
+    by (d ∷ p ∷ []) e = ap (in_named (λ dialect. reply_in dialect (command_name c) p)) (named d p [] e)
+    by (d ∷ b ∷ p ∷ []) e = ap (in_named (λ dialect. pair_reply_in dialect (command_name c) b p)) (named d b (p ∷ []) e)
     by (d ∷ b ∷ p ∷ q ∷ fields) e = refl
 
 -- more than two texts are too many for every command
@@ -78,3 +93,20 @@ pub too_many : (d : Dialect) (command base first : List ℕ) (behind : List ℕ)
 too_many d command base first behind =
     let some = slice_split-some (λ b. b == tab) behind in
     ap (λ fields. texts_reply d command (base ∷ first ∷ fields)) some.2
+
+-- a line that does not begin with the one command that names no dialect, and its tab
+pub no_bare_command : (line : List ℕ) → LacksField (codes "derive") line → bare_reply (fields_of line) ≡ bad_line
+no_bare_command line lacks = by (fields_of line) refl
+  where
+    by : (fields : List (List ℕ)) → fields_of line ≡ fields → bare_reply fields ≡ bad_line
+    by [] e = refl
+    by (f ∷ []) e = refl
+    by (f ∷ p ∷ []) e = ap (λ is. cond is (derived_reply p) bad_line) (first_is_other line (codes "derive") f p [] lacks e)
+    by (f ∷ p ∷ q ∷ fields) e = refl
+
+-- more than one text is too many for it
+pub bare_too_many : (line path first behind : List ℕ) → line ≡ codes "derive\t" ++ path → fields_of path ≡ first ∷ fields_of behind → bare_reply (fields_of line) ≡ bad_line
+bare_too_many line path first behind begins split =
+    let some = slice_split-some (λ b. b == tab) behind in
+    let fields : fields_of line ≡ codes "derive" ∷ fields_of path = ap fields_of begins ∙ slice_split-append (λ b. b == tab) (codes "derive") tab path refl in
+    ap bare_reply (fields ∙ ap (λ texts. codes "derive" ∷ texts) (split ∙ ap (λ texts. first ∷ texts) some.2))

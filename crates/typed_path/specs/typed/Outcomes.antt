@@ -1,0 +1,81 @@
+-- What the calls that change an owned path do to it, and what they answer.
+use Rattle.std.specs.Prelude.{◌≡◌, ◌≤◌, ◌+◌, ℕ, List, [], length, max, min, is_some, Bool, Option, None, IsSome, Result, IfOk, OnOk, OnErr, IsOk}
+use Rattle.typed_path.specs.declared.errors.PathError.{PathError}
+use Rattle.typed_path.specs.components.Dialect.{Dialect}
+use Rattle.typed_path.specs.queries.Queries.{parent_of, file_name_of}
+use Rattle.typed_path.specs.changes.Push.{push, FitsPush}
+use Rattle.typed_path.specs.changes.Fault.{fault}
+use Rattle.typed_path.specs.changes.Changes.{popped, without_file_name, with_file_name, with_extension}
+use Rattle.typed_path.specs.changes.Checked.{refusal}
+use Rattle.typed_path.specs.promises.Promises.{HasPrefixOf, LiesWithin}
+use Rattle.typed_path.specs.views.OwnedViews.{Owned}
+
+-- the text stands there, or the call was refused and the path is as it was; it has no less room
+abbrev pub IsChanged : {A E : Type 0} → Result A E → Owned → List ℕ → Owned → Type 0
+IsChanged done old text new =
+    OnOk done (new.bytes ≡ text)
+    × OnErr done (new.bytes ≡ old.bytes)
+    × (old.capacity ≤ new.capacity)
+
+abbrev pub Pushes : {A E : Type 0} → Dialect → Owned → List ℕ → Result A E → Owned → Type 0
+Pushes d old path done new =
+    IsChanged done old (push d old.bytes path) new
+    × (FitsPush d old.capacity old.bytes path → IsOk done)
+
+-- and what is pushed lies within the path, where that keeps its prefix
+abbrev pub PushesChecked : {A : Type 0} → Dialect → Owned → List ℕ → Result A PathError → Owned → Type 0
+PushesChecked d old path done new =
+    (refusal done ≡ fault d path)
+    × IsChanged done old (push d old.bytes path) new
+    × (IsSome (refusal done) → new ≡ old)
+    × (fault d path ≡ None → FitsPush d old.capacity old.bytes path → IsOk done)
+    × OnOk done (HasPrefixOf d old.bytes new.bytes)
+    × OnOk done (LiesWithin d old.bytes path new.bytes)
+
+abbrev pub Pops : Dialect → Owned → Bool → Owned → Type 0
+Pops d old answer new =
+    (new.bytes ≡ popped d old.bytes)
+    × (answer ≡ is_some (parent_of d old.bytes))
+    × (new.capacity ≡ old.capacity)
+
+abbrev pub SetsFileName : {A E : Type 0} → Dialect → Owned → List ℕ → Result A E → Owned → Type 0
+SetsFileName d old name done new =
+    IsChanged done old (with_file_name d old.bytes name) new
+    × (FitsPush d old.capacity (without_file_name d old.bytes) name → IsOk done)
+
+abbrev pub SetsExtension : {E : Type 0} → Dialect → Owned → List ℕ → Result Bool E → Owned → Type 0
+SetsExtension d old extension done new =
+    IsChanged done old (with_extension d old.bytes extension) new
+    × IfOk done (λ renamed. renamed ≡ is_some (file_name_of d old.bytes))
+    × (file_name_of d old.bytes ≡ None → new ≡ old)
+    × (length (with_extension d old.bytes extension) ≤ old.capacity → IsOk done)
+
+-- the empty path, with the room that there was
+abbrev pub Clears : Owned → Owned → Type 0
+Clears old new = (new.bytes ≡ []) × (new.capacity ≡ old.capacity)
+
+-- room for so many bytes more, or as much as there was
+abbrev pub Reserves : {A E : Type 0} → Owned → ℕ → Result A E → Owned → Type 0
+Reserves old additional done new =
+    (new.bytes ≡ old.bytes)
+    × OnOk done (length new.bytes + additional ≤ new.capacity)
+    × (old.capacity ≤ new.capacity)
+    × OnErr done (new.capacity ≡ old.capacity)
+    × (length old.bytes + additional ≤ old.capacity → IsOk done)
+
+-- the same, and no more than is asked for
+abbrev pub ReservesExactly : {A E : Type 0} → Owned → ℕ → Result A E → Owned → Type 0
+ReservesExactly old additional done new =
+    (new.bytes ≡ old.bytes)
+    × OnOk done (new.capacity ≡ max old.capacity (length old.bytes + additional))
+    × OnErr done (new.capacity ≡ old.capacity)
+    × (length old.bytes + additional ≤ old.capacity → IsOk done)
+
+-- no more room than there was, and at least so much as was asked for of it
+abbrev pub ShrinksTo : {A E : Type 0} → Owned → ℕ → Result A E → Owned → Type 0
+ShrinksTo old least done new =
+    IsOk done
+    × (new.bytes ≡ old.bytes)
+    × (new.capacity ≤ old.capacity)
+    × (min least old.capacity ≤ new.capacity)
+    × (old.bytes ≡ [] → least ≡ 0 → new.capacity ≡ 0)

@@ -1,0 +1,251 @@
+//! A lent path whose dialect is chosen when the program runs.
+
+ghost use Rattle.std.specs.Prelude.{◌≡◌};
+ghost use Rattle.typed_path.specs.typed.Kind.{kind_dialect, derived_dialect, typed_dialect};
+ghost use Rattle.typed_path.specs.views.TypedViews.{typed_bytes};
+
+use crate::common::{Ancestors, Display, Iter, Path};
+use crate::errors::StripPrefixError;
+use crate::typed::kind::PathType;
+use crate::typed::reading::TypedComponents;
+use crate::typed::variant::{Typed, each, made_as, typed, typed_option, typed_result};
+use crate::unix::{UnixEncoding, UnixPath};
+use crate::windows::{WindowsEncoding, WindowsPath};
+use std::alloc::{AllocError, Global};
+use std::borrow::CowStr;
+
+/// A path of Unix or of Windows: a slice of bytes, with the dialect by which it is read.
+pub type TypedPath<'a> = Typed<UnixPath<'a>, WindowsPath<'a>>;
+
+/// The texts of the components that are left to be read.
+pub type TypedIter<'a> = Typed<Iter<'a, UnixEncoding>, Iter<'a, WindowsEncoding>>;
+
+/// A path, and then each parent of the one before.
+pub type TypedAncestors<'a> = Typed<Ancestors<'a, UnixEncoding>, Ancestors<'a, WindowsEncoding>>;
+
+/// A path that is to be printed: its text, with U+FFFD where the bytes are none.
+pub type TypedDisplay<'a> = Typed<Display<'a, UnixEncoding>, Display<'a, WindowsEncoding>>;
+
+impl<'a> TypedPath<'a> {
+    ghost use Rattle.std.specs.Prelude.{not, IfOk, IfSome, IsOk, option_map, option_copied};
+    ghost use Rattle.std.specs.Str.{IsUtf8};
+    ghost use Rattle.std.specs.Str.Lossy.{utf8_lossy};
+    ghost use Rattle.std.specs.Cow.{cow_str_bytes, IsBorrowedStr};
+    ghost use Rattle.typed_path.specs.components.Dialect.{unix, windows};
+    ghost use Rattle.typed_path.specs.components.Part.{kinds};
+    ghost use Rattle.typed_path.specs.components.Comps.{comps, parts_of};
+    ghost use Rattle.typed_path.specs.queries.Queries.{is_absolute, has_root, parent_of, file_name_of, file_stem_of, extension, stripped, path_starts_with, path_ends_with};
+    ghost use Rattle.typed_path.specs.queries.Ancestry.{ancestors_of};
+    ghost use Rattle.typed_path.specs.queries.Strip.{stripped_to};
+    ghost use Rattle.typed_path.specs.queries.Texts.{text_of_bytes};
+    ghost use Rattle.typed_path.specs.views.TypedViews.{typed_items, typed_slice, typed_iter_items, typed_iter_slice, typed_ancestors_left, typed_displayed, reading_dialect};
+
+    /// The path of these bytes, of a kind.
+    #[inline(always)]
+    pub fn new(bytes: &'a [u8], kind: PathType) -> TypedPath<'a>
+        ensures dialect { typed_dialect result ≡ kind_dialect kind }
+        ensures bytes { typed_bytes result ≡ bytes.now }
+    {
+        made_as!(kind, Path::new(bytes))
+    }
+
+    /// The path of these bytes, as on Unix.
+    #[inline(always)]
+    pub fn unix(bytes: &'a [u8]) -> TypedPath<'a>
+        ensures dialect { typed_dialect result ≡ unix }
+        ensures bytes { typed_bytes result ≡ bytes.now }
+    {
+        Typed::Unix(Path::new(bytes))
+    }
+
+    /// The path of these bytes, as on Windows.
+    #[inline(always)]
+    pub fn windows(bytes: &'a [u8]) -> TypedPath<'a>
+        ensures dialect { typed_dialect result ≡ windows }
+        ensures bytes { typed_bytes result ≡ bytes.now }
+    {
+        Typed::Windows(Path::new(bytes))
+    }
+
+    /// The path of these bytes, of the kind that [`PathType::derive`] says they look like.
+    #[inline]
+    pub fn derive(bytes: &'a [u8]) -> TypedPath<'a>
+        ensures dialect { typed_dialect result ≡ derived_dialect bytes.now }
+        ensures bytes { typed_bytes result ≡ bytes.now }
+    {
+        TypedPath::new(bytes, PathType::derive(bytes))
+    }
+
+    /// The bytes of the path.
+    #[inline(always)]
+    pub fn as_bytes(self) -> &'a [u8]
+        ensures { result.now ≡ typed_bytes self.entry }
+    {
+        each!(self, path => path.as_bytes())
+    }
+
+    /// The path as a text, where its bytes are UTF-8.
+    pub fn to_str(self) -> Option<&'a str>
+        ensures { option_copied result ≡ text_of_bytes (typed_bytes self.entry) }
+    {
+        each!(self, path => path.to_str())
+    }
+
+    /// The path as a text, with U+FFFD where its bytes are none. Where they are UTF-8, the text is
+    /// lent and no memory is asked for.
+    pub fn to_string_lossy(self, alloc: Global) -> Result<CowStr<'a>, AllocError>
+        ensures text { IfOk result
+            (λ text. cow_str_bytes text ≡ utf8_lossy (typed_bytes self.entry)) }
+        ensures lent { IsUtf8 (typed_bytes self.entry) → IfOk result IsBorrowedStr }
+        ensures succeeds { IsUtf8 (typed_bytes self.entry) → IsOk result }
+    {
+        each!(self, path => path.to_string_lossy(alloc))
+    }
+
+    /// The path, to be printed.
+    pub fn display(self) -> TypedDisplay<'a>
+        ensures { typed_displayed result ≡ typed_bytes self.entry }
+    {
+        typed!(self, path => path.display())
+    }
+
+    /// Whether the path leads to one place, whatever the current directory is.
+    pub fn is_absolute(self) -> bool
+        ensures { result ≡ is_absolute (typed_dialect self.entry)
+            (kinds (parts_of (typed_dialect self.entry) (typed_bytes self.entry))) }
+    {
+        each!(self, path => path.is_absolute())
+    }
+
+    /// Whether the path is not absolute.
+    pub fn is_relative(self) -> bool
+        ensures { result ≡ not (is_absolute (typed_dialect self.entry)
+            (kinds (parts_of (typed_dialect self.entry) (typed_bytes self.entry)))) }
+    {
+        each!(self, path => path.is_relative())
+    }
+
+    /// Whether the path begins with a root, written or implied by a prefix.
+    pub fn has_root(self) -> bool
+        ensures { result ≡ has_root (typed_dialect self.entry)
+            (kinds (parts_of (typed_dialect self.entry) (typed_bytes self.entry))) }
+    {
+        each!(self, path => path.has_root())
+    }
+
+    /// The path without its last component, or none where there is no component or nothing is above
+    /// the last one.
+    pub fn parent(self) -> Option<TypedPath<'a>>
+        ensures dialect { IfSome result (λ p. typed_dialect p ≡ typed_dialect self.entry) }
+        ensures bytes { option_map typed_bytes result
+            ≡ parent_of (typed_dialect self.entry) (typed_bytes self.entry) }
+    {
+        typed_option!(self, path => path.parent())
+    }
+
+    /// The path, and then each parent of the one before.
+    #[inline(always)]
+    pub fn ancestors(self) -> TypedAncestors<'a>
+        ensures dialect { typed_dialect result ≡ typed_dialect self.entry }
+        ensures left { typed_ancestors_left result
+            ≡ ancestors_of (typed_dialect self.entry) (typed_bytes self.entry) }
+    {
+        typed!(self, path => path.ancestors())
+    }
+
+    /// The last component, where it is a name.
+    pub fn file_name(self) -> Option<&'a [u8]>
+        ensures { option_copied result
+            ≡ file_name_of (typed_dialect self.entry) (typed_bytes self.entry) }
+    {
+        each!(self, path => path.file_name())
+    }
+
+    /// The file name up to its last dot, or the whole of it where no dot but a first one is there.
+    pub fn file_stem(self) -> Option<&'a [u8]>
+        ensures { option_copied result
+            ≡ file_stem_of (typed_dialect self.entry) (typed_bytes self.entry) }
+    {
+        each!(self, path => path.file_stem())
+    }
+
+    /// What stands in the file name behind its last dot, where that is not its first byte.
+    pub fn extension(self) -> Option<&'a [u8]>
+        ensures { option_copied result
+            ≡ extension (typed_dialect self.entry) (typed_bytes self.entry) }
+    {
+        each!(self, path => path.extension())
+    }
+
+    /// What is left of the path behind a base of its kind.
+    ///
+    /// # Errors
+    ///
+    /// `StripPrefixError` exactly where the path does not begin with the base's components, compared
+    /// as they are written.
+    pub fn strip_prefix(self, base: &[u8]) -> Result<TypedPath<'a>, StripPrefixError>
+        ensures dialect { IfOk result (λ p. typed_dialect p ≡ typed_dialect self.entry) }
+        ensures bytes { stripped_to typed_bytes result
+            ≡ stripped (typed_dialect self.entry) (typed_bytes self.entry) base.now }
+    {
+        typed_result!(self, path => path.strip_prefix(Path::new(base)))
+    }
+
+    /// Whether the path begins with the components of another of its kind, as they are written.
+    pub fn starts_with(self, base: &[u8]) -> bool
+        ensures { result
+            ≡ path_starts_with (typed_dialect self.entry) (typed_bytes self.entry) base.now }
+    {
+        each!(self, path => path.starts_with(Path::new(base)))
+    }
+
+    /// Whether the path ends with the components of another of its kind, as they are written.
+    pub fn ends_with(self, end: &[u8]) -> bool
+        ensures { result
+            ≡ path_ends_with (typed_dialect self.entry) (typed_bytes self.entry) end.now }
+    {
+        each!(self, path => path.ends_with(Path::new(end)))
+    }
+
+    /// The components of the path, from either end.
+    #[inline(always)]
+    pub fn components(self) -> TypedComponents<'a>
+        ensures dialect { reading_dialect result ≡ typed_dialect self.entry }
+        ensures items { typed_items result
+            ≡ comps (typed_dialect self.entry) (typed_bytes self.entry) }
+        ensures slice { typed_slice result ≡ typed_bytes self.entry }
+    {
+        TypedComponents::new(self)
+    }
+
+    /// The texts of the components, from either end.
+    #[inline(always)]
+    pub fn iter(self) -> TypedIter<'a>
+        ensures dialect { typed_dialect result ≡ typed_dialect self.entry }
+        ensures items { typed_iter_items result
+            ≡ comps (typed_dialect self.entry) (typed_bytes self.entry) }
+        ensures slice { typed_iter_slice result ≡ typed_bytes self.entry }
+    {
+        typed!(self, path => path.iter())
+    }
+}
+
+/// The path of these bytes, of the kind that they look like.
+impl<'a> From<&'a [u8]> for TypedPath<'a> {
+    ghost from_gives = { λ bytes path. (typed_dialect path ≡ derived_dialect bytes.now)
+        × (typed_bytes path ≡ bytes.now) };
+
+    fn from(bytes: &'a [u8]) -> TypedPath<'a> {
+        TypedPath::derive(bytes)
+    }
+}
+
+/// The path of this text, of the kind that it looks like.
+impl<'a> From<&'a str> for TypedPath<'a> {
+    ghost from_gives = { λ text path. (typed_dialect path ≡ derived_dialect text.now)
+        × (typed_bytes path ≡ text.now) };
+
+    fn from(text: &'a str) -> TypedPath<'a> {
+        TypedPath::derive(text.as_bytes())
+    }
+}

@@ -1,0 +1,267 @@
+//! What is read of a path whose dialect is chosen when the program runs.
+
+ghost use Rattle.std.specs.Prelude.{◌≡◌, drop, option_map, option_copied};
+ghost use Rattle.typed_path.specs.scan.Left.{but_last, slice_after_front, slice_after_back};
+ghost use Rattle.typed_path.specs.scan.Steps.{first_part, last_part};
+ghost use Rattle.typed_path.specs.typed.Kind.{typed_dialect, KeepsDialect};
+ghost use Rattle.typed_path.specs.views.TypedViews.{typed_bytes};
+
+use crate::typed::component::TypedComponent;
+use crate::typed::path::{TypedAncestors, TypedIter, TypedPath};
+use crate::typed::variant::{Typed, each, typed, typed_option};
+use crate::unix::UnixComponents;
+use crate::windows::WindowsComponents;
+use std::cmp::Ordering;
+use std::iter::FusedIterator;
+
+/// What is left to be read of a path of Unix or of Windows.
+///
+/// What two readings of one kind have left is equal as the paths of their slices left are. Readings
+/// of two kinds are never equal.
+#[derive(Clone, Copy, Debug, PartialEq, Eq)]
+pub enum TypedReading<U, W> {
+    /// Of Unix.
+    Unix(U),
+    /// Of Windows.
+    Windows(W),
+}
+
+/// What readings of one kind have left is in order as the paths of their slices left are. Readings of
+/// two kinds are in none.
+impl<U: PartialOrd, W: PartialOrd> PartialOrd for TypedReading<U, W> {
+    ghost use Rattle.std.specs.Prelude.{refl};
+    ghost use Rattle.typed_path.specs.typed.Orders.{reading_partial_cmp, reading_partial_order};
+
+    ghost partial_cmp = { reading_partial_cmp U.partial_cmp W.partial_cmp };
+
+    ghost laws = { reading_partial_order
+        (record { of_unix = λ x y. refl; of_windows = λ x y. refl; unix_first = λ x y. refl; windows_first = λ x y. refl })
+        U.PartialOrd.laws W.PartialOrd.laws };
+
+    #[inline]
+    fn partial_cmp(&self, other: &TypedReading<U, W>) -> Option<Ordering> {
+        match (self, other) {
+            (TypedReading::Unix(own), TypedReading::Unix(other)) => own.partial_cmp(other),
+            (TypedReading::Windows(own), TypedReading::Windows(other)) => own.partial_cmp(other),
+            _ => None,
+        }
+    }
+}
+
+/// The components of a path that are left to be read.
+pub type TypedComponents<'a> = TypedReading<UnixComponents<'a>, WindowsComponents<'a>>;
+
+impl<'a> TypedComponents<'a> {
+    ghost use Rattle.std.specs.Prelude.{IfSome};
+    ghost use Rattle.typed_path.specs.components.Part.{kinds};
+    ghost use Rattle.typed_path.specs.components.Comps.{comps};
+    ghost use Rattle.typed_path.specs.queries.Queries.{is_absolute, has_root};
+    ghost use Rattle.typed_path.specs.views.TypedViews.{reading_dialect, typed_items, typed_slice, typed_parts, typed_part};
+
+    /// The components of a path, from either end.
+    #[inline(always)]
+    pub fn new(path: TypedPath<'a>) -> TypedComponents<'a>
+        ensures dialect { reading_dialect result ≡ typed_dialect path.entry }
+        ensures items { typed_items result
+            ≡ comps (typed_dialect path.entry) (typed_bytes path.entry) }
+        ensures slice { typed_slice result ≡ typed_bytes path.entry }
+    {
+        match path {
+            Typed::Unix(path) => TypedReading::Unix(UnixComponents::new(path)),
+            Typed::Windows(path) => TypedReading::Windows(WindowsComponents::new(path)),
+        }
+    }
+
+    /// The slice left, as a path of the kind that is read.
+    pub fn to_path(self) -> TypedPath<'a>
+        ensures dialect { typed_dialect result ≡ reading_dialect self.entry }
+        ensures bytes { typed_bytes result ≡ typed_slice self.entry }
+    {
+        typed!(self, reading => reading.as_path())
+    }
+
+    /// The slice left: from the first component that is left to the end of the last.
+    pub fn as_bytes(self) -> &'a [u8]
+        ensures { result.now ≡ typed_slice self.entry }
+    {
+        each!(self, reading => reading.as_bytes())
+    }
+
+    /// Whether the components that are left begin an absolute path.
+    pub fn is_absolute(self) -> bool
+        ensures { result ≡ is_absolute (reading_dialect self.entry) (kinds (typed_parts self.entry)) }
+    {
+        each!(self, reading => reading.is_absolute())
+    }
+
+    /// Whether the components that are left begin with a root, written or implied by a prefix.
+    pub fn has_root(self) -> bool
+        ensures { result ≡ has_root (reading_dialect self.entry) (kinds (typed_parts self.entry)) }
+    {
+        each!(self, reading => reading.has_root())
+    }
+
+    /// Takes the first component that is left. It answers none for good once all are taken.
+    #[inline(always)]
+    pub fn next(&mut self) -> Option<TypedComponent<'a>>
+        ensures dialect { reading_dialect self.new ≡ reading_dialect self.old }
+        ensures kind { IfSome result (λ c. typed_dialect c ≡ reading_dialect self.old) }
+        ensures taken { option_map typed_part result ≡ first_part (typed_items self.old) }
+        ensures items { typed_items self.new ≡ drop 1 (typed_items self.old) }
+        ensures slice { typed_slice self.new
+            ≡ slice_after_front (typed_items self.old) (typed_slice self.old) }
+    {
+        typed_option!(self, reading => reading.next())
+    }
+
+    /// Takes the last component that is left. It answers none for good once all are taken.
+    #[inline(always)]
+    pub fn next_back(&mut self) -> Option<TypedComponent<'a>>
+        ensures dialect { reading_dialect self.new ≡ reading_dialect self.old }
+        ensures kind { IfSome result (λ c. typed_dialect c ≡ reading_dialect self.old) }
+        ensures taken { option_map typed_part result ≡ last_part (typed_items self.old) }
+        ensures items { typed_items self.new ≡ but_last (typed_items self.old) }
+        ensures slice { typed_slice self.new
+            ≡ slice_after_back (typed_items self.old) (typed_slice self.old) }
+    {
+        typed_option!(self, reading => reading.next_back())
+    }
+}
+
+impl<'a> Iterator for TypedComponents<'a> {
+    ghost use Rattle.std.specs.Iterator.{YieldsFirstBy, item_count};
+    ghost use Rattle.typed_path.specs.scan.Steps.{LeavesFront};
+    ghost use Rattle.typed_path.specs.views.TypedViews.{reading_dialect, typed_items, typed_slice, typed_parts, typed_part};
+
+    type Item = TypedComponent<'a>;
+
+    ghost next_gives = { λ s component t. YieldsFirstBy typed_part typed_parts s component t
+        × LeavesFront typed_items typed_slice s t
+        × (reading_dialect t ≡ reading_dialect s) };
+
+    ghost remaining = { item_count typed_parts };
+
+    #[inline(always)]
+    fn next(&mut self) -> Option<TypedComponent<'a>> {
+        typed_option!(self, reading => Iterator::next(reading))
+    }
+}
+
+impl<'a> DoubleEndedIterator for TypedComponents<'a> {
+    ghost use Rattle.std.specs.Iterator.{YieldsLastBy};
+    ghost use Rattle.typed_path.specs.scan.Steps.{LeavesBack};
+    ghost use Rattle.typed_path.specs.views.TypedViews.{reading_dialect, typed_items, typed_slice, typed_parts, typed_part};
+
+    ghost next_back_gives = { λ s component t. YieldsLastBy typed_part typed_parts s component t
+        × LeavesBack typed_items typed_slice s t
+        × (reading_dialect t ≡ reading_dialect s) };
+
+    #[inline(always)]
+    fn next_back(&mut self) -> Option<TypedComponent<'a>> {
+        typed_option!(self, reading => DoubleEndedIterator::next_back(reading))
+    }
+}
+
+impl<'a> FusedIterator for TypedComponents<'a> {}
+
+impl<'a> TypedIter<'a> {
+    ghost use Rattle.typed_path.specs.views.TypedViews.{typed_iter_items, typed_iter_slice};
+
+    /// The slice left, as a path of the kind that is read.
+    pub fn to_path(self) -> TypedPath<'a>
+        ensures dialect { typed_dialect result ≡ typed_dialect self.entry }
+        ensures bytes { typed_bytes result ≡ typed_iter_slice self.entry }
+    {
+        typed!(self, left => left.as_path())
+    }
+
+    /// The slice left: from the first component that is left to the end of the last.
+    pub fn as_bytes(self) -> &'a [u8]
+        ensures { result.now ≡ typed_iter_slice self.entry }
+    {
+        each!(self, left => left.as_path().as_bytes())
+    }
+
+    /// Takes the text of the first component that is left.
+    #[inline(always)]
+    pub fn next(&mut self) -> Option<&'a [u8]>
+        ensures dialect { KeepsDialect self.old self.new }
+        ensures taken { option_copied result
+            ≡ option_map (λ p. p.text) (first_part (typed_iter_items self.old)) }
+        ensures items { typed_iter_items self.new ≡ drop 1 (typed_iter_items self.old) }
+        ensures slice { typed_iter_slice self.new
+            ≡ slice_after_front (typed_iter_items self.old) (typed_iter_slice self.old) }
+    {
+        each!(self, left => left.next())
+    }
+
+    /// Takes the text of the last component that is left.
+    #[inline(always)]
+    pub fn next_back(&mut self) -> Option<&'a [u8]>
+        ensures dialect { KeepsDialect self.old self.new }
+        ensures taken { option_copied result
+            ≡ option_map (λ p. p.text) (last_part (typed_iter_items self.old)) }
+        ensures items { typed_iter_items self.new ≡ but_last (typed_iter_items self.old) }
+        ensures slice { typed_iter_slice self.new
+            ≡ slice_after_back (typed_iter_items self.old) (typed_iter_slice self.old) }
+    {
+        each!(self, left => left.next_back())
+    }
+}
+
+impl<'a> Iterator for TypedIter<'a> {
+    ghost use Rattle.std.specs.Iterator.{YieldsFirstRef, item_count};
+    ghost use Rattle.typed_path.specs.scan.Steps.{LeavesFront};
+    ghost use Rattle.typed_path.specs.views.TypedViews.{typed_iter_items, typed_iter_slice, typed_iter_texts};
+
+    type Item = &'a [u8];
+
+    ghost next_gives = { λ s text t. YieldsFirstRef typed_iter_texts s text t
+        × LeavesFront typed_iter_items typed_iter_slice s t
+        × KeepsDialect s t };
+
+    ghost remaining = { item_count typed_iter_texts };
+
+    #[inline(always)]
+    fn next(&mut self) -> Option<&'a [u8]> {
+        each!(self, left => Iterator::next(left))
+    }
+}
+
+impl<'a> DoubleEndedIterator for TypedIter<'a> {
+    ghost use Rattle.std.specs.Iterator.{YieldsLastRef};
+    ghost use Rattle.typed_path.specs.scan.Steps.{LeavesBack};
+    ghost use Rattle.typed_path.specs.views.TypedViews.{typed_iter_items, typed_iter_slice, typed_iter_texts};
+
+    ghost next_back_gives = { λ s text t. YieldsLastRef typed_iter_texts s text t
+        × LeavesBack typed_iter_items typed_iter_slice s t
+        × KeepsDialect s t };
+
+    #[inline(always)]
+    fn next_back(&mut self) -> Option<&'a [u8]> {
+        each!(self, left => DoubleEndedIterator::next_back(left))
+    }
+}
+
+impl<'a> FusedIterator for TypedIter<'a> {}
+
+impl<'a> Iterator for TypedAncestors<'a> {
+    ghost use Rattle.std.specs.Prelude.{IfSome};
+    ghost use Rattle.std.specs.Iterator.{YieldsFirstBy, item_count};
+    ghost use Rattle.typed_path.specs.views.TypedViews.{typed_ancestors_left};
+
+    type Item = TypedPath<'a>;
+
+    ghost next_gives = { λ s path t. YieldsFirstBy typed_bytes typed_ancestors_left s path t
+        × KeepsDialect s t
+        × IfSome path (λ p. typed_dialect p ≡ typed_dialect s) };
+
+    ghost remaining = { item_count typed_ancestors_left };
+
+    #[inline(always)]
+    fn next(&mut self) -> Option<TypedPath<'a>> {
+        typed_option!(self, above => Iterator::next(above))
+    }
+}
+
+impl<'a> FusedIterator for TypedAncestors<'a> {}

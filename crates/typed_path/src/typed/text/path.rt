@@ -1,0 +1,223 @@
+//! A lent path of text whose dialect is chosen when the program runs.
+
+ghost use Rattle.std.specs.Prelude.{◌≡◌};
+ghost use Rattle.typed_path.specs.typed.Kind.{kind_dialect, derived_dialect, typed_dialect};
+ghost use Rattle.typed_path.specs.views.TypedTextViews.{typed_text};
+
+use crate::errors::StripPrefixError;
+use crate::typed::kind::PathType;
+use crate::typed::text::reading::Utf8TypedComponents;
+use crate::typed::variant::{Typed, each, made_as, typed, typed_option, typed_result};
+use crate::utf8::{
+    Utf8Ancestors, Utf8Iter, Utf8Path, Utf8UnixEncoding, Utf8UnixPath, Utf8WindowsEncoding,
+    Utf8WindowsPath,
+};
+
+/// A path of text of Unix or of Windows: a text, with the dialect by which it is read.
+pub type Utf8TypedPath<'a> = Typed<Utf8UnixPath<'a>, Utf8WindowsPath<'a>>;
+
+/// The texts of the components that are left to be read.
+pub type Utf8TypedIter<'a> = Typed<
+    Utf8Iter<'a, Utf8UnixEncoding>,
+    Utf8Iter<'a, Utf8WindowsEncoding>,
+>;
+
+/// A path of text, and then each parent of the one before.
+pub type Utf8TypedAncestors<'a> = Typed<
+    Utf8Ancestors<'a, Utf8UnixEncoding>,
+    Utf8Ancestors<'a, Utf8WindowsEncoding>,
+>;
+
+impl<'a> Utf8TypedPath<'a> {
+    ghost use Rattle.std.specs.Prelude.{not, bytes_eq, IfOk, IfSome, option_map, option_copied};
+    ghost use Rattle.typed_path.specs.components.Dialect.{unix, windows};
+    ghost use Rattle.typed_path.specs.components.Part.{kinds};
+    ghost use Rattle.typed_path.specs.components.Comps.{comps, parts_of};
+    ghost use Rattle.typed_path.specs.queries.Queries.{is_absolute, has_root, parent_of, file_name_of, file_stem_of, extension, stripped, path_starts_with, path_ends_with};
+    ghost use Rattle.typed_path.specs.queries.Ancestry.{ancestors_of};
+    ghost use Rattle.typed_path.specs.queries.Strip.{stripped_to};
+    ghost use Rattle.typed_path.specs.views.TypedViews.{reading_dialect};
+    ghost use Rattle.typed_path.specs.views.TypedTextViews.{typed_text_items, typed_text_slice, typed_text_iter_items, typed_text_iter_slice, typed_text_ancestors_left};
+
+    /// The path of this text, of a kind.
+    #[inline(always)]
+    pub fn new(text: &'a str, kind: PathType) -> Utf8TypedPath<'a>
+        ensures dialect { typed_dialect result ≡ kind_dialect kind }
+        ensures bytes { typed_text result ≡ text.now }
+    {
+        made_as!(kind, Utf8Path::new(text))
+    }
+
+    /// The path of this text, as on Unix.
+    #[inline(always)]
+    pub fn unix(text: &'a str) -> Utf8TypedPath<'a>
+        ensures dialect { typed_dialect result ≡ unix }
+        ensures bytes { typed_text result ≡ text.now }
+    {
+        Typed::Unix(Utf8Path::new(text))
+    }
+
+    /// The path of this text, as on Windows.
+    #[inline(always)]
+    pub fn windows(text: &'a str) -> Utf8TypedPath<'a>
+        ensures dialect { typed_dialect result ≡ windows }
+        ensures bytes { typed_text result ≡ text.now }
+    {
+        Typed::Windows(Utf8Path::new(text))
+    }
+
+    /// The path of this text, of the kind that [`PathType::derive`] says it looks like.
+    #[inline]
+    pub fn derive(text: &'a str) -> Utf8TypedPath<'a>
+        ensures dialect { typed_dialect result ≡ derived_dialect text.now }
+        ensures bytes { typed_text result ≡ text.now }
+    {
+        Utf8TypedPath::new(text, PathType::derive(text.as_bytes()))
+    }
+
+    /// The text of the path.
+    #[inline(always)]
+    pub fn as_str(self) -> &'a str
+        ensures { result.now ≡ typed_text self.entry }
+    {
+        each!(self, path => path.as_str())
+    }
+
+    /// Whether the path leads to one place, whatever the current directory is.
+    pub fn is_absolute(self) -> bool
+        ensures { result ≡ is_absolute (typed_dialect self.entry)
+            (kinds (parts_of (typed_dialect self.entry) (typed_text self.entry))) }
+    {
+        each!(self, path => path.is_absolute())
+    }
+
+    /// Whether the path is not absolute.
+    pub fn is_relative(self) -> bool
+        ensures { result ≡ not (is_absolute (typed_dialect self.entry)
+            (kinds (parts_of (typed_dialect self.entry) (typed_text self.entry)))) }
+    {
+        each!(self, path => path.is_relative())
+    }
+
+    /// Whether the path begins with a root, written or implied by a prefix.
+    pub fn has_root(self) -> bool
+        ensures { result ≡ has_root (typed_dialect self.entry)
+            (kinds (parts_of (typed_dialect self.entry) (typed_text self.entry))) }
+    {
+        each!(self, path => path.has_root())
+    }
+
+    /// The path without its last component, or none where there is no component or nothing is above
+    /// the last one.
+    pub fn parent(self) -> Option<Utf8TypedPath<'a>>
+        ensures dialect { IfSome result (λ p. typed_dialect p ≡ typed_dialect self.entry) }
+        ensures bytes { option_map typed_text result
+            ≡ parent_of (typed_dialect self.entry) (typed_text self.entry) }
+    {
+        typed_option!(self, path => path.parent())
+    }
+
+    /// The path, and then each parent of the one before.
+    #[inline(always)]
+    pub fn ancestors(self) -> Utf8TypedAncestors<'a>
+        ensures dialect { typed_dialect result ≡ typed_dialect self.entry }
+        ensures left { typed_text_ancestors_left result
+            ≡ ancestors_of (typed_dialect self.entry) (typed_text self.entry) }
+    {
+        typed!(self, path => path.ancestors())
+    }
+
+    /// The last component, where it is a name.
+    pub fn file_name(self) -> Option<&'a str>
+        ensures { option_copied result
+            ≡ file_name_of (typed_dialect self.entry) (typed_text self.entry) }
+    {
+        each!(self, path => path.file_name())
+    }
+
+    /// The file name up to its last dot, or the whole of it where no dot but a first one is there.
+    pub fn file_stem(self) -> Option<&'a str>
+        ensures { option_copied result
+            ≡ file_stem_of (typed_dialect self.entry) (typed_text self.entry) }
+    {
+        each!(self, path => path.file_stem())
+    }
+
+    /// What stands in the file name behind its last dot, where that is not its first character.
+    pub fn extension(self) -> Option<&'a str>
+        ensures { option_copied result
+            ≡ extension (typed_dialect self.entry) (typed_text self.entry) }
+    {
+        each!(self, path => path.extension())
+    }
+
+    /// What is left of the path behind a base of its kind.
+    ///
+    /// # Errors
+    ///
+    /// `StripPrefixError` exactly where the path does not begin with the base's components, compared
+    /// as they are written.
+    pub fn strip_prefix(self, base: &str) -> Result<Utf8TypedPath<'a>, StripPrefixError>
+        ensures dialect { IfOk result (λ p. typed_dialect p ≡ typed_dialect self.entry) }
+        ensures bytes { stripped_to typed_text result
+            ≡ stripped (typed_dialect self.entry) (typed_text self.entry) base.now }
+    {
+        typed_result!(self, path => path.strip_prefix(Utf8Path::new(base)))
+    }
+
+    /// Whether the path begins with the components of another of its kind, as they are written.
+    pub fn starts_with(self, base: &str) -> bool
+        ensures { result
+            ≡ path_starts_with (typed_dialect self.entry) (typed_text self.entry) base.now }
+    {
+        each!(self, path => path.starts_with(Utf8Path::new(base)))
+    }
+
+    /// Whether the path ends with the components of another of its kind, as they are written.
+    pub fn ends_with(self, end: &str) -> bool
+        ensures { result
+            ≡ path_ends_with (typed_dialect self.entry) (typed_text self.entry) end.now }
+    {
+        each!(self, path => path.ends_with(Utf8Path::new(end)))
+    }
+
+    /// Whether the path is this text, character by character: `a/` is not `a`.
+    #[inline]
+    pub fn eq_str(self, other: &str) -> bool
+        ensures { result ≡ bytes_eq (typed_text self.entry) other.now }
+    {
+        self.as_str() == other
+    }
+
+    /// The components of the path, from either end.
+    #[inline(always)]
+    pub fn components(self) -> Utf8TypedComponents<'a>
+        ensures dialect { reading_dialect result ≡ typed_dialect self.entry }
+        ensures items { typed_text_items result
+            ≡ comps (typed_dialect self.entry) (typed_text self.entry) }
+        ensures slice { typed_text_slice result ≡ typed_text self.entry }
+    {
+        Utf8TypedComponents::new(self)
+    }
+
+    /// The texts of the components, from either end.
+    #[inline(always)]
+    pub fn iter(self) -> Utf8TypedIter<'a>
+        ensures dialect { typed_dialect result ≡ typed_dialect self.entry }
+        ensures items { typed_text_iter_items result
+            ≡ comps (typed_dialect self.entry) (typed_text self.entry) }
+        ensures slice { typed_text_iter_slice result ≡ typed_text self.entry }
+    {
+        typed!(self, path => path.iter())
+    }
+}
+
+/// The path of this text, of the kind that it looks like.
+impl<'a> From<&'a str> for Utf8TypedPath<'a> {
+    ghost from_gives = { λ text path. (typed_dialect path ≡ derived_dialect text.now)
+        × (typed_text path ≡ text.now) };
+
+    fn from(text: &'a str) -> Utf8TypedPath<'a> {
+        Utf8TypedPath::derive(text)
+    }
+}

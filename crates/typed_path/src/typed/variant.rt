@@ -1,0 +1,113 @@
+//! A value of Unix or one of Windows, and the bodies that answer by the value that is held.
+
+ghost use Rattle.std.specs.Prelude.{◌≡◌};
+ghost use Rattle.typed_path.specs.components.Dialect.{unix, windows};
+ghost use Rattle.typed_path.specs.conversions.Convert.{same_dialect};
+ghost use Rattle.typed_path.specs.typed.Kind.{typed_dialect, of_held};
+
+use std::fmt;
+
+/// A value of Unix or one of Windows, as it was chosen when the program ran.
+///
+/// Values of two kinds are never equal, and one of Unix is less than one of Windows. Values of one kind
+/// compare, and feed a hasher, as those that they hold.
+#[derive(Clone, Copy, Debug, PartialEq, Eq, PartialOrd, Ord, Hash, Drop)]
+pub enum Typed<U, W> {
+    /// Of Unix.
+    Unix(U),
+    /// Of Windows.
+    Windows(W),
+}
+
+/// What the held value answers.
+macro_rules! each {
+    ($typed:expr, $held:ident => $answer:expr) => {
+        match $typed {
+            Self::Unix($held) => $answer,
+            Self::Windows($held) => $answer,
+        }
+    };
+}
+
+/// What the held value answers, of the same kind.
+macro_rules! typed {
+    ($typed:expr, $held:ident => $answer:expr) => {
+        match $typed {
+            Self::Unix($held) => Typed::Unix($answer),
+            Self::Windows($held) => Typed::Windows($answer),
+        }
+    };
+}
+
+/// The same where there may be no answer.
+macro_rules! typed_option {
+    ($typed:expr, $held:ident => $answer:expr) => {
+        match $typed {
+            Self::Unix($held) => match $answer {
+                Some(answer) => Some(Typed::Unix(answer)),
+                None => None,
+            },
+            Self::Windows($held) => match $answer {
+                Some(answer) => Some(Typed::Windows(answer)),
+                None => None,
+            },
+        }
+    };
+}
+
+/// The same where the answer may be refused.
+macro_rules! typed_result {
+    ($typed:expr, $held:ident => $answer:expr) => {
+        match $typed {
+            Self::Unix($held) => match $answer {
+                Ok(answer) => Ok(Typed::Unix(answer)),
+                Err(error) => Err(error),
+            },
+            Self::Windows($held) => match $answer {
+                Ok(answer) => Ok(Typed::Windows(answer)),
+                Err(error) => Err(error),
+            },
+        }
+    };
+}
+
+/// A value of the kind that is named.
+macro_rules! made_as {
+    ($kind:expr, $made:expr) => {
+        match $kind {
+            PathType::Unix => Typed::Unix($made),
+            PathType::Windows => Typed::Windows($made),
+        }
+    };
+}
+
+pub(super) use each;
+pub(super) use made_as;
+pub(super) use typed;
+pub(super) use typed_option;
+pub(super) use typed_result;
+
+impl<U, W> Typed<U, W> {
+    /// Whether the value is one of Unix.
+    pub fn is_unix(&self) -> bool
+        ensures { result ≡ same_dialect (typed_dialect self.now) unix }
+    {
+        matches!(self, Typed::Unix(_))
+    }
+
+    /// Whether the value is one of Windows.
+    pub fn is_windows(&self) -> bool
+        ensures { result ≡ same_dialect (typed_dialect self.now) windows }
+    {
+        matches!(self, Typed::Windows(_))
+    }
+}
+
+/// Prints the held value.
+impl<U: fmt::Display, V: fmt::Display> fmt::Display for Typed<U, V> {
+    ghost output = { of_held U.output V.output };
+
+    fn fmt<W: fmt::Write>(&self, f: &mut fmt::Formatter<W>) -> fmt::Result {
+        each!(self, held => held.fmt(f))
+    }
+}

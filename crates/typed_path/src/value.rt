@@ -1,0 +1,173 @@
+//! Paths as JSON values.
+
+ghost use Rattle.std.specs.Prelude.{◌≡◌, true, false, IfOk, IfErr};
+ghost use Rattle.serde_json.specs.View.{view};
+ghost use Rattle.typed_path.specs.declared.errors.ValueError.TheVariants.{NotUtf8, NotText, OutOfMemory};
+ghost use Rattle.typed_path.specs.values.Values.{IsValueOf, is_json_text, FailsBy};
+
+use crate::common::{Encoding, Path, PathBuf};
+use crate::errors::ValueError;
+use crate::typed::{TypedPath, TypedPathBuf, Utf8TypedPath, Utf8TypedPathBuf};
+use crate::unix::UnixPath;
+use crate::utf8::{Utf8Encoding, Utf8Path, Utf8PathBuf};
+use serde_json::Value;
+use std::alloc::Global;
+
+/// The JSON text of a copy of this text.
+fn value_of(alloc: Global, text: &str) -> Result<Value, ValueError>
+    ensures ok { IfOk result (λ v. IsValueOf text.now (view v)) }
+    ensures err { IfErr result (λ e. e ≡ OutOfMemory) }
+{
+    let mut copy = String::with_capacity(alloc, text.len())?;
+    copy.push_str(text)?;
+    Ok(Value::from(copy))
+}
+
+/// The path of a JSON text, made of that text.
+macro_rules! of_text {
+    ($value:expr, $text:ident => $made:expr) => {
+        match $value.as_str() {
+            Some($text) => Ok($made?),
+            None => Err(ValueError::NotText),
+        }
+    };
+}
+
+impl<'a, T: Encoding> Path<'a, T> {
+    ghost use Rattle.std.specs.Str.{is_utf8};
+    ghost use Rattle.typed_path.specs.views.PathViews.{path_bytes};
+
+    /// The path as a JSON text.
+    ///
+    /// # Errors
+    ///
+    /// `NotUtf8` exactly where the bytes are no text, before memory is asked for; and want of memory.
+    pub fn to_value(self, alloc: Global) -> Result<Value, ValueError>
+        ensures ok { IfOk result (λ v. IsValueOf (path_bytes self.entry) (view v)) }
+        ensures not_utf8 { is_utf8 (path_bytes self.entry) ≡ false → FailsBy NotUtf8 result }
+        ensures memory { is_utf8 (path_bytes self.entry) ≡ true → IfErr result (λ e. e ≡ OutOfMemory) }
+    {
+        match self.to_str() {
+            Some(text) => value_of(alloc, text),
+            None => Err(ValueError::NotUtf8),
+        }
+    }
+}
+
+impl<T: Encoding> PathBuf<T> {
+    /// The path of a JSON text.
+    ///
+    /// # Errors
+    ///
+    /// `NotText` exactly where the value is no text, before memory is asked for; and want of memory.
+    pub fn from_value(alloc: Global, value: &Value) -> Result<PathBuf<T>, ValueError>
+        ensures ok { IfOk result (λ p. IsValueOf p.bytes (view value.now)) }
+        ensures not_text { is_json_text (view value.now) ≡ false → FailsBy NotText result }
+        ensures memory { is_json_text (view value.now) ≡ true → IfErr result (λ e. e ≡ OutOfMemory) }
+    {
+        of_text!(value, text => PathBuf::from_str(alloc, text))
+    }
+}
+
+impl<'a, T: Utf8Encoding> Utf8Path<'a, T> {
+    ghost use Rattle.typed_path.specs.views.TextViews.{utf8_bytes};
+
+    /// The path as a JSON text.
+    ///
+    /// # Errors
+    ///
+    /// Want of memory alone.
+    pub fn to_value(self, alloc: Global) -> Result<Value, ValueError>
+        ensures ok { IfOk result (λ v. IsValueOf (utf8_bytes self.entry) (view v)) }
+        ensures memory { IfErr result (λ e. e ≡ OutOfMemory) }
+    {
+        value_of(alloc, self.as_str())
+    }
+}
+
+impl<T: Utf8Encoding> Utf8PathBuf<T> {
+    /// The path of a JSON text.
+    ///
+    /// # Errors
+    ///
+    /// `NotText` exactly where the value is no text, before memory is asked for; and want of memory.
+    pub fn from_value(alloc: Global, value: &Value) -> Result<Utf8PathBuf<T>, ValueError>
+        ensures ok { IfOk result (λ p. IsValueOf p.bytes (view value.now)) }
+        ensures not_text { is_json_text (view value.now) ≡ false → FailsBy NotText result }
+        ensures memory { is_json_text (view value.now) ≡ true → IfErr result (λ e. e ≡ OutOfMemory) }
+    {
+        of_text!(value, text => Utf8PathBuf::from_str(alloc, text))
+    }
+}
+
+impl<'a> TypedPath<'a> {
+    ghost use Rattle.std.specs.Str.{is_utf8};
+    ghost use Rattle.typed_path.specs.views.TypedViews.{typed_bytes};
+
+    /// The path as a JSON text. The value does not tell its kind.
+    ///
+    /// # Errors
+    ///
+    /// `NotUtf8` exactly where the bytes are no text, before memory is asked for; and want of memory.
+    pub fn to_value(self, alloc: Global) -> Result<Value, ValueError>
+        ensures ok { IfOk result (λ v. IsValueOf (typed_bytes self.entry) (view v)) }
+        ensures not_utf8 { is_utf8 (typed_bytes self.entry) ≡ false → FailsBy NotUtf8 result }
+        ensures memory { is_utf8 (typed_bytes self.entry) ≡ true → IfErr result (λ e. e ≡ OutOfMemory) }
+    {
+        UnixPath::new(self.as_bytes()).to_value(alloc)
+    }
+}
+
+impl<'a> Utf8TypedPath<'a> {
+    ghost use Rattle.typed_path.specs.views.TypedTextViews.{typed_text};
+
+    /// The path as a JSON text. The value does not tell its kind.
+    ///
+    /// # Errors
+    ///
+    /// Want of memory alone.
+    pub fn to_value(self, alloc: Global) -> Result<Value, ValueError>
+        ensures ok { IfOk result (λ v. IsValueOf (typed_text self.entry) (view v)) }
+        ensures memory { IfErr result (λ e. e ≡ OutOfMemory) }
+    {
+        value_of(alloc, self.as_str())
+    }
+}
+
+impl TypedPathBuf {
+    ghost use Rattle.typed_path.specs.typed.Kind.{typed_dialect, derived_dialect};
+    ghost use Rattle.typed_path.specs.views.TypedViews.{owned_bytes};
+
+    /// The path of a JSON text, of the kind that the text looks like.
+    ///
+    /// # Errors
+    ///
+    /// `NotText` exactly where the value is no text, before memory is asked for; and want of memory.
+    pub fn from_value(alloc: Global, value: &Value) -> Result<TypedPathBuf, ValueError>
+        ensures dialect { IfOk result (λ p. typed_dialect p ≡ derived_dialect (owned_bytes p)) }
+        ensures ok { IfOk result (λ p. IsValueOf (owned_bytes p) (view value.now)) }
+        ensures not_text { is_json_text (view value.now) ≡ false → FailsBy NotText result }
+        ensures memory { is_json_text (view value.now) ≡ true → IfErr result (λ e. e ≡ OutOfMemory) }
+    {
+        of_text!(value, text => TypedPathBuf::from_str(alloc, text))
+    }
+}
+
+impl Utf8TypedPathBuf {
+    ghost use Rattle.typed_path.specs.typed.Kind.{typed_dialect, derived_dialect};
+    ghost use Rattle.typed_path.specs.views.TypedViews.{owned_bytes};
+
+    /// The path of a JSON text, of the kind that the text looks like.
+    ///
+    /// # Errors
+    ///
+    /// `NotText` exactly where the value is no text, before memory is asked for; and want of memory.
+    pub fn from_value(alloc: Global, value: &Value) -> Result<Utf8TypedPathBuf, ValueError>
+        ensures dialect { IfOk result (λ p. typed_dialect p ≡ derived_dialect (owned_bytes p)) }
+        ensures ok { IfOk result (λ p. IsValueOf (owned_bytes p) (view value.now)) }
+        ensures not_text { is_json_text (view value.now) ≡ false → FailsBy NotText result }
+        ensures memory { is_json_text (view value.now) ≡ true → IfErr result (λ e. e ≡ OutOfMemory) }
+    {
+        of_text!(value, text => Utf8TypedPathBuf::from_str(alloc, text))
+    }
+}

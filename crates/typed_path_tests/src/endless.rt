@@ -1,0 +1,123 @@
+//! Texts of a megabyte, read and normalized in every family: each call goes through them once.
+
+use crate::ample::repeated;
+use std::alloc::{AllocError, Global};
+use std::str;
+use std::test::Fail;
+use typed_path::{TypedPath, UnixPath, Utf8TypedPath, Utf8UnixPath, Utf8WindowsPath, WindowsPath};
+
+/// Whether a path has so many components, read from either end, and this normal text.
+macro_rules! is_read {
+    ($path:expr, $alloc:expr, $count:expr, $normal:expr) => {
+        $path.components().count() == $count
+            && $path.components().rev().count() == $count
+            && $path.normalize($alloc)?.as_path() == $normal
+    };
+}
+
+/// Whether a Unix text is read so in the families of bytes, of texts and of either dialect.
+fn is_read_on_unix(
+    alloc: Global,
+    text: &str,
+    count: usize,
+    normal: &str,
+) -> Result<bool, AllocError> {
+    let typed = TypedPath::unix(text.as_bytes());
+    let either = Utf8TypedPath::unix(text);
+    Ok(
+        is_read!(
+            UnixPath::new(text.as_bytes()),
+            alloc,
+            count,
+            UnixPath::new(normal.as_bytes())
+        ) && is_read!(
+            Utf8UnixPath::new(text),
+            alloc,
+            count,
+            Utf8UnixPath::new(normal)
+        ) && typed.components().count() == count
+            && either.components().count() == count
+            && typed.normalize(alloc)?.as_bytes() == normal.as_bytes()
+            && either.normalize(alloc)?.eq_str(normal),
+    )
+}
+
+/// Whether a Windows text is read so in these families.
+fn is_read_on_windows(
+    alloc: Global,
+    text: &str,
+    count: usize,
+    normal: &str,
+) -> Result<bool, AllocError> {
+    let typed = TypedPath::windows(text.as_bytes());
+    let either = Utf8TypedPath::windows(text);
+    Ok(
+        is_read!(
+            WindowsPath::new(text.as_bytes()),
+            alloc,
+            count,
+            WindowsPath::new(normal.as_bytes())
+        ) && is_read!(
+            Utf8WindowsPath::new(text),
+            alloc,
+            count,
+            Utf8WindowsPath::new(normal)
+        ) && typed.components().count() == count
+            && either.components().count() == count
+            && typed.normalize(alloc)?.as_bytes() == normal.as_bytes()
+            && either.normalize(alloc)?.eq_str(normal),
+    )
+}
+
+#[test]
+fn megabytes_of_both_dialects(rt: HostRuntime) -> Result<(), Fail> {
+    let alloc = rt.alloc();
+    let dots = repeated(alloc, b"", b".", 1_048_576, b"")?;
+    let dots = str::from_utf8(dots.as_slice()).unwrap_or("");
+    assert!(rt; is_read_on_unix(alloc, dots, 1, dots)?);
+    assert!(rt; is_read_on_windows(alloc, dots, 1, dots)?);
+    let rows: [(&[u8], usize, usize); 3] = [
+        (b"./", 524_288, 1),
+        (b"../", 300_000, 300_000),
+        (b"a/../", 200_000, 400_000),
+    ];
+    for (part, times, count) in rows {
+        let text = repeated(alloc, b"", part, times, b"")?;
+        let text = str::from_utf8(text.as_slice()).unwrap_or("");
+        assert!(rt; is_read_on_unix(alloc, text, count, "")?);
+        assert!(rt; is_read_on_windows(alloc, text, count, "")?);
+    }
+    Ok(())
+}
+
+#[test]
+fn megabytes_of_windows(rt: HostRuntime) -> Result<(), Fail> {
+    let alloc = rt.alloc();
+    // What the text begins with, and has so many times behind it, how many components it has, and
+    // the same of its normal text.
+    let rows: [(&[u8], &[u8], usize, usize, &[u8], &[u8]); 5] = [
+        (b"a", br"\a", 524_287, 524_288, b"a", br"\a"),
+        (br"\\?\C:\x", b"/name", 209_715, 3, br"\\?\C:\x", br"\name"),
+        (br"\\?\C:", br"\a/b", 262_144, 262_146, br"\\?\C:", br"\a\b"),
+        (
+            br"\\?\UNC\",
+            br"\\?\UNC\",
+            131_072,
+            262_146,
+            br"\\?\UNC",
+            br"\?\UNC",
+        ),
+        (br"\\?\", br"\\?\", 262_144, 262_146, br"\\?\", br"\?"),
+    ];
+    for (begin, part, times, count, wanted_begin, wanted) in rows {
+        let text = repeated(alloc, begin, part, times, b"")?;
+        let wanted = repeated(alloc, wanted_begin, wanted, times, b"")?;
+        let text = str::from_utf8(text.as_slice()).unwrap_or("");
+        let wanted = str::from_utf8(wanted.as_slice()).unwrap_or("");
+        assert!(rt;
+            is_read_on_windows(alloc, text, count, wanted)?,
+            "{begin:?}"
+        );
+    }
+    Ok(())
+}

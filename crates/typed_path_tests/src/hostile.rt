@@ -1,0 +1,299 @@
+//! Calls of paths on every short text, beside slow answers that are read off the slow component list.
+
+use crate::keys::recorded;
+use crate::slow::{BYTES, Part, SHORT, parts_of};
+use std::alloc::{AllocError, Global};
+use std::test::Fail;
+use typed_path::{
+    CheckedPathError, Encoding, Path, PathError, Piece, PieceKind, UnixEncoding, WindowsEncoding,
+    WindowsPrefix,
+};
+
+/// The bases that each text is pushed onto.
+const BASES: [&[u8]; 5] = [b"", b"/etc", b"C:", br"\\?\C:\base\x/y", br"\\s\h\a"];
+
+/// Whether nothing is above a component.
+fn is_root(piece: Piece<'_>) -> bool {
+    match piece.kind {
+        PieceKind::RootDir => true,
+        PieceKind::Prefix(WindowsPrefix::Disk(_)) => false,
+        PieceKind::Prefix(_) => true,
+        _ => false,
+    }
+}
+
+/// What is left of a text without its last component.
+fn parent<'a>(text: &'a [u8], parts: &[Part<'_>]) -> Option<&'a [u8]> {
+    let last = parts.last()?;
+    if is_root(last.piece) {
+        return None;
+    }
+    match parts.get(parts.len().saturating_sub(2)) {
+        Some(before) if parts.len() > 1 => text.get(..before.end),
+        _ => Some(b""),
+    }
+}
+
+/// The last component, where it is a name.
+fn file_name<'a>(parts: &[Part<'a>]) -> Option<&'a [u8]> {
+    let last = parts.last()?;
+    match last.piece.kind {
+        PieceKind::Normal => Some(last.piece.text),
+        _ => None,
+    }
+}
+
+/// Takes a list of components over: `.` is left out, and `..` takes a name away, where one is last.
+fn take_over<'a>(list: &mut Vec<Piece<'a>>, parts: &[Part<'a>]) -> Result<(), AllocError> {
+    for part in parts {
+        match part.piece.kind {
+            PieceKind::CurDir => {}
+            PieceKind::ParentDir => {
+                if matches!(list.last(), Some(last) if matches!(last.kind, PieceKind::Normal)) {
+                    list.pop();
+                }
+            }
+            PieceKind::RootDir => {
+                list.truncate(list.len().min(1));
+                list.push(part.piece)?;
+            }
+            _ => list.push(part.piece)?,
+        }
+    }
+    Ok(())
+}
+
+/// The texts of components with `\` between two of which neither is the root.
+fn put_spelled(text: &mut Vec<u8>, list: &[Piece<'_>]) -> Result<(), AllocError> {
+    let mut joins = false;
+    for piece in list {
+        let is_root = matches!(piece.kind, PieceKind::RootDir);
+        if joins && !is_root {
+            text.push(b'\\')?;
+        }
+        text.extend_from_slice(piece.text)?;
+        joins = !is_root;
+    }
+    Ok(())
+}
+
+/// Whether a prefix is of one of the three verbatim kinds.
+fn is_verbatim(piece: &Piece<'_>) -> bool {
+    matches!(
+        piece.kind,
+        PieceKind::Prefix(
+            WindowsPrefix::Verbatim(_)
+                | WindowsPrefix::VerbatimUNC(..)
+                | WindowsPrefix::VerbatimDisk(_)
+        )
+    )
+}
+
+/// A base, a separator unless the base needs none, and a path.
+fn put_behind(
+    text: &mut Vec<u8>,
+    base: &[u8],
+    separator: u8,
+    path: &[u8],
+) -> Result<(), AllocError> {
+    text.extend_from_slice(base)?;
+    if !base.is_empty() && base.last() != Some(&separator) {
+        text.push(separator)?;
+    }
+    text.extend_from_slice(path)
+}
+
+/// A path pushed onto a base of Windows.
+fn pushed_on_windows(alloc: Global, base: &[u8], path: &[u8]) -> Result<Vec<u8>, AllocError> {
+    let mut text = Vec::new(alloc);
+    let own = parts_of(alloc, true, base)?;
+    let others = parts_of(alloc, true, path)?;
+    let head = match own.first() {
+        Some(part) if matches!(part.piece.kind, PieceKind::Prefix(_)) => Some(part.piece),
+        _ => None,
+    };
+    match (head, others.first()) {
+        (_, Some(first)) if matches!(first.piece.kind, PieceKind::Prefix(_)) => {
+            text.extend_from_slice(path)?;
+        }
+        (Some(prefix), _) if is_verbatim(&prefix) => {
+            let mut list = Vec::new(alloc);
+            for part in &own {
+                list.push(part.piece)?;
+            }
+            take_over(&mut list, others.as_slice())?;
+            put_spelled(&mut text, list.as_slice())?;
+        }
+        (_, Some(first)) if matches!(first.piece.kind, PieceKind::RootDir) => {
+            text.extend_from_slice(head.map_or(b"".as_slice(), |prefix| prefix.text))?;
+            text.extend_from_slice(path)?;
+        }
+        (Some(prefix), _) if prefix.text == base && !is_root(prefix) => {
+            text.extend_from_slice(base)?;
+            text.extend_from_slice(path)?;
+        }
+        _ => put_behind(&mut text, base, b'\\', path)?,
+    }
+    Ok(text)
+}
+
+/// A path pushed onto a base.
+fn pushed(alloc: Global, windows: bool, base: &[u8], path: &[u8]) -> Result<Vec<u8>, AllocError> {
+    let mut text = Vec::new(alloc);
+    if path.is_empty() {
+        text.extend_from_slice(base)?;
+    } else if windows {
+        return pushed_on_windows(alloc, base, path);
+    } else if path.starts_with(b"/") {
+        text.extend_from_slice(path)?;
+    } else {
+        put_behind(&mut text, base, b'/', path)?;
+    }
+    Ok(text)
+}
+
+/// The components that a list resolves to, pushed one by one.
+fn normal(alloc: Global, windows: bool, parts: &[Part<'_>]) -> Result<Vec<u8>, AllocError> {
+    let mut list = Vec::new(alloc);
+    take_over(&mut list, parts)?;
+    let mut text = Vec::new(alloc);
+    for piece in &list {
+        text = pushed(alloc, windows, text.as_slice(), piece.text)?;
+    }
+    Ok(text)
+}
+
+/// What a path is refused for when it is to be pushed.
+fn fault(windows: bool, parts: &[Part<'_>]) -> Option<CheckedPathError> {
+    let never: &[u8] = if windows { b"\\/:?*\"><|\0" } else { b"/\0" };
+    let mut names = 0u32;
+    for part in parts {
+        match part.piece.kind {
+            PieceKind::Prefix(_) => return Some(CheckedPathError::UnexpectedPrefix),
+            PieceKind::RootDir => return Some(CheckedPathError::UnexpectedRoot),
+            PieceKind::ParentDir if names == 0 => {
+                return Some(CheckedPathError::PathTraversalAttack);
+            }
+            PieceKind::ParentDir => names = names.saturating_sub(1),
+            PieceKind::Normal if part.piece.text.iter().any(|byte| never.contains(byte)) => {
+                return Some(CheckedPathError::InvalidFilename);
+            }
+            PieceKind::Normal => names = names.saturating_add(1),
+            PieceKind::CurDir => {}
+        }
+    }
+    None
+}
+
+/// Whether a checked join of each base with a text answers as the slow one does.
+fn is_joined_alike<T: Encoding>(
+    alloc: Global,
+    windows: bool,
+    text: &[u8],
+    parts: &[Part<'_>],
+) -> Result<bool, AllocError> {
+    for base in BASES {
+        let joined = Path::<T>::new(base).join_checked(alloc, Path::new(text));
+        let alike = match (joined, fault(windows, parts)) {
+            (Ok(path), None) => {
+                path.as_path().as_bytes() == pushed(alloc, windows, base, text)?.as_slice()
+            }
+            (Err(PathError::Checked(refused)), Some(fault)) => refused == fault,
+            _ => false,
+        };
+        if !alike {
+            return Ok(false);
+        }
+    }
+    Ok(true)
+}
+
+/// Whether the calls on a text answer as its slow component list says.
+fn is_answered_alike<T: Encoding>(
+    alloc: Global,
+    windows: bool,
+    text: &[u8],
+) -> Result<bool, AllocError> {
+    let parts = parts_of(alloc, windows, text)?;
+    let path = Path::<T>::new(text);
+    let above = path.parent().map(|parent| parent.as_bytes());
+    let normal = normal(alloc, windows, parts.as_slice())?;
+    Ok(
+        above == parent(text, parts.as_slice())
+            && path.file_name() == file_name(parts.as_slice())
+            && path.normalize(alloc)?.as_path().as_bytes() == normal.as_slice()
+            && is_joined_alike::<T>(alloc, windows, text, parts.as_slice())?,
+    )
+}
+
+/// Makes a text the one of a number among those of so many bytes.
+fn put_numbered(text: &mut Vec<u8>, length: usize, number: usize) -> Result<(), AllocError> {
+    text.clear();
+    let mut rest = number;
+    for _ in 0..length {
+        text.push(BYTES.get(rest % 7).copied().unwrap_or(b'a'))?;
+        rest /= 7;
+    }
+    Ok(())
+}
+
+#[test]
+fn calls_on_every_short_text(rt: HostRuntime) -> Result<(), Fail> {
+    let alloc = rt.alloc();
+    let mut text = Vec::new(alloc);
+    for (length, count) in SHORT {
+        for number in 0..count {
+            put_numbered(&mut text, length, number)?;
+            let unix = is_answered_alike::<UnixEncoding>(alloc, false, text.as_slice())?;
+            let windows = is_answered_alike::<WindowsEncoding>(alloc, true, text.as_slice())?;
+            assert!(rt; unix && windows, "{:?}", text.as_slice());
+        }
+    }
+    Ok(())
+}
+
+/// Whether two lists have the same kinds and names, place by place.
+fn are_same(parts: &[Part<'_>], others: &[Part<'_>]) -> bool {
+    parts.len() == others.len()
+        && parts.iter().zip(others).all(|(part, other)| {
+            match (part.piece.kind, other.piece.kind) {
+                (PieceKind::Normal, PieceKind::Normal) => part.piece.text == other.piece.text,
+                (one, two) => one == two,
+            }
+        })
+}
+
+/// Whether two texts are equal, and hashed alike, as their slow lists say.
+fn are_compared_alike<T: Encoding>(
+    alloc: Global,
+    windows: bool,
+    text: &[u8],
+    other: &[u8],
+) -> Result<bool, AllocError> {
+    let parts = parts_of(alloc, windows, text)?;
+    let others = parts_of(alloc, windows, other)?;
+    let same = are_same(parts.as_slice(), others.as_slice());
+    let (path, other) = (Path::<T>::new(text), Path::<T>::new(other));
+    Ok((path == other) == same && (!same || recorded(&path) == recorded(&other)))
+}
+
+#[test]
+fn every_pair_of_short_texts(rt: HostRuntime) -> Result<(), Fail> {
+    let alloc = rt.alloc();
+    let (mut text, mut other) = (Vec::new(alloc), Vec::new(alloc));
+    for (length, count) in [(0, 1), (1, 7), (2, 49), (3, 343)] {
+        for number in 0..count {
+            put_numbered(&mut text, length, number)?;
+            for (length, count) in [(0, 1), (1, 7), (2, 49), (3, 343)] {
+                for number in 0..count {
+                    put_numbered(&mut other, length, number)?;
+                    let (one, two) = (text.as_slice(), other.as_slice());
+                    let unix = are_compared_alike::<UnixEncoding>(alloc, false, one, two)?;
+                    let windows = are_compared_alike::<WindowsEncoding>(alloc, true, one, two)?;
+                    assert!(rt; unix && windows, "{one:?} and {two:?}");
+                }
+            }
+        }
+    }
+    Ok(())
+}

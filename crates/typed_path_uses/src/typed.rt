@@ -1,0 +1,35 @@
+//! Names from archives and manifests of either dialect, which is known when the program runs.
+
+ghost use Rattle.std.specs.Prelude.{◌≡◌, true, IfOk};
+ghost use Rattle.typed_path.specs.components.Dialect.{unix};
+ghost use Rattle.typed_path.specs.conversions.Convert.{converted};
+ghost use Rattle.typed_path.specs.places.Places.{place};
+ghost use Rattle.typed_path.specs.promises.Promises.{keeps_prefix};
+ghost use Rattle.typed_path.specs.typed.Kind.{derived_dialect, typed_dialect};
+ghost use Rattle.typed_path.specs.views.TypedViews.{typed_bytes, owned_bytes};
+ghost use Rattle.typed_path_uses.specs.Uses.{place_within};
+
+use std::alloc::{AllocError, Global};
+use typed_path::{PathError, TypedPath, TypedPathBuf, Utf8TypedPath, Utf8TypedPathBuf};
+
+/// Where an entry of an archive is unpacked under a base whose dialect the program was told: within
+/// the base.
+pub fn typed_target(
+    alloc: Global,
+    base: TypedPath<'_>,
+    name: &[u8],
+) -> Result<TypedPathBuf, PathError>
+    ensures { keeps_prefix (typed_dialect base.entry) (typed_bytes base.entry) ≡ true → IfOk result
+        (λ p. place (typed_dialect base.entry) (owned_bytes p)
+        ≡ place_within (typed_dialect base.entry) (typed_bytes base.entry) name.now) }
+{
+    base.join_checked(alloc, name)
+}
+
+/// A name from a manifest of either dialect, as on Unix.
+pub fn listed_as_on_unix(alloc: Global, name: &str) -> Result<Utf8TypedPathBuf, AllocError>
+    ensures { IfOk result
+        (λ p. owned_bytes p ≡ converted (derived_dialect name.now) unix name.now) }
+{
+    Utf8TypedPath::derive(name).with_unix_encoding(alloc)
+}
