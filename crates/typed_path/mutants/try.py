@@ -121,6 +121,8 @@ def main():
     if given.logs:
         given.logs.mkdir(parents=True, exist_ok=True)
     named = [edit for name in given.names for edit in (sorted(name.glob("*.edit")) if name.is_dir() else [name])]
+    if lost := [str(edit) for edit in named if not edit.is_file()]:
+        words.error(f"no such edit: {', '.join(lost)}")
     edits, outcomes, begun = queue.Queue(), {}, time.time()
     for edit in named:
         edits.put(edit)
