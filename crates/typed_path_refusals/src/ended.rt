@@ -1,0 +1,132 @@
+//! How a call ends where memory may be refused.
+
+use std::alloc::AllocError;
+use typed_path::{
+    AbsolutizeError, Encoding, PathBuf, PathError, TypedPathBuf, Utf8Encoding, Utf8PathBuf,
+    Utf8TypedPathBuf, ValueError,
+};
+
+/// How a call, or several of one name, ended.
+#[derive(Clone, Copy)]
+pub enum Ended {
+    /// The answer is the one that is wanted.
+    Done,
+    /// Want of memory is the answer, and what was handed in is as it was.
+    Refused,
+    /// Something else: the text tells at what.
+    Wrong(&'static str),
+}
+
+impl Ended {
+    /// How a call ended whose answer is right, or wrong at this text.
+    pub fn of(is_right: bool, at: &'static str) -> Ended {
+        if is_right {
+            Ended::Done
+        } else {
+            Ended::Wrong(at)
+        }
+    }
+
+    /// How a call ended that answered want of memory, if it may and left all as it was.
+    pub fn refused(is_right: bool, at: &'static str) -> Ended {
+        if is_right {
+            Ended::Refused
+        } else {
+            Ended::Wrong(at)
+        }
+    }
+
+    /// How two calls ended: the worse of both.
+    pub fn and(self, other: Ended) -> Ended {
+        match (self, other) {
+            (Ended::Wrong(_), _) | (Ended::Refused, Ended::Done) => self,
+            _ => other,
+        }
+    }
+}
+
+/// Why a call refused.
+pub trait Refusal {
+    /// Whether memory was refused.
+    fn is_want(&self) -> bool;
+}
+
+impl Refusal for AllocError {
+    fn is_want(&self) -> bool {
+        true
+    }
+}
+
+impl Refusal for PathError {
+    fn is_want(&self) -> bool {
+        *self == PathError::OutOfMemory
+    }
+}
+
+impl Refusal for AbsolutizeError {
+    fn is_want(&self) -> bool {
+        *self == AbsolutizeError::OutOfMemory
+    }
+}
+
+impl Refusal for ValueError {
+    fn is_want(&self) -> bool {
+        *self == ValueError::OutOfMemory
+    }
+}
+
+/// What a call is asked of, what it is given, and the text that is wanted then.
+pub type Row = (&'static str, &'static str, &'static str);
+
+/// How a change ended that left these bytes. Where there was room it may not be refused.
+pub fn changed<V: Drop, E: Refusal + Drop>(
+    outcome: Result<V, E>,
+    now: &[u8],
+    row: Row,
+    has_room: bool,
+) -> Ended {
+    let (base, _, wanted) = row;
+    match outcome {
+        Ok(_) => Ended::of(now == wanted.as_bytes(), base),
+        Err(refusal) => {
+            let is_right = refusal.is_want() && !has_room && now == base.as_bytes();
+            Ended::refused(is_right, base)
+        }
+    }
+}
+
+/// How a call ended that makes a new value, whose bytes are told.
+macro_rules! made {
+    ($made:expr, $row:expr, $path:ident => $bytes:expr) => {{
+        let (base, _, wanted) = $row;
+        match $made {
+            Ok($path) => Ended::of($bytes == wanted.as_bytes(), base),
+            Err(refusal) => Ended::refused(refusal.is_want(), base),
+        }
+    }};
+}
+
+pub(crate) use made;
+
+/// How a call ended that makes a path of bytes.
+pub fn bytes<T: Encoding, E: Refusal + Drop>(made: Result<PathBuf<T>, E>, row: Row) -> Ended {
+    made!(made, row, path => path.as_path().as_bytes())
+}
+
+/// How a call ended that makes a path of text.
+pub fn text<T: Utf8Encoding, E: Refusal + Drop>(
+    made: Result<Utf8PathBuf<T>, E>,
+    row: Row,
+) -> Ended {
+    made!(made, row, path => path.as_path().as_str().as_bytes())
+}
+
+/// How a call ended that makes a path of either dialect.
+pub fn typed<E: Refusal + Drop>(made: Result<TypedPathBuf, E>, row: Row) -> Ended {
+    made!(made, row, path => path.as_bytes())
+}
+
+/// How a call ended that makes a path of text of either dialect.
+pub fn typed_text<E: Refusal + Drop>(made: Result<Utf8TypedPathBuf, E>, row: Row) -> Ended {
+    made!(made, row, path => path.as_str().as_bytes())
+}
