@@ -26,7 +26,6 @@ pub enum Make {
     WithUnixChecked,
     WithWindows,
     WithWindowsChecked,
-    ToPathBuf,
 }
 
 /// How a change of an owned path ended, whose bytes are told.
@@ -61,7 +60,6 @@ macro_rules! makes {
             Make::WithUnixChecked => $told($path.with_unix_encoding_checked($alloc), $row),
             Make::WithWindows => $told($path.with_windows_encoding($alloc), $row),
             Make::WithWindowsChecked => $told($path.with_windows_encoding_checked($alloc), $row),
-            Make::ToPathBuf => $told($path.to_path_buf($alloc), $row),
         }
     };
 }

@@ -4,8 +4,9 @@ use crate::calls::{Change, Make, changes, makes};
 use crate::ended::{Ended, Row, bytes, changed, text, typed, typed_text};
 use std::alloc::{AllocError, Global};
 use typed_path::{
-    Encoding, Path, PathBuf, PathType, PlatformPath, TypedPath, UnixEncoding, Utf8Encoding, Utf8Path,
-    Utf8PathBuf, Utf8PlatformPath, Utf8TypedPath, Utf8UnixEncoding, Utf8WindowsEncoding, WindowsEncoding,
+    Encoding, Path, PathBuf, PathType, PlatformPath, TypedPath, UnixEncoding, Utf8Encoding,
+    Utf8Path, Utf8PathBuf, Utf8PlatformPath, Utf8TypedPath, Utf8UnixEncoding, Utf8WindowsEncoding,
+    WindowsEncoding,
 };
 
 /// A family of paths, in one dialect.
@@ -97,7 +98,15 @@ fn change_typed_text(
     if has_room {
         path.reserve(MORE)?;
     }
-    Ok(changes!(change, path, path.as_str().as_bytes(), other, other, row, has_room))
+    Ok(changes!(
+        change,
+        path,
+        path.as_str().as_bytes(),
+        other,
+        other,
+        row,
+        has_room
+    ))
 }
 
 /// How a call ended that makes a path of a path of bytes.
@@ -106,7 +115,16 @@ fn make_bytes<T: Encoding>(alloc: Global, make: Make, row: Row) -> Ended {
     let path = Path::<T>::new(base.as_bytes());
     let name = other.as_bytes();
     let directory = PlatformPath::new(name);
-    makes!(make, bytes, alloc, path, Path::new(name), name, directory, row)
+    makes!(
+        make,
+        bytes,
+        alloc,
+        path,
+        Path::new(name),
+        name,
+        directory,
+        row
+    )
 }
 
 /// How a call ended that makes a path of a path of text.
@@ -114,22 +132,48 @@ fn make_text<T: Utf8Encoding>(alloc: Global, make: Make, row: Row) -> Ended {
     let (base, other, _) = row;
     let path = Utf8Path::<T>::new(base);
     let directory = Utf8PlatformPath::new(other);
-    makes!(make, text, alloc, path, Utf8Path::new(other), other, directory, row)
+    makes!(
+        make,
+        text,
+        alloc,
+        path,
+        Utf8Path::new(other),
+        other,
+        directory,
+        row
+    )
 }
 
-/// How a call ended that makes a path of one of either dialect.
-fn make_typed(alloc: Global, kind: PathType, make: Make, row: Row) -> Ended {
+/// How a call ended that makes a path of an owned one of either dialect, which stays as it is.
+fn make_typed(alloc: Global, kind: PathType, make: Make, row: Row) -> Result<Ended, AllocError> {
     let (base, other, _) = row;
-    let path = TypedPath::new(base.as_bytes(), kind);
+    let path = TypedPath::new(base.as_bytes(), kind).to_path_buf(alloc)?;
     let name = other.as_bytes();
-    makes!(make, typed, alloc, path, name, name, PlatformPath::new(name), row)
+    let ended = makes!(
+        make,
+        typed,
+        alloc,
+        path,
+        name,
+        name,
+        PlatformPath::new(name),
+        row
+    );
+    Ok(ended.and(Ended::of(path.as_bytes() == base.as_bytes(), base)))
 }
 
-/// How a call ended that makes a path of a text of either dialect.
-fn make_typed_text(alloc: Global, kind: PathType, make: Make, row: Row) -> Ended {
+/// How a call ended that makes a path of an owned text of either dialect, which stays as it is.
+fn make_typed_text(
+    alloc: Global,
+    kind: PathType,
+    make: Make,
+    row: Row,
+) -> Result<Ended, AllocError> {
     let (base, other, _) = row;
-    let path = Utf8TypedPath::new(base, kind);
-    makes!(make, typed_text, alloc, path, other, other, Utf8PlatformPath::new(other), row)
+    let path = Utf8TypedPath::new(base, kind).to_path_buf(alloc)?;
+    let at = Utf8PlatformPath::new(other);
+    let ended = makes!(make, typed_text, alloc, path, other, other, at, row);
+    Ok(ended.and(Ended::of(path.as_str() == base, base)))
 }
 
 /// How a change of an owned path ended, of any family and dialect.
@@ -165,7 +209,9 @@ pub fn make(alloc: Global, family: Family, kind: PathType, call: Make, row: Row)
         (Family::Bytes, PathType::Windows) => make_bytes::<WindowsEncoding>(alloc, call, row),
         (Family::Text, PathType::Unix) => make_text::<Utf8UnixEncoding>(alloc, call, row),
         (Family::Text, PathType::Windows) => make_text::<Utf8WindowsEncoding>(alloc, call, row),
-        (Family::Typed, _) => make_typed(alloc, kind, call, row),
-        (Family::TypedText, _) => make_typed_text(alloc, kind, call, row),
+        (Family::Typed, _) => make_typed(alloc, kind, call, row).unwrap_or(Ended::Refused),
+        (Family::TypedText, _) => {
+            make_typed_text(alloc, kind, call, row).unwrap_or(Ended::Refused)
+        }
     }
 }

@@ -157,38 +157,108 @@ const WINDOWS_TO_WINDOWS: [Row; 1] = [(r"\\s\con\x", "", r"\\s\con\x")];
 
 const UNIX_TO_UNIX_CHECKED: [Row; 2] = [("a//b/.", "", "a/b"), ("/a", "", "/a")];
 
-const UNIX_TO_WINDOWS_CHECKED: [Row; 2] =
-    [("/tmp/foo.txt", "", r"\tmp\foo.txt"), (r"a\b", "", r"a\b")];
+const UNIX_TO_WINDOWS_CHECKED: [Row; 2] = [
+    ("/tmp/foo.txt", "", r"\tmp\foo.txt"),
+    (r"a\b", "", r"a\b"),
+];
 
-const WINDOWS_TO_WINDOWS_CHECKED: [Row; 2] =
-    [(r"\\s\h\x", "", r"\x"), (r"\\.\COM1\x", "", r"\x")];
+const WINDOWS_TO_WINDOWS_CHECKED: [Row; 2] = [(r"\\s\h\x", "", r"\x"), (r"\\.\COM1\x", "", r"\x")];
 
 /// The calls that change an owned path. Where there is room, none of them may be refused.
 pub const CHANGES: [Rows<Change>; 9] = [
     ("push", Change::Push, &UNIX_PUSHES, &WINDOWS_PUSHES),
-    ("push_checked", Change::PushChecked, &UNIX_PUSHES, &WINDOWS_PUSHES),
-    ("push in its place", Change::Push, &UNIX_REPLACED, &WINDOWS_REPLACED),
-    ("set_file_name", Change::SetFileName, &UNIX_NAMES, &WINDOWS_NAMES),
-    ("set_extension", Change::SetExtension, &UNIX_EXTENSIONS, &WINDOWS_EXTENSIONS),
+    (
+        "push_checked",
+        Change::PushChecked,
+        &UNIX_PUSHES,
+        &WINDOWS_PUSHES,
+    ),
+    (
+        "push in its place",
+        Change::Push,
+        &UNIX_REPLACED,
+        &WINDOWS_REPLACED,
+    ),
+    (
+        "set_file_name",
+        Change::SetFileName,
+        &UNIX_NAMES,
+        &WINDOWS_NAMES,
+    ),
+    (
+        "set_extension",
+        Change::SetExtension,
+        &UNIX_EXTENSIONS,
+        &WINDOWS_EXTENSIONS,
+    ),
     ("reserve", Change::Reserve, &UNIX_KEPT, &WINDOWS_KEPT),
     ("try_reserve", Change::TryReserve, &UNIX_KEPT, &WINDOWS_KEPT),
-    ("reserve_exact", Change::ReserveExact, &UNIX_KEPT, &WINDOWS_KEPT),
-    ("try_reserve_exact", Change::TryReserveExact, &UNIX_KEPT, &WINDOWS_KEPT),
+    (
+        "reserve_exact",
+        Change::ReserveExact,
+        &UNIX_KEPT,
+        &WINDOWS_KEPT,
+    ),
+    (
+        "try_reserve_exact",
+        Change::TryReserveExact,
+        &UNIX_KEPT,
+        &WINDOWS_KEPT,
+    ),
 ];
 
 /// The calls that make a new path.
-pub const MAKES: [Rows<Make>; 12] = [
-    ("to_path_buf", Make::ToPathBuf, &UNIX_KEPT, &WINDOWS_KEPT),
+pub const MAKES: [Rows<Make>; 11] = [
     ("join", Make::Join, &UNIX_PUSHES, &WINDOWS_PUSHES),
-    ("join in its place", Make::Join, &UNIX_REPLACED, &WINDOWS_REPLACED),
-    ("join_checked", Make::JoinChecked, &UNIX_PUSHES, &WINDOWS_PUSHES),
-    ("with_file_name", Make::WithFileName, &UNIX_NAMES, &WINDOWS_NAMES),
-    ("with_extension", Make::WithExtension, &UNIX_EXTENSIONS, &WINDOWS_EXTENSIONS),
+    (
+        "join in its place",
+        Make::Join,
+        &UNIX_REPLACED,
+        &WINDOWS_REPLACED,
+    ),
+    (
+        "join_checked",
+        Make::JoinChecked,
+        &UNIX_PUSHES,
+        &WINDOWS_PUSHES,
+    ),
+    (
+        "with_file_name",
+        Make::WithFileName,
+        &UNIX_NAMES,
+        &WINDOWS_NAMES,
+    ),
+    (
+        "with_extension",
+        Make::WithExtension,
+        &UNIX_EXTENSIONS,
+        &WINDOWS_EXTENSIONS,
+    ),
     ("normalize", Make::Normalize, &UNIX_NORMAL, &WINDOWS_NORMAL),
-    ("absolutize", Make::Absolutize, &UNIX_ABSOLUTE, &WINDOWS_ABSOLUTE),
-    ("with_unix_encoding", Make::WithUnix, &UNIX_TO_UNIX, &WINDOWS_TO_UNIX),
-    ("with_unix_encoding_checked", Make::WithUnixChecked, &UNIX_TO_UNIX_CHECKED, &WINDOWS_TO_UNIX),
-    ("with_windows_encoding", Make::WithWindows, &UNIX_TO_WINDOWS, &WINDOWS_TO_WINDOWS),
+    (
+        "absolutize",
+        Make::Absolutize,
+        &UNIX_ABSOLUTE,
+        &WINDOWS_ABSOLUTE,
+    ),
+    (
+        "with_unix_encoding",
+        Make::WithUnix,
+        &UNIX_TO_UNIX,
+        &WINDOWS_TO_UNIX,
+    ),
+    (
+        "with_unix_encoding_checked",
+        Make::WithUnixChecked,
+        &UNIX_TO_UNIX_CHECKED,
+        &WINDOWS_TO_UNIX,
+    ),
+    (
+        "with_windows_encoding",
+        Make::WithWindows,
+        &UNIX_TO_WINDOWS,
+        &WINDOWS_TO_WINDOWS,
+    ),
     (
         "with_windows_encoding_checked",
         Make::WithWindowsChecked,

@@ -1,0 +1,163 @@
+//! Calls that take lists: of paths, of operations, of ends.
+
+use crate::ended::Ended;
+use std::alloc::{AllocError, Global};
+use typed_path::{
+    CheckedPathError, Encoding, End, Path, PathBuf, PathOp, Piece, Reply, Utf8Encoding, Utf8Path,
+    Utf8PathBuf, read_ends, run_ops,
+};
+
+/// Paths that are pushed one by one.
+const NAMES: [&str; 3] = ["a name of twenty-two b", "another of twenty-two.", "c"];
+
+/// A path, and what it is behind each of the three.
+pub type States = [&'static str; 4];
+
+/// The states of the empty path, of Unix and of Windows.
+pub const FROM_NOTHING: [States; 2] = [
+    [
+        "",
+        "a name of twenty-two b",
+        "a name of twenty-two b/another of twenty-two.",
+        "a name of twenty-two b/another of twenty-two./c",
+    ],
+    [
+        "",
+        "a name of twenty-two b",
+        r"a name of twenty-two b\another of twenty-two.",
+        r"a name of twenty-two b\another of twenty-two.\c",
+    ],
+];
+
+/// Those of a base.
+pub const FROM_A_BASE: [States; 2] = [
+    [
+        "/etc",
+        "/etc/a name of twenty-two b",
+        "/etc/a name of twenty-two b/another of twenty-two.",
+        "/etc/a name of twenty-two b/another of twenty-two./c",
+    ],
+    [
+        r"\\?\C:\x",
+        r"\\?\C:\x\a name of twenty-two b",
+        r"\\?\C:\x\a name of twenty-two b\another of twenty-two.",
+        r"\\?\C:\x\a name of twenty-two b\another of twenty-two.\c",
+    ],
+];
+
+/// How a path ended onto which the paths of a list were pushed: where memory was refused, with a
+/// beginning of them.
+fn extended(outcome: Result<(), AllocError>, now: &[u8], states: States) -> Ended {
+    let [none, one, two, all] = states.map(|state| now == state.as_bytes());
+    match outcome {
+        Ok(()) => Ended::of(all, states[0]),
+        Err(_) => Ended::refused(none || one || two, states[0]),
+    }
+}
+
+/// How a path of bytes ended that was extended.
+pub fn extend_bytes<T: Encoding>(alloc: Global, states: States) -> Result<Ended, AllocError> {
+    let mut path = PathBuf::<T>::from_bytes(alloc, states[0].as_bytes())?;
+    let outcome = path.extend(NAMES.map(|name| Path::new(name.as_bytes())));
+    Ok(extended(outcome, path.as_path().as_bytes(), states))
+}
+
+/// How a path of text ended that was extended.
+pub fn extend_text<T: Utf8Encoding>(alloc: Global, states: States) -> Result<Ended, AllocError> {
+    let mut path = Utf8PathBuf::<T>::from_str(alloc, states[0])?;
+    let outcome = path.extend(NAMES.map(|name| Utf8Path::new(name)));
+    Ok(extended(outcome, path.as_path().as_str().as_bytes(), states))
+}
+
+/// Whether the paths of the list made the last of the states.
+pub fn collect_bytes<T: Encoding>(alloc: Global, states: States) -> Result<Ended, AllocError> {
+    let names = NAMES.map(|name| Path::<T>::new(name.as_bytes()));
+    let path = PathBuf::from_iter(alloc, names)?;
+    Ok(Ended::of(path.as_path().as_bytes() == states[3].as_bytes(), states[3]))
+}
+
+/// The same of texts.
+pub fn collect_text<T: Utf8Encoding>(alloc: Global, states: States) -> Result<Ended, AllocError> {
+    let path = Utf8PathBuf::from_iter(alloc, NAMES.map(|name| Utf8Path::<T>::new(name)))?;
+    Ok(Ended::of(path.as_path().as_str() == states[3], states[3]))
+}
+
+/// Operations, the last of which pushes the three paths.
+const OPERATIONS: [PathOp<'static>; 7] = [
+    PathOp::PushChecked(b".."),
+    PathOp::Push(b"a name of twenty-two.b"),
+    PathOp::SetExtension(b"an extension"),
+    PathOp::SetFileName(b"a name that is longer than all before it"),
+    PathOp::Pop,
+    PathOp::Clear,
+    PathOp::Extend(&[b"a name of twenty-two b", b"another of twenty-two.", b"c"]),
+];
+
+/// What each answers.
+const REPLIES: [Reply; 7] = [
+    Reply::Refused(CheckedPathError::PathTraversalAttack),
+    Reply::Done,
+    Reply::Flag(true),
+    Reply::Done,
+    Reply::Flag(true),
+    Reply::Done,
+    Reply::Done,
+];
+
+/// What a base is behind none of them, behind one, and so on to the last but one.
+pub const BEHIND: [[&str; 7]; 2] = [
+    [
+        "/etc",
+        "/etc",
+        "/etc/a name of twenty-two.b",
+        "/etc/a name of twenty-two.an extension",
+        "/etc/a name that is longer than all before it",
+        "/etc",
+        "",
+    ],
+    [
+        r"C:\x",
+        r"C:\x",
+        r"C:\x\a name of twenty-two.b",
+        r"C:\x\a name of twenty-two.an extension",
+        r"C:\x\a name that is longer than all before it",
+        r"C:\x",
+        "",
+    ],
+];
+
+/// How operations on a path of bytes ended. Where memory was refused, the path is the one behind the
+/// replies, but for a beginning of the last operation.
+pub fn operate<T: Encoding>(
+    alloc: Global,
+    behind: [&'static str; 7],
+    states: States,
+) -> Result<Ended, AllocError> {
+    let mut path = PathBuf::<T>::from_bytes(alloc, behind[0].as_bytes())?;
+    let mut replies = Vec::new(alloc);
+    let outcome = run_ops(&mut path, &OPERATIONS, &mut replies);
+    let now = path.as_path().as_bytes();
+    let count = replies.len();
+    if Some(replies.as_slice()) != REPLIES.get(..count) {
+        return Ok(Ended::Wrong("replies"));
+    }
+    if count >= 6 {
+        return Ok(extended(outcome, now, states));
+    }
+    let is_behind = matches!(behind.get(count), Some(text) if now == text.as_bytes());
+    Ok(Ended::refused(is_behind && outcome.is_err(), behind[0]))
+}
+
+/// How a reading from both ends ended. Where memory was refused, it is as it was.
+pub fn read_both<T: Encoding>(alloc: Global) -> Result<Ended, AllocError> {
+    let text = b"a/./b//c".as_slice();
+    let mut components = Path::<T>::new(text).components();
+    let mut answers: Vec<Option<Piece<'_>>> = Vec::new(alloc);
+    let ends = [End::Back, End::Front, End::Back, End::Front];
+    let outcome = read_ends(&mut components, &ends, &mut answers);
+    let left = components.as_bytes();
+    Ok(match outcome {
+        Ok(()) => Ended::of(left.is_empty() && answers.len() == 4, "ends"),
+        Err(_) => Ended::refused(left == text && answers.is_empty(), "ends"),
+    })
+}
