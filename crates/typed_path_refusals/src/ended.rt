@@ -11,28 +11,28 @@ use typed_path::{
 pub enum Ended {
     /// The answer is the one that is wanted.
     Done,
-    /// Want of memory is the answer, and what was handed in is as it was.
+    /// The answer is want of memory, and what was handed in is as it was.
     Refused,
-    /// Something else: the text tells at what.
+    /// It is something else, when the call was asked of this text.
     Wrong(&'static str),
 }
 
 impl Ended {
-    /// How a call ended whose answer is right, or wrong at this text.
-    pub fn of(is_right: bool, at: &'static str) -> Ended {
+    /// How a call ended that did something: rightly, or not.
+    pub fn done(is_right: bool, of: &'static str) -> Ended {
         if is_right {
             Ended::Done
         } else {
-            Ended::Wrong(at)
+            Ended::Wrong(of)
         }
     }
 
-    /// How a call ended that answered want of memory, if it may and left all as it was.
-    pub fn refused(is_right: bool, at: &'static str) -> Ended {
+    /// How a call ended that was refused: rightly, or not.
+    pub fn refused(is_right: bool, of: &'static str) -> Ended {
         if is_right {
             Ended::Refused
         } else {
-            Ended::Wrong(at)
+            Ended::Wrong(of)
         }
     }
 
@@ -82,25 +82,24 @@ pub type Row = (&'static str, &'static str, &'static str);
 pub fn changed<V: Drop, E: Refusal + Drop>(
     outcome: Result<V, E>,
     now: &[u8],
-    row: Row,
+    (base, _, wanted): Row,
     has_room: bool,
 ) -> Ended {
-    let (base, _, wanted) = row;
     match outcome {
-        Ok(_) => Ended::of(now == wanted.as_bytes(), base),
+        Ok(_) => Ended::done(now == wanted.as_bytes(), base),
         Err(refusal) => {
-            let is_right = refusal.is_want() && !has_room && now == base.as_bytes();
-            Ended::refused(is_right, base)
+            let is_kept = now == base.as_bytes();
+            Ended::refused(refusal.is_want() && is_kept && !has_room, base)
         }
     }
 }
 
 /// How a call ended that makes a new value, whose bytes are told.
 macro_rules! made {
-    ($made:expr, $row:expr, $path:ident => $bytes:expr) => {{
+    ($made:expr, $row:expr, $value:ident => $bytes:expr) => {{
         let (base, _, wanted) = $row;
         match $made {
-            Ok($path) => Ended::of($bytes == wanted.as_bytes(), base),
+            Ok($value) => Ended::done($bytes == wanted.as_bytes(), base),
             Err(refusal) => Ended::refused(refusal.is_want(), base),
         }
     }};

@@ -11,132 +11,61 @@ use typed_path::{
 /// What a checked call answers to a parent.
 const ESCAPES: PathError = PathError::Checked(CheckedPathError::PathTraversalAttack);
 
-/// How calls of an owned path of two components or more ended, which has room that it does not need.
-macro_rules! owned {
-    ($path:ident, $bytes:expr, $parent:expr, $base:expr, $above:expr) => {{
-        let base = $base.as_bytes();
-        let refused = $path.push_checked($parent) == Err(ESCAPES) && $bytes == base;
-        let reserved = $path.reserve(usize::MAX).is_err() && $bytes == base;
-        let exactly = $path.reserve_exact(usize::MAX).is_err() && $bytes == base;
-        let shrunk = $path.shrink_to(0).is_ok() && $bytes == base;
-        let popped = $path.pop() && $bytes == $above.as_bytes();
+/// A base, its parent, and how many components it has.
+pub type Base = (&'static str, &'static str, usize);
+
+/// How calls ended of a base, lent and owned, once it has room to give back.
+macro_rules! free {
+    ($lent:expr, $owned:expr, $path:ident => $bytes:expr, $alloc:expr, $parent:expr, $base:expr) => {{
+        let (base, above, count) = $base;
+        let mut $path = $owned?;
+        $path.reserve(64)?;
+        let mut read = 0usize;
+        for _ in $lent.components() {
+            read = read.saturating_add(1);
+        }
+        let joined = $lent.join_checked($alloc, $parent).err() == Some(ESCAPES);
+        let pushed = $path.push_checked($parent) == Err(ESCAPES) && $bytes == base.as_bytes();
+        let reserved = $path.reserve(usize::MAX).is_err() && $bytes == base.as_bytes();
+        let exactly = $path.reserve_exact(usize::MAX).is_err() && $bytes == base.as_bytes();
+        let shrunk = $path.shrink_to(0).is_ok() && $bytes == base.as_bytes();
+        let popped = $path.pop() && $bytes == above.as_bytes();
         $path.clear();
-        [
-            ("push_checked of a parent", Ended::of(refused, $base)),
-            ("reserve of too much", Ended::of(reserved, $base)),
-            ("reserve_exact of too much", Ended::of(exactly, $base)),
-            ("shrink_to", Ended::of(shrunk, $base)),
-            ("pop", Ended::of(popped, $base)),
-            ("clear", Ended::of($bytes.is_empty(), $base)),
-        ]
+        Ok([
+            ("components", Ended::done(read == count, base)),
+            ("join_checked of a parent", Ended::done(joined, base)),
+            ("push_checked of a parent", Ended::done(pushed, base)),
+            ("reserve of too much", Ended::done(reserved, base)),
+            ("reserve_exact of too much", Ended::done(exactly, base)),
+            ("shrink_to", Ended::done(shrunk, base)),
+            ("pop", Ended::done(popped, base)),
+            ("clear", Ended::done($bytes.is_empty(), base)),
+        ])
     }};
 }
 
-/// How calls of a lent path ended, which has so many components, and paths above it.
-macro_rules! lent {
-    ($path:expr, $alloc:expr, $parent:expr, $counts:expr, $base:expr) => {{
-        let path = $path;
-        let [components, ancestors] = $counts;
-        let refused = path.join_checked($alloc, $parent).err() == Some(ESCAPES);
-        [
-            ("join_checked of a parent", Ended::of(refused, $base)),
-            ("components", Ended::of(path.components().count() == components, $base)),
-            ("iter", Ended::of(path.iter().count() == components, $base)),
-            ("ancestors", Ended::of(path.ancestors().count() == ancestors, $base)),
-        ]
-    }};
+/// How such calls ended of a path of bytes.
+pub fn free_bytes<T: Encoding>(alloc: Global, base: Base) -> Result<Told<8>, AllocError> {
+    let (lent, parent) = (Path::<T>::new(base.0.as_bytes()), Path::new(b".."));
+    let owned = PathBuf::<T>::from_str(alloc, base.0);
+    free!(lent, owned, path => path.as_path().as_bytes(), alloc, parent, base)
 }
 
-/// How calls of an owned path of bytes ended; this is the text of its parent.
-pub fn own_bytes<T: Encoding>(
-    alloc: Global,
-    base: &'static str,
-    above: &str,
-) -> Result<Told<6>, AllocError> {
-    let mut path = PathBuf::<T>::with_capacity(alloc, 64)?;
-    path.push(Path::new(base.as_bytes()))?;
-    Ok(owned!(
-        path,
-        path.as_path().as_bytes(),
-        Path::new(b".."),
-        base,
-        above
-    ))
+/// How such calls ended of a path of text.
+pub fn free_text<T: Utf8Encoding>(alloc: Global, base: Base) -> Result<Told<8>, AllocError> {
+    let (lent, parent) = (Utf8Path::<T>::new(base.0), Utf8Path::new(".."));
+    let owned = Utf8PathBuf::<T>::from_str(alloc, base.0);
+    free!(lent, owned, path => path.as_path().as_str().as_bytes(), alloc, parent, base)
 }
 
-/// How calls of an owned path of text ended; this is the text of its parent.
-pub fn own_text<T: Utf8Encoding>(
-    alloc: Global,
-    base: &'static str,
-    above: &str,
-) -> Result<Told<6>, AllocError> {
-    let mut path = Utf8PathBuf::<T>::with_capacity(alloc, 64)?;
-    path.push(Utf8Path::new(base))?;
-    Ok(owned!(
-        path,
-        path.as_path().as_str().as_bytes(),
-        Utf8Path::new(".."),
-        base,
-        above
-    ))
+/// How such calls ended of a path of either dialect.
+pub fn free_typed(alloc: Global, base: Base) -> Result<Told<8>, AllocError> {
+    let lent = TypedPath::derive(base.0.as_bytes());
+    free!(lent, lent.to_path_buf(alloc), path => path.as_bytes(), alloc, b"..", base)
 }
 
-/// How calls of an owned path of either dialect ended; this is the text of its parent.
-pub fn own_typed(alloc: Global, base: &'static str, above: &str) -> Result<Told<6>, AllocError> {
-    let mut path = TypedPath::derive(base.as_bytes()).to_path_buf(alloc)?;
-    path.reserve(64)?;
-    Ok(owned!(path, path.as_bytes(), b"..", base, above))
-}
-
-/// How calls of an owned path of text of either dialect ended; this is the text of its parent.
-pub fn own_typed_text(
-    alloc: Global,
-    base: &'static str,
-    above: &str,
-) -> Result<Told<6>, AllocError> {
-    let mut path = Utf8TypedPath::derive(base).to_path_buf(alloc)?;
-    path.reserve(64)?;
-    Ok(owned!(path, path.as_str().as_bytes(), "..", base, above))
-}
-
-/// How calls of a lent path of bytes ended, which has so many components, and paths above it.
-pub fn lend_bytes<T: Encoding>(alloc: Global, base: &'static str, counts: [usize; 2]) -> Told<4> {
-    lent!(
-        Path::<T>::new(base.as_bytes()),
-        alloc,
-        Path::new(b".."),
-        counts,
-        base
-    )
-}
-
-/// How calls of a lent path of text ended, which has so many components, and paths above it.
-pub fn lend_text<T: Utf8Encoding>(
-    alloc: Global,
-    base: &'static str,
-    counts: [usize; 2],
-) -> Told<4> {
-    lent!(
-        Utf8Path::<T>::new(base),
-        alloc,
-        Utf8Path::new(".."),
-        counts,
-        base
-    )
-}
-
-/// How calls of a lent path of either dialect ended, which has so many components, and paths above it.
-pub fn lend_typed(alloc: Global, base: &'static str, counts: [usize; 2]) -> Told<4> {
-    lent!(
-        TypedPath::derive(base.as_bytes()),
-        alloc,
-        b"..",
-        counts,
-        base
-    )
-}
-
-/// How calls of a lent text of either dialect ended, which has so many components, and paths above it.
-pub fn lend_typed_text(alloc: Global, base: &'static str, counts: [usize; 2]) -> Told<4> {
-    lent!(Utf8TypedPath::derive(base), alloc, "..", counts, base)
+/// How such calls ended of a path of text of either dialect.
+pub fn free_typed_text(alloc: Global, base: Base) -> Result<Told<8>, AllocError> {
+    let lent = Utf8TypedPath::derive(base.0);
+    free!(lent, lent.to_path_buf(alloc), path => path.as_str().as_bytes(), alloc, "..", base)
 }

@@ -8,56 +8,24 @@ use typed_path::{
 };
 
 /// Paths that are pushed one by one.
-const NAMES: [&str; 3] = ["a name of twenty-two b", "another of twenty-two.", "c"];
+const NAMES: [&str; 3] = ["one name", "another name", "c"];
 
 /// A path, and what it is behind each of the three.
 pub type States = [&'static str; 4];
 
-/// The states of the empty path, of Unix and of Windows.
-pub const FROM_NOTHING: [States; 2] = [
-    [
-        "",
-        "a name of twenty-two b",
-        "a name of twenty-two b/another of twenty-two.",
-        "a name of twenty-two b/another of twenty-two./c",
-    ],
-    [
-        "",
-        "a name of twenty-two b",
-        r"a name of twenty-two b\another of twenty-two.",
-        r"a name of twenty-two b\another of twenty-two.\c",
-    ],
-];
-
-/// Those of a base.
-pub const FROM_A_BASE: [States; 2] = [
-    [
-        "/etc",
-        "/etc/a name of twenty-two b",
-        "/etc/a name of twenty-two b/another of twenty-two.",
-        "/etc/a name of twenty-two b/another of twenty-two./c",
-    ],
-    [
-        r"\\?\C:\x",
-        r"\\?\C:\x\a name of twenty-two b",
-        r"\\?\C:\x\a name of twenty-two b\another of twenty-two.",
-        r"\\?\C:\x\a name of twenty-two b\another of twenty-two.\c",
-    ],
-];
-
-/// How a path ended onto which the paths of a list were pushed: where memory was refused, with a
-/// beginning of them.
+/// How a path ended onto which the three were pushed: where memory was refused, with a beginning of
+/// them.
 fn extended(outcome: Result<(), AllocError>, now: &[u8], states: States) -> Ended {
     let [none, one, two, all] = states.map(|state| now == state.as_bytes());
     match outcome {
-        Ok(()) => Ended::of(all, states[0]),
+        Ok(()) => Ended::done(all, states[0]),
         Err(_) => Ended::refused(none || one || two, states[0]),
     }
 }
 
 /// How a path of bytes ended that was extended.
 pub fn extend_bytes<T: Encoding>(alloc: Global, states: States) -> Result<Ended, AllocError> {
-    let mut path = PathBuf::<T>::from_bytes(alloc, states[0].as_bytes())?;
+    let mut path = PathBuf::<T>::from_str(alloc, states[0])?;
     let outcome = path.extend(NAMES.map(|name| Path::new(name.as_bytes())));
     Ok(extended(outcome, path.as_path().as_bytes(), states))
 }
@@ -69,31 +37,30 @@ pub fn extend_text<T: Utf8Encoding>(alloc: Global, states: States) -> Result<End
     Ok(extended(outcome, path.as_path().as_str().as_bytes(), states))
 }
 
-/// Whether the paths of the list made the last of the states.
+/// How a path of bytes ended that was made of the three.
 pub fn collect_bytes<T: Encoding>(alloc: Global, states: States) -> Result<Ended, AllocError> {
-    let names = NAMES.map(|name| Path::<T>::new(name.as_bytes()));
-    let path = PathBuf::from_iter(alloc, names)?;
-    Ok(Ended::of(path.as_path().as_bytes() == states[3].as_bytes(), states[3]))
+    let path = PathBuf::from_iter(alloc, NAMES.map(|name| Path::<T>::new(name.as_bytes())))?;
+    Ok(Ended::done(path.as_path().as_bytes() == states[3].as_bytes(), states[3]))
 }
 
-/// The same of texts.
+/// How a path of text ended that was made of the three.
 pub fn collect_text<T: Utf8Encoding>(alloc: Global, states: States) -> Result<Ended, AllocError> {
     let path = Utf8PathBuf::from_iter(alloc, NAMES.map(|name| Utf8Path::<T>::new(name)))?;
-    Ok(Ended::of(path.as_path().as_str() == states[3], states[3]))
+    Ok(Ended::done(path.as_path().as_str() == states[3], states[3]))
 }
 
 /// Operations, the last of which pushes the three paths.
 const OPERATIONS: [PathOp<'static>; 7] = [
     PathOp::PushChecked(b".."),
-    PathOp::Push(b"a name of twenty-two.b"),
+    PathOp::Push(b"a name.b"),
     PathOp::SetExtension(b"an extension"),
     PathOp::SetFileName(b"a name that is longer than all before it"),
     PathOp::Pop,
     PathOp::Clear,
-    PathOp::Extend(&[b"a name of twenty-two b", b"another of twenty-two.", b"c"]),
+    PathOp::Extend(&[b"one name", b"another name", b"c"]),
 ];
 
-/// What each answers.
+/// What each of them answers.
 const REPLIES: [Reply; 7] = [
     Reply::Refused(CheckedPathError::PathTraversalAttack),
     Reply::Done,
@@ -104,47 +71,25 @@ const REPLIES: [Reply; 7] = [
     Reply::Done,
 ];
 
-/// What a base is behind none of them, behind one, and so on to the last but one.
-pub const BEHIND: [[&str; 7]; 2] = [
-    [
-        "/etc",
-        "/etc",
-        "/etc/a name of twenty-two.b",
-        "/etc/a name of twenty-two.an extension",
-        "/etc/a name that is longer than all before it",
-        "/etc",
-        "",
-    ],
-    [
-        r"C:\x",
-        r"C:\x",
-        r"C:\x\a name of twenty-two.b",
-        r"C:\x\a name of twenty-two.an extension",
-        r"C:\x\a name that is longer than all before it",
-        r"C:\x",
-        "",
-    ],
-];
-
-/// How operations on a path of bytes ended. Where memory was refused, the path is the one behind the
-/// replies, but for a beginning of the last operation.
+/// How operations on a path of bytes ended, where it is as told behind none, behind one, and so on to
+/// the last but one. Where memory was refused, it is the one behind the replies, but for a beginning
+/// of the last.
 pub fn operate<T: Encoding>(
     alloc: Global,
     behind: [&'static str; 7],
     states: States,
 ) -> Result<Ended, AllocError> {
-    let mut path = PathBuf::<T>::from_bytes(alloc, behind[0].as_bytes())?;
+    let mut path = PathBuf::<T>::from_str(alloc, behind[0])?;
     let mut replies = Vec::new(alloc);
     let outcome = run_ops(&mut path, &OPERATIONS, &mut replies);
-    let now = path.as_path().as_bytes();
-    let count = replies.len();
+    let (now, count) = (path.as_path().as_bytes(), replies.len());
     if Some(replies.as_slice()) != REPLIES.get(..count) {
-        return Ok(Ended::Wrong("replies"));
+        return Ok(Ended::Wrong("a reply"));
     }
     if count >= 6 {
         return Ok(extended(outcome, now, states));
     }
-    let is_behind = matches!(behind.get(count), Some(text) if now == text.as_bytes());
+    let is_behind = behind.get(count).is_some_and(|text| now == text.as_bytes());
     Ok(Ended::refused(is_behind && outcome.is_err(), behind[0]))
 }
 
@@ -157,7 +102,7 @@ pub fn read_both<T: Encoding>(alloc: Global) -> Result<Ended, AllocError> {
     let outcome = read_ends(&mut components, &ends, &mut answers);
     let left = components.as_bytes();
     Ok(match outcome {
-        Ok(()) => Ended::of(left.is_empty() && answers.len() == 4, "ends"),
+        Ok(()) => Ended::done(left.is_empty() && answers.len() == 4, "ends"),
         Err(_) => Ended::refused(left == text && answers.is_empty(), "ends"),
     })
 }

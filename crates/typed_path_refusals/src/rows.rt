@@ -1,27 +1,152 @@
-//! What each call is asked, and what is wanted then: by the rules of the specification.
+//! What each call is asked of in a dialect, and what is wanted then, by the rules of the specification.
 
 use crate::calls::{Change, Make};
 use crate::ended::Row;
+use crate::free::Base;
+use crate::lists::States;
 
-/// The name of a call, the call, and its rows of Unix and of Windows.
-pub type Rows<C> = (&'static str, C, &'static [Row], &'static [Row]);
+/// The name of a call, the call, and its rows.
+type Rows<C> = (&'static str, C, &'static [Row]);
 
-const UNIX_PUSHES: [Row; 6] = [
+/// All rows of a dialect.
+pub struct Table {
+    /// Of the calls that change an owned path. Where there is room, none of these may be refused.
+    pub changes: [Rows<Change>; 9],
+    /// Bases that do not stand as a push spells them.
+    pub anew: &'static [Row],
+    /// Of the calls that make a new path.
+    pub makes: [Rows<Make>; 11],
+    /// A path that is copied, and how it is written on Unix.
+    pub copied: (&'static str, &'static str),
+    /// A path that is asked for what wants no memory.
+    pub free: Base,
+    /// Of lists that are pushed onto a path, and onto nothing.
+    pub lists: [States; 2],
+    /// What a path is behind each operation of a list.
+    pub behind: [&'static str; 7],
+}
+
+const PUSHES: [Row; 6] = [
     ("", "a", "a"),
     ("a", "", "a"),
     ("..", "a", "../a"),
     ("/etc", "abc/../def", "/etc/abc/../def"),
     (
         "etc/",
-        "a name of forty bytes, which asks for room",
-        "etc/a name of forty bytes, which asks for room",
+        "a name that asks for room",
+        "etc/a name that asks for room",
     ),
     (
-        "/a/base/of/forty/bytes/that/may/be/moved",
+        "/a/base/that/may/be/moved",
         "b",
-        "/a/base/of/forty/bytes/that/may/be/moved/b",
+        "/a/base/that/may/be/moved/b",
     ),
 ];
+
+const REPLACED: [Row; 2] = [
+    ("/etc", "/x", "/x"),
+    ("/etc", "/asks/for/room", "/asks/for/room"),
+];
+
+const NAMES: [Row; 5] = [
+    ("a/b", "", "a"),
+    ("a/b/", "c", "a/c"),
+    ("a/..", "b", "a/../b"),
+    ("a name that is longer than the other", "b", "b"),
+    (
+        "/tmp/a",
+        "a name that asks for room",
+        "/tmp/a name that asks for room",
+    ),
+];
+
+const EXTENSIONS: [Row; 5] = [
+    ("foo/..", "z", "foo/.."),
+    ("a/b.tar.gz", "", "a/b.tar"),
+    ("a.tar.gz", "zip", "a.tar.zip"),
+    ("/tmp/日本語.txt/", "z", "/tmp/日本語.z"),
+    (
+        "a/b",
+        "an extension that asks for room",
+        "a/b.an extension that asks for room",
+    ),
+];
+
+const KEPT: [Row; 2] = [("", "", ""), ("/etc", "", "/etc")];
+
+const NORMAL: [Row; 2] = [
+    ("/../..", "", "/"),
+    ("foo/bar//baz/./asdf/quux/..", "", "foo/bar/baz/asdf"),
+];
+
+const ABSOLUTE: [Row; 2] = [
+    ("a/../b", "/home/u", "/home/u/b"),
+    ("/a/b/../c/./d", "/home/u", "/a/c/d"),
+];
+
+const COPIED: [Row; 1] = [("a//b/./..", "", "a//b/./..")];
+
+const BUILT: [Row; 1] = [("a//b/.", "", "a/b")];
+
+const TO_WINDOWS: [Row; 1] = [("/tmp/foo.txt", "", r"\tmp\foo.txt")];
+
+/// The rows of Unix.
+pub const UNIX: Table = Table {
+    changes: [
+        ("push", Change::Push, &PUSHES),
+        ("push_checked", Change::PushChecked, &PUSHES),
+        ("push in its place", Change::Push, &REPLACED),
+        ("set_file_name", Change::SetFileName, &NAMES),
+        ("set_extension", Change::SetExtension, &EXTENSIONS),
+        ("reserve", Change::Reserve, &KEPT),
+        ("try_reserve", Change::TryReserve, &KEPT),
+        ("reserve_exact", Change::ReserveExact, &KEPT),
+        ("try_reserve_exact", Change::TryReserveExact, &KEPT),
+    ],
+    anew: &[],
+    makes: [
+        ("join", Make::Join, &PUSHES),
+        ("join in its place", Make::Join, &REPLACED),
+        ("join_checked", Make::JoinChecked, &PUSHES),
+        ("with_file_name", Make::WithFileName, &NAMES),
+        ("with_extension", Make::WithExtension, &EXTENSIONS),
+        ("normalize", Make::Normalize, &NORMAL),
+        ("absolutize", Make::Absolutize, &ABSOLUTE),
+        ("with_unix_encoding", Make::WithUnix, &COPIED),
+        ("with_unix_encoding_checked", Make::WithUnixChecked, &BUILT),
+        ("with_windows_encoding", Make::WithWindows, &TO_WINDOWS),
+        (
+            "with_windows_encoding_checked",
+            Make::WithWindowsChecked,
+            &TO_WINDOWS,
+        ),
+    ],
+    copied: ("/a/b", "/a/b"),
+    free: ("/etc", "/", 2),
+    lists: [
+        [
+            "/x",
+            "/x/one name",
+            "/x/one name/another name",
+            "/x/one name/another name/c",
+        ],
+        [
+            "",
+            "one name",
+            "one name/another name",
+            "one name/another name/c",
+        ],
+    ],
+    behind: [
+        "/etc",
+        "/etc",
+        "/etc/a name.b",
+        "/etc/a name.an extension",
+        "/etc/a name that is longer than all before it",
+        "/etc",
+        "",
+    ],
+};
 
 const WINDOWS_PUSHES: [Row; 9] = [
     ("", "a", "a"),
@@ -34,17 +159,8 @@ const WINDOWS_PUSHES: [Row; 9] = [
     (r"\\?\C:\base", r"a/b\..\..", r"\\?\C:\base"),
     (
         r"\\?\C:\x",
-        r"a name of forty bytes, which asks for room",
-        r"\\?\C:\x\a name of forty bytes, which asks for room",
-    ),
-];
-
-const UNIX_REPLACED: [Row; 2] = [
-    ("/etc", "/x", "/x"),
-    (
-        "/etc",
-        "/a/root/and/a/name/that/ask/for/room",
-        "/a/root/and/a/name/that/ask/for/room",
+        "a name that asks for room",
+        r"\\?\C:\x\a name that asks for room",
     ),
 ];
 
@@ -53,31 +169,12 @@ const WINDOWS_REPLACED: [Row; 6] = [
     (r"\\s\h\x", "/y", r"\\s\h/y"),
     (
         r"C:\a",
-        r"D:a name of forty bytes, which asks for room",
-        r"D:a name of forty bytes, which asks for room",
+        "D:a name that asks for room",
+        "D:a name that asks for room",
     ),
     (r"\\?\C:\x", "/y", r"\\?\C:\y"),
     (r"\\?\C:\a", "..", r"\\?\C:\"),
     (r"\\?\C:\x", r"\\s\h\y", r"\\s\h\y"),
-];
-
-/// Bases that do not stand as a push spells them.
-pub const SPELLED_ANEW: [Row; 3] = [
-    ("//?/C:/base", "a", r"//?/C:\base\a"),
-    ("//?/C:/x", r"..\..\b", r"//?/C:\b"),
-    (r"\\?\C:\x\", ".", r"\\?\C:\x"),
-];
-
-const UNIX_NAMES: [Row; 5] = [
-    ("a/b", "", "a"),
-    ("a/b/", "c", "a/c"),
-    ("a/..", "b", "a/../b"),
-    ("a name that is much longer than the other", "b", "b"),
-    (
-        "/tmp/a",
-        "a name of forty bytes, which asks for room",
-        "/tmp/a name of forty bytes, which asks for room",
-    ),
 ];
 
 const WINDOWS_NAMES: [Row; 4] = [
@@ -86,20 +183,8 @@ const WINDOWS_NAMES: [Row; 4] = [
     (r"\\?\C:\x\y", "z", r"\\?\C:\x\z"),
     (
         r"\\?\C:\x\y",
-        "a name of forty bytes, which asks for room",
-        r"\\?\C:\x\a name of forty bytes, which asks for room",
-    ),
-];
-
-const UNIX_EXTENSIONS: [Row; 5] = [
-    ("foo/..", "z", "foo/.."),
-    ("a/b.tar.gz", "", "a/b.tar"),
-    ("a.tar.gz", "zip", "a.tar.zip"),
-    ("/tmp/日本語.txt/", "z", "/tmp/日本語.z"),
-    (
-        "a/b",
-        "an extension of forty bytes, or nearly so",
-        "a/b.an extension of forty bytes, or nearly so",
+        "a name that asks for room",
+        r"\\?\C:\x\a name that asks for room",
     ),
 ];
 
@@ -109,19 +194,7 @@ const WINDOWS_EXTENSIONS: [Row; 3] = [
     (r"\\?\C:\x.y", "zip", r"\\?\C:\x.zip"),
 ];
 
-const UNIX_KEPT: [Row; 2] = [("", "", ""), ("/etc", "", "/etc")];
-
 const WINDOWS_KEPT: [Row; 2] = [("C:", "", "C:"), (r"\\?\C:\x", "", r"\\?\C:\x")];
-
-const UNIX_NORMAL: [Row; 3] = [
-    ("/../..", "", "/"),
-    ("foo/bar//baz/./asdf/quux/..", "", "foo/bar/baz/asdf"),
-    (
-        "/a/name/of/forty/bytes/which/asks/for/room/..",
-        "",
-        "/a/name/of/forty/bytes/which/asks/for",
-    ),
-];
 
 const WINDOWS_NORMAL: [Row; 4] = [
     (r"x\C:", "", "C:"),
@@ -130,139 +203,83 @@ const WINDOWS_NORMAL: [Row; 4] = [
     ("//?/x/a/../b", "", r"//?/x\b"),
 ];
 
-const UNIX_ABSOLUTE: [Row; 2] = [
-    ("a/../b", "/home/u", "/home/u/b"),
-    ("/a/b/../c/./d", "/home/u", "/a/c/d"),
-];
-
 const WINDOWS_ABSOLUTE: [Row; 2] = [
     (r"C:\a\..\b", "/home/u", r"C:\b"),
     (r"a\..\b", r"\\s\h/name", r"\\s\h\name\b"),
 ];
 
-const UNIX_TO_UNIX: [Row; 2] = [("a//b/./..", "", "a//b/./.."), ("/a", "", "/a")];
+const WINDOWS_COPIED: [Row; 1] = [(r"\\s\con\x", "", r"\\s\con\x")];
 
-const WINDOWS_TO_UNIX: [Row; 3] = [
+const WINDOWS_BUILT: [Row; 2] = [(r"\\s\h\x", "", r"\x"), (r"\\.\COM1\x", "", r"\x")];
+
+const TO_UNIX: [Row; 3] = [
     (r"C:\x", "", "/x"),
     ("C:tmp", "", "C:/tmp"),
     (r"\\?\C:\a\.\b", "", "/a/./b"),
 ];
 
-const UNIX_TO_WINDOWS: [Row; 2] = [
-    ("/tmp/foo.txt", "", r"\tmp\foo.txt"),
-    (r"\\?\C:/a/./../b", "", r"\\?\C:\b"),
-];
-
-const WINDOWS_TO_WINDOWS: [Row; 1] = [(r"\\s\con\x", "", r"\\s\con\x")];
-
-const UNIX_TO_UNIX_CHECKED: [Row; 2] = [("a//b/.", "", "a/b"), ("/a", "", "/a")];
-
-const UNIX_TO_WINDOWS_CHECKED: [Row; 2] = [
-    ("/tmp/foo.txt", "", r"\tmp\foo.txt"),
-    (r"a\b", "", r"a\b"),
-];
-
-const WINDOWS_TO_WINDOWS_CHECKED: [Row; 2] = [(r"\\s\h\x", "", r"\x"), (r"\\.\COM1\x", "", r"\x")];
-
-/// The calls that change an owned path. Where there is room, none of them may be refused.
-pub const CHANGES: [Rows<Change>; 9] = [
-    ("push", Change::Push, &UNIX_PUSHES, &WINDOWS_PUSHES),
-    (
-        "push_checked",
-        Change::PushChecked,
-        &UNIX_PUSHES,
-        &WINDOWS_PUSHES,
-    ),
-    (
-        "push in its place",
-        Change::Push,
-        &UNIX_REPLACED,
-        &WINDOWS_REPLACED,
-    ),
-    (
-        "set_file_name",
-        Change::SetFileName,
-        &UNIX_NAMES,
-        &WINDOWS_NAMES,
-    ),
-    (
-        "set_extension",
-        Change::SetExtension,
-        &UNIX_EXTENSIONS,
-        &WINDOWS_EXTENSIONS,
-    ),
-    ("reserve", Change::Reserve, &UNIX_KEPT, &WINDOWS_KEPT),
-    ("try_reserve", Change::TryReserve, &UNIX_KEPT, &WINDOWS_KEPT),
-    (
-        "reserve_exact",
-        Change::ReserveExact,
-        &UNIX_KEPT,
-        &WINDOWS_KEPT,
-    ),
-    (
-        "try_reserve_exact",
-        Change::TryReserveExact,
-        &UNIX_KEPT,
-        &WINDOWS_KEPT,
-    ),
-];
-
-/// The calls that make a new path.
-pub const MAKES: [Rows<Make>; 11] = [
-    ("join", Make::Join, &UNIX_PUSHES, &WINDOWS_PUSHES),
-    (
-        "join in its place",
-        Make::Join,
-        &UNIX_REPLACED,
-        &WINDOWS_REPLACED,
-    ),
-    (
-        "join_checked",
-        Make::JoinChecked,
-        &UNIX_PUSHES,
-        &WINDOWS_PUSHES,
-    ),
-    (
-        "with_file_name",
-        Make::WithFileName,
-        &UNIX_NAMES,
-        &WINDOWS_NAMES,
-    ),
-    (
-        "with_extension",
-        Make::WithExtension,
-        &UNIX_EXTENSIONS,
-        &WINDOWS_EXTENSIONS,
-    ),
-    ("normalize", Make::Normalize, &UNIX_NORMAL, &WINDOWS_NORMAL),
-    (
-        "absolutize",
-        Make::Absolutize,
-        &UNIX_ABSOLUTE,
-        &WINDOWS_ABSOLUTE,
-    ),
-    (
-        "with_unix_encoding",
-        Make::WithUnix,
-        &UNIX_TO_UNIX,
-        &WINDOWS_TO_UNIX,
-    ),
-    (
-        "with_unix_encoding_checked",
-        Make::WithUnixChecked,
-        &UNIX_TO_UNIX_CHECKED,
-        &WINDOWS_TO_UNIX,
-    ),
-    (
-        "with_windows_encoding",
-        Make::WithWindows,
-        &UNIX_TO_WINDOWS,
-        &WINDOWS_TO_WINDOWS,
-    ),
-    (
-        "with_windows_encoding_checked",
-        Make::WithWindowsChecked,
-        &UNIX_TO_WINDOWS_CHECKED,
-        &WINDOWS_TO_WINDOWS_CHECKED,
-    ),
-];
+/// The rows of Windows.
+pub const WINDOWS: Table = Table {
+    changes: [
+        ("push", Change::Push, &WINDOWS_PUSHES),
+        ("push_checked", Change::PushChecked, &WINDOWS_PUSHES),
+        ("push in its place", Change::Push, &WINDOWS_REPLACED),
+        ("set_file_name", Change::SetFileName, &WINDOWS_NAMES),
+        ("set_extension", Change::SetExtension, &WINDOWS_EXTENSIONS),
+        ("reserve", Change::Reserve, &WINDOWS_KEPT),
+        ("try_reserve", Change::TryReserve, &WINDOWS_KEPT),
+        ("reserve_exact", Change::ReserveExact, &WINDOWS_KEPT),
+        ("try_reserve_exact", Change::TryReserveExact, &WINDOWS_KEPT),
+    ],
+    anew: &[
+        ("//?/C:/base", "a", r"//?/C:\base\a"),
+        ("//?/C:/x", r"..\..\b", r"//?/C:\b"),
+        (r"\\?\C:\x\", ".", r"\\?\C:\x"),
+    ],
+    makes: [
+        ("join", Make::Join, &WINDOWS_PUSHES),
+        ("join in its place", Make::Join, &WINDOWS_REPLACED),
+        ("join_checked", Make::JoinChecked, &WINDOWS_PUSHES),
+        ("with_file_name", Make::WithFileName, &WINDOWS_NAMES),
+        ("with_extension", Make::WithExtension, &WINDOWS_EXTENSIONS),
+        ("normalize", Make::Normalize, &WINDOWS_NORMAL),
+        ("absolutize", Make::Absolutize, &WINDOWS_ABSOLUTE),
+        ("with_unix_encoding", Make::WithUnix, &TO_UNIX),
+        (
+            "with_unix_encoding_checked",
+            Make::WithUnixChecked,
+            &TO_UNIX,
+        ),
+        ("with_windows_encoding", Make::WithWindows, &WINDOWS_COPIED),
+        (
+            "with_windows_encoding_checked",
+            Make::WithWindowsChecked,
+            &WINDOWS_BUILT,
+        ),
+    ],
+    copied: (r"\a\b", "/a/b"),
+    free: (r"\\?\C:\x", r"\\?\C:\", 3),
+    lists: [
+        [
+            r"\\?\C:\x",
+            r"\\?\C:\x\one name",
+            r"\\?\C:\x\one name\another name",
+            r"\\?\C:\x\one name\another name\c",
+        ],
+        [
+            "",
+            "one name",
+            r"one name\another name",
+            r"one name\another name\c",
+        ],
+    ],
+    behind: [
+        r"C:\x",
+        r"C:\x",
+        r"C:\x\a name.b",
+        r"C:\x\a name.an extension",
+        r"C:\x\a name that is longer than all before it",
+        r"C:\x",
+        "",
+    ],
+};
