@@ -38,6 +38,3 @@ ssize_t write(int file, const void *bytes, size_t count) {
     }
     return syscall(SYS_write, file, bytes, file == 1 ? cut(count) : count);
 }
-
-/* The name by which a program that was built by Rattle calls it too. */
-ssize_t __write(int file, const void *bytes, size_t count) __attribute__((alias("write")));

@@ -1,16 +1,18 @@
 //! Copies of a path, its JSON value, and what it becomes in encodings that are named by a type.
 
 use crate::ended::{Ended, Refusal, Row, bytes, made, text, typed, typed_text};
+use crate::{tell, tell_all};
 use serde_json::Value;
 use std::alloc::{AllocError, Global};
+use std::io;
 use typed_path::{
     Encoding, Path, PathBuf, TypedPath, TypedPathBuf, UnixEncoding, UnixPath, Utf8Encoding,
     Utf8Path, Utf8PathBuf, Utf8TypedPath, Utf8TypedPathBuf, Utf8UnixEncoding, Utf8UnixPath,
     ValueError,
 };
 
-/// The names of calls, and how they ended.
-pub type Told<const N: usize> = [(&'static str, Ended); N];
+/// A path that is copied, and how it is written on Unix.
+pub type Copied = (&'static str, &'static str);
 
 /// What bytes that are no text are shown as.
 const LOSSY: Row = ("byte 255", "", "\u{FFFD}");
@@ -25,20 +27,22 @@ fn value_of(alloc: Global, text: &str) -> Result<Value, AllocError> {
     Ok(Value::from(String::from_str(alloc, text)?))
 }
 
-/// How calls ended of a path of bytes that is written so on Unix.
+/// Tells calls of a path of bytes that is written so on Unix.
 pub fn copy_bytes<T: Encoding>(
+    rt: &impl Print,
     alloc: Global,
-    base: &'static str,
-    on_unix: &'static str,
-) -> Result<Told<12>, AllocError> {
+    family: &str,
+    (base, on_unix): Copied,
+) -> io::Result<()> {
     let (kept, unix) = ((base, "", base), (base, "", on_unix));
     let path = Path::<T>::new(base.as_bytes());
-    let owned = path.to_path_buf(alloc)?;
-    let held = value_of(alloc, base)?;
+    let (Ok(owned), Ok(held)) = (path.to_path_buf(alloc), value_of(alloc, base)) else {
+        return tell(rt, family, "a path", Ended::Refused);
+    };
     let lossy = Path::<T>::new(b"\xFF").to_string_lossy(alloc);
     let copied = PathBuf::<T>::from_bytes(alloc, base.as_bytes());
     let crossed = path.with_platform_encoding_checked(alloc);
-    Ok([
+    let told = [
         ("to_path_buf", bytes(path.to_path_buf(alloc), kept)),
         ("from_bytes", bytes(copied, kept)),
         ("from_str", bytes(PathBuf::<T>::from_str(alloc, base), kept)),
@@ -69,21 +73,24 @@ pub fn copy_bytes<T: Encoding>(
             "from_value",
             bytes(PathBuf::<T>::from_value(alloc, &held), kept),
         ),
-    ])
+    ];
+    tell_all(rt, family, &told)
 }
 
-/// How calls ended of a path of text that is written so on Unix.
+/// Tells calls of a path of text that is written so on Unix.
 pub fn copy_text<T: Utf8Encoding>(
+    rt: &impl Print,
     alloc: Global,
-    base: &'static str,
-    on_unix: &'static str,
-) -> Result<Told<10>, AllocError> {
+    family: &str,
+    (base, on_unix): Copied,
+) -> io::Result<()> {
     let (kept, unix) = ((base, "", base), (base, "", on_unix));
     let path = Utf8Path::<T>::new(base);
-    let owned = path.to_path_buf(alloc)?;
-    let held = value_of(alloc, base)?;
+    let (Ok(owned), Ok(held)) = (path.to_path_buf(alloc), value_of(alloc, base)) else {
+        return tell(rt, family, "a path", Ended::Refused);
+    };
     let crossed = path.with_platform_encoding_checked(alloc);
-    Ok([
+    let told = [
         ("to_path_buf", text(path.to_path_buf(alloc), kept)),
         (
             "from_str",
@@ -112,17 +119,24 @@ pub fn copy_text<T: Utf8Encoding>(
             "from_value",
             text(Utf8PathBuf::<T>::from_value(alloc, &held), kept),
         ),
-    ])
+    ];
+    tell_all(rt, family, &told)
 }
 
-/// How calls ended of a path of either dialect, whose kind its text looks like.
-pub fn copy_typed(alloc: Global, base: &'static str) -> Result<Told<10>, AllocError> {
+/// Tells calls of a path of either dialect, whose kind its text looks like.
+pub fn copy_typed(
+    rt: &impl Print,
+    alloc: Global,
+    family: &str,
+    base: &'static str,
+) -> io::Result<()> {
     let (kept, name) = ((base, "", base), base.as_bytes());
     let path = TypedPath::derive(name);
-    let owned = path.to_path_buf(alloc)?;
-    let held = value_of(alloc, base)?;
+    let (Ok(owned), Ok(held)) = (path.to_path_buf(alloc), value_of(alloc, base)) else {
+        return tell(rt, family, "a path", Ended::Refused);
+    };
     let lossy = TypedPath::derive(b"\xFF").to_string_lossy(alloc);
-    Ok([
+    let told = [
         ("to_path_buf", typed(path.to_path_buf(alloc), kept)),
         (
             "from_unix",
@@ -151,17 +165,24 @@ pub fn copy_typed(alloc: Global, base: &'static str) -> Result<Told<10>, AllocEr
             "from_value",
             typed(TypedPathBuf::from_value(alloc, &held), kept),
         ),
-    ])
+    ];
+    tell_all(rt, family, &told)
 }
 
-/// How calls ended of a path of text of either dialect, whose kind its text looks like.
-pub fn copy_typed_text(alloc: Global, base: &'static str) -> Result<Told<8>, AllocError> {
+/// Tells calls of a path of text of either dialect, whose kind its text looks like.
+pub fn copy_typed_text(
+    rt: &impl Print,
+    alloc: Global,
+    family: &str,
+    base: &'static str,
+) -> io::Result<()> {
     let kept = (base, "", base);
     let path = Utf8TypedPath::derive(base);
-    let owned = path.to_path_buf(alloc)?;
-    let held = value_of(alloc, base)?;
+    let (Ok(owned), Ok(held)) = (path.to_path_buf(alloc), value_of(alloc, base)) else {
+        return tell(rt, family, "a path", Ended::Refused);
+    };
     let unix = Utf8UnixPath::new(base).to_typed_path_buf(alloc);
-    Ok([
+    let told = [
         ("to_path_buf", typed_text(path.to_path_buf(alloc), kept)),
         (
             "from_unix",
@@ -182,5 +203,6 @@ pub fn copy_typed_text(alloc: Global, base: &'static str) -> Result<Told<8>, All
             "from_value",
             typed_text(Utf8TypedPathBuf::from_value(alloc, &held), kept),
         ),
-    ])
+    ];
+    tell_all(rt, family, &told)
 }

@@ -1,8 +1,9 @@
 //! Calls that want no memory: they end as ever, also where every request is refused.
 
-use crate::copies::Told;
 use crate::ended::Ended;
-use std::alloc::{AllocError, Global};
+use crate::{tell, tell_all};
+use std::alloc::Global;
+use std::io;
 use typed_path::{
     CheckedPathError, Encoding, Path, PathBuf, PathError, TypedPath, Utf8Encoding, Utf8Path,
     Utf8PathBuf, Utf8TypedPath,
@@ -16,10 +17,14 @@ pub type Base = (&'static str, &'static str, usize);
 
 /// How calls ended of a base, lent and owned, once it has room to give back.
 macro_rules! free {
-    ($lent:expr, $owned:expr, $path:ident => $bytes:expr, $alloc:expr, $parent:expr, $base:expr) => {{
+    ($rt:expr, $family:expr, $lent:expr, $owned:expr, $path:ident => $bytes:expr, $alloc:expr, $parent:expr, $base:expr) => {{
         let (base, above, count) = $base;
-        let mut $path = $owned?;
-        $path.reserve(64)?;
+        let Ok(mut $path) = $owned else {
+            return tell($rt, $family, "a path", Ended::Refused);
+        };
+        if $path.reserve(64).is_err() {
+            return tell($rt, $family, "a path", Ended::Refused);
+        }
         let mut read = 0usize;
         for _ in $lent.components() {
             read = read.saturating_add(1);
@@ -31,7 +36,7 @@ macro_rules! free {
         let shrunk = $path.shrink_to(0).is_ok() && $bytes == base.as_bytes();
         let popped = $path.pop() && $bytes == above.as_bytes();
         $path.clear();
-        Ok([
+        let told = [
             ("components", Ended::done(read == count, base)),
             ("join_checked of a parent", Ended::done(joined, base)),
             ("push_checked of a parent", Ended::done(pushed, base)),
@@ -40,32 +45,43 @@ macro_rules! free {
             ("shrink_to", Ended::done(shrunk, base)),
             ("pop", Ended::done(popped, base)),
             ("clear", Ended::done($bytes.is_empty(), base)),
-        ])
+        ];
+        tell_all($rt, $family, &told)
     }};
 }
 
-/// How such calls ended of a path of bytes.
-pub fn free_bytes<T: Encoding>(alloc: Global, base: Base) -> Result<Told<8>, AllocError> {
+/// Tells such calls of a path of bytes.
+pub fn free_bytes<T: Encoding>(
+    rt: &impl Print,
+    alloc: Global,
+    family: &str,
+    base: Base,
+) -> io::Result<()> {
     let (lent, parent) = (Path::<T>::new(base.0.as_bytes()), Path::new(b".."));
     let owned = PathBuf::<T>::from_str(alloc, base.0);
-    free!(lent, owned, path => path.as_path().as_bytes(), alloc, parent, base)
+    free!(rt, family, lent, owned, path => path.as_path().as_bytes(), alloc, parent, base)
 }
 
-/// How such calls ended of a path of text.
-pub fn free_text<T: Utf8Encoding>(alloc: Global, base: Base) -> Result<Told<8>, AllocError> {
+/// Tells such calls of a path of text.
+pub fn free_text<T: Utf8Encoding>(
+    rt: &impl Print,
+    alloc: Global,
+    family: &str,
+    base: Base,
+) -> io::Result<()> {
     let (lent, parent) = (Utf8Path::<T>::new(base.0), Utf8Path::new(".."));
     let owned = Utf8PathBuf::<T>::from_str(alloc, base.0);
-    free!(lent, owned, path => path.as_path().as_str().as_bytes(), alloc, parent, base)
+    free!(rt, family, lent, owned, path => path.as_path().as_str().as_bytes(), alloc, parent, base)
 }
 
-/// How such calls ended of a path of either dialect.
-pub fn free_typed(alloc: Global, base: Base) -> Result<Told<8>, AllocError> {
+/// Tells such calls of a path of either dialect.
+pub fn free_typed(rt: &impl Print, alloc: Global, family: &str, base: Base) -> io::Result<()> {
     let lent = TypedPath::derive(base.0.as_bytes());
-    free!(lent, lent.to_path_buf(alloc), path => path.as_bytes(), alloc, b"..", base)
+    free!(rt, family, lent, lent.to_path_buf(alloc), path => path.as_bytes(), alloc, b"..", base)
 }
 
-/// How such calls ended of a path of text of either dialect.
-pub fn free_typed_text(alloc: Global, base: Base) -> Result<Told<8>, AllocError> {
+/// Tells such calls of a path of text of either dialect.
+pub fn free_typed_text(rt: &impl Print, alloc: Global, family: &str, base: Base) -> io::Result<()> {
     let lent = Utf8TypedPath::derive(base.0);
-    free!(lent, lent.to_path_buf(alloc), path => path.as_str().as_bytes(), alloc, "..", base)
+    free!(rt, family, lent, lent.to_path_buf(alloc), path => path.as_str().as_bytes(), alloc, "..", base)
 }

@@ -7,14 +7,14 @@ use typed_path::{
     Utf8PathBuf, read_ends, run_ops,
 };
 
-/// Paths that are pushed one by one.
-const NAMES: [&str; 3] = ["one name", "another name", "c"];
+/// Its ancestors are the paths of a list: `one name/two/b`, `one name/two`, `one name`, and the empty
+/// one, which changes nothing.
+const LIST: &str = "one name/two/b";
 
-/// A path, and what it is behind each of the three.
+/// A path, and what it is behind the first of the list, behind the second, and behind all.
 pub type States = [&'static str; 4];
 
-/// How a path ended onto which the three were pushed: where memory was refused, with a beginning of
-/// them.
+/// How a path ended onto which the list was pushed: where memory was refused, with a beginning of it.
 fn extended(outcome: Result<(), AllocError>, now: &[u8], states: States) -> Ended {
     let [none, one, two, all] = states.map(|state| now == state.as_bytes());
     match outcome {
@@ -26,30 +26,31 @@ fn extended(outcome: Result<(), AllocError>, now: &[u8], states: States) -> Ende
 /// How a path of bytes ended that was extended.
 pub fn extend_bytes<T: Encoding>(alloc: Global, states: States) -> Result<Ended, AllocError> {
     let mut path = PathBuf::<T>::from_str(alloc, states[0])?;
-    let outcome = path.extend(NAMES.map(|name| Path::new(name.as_bytes())));
+    let outcome = path.extend(Path::new(LIST.as_bytes()).ancestors());
     Ok(extended(outcome, path.as_path().as_bytes(), states))
 }
 
 /// How a path of text ended that was extended.
 pub fn extend_text<T: Utf8Encoding>(alloc: Global, states: States) -> Result<Ended, AllocError> {
     let mut path = Utf8PathBuf::<T>::from_str(alloc, states[0])?;
-    let outcome = path.extend(NAMES.map(|name| Utf8Path::new(name)));
+    let outcome = path.extend(Utf8Path::new(LIST).ancestors());
     Ok(extended(outcome, path.as_path().as_str().as_bytes(), states))
 }
 
-/// How a path of bytes ended that was made of the three.
+/// How a path of bytes ended that was made of the list.
 pub fn collect_bytes<T: Encoding>(alloc: Global, states: States) -> Result<Ended, AllocError> {
-    let path = PathBuf::from_iter(alloc, NAMES.map(|name| Path::<T>::new(name.as_bytes())))?;
+    let list = Path::<T>::new(LIST.as_bytes()).ancestors();
+    let path = PathBuf::from_iter(alloc, list)?;
     Ok(Ended::done(path.as_path().as_bytes() == states[3].as_bytes(), states[3]))
 }
 
-/// How a path of text ended that was made of the three.
+/// How a path of text ended that was made of the list.
 pub fn collect_text<T: Utf8Encoding>(alloc: Global, states: States) -> Result<Ended, AllocError> {
-    let path = Utf8PathBuf::from_iter(alloc, NAMES.map(|name| Utf8Path::<T>::new(name)))?;
+    let path = Utf8PathBuf::from_iter(alloc, Utf8Path::<T>::new(LIST).ancestors())?;
     Ok(Ended::done(path.as_path().as_str() == states[3], states[3]))
 }
 
-/// Operations, the last of which pushes the three paths.
+/// Operations, the last of which pushes the list.
 const OPERATIONS: [PathOp<'static>; 7] = [
     PathOp::PushChecked(b".."),
     PathOp::Push(b"a name.b"),
@@ -57,7 +58,7 @@ const OPERATIONS: [PathOp<'static>; 7] = [
     PathOp::SetFileName(b"a name that is longer than all before it"),
     PathOp::Pop,
     PathOp::Clear,
-    PathOp::Extend(&[b"one name", b"another name", b"c"]),
+    PathOp::Extend(&[b"one name/two/b", b"one name/two", b"one name"]),
 ];
 
 /// What each of them answers.

@@ -12,12 +12,11 @@ use calls::{
     Change, change_bytes, change_text, change_typed, change_typed_text, make_bytes, make_text,
     make_typed, make_typed_text,
 };
-use copies::{Told, copy_bytes, copy_text, copy_typed, copy_typed_text};
+use copies::{copy_bytes, copy_text, copy_typed, copy_typed_text};
 use ended::Ended;
 use free::{free_bytes, free_text, free_typed, free_typed_text};
 use lists::{collect_bytes, collect_text, extend_bytes, extend_text, operate, read_both};
 use rows::{Table, UNIX, WINDOWS};
-use std::alloc::AllocError;
 use std::io;
 use typed_path::{
     Encoding, PathType, UnixEncoding, Utf8Encoding, Utf8UnixEncoding, Utf8WindowsEncoding,
@@ -33,17 +32,10 @@ fn tell(rt: &impl Print, family: &str, call: &str, ended: Ended) -> io::Result<(
     }
 }
 
-/// Prints how calls of a family ended. Where the path was refused that they are asked of, none was.
-fn tell_all<const N: usize>(
-    rt: &impl Print,
-    family: &str,
-    told: Result<Told<N>, AllocError>,
-) -> io::Result<()> {
-    let Ok(told) = told else {
-        return tell(rt, family, "a path", Ended::Refused);
-    };
+/// Prints how calls of a family ended.
+fn tell_all(rt: &impl Print, family: &str, told: &[(&str, Ended)]) -> io::Result<()> {
     for (call, ended) in told {
-        tell(rt, family, call, ended)?;
+        tell(rt, family, call, *ended)?;
     }
     Ok(())
 }
@@ -51,9 +43,10 @@ fn tell_all<const N: usize>(
 /// Tells the calls that every family has: how one change ends, and how one new path does.
 macro_rules! tell_rows {
     ($rt:expr, $family:expr, $table:expr, $call:ident, $row:ident, $room:ident => $change:expr, $make:expr) => {
-        for (name, $call, rows) in $table.changes {
+        for (name, call, rows) in $table.changes {
+            let $call = *call;
             let mut ended = Ended::Done;
-            for row in rows {
+            for row in *rows {
                 for $room in [false, true] {
                     let $row = *row;
                     ended = ended.and($change.unwrap_or(Ended::Refused));
@@ -67,9 +60,10 @@ macro_rules! tell_rows {
             anew = anew.and($change.unwrap_or(Ended::Refused));
         }
         tell($rt, $family, "push, spelled anew", anew)?;
-        for (name, $call, rows) in $table.makes {
+        for (name, call, rows) in $table.makes {
+            let $call = *call;
             let mut ended = Ended::Done;
-            for row in rows {
+            for row in *rows {
                 let $row = *row;
                 ended = ended.and($make);
             }
@@ -87,19 +81,17 @@ fn tell_bytes<T: Encoding>(
     let alloc = rt.alloc();
     tell_rows!(rt, family, table, call, row, room =>
         change_bytes::<T>(alloc, call, row, room), make_bytes::<T>(alloc, call, row));
-    let [onto, nothing] = table.lists;
     let lists = [
-        ("extend", extend_bytes::<T>(alloc, onto)),
-        ("from_iter", collect_bytes::<T>(alloc, nothing)),
-        ("run_ops", operate::<T>(alloc, table.behind, nothing)),
+        ("extend", extend_bytes::<T>(alloc, table.onto)),
+        ("from_iter", collect_bytes::<T>(alloc, table.nothing)),
+        ("run_ops", operate::<T>(alloc, table.behind, table.nothing)),
         ("read_ends", read_both::<T>(alloc)),
     ];
     for (call, ended) in lists {
         tell(rt, family, call, ended.unwrap_or(Ended::Refused))?;
     }
-    let (base, on_unix) = table.copied;
-    tell_all(rt, family, copy_bytes::<T>(alloc, base, on_unix))?;
-    tell_all(rt, family, free_bytes::<T>(alloc, table.free))
+    copy_bytes::<T>(rt, alloc, family, table.copied)?;
+    free_bytes::<T>(rt, alloc, family, table.free)
 }
 
 /// Tells the calls of paths of text.
@@ -111,14 +103,12 @@ fn tell_text<T: Utf8Encoding>(
     let alloc = rt.alloc();
     tell_rows!(rt, family, table, call, row, room =>
         change_text::<T>(alloc, call, row, room), make_text::<T>(alloc, call, row));
-    let [onto, nothing] = table.lists;
-    let extended = extend_text::<T>(alloc, onto).unwrap_or(Ended::Refused);
+    let extended = extend_text::<T>(alloc, table.onto).unwrap_or(Ended::Refused);
     tell(rt, family, "extend", extended)?;
-    let collected = collect_text::<T>(alloc, nothing).unwrap_or(Ended::Refused);
+    let collected = collect_text::<T>(alloc, table.nothing).unwrap_or(Ended::Refused);
     tell(rt, family, "from_iter", collected)?;
-    let (base, on_unix) = table.copied;
-    tell_all(rt, family, copy_text::<T>(alloc, base, on_unix))?;
-    tell_all(rt, family, free_text::<T>(alloc, table.free))
+    copy_text::<T>(rt, alloc, family, table.copied)?;
+    free_text::<T>(rt, alloc, family, table.free)
 }
 
 /// Tells the calls of paths of either dialect.
@@ -132,8 +122,8 @@ fn tell_typed(
     tell_rows!(rt, family, table, call, row, room =>
         change_typed(alloc, kind, call, row, room),
         make_typed(alloc, kind, call, row).unwrap_or(Ended::Refused));
-    tell_all(rt, family, copy_typed(alloc, table.copied.0))?;
-    tell_all(rt, family, free_typed(alloc, table.free))
+    copy_typed(rt, alloc, family, table.copied.0)?;
+    free_typed(rt, alloc, family, table.free)
 }
 
 /// Tells the calls of paths of text of either dialect.
@@ -147,8 +137,8 @@ fn tell_typed_text(
     tell_rows!(rt, family, table, call, row, room =>
         change_typed_text(alloc, kind, call, row, room),
         make_typed_text(alloc, kind, call, row).unwrap_or(Ended::Refused));
-    tell_all(rt, family, copy_typed_text(alloc, table.copied.0))?;
-    tell_all(rt, family, free_typed_text(alloc, table.free))
+    copy_typed_text(rt, alloc, family, table.copied.0)?;
+    free_typed_text(rt, alloc, family, table.free)
 }
 
 fn main(rt: HostRuntime) -> io::Result<()> {

@@ -1,6 +1,7 @@
 //! What each call is asked of in a dialect, and what is wanted then, by the rules of the specification.
 
 use crate::calls::{Change, Make};
+use crate::copies::Copied;
 use crate::ended::Row;
 use crate::free::Base;
 use crate::lists::States;
@@ -11,17 +12,19 @@ type Rows<C> = (&'static str, C, &'static [Row]);
 /// All rows of a dialect.
 pub struct Table {
     /// Of the calls that change an owned path. Where there is room, none of these may be refused.
-    pub changes: [Rows<Change>; 9],
+    pub changes: &'static [Rows<Change>],
     /// Bases that do not stand as a push spells them.
     pub anew: &'static [Row],
     /// Of the calls that make a new path.
-    pub makes: [Rows<Make>; 11],
+    pub makes: &'static [Rows<Make>],
     /// A path that is copied, and how it is written on Unix.
-    pub copied: (&'static str, &'static str),
+    pub copied: Copied,
     /// A path that is asked for what wants no memory.
     pub free: Base,
-    /// Of lists that are pushed onto a path, and onto nothing.
-    pub lists: [States; 2],
+    /// Of a list that is pushed onto a path.
+    pub onto: States,
+    /// Of a list that is pushed onto nothing.
+    pub nothing: States,
     /// What a path is behind each operation of a list.
     pub behind: [&'static str; 7],
 }
@@ -92,7 +95,7 @@ const TO_WINDOWS: [Row; 1] = [("/tmp/foo.txt", "", r"\tmp\foo.txt")];
 
 /// The rows of Unix.
 pub const UNIX: Table = Table {
-    changes: [
+    changes: &[
         ("push", Change::Push, &PUSHES),
         ("push_checked", Change::PushChecked, &PUSHES),
         ("push in its place", Change::Push, &REPLACED),
@@ -104,7 +107,7 @@ pub const UNIX: Table = Table {
         ("try_reserve_exact", Change::TryReserveExact, &KEPT),
     ],
     anew: &[],
-    makes: [
+    makes: &[
         ("join", Make::Join, &PUSHES),
         ("join in its place", Make::Join, &REPLACED),
         ("join_checked", Make::JoinChecked, &PUSHES),
@@ -123,19 +126,17 @@ pub const UNIX: Table = Table {
     ],
     copied: ("/a/b", "/a/b"),
     free: ("/etc", "/", 2),
-    lists: [
-        [
-            "/x",
-            "/x/one name",
-            "/x/one name/another name",
-            "/x/one name/another name/c",
-        ],
-        [
-            "",
-            "one name",
-            "one name/another name",
-            "one name/another name/c",
-        ],
+    onto: [
+        "/x",
+        "/x/one name/two/b",
+        "/x/one name/two/b/one name/two",
+        "/x/one name/two/b/one name/two/one name",
+    ],
+    nothing: [
+        "",
+        "one name/two/b",
+        "one name/two/b/one name/two",
+        "one name/two/b/one name/two/one name",
     ],
     behind: [
         "/etc",
@@ -220,7 +221,7 @@ const TO_UNIX: [Row; 3] = [
 
 /// The rows of Windows.
 pub const WINDOWS: Table = Table {
-    changes: [
+    changes: &[
         ("push", Change::Push, &WINDOWS_PUSHES),
         ("push_checked", Change::PushChecked, &WINDOWS_PUSHES),
         ("push in its place", Change::Push, &WINDOWS_REPLACED),
@@ -236,7 +237,7 @@ pub const WINDOWS: Table = Table {
         ("//?/C:/x", r"..\..\b", r"//?/C:\b"),
         (r"\\?\C:\x\", ".", r"\\?\C:\x"),
     ],
-    makes: [
+    makes: &[
         ("join", Make::Join, &WINDOWS_PUSHES),
         ("join in its place", Make::Join, &WINDOWS_REPLACED),
         ("join_checked", Make::JoinChecked, &WINDOWS_PUSHES),
@@ -259,19 +260,17 @@ pub const WINDOWS: Table = Table {
     ],
     copied: (r"\a\b", "/a/b"),
     free: (r"\\?\C:\x", r"\\?\C:\", 3),
-    lists: [
-        [
-            r"\\?\C:\x",
-            r"\\?\C:\x\one name",
-            r"\\?\C:\x\one name\another name",
-            r"\\?\C:\x\one name\another name\c",
-        ],
-        [
-            "",
-            "one name",
-            r"one name\another name",
-            r"one name\another name\c",
-        ],
+    onto: [
+        r"\\?\C:\x",
+        r"\\?\C:\x\one name\two\b",
+        r"\\?\C:\x\one name\two\b\one name\two",
+        r"\\?\C:\x\one name\two\b\one name\two\one name",
+    ],
+    nothing: [
+        "",
+        "one name/two/b",
+        r"one name/two/b\one name/two",
+        r"one name/two/b\one name/two\one name",
     ],
     behind: [
         r"C:\x",

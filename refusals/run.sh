@@ -1,0 +1,170 @@
+#!/usr/bin/env bash
+# Runs the built programs where memory is refused and where reads and writes fail or move few bytes.
+# It ends in `N passed, M failed`, where each sweep over such runs counts once.
+set -uo pipefail
+cd "$(dirname "$0")" || exit 2
+export LC_ALL=C
+
+if ! command -v cc > /dev/null; then
+    echo "refusals/run.sh: there is no cc, which it needs for refuse.c and fault.c"
+    echo "0 passed, 1 failed"
+    exit 1
+fi
+
+passed=0 failed=0
+room=$(mktemp -d)
+trap 'rm -rf "$room"' EXIT
+for library in refuse fault; do
+    cc -O2 -Wall -Wextra -shared -fPIC -o "$room/$library.so" "$library.c" || exit 2
+done
+
+# Counts a sweep of so many runs: it passed where no line says what was wrong.
+judge() {
+    if [[ $2 -gt 0 && ! -s $room/wrong ]]; then
+        passed=$((passed + 1))
+        echo "$1: $2 runs"
+    else
+        failed=$((failed + 1))
+        echo "$1: WRONG in $2 runs"
+        head -n 5 "$room/wrong"
+    fi
+    : > "$room/wrong"
+}
+
+# Runs a program with refuse.c before it, under the settings that are given, and adds its status.
+refused() {
+    local program=$1
+    shift
+    env LD_PRELOAD="$room/refuse.so $room/fault.so" REFUSE_COUNT="$room/count" "$@" "$program"
+    echo "status $?"
+}
+
+# Refuses a program of calls each of its requests, or each from there on: all lines say that it was
+# done, or refused.
+sweep_calls() {
+    local program=$1 way=$2 total at
+    refused "$program" > "$room/log"
+    total=$(< "$room/count")
+    { cat ../crates/typed_path_refusals/stdout; echo "status 0"; } | cmp - "$room/log" >> "$room/wrong"
+    for ((at = 1; at <= total; at++)); do
+        refused "$program" "$way=$at"
+    done > "$room/log" 2>&1
+    grep -nvE '(: .* (done|refused)|^status 0)$' "$room/log" >> "$room/wrong"
+    judge "${program##*/} $way" "$total"
+}
+
+# Whether what was written begins the replies, and is as many bytes of them.
+is_beginning() {
+    local size
+    size=$(stat -c %s "$room/out")
+    head -c "$size" replies | cmp -s - "$room/out"
+}
+
+# Whether that ends with a whole reply.
+is_whole() {
+    is_beginning && [[ -z $(tail -c 1 "$room/out") ]]
+}
+
+# Runs the program of lines under the settings that are given; its status is `ended`.
+answer() {
+    local program=$1
+    shift
+    env LD_PRELOAD="$room/refuse.so $room/fault.so" REFUSE_COUNT="$room/count" "$@" \
+        "$program" < lines > "$room/out" 2> "$room/err"
+    ended=$?
+}
+
+# Refuses the program of lines each of its requests, or each from there on, over transfers of so many
+# bytes: the status is 2, or 0 where it went on, and all replies are whole.
+sweep_requests() {
+    local program=$1 way=$2 transfer=$3 at=1
+    answer "$program" "TRANSFER=$transfer" "$way=$at"
+    while [[ $(< "$room/count") -ge $at ]]; do
+        case $ended in
+            0) cmp "$room/out" replies ;;
+            2) is_whole || echo "request $at: half a reply, or a wrong one" ;;
+            *) echo "request $at: status $ended" ;;
+        esac >> "$room/wrong"
+        at=$((at + 1))
+        answer "$program" "TRANSFER=$transfer" "$way=$at"
+    done
+    judge "${program##*/} $way, transfers of $transfer" $((at - 1))
+}
+
+# The replies to the complete lines of a beginning of the input.
+replies_to() {
+    head -n "$(head -c "$1" lines | wc -l)" replies
+}
+
+# Fails each read of the program of lines, of so many bytes: it answers the complete lines before.
+sweep_reads() {
+    local program=$1 transfer=$2 at=1
+    answer "$program" "TRANSFER=$transfer" FAIL_READ=1
+    while [[ $ended -ne 0 ]]; do
+        replies_to $(((at - 1) * transfer)) | cmp - "$room/out" >> "$room/wrong"
+        [[ $ended -eq 1 ]] || echo "read $at: status $ended" >> "$room/wrong"
+        at=$((at + 1))
+        answer "$program" "TRANSFER=$transfer" "FAIL_READ=$at"
+    done
+    cmp "$room/out" replies >> "$room/wrong"
+    judge "${program##*/} FAIL_READ, transfers of $transfer" $((at - 1))
+}
+
+# Fails each write of the program of lines, of so many bytes: what it wrote begins the replies.
+sweep_writes() {
+    local program=$1 transfer=$2 at=1
+    answer "$program" "TRANSFER=$transfer" FAIL_WRITE=1
+    while [[ $ended -ne 0 ]]; do
+        is_beginning || echo "write $at: no beginning of the replies" >> "$room/wrong"
+        [[ $ended -eq 1 ]] || echo "write $at: status $ended" >> "$room/wrong"
+        at=$((at + 1))
+        answer "$program" "TRANSFER=$transfer" "FAIL_WRITE=$at"
+    done
+    cmp "$room/out" replies >> "$room/wrong"
+    judge "${program##*/} FAIL_WRITE, transfers of $transfer" $((at - 1))
+}
+
+# Cuts each transfer, and lets none fail: the replies are the same.
+sweep_transfers() {
+    local program=$1 transfer
+    for transfer in 1 7 100; do
+        answer "$program" "TRANSFER=$transfer"
+        cmp "$room/out" replies >> "$room/wrong"
+        [[ $ended -eq 0 ]] || echo "transfers of $transfer: status $ended" >> "$room/wrong"
+    done
+    judge "${program##*/} TRANSFER" 3
+}
+
+# All sweeps of a build of the program of calls, or of lines.
+sweep() {
+    local program=$1 way transfer
+    if [[ $program == *typath* ]]; then
+        sweep_transfers "$program"
+        for transfer in 7 100 100000; do
+            sweep_requests "$program" REFUSE_AT "$transfer"
+            sweep_requests "$program" REFUSE_FROM "$transfer"
+            sweep_reads "$program" "$transfer"
+            sweep_writes "$program" "$transfer"
+        done
+        return
+    fi
+    for way in REFUSE_AT REFUSE_FROM; do
+        sweep_calls "$program" "$way"
+    done
+}
+
+# The programs as LLVM builds them and, where `rt ci` was the last to build, as Rattle's own compiler.
+for name in typed_path_refusals typath; do
+    program=../crates/$name/out/$name
+    if [[ ! -x $program ]]; then
+        echo "$name is not built: rt ci does it, or rt run in crates/$name" > "$room/wrong"
+        judge "$name" 0
+        continue
+    fi
+    sweep "$program"
+    if [[ $program.by-rattle -nt $program ]]; then
+        sweep "$program.by-rattle"
+    fi
+done
+echo "$passed passed, $failed failed"
+[[ $failed -eq 0 ]]
