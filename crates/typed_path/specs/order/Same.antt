@@ -53,3 +53,7 @@ is_same d t u = is_eq (path_cmp d t u)
 -- the order of what two readings have left
 abbrev pub left_cmp : List Placed → List Placed → Ordering
 left_cmp cs ds = kinds_cmp (kinds (parts cs)) (kinds (parts ds))
+
+-- whether they have the same left
+abbrev pub left_same : List Placed → List Placed → Bool
+left_same cs ds = is_eq (left_cmp cs ds)

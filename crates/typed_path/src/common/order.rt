@@ -4,7 +4,7 @@
 //! Prefixes come first, so that the loops over the other components hold none. The loops stand in
 //! functions that are generic over the encoding, which build each step in for its separators.
 
-ghost use Rattle.std.specs.Prelude.{◌≡◌, List, ◌∷◌, None, option_map, fold, refl};
+ghost use Rattle.std.specs.Prelude.{◌≡◌, ◌&&◌, List, ◌∷◌, None, option_map, fold, refl};
 ghost use Rattle.std.specs.List.{flat_map};
 ghost use Rattle.std.specs.Ordering.{is_eq, on, as_partial_cmp};
 ghost use Rattle.std.specs.Cmp.{eq_by_cmp_equiv, on_total, partial_equiv_from_equiv, partial_order_from_total};
@@ -12,7 +12,7 @@ ghost use Rattle.std.proofs.Common.{ap};
 ghost use Rattle.typed_path.specs.components.Part.{Prefix, Kind, prefix, kinds, parts};
 ghost use Rattle.typed_path.specs.components.Comps.{parts_of};
 ghost use Rattle.typed_path.specs.queries.Queries.{first_prefix};
-ghost use Rattle.typed_path.specs.order.Same.{kind_cmp, are_same_prefixes, kinds_cmp, is_same, path_cmp};
+ghost use Rattle.typed_path.specs.order.Same.{kind_cmp, are_same_prefixes, kinds_cmp, is_same, left_same, path_cmp};
 ghost use Rattle.typed_path.specs.order.Words.{writes_of, words_before, kinds_words};
 ghost use Rattle.typed_path.specs.order.Laws.{path_cmp_total, same-kinds};
 ghost use Rattle.typed_path.specs.promises.Promises.{words_by_kind, fed_length};
@@ -101,7 +101,22 @@ fn order_of_prefixed(mut bare: Body<'_>) -> Ordering
     }
 }
 
-/// Whether two texts have the same components, the prefix first and then from the back.
+/// Whether two readings end alike: with the same component, which is taken, or with none.
+#[inline(always)]
+fn take_same_last(rest: &mut Body<'_>, wanted: &mut Body<'_>) -> bool
+    ensures { left_same (body_items rest.old) (body_items wanted.old)
+        ≡ (result && left_same (body_items rest.new) (body_items wanted.new)) }
+{
+    match (rest.back(), wanted.back()) {
+        (Some(own), Some(step)) => is_same_step(own, step),
+        (None, None) => true,
+        _ => false,
+    }
+}
+
+/// Whether two texts have the same components: the prefix first, then the last component, in which
+/// most paths that are not the same differ, and then from the front. Those that both begin with, by
+/// their bytes, are not read.
 fn have_same_components<T: Encoding>(path: &[u8], other: &[u8]) -> bool
     ensures { result ≡ is_same T.dialect path.now other.now }
 {
@@ -112,15 +127,19 @@ fn have_same_components<T: Encoding>(path: &[u8], other: &[u8]) -> bool
     }
     let mut rest = own.body();
     let mut wanted = others.body();
-    'steps: while let Some(step) = wanted.back() {
-        let Some(own) = rest.back() else {
+    if !take_same_last(&mut rest, &mut wanted) {
+        return false;
+    }
+    let (mut rest, mut wanted) = bodies_behind_shared(rest, wanted);
+    'steps: while let Some(step) = wanted.front() {
+        let Some(own) = rest.front() else {
             return false;
         };
         if !is_same_step(own, step) {
             return false;
         }
     }
-    rest.back().is_none()
+    rest.front().is_none()
 }
 
 /// The order of the components of two texts, the prefix first and then from the front. Those that

@@ -7,17 +7,13 @@ use Rattle.std.specs.Cmp.Lexicographic.{slice_cmp, texts_ties}
 use Rattle.std.proofs.lemmas.List.{map-append}
 use Rattle.std.proofs.lemmas.Option.{same_Some}
 use Rattle.std.proofs.lemmas.Cmp.{tied_itself}
-use Rattle.std.proofs.Math.Bool.{and-false, and-true, and_assoc}
+use Rattle.std.proofs.Math.Bool.{and-false, and-true, and_assoc, and_comm}
 use Rattle.typed_path.specs.components.Part.{normal, Kind, Part, Placed, parts, kinds}
 use Rattle.typed_path.specs.scan.Left.{but_last}
 use Rattle.typed_path.specs.scan.Steps.{first_part, last_part}
-use Rattle.typed_path.specs.order.Same.{bytes_cmp, kind_cmp, kinds_cmp, left_cmp}
+use Rattle.typed_path.specs.order.Same.{bytes_cmp, kind_cmp, kinds_cmp, left_cmp, left_same}
 use Rattle.typed_path.specs.order.Laws.{kind_cmp_total}
 use Rattle.typed_path.proofs.lemmas.scan.LeftLemmas.{last_pushed, last_part-push}
-
--- whether they have the same left
-abbrev pub is_left_same : List Placed → List Placed → Bool
-is_left_same cs ds = is_eq (left_cmp cs ds)
 
 -- one answer and then another are `Equal` where both are
 pub is_eq-then : (a b : Ordering) → is_eq (ordering_then a b) ≡ (is_eq a && is_eq b)
@@ -52,43 +48,12 @@ module _ {X : Type 0} (R : X → X → Ordering) where
 kinds-push : (cs : List Placed) (c : Placed) → kinds (parts (cs ++ c ∷ [])) ≡ kinds (parts cs) ++ c.part.kind ∷ []
 kinds-push cs c = ap kinds (map-append (λ x. x.part) cs (c ∷ [])) ∙ map-append (λ x. x.kind) (parts cs) (c.part ∷ [])
 
--- from the back: the other has nothing left, and this one has
-same-none : (rest wanted : List Placed) → None ≡ last_part wanted → None ≡ last_part rest → is_left_same rest wanted ≡ true
-same-none [] [] none empty = refl
-same-none rest (w ∷ ws) none empty =
-    let d = last_pushed w ws in
-    let some : None ≡ Some d.0.part = none ∙ ap last_part d.1 ∙ last_part-push (but_last (w ∷ ws)) d.0 in cc
-same-none (c ∷ cs) [] none empty =
-    let d = last_pushed c cs in
-    let some : None ≡ Some d.0.part = empty ∙ ap last_part d.1 ∙ last_part-push (but_last (c ∷ cs)) d.0 in cc
-
-same-more : (rest wanted : List Placed) (p : Part) → None ≡ last_part wanted → Some p ≡ last_part rest → is_left_same rest wanted ≡ false
-same-more [] wanted p none some = cc
-same-more (c ∷ cs) [] p none some = refl
-same-more (c ∷ cs) (w ∷ ws) p none some =
-    let d = last_pushed w ws in
-    let own : None ≡ Some d.0.part = none ∙ ap last_part d.1 ∙ last_part-push (but_last (w ∷ ws)) d.0 in cc
-
--- so the answer is whether this one has nothing left
-pub same-end : {A : Type 0} (view : A → Part) (rest wanted : List Placed) (r : Option A) (b : Bool) → None ≡ last_part wanted → option_map view r ≡ last_part rest → is_some r ≡ not b → b ≡ is_left_same rest wanted
-same-end view rest wanted None true none taken is = sym (same-none rest wanted none taken)
-same-end view rest wanted None false none taken is = cc
-same-end view rest wanted (Some x) true none taken is = cc
-same-end view rest wanted (Some x) false none taken is = sym (same-more rest wanted (view x) none taken)
-
-pub same-fewer : (rest wanted : List Placed) (p : Part) → Some p ≡ last_part wanted → None ≡ last_part rest → is_left_same rest wanted ≡ false
-same-fewer rest [] p some none = cc
-same-fewer [] (w ∷ ws) p some none = refl
-same-fewer (c ∷ cs) (w ∷ ws) p some none =
-    let d = last_pushed c cs in
-    let own : None ≡ Some d.0.part = none ∙ ap last_part d.1 ∙ last_part-push (but_last (c ∷ cs)) d.0 in cc
-
--- both have a last component
-same-step : (rest wanted : List Placed) (p q : Part) → Some p ≡ last_part wanted → Some q ≡ last_part rest
-    → is_left_same rest wanted ≡ (is_left_same (but_last rest) (but_last wanted) && is_eq (kind_cmp q.kind p.kind))
-same-step rest [] p q some own = cc
-same-step [] (w ∷ ws) p q some own = cc
-same-step (c ∷ cs) (w ∷ ws) p q some own =
+-- from the back: both have a last component
+pub same-step : (rest wanted after others : List Placed) (p q : Part) (r : Bool) → Some p ≡ last_part wanted → Some q ≡ last_part rest → r ≡ is_eq (kind_cmp q.kind p.kind)
+    → after ≡ but_last rest → others ≡ but_last wanted → left_same rest wanted ≡ (r && left_same after others)
+same-step rest [] after others p q r some own is rest_is wanted_is = cc
+same-step [] (w ∷ ws) after others p q r some own is rest_is wanted_is = cc
+same-step (c ∷ cs) (w ∷ ws) after others p q r some own is rest_is wanted_is =
     let d = last_pushed c cs in
     let e = last_pushed w ws in
     let own_part = same_Some _ _ (own ∙ ap last_part d.1 ∙ last_part-push (but_last (c ∷ cs)) d.0) in
@@ -96,22 +61,9 @@ same-step (c ∷ cs) (w ∷ ws) p q some own =
     ap (λ ks. is_eq (kinds_cmp ks (kinds (parts (w ∷ ws))))) (ap (λ xs. kinds (parts xs)) d.1 ∙ kinds-push (but_last (c ∷ cs)) d.0)
     ∙ ap (λ ks. is_eq (kinds_cmp (kinds (parts (but_last (c ∷ cs))) ++ d.0.part.kind ∷ []) ks)) (ap (λ xs. kinds (parts xs)) e.1 ∙ kinds-push (but_last (w ∷ ws)) e.0)
     ∙ alike-push kind_cmp (kinds (parts (but_last (c ∷ cs)))) (kinds (parts (but_last (w ∷ ws)))) d.0.part.kind e.0.part.kind
-    ∙ ap (λ x. is_left_same (but_last (c ∷ cs)) (but_last (w ∷ ws)) && is_eq (kind_cmp d.0.part.kind x.kind)) (sym wanted_part)
-    ∙ ap (λ x. is_left_same (but_last (c ∷ cs)) (but_last (w ∷ ws)) && is_eq (kind_cmp x.kind p.kind)) (sym own_part)
-
--- these differ
-pub same-differ : (rest wanted : List Placed) (p q : Part) → Some p ≡ last_part wanted → Some q ≡ last_part rest → is_eq (kind_cmp q.kind p.kind) ≡ false → is_left_same rest wanted ≡ false
-same-differ rest wanted p q some own differ =
-    same-step rest wanted p q some own ∙ ap (λ b. is_left_same (but_last rest) (but_last wanted) && b) differ ∙ and-false _
-
--- these are alike
-pub same-alike : (rest wanted after others : List Placed) (p q : Part) → Some p ≡ last_part wanted → Some q ≡ last_part rest → is_eq (kind_cmp q.kind p.kind) ≡ true
-    → after ≡ but_last rest → others ≡ but_last wanted → is_left_same rest wanted ≡ is_left_same after others
-same-alike rest wanted after others p q some own alike rest_is wanted_is =
-    same-step rest wanted p q some own
-    ∙ ap (λ b. is_left_same (but_last rest) (but_last wanted) && b) alike
-    ∙ and-true _
-    ∙ ap₂ is_left_same (sym rest_is) (sym wanted_is)
+    ∙ and_comm (left_same (but_last (c ∷ cs)) (but_last (w ∷ ws))) (is_eq (kind_cmp d.0.part.kind e.0.part.kind))
+    ∙ ap₂ (λ x y. is_eq (kind_cmp x.kind y.kind) && left_same (but_last (c ∷ cs)) (but_last (w ∷ ws))) (sym own_part) (sym wanted_part)
+    ∙ ap₂ (λ x b. b && x) (ap₂ left_same (sym rest_is) (sym wanted_is)) (sym is)
 
 -- from the front: neither has anything left
 pub cmp-none : (rest wanted : List Placed) → None ≡ first_part wanted → None ≡ first_part rest → left_cmp rest wanted ≡ Equal
@@ -165,6 +117,28 @@ cmp-alike rest wanted after others p q r some own is alike rest_is wanted_is =
     ∙ ap (λ a. ordering_then a (left_cmp (drop 1 rest) (drop 1 wanted))) (sym is)
     ∙ then-tied r (left_cmp (drop 1 rest) (drop 1 wanted)) alike
     ∙ ap₂ left_cmp (sym rest_is) (sym wanted_is)
+
+-- whether they are alike is told by their first ones, and then by what is left
+pub alike-differ : (rest wanted : List Placed) (p q : Part) → Some p ≡ first_part wanted → Some q ≡ first_part rest → is_eq (kind_cmp q.kind p.kind) ≡ false → left_same rest wanted ≡ false
+alike-differ rest wanted p q some own differ =
+    ap is_eq (cmp-step rest wanted p q some own)
+    ∙ is_eq-then (kind_cmp q.kind p.kind) (left_cmp (drop 1 rest) (drop 1 wanted))
+    ∙ ap (λ b. b && left_same (drop 1 rest) (drop 1 wanted)) differ
+
+pub alike-step : (rest wanted after others : List Placed) (p q : Part) → Some p ≡ first_part wanted → Some q ≡ first_part rest → is_eq (kind_cmp q.kind p.kind) ≡ true
+    → after ≡ drop 1 rest → others ≡ drop 1 wanted → left_same rest wanted ≡ left_same after others
+alike-step rest wanted after others p q some own alike rest_is wanted_is =
+    ap is_eq (cmp-step rest wanted p q some own)
+    ∙ is_eq-then (kind_cmp q.kind p.kind) (left_cmp (drop 1 rest) (drop 1 wanted))
+    ∙ ap (λ b. b && left_same (drop 1 rest) (drop 1 wanted)) alike
+    ∙ ap₂ left_same (sym rest_is) (sym wanted_is)
+
+-- the answer is whether this one has nothing left
+pub alike-end : {A : Type 0} (view : A → Part) (rest wanted : List Placed) (r : Option A) (b : Bool) → None ≡ first_part wanted → option_map view r ≡ first_part rest → is_some r ≡ not b → b ≡ left_same rest wanted
+alike-end view rest wanted None true none taken is = sym (ap is_eq (cmp-none rest wanted none taken))
+alike-end view rest wanted None false none taken is = cc
+alike-end view rest wanted (Some x) true none taken is = cc
+alike-end view rest wanted (Some x) false none taken is = sym (ap is_eq (cmp-more rest wanted (view x) none taken))
 
 -- kinds that both lists begin with decide nothing
 cmp-shared : (ks us vs : List Kind) → kinds_cmp (ks ++ us) (ks ++ vs) ≡ kinds_cmp us vs

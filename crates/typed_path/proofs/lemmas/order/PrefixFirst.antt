@@ -5,10 +5,10 @@ use Rattle.std.specs.Ordering.{is_ne, ordering_reverse}
 use Rattle.std.proofs.lemmas.Option.{same_Some}
 use Rattle.typed_path.specs.components.Part.{Prefix, Kind, prefix, root, current, parent, normal, Placed, kinds, parts}
 use Rattle.typed_path.specs.queries.Queries.{first_prefix, is_prefix, behind_prefix}
-use Rattle.typed_path.specs.order.Same.{kind_cmp, are_same_prefixes, kinds_cmp, left_cmp}
+use Rattle.typed_path.specs.order.Same.{kind_cmp, are_same_prefixes, kinds_cmp, left_cmp, left_same}
 use Rattle.typed_path.specs.order.Laws.{kinds_cmp_total}
 use Rattle.typed_path.proofs.lemmas.order.OrderLaws.{kinds_cmp-is_eq}
-use Rattle.typed_path.proofs.lemmas.order.KindLemmas.{is_left_same, is_eq-then, then-decided, then-tied}
+use Rattle.typed_path.proofs.lemmas.order.KindLemmas.{is_eq-then, then-decided, then-tied}
 
 -- a list that begins with a prefix is that prefix and what stands behind it
 kinds-prefixed : (cs : List Placed) (p : Prefix) → Some p ≡ first_prefix (kinds (parts cs)) → kinds (parts cs) ≡ prefix p ∷ kinds (parts (behind_prefix cs))
@@ -65,19 +65,27 @@ module _ (cs ds bs : List Placed) (p : Prefix) (r : Ordering) (first : Some p �
   bare-prefixed = ap ordering_reverse prefixed-bare ∙ sym (kinds_cmp_total.antisymm (kinds (parts ds)) (kinds (parts cs)))
 
 -- lists of which one alone begins with a prefix are not the same
-unlike : (cs ds : List Placed) → first_prefix (kinds (parts cs)) ≢ first_prefix (kinds (parts ds)) → is_left_same cs ds ≡ false
-unlike cs ds differ = by (is_left_same cs ds) refl
+unlike : (cs ds : List Placed) → first_prefix (kinds (parts cs)) ≢ first_prefix (kinds (parts ds)) → left_same cs ds ≡ false
+unlike cs ds differ = by (left_same cs ds) refl
   where
-    by : (b : Bool) → is_left_same cs ds ≡ b → b ≡ false
+    by : (b : Bool) → left_same cs ds ≡ b → b ≡ false
     by false e = refl
     by true e = absurd (differ (ap first_prefix ((kinds_cmp-is_eq (kinds (parts cs)) (kinds (parts ds))).0 e)))
 
 -- lists are the same where their prefixes are, and what stands behind these
 pub same-prefixes : (cs ds : List Placed) (o r : Option Prefix) → o ≡ first_prefix (kinds (parts cs)) → r ≡ first_prefix (kinds (parts ds))
-    → is_left_same cs ds ≡ (are_same_prefixes o r && is_left_same (behind_prefix cs) (behind_prefix ds))
+    → left_same cs ds ≡ (are_same_prefixes o r && left_same (behind_prefix cs) (behind_prefix ds))
 same-prefixes cs ds None None first second = ap is_eq (sym (prefixes-none cs ds first second))
 same-prefixes cs ds (Some p) (Some q) first second =
     ap is_eq (ap₂ kinds_cmp (kinds-prefixed cs p first) (kinds-prefixed ds q second))
     ∙ is_eq-then (kind_cmp (prefix p) (prefix q)) (left_cmp (behind_prefix cs) (behind_prefix ds))
 same-prefixes cs ds (Some p) None first second = unlike cs ds (λ e. cc (first, second, e))
 same-prefixes cs ds None (Some q) first second = unlike cs ds (λ e. cc (first, second, e))
+
+-- so where the prefixes are the same, what stands behind them tells
+pub same-behind : (cs ds bs es : List Placed) (o r : Option Prefix) (b : Bool) → o ≡ first_prefix (kinds (parts cs)) → r ≡ first_prefix (kinds (parts ds))
+    → b ≡ are_same_prefixes o r → b ≡ true → bs ≡ behind_prefix cs → es ≡ behind_prefix ds → left_same cs ds ≡ left_same bs es
+same-behind cs ds bs es o r b first second is alike own other =
+    same-prefixes cs ds o r first second
+    ∙ ap (λ x. x && left_same (behind_prefix cs) (behind_prefix ds)) (sym is ∙ alike)
+    ∙ sym (ap₂ left_same own other)

@@ -1,11 +1,10 @@
 use Rattle.std.proofs.Common.{◌≡◌, length}
-use Rattle.typed_path.specs.order.Same.{is_same}
+use Rattle.typed_path.specs.order.Same.{is_same, left_same}
 use Rattle.typed_path.specs.views.BodyViews.{body_items}
-use Rattle.typed_path.proofs.lemmas.order.KindLemmas.{is_left_same}
 use Rattle.typed_path.proofs.common.order.have_same_components.Given as goal
 
 abbrev pub invariant-steps : goal.invariant-steps
-invariant-steps g l = is_same g.T.Encoding.dialect l.path l.other ≡ is_left_same (body_items l.rest) (body_items l.wanted)
+invariant-steps g l = is_same g.T.Encoding.dialect l.path l.other ≡ left_same (body_items l.rest) (body_items l.wanted)
 
 abbrev pub decreases-steps : goal.decreases-steps
 decreases-steps g l = length (body_items l.wanted)
