@@ -2,3 +2,4 @@
 pub mod Promises
 pub mod Joins
 pub mod Crossings
+pub mod Below

@@ -6,6 +6,7 @@
 -- ContainLemmas: lists put behind one another resolve one by one, where the second takes nothing away from the first
 -- UnixContained: a checked push on Unix stays within its base
 -- UnixJoin: a Unix path with a relative one joined to it
+-- BelowLemmas: a path that is not refused leads to names alone, so a checked join lies below its base
 -- UnixStrip: what is left of a Unix path behind a base, joined to that base
 -- EndedPrefixes: a base of Windows keeps its prefix where a path is put behind it, with a separator where it needs one
 -- SpelledPrefixes: a base of Windows keeps a verbatim prefix where its list is spelled anew
@@ -25,6 +26,7 @@ pub mod SpelledBases
 pub mod ContainLemmas
 pub mod UnixContained
 pub mod UnixJoin
+pub mod BelowLemmas
 pub mod UnixStrip
 pub mod EndedPrefixes
 pub mod SpelledPrefixes

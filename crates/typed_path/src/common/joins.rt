@@ -12,6 +12,7 @@ impl<'a, T: Encoding> Path<'a, T> {
     ghost use Rattle.typed_path.specs.changes.Checked.{refusal};
     ghost use Rattle.typed_path.specs.views.PathViews.{path_bytes};
     ghost use Rattle.typed_path.specs.promises.Promises.{HasPrefixOf, LiesWithin};
+    ghost use Rattle.typed_path.specs.promises.Below.{LiesBelow};
     ghost use Rattle.typed_path.specs.changes.Push as push_spec;
     ghost use Rattle.typed_path.specs.changes.Changes.{with_file_name, with_extension};
     ghost use Rattle.typed_path.specs.changes.Fault.{fault};
@@ -43,7 +44,8 @@ impl<'a, T: Encoding> Path<'a, T> {
     /// The path with another pushed onto it, unless that has a component that offends.
     ///
     /// The answer lies within this path, where it has the prefix of this one: on Unix `/etc` with
-    /// `abc/../def` is `/etc/abc/../def`. A path that is refused costs no memory.
+    /// `abc/../def` is `/etc/abc/../def`. Where this path keeps its prefix, the place of the answer is
+    /// that of this path, and then some names. A path that is refused costs no memory.
     ///
     /// # Errors
     ///
@@ -57,6 +59,7 @@ impl<'a, T: Encoding> Path<'a, T> {
         ensures prefix { IfOk result (λ p. HasPrefixOf T.dialect (path_bytes self.entry) p.bytes) }
         ensures contained { IfOk result
             (λ p. LiesWithin T.dialect (path_bytes self.entry) (path_bytes path.entry) p.bytes) }
+        ensures below { IfOk result (λ p. LiesBelow T.dialect (path_bytes self.entry) p.bytes) }
     {
         T::check(path.as_bytes())?;
         Ok(self.join(alloc, path)?)

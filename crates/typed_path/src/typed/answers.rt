@@ -21,6 +21,7 @@ ghost use Rattle.typed_path.specs.changes.Push as push_spec;
 ghost use Rattle.typed_path.specs.conversions.Convert.{platform, converted, converted_checked, absolute_from};
 ghost use Rattle.typed_path.specs.places.Places.{normal_text};
 ghost use Rattle.typed_path.specs.promises.Promises.{HasPrefixOf, LiesWithin, HasNormalForm};
+ghost use Rattle.typed_path.specs.promises.Below.{LiesBelow};
 ghost use Rattle.typed_path.specs.typed.Kind.{typed_dialect};
 ghost use Rattle.typed_path.specs.views.PathViews.{path_bytes};
 ghost use Rattle.typed_path.specs.views.TypedViews.{typed_bytes, owned_bytes, typed_items, typed_slice, typed_iter_items, typed_iter_slice, typed_ancestors_left, reading_dialect};
@@ -203,6 +204,7 @@ impl TypedPathBuf {
             (λ p. HasPrefixOf (typed_dialect self.now) (owned_bytes self.now) (owned_bytes p)) }
         ensures contained { IfOk result
             (λ p. LiesWithin (typed_dialect self.now) (owned_bytes self.now) path.now (owned_bytes p)) }
+        ensures below { IfOk result (λ p. LiesBelow (typed_dialect self.now) (owned_bytes self.now) (owned_bytes p)) }
     {
         self.to_path().join_checked(alloc, path)
     }

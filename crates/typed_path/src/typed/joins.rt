@@ -11,6 +11,7 @@ ghost use Rattle.typed_path.specs.changes.Push as push_spec;
 ghost use Rattle.typed_path.specs.conversions.Convert.{platform, converted, converted_checked, absolute_from};
 ghost use Rattle.typed_path.specs.places.Places.{normal_text};
 ghost use Rattle.typed_path.specs.promises.Promises.{HasPrefixOf, LiesWithin, HasNormalForm};
+ghost use Rattle.typed_path.specs.promises.Below.{LiesBelow};
 ghost use Rattle.typed_path.specs.typed.Kind.{typed_dialect};
 ghost use Rattle.typed_path.specs.views.PathViews.{path_bytes};
 ghost use Rattle.typed_path.specs.views.TypedViews.{typed_bytes, owned_bytes};
@@ -60,6 +61,7 @@ impl<'a> TypedPath<'a> {
             (λ p. HasPrefixOf (typed_dialect self.entry) (typed_bytes self.entry) (owned_bytes p)) }
         ensures contained { IfOk result
             (λ p. LiesWithin (typed_dialect self.entry) (typed_bytes self.entry) path.now (owned_bytes p)) }
+        ensures below { IfOk result (λ p. LiesBelow (typed_dialect self.entry) (typed_bytes self.entry) (owned_bytes p)) }
     {
         typed_result!(self, base => base.join_checked(alloc, Path::new(path)))
     }

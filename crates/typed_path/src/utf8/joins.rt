@@ -11,6 +11,7 @@ impl<'a, T: Utf8Encoding> Utf8Path<'a, T> {
     ghost use Rattle.std.specs.Prelude.{◌≡◌, [], IfOk, IsOk};
     ghost use Rattle.typed_path.specs.changes.Checked.{refusal};
     ghost use Rattle.typed_path.specs.promises.Promises.{HasPrefixOf, LiesWithin, HasNormalForm};
+    ghost use Rattle.typed_path.specs.promises.Below.{LiesBelow};
     ghost use Rattle.typed_path.specs.places.Places.{normal_text};
     ghost use Rattle.typed_path.specs.changes.Push as push_spec;
     ghost use Rattle.typed_path.specs.changes.Changes.{with_file_name, with_extension};
@@ -53,6 +54,7 @@ impl<'a, T: Utf8Encoding> Utf8Path<'a, T> {
         ensures prefix { IfOk result (λ p. HasPrefixOf T.Bytes.dialect (utf8_bytes self.entry) p.bytes) }
         ensures contained { IfOk result
             (λ p. LiesWithin T.Bytes.dialect (utf8_bytes self.entry) (utf8_bytes path.entry) p.bytes) }
+        ensures below { IfOk result (λ p. LiesBelow T.Bytes.dialect (utf8_bytes self.entry) p.bytes) }
     {
         owned!(
             self.as_bytes_path()

@@ -8,3 +8,7 @@ returns-clause-prefix c =
 pub returns-clause-contained : goal.returns-clause-contained
 returns-clause-contained c =
     rw (sym c.to_path.ensures.dialect) (rw (sym c.to_path.ensures.bytes) c.join_checked.ensures.contained)
+
+pub returns-clause-below : goal.returns-clause-below
+returns-clause-below c =
+    rw (sym c.to_path.ensures.dialect) (rw (sym c.to_path.ensures.bytes) c.join_checked.ensures.below)

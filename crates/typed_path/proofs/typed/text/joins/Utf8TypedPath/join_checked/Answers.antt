@@ -8,3 +8,6 @@ returns-in-Ok-join_checked-clause-contained c =
 pub returns-in-Err-join_checked-clause-refused : goal.returns-in-Err-join_checked-clause-refused
 returns-in-Err-join_checked-clause-refused c =
     rw c.in-Windows.is (rw (sym c.new-in-Windows.ensures) c.in-Err-join_checked.ensures.refused)
+
+pub returns-in-Ok-join_checked-clause-below : goal.returns-in-Ok-join_checked-clause-below
+returns-in-Ok-join_checked-clause-below c = rw c.in-Windows.is c.in-Ok-join_checked.ensures.below
