@@ -1,13 +1,19 @@
 //! Where the entries of an archive are unpacked, on Unix and on Windows.
 
-ghost use Rattle.std.specs.Prelude.{◌≡◌, true, map, IfOk};
+ghost use Rattle.std.specs.Prelude.{◌≡◌, ◌+◌, length, true, map, Some, IfOk};
+ghost use Rattle.std.specs.Vec.{vec_len};
+ghost use Rattle.std.specs.List.{All};
+ghost use Rattle.typed_path.specs.changes.Push as push_spec;
+ghost use Rattle.typed_path.specs.changes.Checked.{refusal};
+ghost use Rattle.typed_path.specs.changes.Fault.{fault};
 ghost use Rattle.typed_path.specs.views.PathViews.{path_bytes};
 ghost use Rattle.typed_path.specs.places.Places.{place};
 ghost use Rattle.typed_path.specs.promises.Promises.{keeps_prefix};
+ghost use Rattle.typed_path.specs.promises.Below.{IsBelow, LiesBelow};
 ghost use Rattle.typed_path_uses.specs.Uses.{place_within, places, places_within};
 
 use std::alloc::Global;
-use typed_path::{Encoding, Path, PathBuf, PathError};
+use typed_path::{CheckedPathError, Encoding, Path, PathBuf, PathError};
 
 /// Where an entry is unpacked. Where the base keeps its prefix, that is at the place of the base, and
 /// then at the names that the entry's own name leads to. A name that would lead out of the base is
@@ -20,8 +26,12 @@ pub fn target<T: Encoding>(
     base: Path<'_, T>,
     name: &[u8],
 ) -> Result<PathBuf<T>, PathError>
-    ensures { keeps_prefix T.dialect (path_bytes base.entry) ≡ true → IfOk result
+    ensures place { keeps_prefix T.dialect (path_bytes base.entry) ≡ true → IfOk result
         (λ p. place T.dialect p.bytes ≡ place_within T.dialect (path_bytes base.entry) name.now) }
+    ensures below { IfOk result (λ p. LiesBelow T.dialect (path_bytes base.entry) p.bytes) }
+    ensures joined { IfOk result (λ p. p.bytes
+        ≡ push_spec.push T.dialect (path_bytes base.entry) name.now) }
+    ensures refused { refusal result ≡ fault T.dialect name.now }
 {
     base.join_checked(alloc, Path::new(name))
 }
@@ -42,4 +52,49 @@ pub fn targets<T: Encoding>(
         targets.push(target(alloc, base, name)?)?;
     }
     Ok(targets)
+}
+
+/// An entry that is refused, and why.
+#[derive(Clone, Copy, Debug)]
+pub struct Refused<'a> {
+    /// The name of the entry.
+    pub name: &'a [u8],
+    /// What is wrong with it.
+    pub fault: CheckedPathError,
+}
+
+/// Where the entries of an archive are unpacked, and which of them are refused.
+#[derive(Drop)]
+pub struct Unpacking<'a, T: Encoding> {
+    /// Where those that are not refused go, in their order.
+    pub targets: Vec<PathBuf<T>>,
+    /// Those that are refused, in their order.
+    pub refused: Vec<Refused<'a>>,
+}
+
+/// Where the entries of an archive are unpacked, with the refusals of those that are not.
+///
+/// Where the base keeps its prefix, each target lies below it. Each refusal is the fault of the name
+/// that it stands beside, and no entry is lost.
+pub fn unpacked<'a, T: Encoding>(
+    alloc: Global,
+    base: Path<'_, T>,
+    names: &[&'a [u8]],
+) -> Result<Unpacking<'a, T>, PathError>
+    ensures below { keeps_prefix T.dialect (path_bytes base.entry) ≡ true → IfOk result
+        (λ u. All (λ p. IsBelow T.dialect (path_bytes base.entry) p.bytes) u.targets.items) }
+    ensures refused { IfOk result
+        (λ u. All (λ r. fault T.dialect r.name.now ≡ Some r.fault) u.refused.items) }
+    ensures all { IfOk result (λ u. vec_len u.targets + vec_len u.refused ≡ length names.now) }
+{
+    let mut targets = Vec::new(alloc);
+    let mut refused = Vec::new(alloc);
+    'names: for name in names {
+        match target(alloc, base, name) {
+            Ok(path) => targets.push(path)?,
+            Err(PathError::Checked(fault)) => refused.push(Refused { name, fault })?,
+            Err(PathError::OutOfMemory) => return Err(PathError::OutOfMemory),
+        }
+    }
+    Ok(Unpacking { targets, refused })
 }

@@ -3,14 +3,19 @@
 
 mod extractor;
 mod manifest;
+mod server;
 mod texts;
 mod tidy;
 mod typed;
 mod walk;
 
-pub use extractor::{target, targets};
+pub use extractor::{Refused, Unpacking, target, targets, unpacked};
 pub use manifest::{entry_on_windows, rewritten};
+pub use server::{UNIX_ROOT, Unserved, WINDOWS_ROOT, served, served_on_unix, served_on_windows};
 pub use texts::{text_key, text_target};
 pub use tidy::{are_one, key};
 pub use typed::{listed_as_on_unix, typed_target};
 pub use walk::listing;
+
+#[cfg(test)]
+mod tests;

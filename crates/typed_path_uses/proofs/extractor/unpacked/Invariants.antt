@@ -1,0 +1,17 @@
+use Rattle.std.proofs.Common.{◌≡◌, ◌+◌, true, vec_len}
+use Rattle.std.specs.Prelude.{Some}
+use Rattle.std.specs.List.{All}
+use Rattle.typed_path.specs.views.PathViews.{path_bytes}
+use Rattle.typed_path.specs.changes.Fault.{fault}
+use Rattle.typed_path.specs.promises.Promises.{keeps_prefix}
+use Rattle.typed_path.specs.promises.Below.{IsBelow}
+use Rattle.typed_path_uses.proofs.extractor.unpacked.Given as goal
+
+abbrev pub invariant-names : goal.invariant-names
+invariant-names g l =
+    let d = g.T.Encoding.dialect in
+    record {
+      below : keeps_prefix d (path_bytes l.base) ≡ true → All (λ p. IsBelow d (path_bytes l.base) p.bytes) l.targets.items;
+      refused : All (λ r. fault d r.name.now ≡ Some r.fault) l.refused.items;
+      all : vec_len l.targets + vec_len l.refused ≡ l.name-index;
+    }

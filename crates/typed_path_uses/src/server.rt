@@ -1,0 +1,132 @@
+//! The files that a server of files answers with, on Unix and on Windows.
+
+ghost use Rattle.std.specs.Prelude.{◌≡◌, IfOk, IfErr, Some};
+ghost use Rattle.typed_path.specs.components.Dialect.{unix, windows};
+ghost use Rattle.typed_path.specs.changes.Fault.{fault};
+ghost use Rattle.typed_path.specs.promises.Below.{IsBelow, LiesBelow};
+ghost use Rattle.typed_path.specs.views.PathViews.{path_bytes};
+ghost use Rattle.typed_path_uses.specs.Server.{behind_slash, decoded, IsReason};
+
+use percent_encoding::percent_decode;
+use std::alloc::{AllocError, Global};
+use thiserror::Error;
+use typed_path::constants::windows::DISALLOWED_FILENAME_BYTES;
+use typed_path::{
+    CheckedPathError, Encoding, Path, PathBuf, PathError, UnixPath, UnixPathBuf, WindowsPath,
+    WindowsPathBuf,
+};
+
+/// Why the path of a URL names no file.
+#[derive(Clone, Copy, Debug, PartialEq, Eq, Error)]
+pub enum Unserved {
+    /// It leads out of the root.
+    #[error("the path leads out of the root")]
+    Traversal,
+    /// It begins with a root, a drive or a share.
+    #[error("the path is absolute")]
+    Absolute,
+    /// A name of it holds the byte 00.
+    #[error("a name holds the byte 00")]
+    ZeroByte,
+    /// A name of it holds another byte that no name may have.
+    #[error("a name holds a byte that no name may have")]
+    BadName,
+    /// A name of it stands for a device.
+    #[error("a name stands for a device")]
+    Device,
+    /// Memory was refused.
+    #[error("out of memory")]
+    OutOfMemory,
+}
+
+impl From<AllocError> for Unserved {
+    ghost use Rattle.typed_path_uses.specs.declared.server.Unserved.TheVariants.{OutOfMemory};
+
+    ghost from_gives = { λ _ e. e ≡ OutOfMemory };
+
+    fn from(_refused: AllocError) -> Unserved {
+        Unserved::OutOfMemory
+    }
+}
+
+/// The file that the path of a URL names, below a root that keeps its prefix; or why it names none.
+///
+/// The path begins with a `/`, and its escapes are read before it is judged.
+pub fn served<T: Encoding>(
+    alloc: Global,
+    root: Path<'_, T>,
+    url: &[u8],
+) -> Result<PathBuf<T>, Unserved>
+    ensures below { IfOk result (λ file. LiesBelow T.dialect (path_bytes root.entry) file.bytes) }
+    ensures refused { IfErr result (λ reason. IsReason reason (fault T.dialect (decoded url.now))) }
+{
+    let path = decode(alloc, url)?;
+    match root.join_checked(alloc, Path::new(path.as_slice())) {
+        Ok(file) => Ok(file),
+        Err(PathError::Checked(fault)) => Err(reason(fault, path.as_slice())),
+        Err(PathError::OutOfMemory) => Err(Unserved::OutOfMemory),
+    }
+}
+
+/// The root of the files on Unix.
+pub const UNIX_ROOT: &[u8] = b"/srv/www";
+
+/// The root of the files on Windows.
+pub const WINDOWS_ROOT: &[u8] = br"C:\www";
+
+/// The file of a URL on Unix, below `/srv/www`.
+pub fn served_on_unix(alloc: Global, url: &[u8]) -> Result<UnixPathBuf, Unserved>
+    ensures { IfOk result (λ file. IsBelow unix UNIX_ROOT.now file.bytes) }
+{
+    served(alloc, UnixPath::new(UNIX_ROOT), url)
+}
+
+/// The file of a URL on Windows, below `C:\www`.
+pub fn served_on_windows(alloc: Global, url: &[u8]) -> Result<WindowsPathBuf, Unserved>
+    ensures { IfOk result (λ file. IsBelow windows WINDOWS_ROOT.now file.bytes) }
+{
+    served(alloc, WindowsPath::new(WINDOWS_ROOT), url)
+}
+
+/// The path of a URL behind its first `/`, with its escapes read.
+fn decode(alloc: Global, url: &[u8]) -> Result<Vec<u8>, AllocError>
+    ensures { IfOk result (λ path. path.items ≡ decoded url.now) }
+{
+    let mut path = Vec::new(alloc);
+    percent_decode(without_slash(url)).append_to(&mut path)?;
+    Ok(path)
+}
+
+/// A text without a `/` at its front.
+fn without_slash(url: &[u8]) -> &[u8]
+    ensures { result.now ≡ behind_slash url.now }
+{
+    match url {
+        [b'/', rest @ ..] => rest,
+        _ => url,
+    }
+}
+
+/// What a fault of a path is called.
+fn reason(fault: CheckedPathError, path: &[u8]) -> Unserved
+    ensures { IsReason result (Some fault) }
+{
+    match fault {
+        CheckedPathError::PathTraversalAttack => Unserved::Traversal,
+        CheckedPathError::UnexpectedRoot | CheckedPathError::UnexpectedPrefix => Unserved::Absolute,
+        CheckedPathError::InvalidFilename => {
+            if path.contains(&0) {
+                Unserved::ZeroByte
+            } else if path.iter().any(is_stray) {
+                Unserved::BadName
+            } else {
+                Unserved::Device
+            }
+        }
+    }
+}
+
+/// Whether no name of Windows may have a byte, which is no separator.
+fn is_stray(byte: &u8) -> bool {
+    *byte != b'/' && *byte != b'\\' && DISALLOWED_FILENAME_BYTES.contains(byte)
+}

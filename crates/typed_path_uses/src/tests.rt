@@ -1,0 +1,113 @@
+//! Each caller at work: rows of known answers.
+
+use crate::{Unserved, served_on_unix, served_on_windows, unpacked};
+use std::alloc::Global;
+use std::test::Fail;
+use typed_path::{CheckedPathError, Encoding, Path, PathError, UnixEncoding, WindowsEncoding};
+
+#[test]
+fn served_files(rt: HostRuntime) -> Result<(), Fail> {
+    use Unserved::{Absolute, BadName, Device, Traversal, ZeroByte};
+    let rows: [(&[u8], Result<&[u8], Unserved>, Result<&[u8], Unserved>); 12] = [
+        (
+            b"/index.html",
+            Ok(b"/srv/www/index.html"),
+            Ok(br"C:\www\index.html"),
+        ),
+        (
+            b"/my%20page.html",
+            Ok(b"/srv/www/my page.html"),
+            Ok(br"C:\www\my page.html"),
+        ),
+        (
+            b"/a/%2e%2e/b",
+            Ok(b"/srv/www/a/../b"),
+            Ok(br"C:\www\a/../b"),
+        ),
+        (b"/%2e%2e%2fetc/passwd", Err(Traversal), Err(Traversal)),
+        (b"/a/../../b", Err(Traversal), Err(Traversal)),
+        (
+            b"/..%5cboot.ini",
+            Ok(br"/srv/www/..\boot.ini"),
+            Err(Traversal),
+        ),
+        (b"/c%3a", Ok(b"/srv/www/c:"), Err(Absolute)),
+        (b"//etc/passwd", Err(Absolute), Err(Absolute)),
+        (b"/%00", Err(ZeroByte), Err(ZeroByte)),
+        (b"/con", Ok(b"/srv/www/con"), Err(Device)),
+        (b"/nul.txt", Ok(b"/srv/www/nul.txt"), Err(Device)),
+        (b"/a%3fb", Ok(b"/srv/www/a?b"), Err(BadName)),
+    ];
+    for (url, on_unix, on_windows) in rows {
+        let unix = served_on_unix(rt.alloc(), url);
+        let windows = served_on_windows(rt.alloc(), url);
+        assert_eq!(rt;
+            unix.as_ref()
+                .map(|file| file.as_path().as_bytes())
+                .map_err(|e| *e),
+            on_unix
+        );
+        assert_eq!(rt;
+            windows
+                .as_ref()
+                .map(|file| file.as_path().as_bytes())
+                .map_err(|e| *e),
+            on_windows
+        );
+    }
+    Ok(())
+}
+
+/// How many of three entries are unpacked below a base, and the fault for which one is refused.
+fn unpacked_with<T: Encoding>(
+    alloc: Global,
+    base: &[u8],
+    name: &[u8],
+) -> Result<(usize, Option<CheckedPathError>), PathError> {
+    let all = unpacked(alloc, Path::<T>::new(base), &[b"a", name, b"b"])?;
+    Ok((
+        all.targets.len(),
+        all.refused.first().map(|refused| refused.fault),
+    ))
+}
+
+/// What is unpacked beside two plain entries, by the fault of the third.
+fn wanted(fault: Option<CheckedPathError>) -> (usize, Option<CheckedPathError>) {
+    (if fault.is_none() { 3 } else { 2 }, fault)
+}
+
+#[test]
+fn traps_of_archives(rt: HostRuntime) -> Result<(), Fail> {
+    use CheckedPathError::{
+        InvalidFilename, PathTraversalAttack, UnexpectedPrefix, UnexpectedRoot,
+    };
+    let rows: [(&[u8], Option<CheckedPathError>, Option<CheckedPathError>); 12] = [
+        (b"docs/read me.txt", None, None),
+        (b"a/../b", None, None),
+        (
+            b"../evil",
+            Some(PathTraversalAttack),
+            Some(PathTraversalAttack),
+        ),
+        (
+            b"a/../../b",
+            Some(PathTraversalAttack),
+            Some(PathTraversalAttack),
+        ),
+        (b"/etc/passwd", Some(UnexpectedRoot), Some(UnexpectedRoot)),
+        (br"..\evil", None, Some(PathTraversalAttack)),
+        (br"\evil", None, Some(UnexpectedRoot)),
+        (br"C:\evil", None, Some(UnexpectedPrefix)),
+        (b"C:evil", None, Some(UnexpectedPrefix)),
+        (br"\\server\share\evil", None, Some(UnexpectedPrefix)),
+        (b"nul", None, Some(InvalidFilename)),
+        (b"a\0b", Some(InvalidFilename), Some(InvalidFilename)),
+    ];
+    for (name, on_unix, on_windows) in rows {
+        let unix = unpacked_with::<UnixEncoding>(rt.alloc(), b"/srv/out", name)?;
+        assert_eq!(rt; unix, wanted(on_unix));
+        let windows = unpacked_with::<WindowsEncoding>(rt.alloc(), br"C:\out", name)?;
+        assert_eq!(rt; windows, wanted(on_windows));
+    }
+    Ok(())
+}
