@@ -6,11 +6,20 @@ use std::str;
 use std::test::Fail;
 use typed_path::{TypedPath, UnixPath, Utf8TypedPath, Utf8UnixPath, Utf8WindowsPath, WindowsPath};
 
+/// How many items there are.
+fn number_of<I: Iterator>(items: I) -> usize {
+    let mut number = 0usize;
+    for _ in items {
+        number = number.saturating_add(1);
+    }
+    number
+}
+
 /// Whether a path has so many components, read from either end, and this normal text.
 macro_rules! is_read {
     ($path:expr, $alloc:expr, $count:expr, $normal:expr) => {
-        $path.components().count() == $count
-            && $path.components().rev().count() == $count
+        number_of($path.components()) == $count
+            && number_of($path.components().rev()) == $count
             && $path.normalize($alloc)?.as_path() == $normal
     };
 }
@@ -35,8 +44,8 @@ fn is_read_on_unix(
             alloc,
             count,
             Utf8UnixPath::new(normal)
-        ) && typed.components().count() == count
-            && either.components().count() == count
+        ) && number_of(typed.components()) == count
+            && number_of(either.components()) == count
             && typed.normalize(alloc)?.as_bytes() == normal.as_bytes()
             && either.normalize(alloc)?.eq_str(normal),
     )
@@ -62,8 +71,8 @@ fn is_read_on_windows(
             alloc,
             count,
             Utf8WindowsPath::new(normal)
-        ) && typed.components().count() == count
-            && either.components().count() == count
+        ) && number_of(typed.components()) == count
+            && number_of(either.components()) == count
             && typed.normalize(alloc)?.as_bytes() == normal.as_bytes()
             && either.normalize(alloc)?.eq_str(normal),
     )
@@ -76,12 +85,12 @@ fn megabytes_of_both_dialects(rt: HostRuntime) -> Result<(), Fail> {
     let dots = str::from_utf8(dots.as_slice()).unwrap_or("");
     assert!(rt; is_read_on_unix(alloc, dots, 1, dots)?);
     assert!(rt; is_read_on_windows(alloc, dots, 1, dots)?);
-    let rows: [(&[u8], usize, usize); 3] = [
+    const ROWS: &[(&[u8], usize, usize)] = &[
         (b"./", 524_288, 1),
         (b"../", 300_000, 300_000),
         (b"a/../", 200_000, 400_000),
     ];
-    for (part, times, count) in rows {
+    for &(part, times, count) in ROWS {
         let text = repeated(alloc, b"", part, times, b"")?;
         let text = str::from_utf8(text.as_slice()).unwrap_or("");
         assert!(rt; is_read_on_unix(alloc, text, count, "")?);
@@ -95,7 +104,7 @@ fn megabytes_of_windows(rt: HostRuntime) -> Result<(), Fail> {
     let alloc = rt.alloc();
     // What the text begins with, and has so many times behind it, how many components it has, and
     // the same of its normal text.
-    let rows: [(&[u8], &[u8], usize, usize, &[u8], &[u8]); 5] = [
+    const ROWS: &[(&[u8], &[u8], usize, usize, &[u8], &[u8])] = &[
         (b"a", br"\a", 524_287, 524_288, b"a", br"\a"),
         (br"\\?\C:\x", b"/name", 209_715, 3, br"\\?\C:\x", br"\name"),
         (br"\\?\C:", br"\a/b", 262_144, 262_146, br"\\?\C:", br"\a\b"),
@@ -109,7 +118,7 @@ fn megabytes_of_windows(rt: HostRuntime) -> Result<(), Fail> {
         ),
         (br"\\?\", br"\\?\", 262_144, 262_146, br"\\?\", br"\?"),
     ];
-    for (begin, part, times, count, wanted_begin, wanted) in rows {
+    for &(begin, part, times, count, wanted_begin, wanted) in ROWS {
         let text = repeated(alloc, begin, part, times, b"")?;
         let wanted = repeated(alloc, wanted_begin, wanted, times, b"")?;
         let text = str::from_utf8(text.as_slice()).unwrap_or("");

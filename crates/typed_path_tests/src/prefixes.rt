@@ -4,30 +4,30 @@ use typed_path::{Component, ParseError, WindowsComponent, WindowsPrefix, Windows
 
 #[test]
 fn prefixes_from_texts(rt: HostRuntime) {
-    let none = "not a prefix";
-    let more = "contains more than prefix";
-    let rows: [(&[u8], Result<WindowsPrefix<'_>, ParseError>); 38] = [
-        (b"", Err(none)),
-        (b"a", Err(none)),
-        (b":", Err(none)),
-        (b"1:", Err(none)),
-        (br"\", Err(none)),
-        (br"\\", Err(none)),
-        (br"\\\", Err(none)),
-        (br"\\\x", Err(none)),
+    const NONE: &str = "not a prefix";
+    const MORE: &str = "contains more than prefix";
+    const ROWS: &[(&[u8], Result<WindowsPrefix<'static>, ParseError>)] = &[
+        (b"", Err(NONE)),
+        (b"a", Err(NONE)),
+        (b":", Err(NONE)),
+        (b"1:", Err(NONE)),
+        (br"\", Err(NONE)),
+        (br"\\", Err(NONE)),
+        (br"\\\", Err(NONE)),
+        (br"\\\x", Err(NONE)),
         (b"c:", Ok(WindowsPrefix::Disk(b'C'))),
-        (br"C:\", Err(more)),
-        (b"C:.", Err(more)),
+        (br"C:\", Err(MORE)),
+        (b"C:.", Err(MORE)),
         (b"\xE9:", Ok(WindowsPrefix::Disk(0xE9))),
         (b"\xAA:", Ok(WindowsPrefix::Disk(0xAA))),
-        (b"\xD7:", Err(none)),
-        (b"\xF7:", Err(none)),
+        (b"\xD7:", Err(NONE)),
+        (b"\xF7:", Err(NONE)),
         (br"\\?", Ok(WindowsPrefix::UNC(b"?", b""))),
         (br"\\?\", Ok(WindowsPrefix::UNC(b"?", b""))),
-        (br"\\?\\", Err(more)),
+        (br"\\?\\", Err(MORE)),
         (br"\\?\U", Ok(WindowsPrefix::Verbatim(b"U"))),
         (br"\\?\UNC", Ok(WindowsPrefix::Verbatim(b"UNC"))),
-        (br"\\?\UNC\", Err(more)),
+        (br"\\?\UNC\", Err(MORE)),
         (br"\\?\UNC\s", Ok(WindowsPrefix::VerbatimUNC(b"s", b""))),
         (
             br"\\?\UNC\srv\",
@@ -37,22 +37,22 @@ fn prefixes_from_texts(rt: HostRuntime) {
             br"\\?\UNC\srv\sh",
             Ok(WindowsPrefix::VerbatimUNC(b"srv", b"sh")),
         ),
-        (br"\\?\UNC\srv\sh\", Err(more)),
-        (br"\\?\unc\s", Err(more)),
+        (br"\\?\UNC\srv\sh\", Err(MORE)),
+        (br"\\?\unc\s", Err(MORE)),
         (br"\\?\UNC/s/h", Ok(WindowsPrefix::Verbatim(b"UNC/s/h"))),
         (b"//?/UNC/s/h", Ok(WindowsPrefix::VerbatimUNC(b"s", b"h"))),
         (br"\\?\c:", Ok(WindowsPrefix::VerbatimDisk(b'C'))),
         (br"\/?\C:", Ok(WindowsPrefix::VerbatimDisk(b'C'))),
-        (br"\\?\c:/x", Err(more)),
+        (br"\\?\c:/x", Err(MORE)),
         (br"\\.", Ok(WindowsPrefix::UNC(b".", b""))),
         (br"\\.\", Ok(WindowsPrefix::UNC(b".", b""))),
         (b"//./COM1", Ok(WindowsPrefix::DeviceNS(b"COM1"))),
         (br"\\s\h", Ok(WindowsPrefix::UNC(b"s", b"h"))),
         (br"\\s\", Ok(WindowsPrefix::UNC(b"s", b""))),
-        (br"\\s\\", Err(more)),
-        (br"\\s\h\", Err(more)),
+        (br"\\s\\", Err(MORE)),
+        (br"\\s\h\", Err(MORE)),
     ];
-    for (text, wanted) in rows {
+    for &(text, wanted) in ROWS {
         assert!(rt; WindowsPrefix::try_from(text) == wanted);
         let component = WindowsPrefixComponent::try_from(text);
         assert!(rt; component.map(|component| component.kind()) == wanted);
@@ -105,7 +105,7 @@ fn single_components(rt: HostRuntime) {
     };
     assert!(rt; share.kind().len() == 8);
     assert!(rt; share.len() == 9);
-    let rows: [(WindowsComponent<'_>, &[u8], bool, bool); 7] = [
+    const ROWS: &[(WindowsComponent<'static>, &[u8], bool, bool)] = &[
         (WindowsComponent::Prefix(share), br"\\server\", true, true),
         (WindowsComponent::Prefix(drive), b"c:", false, true),
         (WindowsComponent::RootDir, br"\", true, true),
@@ -114,7 +114,7 @@ fn single_components(rt: HostRuntime) {
         (WindowsComponent::Normal(b"a"), b"a", false, true),
         (WindowsComponent::Normal(b"a:b"), b"a:b", false, false),
     ];
-    for (component, text, root, valid) in rows {
+    for &(component, text, root, valid) in ROWS {
         assert!(rt; component.as_bytes() == text);
         assert!(rt; component.len() == text.len());
         assert!(rt; component.is_root() == root);
@@ -123,5 +123,5 @@ fn single_components(rt: HostRuntime) {
         assert!(rt; prefix == component.prefix_kind());
         assert!(rt; prefix.is_some() == component.is_prefix());
     }
-    assert!(rt; rows.windows(2).all(|pair| pair[0].0 < pair[1].0));
+    assert!(rt; ROWS.windows(2).all(|pair| pair[0].0 < pair[1].0));
 }

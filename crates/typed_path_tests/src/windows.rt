@@ -43,18 +43,28 @@ fn are_read_alike(text: &str) -> bool {
     let (mut last, mut last_typed, mut last_text) = (texts, typed, typed_texts);
     for component in wanted {
         let bytes = component.as_bytes();
-        if !texts.next().is_some_and(|it| it.as_str().as_bytes() == bytes)
+        if !texts
+            .next()
+            .is_some_and(|it| it.as_str().as_bytes() == bytes)
             || !typed.next().is_some_and(|it| it.as_bytes() == bytes)
-            || !typed_texts.next().is_some_and(|it| it.as_str().as_bytes() == bytes)
+            || !typed_texts
+                .next()
+                .is_some_and(|it| it.as_str().as_bytes() == bytes)
         {
             return false;
         }
     }
     for component in wanted.rev() {
         let bytes = component.as_bytes();
-        if !last.next_back().is_some_and(|it| it.as_str().as_bytes() == bytes)
-            || !last_typed.next_back().is_some_and(|it| it.as_bytes() == bytes)
-            || !last_text.next_back().is_some_and(|it| it.as_str().as_bytes() == bytes)
+        if !last
+            .next_back()
+            .is_some_and(|it| it.as_str().as_bytes() == bytes)
+            || !last_typed
+                .next_back()
+                .is_some_and(|it| it.as_bytes() == bytes)
+            || !last_text
+                .next_back()
+                .is_some_and(|it| it.as_str().as_bytes() == bytes)
         {
             return false;
         }
@@ -64,7 +74,7 @@ fn are_read_alike(text: &str) -> bool {
 
 #[test]
 fn component_lists(rt: HostRuntime) {
-    let rows: [(&[u8], Option<WindowsPrefix<'_>>, &[&[u8]]); 33] = [
+    const ROWS: &[(&[u8], Option<WindowsPrefix<'static>>, &[&[u8]])] = &[
         (b"", None, &[]),
         (
             br"C:\path\to\file.txt",
@@ -187,7 +197,7 @@ fn component_lists(rt: HostRuntime) {
         ),
         (b"1:", None, &[b"1:"]),
     ];
-    for (text, prefix, texts) in rows {
+    for &(text, prefix, texts) in ROWS {
         let components = components(text);
         assert!(rt; components.prefix_kind() == prefix);
         let raw = components.prefix().map(|prefix| prefix.as_bytes());
@@ -240,7 +250,7 @@ fn share_cut_after_each_byte(rt: HostRuntime) {
 #[test]
 fn questions(rt: HostRuntime) {
     // Absolute, rooted, with a root written, with one implied; and which of the kinds the prefix is.
-    let rows: [(&[u8], [bool; 4], usize); 17] = [
+    const ROWS: &[(&[u8], [bool; 4], usize)] = &[
         (b"", [false, false, false, false], 6),
         (b"a", [false, false, false, false], 6),
         (br"\x", [false, true, true, false], 6),
@@ -259,7 +269,7 @@ fn questions(rt: HostRuntime) {
         (b"C:", [false, false, false, false], 5),
         (b"C:a", [false, false, false, false], 5),
     ];
-    for (text, roots, kind) in rows {
+    for &(text, roots, kind) in ROWS {
         let c = components(text);
         let answers = [
             c.is_absolute(),
@@ -286,7 +296,7 @@ fn questions(rt: HostRuntime) {
 
 #[test]
 fn slices_left(rt: HostRuntime) {
-    let rows: [(&[u8], usize, usize, &[u8]); 14] = [
+    const ROWS: &[(&[u8], usize, usize, &[u8])] = &[
         (br"\\?\C:\a\.\b", 0, 0, br"\\?\C:\a\.\b"),
         (br"\\?\C:\a\.\b", 0, 1, br"\\?\C:\a\."),
         (br"\\?\C:\a\.\b", 0, 2, br"\\?\C:\a"),
@@ -302,7 +312,7 @@ fn slices_left(rt: HostRuntime) {
         (br"a\C:", 1, 0, b"C:"),
         (b"C://a", 1, 0, b"//a"),
     ];
-    for (text, fronts, backs, left) in rows {
+    for &(text, fronts, backs, left) in ROWS {
         let mut components = components(text);
         for _ in 0..fronts {
             assert!(rt; components.next().is_some());
@@ -317,19 +327,19 @@ fn slices_left(rt: HostRuntime) {
 
 #[test]
 fn single_texts(rt: HostRuntime) {
-    let none = "no component found";
-    let more = "found more than one component";
-    let rows: [(&[u8], Result<WindowsComponent<'_>, ParseError>); 8] = [
-        (b"", Err(none)),
-        (br"C:\", Err(more)),
-        (br"\a", Err(more)),
+    const NONE: &str = "no component found";
+    const MORE: &str = "found more than one component";
+    const ROWS: &[(&[u8], Result<WindowsComponent<'static>, ParseError>)] = &[
+        (b"", Err(NONE)),
+        (br"C:\", Err(MORE)),
+        (br"\a", Err(MORE)),
         (b"/", Ok(WindowsComponent::RootDir)),
         (b"//", Ok(WindowsComponent::RootDir)),
         (b".", Ok(WindowsComponent::CurDir)),
         (b"..", Ok(WindowsComponent::ParentDir)),
         (br"a/\.", Ok(WindowsComponent::Normal(b"a"))),
     ];
-    for (text, wanted) in rows {
+    for &(text, wanted) in ROWS {
         assert!(rt; WindowsComponent::try_from(text) == wanted);
     }
     let drive = WindowsPrefixComponent::try_from("C:").map(WindowsComponent::Prefix);
