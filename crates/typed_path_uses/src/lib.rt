@@ -2,6 +2,7 @@
 #![tactic(auto)]
 
 mod extractor;
+mod ignore;
 mod manifest;
 mod server;
 mod texts;
@@ -10,6 +11,7 @@ mod typed;
 mod walk;
 
 pub use extractor::{Refused, Unpacking, target, targets, unpacked};
+pub use ignore::{Rule, fits, is_ignored};
 pub use manifest::{entry_on_windows, rewritten};
 pub use server::{UNIX_ROOT, Unserved, WINDOWS_ROOT, served, served_on_unix, served_on_windows};
 pub use texts::{text_key, text_target};

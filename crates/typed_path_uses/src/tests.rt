@@ -1,9 +1,12 @@
 //! Each caller at work: rows of known answers.
 
-use crate::{Unserved, served_on_unix, served_on_windows, unpacked};
+use crate::{Rule, Unserved, is_ignored, served_on_unix, served_on_windows, unpacked};
 use std::alloc::Global;
 use std::test::Fail;
-use typed_path::{CheckedPathError, Encoding, Path, PathError, UnixEncoding, WindowsEncoding};
+use typed_path::{
+    CheckedPathError, Encoding, Path, PathError, UnixEncoding, UnixPath, WindowsEncoding,
+    WindowsPath,
+};
 
 #[test]
 fn served_files(rt: HostRuntime) -> Result<(), Fail> {
@@ -108,6 +111,44 @@ fn traps_of_archives(rt: HostRuntime) -> Result<(), Fail> {
         assert_eq!(rt; unix, wanted(on_unix));
         let windows = unpacked_with::<WindowsEncoding>(rt.alloc(), br"C:\out", name)?;
         assert_eq!(rt; windows, wanted(on_windows));
+    }
+    Ok(())
+}
+
+#[test]
+fn ignored_paths(rt: HostRuntime) -> Result<(), Fail> {
+    let rules = [
+        Rule::new(b"target/"),
+        Rule::new(b"a/*/c"),
+        Rule::new(b"!a/keep/c"),
+        Rule::new(b"/x"),
+        Rule::new(b"*.o"),
+        Rule::new(b"c:/tmp/*"),
+    ];
+    let rows: [(&[u8], bool, bool, bool); 16] = [
+        (b"target", true, true, true),
+        (b"target", false, false, false),
+        (b"./target//", true, false, false),
+        (b"target//.", true, true, true),
+        (b"a/b/c", false, true, true),
+        (b"a//b/./c", false, true, true),
+        (br"a\b/c", false, false, true),
+        (b"a/keep/c", false, false, false),
+        (br"a\\keep/c", false, false, false),
+        (b"a/../c", false, false, false),
+        (b"a/b/c/d", false, false, false),
+        (b"x", false, false, false),
+        (br"\x", false, false, true),
+        (b"main.o", false, false, false),
+        (b"*.o", false, true, true),
+        (br"C:\tmp\1", false, false, true),
+    ];
+    for (path, is_folder, on_unix, on_windows) in rows {
+        assert_eq!(rt; is_ignored(&rules, UnixPath::new(path), is_folder), on_unix);
+        assert_eq!(rt;
+            is_ignored(&rules, WindowsPath::new(path), is_folder),
+            on_windows
+        );
     }
     Ok(())
 }
