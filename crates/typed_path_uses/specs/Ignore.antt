@@ -1,6 +1,6 @@
 -- What a list of ignore rules promises.
-use Rattle.std.specs.Prelude.{ℕ, List, [], ◌∷◌, Bool, false, not, ◌&&◌, ◌||◌, ◌==◌, nat_eq, fold, if◌then◌else◌}
-use Rattle.std.specs.List.{filter, starts_with, ends_with}
+use Rattle.std.specs.Prelude.{◌≡◌, ℕ, List, [], ◌∷◌, ◌++◌, Bool, true, false, not, ◌&&◌, ◌||◌, ◌==◌, nat_eq, fold, if◌then◌else◌}
+use Rattle.std.specs.List.{filter, list_any, starts_with, ends_with}
 use Rattle.std.specs.Cmp.Lexicographic.{pointwise}
 use Rattle.std.specs.Ordering.{is_eq}
 use Rattle.typed_path.specs.components.Dialect.{Dialect, slash}
@@ -42,10 +42,18 @@ fits_kind k l = (is_star k && is_name l) || is_eq (kind_cmp k l)
 abbrev pub fits : List Kind → List Kind → Bool
 fits = pointwise fits_kind
 
--- a rule fits a path: a folder where it is for folders alone
-abbrev pub rule_fits : Dialect → List ℕ → Bool → Rule → Bool
-rule_fits d path is_folder rule = (not rule.is_folder || is_folder) && fits (kinds (parts_of d rule.pattern.now)) (kinds (parts_of d path))
+-- a rule fits a path, by its components: a folder alone where it is for folders
+abbrev pub rule_fits : Dialect → List Kind → Bool → Rule → Bool
+rule_fits d path is_folder rule = (not rule.is_folder || is_folder) && fits (kinds (parts_of d rule.pattern.now)) path
 
 -- of the rules that fit, the last decides; where none fits, the path is not ignored
-abbrev pub is_ignored : Dialect → List ℕ → Bool → List Rule → Bool
+abbrev pub is_ignored : Dialect → List Kind → Bool → List Rule → Bool
 is_ignored d path is_folder rules = fold (λ earlier rule. not rule.is_back) false (filter (rule_fits d path is_folder) rules)
+
+-- a rule of a list fits, and none behind it does
+pub record IsLastThatFits (rule_fits : Rule → Bool) (rules : List Rule) (rule : Rule) : Type 0 where
+  pub earlier : List Rule
+  pub later : List Rule
+  pub stands : rules ≡ earlier ++ rule ∷ later
+  pub does_fit : rule_fits rule ≡ true
+  pub none_later : list_any rule_fits later ≡ false

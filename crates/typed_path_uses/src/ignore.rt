@@ -1,12 +1,13 @@
 //! Which paths of a tree are ignored, by rules that are read from lines.
 
-ghost use Rattle.std.specs.Prelude.{◌≡◌, ◌&&◌, List, ◌∷◌};
+ghost use Rattle.std.specs.Prelude.{◌≡◌, ◌&&◌, not, List, ◌∷◌};
 ghost use Rattle.typed_path.specs.components.Part.{Kind, normal, kinds};
 ghost use Rattle.typed_path.specs.components.Comps.{parts_of};
 ghost use Rattle.typed_path.specs.views.PathViews.{path_bytes, components_parts};
 ghost use Rattle.typed_path.specs.views.PieceViews.{part_of};
+ghost use Rattle.typed_path_uses.specs.declared.ignore.Rule.{Rule};
 ghost use Rattle.typed_path_uses.specs.Ignore as ignore_spec;
-ghost use Rattle.typed_path_uses.specs.Ignore.{begins_with_mark, behind_mark, ends_with_slash, fits_kind, rule_fits};
+ghost use Rattle.typed_path_uses.specs.Ignore.{begins_with_mark, behind_mark, ends_with_slash, fits_kind, rule_fits, IsLastThatFits};
 
 use typed_path::{Components, Encoding, Path, Piece, PieceKind};
 
@@ -97,15 +98,21 @@ fn fits_path<T: Encoding>(pattern: Path<'_, T>, path: Path<'_, T>) -> bool
 
 /// Whether a rule fits a path, which is a folder or not.
 pub fn fits<T: Encoding>(rule: Rule<'_>, path: Path<'_, T>, is_folder: bool) -> bool
-    ensures { result ≡ rule_fits T.dialect (path_bytes path.entry) is_folder rule.entry }
+    ensures { result ≡ rule_fits T.dialect (kinds (parts_of T.dialect (path_bytes path.entry)))
+        is_folder rule.entry }
 {
     (!rule.is_folder || is_folder) && fits_path(Path::new(rule.pattern), path)
 }
 
-/// Whether a path is ignored: the last rule that fits it decides.
+/// Whether a path is ignored: the last rule that fits it decides, and where none does it is not.
 pub fn is_ignored<T: Encoding>(rules: &[Rule<'_>], path: Path<'_, T>, is_folder: bool) -> bool
-    ensures { result
-        ≡ ignore_spec.is_ignored T.dialect (path_bytes path.entry) is_folder rules.now }
+    ensures answer { result
+        ≡ ignore_spec.is_ignored T.dialect (kinds (parts_of T.dialect (path_bytes path.entry)))
+        is_folder rules.now }
+    ensures last { (rule : Rule)
+        → IsLastThatFits (rule_fits T.dialect (kinds (parts_of T.dialect (path_bytes path.entry))) is_folder)
+        rules.now rule
+        → result ≡ not rule.is_back }
 {
     let mut ignored = false;
     'rules: for rule in rules {

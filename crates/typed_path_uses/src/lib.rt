@@ -12,7 +12,7 @@ mod walk;
 
 pub use extractor::{Refused, Unpacking, target, targets, unpacked};
 pub use ignore::{Rule, fits, is_ignored};
-pub use manifest::{entry_on_windows, rewritten};
+pub use manifest::{entry_on_windows, rewritten, rewritten_texts};
 pub use server::{UNIX_ROOT, Unserved, WINDOWS_ROOT, served, served_on_unix, served_on_windows};
 pub use texts::{text_key, text_target};
 pub use tidy::{are_one, key};

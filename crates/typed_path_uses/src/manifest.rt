@@ -12,7 +12,10 @@ ghost use Rattle.typed_path_uses.specs.Uses.{crossings, first_refusal};
 
 use std::alloc::Global;
 use typed_path::laws::unix_paths_cross_to_windows;
-use typed_path::{Encoding, Path, PathBuf, PathError, UnixPath, WindowsPathBuf};
+use typed_path::{
+    Encoding, Path, PathBuf, PathError, UnixPath, Utf8Encoding, Utf8Path, Utf8PathBuf,
+    WindowsPathBuf,
+};
 
 /// The paths of a manifest as they are written in another encoding, in their order; or the refusal of
 /// the first that cannot be written so.
@@ -28,6 +31,23 @@ pub fn rewritten<T: Encoding, U: Encoding>(
     let mut paths = Vec::with_capacity(alloc, entries.len())?;
     'entries: for entry in entries {
         paths.push(Path::<T>::new(entry).with_encoding_checked::<U>(alloc)?)?;
+    }
+    Ok(paths)
+}
+
+/// The same of a manifest of texts, whose paths are texts: what [`rewritten`] promises of bytes.
+pub fn rewritten_texts<T: Utf8Encoding, U: Utf8Encoding>(
+    alloc: Global,
+    entries: &[&str],
+) -> Result<Vec<Utf8PathBuf<U>>, PathError>
+    ensures ok { IfOk result (λ ps.
+        crossings T.Bytes.dialect U.Bytes.dialect entries.now ≡ map (λ p. Ok p.bytes) ps.items) }
+    ensures refused { (e : CheckedPathError) → refusal result ≡ Some e
+        → first_refusal (crossings T.Bytes.dialect U.Bytes.dialect entries.now) ≡ Some e }
+{
+    let mut paths = Vec::with_capacity(alloc, entries.len())?;
+    'entries: for entry in entries {
+        paths.push(Utf8Path::<T>::new(entry).with_encoding_checked::<U>(alloc)?)?;
     }
     Ok(paths)
 }

@@ -1,0 +1,9 @@
+use Rattle.std.proofs.Common.{◌≡◌, ◌++◌, map, drop}
+use Rattle.std.specs.Prelude.{Ok}
+use Rattle.typed_path_uses.specs.Uses.{crossings}
+use Rattle.typed_path_uses.proofs.manifest.rewritten_texts.Given as goal
+
+abbrev pub invariant-entries : goal.invariant-entries
+invariant-entries g l =
+    map (λ p. Ok p.bytes) l.paths.items ++ crossings g.T.Bytes.Encoding.dialect g.U.Bytes.Encoding.dialect (drop l.entry-index l.entries)
+    ≡ crossings g.T.Bytes.Encoding.dialect g.U.Bytes.Encoding.dialect l.entries
