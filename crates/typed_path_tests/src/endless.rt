@@ -7,7 +7,7 @@ use std::test::Fail;
 use typed_path::{TypedPath, UnixPath, Utf8TypedPath, Utf8UnixPath, Utf8WindowsPath, WindowsPath};
 
 /// How many items there are.
-fn number_of<I: Iterator>(items: I) -> usize {
+fn number_of<I: Iterator<Item: Drop>>(items: I) -> usize {
     let mut number = 0usize;
     for _ in items {
         number = number.saturating_add(1);

@@ -105,7 +105,7 @@ fn single_components(rt: HostRuntime) {
     };
     assert!(rt; share.kind().len() == 8);
     assert!(rt; share.len() == 9);
-    const ROWS: &[(WindowsComponent<'static>, &[u8], bool, bool)] = &[
+    let rows: [(WindowsComponent<'_>, &[u8], bool, bool); 7] = [
         (WindowsComponent::Prefix(share), br"\\server\", true, true),
         (WindowsComponent::Prefix(drive), b"c:", false, true),
         (WindowsComponent::RootDir, br"\", true, true),
@@ -114,7 +114,7 @@ fn single_components(rt: HostRuntime) {
         (WindowsComponent::Normal(b"a"), b"a", false, true),
         (WindowsComponent::Normal(b"a:b"), b"a:b", false, false),
     ];
-    for &(component, text, root, valid) in ROWS {
+    for (component, text, root, valid) in rows {
         assert!(rt; component.as_bytes() == text);
         assert!(rt; component.len() == text.len());
         assert!(rt; component.is_root() == root);
@@ -123,5 +123,5 @@ fn single_components(rt: HostRuntime) {
         assert!(rt; prefix == component.prefix_kind());
         assert!(rt; prefix.is_some() == component.is_prefix());
     }
-    assert!(rt; ROWS.windows(2).all(|pair| pair[0].0 < pair[1].0));
+    assert!(rt; rows.windows(2).all(|pair| pair[0].0 < pair[1].0));
 }
