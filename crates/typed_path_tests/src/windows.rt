@@ -1,9 +1,8 @@
 //! Components of Windows texts, read by calls: rows of known answers.
 
-use std::str;
 use typed_path::{
-    Component, ParseError, TypedPath, Utf8Component, Utf8TypedPath, Utf8WindowsPath,
-    WindowsComponent, WindowsComponents, WindowsPath, WindowsPrefix, WindowsPrefixComponent,
+    Component, ParseError, WindowsComponent, WindowsComponents, WindowsPath, WindowsPrefix,
+    WindowsPrefixComponent,
 };
 
 /// The components of a text.
@@ -31,45 +30,6 @@ fn have_texts(components: WindowsComponents<'_>, texts: &[&[u8]]) -> bool {
         }
     }
     forward.next().is_none() && backward.next_back().is_none() && backward.as_bytes().is_empty()
-}
-
-/// Whether the paths of texts and those of either dialect have the components of the path of bytes,
-/// from the front and from the back.
-fn are_read_alike(text: &str) -> bool {
-    let wanted = components(text.as_bytes());
-    let mut texts = Utf8WindowsPath::new(text).components();
-    let mut typed = TypedPath::windows(text.as_bytes()).components();
-    let mut typed_texts = Utf8TypedPath::windows(text).components();
-    let (mut last, mut last_typed, mut last_text) = (texts, typed, typed_texts);
-    for component in wanted {
-        let bytes = component.as_bytes();
-        if !texts
-            .next()
-            .is_some_and(|it| it.as_str().as_bytes() == bytes)
-            || !typed.next().is_some_and(|it| it.as_bytes() == bytes)
-            || !typed_texts
-                .next()
-                .is_some_and(|it| it.as_str().as_bytes() == bytes)
-        {
-            return false;
-        }
-    }
-    for component in wanted.rev() {
-        let bytes = component.as_bytes();
-        if !last
-            .next_back()
-            .is_some_and(|it| it.as_str().as_bytes() == bytes)
-            || !last_typed
-                .next_back()
-                .is_some_and(|it| it.as_bytes() == bytes)
-            || !last_text
-                .next_back()
-                .is_some_and(|it| it.as_str().as_bytes() == bytes)
-        {
-            return false;
-        }
-    }
-    texts.next().is_none() && typed.next().is_none() && typed_texts.next().is_none()
 }
 
 #[test]
@@ -243,7 +203,6 @@ fn share_cut_after_each_byte(rt: HostRuntime) {
             );
         }
         assert!(rt; have_texts(components, texts));
-        assert!(rt; are_read_alike(str::from_utf8(&text[..end]).unwrap_or("?")));
     }
 }
 
