@@ -62,9 +62,9 @@ fn read_texts(rt: HostRuntime) -> Result<(), Fail> {
     assert!(rt; Utf8UnixPath::new("a/").eq_str("a"));
     assert!(rt; Utf8UnixPath::new("a/b") == Utf8UnixPath::new("a//b/."));
     assert!(rt; Utf8UnixPath::new("a/b") < Utf8UnixPath::new("ab"));
-    const ABOVE: &[&str] = &["/é/b", "/é", "/"];
+    let above: [&str; 3] = ["/é/b", "/é", "/"];
     let mut ancestors = Utf8UnixPath::new("/é/b").ancestors();
-    for &wanted in ABOVE {
+    for wanted in above {
         assert!(rt; ancestors.next() == Some(Utf8UnixPath::new(wanted)));
     }
     assert!(rt; ancestors.next().is_none());

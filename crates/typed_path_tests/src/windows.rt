@@ -34,7 +34,7 @@ fn have_texts(components: WindowsComponents<'_>, texts: &[&[u8]]) -> bool {
 
 #[test]
 fn component_lists(rt: HostRuntime) {
-    const ROWS: &[(&[u8], Option<WindowsPrefix<'static>>, &[&[u8]])] = &[
+    let rows: [(&[u8], Option<WindowsPrefix<'_>>, &[&[u8]]); 33] = [
         (b"", None, &[]),
         (
             br"C:\path\to\file.txt",
@@ -157,7 +157,7 @@ fn component_lists(rt: HostRuntime) {
         ),
         (b"1:", None, &[b"1:"]),
     ];
-    for &(text, prefix, texts) in ROWS {
+    for (text, prefix, texts) in rows {
         let components = components(text);
         assert!(rt; components.prefix_kind() == prefix);
         let raw = components.prefix().map(|prefix| prefix.as_bytes());
@@ -209,7 +209,7 @@ fn share_cut_after_each_byte(rt: HostRuntime) {
 #[test]
 fn questions(rt: HostRuntime) {
     // Absolute, rooted, with a root written, with one implied; and which of the kinds the prefix is.
-    const ROWS: &[(&[u8], [bool; 4], usize)] = &[
+    let rows: [(&[u8], [bool; 4], usize); 17] = [
         (b"", [false, false, false, false], 6),
         (b"a", [false, false, false, false], 6),
         (br"\x", [false, true, true, false], 6),
@@ -228,7 +228,7 @@ fn questions(rt: HostRuntime) {
         (b"C:", [false, false, false, false], 5),
         (b"C:a", [false, false, false, false], 5),
     ];
-    for &(text, roots, kind) in ROWS {
+    for (text, roots, kind) in rows {
         let c = components(text);
         let answers = [
             c.is_absolute(),
@@ -255,7 +255,7 @@ fn questions(rt: HostRuntime) {
 
 #[test]
 fn slices_left(rt: HostRuntime) {
-    const ROWS: &[(&[u8], usize, usize, &[u8])] = &[
+    let rows: [(&[u8], usize, usize, &[u8]); 14] = [
         (br"\\?\C:\a\.\b", 0, 0, br"\\?\C:\a\.\b"),
         (br"\\?\C:\a\.\b", 0, 1, br"\\?\C:\a\."),
         (br"\\?\C:\a\.\b", 0, 2, br"\\?\C:\a"),
@@ -271,7 +271,7 @@ fn slices_left(rt: HostRuntime) {
         (br"a\C:", 1, 0, b"C:"),
         (b"C://a", 1, 0, b"//a"),
     ];
-    for &(text, fronts, backs, left) in ROWS {
+    for (text, fronts, backs, left) in rows {
         let mut components = components(text);
         for _ in 0..fronts {
             assert!(rt; components.next().is_some());
@@ -286,19 +286,19 @@ fn slices_left(rt: HostRuntime) {
 
 #[test]
 fn single_texts(rt: HostRuntime) {
-    const NONE: &str = "no component found";
-    const MORE: &str = "found more than one component";
-    const ROWS: &[(&[u8], Result<WindowsComponent<'static>, ParseError>)] = &[
-        (b"", Err(NONE)),
-        (br"C:\", Err(MORE)),
-        (br"\a", Err(MORE)),
+    let none = "no component found";
+    let more = "found more than one component";
+    let rows: [(&[u8], Result<WindowsComponent<'_>, ParseError>); 8] = [
+        (b"", Err(none)),
+        (br"C:\", Err(more)),
+        (br"\a", Err(more)),
         (b"/", Ok(WindowsComponent::RootDir)),
         (b"//", Ok(WindowsComponent::RootDir)),
         (b".", Ok(WindowsComponent::CurDir)),
         (b"..", Ok(WindowsComponent::ParentDir)),
         (br"a/\.", Ok(WindowsComponent::Normal(b"a"))),
     ];
-    for &(text, wanted) in ROWS {
+    for (text, wanted) in rows {
         assert!(rt; WindowsComponent::try_from(text) == wanted);
     }
     let drive = WindowsPrefixComponent::try_from("C:").map(WindowsComponent::Prefix);
