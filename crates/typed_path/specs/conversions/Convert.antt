@@ -1,10 +1,9 @@
 -- A path in another dialect, and made absolute.
-use Rattle.std.specs.Prelude.{ℕ, List, [], ◌∷◌, Bool, true, false, ◌||◌, ◌==◌, ◌≤◌, map, length, slice_index, is_some, if◌then◌else◌, Option, Some, None, Ok, Err}
+use Rattle.std.specs.Prelude.{ℕ, List, [], ◌∷◌, Bool, true, false, ◌≤◌, map, length, if◌then◌else◌, Option, Some, None, Ok, Err}
 use Rattle.std.specs.declared.result.Result.{Result}
 use Rattle.typed_path.specs.declared.errors.CheckedPathError.{CheckedPathError}
-use Rattle.typed_path.specs.components.Dialect.{Dialect, unix, windows, backslash, root_of}
+use Rattle.typed_path.specs.components.Dialect.{Dialect, unix, windows, root_of}
 use Rattle.typed_path.specs.components.Part.{Kind, current, parent, Part, kinds}
-use Rattle.typed_path.specs.components.Prefix.{prefix_of}
 use Rattle.typed_path.specs.components.Comps.{parts_of}
 use Rattle.typed_path.specs.queries.Queries.{is_root, is_absolute}
 use Rattle.typed_path.specs.changes.Push.{push, push_all}

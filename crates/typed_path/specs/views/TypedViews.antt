@@ -1,5 +1,5 @@
 -- The views of paths of bytes whose dialect is chosen when the program runs, and of what is read of them.
-use Rattle.std.specs.Prelude.{◌≡◌, ℕ, List}
+use Rattle.std.specs.Prelude.{ℕ, List}
 use Rattle.typed_path.specs.declared.common.encoding.Encoding.{Ghosts}
 use Rattle.typed_path.specs.declared.common.path.Path.{Path}
 use Rattle.typed_path.specs.declared.common.iter.Iter.{Iter}

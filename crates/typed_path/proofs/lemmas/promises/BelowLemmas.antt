@@ -1,6 +1,7 @@
 -- A path that is not refused leads to names alone, so a checked join lies below its base.
 use Rattle.std.proofs.Common.{◌≡◌, ℕ, zero, suc, Bool, true, false, not, if◌then◌else◌, List, [], ◌∷◌, ◌++◌, map, refl, sym, ap, ◌∙◌}
 use Rattle.std.specs.Prelude.{Some, None}
+use Rattle.std.proofs.lemmas.List.{map-append, append_assoc}
 use Rattle.typed_path.specs.declared.errors.CheckedPathError.TheVariants.{InvalidFilename}
 use Rattle.typed_path.specs.components.Dialect.{Dialect}
 use Rattle.typed_path.specs.components.Part.{Kind, prefix, root, current, parent, normal, Part, kinds}
@@ -49,3 +50,12 @@ pub lies_below : (d : Dialect) (base path joined : List ℕ) → fault d path �
 lies_below d base path joined accepted stays contained kept =
     let found = accepted-names d path accepted in
     record { names = found.names; leads = contained (stays kept) ∙ ap (λ ks. place d base ++ ks) found.are }
+
+-- a path below one that is below a base is below the base
+pub below-below : (d : Dialect) (base middle path : List ℕ) → IsBelow d base middle → IsBelow d middle path → IsBelow d base path
+below-below d base middle path outer inner = record {
+  names = outer.names ++ inner.names;
+  leads = inner.leads ∙ ap (λ ks. ks ++ map normal inner.names) outer.leads
+      ∙ append_assoc (place d base) (map normal outer.names) (map normal inner.names)
+      ∙ ap (λ ks. place d base ++ ks) (sym (map-append normal outer.names inner.names));
+}
