@@ -127,14 +127,14 @@ fn long_normal_texts(rt: HostRuntime) -> Result<(), Fail> {
         let wanted = repeated(alloc, br"\\?\x", br"\a\b", times, b"")?;
         assert!(rt; normalizes_as::<WindowsEncoding>(alloc, path.as_slice(), wanted.as_slice())?);
     }
-    let rows: [(&[u8], &[u8], &[u8], &[u8]); 4] = [
+    const ROWS: &[(&[u8], &[u8], &[u8], &[u8])] = &[
         (br"\\?\x", br"\a/b\c\..", br"\\?\x", br"\a\b"),
         (br"\\?\C:\a\..", b"", br"\\?\C:", b""),
         (br"\\s\h", br"\a\..\b\.\..\", br"\\s\h", b""),
         (br"\..\a\..", br"\c", b"", br"\c"),
     ];
     let name = repeated(alloc, br"\", b"name", 2_500, b"")?;
-    for (begin, end, wanted_begin, wanted_end) in rows {
+    for &(begin, end, wanted_begin, wanted_end) in ROWS {
         let path = repeated(alloc, begin, name.as_slice(), 10, end)?;
         let wanted = repeated(alloc, wanted_begin, name.as_slice(), 10, wanted_end)?;
         assert!(rt; normalizes_as::<WindowsEncoding>(alloc, path.as_slice(), wanted.as_slice())?);
@@ -149,14 +149,14 @@ fn long_normal_texts(rt: HostRuntime) -> Result<(), Fail> {
 fn long_conversions(rt: HostRuntime) -> Result<(), Fail> {
     let alloc = rt.alloc();
     // What the path begins with, and has so many times; the same of the result; whether it is refused.
-    let rows: [(&[u8], &[u8], usize, &[u8], &[u8], bool); 5] = [
+    const ROWS: &[(&[u8], &[u8], usize, &[u8], &[u8], bool)] = &[
         (b"", b"/name", 2_000, b"", br"\name", false),
         (b"a", b"/name", 2_000, b"a", br"\name", false),
         (br"\\?\C:", b"/name", 2_000, br"\\?\C:", br"\name", true),
         (br"\\?\C:\x", br"/a\b", 70, br"\\?\C:\x", br"\a\b", true),
         (br"\\?\C:\x", br"/a\..", 70, br"\\?\C:\x", b"", true),
     ];
-    for (begin, text, times, wanted_begin, wanted, refused) in rows {
+    for &(begin, text, times, wanted_begin, wanted, refused) in ROWS {
         let path = repeated(alloc, begin, text, times, b"")?;
         let wanted = repeated(alloc, wanted_begin, wanted, times, b"")?;
         let checked = if refused {
@@ -171,8 +171,8 @@ fn long_conversions(rt: HostRuntime) -> Result<(), Fail> {
         );
     }
     let wanted = repeated(alloc, b"", b"/name", 2_000, b"")?;
-    let begins: [&[u8]; 4] = [b"", b"C:", br"\\.\COM1", br"\\?\UNC\s\h"];
-    for begin in begins {
+    const BEGINS: &[&[u8]] = &[b"", b"C:", br"\\.\COM1", br"\\?\UNC\s\h"];
+    for &begin in BEGINS {
         let path = repeated(alloc, begin, br"\name", 2_000, b"")?;
         let row = (path.as_slice(), wanted.as_slice(), Ok(wanted.as_slice()));
         assert!(rt;

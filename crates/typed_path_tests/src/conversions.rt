@@ -167,22 +167,22 @@ pub fn absolutizes_as<T: Encoding>(
 
 #[test]
 fn absolute_paths(rt: HostRuntime) -> Result<(), Fail> {
-    let unix: [(&[u8], &[u8], Option<&[u8]>); 3] = [
+    const UNIX: &[(&[u8], &[u8], Option<&[u8]>)] = &[
         (b"/home/u", b"a/../b", Some(b"/home/u/b")),
         (b"/home/u", b"/a/b/../c/./d", Some(b"/a/c/d")),
         (b"u", b"a", None),
     ];
-    for (directory, path, wanted) in unix {
+    for &(directory, path, wanted) in UNIX {
         assert!(rt; absolutizes_as::<UnixEncoding>(rt.alloc(), directory, path, wanted));
         assert!(rt; absolutizes_as::<PlatformEncoding>(rt.alloc(), directory, path, wanted));
     }
-    let windows: [(&[u8], Option<&[u8]>); 4] = [
+    const WINDOWS: &[(&[u8], Option<&[u8]>)] = &[
         (br"\a", None),
         (b"C:something", None),
         (br"C:\a\..\b", Some(br"C:\b")),
         (br"\\server", None),
     ];
-    for (path, wanted) in windows {
+    for &(path, wanted) in WINDOWS {
         assert!(rt; absolutizes_as::<WindowsEncoding>(rt.alloc(), b"/home/u", path, wanted));
     }
     Ok(())

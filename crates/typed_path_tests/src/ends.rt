@@ -59,7 +59,7 @@ fn read_ends_appends(rt: HostRuntime) -> Result<(), Fail> {
 
 #[test]
 fn bases(rt: HostRuntime) -> Result<(), Fail> {
-    let rows: [(&[u8], &[u8], Option<&[u8]>); 6] = [
+    const ROWS: &[(&[u8], &[u8], Option<&[u8]>)] = &[
         (b"/a/./b/c", b"/a", Some(b"b/c")),
         (b"a/b/", b"a/b", Some(b"")),
         (b"a//b/", b"", Some(b"a//b/")),
@@ -67,7 +67,7 @@ fn bases(rt: HostRuntime) -> Result<(), Fail> {
         (b"a", b"a/b", None),
         (b"ab/c", b"a", None),
     ];
-    for (path, base, wanted) in rows {
+    for &(path, base, wanted) in ROWS {
         let path = UnixPath::new(path);
         let base = UnixPath::new(base);
         let rest = path.strip_prefix(base).ok().map(|rest| rest.as_bytes());
@@ -92,7 +92,7 @@ fn bases(rt: HostRuntime) -> Result<(), Fail> {
 
 #[test]
 fn names(rt: HostRuntime) {
-    let rows: [(&[u8], Option<&[u8]>, Option<&[u8]>, Option<&[u8]>); 8] = [
+    const ROWS: &[(&[u8], Option<&[u8]>, Option<&[u8]>, Option<&[u8]>)] = &[
         (b".bashrc", Some(b".bashrc"), Some(b".bashrc"), None),
         (b"a.", Some(b"a."), Some(b"a"), Some(b"")),
         (b"..x", Some(b"..x"), Some(b"."), Some(b"x")),
@@ -107,7 +107,7 @@ fn names(rt: HostRuntime) {
         (b"/", None, None, None),
         (b"", None, None, None),
     ];
-    for (path, name, stem, extension) in rows {
+    for &(path, name, stem, extension) in ROWS {
         let path = UnixPath::new(path);
         assert_eq!(rt; path.file_name(), name);
         assert_eq!(rt; path.file_stem(), stem);
@@ -144,7 +144,7 @@ fn questions(rt: HostRuntime) {
 
 #[test]
 fn readings(rt: HostRuntime) {
-    let rows: [(&str, Result<UnixComponent<'_>, ParseError>); 6] = [
+    const ROWS: &[(&str, Result<UnixComponent<'static>, ParseError>)] = &[
         ("", Err("no component found")),
         ("/a", Err("found more than one component")),
         ("/", Ok(UnixComponent::RootDir)),
@@ -152,7 +152,7 @@ fn readings(rt: HostRuntime) {
         (".", Ok(UnixComponent::CurDir)),
         ("..", Ok(UnixComponent::ParentDir)),
     ];
-    for (text, wanted) in rows {
+    for &(text, wanted) in ROWS {
         assert!(rt; UnixComponent::try_from(text) == wanted);
         assert!(rt; UnixComponent::try_from(text.as_bytes()) == wanted);
     }

@@ -80,7 +80,7 @@ fn words_of_paths(rt: HostRuntime) {
 
 #[test]
 fn equal_windows_paths(rt: HostRuntime) -> Result<(), Fail> {
-    let rows: [(&[u8], &[u8], bool); 9] = [
+    const ROWS: &[(&[u8], &[u8], bool)] = &[
         (b"//?/x/a", br"\\?\x\a", true),
         (br"c:\a", br"C:\a", true),
         (b"C:/a", br"c:\a\.", true),
@@ -91,7 +91,7 @@ fn equal_windows_paths(rt: HostRuntime) -> Result<(), Fail> {
         (b"C:a", br"C:\a", false),
         (b"", b".", false),
     ];
-    for (path, other, same) in rows {
+    for &(path, other, same) in ROWS {
         let (one, two) = (WindowsPath::new(path), WindowsPath::new(other));
         assert_eq!(rt; one == two, same);
         assert_eq!(rt; one.eq_bytes(other), same);
@@ -176,11 +176,11 @@ fn half_read_iterators(rt: HostRuntime) {
 
 #[test]
 fn keys_of_maps(rt: HostRuntime) -> Result<(), Fail> {
-    let rows: [(&[u8], u32); 2] = [(b"C:/a", 1), (br"c:\a\.", 2)];
+    const ROWS: &[(&[u8], u32)] = &[(b"C:/a", 1), (br"c:\a\.", 2)];
     let key = WindowsPathBuf::from_bytes(rt.alloc(), br"C:\a")?;
     let mut hashed = HashMap::new(rt.alloc());
     let mut sorted = BTreeMap::new(rt.alloc());
-    for (path, value) in rows {
+    for &(path, value) in ROWS {
         hashed.insert(WindowsPathBuf::from_bytes(rt.alloc(), path)?, value)?;
         sorted.insert(WindowsPathBuf::from_bytes(rt.alloc(), path)?, value)?;
     }

@@ -6,6 +6,8 @@ mod ample;
 #[cfg(test)]
 mod conversions;
 #[cfg(test)]
+mod endless;
+#[cfg(test)]
 mod ends;
 #[cfg(test)]
 mod hostile;

@@ -40,7 +40,7 @@ fn answered(
 
 #[test]
 fn replies(rt: HostRuntime) -> Result<(), Fail> {
-    let rows: [(&[u8], &[u8]); 44] = [
+    const ROWS: &[(&[u8], &[u8])] = &[
         (
             b"normalize\tunix\tfoo/bar//baz/./asdf/quux/..",
             b"ok\tfoo/bar/baz/asdf\n",
@@ -132,7 +132,7 @@ fn replies(rt: HostRuntime) -> Result<(), Fail> {
         (b"", b""),
     ];
     for piece in [ALL, 1, 7] {
-        for (input, wanted) in rows {
+        for &(input, wanted) in ROWS {
             let (written, outcome) = answered(rt.alloc(), input, piece, ALL);
             assert_eq!(rt; outcome, Ok(()));
             assert_eq!(rt; written.as_slice(), wanted, "the reply to {input:?}");
@@ -145,13 +145,13 @@ const THREE: &[u8] = b"normalize\tunix\ta//b\nderive\ta:b\nx";
 
 #[test]
 fn failing_reader(rt: HostRuntime) -> Result<(), Fail> {
-    let rows: [(usize, &[u8]); 4] = [
+    const ROWS: &[(usize, &[u8])] = &[
         (19, b""),
         (20, b"ok\ta/b\n"),
         (30, b"ok\ta/b\n"),
         (31, b"ok\ta/b\nok\twindows\n"),
     ];
-    for (until, wanted) in rows {
+    for &(until, wanted) in ROWS {
         for piece in [ALL, 1] {
             let (written, outcome) = answered(rt.alloc(), THREE, piece, until);
             assert_eq!(rt; outcome, Err(LineError::Read));
@@ -163,8 +163,8 @@ fn failing_reader(rt: HostRuntime) -> Result<(), Fail> {
 
 #[test]
 fn failing_writer(rt: HostRuntime) -> Result<(), Fail> {
-    let rows: [(usize, usize, &[u8]); 3] = [(1, 4, b"ok\ta"), (5, 1, b"ok\ta/"), (ALL, 0, b"")];
-    for (piece, writes, wanted) in rows {
+    const ROWS: &[(usize, usize, &[u8])] = &[(1, 4, b"ok\ta"), (5, 1, b"ok\ta/"), (ALL, 0, b"")];
+    for &(piece, writes, wanted) in ROWS {
         let mut reader = Pieces::new(THREE, ALL, ALL);
         let mut writer = sink(rt.alloc(), piece, writes);
         let outcome = answer_lines(rt.alloc(), &mut reader, &mut writer);

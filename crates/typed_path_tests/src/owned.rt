@@ -35,7 +35,7 @@ pub fn joins_as<T: Encoding>(
 #[test]
 fn checked_pushes(rt: HostRuntime) -> Result<(), Fail> {
     use CheckedPathError::{InvalidFilename, PathTraversalAttack, UnexpectedRoot};
-    let rows: [(&[u8], &[u8], Result<&[u8], CheckedPathError>); 6] = [
+    const ROWS: &[(&[u8], &[u8], Result<&[u8], CheckedPathError>)] = &[
         (b"/etc", b"..", Err(PathTraversalAttack)),
         (b"/etc", b"/sneaky/replacement", Err(UnexpectedRoot)),
         (b"/etc", b"abc/../def", Ok(b"/etc/abc/../def")),
@@ -43,7 +43,7 @@ fn checked_pushes(rt: HostRuntime) -> Result<(), Fail> {
         (b"..", b"a", Ok(b"../a")),
         (b"a", b"", Ok(b"a")),
     ];
-    for (base, path, wanted) in rows {
+    for &(base, path, wanted) in ROWS {
         assert!(rt; joins_as::<UnixEncoding>(rt.alloc(), base, path, wanted)?);
     }
     Ok(())
@@ -165,13 +165,13 @@ fn owned_paths_from_other_values(rt: HostRuntime) -> Result<(), Fail> {
 
 #[test]
 fn printed_paths(rt: HostRuntime) -> Result<(), Fail> {
-    let rows: [(&[u8], Option<&str>, &str); 4] = [
+    const ROWS: &[(&[u8], Option<&str>, &str)] = &[
         (b"/tmp/a b", Some("/tmp/a b"), "/tmp/a b"),
-        ("日/本".as_bytes(), Some("日/本"), "日/本"),
+        (b"\xE6\x97\xA5/\xE6\x9C\xAC", Some("日/本"), "日/本"),
         (b"a\xff/b", None, "a\u{FFFD}/b"),
         (b"", Some(""), ""),
     ];
-    for (bytes, text, printed) in rows {
+    for &(bytes, text, printed) in ROWS {
         let path = UnixPath::new(bytes);
         assert_eq!(rt; path.to_str(), text);
         assert_eq!(rt; path.to_string_lossy(rt.alloc())?.as_str(), printed);

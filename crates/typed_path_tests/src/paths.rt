@@ -19,7 +19,7 @@ pub fn normalizes_as<T: Encoding>(
 
 #[test]
 fn normal_texts(rt: HostRuntime) -> Result<(), Fail> {
-    let rows: [(&[u8], &[u8]); 6] = [
+    const ROWS: &[(&[u8], &[u8])] = &[
         (b"foo/bar//baz/./asdf/quux/..", b"foo/bar/baz/asdf"),
         (b"a//b/.", b"a/b"),
         (b"./a/b", b"a/b"),
@@ -27,7 +27,7 @@ fn normal_texts(rt: HostRuntime) -> Result<(), Fail> {
         (b"/../..", b"/"),
         (b"", b""),
     ];
-    for (path, wanted) in rows {
+    for &(path, wanted) in ROWS {
         assert!(rt; normalizes_as::<UnixEncoding>(rt.alloc(), path, wanted)?);
     }
     Ok(())

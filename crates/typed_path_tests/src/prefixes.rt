@@ -4,30 +4,30 @@ use typed_path::{Component, ParseError, WindowsComponent, WindowsPrefix, Windows
 
 #[test]
 fn prefixes_from_texts(rt: HostRuntime) {
-    let none = "not a prefix";
-    let more = "contains more than prefix";
-    let rows: [(&[u8], Result<WindowsPrefix<'_>, ParseError>); 38] = [
-        (b"", Err(none)),
-        (b"a", Err(none)),
-        (b":", Err(none)),
-        (b"1:", Err(none)),
-        (br"\", Err(none)),
-        (br"\\", Err(none)),
-        (br"\\\", Err(none)),
-        (br"\\\x", Err(none)),
+    const NONE: &str = "not a prefix";
+    const MORE: &str = "contains more than prefix";
+    const ROWS: &[(&[u8], Result<WindowsPrefix<'static>, ParseError>)] = &[
+        (b"", Err(NONE)),
+        (b"a", Err(NONE)),
+        (b":", Err(NONE)),
+        (b"1:", Err(NONE)),
+        (br"\", Err(NONE)),
+        (br"\\", Err(NONE)),
+        (br"\\\", Err(NONE)),
+        (br"\\\x", Err(NONE)),
         (b"c:", Ok(WindowsPrefix::Disk(b'C'))),
-        (br"C:\", Err(more)),
-        (b"C:.", Err(more)),
+        (br"C:\", Err(MORE)),
+        (b"C:.", Err(MORE)),
         (b"\xE9:", Ok(WindowsPrefix::Disk(0xE9))),
         (b"\xAA:", Ok(WindowsPrefix::Disk(0xAA))),
-        (b"\xD7:", Err(none)),
-        (b"\xF7:", Err(none)),
+        (b"\xD7:", Err(NONE)),
+        (b"\xF7:", Err(NONE)),
         (br"\\?", Ok(WindowsPrefix::UNC(b"?", b""))),
         (br"\\?\", Ok(WindowsPrefix::UNC(b"?", b""))),
-        (br"\\?\\", Err(more)),
+        (br"\\?\\", Err(MORE)),
         (br"\\?\U", Ok(WindowsPrefix::Verbatim(b"U"))),
         (br"\\?\UNC", Ok(WindowsPrefix::Verbatim(b"UNC"))),
-        (br"\\?\UNC\", Err(more)),
+        (br"\\?\UNC\", Err(MORE)),
         (br"\\?\UNC\s", Ok(WindowsPrefix::VerbatimUNC(b"s", b""))),
         (
             br"\\?\UNC\srv\",
@@ -37,22 +37,22 @@ fn prefixes_from_texts(rt: HostRuntime) {
             br"\\?\UNC\srv\sh",
             Ok(WindowsPrefix::VerbatimUNC(b"srv", b"sh")),
         ),
-        (br"\\?\UNC\srv\sh\", Err(more)),
-        (br"\\?\unc\s", Err(more)),
+        (br"\\?\UNC\srv\sh\", Err(MORE)),
+        (br"\\?\unc\s", Err(MORE)),
         (br"\\?\UNC/s/h", Ok(WindowsPrefix::Verbatim(b"UNC/s/h"))),
         (b"//?/UNC/s/h", Ok(WindowsPrefix::VerbatimUNC(b"s", b"h"))),
         (br"\\?\c:", Ok(WindowsPrefix::VerbatimDisk(b'C'))),
         (br"\/?\C:", Ok(WindowsPrefix::VerbatimDisk(b'C'))),
-        (br"\\?\c:/x", Err(more)),
+        (br"\\?\c:/x", Err(MORE)),
         (br"\\.", Ok(WindowsPrefix::UNC(b".", b""))),
         (br"\\.\", Ok(WindowsPrefix::UNC(b".", b""))),
         (b"//./COM1", Ok(WindowsPrefix::DeviceNS(b"COM1"))),
         (br"\\s\h", Ok(WindowsPrefix::UNC(b"s", b"h"))),
         (br"\\s\", Ok(WindowsPrefix::UNC(b"s", b""))),
-        (br"\\s\\", Err(more)),
-        (br"\\s\h\", Err(more)),
+        (br"\\s\\", Err(MORE)),
+        (br"\\s\h\", Err(MORE)),
     ];
-    for (text, wanted) in rows {
+    for &(text, wanted) in ROWS {
         assert!(rt; WindowsPrefix::try_from(text) == wanted);
         let component = WindowsPrefixComponent::try_from(text);
         assert!(rt; component.map(|component| component.kind()) == wanted);

@@ -288,8 +288,8 @@ fn every_short_text(rt: HostRuntime) -> Result<(), Fail> {
 
 #[test]
 fn every_short_text_behind_a_mark(rt: HostRuntime) -> Result<(), Fail> {
-    let marks: [&[u8]; 5] = [br"\\?\", b"//?/", br"\\?\UNC\", b"//?/UNC/", br"\/.\"];
-    for mark in marks {
+    const MARKS: &[&[u8]] = &[br"\\?\", b"//?/", br"\\?\UNC\", b"//?/UNC/", br"\/.\"];
+    for &mark in MARKS {
         for (length, count) in [(1, 7), (2, 49), (3, 343), (4, 2_401)] {
             let alike = are_read_alike::<WindowsEncoding>(rt.alloc(), true, mark, length, count)?;
             assert!(rt; alike, "{length} bytes behind {mark:?}");

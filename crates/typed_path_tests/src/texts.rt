@@ -62,9 +62,9 @@ fn read_texts(rt: HostRuntime) -> Result<(), Fail> {
     assert!(rt; Utf8UnixPath::new("a/").eq_str("a"));
     assert!(rt; Utf8UnixPath::new("a/b") == Utf8UnixPath::new("a//b/."));
     assert!(rt; Utf8UnixPath::new("a/b") < Utf8UnixPath::new("ab"));
-    let above: [&str; 3] = ["/é/b", "/é", "/"];
+    const ABOVE: &[&str] = &["/é/b", "/é", "/"];
     let mut ancestors = Utf8UnixPath::new("/é/b").ancestors();
-    for wanted in above {
+    for &wanted in ABOVE {
         assert!(rt; ancestors.next() == Some(Utf8UnixPath::new(wanted)));
     }
     assert!(rt; ancestors.next().is_none());

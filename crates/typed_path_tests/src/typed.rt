@@ -15,12 +15,12 @@ use typed_path::{
 
 #[test]
 fn derived_kinds(rt: HostRuntime) {
-    let windows: [&[u8]; 5] = [br"\", b"//a/b", b"a:b", b"\xE9:x", br"\\?\C:\base"];
-    for text in windows {
+    const WINDOWS: &[&[u8]] = &[br"\", b"//a/b", b"a:b", b"\xE9:x", br"\\?\C:\base"];
+    for &text in WINDOWS {
         assert!(rt; TypedPath::derive(text).is_windows());
     }
-    let unix: [&[u8]; 5] = [b"", b"///a", b"\xD7:x", b"a/b", b"/c:"];
-    for text in unix {
+    const UNIX: &[&[u8]] = &[b"", b"///a", b"\xD7:x", b"a/b", b"/c:"];
+    for &text in UNIX {
         assert!(rt; TypedPath::derive(text).is_unix());
     }
     assert!(rt; TypedPath::from("a:b") == TypedPath::windows(b"a:b"));

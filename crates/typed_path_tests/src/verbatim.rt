@@ -32,7 +32,7 @@ fn pushes_as(alloc: Global, row: &[u8]) -> Result<bool, AllocError> {
 
 #[test]
 fn pushes_onto_verbatim_bases(rt: HostRuntime) -> Result<(), Fail> {
-    let rows: [&[u8]; 62] = [
+    const ROWS: &[&[u8]] = &[
         br"\\?\C: .. \\?\C: a \\?\C:\a",
         br"\\?\C: a \\?\C:\a .. \\?\C:\",
         br"\\?\C: a\b \\?\C:\a\b a\b \\?\C:\a\b\a\b",
@@ -96,7 +96,7 @@ fn pushes_onto_verbatim_bases(rt: HostRuntime) -> Result<(), Fail> {
         br"\\?\\a /y \\?\\y ..\..\b \\?\\b",
         br"\\?\\a a\b \\?\\a\a\b a\b \\?\\a\a\b\a\b",
     ];
-    for row in rows {
+    for &row in ROWS {
         assert!(rt; pushes_as(rt.alloc(), row)?, "the row {row:?}");
     }
     Ok(())
@@ -104,7 +104,7 @@ fn pushes_onto_verbatim_bases(rt: HostRuntime) -> Result<(), Fail> {
 
 #[test]
 fn conversions_onto_verbatim_names(rt: HostRuntime) -> Result<(), Fail> {
-    let rows: [(&[u8], &[u8]); 22] = [
+    const ROWS: &[(&[u8], &[u8])] = &[
         (
             br"\\?\C:/..\a\b\..\c\d\e\f\g\h\i\j",
             br"\\?\C:\a\c\d\e\f\g\h\i\j",
@@ -131,7 +131,7 @@ fn conversions_onto_verbatim_names(rt: HostRuntime) -> Result<(), Fail> {
         (br"\\?\x/a\b/..", br"\\?\x\a"),
         (br"\\?\C:/.\a/b", br"\\?\C:\a\b"),
     ];
-    for (path, wanted) in rows {
+    for &(path, wanted) in ROWS {
         let row = (path, wanted, Err(CheckedPathError::UnexpectedPrefix));
         assert!(rt;
             converts_as::<UnixEncoding, WindowsEncoding>(rt.alloc(), row)?,

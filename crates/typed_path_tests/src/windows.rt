@@ -1,8 +1,9 @@
 //! Components of Windows texts, read by calls: rows of known answers.
 
+use std::str;
 use typed_path::{
-    Component, ParseError, WindowsComponent, WindowsComponents, WindowsPath, WindowsPrefix,
-    WindowsPrefixComponent,
+    Component, ParseError, TypedPath, Utf8TypedPath, Utf8WindowsPath, WindowsComponent,
+    WindowsComponents, WindowsPath, WindowsPrefix, WindowsPrefixComponent,
 };
 
 /// The components of a text.
@@ -10,31 +11,71 @@ fn components(text: &[u8]) -> WindowsComponents<'_> {
     WindowsComponents::new(WindowsPath::new(text))
 }
 
-/// Whether a component has the text.
-fn has_text(component: Option<WindowsComponent<'_>>, text: &[u8]) -> bool {
-    component.is_some_and(|component| component.as_bytes() == text)
+/// Whether components, which are made twice, have these texts from the front and from the back, where
+/// a first one may be left out.
+macro_rules! have_texts {
+    ($components:expr, $has_prefix:expr, $texts:expr, $($bytes:ident).+) => {{
+        let mut forward = $components;
+        let mut backward = $components;
+        if $has_prefix && (forward.next().is_none() || backward.next().is_none()) {
+            return false;
+        }
+        for text in $texts {
+            match forward.next() {
+                Some(component) if component$(.$bytes())+ == *text => {}
+                _ => return false,
+            }
+        }
+        for text in $texts.iter().rev() {
+            match backward.next_back() {
+                Some(component) if component$(.$bytes())+ == *text => {}
+                _ => return false,
+            }
+        }
+        forward.next().is_none()
+            && backward.next_back().is_none()
+            && backward$(.$bytes())+.is_empty()
+    }};
 }
 
-/// Whether the components have these texts, from the front and from the back.
-fn have_texts(components: WindowsComponents<'_>, texts: &[&[u8]]) -> bool {
-    let mut forward = components;
-    let mut backward = components;
-    for text in texts {
-        if !has_text(forward.next(), text) {
-            return false;
-        }
-    }
-    for text in texts.iter().rev() {
-        if !has_text(backward.next_back(), text) {
-            return false;
-        }
-    }
-    forward.next().is_none() && backward.next_back().is_none() && backward.as_bytes().is_empty()
+/// Whether a text has these components, behind its prefix where it has one.
+fn have_texts(text: &[u8], has_prefix: bool, texts: &[&[u8]]) -> bool {
+    have_texts!(components(text), has_prefix, texts, as_bytes)
+}
+
+/// The same, where a path of texts reads it.
+fn texts_have_texts(text: &str, has_prefix: bool, texts: &[&[u8]]) -> bool {
+    have_texts!(
+        Utf8WindowsPath::new(text).components(),
+        has_prefix,
+        texts,
+        as_str.as_bytes
+    )
+}
+
+/// The same, where a path of either dialect reads it.
+fn typed_have_texts(text: &[u8], has_prefix: bool, texts: &[&[u8]]) -> bool {
+    have_texts!(
+        TypedPath::windows(text).components(),
+        has_prefix,
+        texts,
+        as_bytes
+    )
+}
+
+/// The same, where a path of texts of either dialect reads it.
+fn typed_texts_have_texts(text: &str, has_prefix: bool, texts: &[&[u8]]) -> bool {
+    have_texts!(
+        Utf8TypedPath::windows(text).components(),
+        has_prefix,
+        texts,
+        as_str.as_bytes
+    )
 }
 
 #[test]
 fn component_lists(rt: HostRuntime) {
-    let rows: [(&[u8], Option<WindowsPrefix<'_>>, &[&[u8]]); 33] = [
+    const ROWS: &[(&[u8], Option<WindowsPrefix<'static>>, &[&[u8]])] = &[
         (b"", None, &[]),
         (
             br"C:\path\to\file.txt",
@@ -157,12 +198,12 @@ fn component_lists(rt: HostRuntime) {
         ),
         (b"1:", None, &[b"1:"]),
     ];
-    for (text, prefix, texts) in rows {
+    for &(text, prefix, texts) in ROWS {
         let components = components(text);
         assert!(rt; components.prefix_kind() == prefix);
         let raw = components.prefix().map(|prefix| prefix.as_bytes());
         assert!(rt; raw == prefix.and_then(|_| texts.first().copied()));
-        assert!(rt; have_texts(components, texts));
+        assert!(rt; have_texts(text, false, texts));
     }
 }
 
@@ -193,23 +234,29 @@ fn share_cut_after_each_byte(rt: HostRuntime) {
         (Some(unc(b"srv", b"share")), &[br"\", b"x"]),
     ];
     for (end, (prefix, texts)) in rows.into_iter().enumerate() {
-        let mut components = components(&text[..end]);
+        let cut = &text[..end];
+        let has_prefix = prefix.is_some();
+        let mut components = components(cut);
         assert!(rt; components.prefix_kind() == prefix);
-        if prefix.is_some() {
+        if has_prefix {
             assert!(rt;
                 components
                     .next()
                     .is_some_and(|first| first.prefix_kind() == prefix)
             );
         }
-        assert!(rt; have_texts(components, texts));
+        assert!(rt; have_texts(cut, has_prefix, texts));
+        let string = str::from_utf8(cut).unwrap_or("?");
+        assert!(rt; texts_have_texts(string, has_prefix, texts));
+        assert!(rt; typed_have_texts(cut, has_prefix, texts));
+        assert!(rt; typed_texts_have_texts(string, has_prefix, texts));
     }
 }
 
 #[test]
 fn questions(rt: HostRuntime) {
     // Absolute, rooted, with a root written, with one implied; and which of the kinds the prefix is.
-    let rows: [(&[u8], [bool; 4], usize); 17] = [
+    const ROWS: &[(&[u8], [bool; 4], usize)] = &[
         (b"", [false, false, false, false], 6),
         (b"a", [false, false, false, false], 6),
         (br"\x", [false, true, true, false], 6),
@@ -228,7 +275,7 @@ fn questions(rt: HostRuntime) {
         (b"C:", [false, false, false, false], 5),
         (b"C:a", [false, false, false, false], 5),
     ];
-    for (text, roots, kind) in rows {
+    for &(text, roots, kind) in ROWS {
         let c = components(text);
         let answers = [
             c.is_absolute(),
@@ -255,7 +302,7 @@ fn questions(rt: HostRuntime) {
 
 #[test]
 fn slices_left(rt: HostRuntime) {
-    let rows: [(&[u8], usize, usize, &[u8]); 14] = [
+    const ROWS: &[(&[u8], usize, usize, &[u8])] = &[
         (br"\\?\C:\a\.\b", 0, 0, br"\\?\C:\a\.\b"),
         (br"\\?\C:\a\.\b", 0, 1, br"\\?\C:\a\."),
         (br"\\?\C:\a\.\b", 0, 2, br"\\?\C:\a"),
@@ -271,7 +318,7 @@ fn slices_left(rt: HostRuntime) {
         (br"a\C:", 1, 0, b"C:"),
         (b"C://a", 1, 0, b"//a"),
     ];
-    for (text, fronts, backs, left) in rows {
+    for &(text, fronts, backs, left) in ROWS {
         let mut components = components(text);
         for _ in 0..fronts {
             assert!(rt; components.next().is_some());
@@ -286,19 +333,19 @@ fn slices_left(rt: HostRuntime) {
 
 #[test]
 fn single_texts(rt: HostRuntime) {
-    let none = "no component found";
-    let more = "found more than one component";
-    let rows: [(&[u8], Result<WindowsComponent<'_>, ParseError>); 8] = [
-        (b"", Err(none)),
-        (br"C:\", Err(more)),
-        (br"\a", Err(more)),
+    const NONE: &str = "no component found";
+    const MORE: &str = "found more than one component";
+    const ROWS: &[(&[u8], Result<WindowsComponent<'static>, ParseError>)] = &[
+        (b"", Err(NONE)),
+        (br"C:\", Err(MORE)),
+        (br"\a", Err(MORE)),
         (b"/", Ok(WindowsComponent::RootDir)),
         (b"//", Ok(WindowsComponent::RootDir)),
         (b".", Ok(WindowsComponent::CurDir)),
         (b"..", Ok(WindowsComponent::ParentDir)),
         (br"a/\.", Ok(WindowsComponent::Normal(b"a"))),
     ];
-    for (text, wanted) in rows {
+    for &(text, wanted) in ROWS {
         assert!(rt; WindowsComponent::try_from(text) == wanted);
     }
     let drive = WindowsPrefixComponent::try_from("C:").map(WindowsComponent::Prefix);

@@ -10,7 +10,7 @@ use typed_path::{
 
 #[test]
 fn pushes(rt: HostRuntime) -> Result<(), Fail> {
-    let rows: [(&[u8], &[u8], &[u8]); 14] = [
+    const ROWS: &[(&[u8], &[u8], &[u8])] = &[
         (br"C:\a\b", br"\c", br"C:\c"),
         (br"\\?\UNC\s\h", b"a", br"\\?\UNC\s\h\a"),
         (br"\\?\C:\x", b"/y", br"\\?\C:\y"),
@@ -26,7 +26,7 @@ fn pushes(rt: HostRuntime) -> Result<(), Fail> {
         (b"", b"a", b"a"),
         (b"", b"", b""),
     ];
-    for (base, path, wanted) in rows {
+    for &(base, path, wanted) in ROWS {
         let mut pushed = WindowsPathBuf::from_bytes(rt.alloc(), base)?;
         pushed.push(WindowsPath::new(path))?;
         assert_eq!(rt; pushed.as_path().as_bytes(), wanted);
@@ -41,7 +41,7 @@ fn checked_joins(rt: HostRuntime) -> Result<(), Fail> {
     use CheckedPathError::{
         InvalidFilename, PathTraversalAttack, UnexpectedPrefix, UnexpectedRoot,
     };
-    let rows: [(&[u8], &[u8], Result<&[u8], CheckedPathError>); 15] = [
+    const ROWS: &[(&[u8], &[u8], Result<&[u8], CheckedPathError>)] = &[
         (br"\\?\C:\base", br"a/b\..\..", Ok(br"\\?\C:\base")),
         (b"//?/C:/base", b"a", Ok(br"//?/C:\base\a")),
         (b"/", b"a", Ok(br"/\a")),
@@ -58,7 +58,7 @@ fn checked_joins(rt: HostRuntime) -> Result<(), Fail> {
         (b"a", br"b\C:", Err(InvalidFilename)),
         (br"C:\out", br"a\b?", Err(InvalidFilename)),
     ];
-    for (base, path, wanted) in rows {
+    for &(base, path, wanted) in ROWS {
         assert!(rt; joins_as::<WindowsEncoding>(rt.alloc(), base, path, wanted)?);
     }
     Ok(())
@@ -66,7 +66,7 @@ fn checked_joins(rt: HostRuntime) -> Result<(), Fail> {
 
 #[test]
 fn normal_texts(rt: HostRuntime) -> Result<(), Fail> {
-    let rows: [(&[u8], &[u8]); 14] = [
+    const ROWS: &[(&[u8], &[u8])] = &[
         (br"C:\a\.\..\b", br"C:\b"),
         (br"x\C:", b"C:"),
         (br"\\?\x\a/b\c\..", br"\\?\x\a\b"),
@@ -82,7 +82,7 @@ fn normal_texts(rt: HostRuntime) -> Result<(), Fail> {
         (br"\\?\UNC\s\\a\..\b", br"\\?\UNC\s\\b"),
         (b"", b""),
     ];
-    for (path, wanted) in rows {
+    for &(path, wanted) in ROWS {
         assert!(rt; normalizes_as::<WindowsEncoding>(rt.alloc(), path, wanted)?);
     }
     Ok(())
@@ -99,8 +99,8 @@ fn questions_and_changes(rt: HostRuntime) -> Result<(), Fail> {
     let mut popped = WindowsPathBuf::from_bytes(rt.alloc(), b"C:")?;
     assert!(rt; popped.pop());
     assert!(rt; popped.as_path().as_bytes().is_empty());
-    let alone: [&[u8]; 5] = [br"\\?\", br"\\.\COM1", br"\\s\h", br"\", b""];
-    for text in alone {
+    const ALONE: &[&[u8]] = &[br"\\?\", br"\\.\COM1", br"\\s\h", br"\", b""];
+    for &text in ALONE {
         assert!(rt; WindowsPath::new(text).parent().is_none());
     }
     for (text, valid) in [
