@@ -45,7 +45,7 @@ sweep_calls() {
     local program=$1 way=$2 total at
     refused "$program" > "$room/log"
     total=$(< "$room/count")
-    { cat ../crates/typed_path_refusals/stdout; echo "status 0"; } | cmp - "$room/log" >> "$room/wrong"
+    { cat ../crates/typed_path_refusals/stdout; echo "status 0"; } | cmp - "$room/log" >> "$room/wrong" 2>&1
     for ((at = 1; at <= total; at++)); do
         refused "$program" "$way=$at"
     done > "$room/log" 2>&1
@@ -84,7 +84,7 @@ sweep_requests() {
             0) cmp "$room/out" replies ;;
             2) is_whole || echo "request $at: half a reply, or a wrong one" ;;
             *) echo "request $at: status $ended" ;;
-        esac >> "$room/wrong"
+        esac >> "$room/wrong" 2>&1
         at=$((at + 1))
         answer "$program" "TRANSFER=$transfer" "$way=$at"
     done
@@ -101,12 +101,12 @@ sweep_reads() {
     local program=$1 transfer=$2 at=1
     answer "$program" "TRANSFER=$transfer" FAIL_READ=1
     while [[ $ended -ne 0 ]]; do
-        replies_to $(((at - 1) * transfer)) | cmp - "$room/out" >> "$room/wrong"
+        replies_to $(((at - 1) * transfer)) | cmp - "$room/out" >> "$room/wrong" 2>&1
         [[ $ended -eq 1 ]] || echo "read $at: status $ended" >> "$room/wrong"
         at=$((at + 1))
         answer "$program" "TRANSFER=$transfer" "FAIL_READ=$at"
     done
-    cmp "$room/out" replies >> "$room/wrong"
+    cmp "$room/out" replies >> "$room/wrong" 2>&1
     judge "${program##*/} FAIL_READ, transfers of $transfer" $((at - 1))
 }
 
@@ -120,7 +120,7 @@ sweep_writes() {
         at=$((at + 1))
         answer "$program" "TRANSFER=$transfer" "FAIL_WRITE=$at"
     done
-    cmp "$room/out" replies >> "$room/wrong"
+    cmp "$room/out" replies >> "$room/wrong" 2>&1
     judge "${program##*/} FAIL_WRITE, transfers of $transfer" $((at - 1))
 }
 
@@ -129,7 +129,7 @@ sweep_transfers() {
     local program=$1 transfer
     for transfer in 1 7 100; do
         answer "$program" "TRANSFER=$transfer"
-        cmp "$room/out" replies >> "$room/wrong"
+        cmp "$room/out" replies >> "$room/wrong" 2>&1
         [[ $ended -eq 0 ]] || echo "transfers of $transfer: status $ended" >> "$room/wrong"
     done
     judge "${program##*/} TRANSFER" 3

@@ -3,8 +3,8 @@
 use crate::ended::Ended;
 use std::alloc::{AllocError, Global};
 use typed_path::{
-    CheckedPathError, Encoding, End, Path, PathBuf, PathOp, Piece, Reply, Utf8Encoding, Utf8Path,
-    Utf8PathBuf, read_ends, run_ops,
+    CheckedPathError, Encoding, End, Path, PathBuf, PathOp, Piece, Reply, UnixPath, UnixPathBuf,
+    Utf8Encoding, Utf8Path, Utf8PathBuf, read_ends, run_ops,
 };
 
 /// Its ancestors are the paths of a list: `one name/two/b`, `one name/two`, `one name`, and the empty
@@ -35,6 +35,22 @@ pub fn extend_text<T: Utf8Encoding>(alloc: Global, states: States) -> Result<End
     let mut path = Utf8PathBuf::<T>::from_str(alloc, states[0])?;
     let outcome = path.extend(Utf8Path::new(LIST).ancestors());
     Ok(extended(outcome, path.as_path().as_str().as_bytes(), states))
+}
+
+/// How the empty path of Unix ended that was extended by three names.
+pub fn extend_nothing(alloc: Global) -> Ended {
+    let mut path = UnixPathBuf::new(alloc);
+    let (a, b, c) = (
+        UnixPath::new(b"a"),
+        UnixPath::new(b"b"),
+        UnixPath::new(b"c"),
+    );
+    let outcome = path.extend([a, b, c]);
+    extended(
+        outcome,
+        path.as_path().as_bytes(),
+        ["", "a", "a/b", "a/b/c"],
+    )
 }
 
 /// How a path of bytes ended that was made of the list.

@@ -15,7 +15,9 @@ use calls::{
 use copies::{copy_bytes, copy_text, copy_typed, copy_typed_text};
 use ended::Ended;
 use free::{free_bytes, free_text, free_typed, free_typed_text};
-use lists::{collect_bytes, collect_text, extend_bytes, extend_text, operate, read_both};
+use lists::{
+    collect_bytes, collect_text, extend_bytes, extend_nothing, extend_text, operate, read_both,
+};
 use rows::{Table, UNIX, WINDOWS};
 use std::io;
 use typed_path::{
@@ -143,6 +145,12 @@ fn tell_typed_text(
 
 fn main(rt: HostRuntime) -> io::Result<()> {
     tell_bytes::<UnixEncoding>(&rt, "UnixPath", &UNIX)?;
+    tell(
+        &rt,
+        "UnixPath",
+        "extend of nothing by names",
+        extend_nothing(rt.alloc()),
+    )?;
     tell_bytes::<WindowsEncoding>(&rt, "WindowsPath", &WINDOWS)?;
     tell_text::<Utf8UnixEncoding>(&rt, "Utf8UnixPath", &UNIX)?;
     tell_text::<Utf8WindowsEncoding>(&rt, "Utf8WindowsPath", &WINDOWS)?;

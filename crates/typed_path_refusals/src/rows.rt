@@ -5,6 +5,7 @@ use crate::copies::Copied;
 use crate::ended::Row;
 use crate::free::Base;
 use crate::lists::States;
+use typed_path::PathType;
 
 /// The name of a call, the call, and its rows.
 type Rows<C> = (&'static str, C, &'static [Row]);
@@ -125,7 +126,7 @@ pub const UNIX: Table = Table {
         ),
     ],
     copied: ("/a/b", "/a/b"),
-    free: ("/etc", "/", 2),
+    free: ("/etc", "/", 2, 2, PathType::Unix),
     onto: [
         "/x",
         "/x/one name/two/b",
@@ -259,7 +260,7 @@ pub const WINDOWS: Table = Table {
         ),
     ],
     copied: (r"\a\b", "/a/b"),
-    free: (r"\\?\C:\x", r"\\?\C:\", 3),
+    free: (r"\\?\C:\x", r"\\?\C:\", 3, 2, PathType::Windows),
     onto: [
         r"\\?\C:\x",
         r"\\?\C:\x\one name\two\b",
