@@ -1,1 +1,5 @@
 pub mod Crossings
+pub mod Entries
+pub mod Filed
+pub mod Moves
+pub mod Children

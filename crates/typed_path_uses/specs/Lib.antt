@@ -1,3 +1,4 @@
 pub mod Uses
 pub mod Server
 pub mod Ignore
+pub mod Tree

@@ -1,11 +1,14 @@
 -- What the callers promise.
 use Rattle.std.specs.Prelude.{◌≡◌, ℕ, List, [], ◌∷◌, ◌++◌, map, Option, Some, None, Result, Ok, Err}
 use Rattle.std.specs.Borrow.{Bor}
-use Rattle.std.specs.List.{flat_map}
+use Rattle.std.specs.List.{flat_map, filter}
+use Rattle.std.specs.Option.{is_none, is_some, option_or}
 use Rattle.typed_path.specs.components.Dialect.{Dialect, unix}
 use Rattle.typed_path.specs.components.Part.{Kind, Part, kinds}
 use Rattle.typed_path.specs.components.Comps.{parts_of}
 use Rattle.typed_path.specs.declared.errors.CheckedPathError.{CheckedPathError}
+use Rattle.typed_path.specs.changes.Push.{push}
+use Rattle.typed_path.specs.changes.Fault.{fault}
 use Rattle.typed_path.specs.conversions.Convert.{converted_checked}
 use Rattle.typed_path.specs.places.Places.{place, resolve}
 
@@ -15,6 +18,22 @@ place_within d base name = place d base ++ kinds (resolve (parts_of d name))
 
 abbrev pub places_within : Dialect → List ℕ → List (Bor (List ℕ)) → List (List Kind)
 places_within d base names = map (λ name. place_within d base name.now) names
+
+-- the entries that may be unpacked, and those that may not
+abbrev pub fine : Dialect → List (Bor (List ℕ)) → List (Bor (List ℕ))
+fine d = filter (λ name. is_none (fault d name.now))
+
+abbrev pub faulty : Dialect → List (Bor (List ℕ)) → List (Bor (List ℕ))
+faulty d = filter (λ name. is_some (fault d name.now))
+
+-- the paths to which the entries that may be unpacked go
+abbrev pub joined_entries : Dialect → List ℕ → List (Bor (List ℕ)) → List (List ℕ)
+joined_entries d base names = map (λ name. push d base name.now) (fine d names)
+
+-- the fault of the first entry that has one
+abbrev pub first_fault : Dialect → List (Bor (List ℕ)) → Option CheckedPathError
+first_fault d [] = None
+first_fault d (name ∷ names) = option_or (fault d name.now) (first_fault d names)
 
 -- components, each behind the other with a line feed
 abbrev pub lines_of : List Part → List ℕ

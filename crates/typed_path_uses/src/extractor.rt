@@ -10,9 +10,9 @@ ghost use Rattle.typed_path.specs.views.PathViews.{path_bytes};
 ghost use Rattle.typed_path.specs.places.Places.{place};
 ghost use Rattle.typed_path.specs.promises.Promises.{keeps_prefix};
 ghost use Rattle.typed_path.specs.promises.Below.{IsBelow, LiesBelow};
-ghost use Rattle.typed_path_uses.specs.Uses.{place_within, places, places_within};
+ghost use Rattle.typed_path_uses.specs.Uses.{place_within, places, places_within, joined_entries, faulty, first_fault};
 
-use std::alloc::Global;
+use std::alloc::{AllocError, Global};
 use typed_path::{CheckedPathError, Encoding, Path, PathBuf, PathError};
 
 /// Where an entry is unpacked. Where the base keeps its prefix, that is at the place of the base, and
@@ -43,9 +43,11 @@ pub fn targets<T: Encoding>(
     base: Path<'_, T>,
     names: &[&[u8]],
 ) -> Result<Vec<PathBuf<T>>, PathError>
-    ensures { keeps_prefix T.dialect (path_bytes base.entry) ≡ true → IfOk result
+    ensures places { keeps_prefix T.dialect (path_bytes base.entry) ≡ true → IfOk result
         (λ ps. places T.dialect (map (λ p. p.bytes) ps.items)
         ≡ places_within T.dialect (path_bytes base.entry) names.now) }
+    ensures refused { (e : CheckedPathError) → refusal result ≡ Some e
+        → first_fault T.dialect names.now ≡ Some e }
 {
     let mut targets = Vec::with_capacity(alloc, names.len())?;
     'names: for name in names {
@@ -72,17 +74,23 @@ pub struct Unpacking<'a, T: Encoding> {
     pub refused: Vec<Refused<'a>>,
 }
 
-/// Where the entries of an archive are unpacked, with the refusals of those that are not.
+/// Where the entries of an archive are unpacked, with the refusals of those that are not. The whole is
+/// refused for want of memory alone.
 ///
-/// Where the base keeps its prefix, each target lies below it. Each refusal is the fault of the name
-/// that it stands beside, and no entry is lost.
+/// Each entry without a fault has its target, as `target` has it, and each other one is among the
+/// refused with its fault, both in the order of the entries. Where the base keeps its prefix, each
+/// target lies below it.
 pub fn unpacked<'a, T: Encoding>(
     alloc: Global,
     base: Path<'_, T>,
     names: &[&'a [u8]],
-) -> Result<Unpacking<'a, T>, PathError>
+) -> Result<Unpacking<'a, T>, AllocError>
     ensures below { keeps_prefix T.dialect (path_bytes base.entry) ≡ true → IfOk result
         (λ u. All (λ p. IsBelow T.dialect (path_bytes base.entry) p.bytes) u.targets.items) }
+    ensures targets { IfOk result (λ u. map (λ p. p.bytes) u.targets.items
+        ≡ joined_entries T.dialect (path_bytes base.entry) names.now) }
+    ensures names { IfOk result
+        (λ u. map (λ r. r.name) u.refused.items ≡ faulty T.dialect names.now) }
     ensures refused { IfOk result
         (λ u. All (λ r. fault T.dialect r.name.now ≡ Some r.fault) u.refused.items) }
     ensures all { IfOk result (λ u. vec_len u.targets + vec_len u.refused ≡ length names.now) }
@@ -93,7 +101,7 @@ pub fn unpacked<'a, T: Encoding>(
         match target(alloc, base, name) {
             Ok(path) => targets.push(path)?,
             Err(PathError::Checked(fault)) => refused.push(Refused { name, fault })?,
-            Err(PathError::OutOfMemory) => return Err(PathError::OutOfMemory),
+            Err(PathError::OutOfMemory) => return Err(AllocError),
         }
     }
     Ok(Unpacking { targets, refused })

@@ -1,11 +1,12 @@
 //! The paths of a manifest that was written on one system, for another.
 
-ghost use Rattle.std.specs.Prelude.{◌≡◌, true, map, IfOk, Some, Ok};
+ghost use Rattle.std.specs.Prelude.{◌≡◌, true, map, IfOk, Some, Ok, Err};
 ghost use Rattle.typed_path.specs.declared.errors.CheckedPathError.{CheckedPathError};
 ghost use Rattle.typed_path.specs.components.Dialect.{unix, windows};
 ghost use Rattle.typed_path.specs.components.Part.{kinds};
 ghost use Rattle.typed_path.specs.components.Comps.{parts_of};
 ghost use Rattle.typed_path.specs.changes.Checked.{refusal};
+ghost use Rattle.typed_path.specs.conversions.Convert.{converted_checked};
 ghost use Rattle.typed_path.specs.promises.Crossings.{lack_backslash};
 ghost use Rattle.typed_path.specs.views.PathViews.{path_bytes};
 ghost use Rattle.typed_path_uses.specs.Uses.{crossings, first_refusal};
@@ -55,8 +56,12 @@ pub fn rewritten_texts<T: Utf8Encoding, U: Utf8Encoding>(
 /// A path of Unix for a manifest of Windows. Where no name of it holds a `\`, it is read there as
 /// the same components.
 pub fn entry_on_windows(alloc: Global, entry: UnixPath<'_>) -> Result<WindowsPathBuf, PathError>
-    ensures { lack_backslash (kinds (parts_of unix (path_bytes entry.entry))) ≡ true → IfOk result
+    ensures alike { lack_backslash (kinds (parts_of unix (path_bytes entry.entry))) ≡ true → IfOk result
         (λ p. kinds (parts_of windows p.bytes) ≡ kinds (parts_of unix (path_bytes entry.entry))) }
+    ensures ok { IfOk result
+        (λ p. converted_checked unix windows (path_bytes entry.entry) ≡ Ok p.bytes) }
+    ensures refused { (e : CheckedPathError) → refusal result ≡ Some e
+        → converted_checked unix windows (path_bytes entry.entry) ≡ Err e }
 {
     unix_paths_cross_to_windows(entry.as_bytes());
     entry.with_windows_encoding_checked(alloc)

@@ -1,11 +1,14 @@
 //! The files that a server of files answers with, on Unix and on Windows.
 
-ghost use Rattle.std.specs.Prelude.{◌≡◌, IfOk, IfErr, Some};
+ghost use Rattle.std.specs.Prelude.{◌≡◌, IfOk, IfErr, None};
+ghost use Rattle.std.specs.List.{list_any};
 ghost use Rattle.typed_path.specs.components.Dialect.{unix, windows};
+ghost use Rattle.typed_path.specs.changes.Push as push_spec;
 ghost use Rattle.typed_path.specs.changes.Fault.{fault};
 ghost use Rattle.typed_path.specs.promises.Below.{IsBelow, LiesBelow};
 ghost use Rattle.typed_path.specs.views.PathViews.{path_bytes};
-ghost use Rattle.typed_path_uses.specs.Server.{behind_slash, decoded, IsReason};
+ghost use Rattle.typed_path_uses.specs.Server as named;
+ghost use Rattle.typed_path_uses.specs.Server.{behind_slash, decoded, reason_of, IsReason};
 
 use percent_encoding::percent_decode;
 use std::alloc::{AllocError, Global};
@@ -58,7 +61,11 @@ pub fn served<T: Encoding>(
     url: &[u8],
 ) -> Result<PathBuf<T>, Unserved>
     ensures below { IfOk result (λ file. LiesBelow T.dialect (path_bytes root.entry) file.bytes) }
-    ensures refused { IfErr result (λ reason. IsReason reason (fault T.dialect (decoded url.now))) }
+    ensures joined { IfOk result (λ file. file.bytes
+        ≡ push_spec.push T.dialect (path_bytes root.entry) (decoded url.now)) }
+    ensures only { IfOk result (λ file. fault T.dialect (decoded url.now) ≡ None) }
+    ensures refused { IfErr result
+        (IsReason (decoded url.now) (fault T.dialect (decoded url.now))) }
 {
     let path = decode(alloc, url)?;
     match root.join_checked(alloc, Path::new(path.as_slice())) {
@@ -76,14 +83,22 @@ pub const WINDOWS_ROOT: &[u8] = br"C:\www";
 
 /// The file of a URL on Unix, below `/srv/www`.
 pub fn served_on_unix(alloc: Global, url: &[u8]) -> Result<UnixPathBuf, Unserved>
-    ensures { IfOk result (λ file. IsBelow unix UNIX_ROOT.now file.bytes) }
+    ensures below { IfOk result (λ file. IsBelow unix UNIX_ROOT.now file.bytes) }
+    ensures joined { IfOk result
+        (λ file. file.bytes ≡ push_spec.push unix UNIX_ROOT.now (decoded url.now)) }
+    ensures only { IfOk result (λ file. fault unix (decoded url.now) ≡ None) }
+    ensures refused { IfErr result (IsReason (decoded url.now) (fault unix (decoded url.now))) }
 {
     served(alloc, UnixPath::new(UNIX_ROOT), url)
 }
 
 /// The file of a URL on Windows, below `C:\www`.
 pub fn served_on_windows(alloc: Global, url: &[u8]) -> Result<WindowsPathBuf, Unserved>
-    ensures { IfOk result (λ file. IsBelow windows WINDOWS_ROOT.now file.bytes) }
+    ensures below { IfOk result (λ file. IsBelow windows WINDOWS_ROOT.now file.bytes) }
+    ensures joined { IfOk result
+        (λ file. file.bytes ≡ push_spec.push windows WINDOWS_ROOT.now (decoded url.now)) }
+    ensures only { IfOk result (λ file. fault windows (decoded url.now) ≡ None) }
+    ensures refused { IfErr result (IsReason (decoded url.now) (fault windows (decoded url.now))) }
 {
     served(alloc, WindowsPath::new(WINDOWS_ROOT), url)
 }
@@ -109,7 +124,7 @@ fn without_slash(url: &[u8]) -> &[u8]
 
 /// What a fault of a path is called.
 fn reason(fault: CheckedPathError, path: &[u8]) -> Unserved
-    ensures { IsReason result (Some fault) }
+    ensures { result ≡ reason_of path.now fault }
 {
     match fault {
         CheckedPathError::PathTraversalAttack => Unserved::Traversal,
@@ -117,7 +132,7 @@ fn reason(fault: CheckedPathError, path: &[u8]) -> Unserved
         CheckedPathError::InvalidFilename => {
             if path.contains(&0) {
                 Unserved::ZeroByte
-            } else if path.iter().any(is_stray) {
+            } else if has_stray(path) {
                 Unserved::BadName
             } else {
                 Unserved::Device
@@ -126,7 +141,16 @@ fn reason(fault: CheckedPathError, path: &[u8]) -> Unserved
     }
 }
 
-/// Whether no name of Windows may have a byte, which is no separator.
-fn is_stray(byte: &u8) -> bool {
-    *byte != b'/' && *byte != b'\\' && DISALLOWED_FILENAME_BYTES.contains(byte)
+/// Whether a path has a byte that no name of Windows may have, and that is no separator.
+fn has_stray(path: &[u8]) -> bool
+    ensures { result ≡ list_any named.is_stray path.now }
+{
+    path.iter().any(|byte| is_stray(*byte))
+}
+
+/// Whether a byte is one that no name of Windows may have, and no separator.
+fn is_stray(byte: u8) -> bool
+    ensures { result ≡ named.is_stray byte }
+{
+    byte != b'/' && byte != b'\\' && DISALLOWED_FILENAME_BYTES.contains(&byte)
 }

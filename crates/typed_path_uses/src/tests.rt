@@ -1,7 +1,7 @@
 //! Each caller at work: rows of known answers.
 
-use crate::{Rule, Unserved, is_ignored, served_on_unix, served_on_windows, unpacked};
-use std::alloc::Global;
+use crate::{Rule, Tree, Unserved, is_ignored, served_on_unix, served_on_windows, unpacked};
+use std::alloc::{AllocError, Global};
 use std::test::Fail;
 use typed_path::{
     CheckedPathError, Encoding, Path, PathError, UnixEncoding, UnixPath, WindowsEncoding,
@@ -150,5 +150,89 @@ fn ignored_paths(rt: HostRuntime) -> Result<(), Fail> {
             on_windows
         );
     }
+    Ok(())
+}
+
+/// The files of a tree on Unix, in no order, and what paths find in it.
+const ON_UNIX: &[(&[u8], &[u8])] = &[
+    (b"/a/./c.txt", b"two"),
+    (b"/a/d/e", b"three"),
+    (b"/x/../a/b.txt", b"one"),
+];
+
+const FOUND_ON_UNIX: &[(&[u8], Option<&[u8]>)] = &[
+    (b"/a/b.txt", Some(b"one")),
+    (b"/a/./b.txt", Some(b"one")),
+    (b"/x/../a//b.txt", Some(b"one")),
+    (b"/../a/b.txt/", Some(b"one")),
+    (b"/a/B.txt", None),
+    (b"a/b.txt", None),
+    (b"/a", None),
+    (br"/a\b.txt", None),
+    (b"/a/d/../d/e", Some(b"three")),
+];
+
+/// The same on Windows.
+const ON_WINDOWS: &[(&[u8], &[u8])] = &[(br"C:\a/b", b"one"), (br"\\server\share\b", b"two")];
+
+const FOUND_ON_WINDOWS: &[(&[u8], Option<&[u8]>)] = &[
+    (br"C:/a\.\b", Some(b"one")),
+    (br"c:\x\..\a\b", Some(b"one")),
+    (br"C:\A\b", None),
+    (b"C:a/b", None),
+    (b"//server/share/b", Some(b"two")),
+];
+
+/// A tree of files, or refused memory.
+fn tree_of<T: Encoding>(alloc: Global, files: &[(&[u8], &[u8])]) -> Result<Tree<T>, AllocError> {
+    let mut tree = Tree::new(alloc);
+    for (path, bytes) in files {
+        tree.write(alloc, Path::new(path), bytes)?;
+    }
+    Ok(tree)
+}
+
+/// Whether each path finds what stands beside it.
+fn finds_all<T: Encoding>(
+    alloc: Global,
+    tree: &Tree<T>,
+    rows: &[(&[u8], Option<&[u8]>)],
+) -> Result<bool, AllocError> {
+    for (path, wanted) in rows {
+        if tree.read(alloc, Path::new(path))? != *wanted {
+            return Ok(false);
+        }
+    }
+    Ok(true)
+}
+
+#[test]
+fn virtual_tree(rt: HostRuntime) -> Result<(), Fail> {
+    let windows = tree_of::<WindowsEncoding>(rt.alloc(), ON_WINDOWS)?;
+    assert!(rt; finds_all(rt.alloc(), &windows, FOUND_ON_WINDOWS)?);
+    let mut tree = tree_of::<UnixEncoding>(rt.alloc(), ON_UNIX)?;
+    assert!(rt; finds_all(rt.alloc(), &tree, FOUND_ON_UNIX)?);
+    let children = tree.children(rt.alloc(), UnixPath::new(b"/a/d/.."))?;
+    assert_eq!(rt; children.len(), 2);
+    for (child, wanted) in children.iter().zip([b"/a/b.txt", b"/a/c.txt"]) {
+        assert_eq!(rt; child.as_bytes(), wanted.as_slice());
+    }
+    drop(children);
+    let rows: [(&[u8], &[u8], bool, usize); 4] = [
+        (b"/a/b.txt", b"/a/./b.txt", true, 3),
+        (b"/a/none", b"/b", false, 3),
+        (b"/a/b.txt", b"/b", true, 3),
+        (b"/a/d/e", b"/x/../b", true, 2),
+    ];
+    for (from, to, moved, len) in rows {
+        let from = UnixPath::new(from);
+        assert_eq!(rt; tree.rename(rt.alloc(), from, UnixPath::new(to))?, moved);
+        assert_eq!(rt; tree.len(), len);
+    }
+    let b = UnixPath::new(b"/./b");
+    assert_eq!(rt; tree.read(rt.alloc(), b)?, Some(b"three".as_slice()));
+    assert!(rt; tree.remove(rt.alloc(), b)?.is_some());
+    assert!(rt; tree.remove(rt.alloc(), b)?.is_none());
+    assert_eq!(rt; tree.len(), 1);
     Ok(())
 }

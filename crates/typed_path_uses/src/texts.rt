@@ -2,6 +2,8 @@
 
 ghost use Rattle.std.specs.Prelude.{◌≡◌, true, IfOk};
 ghost use Rattle.std.specs.String.{string_bytes};
+ghost use Rattle.typed_path.specs.changes.Checked.{refusal};
+ghost use Rattle.typed_path.specs.changes.Fault.{fault};
 ghost use Rattle.typed_path.specs.places.Places.{normal_text, place};
 ghost use Rattle.typed_path.specs.promises.Promises.{keeps_prefix};
 ghost use Rattle.typed_path.specs.views.TextViews.{utf8_bytes};
@@ -16,9 +18,10 @@ pub fn text_target<T: Utf8Encoding>(
     base: Utf8Path<'_, T>,
     name: &str,
 ) -> Result<Utf8PathBuf<T>, PathError>
-    ensures { keeps_prefix T.Bytes.dialect (utf8_bytes base.entry) ≡ true → IfOk result
+    ensures place { keeps_prefix T.Bytes.dialect (utf8_bytes base.entry) ≡ true → IfOk result
         (λ p. place T.Bytes.dialect p.bytes
         ≡ place_within T.Bytes.dialect (utf8_bytes base.entry) name.now) }
+    ensures refused { refusal result ≡ fault T.Bytes.dialect name.now }
 {
     base.join_checked(alloc, Utf8Path::new(name))
 }

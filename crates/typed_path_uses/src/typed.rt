@@ -2,6 +2,8 @@
 
 ghost use Rattle.std.specs.Prelude.{◌≡◌, true, IfOk};
 ghost use Rattle.typed_path.specs.components.Dialect.{unix};
+ghost use Rattle.typed_path.specs.changes.Checked.{refusal};
+ghost use Rattle.typed_path.specs.changes.Fault.{fault};
 ghost use Rattle.typed_path.specs.conversions.Convert.{converted};
 ghost use Rattle.typed_path.specs.places.Places.{place};
 ghost use Rattle.typed_path.specs.promises.Promises.{keeps_prefix};
@@ -19,9 +21,10 @@ pub fn typed_target(
     base: TypedPath<'_>,
     name: &[u8],
 ) -> Result<TypedPathBuf, PathError>
-    ensures { keeps_prefix (typed_dialect base.entry) (typed_bytes base.entry) ≡ true → IfOk result
+    ensures place { keeps_prefix (typed_dialect base.entry) (typed_bytes base.entry) ≡ true → IfOk result
         (λ p. place (typed_dialect base.entry) (owned_bytes p)
         ≡ place_within (typed_dialect base.entry) (typed_bytes base.entry) name.now) }
+    ensures refused { refusal result ≡ fault (typed_dialect base.entry) name.now }
 {
     base.join_checked(alloc, name)
 }

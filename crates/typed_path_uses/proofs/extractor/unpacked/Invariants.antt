@@ -1,17 +1,21 @@
-use Rattle.std.proofs.Common.{◌≡◌, ◌+◌, true, vec_len}
+use Rattle.std.proofs.Common.{◌≡◌, ◌+◌, ◌++◌, true, map, drop, vec_len}
 use Rattle.std.specs.Prelude.{Some}
 use Rattle.std.specs.List.{All}
 use Rattle.typed_path.specs.views.PathViews.{path_bytes}
 use Rattle.typed_path.specs.changes.Fault.{fault}
 use Rattle.typed_path.specs.promises.Promises.{keeps_prefix}
 use Rattle.typed_path.specs.promises.Below.{IsBelow}
+use Rattle.typed_path_uses.specs.Uses.{joined_entries, faulty}
 use Rattle.typed_path_uses.proofs.extractor.unpacked.Given as goal
 
 abbrev pub invariant-names : goal.invariant-names
 invariant-names g l =
     let d = g.T.Encoding.dialect in
+    let base = path_bytes l.base in
     record {
-      below : keeps_prefix d (path_bytes l.base) ≡ true → All (λ p. IsBelow d (path_bytes l.base) p.bytes) l.targets.items;
+      below : keeps_prefix d base ≡ true → All (λ p. IsBelow d base p.bytes) l.targets.items;
+      targets : map (λ p. p.bytes) l.targets.items ++ joined_entries d base (drop l.name-index l.names) ≡ joined_entries d base l.names;
+      names : map (λ r. r.name) l.refused.items ++ faulty d (drop l.name-index l.names) ≡ faulty d l.names;
       refused : All (λ r. fault d r.name.now ≡ Some r.fault) l.refused.items;
       all : vec_len l.targets + vec_len l.refused ≡ l.name-index;
     }

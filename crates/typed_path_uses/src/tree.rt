@@ -1,0 +1,233 @@
+//! Files in memory, each at a normal path.
+
+ghost use Rattle.std.specs.Prelude.{◌≡◌, ◌↔◌, ℕ, List, true, false, map, IfOk, OnOk, OnErr, Some, None, is_some, option_map, option_copied};
+ghost use Rattle.std.specs.List.{IsDistinct};
+ghost use Rattle.std.specs.BTreeMap.{btree_map_len, keys, IsUnchanged};
+ghost use Rattle.typed_path.specs.components.Dialect.{unix, windows};
+ghost use Rattle.typed_path.specs.components.Part.{kinds};
+ghost use Rattle.typed_path.specs.components.Comps.{parts_of};
+ghost use Rattle.typed_path.specs.order.Same.{is_same};
+ghost use Rattle.typed_path.specs.places.Places.{resolve};
+ghost use Rattle.typed_path.specs.promises.Promises.{is_verbatim_unc_name, prefix_kind, with_drive_root};
+ghost use Rattle.typed_path.specs.queries.Queries.{have_allowed_bytes};
+ghost use Rattle.typed_path.specs.views.PathViews.{path_bytes};
+ghost use Rattle.typed_path_uses.specs.Tree as tree_spec;
+ghost use Rattle.typed_path_uses.specs.Tree.{filed, found, AreOne, IsKeyOf, IsOneBelow, Puts, Moves, MakesRoom, children_of};
+ghost use Rattle.typed_path_uses.specs.Uses.{LeadAlike};
+
+use std::alloc::{AllocError, Global};
+use std::collections::BTreeMap;
+use typed_path::laws::{normal_stays_stable, parent_is_the_list_without_its_last};
+use typed_path::{Encoding, Path, PathBuf};
+
+/// Files in memory. Each has one key, a normal path, and each path whose normal path has the same
+/// components finds it.
+///
+/// On Unix `/a/./b` and `/x/../a//b` find the file at `/a/b`, and `a/b` and `/a/B` do not. On Windows
+/// `C:/a\.\b` finds the one at `C:\a\b`. A folder is there where the path of a file names it.
+#[derive(Drop)]
+pub struct Tree<T: Encoding> {
+    files: BTreeMap<PathBuf<T>, Vec<u8>>,
+}
+
+impl<T: Encoding> Tree<T> {
+    /// A tree of no files.
+    pub fn new(alloc: Global) -> Tree<T>
+        ensures { (path : List ℕ) → found T.dialect result.files path ≡ None }
+    {
+        Tree {
+            files: BTreeMap::new(alloc),
+        }
+    }
+
+    /// How many files there are. No two keys are of one file.
+    pub fn len(&self) -> usize
+        ensures number { result ≡ btree_map_len self.now.files }
+        ensures alone { IsDistinct (λ k l. is_same T.dialect k.bytes l.bytes) (keys self.now.files) }
+    {
+        self.files.len()
+    }
+
+    /// The bytes of the file at a path, or none where no file is there.
+    ///
+    /// # Errors
+    ///
+    /// Where memory for the normal path is refused.
+    pub fn read(&self, alloc: Global, path: Path<'_, T>) -> Result<Option<&[u8]>, AllocError>
+        ensures { IfOk result (λ file. option_copied file
+            ≡ found T.dialect self.now.files (path_bytes path.entry)) }
+    {
+        let key = key_of(alloc, path)?;
+        match self.files.get(&key) {
+            Some(bytes) => Ok(Some(bytes.as_slice())),
+            None => Ok(None),
+        }
+    }
+
+    /// Writes a file at a path, in the place of the one that is there. What other paths find stays.
+    ///
+    /// # Errors
+    ///
+    /// Where memory is refused, and then the files are as they were.
+    pub fn write(
+        &mut self,
+        alloc: Global,
+        path: Path<'_, T>,
+        bytes: &[u8],
+    ) -> Result<(), AllocError>
+        ensures written { OnOk result
+            (Puts T.dialect (path_bytes path.entry) (Some bytes.now) self.old.files self.new.files) }
+        ensures refused { OnErr result (IsUnchanged self.old.files self.new.files) }
+    {
+        let key = key_of(alloc, path)?;
+        self.put(key, Vec::from_slice(alloc, bytes)?)
+    }
+
+    /// Puts a file at the key of a path. Where there is one, that wants no memory.
+    fn put(&mut self, key: PathBuf<T>, bytes: Vec<u8>) -> Result<(), AllocError>
+        ensures put { (path : List ℕ) → IsKeyOf T.dialect path key.bytes
+            → OnOk result (Puts T.dialect path (Some bytes.items) self.old.files self.new.files) }
+        ensures absent { (path : List ℕ) → IsKeyOf T.dialect path key.bytes
+            → OnErr result (found T.dialect self.old.files path ≡ None) }
+        ensures refused { OnErr result (IsUnchanged self.old.files self.new.files) }
+    {
+        self.files.insert(key, bytes)?;
+        Ok(())
+    }
+
+    /// Takes the file at a path away, and gives its bytes back, or none where no file is there.
+    ///
+    /// # Errors
+    ///
+    /// Where memory for the normal path is refused, and then the files are as they were.
+    pub fn remove(
+        &mut self,
+        alloc: Global,
+        path: Path<'_, T>,
+    ) -> Result<Option<Vec<u8>>, AllocError>
+        ensures removed { OnOk result
+            (Puts T.dialect (path_bytes path.entry) None self.old.files self.new.files) }
+        ensures taken { IfOk result (λ file. option_map (λ bytes. bytes.items) file
+            ≡ found T.dialect self.old.files (path_bytes path.entry)) }
+        ensures refused { OnErr result (IsUnchanged self.old.files self.new.files) }
+    {
+        let key = key_of(alloc, path)?;
+        Ok(self.files.remove(&key))
+    }
+
+    /// Takes the file at one path to another, in the place of the one that is there, and tells whether
+    /// there was one to take. Where both paths are of one file, nothing is changed.
+    ///
+    /// # Errors
+    ///
+    /// Where memory is refused, and then the files are as they were.
+    pub fn rename(
+        &mut self,
+        alloc: Global,
+        from: Path<'_, T>,
+        to: Path<'_, T>,
+    ) -> Result<bool, AllocError>
+        ensures told { IfOk result (λ moved. moved
+            ≡ is_some (found T.dialect self.old.files (path_bytes from.entry))) }
+        ensures moved { IfOk result (λ moved. moved ≡ true
+            → Moves T.dialect (path_bytes from.entry) (path_bytes to.entry) self.old.files self.new.files) }
+        ensures absent { IfOk result (λ moved. moved ≡ false
+            → IsUnchanged self.old.files self.new.files) }
+        ensures refused { OnErr result (IsUnchanged self.old.files self.new.files) }
+    {
+        let key = key_of(alloc, from)?;
+        let other = key_of(alloc, to)?;
+        if !self.files.contains_key(&key) {
+            return Ok(false);
+        }
+        if key != other {
+            self.make_room(alloc, to)?;
+            if let Some(bytes) = self.files.remove(&key) {
+                self.put(other, bytes)?;
+            }
+        }
+        Ok(true)
+    }
+
+    /// Puts a file with no bytes at a path, where none is there: then another can be put there without
+    /// more memory.
+    fn make_room(&mut self, alloc: Global, path: Path<'_, T>) -> Result<(), AllocError>
+        ensures room { OnOk result
+            (MakesRoom T.dialect (path_bytes path.entry) self.old.files self.new.files) }
+        ensures refused { OnErr result (IsUnchanged self.old.files self.new.files) }
+    {
+        let key = key_of(alloc, path)?;
+        if !self.files.contains_key(&key) {
+            return self.put(key, Vec::new(alloc));
+        }
+        Ok(())
+    }
+
+    /// The paths of the files one name below a folder, in the order of paths. The folders below it are
+    /// not listed, and where there is no such folder the list is empty.
+    ///
+    /// # Errors
+    ///
+    /// Where memory for the normal path of the folder or for the list is refused.
+    pub fn children(
+        &self,
+        alloc: Global,
+        folder: Path<'_, T>,
+    ) -> Result<Vec<Path<'_, T>>, AllocError>
+        ensures { IfOk result (λ paths. map path_bytes paths.items
+            ≡ children_of T.dialect (path_bytes folder.entry) self.now.files) }
+    {
+        let above = key_of(alloc, folder)?;
+        let mut children = Vec::new(alloc);
+        'keys: for key in self.files.keys() {
+            if is_child(key.as_path(), above.as_path()) {
+                children.push(key.as_path())?;
+            }
+        }
+        Ok(children)
+    }
+}
+
+/// The key of the file that a path leads to.
+fn key_of<T: Encoding>(alloc: Global, path: Path<'_, T>) -> Result<PathBuf<T>, AllocError>
+    ensures { IfOk result (λ key. IsKeyOf T.dialect (path_bytes path.entry) key.bytes) }
+{
+    Ok(path.normalize(alloc)?)
+}
+
+/// Whether a path ends in a name, and its parent is a folder.
+fn is_child<T: Encoding>(path: Path<'_, T>, folder: Path<'_, T>) -> bool
+    ensures { (other : List ℕ)
+        → IsKeyOf T.dialect other (path_bytes folder.entry)
+        → result ≡ tree_spec.is_child T.dialect other (path_bytes path.entry) }
+{
+    match path.parent() {
+        Some(parent) => path.file_name().is_some() && parent == folder,
+        None => false,
+    }
+}
+
+/// A key is the child of a folder exactly where it is read as what the folder is filed under, and one
+/// name behind it.
+pub fn children_are_one_name_below<T: Encoding>(key: Path<'_, T>, folder: Path<'_, T>)
+    ensures { (tree_spec.is_child T.dialect (path_bytes folder.entry) (path_bytes key.entry) ≡ true)
+        ↔ IsOneBelow (filed T.dialect (path_bytes folder.entry))
+        (kinds (parts_of T.dialect (path_bytes key.entry))) }
+{
+    parent_is_the_list_without_its_last(key.as_bytes());
+}
+
+/// On Unix, two paths are of one file exactly where they lead to the same root and names.
+pub fn unix_paths_are_one(path: &[u8], other: &[u8])
+    ensures { AreOne unix path.now other.now ↔ LeadAlike path.now other.now }
+{}
+
+/// On Windows, a path is filed under what it resolves to, with a root put in behind a verbatim drive,
+/// where no name has a byte that no name may have and the prefix is not the verbatim one named `UNC`.
+pub fn windows_path_is_filed(path: &[u8])
+    ensures { have_allowed_bytes windows (kinds (parts_of windows path.now)) ≡ true
+        → is_verbatim_unc_name (prefix_kind windows path.now) ≡ false
+        → filed windows path.now ≡ kinds (with_drive_root (resolve (parts_of windows path.now))) }
+{
+    normal_stays_stable(path);
+}
