@@ -3,29 +3,13 @@
 use crate::conversions::{absolutizes_as, converts_as};
 use crate::owned::joins_as;
 use crate::paths::normalizes_as;
+use crate::support::repeated;
 use std::alloc::{AllocError, Global};
 use std::test::Fail;
 use typed_path::{
     CheckedPathError, Encoding, End, Path, PathBuf, PathOp, PlatformEncoding, Reply, UnixEncoding,
     UnixPath, UnixPathBuf, WindowsEncoding, WindowsPath, WindowsPathBuf, read_ends, run_ops,
 };
-
-/// A beginning, a text behind it so many times, and an end.
-pub fn repeated(
-    alloc: Global,
-    begin: &[u8],
-    text: &[u8],
-    times: usize,
-    end: &[u8],
-) -> Result<Vec<u8>, AllocError> {
-    let mut bytes = Vec::new(alloc);
-    bytes.extend_from_slice(begin)?;
-    for _ in 0..times {
-        bytes.extend_from_slice(text)?;
-    }
-    bytes.extend_from_slice(end)?;
-    Ok(bytes)
-}
 
 /// Whether what is made of the empty path is empty, and a name joined to it is that name.
 fn is_made_of_nothing<T: Encoding>(alloc: Global) -> Result<bool, AllocError> {

@@ -1,49 +1,14 @@
 //! Paths as keys of maps, what they feed to a hasher, and their order: rows of known answers.
 
+use crate::support::{Recorder, recorded};
 use std::cmp::Ordering;
 use std::collections::{BTreeMap, BTreeSet, HashMap, HashSet};
-use std::hash::{DefaultHasher, Hash, Hasher};
+use std::hash::Hasher;
 use std::test::Fail;
 use typed_path::{
     Encoding, Path, PathBuf, Piece, PieceKind, UnixEncoding, UnixPath, WindowsComponents,
     WindowsEncoding, WindowsPath, WindowsPathBuf,
 };
-
-/// A hasher that tells its words apart: where one ends, it takes the length of it in.
-#[derive(Drop)]
-struct Recorder(DefaultHasher);
-
-impl Recorder {
-    fn new() -> Recorder {
-        Recorder(DefaultHasher::new())
-    }
-}
-
-impl Hasher for Recorder {
-    ghost use Rattle.std.specs.Prelude.{◌∷◌, length, fold};
-    ghost use Rattle.std.specs.Hash.{usize};
-    ghost use Rattle.std.specs.Hash.DefaultHasher as sip;
-
-    ghost write = { λ s bytes. record { 0 = fold sip.write s.0 (bytes ∷ usize (length bytes)) } };
-
-    ghost finish = { λ s. sip.finish s.0 };
-
-    fn finish(&self) -> u64 {
-        self.0.finish()
-    }
-
-    fn write(&mut self, bytes: &[u8]) {
-        self.0.write(bytes);
-        self.0.write_usize(bytes.len());
-    }
-}
-
-/// What a recorder makes of a key.
-pub fn recorded<K: Hash>(key: &K) -> u64 {
-    let mut state = Recorder::new();
-    key.hash(&mut state);
-    state.finish()
-}
 
 /// What it makes of texts in one write each, and a number behind them.
 fn recorded_words(texts: &[&[u8]], count: usize) -> u64 {

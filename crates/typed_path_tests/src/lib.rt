@@ -1,4 +1,5 @@
-//! What no clause of `typed_path` says: printed texts, streams that fail, long lines, and rows of known answers.
+//! What no clause of `typed_path` says of paths of bytes: rows of known answers, calls where memory is
+//! ample, and printed texts; and what the other crates of tests share with these.
 #![tactic(auto)]
 
 #[cfg(test)]
@@ -6,37 +7,22 @@ mod ample;
 #[cfg(test)]
 mod conversions;
 #[cfg(test)]
-mod endless;
-#[cfg(test)]
 mod ends;
-#[cfg(test)]
-mod hostile;
 #[cfg(test)]
 mod keys;
 mod lanes;
-#[cfg(test)]
-mod lines;
 #[cfg(test)]
 mod owned;
 #[cfg(test)]
 mod paths;
 #[cfg(test)]
 mod prefixes;
-#[cfg(test)]
-mod slow;
-#[cfg(test)]
-mod streams;
-#[cfg(test)]
-mod texts;
-#[cfg(test)]
-mod typed;
-#[cfg(test)]
-mod values;
+mod support;
 #[cfg(test)]
 mod verbatim;
-#[cfg(test)]
-mod watched;
 #[cfg(test)]
 mod windows;
 #[cfg(test)]
 mod windows_paths;
+
+pub use support::{Recorder, recorded, repeated};

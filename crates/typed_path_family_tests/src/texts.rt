@@ -1,6 +1,5 @@
 //! Paths of text: rows of known answers, what is printed of them, and calls where memory is ample.
 
-use crate::ample::repeated;
 use std::alloc::{AllocError, Global};
 use std::test::Fail;
 use typed_path::{
@@ -11,6 +10,7 @@ use typed_path::{
     Utf8WindowsComponents, Utf8WindowsEncoding, Utf8WindowsPath, Utf8WindowsPathBuf,
     Utf8WindowsPrefix, Utf8WindowsPrefixComponent, WindowsPrefix, WindowsPrefixComponent,
 };
+use typed_path_tests::repeated;
 
 /// Whether a call made this text.
 fn is_made<T: Utf8Encoding>(made: Result<Utf8PathBuf<T>, AllocError>, wanted: &str) -> bool {

@@ -1,7 +1,6 @@
 //! Paths whose dialect is chosen when the program runs: rows of known answers, and what each value feeds
 //! to a hasher.
 
-use crate::keys::recorded;
 use std::cmp::Ordering;
 use std::test::Fail;
 use typed_path::{
@@ -12,6 +11,7 @@ use typed_path::{
     Utf8WindowsPrefix, Utf8WindowsPrefixComponent, WindowsComponent, WindowsPath, WindowsPathBuf,
     WindowsPrefix, WindowsPrefixComponent,
 };
+use typed_path_tests::recorded;
 
 #[test]
 fn derived_kinds(rt: HostRuntime) {

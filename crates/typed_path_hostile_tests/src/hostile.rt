@@ -1,6 +1,5 @@
 //! Calls of paths on every short text, beside slow answers that are read off the slow component list.
 
-use crate::keys::recorded;
 use crate::slow::{BYTES, Part, SHORT, parts_of};
 use std::alloc::{AllocError, Global};
 use std::test::Fail;
@@ -8,6 +7,7 @@ use typed_path::{
     CheckedPathError, Encoding, Path, PathError, Piece, PieceKind, UnixEncoding, WindowsEncoding,
     WindowsPrefix,
 };
+use typed_path_tests::recorded;
 
 /// The bases that each text is pushed onto.
 const BASES: [&[u8]; 5] = [b"", b"/etc", b"C:", br"\\?\C:\base\x/y", br"\\s\h\a"];

@@ -1,6 +1,5 @@
 //! Texts of a megabyte, read and normalized in every family: each call goes through them once.
 
-use crate::ample::repeated;
 use std::alloc::{AllocError, Global};
 use std::str;
 use std::test::Fail;
@@ -8,6 +7,7 @@ use typed_path::{
     Encoding, Path, TypedPath, UnixPath, Utf8Encoding, Utf8Path, Utf8TypedPath, Utf8UnixPath,
     Utf8WindowsPath, WindowsPath,
 };
+use typed_path_tests::repeated;
 
 /// How many items there are.
 macro_rules! number_of {

@@ -1,12 +1,12 @@
 //! Replies to lines, in whatever pieces they come and whatever fails.
 
-use crate::ample::repeated;
 use crate::streams::{Drops, Pieces};
 use std::alloc::Global;
 use std::io;
 use std::io::{Read, Write};
 use std::test::Fail;
 use typed_path::{LineError, Sink, Source, StdSink, StdSource, answer_lines, exit_status};
+use typed_path_tests::repeated;
 
 const ALL: usize = usize::MAX;
 

@@ -1,0 +1,16 @@
+//! Hostile use of `typed_path`: every short text beside a slow reading, texts of a megabyte, and streams
+//! that come in pieces and fail.
+#![tactic(auto)]
+
+#[cfg(test)]
+mod endless;
+#[cfg(test)]
+mod hostile;
+#[cfg(test)]
+mod lines;
+#[cfg(test)]
+mod slow;
+#[cfg(test)]
+mod streams;
+#[cfg(test)]
+mod watched;
