@@ -3,3 +3,4 @@ pub mod Same
 pub mod Words
 pub mod TextWords
 pub mod Laws
+pub mod Keyed

@@ -30,7 +30,7 @@ pub enum CheckedPathError {
     UnexpectedRoot,
 }
 
-/// Why a checked push was not done.
+/// Why a checked push, or a checked conversion, was not done.
 #[derive(Clone, Copy, Debug, PartialEq, Eq, Hash, Error)]
 pub enum PathError {
     /// The path that was to be pushed is refused.

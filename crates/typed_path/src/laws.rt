@@ -5,11 +5,12 @@ ghost use Rattle.std.specs.List.{list_any};
 ghost use Rattle.std.specs.Cmp.{IsTotalOrder};
 ghost use Rattle.std.specs.declared.cmp.Ordering.{Ordering};
 ghost use Rattle.typed_path.specs.components.Dialect.{Dialect, dot, slash};
-ghost use Rattle.typed_path.specs.components.Part.{Placed};
+ghost use Rattle.typed_path.specs.components.Part.{Kind, Placed, kinds};
 ghost use Rattle.typed_path.specs.components.Prefix.{Found, prefix_of};
-ghost use Rattle.typed_path.specs.components.Comps.{comps};
+ghost use Rattle.typed_path.specs.components.Comps.{comps, parts_of};
 ghost use Rattle.typed_path.specs.scan.Left.{Side, reads, left, items_between, but_last};
 ghost use Rattle.typed_path.specs.scan.Reading.{answers_after, items_after, slice_after, fronts, backs, IsWhole, IsLaidOut};
+ghost use Rattle.typed_path.specs.queries.Ancestry.{is_child_of, IsOneBelow};
 ghost use Rattle.typed_path.specs.queries.Queries.{parent_of};
 ghost use Rattle.typed_path.specs.promises.Joins.{JoinAppends, StripJoins};
 ghost use Rattle.typed_path.specs.queries.Names.{is_a_dot, stem_of, extension_of};
@@ -216,6 +217,15 @@ pub fn parent_is_the_list_without_its_last(path: &[u8])
     ghost d: { Dialect }
     ensures { (parent : List ℕ) → parent_of d path.now ≡ Some parent
         → comps d parent ≡ but_last (comps d path.now) }
+{}
+
+/// A path ends in a name and its parent is read as a list exactly where the path is read as that list
+/// and one name behind it.
+#[tactic(auto, using(crate::proofs::lemmas::queries::ChildLemmas::child_is_one_below))]
+pub fn children_are_one_name_below(path: &[u8])
+    ghost d: { Dialect }
+    ensures { (above : List Kind) → (is_child_of d above path.now ≡ true)
+        ↔ IsOneBelow above (kinds (parts_of d path.now)) }
 {}
 
 /// A relative Unix path joined to a base that is not empty is read as the list of the base and,

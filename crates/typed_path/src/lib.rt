@@ -24,9 +24,13 @@
 //! type: [`UnixEncoding`], [`WindowsEncoding`] or [`PlatformEncoding`], with the names [`UnixPath`],
 //! [`WindowsPath`] and [`PlatformPath`] for the lent ones. [`Utf8Path`] and [`Utf8PathBuf`] are the
 //! same over texts, with the same names behind `Utf8`: each of their calls answers what that of the
-//! bytes does, and what it lends is a text. A call that needs memory answers a `Result`, and where
-//! memory is refused it leaves what it was handed as it was, unless it says otherwise. The laws that
-//! callers may cite stand in [`laws`].
+//! bytes does, and what it lends is a text. [`TypedPath`], [`TypedPathBuf`] and the two behind `Utf8`
+//! are of Unix or of Windows as is chosen when the program runs. The four lent ones become JSON values
+//! by `to_value`, and the four owned ones are made of these by `from_value`. [`read_ends`],
+//! [`run_ops`] and [`answer_lines`] take lists of requests, of changes and of lines.
+//!
+//! A call that needs memory answers a `Result`, and where memory is refused it leaves what it was
+//! handed as it was, unless it says otherwise. The laws that callers may cite stand in [`laws`].
 #![tactic(auto)]
 
 mod common;

@@ -2,6 +2,7 @@
 -- ParentLemmas: the list of a parent: the list without its last component
 -- WindowsParent: the list of a Windows parent: the list without its last component
 -- AncestorLemmas: a path and those above it, one step up
+-- ChildLemmas: a path that ends in a name is read as its parent and that name behind it
 -- StripLemmas: a base taken off a path, component by component
 -- BaseLemmas: a text that begins with the bytes of another, read as that one and what stands behind it
 -- EndLemmas: the end of a path compared with another, component by component
@@ -12,6 +13,7 @@
 pub mod ParentLemmas
 pub mod WindowsParent
 pub mod AncestorLemmas
+pub mod ChildLemmas
 pub mod StripLemmas
 pub mod BaseLemmas
 pub mod EndLemmas

@@ -21,10 +21,14 @@ pub enum Begin {
 /// The place of a reading of a body: where the components that are left begin and end in the text.
 #[derive(Clone, Copy, Debug)]
 pub struct Body<'a> {
+    /// The whole text.
     pub text: &'a [u8],
+    /// Where what is left begins.
     pub from: usize,
+    /// Where it ends.
     pub to: usize,
     begin: Begin,
+    /// Those of the whole text.
     pub separators: Separators,
     ghost ordered: { from ≤ to },
     ghost in_range: { to ≤ length text.now },

@@ -23,6 +23,7 @@ impl Dialogue {
     ghost use Rattle.std.specs.Prelude.{◌≡◌, [], ◌∷◌, ◌++◌, OnOk};
     ghost use Rattle.typed_path.specs.script.Lines.{split_lines, reply, replies_to, complete_lines, open_line, all_lines};
 
+    /// A dialogue with no open line and no replies.
     pub fn new(alloc: Global) -> Dialogue
         ensures line { result.line.items ≡ [] }
         ensures replies { result.replies.items ≡ [] }

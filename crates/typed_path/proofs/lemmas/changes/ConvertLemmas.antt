@@ -32,3 +32,8 @@ pushed-all e base ps none = ap (push_checked_each e (Ok base)) none
 pub fault-passed : {A : Type 0} (r : Result A PathError) (f : CheckedPathError) → IsErrAnd r (λ y. y ≡ Checked f) → (e : CheckedPathError) → refusal r ≡ Some e → Some f ≡ Some e
 fault-passed (Ok x) f is e told = absurd is
 fault-passed {A = A} (Err y) f is e told = ap (λ z. refusal {A = A} (Err z)) (sym is) ∙ told
+
+-- a refusal of one call that another passes on
+pub refusal-passed : {A B : Type 0} (s : Result B PathError) (r : Result A PathError) (e : PathError) → IsErrAnd r (λ y. y ≡ e) → (f : CheckedPathError) → refusal r ≡ Some f → refusal {A = B} (Err e) ≡ Some f
+refusal-passed s (Ok x) e is f told = absurd is
+refusal-passed {B = B} s (Err y) e is f told = ap (λ z. refusal {A = B} (Err z)) (sym is) ∙ told
