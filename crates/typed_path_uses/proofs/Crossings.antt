@@ -1,12 +1,10 @@
 -- The refusal that a list of crossings meets first.
-use Rattle.std.proofs.Common.{◌≡◌, ◌<◌, ℕ, List, [], ◌∷◌, ◌++◌, map, length, drop, get_or, suc, Bor, Some, refl, sym, ap, ◌∙◌}
-use Rattle.std.specs.Prelude.{Result, Ok, Err, IsErrAnd}
+use Rattle.std.proofs.Common.{◌≡◌, ◌<◌, ℕ, List, [], ◌∷◌, ◌++◌, map, length, drop, get_or, suc, Bor, Some, refl, ap}
+use Rattle.std.specs.Prelude.{Result, Ok, Err}
 use Rattle.std.proofs.Math.Seq.{drop-cons}
 use Rattle.typed_path.specs.declared.errors.CheckedPathError.{CheckedPathError}
-use Rattle.typed_path.specs.declared.errors.PathError.{PathError}
 use Rattle.typed_path.specs.components.Dialect.{Dialect}
 use Rattle.typed_path.specs.conversions.Convert.{converted_checked}
-use Rattle.typed_path.specs.changes.Checked.{refusal}
 use Rattle.typed_path_uses.specs.Uses.{crossings, first_refusal}
 
 -- the first refusal stands behind paths that are not refused
@@ -18,8 +16,3 @@ refused-behind bytes (p ∷ done) e rest = refused-behind bytes done e rest
 pub crossings-next : (d e : Dialect) (entries : List (Bor (List ℕ))) (i : ℕ) (entry : Bor (List ℕ)) → i < length entries
     → crossings d e (drop i entries) ≡ converted_checked d e (get_or entries i entry).now ∷ crossings d e (drop (suc i) entries)
 crossings-next d e entries i entry within = ap (crossings d e) (drop-cons entries i entry within)
-
--- a refusal of one call that another passes on
-pub refusal-passed : {A B : Type 0} (s : Result B PathError) (r : Result A PathError) (e : PathError) → IsErrAnd r (λ y. y ≡ e) → (f : CheckedPathError) → refusal r ≡ Some f → refusal {A = B} (Err e) ≡ Some f
-refusal-passed s (Ok x) e is f told = absurd is
-refusal-passed {B = B} s (Err y) e is f told = ap (λ z. refusal {A = B} (Err z)) (sym is) ∙ told

@@ -1,36 +1,19 @@
--- What the entries of an archive come to, one entry later.
-use Rattle.std.proofs.Common.{◌≡◌, ◌<◌, ℕ, List, [], ◌∷◌, ◌++◌, map, length, drop, get_or, ◌+◌, Bor, Some, None, refl, sym, ap, ◌∙◌}
-use native.Mathlib.Numerals.{unary_clauses}
-use Rattle.std.proofs.Math.Seq.{drop-cons}
+-- The entries of an archive, one after the other.
+use Rattle.std.proofs.Common.{◌≡◌, ◌<◌, ◌+◌, ℕ, List, [], ◌∷◌, ◌++◌, map, length, drop, get_or, append_assoc, Bor, sym, ap, ◌∙◌}
+use Rattle.std.proofs.lemmas.List.{map-append, drop_more}
+use Rattle.std.proofs.lemmas.List.Elements.{filter-append}
 use Rattle.typed_path.specs.components.Dialect.{Dialect}
-use Rattle.typed_path.specs.declared.errors.CheckedPathError.{CheckedPathError}
+use Rattle.std.specs.Option.{is_none, is_some}
 use Rattle.typed_path.specs.changes.Push.{push}
 use Rattle.typed_path.specs.changes.Fault.{fault}
-use Rattle.typed_path_uses.specs.Uses.{joined_entries, faulty}
+use Rattle.typed_path_uses.specs.Uses.{fine, faulty, joined_entries}
 
-module _ (d : Dialect) (base : List ℕ) (names : List (Bor (List ℕ))) (i : ℕ) (other : Bor (List ℕ)) (within : i < length names) where
-  -- an entry without a fault goes to its target
-  pub fine-joined : fault d (get_or names i other).now ≡ None → joined_entries d base (drop i names) ≡ push d base (get_or names i other).now ∷ joined_entries d base (drop (i + 1) names)
-  fine-joined is = simp unary_clauses (rw (drop-cons names i other within, is) refl)
+pub faulty-cons : (d : Dialect) (name : Bor (List ℕ)) (names : List (Bor (List ℕ))) → faulty d (name ∷ names) ≡ faulty d (name ∷ []) ++ faulty d names
+faulty-cons d name names = filter-append (λ n. is_some (fault d n.now)) (name ∷ []) names
 
-  pub fine-not-faulty : fault d (get_or names i other).now ≡ None → faulty d (drop i names) ≡ faulty d (drop (i + 1) names)
-  fine-not-faulty is = simp unary_clauses (rw (drop-cons names i other within, is) refl)
+pub joined-cons : (d : Dialect) (base : List ℕ) (name : Bor (List ℕ)) (names : List (Bor (List ℕ))) → joined_entries d base (name ∷ names) ≡ joined_entries d base (name ∷ []) ++ joined_entries d base names
+joined-cons d base name names = ap (map (λ n. push d base n.now)) (filter-append (λ n. is_none (fault d n.now)) (name ∷ []) names) ∙ map-append (λ n. push d base n.now) (fine d (name ∷ [])) (fine d names)
 
-  -- another one is listed
-  pub faulty-listed : (e : CheckedPathError) → fault d (get_or names i other).now ≡ Some e → faulty d (drop i names) ≡ get_or names i other ∷ faulty d (drop (i + 1) names)
-  faulty-listed e is = simp unary_clauses (rw (drop-cons names i other within, is) refl)
-
-  pub faulty-not-joined : (e : CheckedPathError) → fault d (get_or names i other).now ≡ Some e → joined_entries d base (drop i names) ≡ joined_entries d base (drop (i + 1) names)
-  faulty-not-joined e is = simp unary_clauses (rw (drop-cons names i other within, is) refl)
-
--- what is done and what is left stay a whole, where the next of what is left is done
-pub one-more : {X Y : Type 0} (f : X → Y) (done : List X) (x : X) (y : Y) (left rest whole : List Y) → f x ≡ y → left ≡ y ∷ rest → map f done ++ left ≡ whole → map f (done ++ x ∷ []) ++ rest ≡ whole
-one-more f done x y left rest whole is next stands = pushed done ∙ ap (λ it. map f done ++ it) (ap (λ z. z ∷ rest) is ∙ sym next) ∙ stands
-  where
-    pushed : (ys : List _) → map f (ys ++ x ∷ []) ++ rest ≡ map f ys ++ f x ∷ rest
-    pushed [] = refl
-    pushed (y ∷ ys) = ap (λ it. f y ∷ it) (pushed ys)
-
--- and where nothing of it is
-pub none-more : {Y : Type 0} (done left rest whole : List Y) → left ≡ rest → done ++ left ≡ whole → done ++ rest ≡ whole
-none-more done left rest whole same stands = ap (λ it. done ++ it) (sym same) ∙ stands
+-- what is done and what is left stay a whole, one entry later
+pub one-more : {N Y : Type 0} (f : List N → List Y) → ((n : N) (ns : List N) → f (n ∷ ns) ≡ f (n ∷ []) ++ f ns) → (done grown : List Y) (names : List N) (i : ℕ) (other : N) → i < length names → grown ≡ done ++ f (get_or names i other ∷ []) → done ++ f (drop i names) ≡ f names → grown ++ f (drop (i + 1) names) ≡ f names
+one-more f cons done grown names i other within grew was = ap (λ it. it ++ f (drop (i + 1) names)) grew ∙ append_assoc done (f (get_or names i other ∷ [])) (f (drop (i + 1) names)) ∙ ap (λ it. done ++ it) (sym (ap f (drop_more names i other within) ∙ cons (get_or names i other) (drop (i + 1) names))) ∙ was

@@ -1,13 +1,12 @@
 -- What a tree of files promises.
-use Rattle.std.specs.Prelude.{◌≡◌, ◌≢◌, ℕ, List, [], ◌∷◌, ◌++◌, map, filter, Bool, false, ◌&&◌, Option, Some, None, is_some, option_map, Vec}
-use Rattle.std.specs.Ordering.{is_eq}
-use Rattle.std.specs.BTreeMap.{BTreeMap, get_by, keys}
+use Rattle.std.specs.Prelude.{◌≡◌, ℕ, List, map, filter, Option, None, option_map, Vec}
+use Rattle.std.specs.BTreeMap.{BTreeMap, keys}
 use Rattle.typed_path.specs.components.Dialect.{Dialect, unix, windows}
-use Rattle.typed_path.specs.components.Part.{Kind, normal, kinds}
+use Rattle.typed_path.specs.components.Part.{Kind, kinds}
 use Rattle.typed_path.specs.components.Comps.{parts_of}
-use Rattle.typed_path.specs.order.Same.{kinds_cmp}
-use Rattle.typed_path.specs.queries.Queries.{file_name_of, parent_of}
+use Rattle.typed_path.specs.order.Keyed.{value_at}
 use Rattle.typed_path.specs.places.Places.{resolve, normal_text}
+use Rattle.typed_path.specs.queries.Ancestry.{is_child_of}
 use Rattle.typed_path.specs.views.OwnedViews.{Owned}
 
 -- what a path is filed under: on Unix what it resolves to, on Windows what its normal text is read as
@@ -23,23 +22,10 @@ AreOne d path other = filed d path ≡ filed d other
 abbrev pub IsKeyOf : Dialect → List ℕ → List ℕ → Type 0
 IsKeyOf d path key = kinds (parts_of d key) ≡ filed d path
 
--- a parent is what a folder is filed under
-abbrev pub is_folder : Dialect → List ℕ → Option (List ℕ) → Bool
-is_folder d folder None = false
-is_folder d folder (Some parent) = is_eq (kinds_cmp (kinds (parts_of d parent)) (filed d folder))
-
--- a key ends in a name, and its parent is a folder
-abbrev pub is_child : Dialect → List ℕ → List ℕ → Bool
-is_child d folder key = is_some (file_name_of d key) && is_folder d folder (parent_of d key)
-
--- a list is another, and one name behind it
-abbrev pub IsOneBelow : List Kind → List Kind → Type 0
-IsOneBelow above ks = (name : List ℕ) × (ks ≡ above ++ normal name ∷ [])
-
 module _ {Y : Type 0} where
   -- the bytes that a path finds among files
   abbrev pub found : Dialect → BTreeMap Owned (Vec ℕ Y) → List ℕ → Option (List ℕ)
-  found d files path = option_map (λ v. v.items) (get_by (λ k. kinds_cmp (filed d path) (kinds (parts_of d k.bytes))) files)
+  found d files path = option_map (λ v. v.items) (value_at d (filed d path) files)
 
   -- files that are as they were, but for that of a path, which is now this one or none
   pub record Puts (d : Dialect) (path : List ℕ) (file : Option (List ℕ)) (old new : BTreeMap Owned (Vec ℕ Y)) : Type 0 where
@@ -52,11 +38,6 @@ module _ {Y : Type 0} where
     pub gone : (other : List ℕ) → (AreOne d to other → ⊥) → AreOne d from other → found d new other ≡ None
     pub elsewhere : (other : List ℕ) → (AreOne d to other → ⊥) → (AreOne d from other → ⊥) → found d new other ≡ found d old other
 
-  -- files that are as they were, but that a path may find another than it found, and finds one
-  pub record MakesRoom (d : Dialect) (path : List ℕ) (old new : BTreeMap Owned (Vec ℕ Y)) : Type 0 where
-    pub there : found d new path ≢ None
-    pub elsewhere : (other : List ℕ) → (AreOne d path other → ⊥) → found d new other ≡ found d old other
-
   -- the keys one name below a folder, in the order of the keys
   abbrev pub children_of : Dialect → List ℕ → BTreeMap Owned (Vec ℕ Y) → List (List ℕ)
-  children_of d folder files = filter (is_child d folder) (map (λ k. k.bytes) (keys files))
+  children_of d folder files = filter (is_child_of d (filed d folder)) (map (λ k. k.bytes) (keys files))

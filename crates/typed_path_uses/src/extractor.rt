@@ -1,6 +1,6 @@
 //! Where the entries of an archive are unpacked, on Unix and on Windows.
 
-ghost use Rattle.std.specs.Prelude.{◌≡◌, ◌+◌, length, true, map, Some, IfOk};
+ghost use Rattle.std.specs.Prelude.{◌≡◌, ◌+◌, ◌++◌, ◌∷◌, [], length, true, map, Some, IfOk, OnOk};
 ghost use Rattle.std.specs.Vec.{vec_len};
 ghost use Rattle.std.specs.List.{All};
 ghost use Rattle.typed_path.specs.changes.Push as push_spec;
@@ -74,6 +74,31 @@ pub struct Unpacking<'a, T: Encoding> {
     pub refused: Vec<Refused<'a>>,
 }
 
+impl<'a, T: Encoding> Unpacking<'a, T> {
+    /// Puts an entry to the targets, or to the refused. Where memory is refused, both are as they were.
+    fn unpack(&mut self, alloc: Global, base: Path<'_, T>, name: &'a [u8]) -> Result<(), AllocError>
+        ensures below { keeps_prefix T.dialect (path_bytes base.entry) ≡ true
+            → All (λ p. IsBelow T.dialect (path_bytes base.entry) p.bytes) self.old.targets.items
+            → All (λ p. IsBelow T.dialect (path_bytes base.entry) p.bytes) self.new.targets.items }
+        ensures targets { OnOk result (map (λ p. p.bytes) self.new.targets.items
+            ≡ map (λ p. p.bytes) self.old.targets.items
+            ++ joined_entries T.dialect (path_bytes base.entry) (name.entry ∷ [])) }
+        ensures names { OnOk result (map (λ r. r.name) self.new.refused.items
+            ≡ map (λ r. r.name) self.old.refused.items ++ faulty T.dialect (name.entry ∷ [])) }
+        ensures refused { All (λ r. fault T.dialect r.name.now ≡ Some r.fault) self.old.refused.items
+            → All (λ r. fault T.dialect r.name.now ≡ Some r.fault) self.new.refused.items }
+        ensures all { OnOk result (vec_len self.new.targets + vec_len self.new.refused
+            ≡ vec_len self.old.targets + vec_len self.old.refused + 1) }
+    {
+        match target(alloc, base, name) {
+            Ok(path) => self.targets.push(path)?,
+            Err(PathError::Checked(fault)) => self.refused.push(Refused { name, fault })?,
+            Err(PathError::OutOfMemory) => return Err(AllocError),
+        }
+        Ok(())
+    }
+}
+
 /// Where the entries of an archive are unpacked, with the refusals of those that are not. The whole is
 /// refused for want of memory alone.
 ///
@@ -95,14 +120,12 @@ pub fn unpacked<'a, T: Encoding>(
         (λ u. All (λ r. fault T.dialect r.name.now ≡ Some r.fault) u.refused.items) }
     ensures all { IfOk result (λ u. vec_len u.targets + vec_len u.refused ≡ length names.now) }
 {
-    let mut targets = Vec::new(alloc);
-    let mut refused = Vec::new(alloc);
+    let mut unpacking = Unpacking {
+        targets: Vec::new(alloc),
+        refused: Vec::new(alloc),
+    };
     'names: for name in names {
-        match target(alloc, base, name) {
-            Ok(path) => targets.push(path)?,
-            Err(PathError::Checked(fault)) => refused.push(Refused { name, fault })?,
-            Err(PathError::OutOfMemory) => return Err(AllocError),
-        }
+        unpacking.unpack(alloc, base, name)?;
     }
-    Ok(Unpacking { targets, refused })
+    Ok(unpacking)
 }

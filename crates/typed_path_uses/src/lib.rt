@@ -17,7 +17,7 @@ pub use manifest::{entry_on_windows, rewritten, rewritten_texts};
 pub use server::{UNIX_ROOT, Unserved, WINDOWS_ROOT, served, served_on_unix, served_on_windows};
 pub use texts::{text_key, text_target};
 pub use tidy::{are_one, key};
-pub use tree::{Tree, children_are_one_name_below, unix_paths_are_one, windows_path_is_filed};
+pub use tree::{Tree, unix_paths_are_one, windows_path_is_filed};
 pub use typed::{listed_as_on_unix, typed_target};
 pub use walk::listing;
 

@@ -8,7 +8,7 @@ ghost use Rattle.typed_path.specs.changes.Fault.{fault};
 ghost use Rattle.typed_path.specs.promises.Below.{IsBelow, LiesBelow};
 ghost use Rattle.typed_path.specs.views.PathViews.{path_bytes};
 ghost use Rattle.typed_path_uses.specs.Server as named;
-ghost use Rattle.typed_path_uses.specs.Server.{behind_slash, decoded, reason_of, IsReason};
+ghost use Rattle.typed_path_uses.specs.Server.{decoded, reason_of, IsReason};
 
 use percent_encoding::percent_decode;
 use std::alloc::{AllocError, Global};
@@ -107,19 +107,13 @@ pub fn served_on_windows(alloc: Global, url: &[u8]) -> Result<WindowsPathBuf, Un
 fn decode(alloc: Global, url: &[u8]) -> Result<Vec<u8>, AllocError>
     ensures { IfOk result (λ path. path.items ≡ decoded url.now) }
 {
-    let mut path = Vec::new(alloc);
-    percent_decode(without_slash(url)).append_to(&mut path)?;
-    Ok(path)
-}
-
-/// A text without a `/` at its front.
-fn without_slash(url: &[u8]) -> &[u8]
-    ensures { result.now ≡ behind_slash url.now }
-{
-    match url {
+    let url = match url {
         [b'/', rest @ ..] => rest,
         _ => url,
-    }
+    };
+    let mut path = Vec::new(alloc);
+    percent_decode(url).append_to(&mut path)?;
+    Ok(path)
 }
 
 /// What a fault of a path is called.
@@ -129,15 +123,9 @@ fn reason(fault: CheckedPathError, path: &[u8]) -> Unserved
     match fault {
         CheckedPathError::PathTraversalAttack => Unserved::Traversal,
         CheckedPathError::UnexpectedRoot | CheckedPathError::UnexpectedPrefix => Unserved::Absolute,
-        CheckedPathError::InvalidFilename => {
-            if path.contains(&0) {
-                Unserved::ZeroByte
-            } else if has_stray(path) {
-                Unserved::BadName
-            } else {
-                Unserved::Device
-            }
-        }
+        CheckedPathError::InvalidFilename if path.contains(&0) => Unserved::ZeroByte,
+        CheckedPathError::InvalidFilename if has_stray(path) => Unserved::BadName,
+        CheckedPathError::InvalidFilename => Unserved::Device,
     }
 }
 

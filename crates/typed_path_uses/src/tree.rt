@@ -1,6 +1,6 @@
 //! Files in memory, each at a normal path.
 
-ghost use Rattle.std.specs.Prelude.{◌≡◌, ◌↔◌, ℕ, List, true, false, map, IfOk, OnOk, OnErr, Some, None, is_some, option_map, option_copied};
+ghost use Rattle.std.specs.Prelude.{◌≡◌, ◌↔◌, ◌++◌, ◌∷◌, [], ℕ, List, true, false, map, filter, IfOk, OnOk, OnErr, Some, None, is_some, option_map, option_copied};
 ghost use Rattle.std.specs.List.{IsDistinct};
 ghost use Rattle.std.specs.BTreeMap.{btree_map_len, keys, IsUnchanged};
 ghost use Rattle.typed_path.specs.components.Dialect.{unix, windows};
@@ -9,15 +9,15 @@ ghost use Rattle.typed_path.specs.components.Comps.{parts_of};
 ghost use Rattle.typed_path.specs.order.Same.{is_same};
 ghost use Rattle.typed_path.specs.places.Places.{resolve};
 ghost use Rattle.typed_path.specs.promises.Promises.{is_verbatim_unc_name, prefix_kind, with_drive_root};
+ghost use Rattle.typed_path.specs.queries.Ancestry.{is_child_of};
 ghost use Rattle.typed_path.specs.queries.Queries.{have_allowed_bytes};
 ghost use Rattle.typed_path.specs.views.PathViews.{path_bytes};
-ghost use Rattle.typed_path_uses.specs.Tree as tree_spec;
-ghost use Rattle.typed_path_uses.specs.Tree.{filed, found, AreOne, IsKeyOf, IsOneBelow, Puts, Moves, MakesRoom, children_of};
+ghost use Rattle.typed_path_uses.specs.Tree.{filed, found, AreOne, IsKeyOf, Puts, Moves, children_of};
 ghost use Rattle.typed_path_uses.specs.Uses.{LeadAlike};
 
 use std::alloc::{AllocError, Global};
 use std::collections::BTreeMap;
-use typed_path::laws::{normal_stays_stable, parent_is_the_list_without_its_last};
+use typed_path::laws::normal_stays_stable;
 use typed_path::{Encoding, Path, PathBuf};
 
 /// Files in memory. Each has one key, a normal path, and each path whose normal path has the same
@@ -57,11 +57,8 @@ impl<T: Encoding> Tree<T> {
         ensures { IfOk result (λ file. option_copied file
             ≡ found T.dialect self.now.files (path_bytes path.entry)) }
     {
-        let key = key_of(alloc, path)?;
-        match self.files.get(&key) {
-            Some(bytes) => Ok(Some(bytes.as_slice())),
-            None => Ok(None),
-        }
+        let file = self.files.get(&key_of(alloc, path)?);
+        Ok(file.map(Vec::as_slice))
     }
 
     /// Writes a file at a path, in the place of the one that is there. What other paths find stays.
@@ -83,12 +80,10 @@ impl<T: Encoding> Tree<T> {
         self.put(key, Vec::from_slice(alloc, bytes)?)
     }
 
-    /// Puts a file at the key of a path. Where there is one, that wants no memory.
+    /// Puts a file at the key of a path.
     fn put(&mut self, key: PathBuf<T>, bytes: Vec<u8>) -> Result<(), AllocError>
         ensures put { (path : List ℕ) → IsKeyOf T.dialect path key.bytes
             → OnOk result (Puts T.dialect path (Some bytes.items) self.old.files self.new.files) }
-        ensures absent { (path : List ℕ) → IsKeyOf T.dialect path key.bytes
-            → OnErr result (found T.dialect self.old.files path ≡ None) }
         ensures refused { OnErr result (IsUnchanged self.old.files self.new.files) }
     {
         self.files.insert(key, bytes)?;
@@ -111,12 +106,22 @@ impl<T: Encoding> Tree<T> {
             ≡ found T.dialect self.old.files (path_bytes path.entry)) }
         ensures refused { OnErr result (IsUnchanged self.old.files self.new.files) }
     {
-        let key = key_of(alloc, path)?;
-        Ok(self.files.remove(&key))
+        Ok(self.take(&key_of(alloc, path)?))
+    }
+
+    /// Takes the file at the key of a path away.
+    fn take(&mut self, key: &PathBuf<T>) -> Option<Vec<u8>>
+        ensures removed { (path : List ℕ) → IsKeyOf T.dialect path key.now.bytes
+            → Puts T.dialect path None self.old.files self.new.files }
+        ensures taken { (path : List ℕ) → IsKeyOf T.dialect path key.now.bytes
+            → option_map (λ bytes. bytes.items) result ≡ found T.dialect self.old.files path }
+    {
+        self.files.remove(key)
     }
 
     /// Takes the file at one path to another, in the place of the one that is there, and tells whether
-    /// there was one to take. Where both paths are of one file, nothing is changed.
+    /// there was one to take. The bytes are copied before the file is taken away. Where both paths are
+    /// of one file, nothing is changed.
     ///
     /// # Errors
     ///
@@ -137,30 +142,15 @@ impl<T: Encoding> Tree<T> {
     {
         let key = key_of(alloc, from)?;
         let other = key_of(alloc, to)?;
-        if !self.files.contains_key(&key) {
+        let Some(bytes) = self.files.get(&key) else {
             return Ok(false);
-        }
+        };
         if key != other {
-            self.make_room(alloc, to)?;
-            if let Some(bytes) = self.files.remove(&key) {
-                self.put(other, bytes)?;
-            }
+            let bytes = Vec::from_slice(alloc, bytes.as_slice())?;
+            self.put(other, bytes)?;
+            self.take(&key);
         }
         Ok(true)
-    }
-
-    /// Puts a file with no bytes at a path, where none is there: then another can be put there without
-    /// more memory.
-    fn make_room(&mut self, alloc: Global, path: Path<'_, T>) -> Result<(), AllocError>
-        ensures room { OnOk result
-            (MakesRoom T.dialect (path_bytes path.entry) self.old.files self.new.files) }
-        ensures refused { OnErr result (IsUnchanged self.old.files self.new.files) }
-    {
-        let key = key_of(alloc, path)?;
-        if !self.files.contains_key(&key) {
-            return self.put(key, Vec::new(alloc));
-        }
-        Ok(())
     }
 
     /// The paths of the files one name below a folder, in the order of paths. The folders below it are
@@ -180,12 +170,26 @@ impl<T: Encoding> Tree<T> {
         let above = key_of(alloc, folder)?;
         let mut children = Vec::new(alloc);
         'keys: for key in self.files.keys() {
-            if is_child(key.as_path(), above.as_path()) {
-                children.push(key.as_path())?;
-            }
+            list_child(&mut children, key.as_path(), above.as_path())?;
         }
         Ok(children)
     }
+}
+
+/// Puts a path to the children of a folder, where it is one.
+fn list_child<'a, T: Encoding>(
+    children: &mut Vec<Path<'a, T>>,
+    path: Path<'a, T>,
+    folder: Path<'_, T>,
+) -> Result<(), AllocError>
+    ensures { OnOk result (map path_bytes children.new.items ≡ map path_bytes children.old.items
+        ++ filter (is_child_of T.dialect (kinds (parts_of T.dialect (path_bytes folder.entry))))
+        (path_bytes path.entry ∷ [])) }
+{
+    if is_child(path, folder) {
+        children.push(path)?;
+    }
+    Ok(())
 }
 
 /// The key of the file that a path leads to.
@@ -197,24 +201,13 @@ fn key_of<T: Encoding>(alloc: Global, path: Path<'_, T>) -> Result<PathBuf<T>, A
 
 /// Whether a path ends in a name, and its parent is a folder.
 fn is_child<T: Encoding>(path: Path<'_, T>, folder: Path<'_, T>) -> bool
-    ensures { (other : List ℕ)
-        → IsKeyOf T.dialect other (path_bytes folder.entry)
-        → result ≡ tree_spec.is_child T.dialect other (path_bytes path.entry) }
+    ensures { result
+        ≡ is_child_of T.dialect (kinds (parts_of T.dialect (path_bytes folder.entry))) (path_bytes path.entry) }
 {
     match path.parent() {
         Some(parent) => path.file_name().is_some() && parent == folder,
         None => false,
     }
-}
-
-/// A key is the child of a folder exactly where it is read as what the folder is filed under, and one
-/// name behind it.
-pub fn children_are_one_name_below<T: Encoding>(key: Path<'_, T>, folder: Path<'_, T>)
-    ensures { (tree_spec.is_child T.dialect (path_bytes folder.entry) (path_bytes key.entry) ≡ true)
-        ↔ IsOneBelow (filed T.dialect (path_bytes folder.entry))
-        (kinds (parts_of T.dialect (path_bytes key.entry))) }
-{
-    parent_is_the_list_without_its_last(key.as_bytes());
 }
 
 /// On Unix, two paths are of one file exactly where they lead to the same root and names.

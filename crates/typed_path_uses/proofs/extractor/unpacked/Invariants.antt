@@ -11,11 +11,10 @@ use Rattle.typed_path_uses.proofs.extractor.unpacked.Given as goal
 abbrev pub invariant-names : goal.invariant-names
 invariant-names g l =
     let d = g.T.Encoding.dialect in
-    let base = path_bytes l.base in
     record {
-      below : keeps_prefix d base ≡ true → All (λ p. IsBelow d base p.bytes) l.targets.items;
-      targets : map (λ p. p.bytes) l.targets.items ++ joined_entries d base (drop l.name-index l.names) ≡ joined_entries d base l.names;
-      names : map (λ r. r.name) l.refused.items ++ faulty d (drop l.name-index l.names) ≡ faulty d l.names;
-      refused : All (λ r. fault d r.name.now ≡ Some r.fault) l.refused.items;
-      all : vec_len l.targets + vec_len l.refused ≡ l.name-index;
+      below : keeps_prefix d (path_bytes l.base) ≡ true → All (λ p. IsBelow d (path_bytes l.base) p.bytes) l.unpacking.targets.items;
+      targets : map (λ p. p.bytes) l.unpacking.targets.items ++ joined_entries d (path_bytes l.base) (drop l.name-index l.names) ≡ joined_entries d (path_bytes l.base) l.names;
+      names : map (λ r. r.name) l.unpacking.refused.items ++ faulty d (drop l.name-index l.names) ≡ faulty d l.names;
+      refused : All (λ r. fault d r.name.now ≡ Some r.fault) l.unpacking.refused.items;
+      all : vec_len l.unpacking.targets + vec_len l.unpacking.refused ≡ l.name-index;
     }
