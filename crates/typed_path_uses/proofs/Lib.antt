@@ -4,4 +4,8 @@ pub mod Filed
 pub mod Moves
 pub mod Apart
 pub mod RulesLeft
+pub mod NextFits
+pub mod Names
+pub mod NoneKept
+pub mod LastRule
 pub mod Children

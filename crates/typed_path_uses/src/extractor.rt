@@ -20,7 +20,7 @@ use typed_path::{CheckedPathError, Encoding, Path, PathBuf, PathError};
 /// refused.
 ///
 /// Every base of Unix keeps its prefix, and so do `C:\out` and `\\server\share\out` on Windows. Of a
-/// base that may lose it, as `\\server`, nothing is promised.
+/// base that may lose it, as `\\server`, no place is promised.
 pub fn target<T: Encoding>(
     alloc: Global,
     base: Path<'_, T>,

@@ -25,7 +25,7 @@ pub enum Unserved {
     /// It leads out of the root.
     #[error("the path leads out of the root")]
     Traversal,
-    /// It begins with a root, a drive or a share.
+    /// It begins with a root, a drive, a share or another prefix.
     #[error("the path is absolute")]
     Absolute,
     /// A name of it holds the byte 00.

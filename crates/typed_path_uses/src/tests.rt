@@ -187,19 +187,18 @@ const FOUND_ON_WINDOWS: &[(&[u8], Option<&[u8]>)] = &[
 fn tree_of<T: Encoding>(alloc: Global, files: &[(&[u8], &[u8])]) -> Result<Tree<T>, AllocError> {
     let mut tree = Tree::new(alloc);
     for (path, bytes) in files {
-        tree.write(alloc, Path::new(path), bytes)?;
+        tree.write(Path::new(path), bytes)?;
     }
     Ok(tree)
 }
 
 /// Whether each path finds what stands beside it.
 fn finds_all<T: Encoding>(
-    alloc: Global,
     tree: &Tree<T>,
     rows: &[(&[u8], Option<&[u8]>)],
 ) -> Result<bool, AllocError> {
     for (path, wanted) in rows {
-        if tree.read(alloc, Path::new(path))? != *wanted {
+        if tree.read(Path::new(path))? != *wanted {
             return Ok(false);
         }
     }
@@ -209,10 +208,10 @@ fn finds_all<T: Encoding>(
 #[test]
 fn virtual_tree(rt: HostRuntime) -> Result<(), Fail> {
     let windows = tree_of::<WindowsEncoding>(rt.alloc(), ON_WINDOWS)?;
-    assert!(rt; finds_all(rt.alloc(), &windows, FOUND_ON_WINDOWS)?);
+    assert!(rt; finds_all(&windows, FOUND_ON_WINDOWS)?);
     let mut tree = tree_of::<UnixEncoding>(rt.alloc(), ON_UNIX)?;
-    assert!(rt; finds_all(rt.alloc(), &tree, FOUND_ON_UNIX)?);
-    let children = tree.children(rt.alloc(), UnixPath::new(b"/a/d/.."))?;
+    assert!(rt; finds_all(&tree, FOUND_ON_UNIX)?);
+    let children = tree.children(UnixPath::new(b"/a/d/.."))?;
     assert_eq!(rt; children.len(), 2);
     for (child, wanted) in children.iter().zip([b"/a/b.txt", b"/a/c.txt"]) {
         assert_eq!(rt; child.as_bytes(), wanted.as_slice());
@@ -226,13 +225,13 @@ fn virtual_tree(rt: HostRuntime) -> Result<(), Fail> {
     ];
     for (from, to, moved, len) in rows {
         let from = UnixPath::new(from);
-        assert_eq!(rt; tree.rename(rt.alloc(), from, UnixPath::new(to))?, moved);
+        assert_eq!(rt; tree.rename(from, UnixPath::new(to))?, moved);
         assert_eq!(rt; tree.len(), len);
     }
     let b = UnixPath::new(b"/./b");
-    assert_eq!(rt; tree.read(rt.alloc(), b)?, Some(b"three".as_slice()));
-    assert!(rt; tree.remove(rt.alloc(), b)?.is_some());
-    assert!(rt; tree.remove(rt.alloc(), b)?.is_none());
+    assert_eq!(rt; tree.read(b)?, Some(b"three".as_slice()));
+    assert!(rt; tree.remove(b)?.is_some());
+    assert!(rt; tree.remove(b)?.is_none());
     assert_eq!(rt; tree.len(), 1);
     Ok(())
 }

@@ -12,7 +12,8 @@ ghost use Rattle.typed_path_uses.specs.Uses.{place_within};
 use std::alloc::{AllocError, Global};
 use typed_path::{PathError, Utf8Encoding, Utf8Path, Utf8PathBuf};
 
-/// Where an entry whose name is a text is unpacked: what [`target`](crate::target) promises of bytes.
+/// Where an entry whose name is a text is unpacked: at the place that [`target`](crate::target)
+/// promises of bytes.
 pub fn text_target<T: Utf8Encoding>(
     alloc: Global,
     base: Utf8Path<'_, T>,

@@ -27,6 +27,7 @@ use typed_path::{Encoding, Path, PathBuf};
 /// `C:/a\.\b` finds the one at `C:\a\b`. A folder is there where the path of a file names it.
 #[derive(Drop)]
 pub struct Tree<T: Encoding> {
+    alloc: Global,
     files: BTreeMap<PathBuf<T>, Vec<u8>>,
 }
 
@@ -35,9 +36,8 @@ impl<T: Encoding> Tree<T> {
     pub fn new(alloc: Global) -> Tree<T>
         ensures { (path : List ℕ) → found T.dialect result.files path ≡ None }
     {
-        Tree {
-            files: BTreeMap::new(alloc),
-        }
+        let files = BTreeMap::new(alloc);
+        Tree { alloc, files }
     }
 
     /// How many files there are. No two keys are of one file.
@@ -53,11 +53,11 @@ impl<T: Encoding> Tree<T> {
     /// # Errors
     ///
     /// Where memory for the normal path is refused.
-    pub fn read(&self, alloc: Global, path: Path<'_, T>) -> Result<Option<&[u8]>, AllocError>
+    pub fn read(&self, path: Path<'_, T>) -> Result<Option<&[u8]>, AllocError>
         ensures { IfOk result (λ file. option_copied file
             ≡ found T.dialect self.now.files (path_bytes path.entry)) }
     {
-        let file = self.files.get(&key_of(alloc, path)?);
+        let file = self.files.get(&key_of(self.alloc, path)?);
         Ok(file.map(Vec::as_slice))
     }
 
@@ -66,27 +66,13 @@ impl<T: Encoding> Tree<T> {
     /// # Errors
     ///
     /// Where memory is refused, and then the files are as they were.
-    pub fn write(
-        &mut self,
-        alloc: Global,
-        path: Path<'_, T>,
-        bytes: &[u8],
-    ) -> Result<(), AllocError>
+    pub fn write(&mut self, path: Path<'_, T>, bytes: &[u8]) -> Result<(), AllocError>
         ensures written { OnOk result
             (Puts T.dialect (path_bytes path.entry) (Some bytes.now) self.old.files self.new.files) }
         ensures refused { OnErr result (IsUnchanged self.old.files self.new.files) }
     {
-        let key = key_of(alloc, path)?;
-        self.put(key, Vec::from_slice(alloc, bytes)?)
-    }
-
-    /// Puts a file at the key of a path.
-    fn put(&mut self, key: PathBuf<T>, bytes: Vec<u8>) -> Result<(), AllocError>
-        ensures put { (path : List ℕ) → IsKeyOf T.dialect path key.bytes
-            → OnOk result (Puts T.dialect path (Some bytes.items) self.old.files self.new.files) }
-        ensures refused { OnErr result (IsUnchanged self.old.files self.new.files) }
-    {
-        self.files.insert(key, bytes)?;
+        let key = key_of(self.alloc, path)?;
+        self.files.insert(key, Vec::from_slice(self.alloc, bytes)?)?;
         Ok(())
     }
 
@@ -95,28 +81,15 @@ impl<T: Encoding> Tree<T> {
     /// # Errors
     ///
     /// Where memory for the normal path is refused, and then the files are as they were.
-    pub fn remove(
-        &mut self,
-        alloc: Global,
-        path: Path<'_, T>,
-    ) -> Result<Option<Vec<u8>>, AllocError>
+    pub fn remove(&mut self, path: Path<'_, T>) -> Result<Option<Vec<u8>>, AllocError>
         ensures removed { OnOk result
             (Puts T.dialect (path_bytes path.entry) None self.old.files self.new.files) }
         ensures taken { IfOk result (λ file. option_map (λ bytes. bytes.items) file
             ≡ found T.dialect self.old.files (path_bytes path.entry)) }
         ensures refused { OnErr result (IsUnchanged self.old.files self.new.files) }
     {
-        Ok(self.take(&key_of(alloc, path)?))
-    }
-
-    /// Takes the file at the key of a path away.
-    fn take(&mut self, key: &PathBuf<T>) -> Option<Vec<u8>>
-        ensures removed { (path : List ℕ) → IsKeyOf T.dialect path key.now.bytes
-            → Puts T.dialect path None self.old.files self.new.files }
-        ensures taken { (path : List ℕ) → IsKeyOf T.dialect path key.now.bytes
-            → option_map (λ bytes. bytes.items) result ≡ found T.dialect self.old.files path }
-    {
-        self.files.remove(key)
+        let key = key_of(self.alloc, path)?;
+        Ok(self.files.remove(&key))
     }
 
     /// Takes the file at one path to another, in the place of the one that is there, and tells whether
@@ -126,12 +99,7 @@ impl<T: Encoding> Tree<T> {
     /// # Errors
     ///
     /// Where memory is refused, and then the files are as they were.
-    pub fn rename(
-        &mut self,
-        alloc: Global,
-        from: Path<'_, T>,
-        to: Path<'_, T>,
-    ) -> Result<bool, AllocError>
+    pub fn rename(&mut self, from: Path<'_, T>, to: Path<'_, T>) -> Result<bool, AllocError>
         ensures told { IfOk result (λ moved. moved
             ≡ is_some (found T.dialect self.old.files (path_bytes from.entry))) }
         ensures moved { IfOk result (λ moved. moved ≡ true
@@ -140,15 +108,15 @@ impl<T: Encoding> Tree<T> {
             → IsUnchanged self.old.files self.new.files) }
         ensures refused { OnErr result (IsUnchanged self.old.files self.new.files) }
     {
-        let key = key_of(alloc, from)?;
-        let other = key_of(alloc, to)?;
+        let key = key_of(self.alloc, from)?;
+        let other = key_of(self.alloc, to)?;
         let Some(bytes) = self.files.get(&key) else {
             return Ok(false);
         };
         if key != other {
-            let bytes = Vec::from_slice(alloc, bytes.as_slice())?;
-            self.put(other, bytes)?;
-            self.take(&key);
+            let bytes = Vec::from_slice(self.alloc, bytes.as_slice())?;
+            self.files.insert(other, bytes)?;
+            self.files.remove(&key);
         }
         Ok(true)
     }
@@ -159,16 +127,12 @@ impl<T: Encoding> Tree<T> {
     /// # Errors
     ///
     /// Where memory for the normal path of the folder or for the list is refused.
-    pub fn children(
-        &self,
-        alloc: Global,
-        folder: Path<'_, T>,
-    ) -> Result<Vec<Path<'_, T>>, AllocError>
+    pub fn children(&self, folder: Path<'_, T>) -> Result<Vec<Path<'_, T>>, AllocError>
         ensures { IfOk result (λ paths. map path_bytes paths.items
             ≡ children_of T.dialect (path_bytes folder.entry) self.now.files) }
     {
-        let above = key_of(alloc, folder)?;
-        let mut children = Vec::new(alloc);
+        let above = key_of(self.alloc, folder)?;
+        let mut children = Vec::new(self.alloc);
         'keys: for key in self.files.keys() {
             list_child(&mut children, key.as_path(), above.as_path())?;
         }
@@ -186,7 +150,7 @@ fn list_child<'a, T: Encoding>(
         ++ filter (is_child_of T.dialect (kinds (parts_of T.dialect (path_bytes folder.entry))))
         (path_bytes path.entry ∷ [])) }
 {
-    if is_child(path, folder) {
+    if path.file_name().is_some() && path.parent() == Some(folder) {
         children.push(path)?;
     }
     Ok(())
@@ -197,17 +161,6 @@ fn key_of<T: Encoding>(alloc: Global, path: Path<'_, T>) -> Result<PathBuf<T>, A
     ensures { IfOk result (λ key. IsKeyOf T.dialect (path_bytes path.entry) key.bytes) }
 {
     Ok(path.normalize(alloc)?)
-}
-
-/// Whether a path ends in a name, and its parent is a folder.
-fn is_child<T: Encoding>(path: Path<'_, T>, folder: Path<'_, T>) -> bool
-    ensures { result
-        ≡ is_child_of T.dialect (kinds (parts_of T.dialect (path_bytes folder.entry))) (path_bytes path.entry) }
-{
-    match path.parent() {
-        Some(parent) => path.file_name().is_some() && parent == folder,
-        None => false,
-    }
 }
 
 /// On Unix, two paths are of one file exactly where they lead to the same root and names.

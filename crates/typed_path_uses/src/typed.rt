@@ -15,7 +15,7 @@ use std::alloc::{AllocError, Global};
 use typed_path::{PathError, TypedPath, TypedPathBuf, Utf8TypedPath, Utf8TypedPathBuf};
 
 /// Where an entry of an archive is unpacked under a base whose dialect the program was told: within
-/// the base.
+/// the base, where that keeps its prefix.
 pub fn typed_target(
     alloc: Global,
     base: TypedPath<'_>,

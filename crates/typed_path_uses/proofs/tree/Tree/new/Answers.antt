@@ -8,4 +8,4 @@ use Rattle.typed_path_uses.proofs.tree.Tree.new.Goals as goal
 pub returns : goal.returns
 returns g c = λ path.
     let d = g.T.Encoding.dialect in
-    ap (λ es. option_map (λ v. v.items) (lookup (is_at (to_key d (filed d path))) es)) c.new.ensures.empty
+    ap (λ es. option_map (λ v. v.items) (lookup (is_at (to_key d (filed d path))) es)) c.new-files.ensures.empty
