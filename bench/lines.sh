@@ -2,6 +2,9 @@
 # Times the program over one million lines, beside `cat` over the same bytes: lines per second, the
 # ratio of the processor times, and the peak of memory where /usr/bin/time is there.
 # Build the program first: (cd crates/typath && rt run < stdin)
+#
+# bench/lines.sh [LINES]. Where TYPED_PATH_CRATE names a folder with the source of the Rust crate, as
+# many lines of all commands are answered beside bench/lines_peer.rs, which asks that crate.
 set -euo pipefail
 top=$(cd "$(dirname "$0")/.." && pwd)
 program=$top/crates/typath/out/typath
@@ -51,3 +54,62 @@ if [ -x /usr/bin/time ]; then
     /usr/bin/time -f "peak memory over '$input': %M KiB" "$program" < "$folder/$input" > /dev/null
   done
 fi
+
+[ -n "${TYPED_PATH_CRATE:-}" ] || exit 0
+flags=(-C opt-level=3 -C target-cpu=x86-64-v2)
+# By the edition that its Cargo.toml names, or else 2021.
+edition=$(sed -n 's/^edition *= *"\(.*\)"/\1/p' "$TYPED_PATH_CRATE/Cargo.toml" 2> "$folder/refused" || true)
+rustc --crate-name typed_path --crate-type rlib --edition "${edition:-2021}" --cfg 'feature="std"' \
+    "${flags[@]}" --cap-lints allow --out-dir "$folder" "$TYPED_PATH_CRATE/src/lib.rs"
+rustc --edition 2024 "${flags[@]}" --extern "typed_path=$folder/libtyped_path.rlib" -o "$folder/peer" "$top/bench/lines_peer.rs"
+
+# Lines of all commands in equal shares, over paths of mixed kinds, from a fixed seed.
+python3 - "$lines" "$folder" <<'PY'
+import random, sys
+lines, folder = int(sys.argv[1]), sys.argv[2]
+draw = random.Random(1)
+usual = ["usr", "lib", "share", "bin", "home", "src", "main.rs", "mod.rs", "tests", "target", "release", "docs", "a",
+         "README.md", ".git", ".config", "index.html", "node_modules", "package.json", "python3.12", "dist-packages",
+         "libcrypto.so.3", "Users", "Public", "Documents", "Program Files", "System32", "drivers", "report.final.pdf",
+         "backup-2024-05-01.tar.gz", "IMG_20240501_101500.jpg", "3f2504e0-4f89-11d3-9a0c-0305e82c3301"]
+rare = ["été", "日本語.txt", "...", "what is it?", "a:b", "x|y", ".."]
+starts = {"unix": ["/"] * 10 + [""] * 4 + ["./", "../", "../../", "//"],
+          "windows": ["C:\\"] * 6 + ["d:/", "C:", "\\", "/", ".\\", "..\\", "", "", "", "\\\\server\\share\\",
+                      "//server/share/", "\\\\?\\C:\\", "\\\\?\\UNC\\server\\share\\", "\\\\.\\device\\"]}
+between = {"unix": ["/"] * 40 + ["//", "/./", "/../"],
+           "windows": ["\\"] * 34 + ["/"] * 6 + ["\\\\", "\\.\\", "\\..\\", "/../"]}
+ends = {"unix": [""] * 8 + ["/"], "windows": [""] * 8 + ["\\", "/"]}
+
+def path(dialect, start=None):
+    text = draw.choice(starts[dialect]) if start is None else start
+    for at in range(draw.randint(1, 9)):
+        text += (draw.choice(between[dialect]) if at else "") + draw.choice(rare if draw.random() < 0.02 else usual)
+    return text + draw.choice(ends[dialect])
+
+def fields(command):
+    dialect, other = draw.choice(["unix", "windows"]), draw.choice(["unix", "windows"])
+    if command == "derive":
+        return [path(dialect)]
+    if command.startswith("join"):
+        return [dialect, path(dialect), path(dialect, None if draw.random() < 0.1 else "")]
+    return [dialect, other, path(dialect)] if command.startswith("convert") else [dialect, path(dialect)]
+
+commands = ["components", "normalize", "join", "join_checked", "convert", "convert_checked", "derive"]
+with open(folder + "/mixed", "w", encoding="utf-8") as out:
+    for _ in range(lines):
+        command = draw.choice(commands)
+        out.write("\t".join([command] + fields(command)) + "\n")
+PY
+
+mine=$(seconds mixed "$program")
+theirs=$(seconds mixed "$folder/peer")
+"$program" < "$folder/mixed" > "$folder/replies"
+"$folder/peer" < "$folder/mixed" > "$folder/peer_replies"
+python3 - "$folder" "$lines" "$mine" "$theirs" <<'PY'
+import sys
+folder, lines, mine, theirs = sys.argv[1:]
+with open(folder + "/replies", "rb") as ours, open(folder + "/peer_replies", "rb") as peers:
+    differ = sum(one != other for one, other in zip(ours, peers, strict=True))
+print(f"mixed: {lines} lines of all commands in {mine} s of processor time, by the Rust crate in {theirs} s"
+      f" ({float(mine) / float(theirs):.2f}); {differ} of the replies differ")
+PY

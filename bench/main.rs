@@ -4,7 +4,8 @@
 //! It is linked with the static library of `crates/typed_path_bench`. Both peers are called by a
 //! pointer, so that neither is built into the loop, and both have to answer the same. The first
 //! argument says how often all calls are timed, from the first to the last; where there is a second,
-//! only calls are timed whose label has it.
+//! only calls are timed whose label has it. With `--cfg beside_crate` it is linked with the Rust crate
+//! too, and prints two tables more, beside the calls of that.
 
 use std::ffi::OsStr;
 use std::hash::{DefaultHasher, Hash, Hasher};
@@ -13,6 +14,9 @@ use std::ops::Range;
 use std::os::unix::ffi::OsStrExt;
 use std::path::{Component, Path, PathBuf};
 use std::time::Instant;
+
+#[cfg(beside_crate)]
+mod crate_peer;
 
 /// How often a call is timed in a sweep over all calls, the peers in turns.
 const ROUNDS: usize = 10;
@@ -875,6 +879,10 @@ fn main() {
         long(&text, &mut draw),
     ];
     let pieces = [cut("1 KiB", &text, 1 << 10, &mut draw), cut("32 KiB", &text, 1 << 15, &mut draw)];
+    #[cfg(beside_crate)]
+    let behind_prefixes = crate_peer::WindowsTexts::of(&corpora[1]);
+    #[cfg(beside_crate)]
+    let mut beside = crate_peer::Tables::new(&corpora[..3], &corpora[1], &behind_prefixes, &word);
     let mut tables: Vec<_> = corpora.iter().chain(&pieces).map(|corpus| asked(rows(corpus), &word)).collect();
     let mut windows: Vec<Vec<_>> = (0..=PREFIXES.len())
         .map(|at| corpora.iter().map(|corpus| asked(windows_rows(corpus, at), &word)).collect())
@@ -885,7 +893,10 @@ fn main() {
         rows.iter().for_each(|row| row.check(corpus.label));
     }
     for _ in 0..sweeps {
-        for row in tables.iter_mut().chain(windows.iter_mut().flatten()).chain(&mut texts).flatten() {
+        let rows = tables.iter_mut().chain(windows.iter_mut().flatten()).chain(&mut texts).flatten();
+        #[cfg(beside_crate)]
+        let rows = rows.chain(beside.rows());
+        for row in rows {
             for _ in 0..ROUNDS {
                 row.time();
             }
@@ -941,4 +952,6 @@ fn main() {
             line(std::iter::once(format!("{}, {prefix}", tables[0][at].label)).chain(cells));
         }
     }
+    #[cfg(beside_crate)]
+    beside.print();
 }
