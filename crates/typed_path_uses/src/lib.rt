@@ -4,6 +4,7 @@
 mod extractor;
 mod ignore;
 mod manifest;
+mod notes;
 mod server;
 mod texts;
 mod tidy;
@@ -14,6 +15,7 @@ mod walk;
 pub use extractor::{Refused, Unpacking, target, targets, unpacked};
 pub use ignore::{Rule, fits, is_ignored};
 pub use manifest::{entry_on_windows, rewritten, rewritten_texts};
+pub use notes::{are_alike, note, noted};
 pub use server::{UNIX_ROOT, Unserved, WINDOWS_ROOT, served, served_on_unix, served_on_windows};
 pub use texts::{text_key, text_target};
 pub use tidy::{are_one, key};

@@ -1,11 +1,15 @@
 //! Each caller at work: rows of known answers.
 
-use crate::{Rule, Tree, Unserved, is_ignored, served_on_unix, served_on_windows, unpacked};
+use crate::{
+    Rule, Tree, Unserved, are_alike, is_ignored, note, noted, served_on_unix, served_on_windows,
+    unpacked,
+};
 use std::alloc::{AllocError, Global};
+use std::collections::BTreeMap;
 use std::test::Fail;
 use typed_path::{
     CheckedPathError, Encoding, Path, PathError, UnixEncoding, UnixPath, WindowsEncoding,
-    WindowsPath,
+    WindowsPath, WindowsPathBuf,
 };
 
 #[test]
@@ -233,5 +237,26 @@ fn virtual_tree(rt: HostRuntime) -> Result<(), Fail> {
     assert!(rt; tree.remove(b)?.is_some());
     assert!(rt; tree.remove(b)?.is_none());
     assert_eq!(rt; tree.len(), 1);
+    Ok(())
+}
+
+#[test]
+fn notes_at_paths(rt: HostRuntime) -> Result<(), Fail> {
+    const ROWS: &[(&[u8], &[u8], bool)] = &[
+        (b"C:/a", br"c:\a\.", true),
+        (br"\\s\h\a", b"//s/h//a", true),
+        (b"C:a", br"C:\a", false),
+    ];
+    for &(path, other, alike) in ROWS {
+        let mut notes = BTreeMap::new(rt.alloc());
+        let key = WindowsPathBuf::from_bytes(rt.alloc(), path)?;
+        assert!(rt; note(&mut notes, key, 7).is_ok_and(|before| before.is_none()));
+        let found = noted(&notes, &WindowsPathBuf::from_bytes(rt.alloc(), other)?);
+        assert_eq!(rt; found.is_some(), alike);
+        assert_eq!(rt;
+            are_alike(WindowsPath::new(path), WindowsPath::new(other)),
+            alike
+        );
+    }
     Ok(())
 }
