@@ -1,15 +1,15 @@
 //! Each caller at work: rows of known answers.
 
 use crate::{
-    Rule, Tree, Unserved, are_alike, is_ignored, note, noted, served_on_unix, served_on_windows,
-    unpacked,
+    Rule, Tree, Unserved, are_alike, entry_on_windows, is_ignored, note, noted, rewritten,
+    rewritten_texts, served_on_unix, served_on_windows, unpacked,
 };
 use std::alloc::{AllocError, Global};
 use std::collections::BTreeMap;
 use std::test::Fail;
 use typed_path::{
-    CheckedPathError, Encoding, Path, PathError, UnixEncoding, UnixPath, WindowsEncoding,
-    WindowsPath, WindowsPathBuf,
+    CheckedPathError, Encoding, Path, PathError, UnixEncoding, UnixPath, Utf8UnixEncoding,
+    Utf8WindowsEncoding, WindowsEncoding, WindowsPath, WindowsPathBuf,
 };
 
 #[test]
@@ -259,4 +259,49 @@ fn notes_at_paths(rt: HostRuntime) -> Result<(), Fail> {
         );
     }
     Ok(())
+}
+
+/// Whether a manifest with this entry behind another one is rewritten, and the entry as this.
+fn is_rewritten<T: Encoding, U: Encoding>(alloc: Global, entry: &[u8], wanted: &[u8]) -> bool {
+    let made = rewritten::<T, U>(alloc, &[b"first", entry]).ok();
+    made.is_some_and(|paths| {
+        paths
+            .last()
+            .is_some_and(|path| path.as_path().as_bytes() == wanted)
+    })
+}
+
+#[test]
+fn manifests(rt: HostRuntime) {
+    const ON_WINDOWS: &[(&[u8], &[u8])] = &[(b"/tmp/foo.txt", br"\tmp\foo.txt"), (b"a/b", br"a\b")];
+    for &(entry, wanted) in ON_WINDOWS {
+        assert!(rt; is_rewritten::<UnixEncoding, WindowsEncoding>(rt.alloc(), entry, wanted));
+        let made = entry_on_windows(rt.alloc(), UnixPath::new(entry)).ok();
+        assert!(rt; made.is_some_and(|path| path.as_path().as_bytes() == wanted));
+    }
+    const ON_UNIX: &[(&[u8], &[u8])] = &[
+        (br"\\s\h\x", b"/x"),
+        (br"C:\x", b"/x"),
+        (br"a\b", b"a/b"),
+    ];
+    for &(entry, wanted) in ON_UNIX {
+        assert!(rt; is_rewritten::<WindowsEncoding, UnixEncoding>(rt.alloc(), entry, wanted));
+    }
+    const REFUSED: &[(&str, CheckedPathError)] = &[
+        ("/tmp/|invalid|/foo.txt", CheckedPathError::InvalidFilename),
+        ("/tmp/aux.h", CheckedPathError::InvalidFilename),
+        ("/C:", CheckedPathError::UnexpectedPrefix),
+    ];
+    for &(entry, fault) in REFUSED {
+        let made = rewritten::<UnixEncoding, WindowsEncoding>(
+            rt.alloc(),
+            &[b"first", entry.as_bytes()],
+        );
+        assert!(rt; made.err() == Some(PathError::Checked(fault)));
+        let made = rewritten_texts::<Utf8UnixEncoding, Utf8WindowsEncoding>(
+            rt.alloc(),
+            &["first", entry],
+        );
+        assert!(rt; made.err() == Some(PathError::Checked(fault)));
+    }
 }
