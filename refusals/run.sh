@@ -140,7 +140,7 @@ sweep() {
     local program=$1 way transfer
     if [[ $program == *typath* ]]; then
         sweep_transfers "$program"
-        for transfer in 7 100 100000; do
+        for transfer in 1 7 100 100000; do
             sweep_requests "$program" REFUSE_AT "$transfer"
             sweep_requests "$program" REFUSE_FROM "$transfer"
             sweep_reads "$program" "$transfer"
