@@ -75,7 +75,7 @@ pub struct Unpacking<'a, T: Encoding> {
 }
 
 impl<'a, T: Encoding> Unpacking<'a, T> {
-    /// Puts an entry to the targets, or to the refused. Where memory is refused, both are as they were.
+    /// Puts an entry to the targets, or to the refused.
     fn unpack(&mut self, alloc: Global, base: Path<'_, T>, name: &'a [u8]) -> Result<(), AllocError>
         ensures below { keeps_prefix T.dialect (path_bytes base.entry) ≡ true
             → All (λ p. IsBelow T.dialect (path_bytes base.entry) p.bytes) self.old.targets.items

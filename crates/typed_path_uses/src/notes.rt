@@ -1,6 +1,7 @@
 //! Values noted at paths: a map whose keys are paths.
 
-ghost use Rattle.std.specs.Prelude.{◌≡◌, ◌↔◌, ℕ, List, OnOk, IsTrue, Some};
+ghost use Rattle.std.specs.Prelude.{◌≡◌, ◌↔◌, ℕ, List, OnOk, OnErr, IsTrue, Some};
+ghost use Rattle.std.specs.BTreeMap.{IsUnchanged};
 ghost use Rattle.typed_path.specs.components.Comps.{parts_of};
 ghost use Rattle.typed_path.specs.components.Part.{kinds};
 ghost use Rattle.typed_path.specs.order.Keyed.{value_at, PutsAt};
@@ -17,7 +18,7 @@ use typed_path::{Encoding, Path, PathBuf};
 ///
 /// # Errors
 ///
-/// Where memory is refused, and then the path and the number come back.
+/// Where memory is refused, and then the numbers are as they were.
 pub fn note<T: Encoding>(
     notes: &mut BTreeMap<PathBuf<T>, u32>,
     path: PathBuf<T>,
@@ -27,6 +28,7 @@ pub fn note<T: Encoding>(
         → value_at T.dialect (kinds (parts_of T.dialect other)) notes.new ≡ Some number) }
     ensures puts { OnOk result
         (PutsAt T.dialect (kinds (parts_of T.dialect path.bytes)) (Some number) notes.old notes.new) }
+    ensures refused { OnErr result (IsUnchanged notes.old notes.new) }
 {
     let before = notes.insert(path, number)?;
     Ok(before)
