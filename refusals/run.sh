@@ -11,31 +11,40 @@ if ! command -v cc > /dev/null; then
     exit 1
 fi
 
-passed=0 failed=0
-room=$(mktemp -d)
-trap 'rm -rf "$room"' EXIT
+all=$(mktemp -d)
+trap 'rm -rf "$all"' EXIT
 for library in refuse fault; do
-    cc -O2 -Wall -Wextra -shared -fPIC -o "$room/$library.so" "$library.c" || exit 2
+    cc -O2 -Wall -Wextra -shared -fPIC -o "$all/$library.so" "$library.c" || exit 2
 done
+
+# Starts a sweep beside others, one for each processor, in a room of its own. What it says comes later.
+rooms=()
+start() {
+    while [[ $(jobs -rp | wc -l) -ge $(nproc) ]]; do
+        wait -n
+    done
+    room=$(mktemp -d -p "$all")
+    rooms+=("$room")
+    : > "$room/wrong"
+    "$@" > "$room/said" &
+}
 
 # Counts a sweep of so many runs: it passed where no line says what was wrong.
 judge() {
     if [[ $2 -gt 0 && ! -s $room/wrong ]]; then
-        passed=$((passed + 1))
+        touch "$room/passed"
         echo "$1: $2 runs"
     else
-        failed=$((failed + 1))
         echo "$1: WRONG in $2 runs"
         head -n 5 "$room/wrong"
     fi
-    : > "$room/wrong"
 }
 
 # Runs a program with refuse.c before it, under the settings that are given, and adds its status.
 refused() {
     local program=$1
     shift
-    env LD_PRELOAD="$room/refuse.so $room/fault.so" REFUSE_COUNT="$room/count" "$@" "$program"
+    env LD_PRELOAD="$all/refuse.so $all/fault.so" REFUSE_COUNT="$room/count" "$@" "$program"
     echo "status $?"
 }
 
@@ -69,7 +78,7 @@ is_whole() {
 answer() {
     local program=$1
     shift
-    env LD_PRELOAD="$room/refuse.so $room/fault.so" REFUSE_COUNT="$room/count" "$@" \
+    env LD_PRELOAD="$all/refuse.so $all/fault.so" REFUSE_COUNT="$room/count" "$@" \
         "$program" < lines > "$room/out" 2> "$room/err"
     ended=$?
 }
@@ -135,21 +144,27 @@ sweep_transfers() {
     judge "${program##*/} TRANSFER" 3
 }
 
+# Says that a program is not there.
+is_missing() {
+    echo "rt ci builds it, or rt run in crates/$1" > "$room/wrong"
+    judge "$1 is not built" 0
+}
+
 # All sweeps of a build of the program of calls, or of lines.
 sweep() {
     local program=$1 way transfer
     if [[ $program == *typath* ]]; then
-        sweep_transfers "$program"
+        start sweep_transfers "$program"
         for transfer in 1 7 100 100000; do
-            sweep_requests "$program" REFUSE_AT "$transfer"
-            sweep_requests "$program" REFUSE_FROM "$transfer"
-            sweep_reads "$program" "$transfer"
-            sweep_writes "$program" "$transfer"
+            start sweep_requests "$program" REFUSE_AT "$transfer"
+            start sweep_requests "$program" REFUSE_FROM "$transfer"
+            start sweep_reads "$program" "$transfer"
+            start sweep_writes "$program" "$transfer"
         done
         return
     fi
     for way in REFUSE_AT REFUSE_FROM; do
-        sweep_calls "$program" "$way"
+        start sweep_calls "$program" "$way"
     done
 }
 
@@ -157,13 +172,24 @@ sweep() {
 for name in typed_path_refusals typath; do
     program=../crates/$name/out/$name
     if [[ ! -x $program ]]; then
-        echo "$name is not built: rt ci does it, or rt run in crates/$name" > "$room/wrong"
-        judge "$name" 0
+        start is_missing "$name"
         continue
     fi
     sweep "$program"
     if [[ $program.by-rattle -nt $program ]]; then
         sweep "$program.by-rattle"
+    fi
+done
+wait
+
+# A sweep that stopped before its end has not passed.
+passed=0 failed=0
+for room in "${rooms[@]}"; do
+    cat "$room/said"
+    if [[ -e $room/passed ]]; then
+        passed=$((passed + 1))
+    else
+        failed=$((failed + 1))
     fi
 done
 echo "$passed passed, $failed failed"

@@ -5,7 +5,6 @@ use Rattle.std.specs.Option.{option_map}
 use Rattle.percent_encoding.specs.Percent.{percent_decode}
 use Rattle.typed_path.specs.declared.errors.CheckedPathError.{CheckedPathError}
 use Rattle.typed_path.specs.declared.errors.CheckedPathError.TheVariants.{InvalidFilename, PathTraversalAttack, UnexpectedPrefix, UnexpectedRoot}
-use Rattle.typed_path.specs.declared.scan.separators.Separators.{Separators}
 use Rattle.typed_path.specs.declared.scan.separators.Separators.TheVariants.{Either}
 use Rattle.typed_path.specs.components.Dialect.{windows, slash, is_separator}
 use Rattle.typed_path.specs.queries.Queries.{is_disallowed}
