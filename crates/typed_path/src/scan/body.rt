@@ -150,7 +150,8 @@ impl<'a> Body<'a> {
         if left.is_empty() {
             return None;
         }
-        let (step, taken) = front_step(left, self.separators);
+        let end = self.separators.first_within(self.text, self.from, self.to);
+        let (step, taken) = front_step(left, end, self.separators);
         self.from += taken;
         self.begin = Begin::Inside;
         Some(step)

@@ -1,15 +1,14 @@
 //! Texts cut at single bytes, at separators, and behind a beginning.
 
-ghost use Rattle.std.specs.Prelude.{◌≡◌, ◌≢◌, ◌<◌, ◌+◌, ◌==◌, List, ℕ, [], ◌∷◌, ◌++◌, length, MatchOption, IfSome};
-ghost use Rattle.std.specs.List.{slice_split};
-ghost use Rattle.memchr.specs.Find.{IsFirstByte, is_byte};
+ghost use Rattle.std.specs.Prelude.{◌≡◌, ◌≢◌, ◌≤◌, ◌<◌, ◌+◌, ◌==◌, List, ℕ, [], ◌∷◌, ◌++◌, length, MatchOption, IfSome};
+ghost use Rattle.std.specs.List.{slice_split, position_or_len};
 ghost use Rattle.typed_path.specs.components.Dialect.{is_separator};
 
+use crate::scan::lanes::first_between;
 use crate::scan::separators::Separators;
-use memchr::memchr_iter;
 
-/// What stands before the first such byte, and what stands behind it. The bytes at the front are
-/// looked at before the rest is searched in wide steps, since the byte mostly is near.
+/// What stands before the first such byte, and what stands behind it.
+#[inline(always)]
 pub fn cut_at(byte: u8, text: &[u8]) -> Option<(&[u8], &[u8])>
     ensures pieces { MatchOption result
         (slice_split (λ b. b == byte) text.now ≡ text.now ∷ [])
@@ -18,18 +17,20 @@ pub fn cut_at(byte: u8, text: &[u8]) -> Option<(&[u8], &[u8])>
     ensures open { IfSome result (λ cut. slice_split (λ b. b == byte) cut.0.now ≡ cut.0.now ∷ []) }
     ensures shorter { IfSome result (λ cut. length cut.1.now < length text.now) }
 {
-    match find_near(byte, text) {
-        None => None,
-        Some(at) => Some((&text[..at], &text[at + 1..])),
+    let at = first_of(byte, text);
+    if at < text.len() {
+        return Some((&text[..at], &text[at + 1..]));
     }
+    None
 }
 
-/// The first such byte of a text.
+/// The place of the first such byte, or the length where there is none.
 #[inline(always)]
-fn find_near(byte: u8, text: &[u8]) -> Option<usize>
-    ensures { IsFirstByte (is_byte byte) text.now result }
+fn first_of(byte: u8, text: &[u8]) -> usize
+    ensures within { result ≤ length text.now }
+    ensures first { result ≡ position_or_len (λ b. b == byte) text.now }
 {
-    memchr_iter(byte, text).next()
+    first_between(text, 0, text.len(), (byte, byte))
 }
 
 /// What stands before the first separator, and what stands behind it.

@@ -1,6 +1,7 @@
 //! Which bytes separate the components of a text.
 
-ghost use Rattle.std.specs.Prelude.{◌≡◌, ◌≤◌, ◌==◌, ◌||◌, ℕ, length, IsTrue};
+ghost use Rattle.std.specs.Prelude.{◌≡◌, ◌≤◌, ◌-◌, ◌==◌, ◌||◌, ℕ, length, slice_range, IsTrue};
+ghost use Rattle.typed_path.specs.scan.Masks.{is_one_of};
 ghost use Rattle.std.specs.List.{position_or_len, list_any, before_first, IsAfterLastMatch};
 ghost use Rattle.std.specs.Str.{str_eq_ignore_ascii_case};
 ghost use Rattle.typed_path.specs.components.Dialect.{windows, separators, is_separator, is_verbatim, root_text, dialect_of};
@@ -11,7 +12,7 @@ ghost use Rattle.typed_path.specs.changes.Reserved.{begins_device, may_be_reserv
 
 use crate::constants::unix;
 use crate::constants::windows::RESERVED_DEVICE_NAMES;
-use crate::scan::lanes::{first_between, last_between};
+use crate::scan::lanes::{first_between, is_one_of, last_between};
 use memchr::memchr;
 
 /// The separators of one text, and with them the way in which it is read.
@@ -42,7 +43,7 @@ impl Separators {
     /// asked in the same way.
     #[inline(always)]
     pub fn pair(self) -> (u8, u8)
-        ensures { (b : ℕ) → is_separator self b ≡ (b == result.0 || b == result.1) }
+        ensures { (b : ℕ) → is_separator self b ≡ is_one_of result b }
     {
         match self {
             Separators::Slash => (b'/', b'/'),
@@ -56,8 +57,7 @@ impl Separators {
     pub fn contains(self, byte: u8) -> bool
         ensures { result ≡ is_separator self byte }
     {
-        let (one, other) = self.pair();
-        byte == one || byte == other
+        is_one_of(self.pair(), byte)
     }
 
     /// Whether both are one set.
@@ -174,7 +174,20 @@ impl Separators {
         ensures within { result ≤ length bytes.now }
         ensures first { result ≡ position_or_len (is_separator self) bytes.now }
     {
-        first_between(bytes, 0, bytes.len(), self)
+        first_between(bytes, 0, bytes.len(), self.pair())
+    }
+
+    /// How many bytes of a range of a text stand before its first separator, or all where there is
+    /// none. Reads at most 31 bytes of the text before the range.
+    #[inline(always)]
+    pub fn first_within(self, text: &[u8], from: usize, to: usize) -> usize
+        requires ordered { from ≤ to }
+        requires in_range { to ≤ length text.now }
+        ensures within { result ≤ to - from }
+        ensures first { result
+            ≡ position_or_len (is_separator self) (slice_range text.now from to) }
+    {
+        first_between(text, from, to, self.pair()) - from
     }
 
     /// The place behind the last separator, or 0 where there is none. Reads from the end, and no further than that separator.
@@ -183,7 +196,7 @@ impl Separators {
         ensures within { result ≤ length bytes.now }
         ensures last { IsAfterLastMatch (is_separator self) bytes.now result }
     {
-        last_between(bytes, 0, bytes.len(), self)
+        last_between(bytes, 0, bytes.len(), self.pair())
     }
 }
 

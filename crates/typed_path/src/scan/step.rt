@@ -1,7 +1,9 @@
 //! One component at a time, off a plain slice.
 
 ghost use Rattle.std.specs.Prelude.{◌≡◌, ◌≤◌, ◌<◌, ◌+◌, ◌++◌, ℕ, true, not, take, drop, length, IfSome, IfNone};
+ghost use Rattle.std.specs.List.{position_or_len};
 ghost use Rattle.typed_path.specs.components.Comps.{component, first, later_body};
+ghost use Rattle.typed_path.specs.components.Dialect.{is_separator};
 ghost use Rattle.typed_path.specs.scan.Steps.{body_from, is_clean, is_trimmed, end_from};
 ghost use Rattle.typed_path.specs.views.PieceViews.{step_part};
 ghost use Rattle.typed_path.specs.declared.scan.body.Begin.{Begin};
@@ -62,10 +64,13 @@ pub fn step_of(segment: &[u8], separators: Separators) -> Step<'_>
     Step { kind, text }
 }
 
-/// The first component of a text that is not empty, and how many bytes stand before the next one.
+/// The first component of a text that is not empty, which ends at the first separator, and how many
+/// bytes stand before the next one.
 #[inline(always)]
-pub fn front_step(text: &[u8], separators: Separators) -> (Step<'_>, usize)
-    requires { 0 < length text.now }
+pub fn front_step(text: &[u8], end: usize, separators: Separators) -> (Step<'_>, usize)
+    requires some { 0 < length text.now }
+    requires within { end ≤ length text.now }
+    requires ends { end ≡ position_or_len (is_separator separators) text.now }
     ensures within { result.1 ≤ length text.now }
     ensures first { (begin : Begin) (at : ℕ) → is_clean begin separators text.now ≡ true
         → body_from begin separators at text.now
@@ -73,7 +78,6 @@ pub fn front_step(text: &[u8], separators: Separators) -> (Step<'_>, usize)
         ++ later_body separators (at + result.1) (drop result.1 text.now) }
     ensures clean { is_clean Begin.Inside separators (drop result.1 text.now) ≡ true }
 {
-    let end = separators.first_in(text);
     let behind = skip_blanks(&text[end..], separators);
     (step_of(&text[..end], separators), end + behind)
 }

@@ -1,34 +1,13 @@
 -- A list cut at the first element that passes a test.
-use Rattle.std.proofs.Common.{◌≡◌, ℕ, ◌+◌, ◌<◌, ◌≤◌, ◌==◌, suc, List, [], ◌∷◌, ◌++◌, Bool, true, false, not, ◌||◌, cond, length, take, drop, slice_index, refl, sym, ap, subst, ◌∙◌, All, arith}
+use Rattle.std.proofs.Common.{◌≡◌, ℕ, ◌+◌, ◌<◌, ◌≤◌, ◌==◌, suc, List, [], ◌∷◌, ◌++◌, Bool, true, false, not, ◌||◌, cond, length, take, drop, refl, ap, ◌∙◌, All, arith}
 use Rattle.std.specs.List.{slice_split, position_or_len, list_any}
 use Rattle.std.proofs.lemmas.List.{drop_more, take-append-drop, get_or_default, get_or-take, length-take-le, take_all}
 use Rattle.std.proofs.lemmas.List.Splits.{slice_split_none, slice_split_at, slice_split_first}
 use Rattle.std.proofs.lemmas.List.Sums.{fails_before_first}
 use Rattle.std.proofs.lemmas.Bool.{false_from_ne_true, eq-eqb, eqb-true, eqb-false, ne_eqb, not-true, not-false}
-use Rattle.memchr.specs.Find.{Nowhere, NoneBefore, Passes}
 
 module _ (p : ℕ → Bool) (text : List ℕ) where
-  -- no element passes
-  none_passes : (n : ℕ) → n ≤ length text → Nowhere (Passes p text) 0 n → All (λ b. p b ≡ false) (take n text)
-  none_passes n within h k d l =
-      let size = length-take-le n text within in
-      let below : k < n = omega arith in
-      false_from_ne_true _ (λ e. h k (omega arith) below (ap p (get_or_default text k 0 d (omega arith) ∙ sym (get_or-take n text k d below)) ∙ e))
-
-  pub split-nowhere : Nowhere (Passes p text) 0 (length text) → slice_split p text ≡ text ∷ []
-  split-nowhere h = slice_split_none p text (subst (λ t. All (λ b. p b ≡ false) t) (take_all (length text) text (omega arith)) (none_passes (length text) (omega arith) h))
-
-  pub split-first : (n : ℕ) → NoneBefore (Passes p text) 0 (length text) n → Passes p text n
-      → (slice_split p text ≡ take n text ∷ slice_split p (drop (n + 1) text)) × (slice_split p (take n text) ≡ take n text ∷ [])
-  split-first n none passes =
-      let within = none.high in
-      let front = none_passes n (omega arith) none.before in (
-        ap (slice_split p) (sym (take-append-drop n text) ∙ ap (λ rest. take n text ++ rest) (drop_more text n 0 within))
-            ∙ slice_split_at p (take n text) (slice_index text n) (drop (n + 1) text) front passes,
-        slice_split_none p (take n text) front,
-      )
-
-  -- the same, by the place of the first element that passes
+  -- no element before the first one that passes does
   fails_before : (n : ℕ) → n ≡ position_or_len p text → n ≤ length text → All (λ b. p b ≡ false) (take n text)
   fails_before n is within k d l =
       let size = length-take-le n text within in

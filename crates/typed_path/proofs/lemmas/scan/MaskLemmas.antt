@@ -1,14 +1,17 @@
 -- What masks say of places, and searches of a range put together from what was seen of it.
-use Rattle.std.proofs.Common.{◌≡◌, ℕ, suc, ◌+◌, ◌-◌, ◌*◌, ◌^◌, ◌/◌, ◌%◌, ◌≤◌, ◌<◌, List, Bool, true, false, ◌||◌, max, cond, length, get_or, map, refl, sym, ap, ◌∙◌, arith, bit_or, ⊎_elim, pow_pos, pow_mono, div-lt_iff_lt-mul, le-div_iff_mul-le}
+use Rattle.std.proofs.Common.{◌≡◌, ℕ, suc, ◌+◌, ◌-◌, ◌*◌, ◌^◌, ◌/◌, ◌%◌, ◌≤◌, ◌<◌, List, Bool, true, false, ◌||◌, max, cond, length, slice_index, slice_range, take, drop, get_or, map, refl, sym, ap, ◌∙◌, arith, bit_or, ⊎_elim, pow_pos, pow_mono, div-lt_iff_lt-mul, le-div_iff_mul-le}
 use Rattle.std.specs.Int.{bit_at}
 use Rattle.std.specs.Slice.Scan.{HoldsNowhere, IsFirstPlace, IsLastPlace}
 use Rattle.std.specs.Simd.Lanes.{mask_l}
+use Rattle.std.proofs.lemmas.Nat.{shr-shr}
 use Rattle.std.proofs.Math.Nat.{two-pow-succ, div-eq_of_lt}
 use Rattle.std.proofs.lemmas.Bool.{cases_lt}
-use Rattle.std.proofs.lemmas.List.{get_or-map, get_or_past, length-map}
+use Rattle.std.proofs.lemmas.List.{get_or-map, get_or_past, get_or-take, get_or-drop, length-map, length-take-le, length-drop, take_all}
 use Rattle.std.proofs.lemmas.Nat.Bits.{bit_at-zero, bit_at_or}
 use Rattle.std.proofs.lemmas.Simd.{bit_mask_l, length-chunk, get_or-chunk}
-use Rattle.typed_path.specs.scan.Masks.{IsMask}
+use Rattle.std.specs.List.{position_or_len}
+use Rattle.std.proofs.lemmas.List.Sums.{position_or_len_is}
+use Rattle.typed_path.specs.scan.Masks.{IsMask, is_one_of, stands_at, IsFirstOf}
 use lib.Lanes.{chunk}
 
 -- ---- masks
@@ -45,6 +48,16 @@ mask-alike p q n a same g = record {
   within = λ k l. g.within k l ∙ ap (λ b. cond b 1 0) (sym (same k));
   beyond = g.beyond;
 }
+
+-- a mask without its lowest bits
+pub mask-behind : (p : ℕ → Bool) (s n mask : ℕ) → IsMask p (s + n) mask → IsMask (λ k. p (s + k)) n (mask / 2 ^ s)
+mask-behind p s n mask marks = record {
+  within = λ k l. shifted k ∙ marks.within (s + k) (omega arith);
+  beyond = λ k l. shifted k ∙ marks.beyond (s + k) (omega arith);
+}
+  where
+    shifted : (k : ℕ) → bit_at (mask / 2 ^ s) k ≡ bit_at mask (s + k)
+    shifted k = ap (λ x. x % 2) (shr-shr mask s k)
 
 -- the highest bit of a number, and those above it
 pub highest_is_set : (mask k : ℕ) → 2 ^ k ≤ mask → mask < 2 * 2 ^ k → bit_at mask k ≡ 1
@@ -104,3 +117,27 @@ module _ (q : ℕ → Bool) (at n mask : ℕ) (marks : IsMask (λ k. q (at + k))
           hit = λ _. ap q (omega arith) ∙ found.1;
         },
       )
+
+-- ---- one of a pair, and a test that agrees with it
+module _ (pair : ℕ × ℕ) (p : ℕ → Bool) (same : (b : ℕ) → p b ≡ is_one_of pair b) (text : List ℕ) where
+  -- the first place within a range
+  pub first-within : (from to place : ℕ) → from ≤ to → to ≤ length text → IsFirstOf pair text from to place → place - from ≡ position_or_len p (slice_range text from to)
+  first-within from to place ordered in_range found =
+      let part = slice_range text from to in
+      let long : length part ≡ to - from = length-take-le (to - from) (drop from text) (omega (arith, length-drop from text)) in
+      let here : (k : ℕ) → k < to - from → p (get_or part k 0) ≡ stands_at pair text (from + k) = λ k l.
+      ap p (get_or-take (to - from) (drop from text) k 0 l ∙ get_or-drop from text k 0) ∙ same (slice_index text (from + k)) in
+      let back : from + (place - from) ≡ place = omega (arith, found.low) in
+      sym (position_or_len_is p part (place - from) 0 (omega (arith, found.high))
+      (λ k l. here k (omega (arith, found.high)) ∙ found.before (from + k) (omega arith) (omega (arith, found.low)))
+      (λ l. here (place - from) (omega arith) ∙ ap (stands_at pair text) back ∙ found.hit (omega (arith, found.low))))
+
+  -- the first place
+  pub first-of : (place : ℕ) → IsFirstOf pair text 0 (length text) place → place ≡ position_or_len p text
+  first-of place found =
+      let whole : length text - 0 ≡ length text = omega arith in
+      let same_place : place ≡ place - 0 = omega arith in
+      same_place
+      ∙ first-within 0 (length text) place (omega arith) (omega arith) found
+      ∙ ap (λ n. position_or_len p (take n text)) whole
+      ∙ ap (position_or_len p) (take_all (length text) text (omega arith))

@@ -1,14 +1,14 @@
-use Rattle.std.proofs.Common.{◌+◌, ◌==◌}
+use Rattle.std.proofs.Common.{◌+◌, ◌==◌, arith}
 use Rattle.std.proofs.lemmas.List.{take_rest}
-use Rattle.typed_path.proofs.lemmas.lists.CutLemmas.{split-nowhere, split-first}
+use Rattle.typed_path.proofs.lemmas.lists.CutLemmas.{split-none_passes, split-at_first, open-at_first}
 use Rattle.typed_path.proofs.scan.cut.cut_at.Goals as goal
 
-pub returns-in-None-clause-pieces : goal.returns-in-None-clause-pieces
-returns-in-None-clause-pieces c = split-nowhere (λ b. b == c.args.byte) c.args.text.now c.in-None.ensures
+pub returns-then-at-text-clause-pieces : goal.returns-then-at-text-clause-pieces
+returns-then-at-text-clause-pieces c =
+    rw (take_rest c.args.text.now (c.first_of-at.result + 1)) (split-at_first (λ b. b == c.args.byte) c.args.text.now c.first_of-at.result c.first_of-at.ensures.first c.if-at-text.true)
 
-pub returns-in-Some-clause-pieces : goal.returns-in-Some-clause-pieces
-returns-in-Some-clause-pieces c =
-    rw (take_rest c.args.text.now (c.in-Some.at + 1)) (split-first (λ b. b == c.args.byte) c.args.text.now c.in-Some.at c.in-Some.ensures.0 c.in-Some.ensures.1).0
+pub returns-then-at-text-clause-open : goal.returns-then-at-text-clause-open
+returns-then-at-text-clause-open c = open-at_first (λ b. b == c.args.byte) c.args.text.now c.first_of-at.result c.first_of-at.ensures.first c.if-at-text.true
 
-pub returns-in-Some-clause-open : goal.returns-in-Some-clause-open
-returns-in-Some-clause-open c = (split-first (λ b. b == c.args.byte) c.args.text.now c.in-Some.at c.in-Some.ensures.0 c.in-Some.ensures.1).1
+pub returns-clause-pieces : goal.returns-clause-pieces
+returns-clause-pieces c = split-none_passes (λ b. b == c.args.byte) c.args.text.now (omega (arith, c.first_of-at.ensures.first, c.if-at-text.false))

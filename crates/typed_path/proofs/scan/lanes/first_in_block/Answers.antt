@@ -1,4 +1,4 @@
-use Rattle.typed_path.specs.scan.Masks.{separates}
+use Rattle.typed_path.specs.scan.Masks.{stands_at}
 use Rattle.typed_path.proofs.lemmas.scan.MaskLemmas.{block-none, block-first}
 use Rattle.std.proofs.Common.{arith}
 use Rattle.typed_path.proofs.scan.lanes.first_in_block.Goals as goal
@@ -7,9 +7,9 @@ pub returns-then-marks-eq0 : goal.returns-then-marks-eq0
 returns-then-marks-eq0 g c = record {
   low = omega arith;
   high = omega arith;
-  before = block-none (separates c.args.separators c.args.text.now) c.args.at g.row.N _ c.marks_at-marks.ensures c.if-marks-eq0.true;
+  before = block-none (stands_at c.args.pair c.args.text.now) c.args.at g.row.N _ c.marks_at-marks.ensures c.if-marks-eq0.true;
   hit = λ l. absurd (omega arith);
 }
 
 pub returns : goal.returns
-returns g c = (block-first (separates c.args.separators c.args.text.now) c.args.at g.row.N _ c.marks_at-marks.ensures _ c.lowest.ensures.set c.lowest.ensures.below).1
+returns g c = (block-first (stands_at c.args.pair c.args.text.now) c.args.at g.row.N _ c.marks_at-marks.ensures _ c.lowest.ensures.set c.lowest.ensures.below).1

@@ -13,8 +13,8 @@ use Rattle.typed_path.proofs.scan.step.front_step.Goals as goal
 
 pub returns-clause-first : goal.returns-clause-first
 returns-clause-first c = λ begin at clean.
-    first_and_rest begin c.args.separators at c.args.text.now (step_part c.step_of.result) c.first_in-end.result c.skip_blanks-behind.result
-    c.requires clean c.first_in-end.ensures.first (c.step_of.ensures at) (rw take_rest at c.skip_blanks-behind.ensures.same (at + c.first_in-end.result))
+    first_and_rest begin c.args.separators at c.args.text.now (step_part c.step_of.result) c.args.end c.skip_blanks-behind.result
+    c.requires.some clean c.requires.ends (c.step_of.ensures at) (rw take_rest at c.skip_blanks-behind.ensures.same (at + c.args.end))
   where
     first_and_rest : (begin : Begin) (s : Separators) (at : ℕ) (text : List ℕ) (p : Part) (end blank : ℕ)
         → 0 < length text → is_clean begin s text ≡ true → end ≡ position_or_len (is_separator s) text
