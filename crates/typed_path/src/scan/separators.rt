@@ -217,28 +217,29 @@ fn is_disallowed_on_windows(byte: u8) -> bool
         | (byte == 0)
 }
 
-/// Whether a name may stand for a device: it begins as one does, and its first dot, or its end, comes
-/// within five bytes.
+/// Whether a name may stand for a device: it begins as one does, and a dot, or its end, stands behind
+/// its third byte or its fourth.
 #[inline(always)]
 fn may_be_reserved(name: &[u8]) -> bool
     ensures { result ≡ may_be_reserved name.now }
 {
     match name {
-        [a, b, c, d, e, ..] => {
-            begins_device(a.to_ascii_lowercase())
-                & ((*b == b'.') | (*c == b'.') | (*d == b'.') | (*e == b'.'))
+        [a, b, _, d, e, ..] => {
+            begins_device(a.to_ascii_lowercase(), b.to_ascii_lowercase())
+                & ((*d == b'.') | (*e == b'.'))
         }
-        [a, ..] => begins_device(a.to_ascii_lowercase()),
-        [] => false,
+        [a, b, _, ..] => begins_device(a.to_ascii_lowercase(), b.to_ascii_lowercase()),
+        _ => false,
     }
 }
 
-/// Whether the name of a device begins with this letter, a small one.
+/// Whether the name of a device begins with these two letters, small ones.
 #[inline(always)]
-fn begins_device(byte: u8) -> bool
-    ensures { result ≡ begins_device byte }
+fn begins_device(first: u8, second: u8) -> bool
+    ensures { result ≡ begins_device first second }
 {
-    (byte == b'c') | (byte == b'p') | (byte == b'a') | (byte == b'n') | (byte == b'l')
+    ((first == b'c') | (first == b'p') | (first == b'a') | (first == b'n') | (first == b'l'))
+        & ((second == b'o') | (second == b'r') | (second == b'u') | (second == b'p'))
 }
 
 /// Whether the bytes of a name before its first dot are, ASCII case aside, the name of a device.

@@ -15,16 +15,13 @@ use Rattle.typed_path.specs.changes.Reserved.{begins_device, may_be_reserved}
 
 -- a text in small letters is as long as the name of a device, and begins as one
 abbrev like_device : List ℕ → Bool
-like_device [] = false
-like_device (a ∷ b ∷ c ∷ d ∷ e ∷ rest) = false
-like_device (a ∷ rest) = begins_device a
+like_device (a ∷ b ∷ c ∷ []) = begins_device a b
+like_device (a ∷ b ∷ c ∷ d ∷ []) = begins_device a b
+like_device text = false
 
-begins-like : (a : ℕ) (rest : List ℕ) → like_device (a ∷ rest) ≡ true → begins_device a ≡ true
-begins-like a [] h = h
-begins-like a (b ∷ []) h = h
-begins-like a (b ∷ c ∷ []) h = h
-begins-like a (b ∷ c ∷ d ∷ []) h = h
-begins-like a (b ∷ c ∷ d ∷ e ∷ rest) h = cc
+-- whether the small letters of a text are
+abbrev is_like : List ℕ → Bool
+is_like text = like_device (str_to_ascii_lowercase text)
 
 -- what holds of each of some names in small letters holds of a text that is one of them, case aside
 one_of : (holds : List ℕ → Bool) (text : List ℕ) (names : List (List ℕ)) → AllByRecursion (λ name. holds (str_to_ascii_lowercase name) ≡ true) names
@@ -52,23 +49,51 @@ stem-byte b bs = by (b == dot) (position_or_len is_a_dot bs)
     by true n = refl
     by false n = let more : suc n ≡ 1 + n = omega arith in subst (λ m. take m (b ∷ bs) ≡ b ∷ take n bs) more refl
 
--- a name that stands for a device begins as one
-reserved-begins : (a : ℕ) (rest : List ℕ) → is_reserved windows (a ∷ rest) ≡ true → begins_device (to_ascii_lowercase a) ≡ true
-reserved-begins a rest h = by (a == dot) (sym (ap (λ t. like_device (str_to_ascii_lowercase t)) (stem-byte a rest)) ∙ stem-like (a ∷ rest) h)
-  where
-    by : (dotted : Bool) → like_device (str_to_ascii_lowercase (cond dotted [] (a ∷ before_first is_a_dot rest))) ≡ true → begins_device (to_ascii_lowercase a) ≡ true
-    by true like = cc
-    by false like = begins-like (to_ascii_lowercase a) (str_to_ascii_lowercase (before_first is_a_dot rest)) like
-
--- a name that stands for a device is one that may
+-- so a name that stands for a device is one that may: by where its first dot stands
 reserved-may : (name : List ℕ) → is_reserved windows name ≡ true → may_be_reserved name ≡ true
 reserved-may [] h = stem-like [] h
-reserved-may (a ∷ []) h = reserved-begins a [] h
-reserved-may (a ∷ b ∷ []) h = reserved-begins a (b ∷ []) h
-reserved-may (a ∷ b ∷ c ∷ []) h = reserved-begins a (b ∷ c ∷ []) h
-reserved-may (a ∷ b ∷ c ∷ d ∷ []) h = reserved-begins a (b ∷ c ∷ d ∷ []) h
+reserved-may (a ∷ []) h = by (a == dot) (sym (ap is_like (stem-byte a [])) ∙ stem-like (a ∷ []) h)
+  where
+    by : (p : Bool) → is_like (cond p [] (a ∷ [])) ≡ true → false ≡ true
+    by true like = like
+    by false like = like
+reserved-may (a ∷ b ∷ []) h = by (a == dot) (b == dot) (sym (ap is_like stem) ∙ stem-like (a ∷ b ∷ []) h)
+  where
+    stem : before_first is_a_dot (a ∷ b ∷ []) ≡ cond (a == dot) [] (a ∷ cond (b == dot) [] (b ∷ []))
+    stem = stem-byte a (b ∷ []) ∙ ap (λ t. cond (a == dot) [] (a ∷ t)) (stem-byte b [])
+
+    by : (p q : Bool) → is_like (cond p [] (a ∷ cond q [] (b ∷ []))) ≡ true → false ≡ true
+    by true q like = like
+    by false true like = like
+    by false false like = like
+reserved-may (a ∷ b ∷ c ∷ []) h = by (a == dot) (b == dot) (c == dot) (sym (ap is_like stem) ∙ stem-like (a ∷ b ∷ c ∷ []) h)
+  where
+    stem : before_first is_a_dot (a ∷ b ∷ c ∷ []) ≡ cond (a == dot) [] (a ∷ cond (b == dot) [] (b ∷ cond (c == dot) [] (c ∷ [])))
+    stem =
+        stem-byte a (b ∷ c ∷ [])
+        ∙ ap (λ t. cond (a == dot) [] (a ∷ t)) (stem-byte b (c ∷ []) ∙ ap (λ t. cond (b == dot) [] (b ∷ t)) (stem-byte c []))
+
+    by : (p q r : Bool) → is_like (cond p [] (a ∷ cond q [] (b ∷ cond r [] (c ∷ [])))) ≡ true → begins_device (to_ascii_lowercase a) (to_ascii_lowercase b) ≡ true
+    by true q r like = cc
+    by false true r like = cc
+    by false false true like = cc
+    by false false false like = like
+reserved-may (a ∷ b ∷ c ∷ d ∷ []) h = by (a == dot) (b == dot) (c == dot) (d == dot) (sym (ap is_like stem) ∙ stem-like (a ∷ b ∷ c ∷ d ∷ []) h)
+  where
+    stem : before_first is_a_dot (a ∷ b ∷ c ∷ d ∷ []) ≡ cond (a == dot) [] (a ∷ cond (b == dot) [] (b ∷ cond (c == dot) [] (c ∷ cond (d == dot) [] (d ∷ []))))
+    stem =
+        stem-byte a (b ∷ c ∷ d ∷ [])
+        ∙ ap (λ t. cond (a == dot) [] (a ∷ t)) (stem-byte b (c ∷ d ∷ [])
+        ∙ ap (λ t. cond (b == dot) [] (b ∷ t)) (stem-byte c (d ∷ []) ∙ ap (λ t. cond (c == dot) [] (c ∷ t)) (stem-byte d [])))
+
+    by : (p q r s : Bool) → is_like (cond p [] (a ∷ cond q [] (b ∷ cond r [] (c ∷ cond s [] (d ∷ []))))) ≡ true → begins_device (to_ascii_lowercase a) (to_ascii_lowercase b) ≡ true
+    by true q r s like = cc
+    by false true r s like = cc
+    by false false true s like = cc
+    by false false false true like = like
+    by false false false false like = like
 reserved-may (a ∷ b ∷ c ∷ d ∷ e ∷ rest) h =
-    by (a == dot) (b == dot) (c == dot) (d == dot) (e == dot) (before_first is_a_dot rest) (sym (ap (λ t. like_device (str_to_ascii_lowercase t)) stem) ∙ stem-like (a ∷ b ∷ c ∷ d ∷ e ∷ rest) h)
+    by (a == dot) (b == dot) (c == dot) (d == dot) (e == dot) (before_first is_a_dot rest) (sym (ap is_like stem) ∙ stem-like (a ∷ b ∷ c ∷ d ∷ e ∷ rest) h)
   where
     stem : before_first is_a_dot (a ∷ b ∷ c ∷ d ∷ e ∷ rest)
         ≡ cond (a == dot) [] (a ∷ cond (b == dot) [] (b ∷ cond (c == dot) [] (c ∷ cond (d == dot) [] (d ∷ cond (e == dot) [] (e ∷ before_first is_a_dot rest)))))
@@ -80,11 +105,11 @@ reserved-may (a ∷ b ∷ c ∷ d ∷ e ∷ rest) h =
         ∙ ap (λ t. cond (d == dot) [] (d ∷ t)) (stem-byte e rest))))
 
     by : (p q r s t : Bool) (more : List ℕ)
-        → like_device (str_to_ascii_lowercase (cond p [] (a ∷ cond q [] (b ∷ cond r [] (c ∷ cond s [] (d ∷ cond t [] (e ∷ more))))))) ≡ true
-        → (begins_device (to_ascii_lowercase a) && (q || r || s || t)) ≡ true
+        → is_like (cond p [] (a ∷ cond q [] (b ∷ cond r [] (c ∷ cond s [] (d ∷ cond t [] (e ∷ more)))))) ≡ true
+        → (begins_device (to_ascii_lowercase a) (to_ascii_lowercase b) && (s || t)) ≡ true
     by true q r s t more like = cc
-    by false true r s t more like = ap (λ x. x && true) like
-    by false false true s t more like = ap (λ x. x && true) like
+    by false true r s t more like = cc
+    by false false true s t more like = cc
     by false false false true t more like = ap (λ x. x && true) like
     by false false false false true more like = ap (λ x. x && true) like
     by false false false false false more like = cc
