@@ -157,6 +157,7 @@ impl<'a> Cursor<'a> {
 
     /// Judges the components that are left, from the front: the first one that offends is what a
     /// path of them is refused for when it is to be pushed.
+    #[inline(always)]
     pub(crate) fn check(self) -> Result<(), CheckedPathError>
         ensures { error_of result ≡ fault_behind (dialect_of (cursor_separators self.entry)) []
             (kinds (parts (items_left self.entry))) }
