@@ -5,7 +5,7 @@
 -- ReadingLemmas: a reading from both ends, step by step, and its closed forms
 -- SliceLeft: the slice left of a reading, by how many components were taken
 -- SliceLemmas: the slice that a reading step by step leaves, by how many components were taken
--- YieldLemmas: a step from either end, as the step of an iterator
+-- YieldLemmas: a step from either end, as the step of an iterator; and the prefix taken before all steps
 -- PrefixSteps: steps of a reading whose prefix is still to be taken
 -- CursorSteps: steps of a cursor whose prefix is still to be taken
 -- EndSteps: one more request of a list of them

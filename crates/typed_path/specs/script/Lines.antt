@@ -91,6 +91,10 @@ kind_name (normal name) = codes "normal"
 abbrev pub component_field : Part → List ℕ
 component_field p = kind_name p.kind ++ equals_sign ∷ p.text
 
+-- the same of each component of a list, each behind a tab
+abbrev pub fields_behind : List Part → List ℕ
+fields_behind ps = flat_map (λ p. tab ∷ component_field p) ps
+
 -- the fields that show a list of components
 abbrev pub components_reply : List Part → List (List ℕ)
 components_reply ps = ok_reply (map component_field ps)

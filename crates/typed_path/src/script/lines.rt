@@ -1,12 +1,13 @@
 //! The replies to lines of commands.
 
-ghost use Rattle.std.specs.Prelude.{◌≡◌, [], ◌∷◌, ◌++◌, Some, OnOk, IfSome, IfNone};
+ghost use Rattle.std.specs.Prelude.{◌≡◌, [], ◌∷◌, ◌++◌, Some, OnOk, IfSome, IfNone, option_map};
+ghost use Rattle.std.specs.Option.{option_to_list};
 ghost use Rattle.typed_path.specs.components.Comps.{parts_of};
 ghost use Rattle.typed_path.specs.changes.Push.{push};
 ghost use Rattle.typed_path.specs.views.PieceViews.{part_of, prefix_view};
 ghost use Rattle.typed_path.specs.views.PathViews.{path_bytes};
 ghost use Rattle.typed_path.specs.conversions.Convert.{converted, converted_checked};
-ghost use Rattle.typed_path.specs.script.Lines.{tab, equals_sign, fields_of, reply, reply_fields, reply_line, text_reply, components_reply, reply_in, pair_reply_in, convert_reply_in, joined_reply, converted_reply, in_named, dialect_named, derived_reply, bare_reply, refusal_name, bad_line, component_field, kind_name, prefix_name};
+ghost use Rattle.typed_path.specs.script.Lines.{tab, equals_sign, fields_of, reply, reply_fields, reply_line, text_reply, components_reply, reply_in, pair_reply_in, convert_reply_in, joined_reply, converted_reply, in_named, dialect_named, derived_reply, bare_reply, refusal_name, bad_line, component_field, fields_behind, kind_name, prefix_name};
 ghost use Rattle.typed_path.specs.script.Commands.{command_name, texts_reply};
 
 use crate::common::{Encoding, Path};
@@ -298,20 +299,37 @@ fn put_bad_line(replies: &mut Vec<u8>) -> Result<(), AllocError>
     replies.extend_from_slice(b"err\tBadLine\n")
 }
 
-/// Puts the reply that shows the components of a path behind others.
+/// Puts the reply that shows the components of a path behind others: the prefix first, so that the
+/// loop over the other components holds none.
 fn put_components<T: Encoding>(path: Path<'_, T>, replies: &mut Vec<u8>) -> Result<(), AllocError>
     ensures { OnOk result (replies.new.items ≡ replies.old.items
         ++ reply_line (components_reply (parts_of T.dialect (path_bytes path.entry)))) }
 {
+    let cursor = T::cursor(path.as_bytes());
     replies.extend_from_slice(b"ok")?;
-    'pieces: for piece in path.components() {
-        put_component(piece, replies)?;
+    put_prefix(cursor.prefix_piece(), replies)?;
+    let mut body = cursor.body();
+    'steps: while let Some(step) = body.front() {
+        put_component(step.piece(), replies)?;
     }
     replies.push(b'\n')?;
     Ok(())
 }
 
+/// Puts a tab, and the field that shows the prefix, where there is one.
+#[inline(always)]
+fn put_prefix(prefix: Option<Piece<'_>>, replies: &mut Vec<u8>) -> Result<(), AllocError>
+    ensures { OnOk result (replies.new.items
+        ≡ replies.old.items ++ fields_behind (option_to_list (option_map part_of prefix.entry))) }
+{
+    match prefix {
+        Some(piece) => put_component(piece, replies),
+        None => Ok(()),
+    }
+}
+
 /// Puts a tab, and the field that shows a component.
+#[inline(always)]
 fn put_component(piece: Piece<'_>, replies: &mut Vec<u8>) -> Result<(), AllocError>
     ensures { OnOk result
         (replies.new.items ≡ replies.old.items ++ tab ∷ component_field (part_of piece.entry)) }
@@ -321,6 +339,7 @@ fn put_component(piece: Piece<'_>, replies: &mut Vec<u8>) -> Result<(), AllocErr
 }
 
 /// A tab, what a field calls a component, and an equals sign.
+#[inline(always)]
 fn label(piece: Piece<'_>) -> &'static [u8]
     ensures { result.now ≡ tab ∷ kind_name (part_of piece.entry).kind ++ equals_sign ∷ [] }
 {

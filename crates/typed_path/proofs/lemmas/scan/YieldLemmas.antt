@@ -1,9 +1,12 @@
--- A step from either end, as the step of an iterator.
-use Rattle.std.proofs.Common.{◌≡◌, ◌<◌, List, [], ◌∷◌, ◌++◌, drop, length, Option, Some, None, refl, ap, sym, subst, ◌∙◌, option_map, arith}
+-- A step from either end, as the step of an iterator; and the prefix taken before all steps.
+use Rattle.std.proofs.Common.{◌≡◌, ◌<◌, List, [], ◌∷◌, ◌++◌, Bool, true, false, drop, length, Option, Some, None, refl, ap, ap₂, sym, subst, ◌∙◌, option_map, arith}
+use Rattle.std.specs.Prelude.{if◌then◌else◌}
+use Rattle.std.specs.Option.{option_to_list}
 use Rattle.std.specs.Iterator.{MakesProgress, YieldsFirstBy, YieldsLastBy, item_count}
 use Rattle.std.proofs.lemmas.Option.{same_Some}
 use Rattle.std.proofs.lemmas.List.{map-append, length-append}
 use Rattle.typed_path.specs.components.Part.{Part, Placed, parts}
+use Rattle.typed_path.specs.queries.Queries.{is_prefix, prefix_among, behind_prefix}
 use Rattle.typed_path.specs.scan.Left.{but_last}
 use Rattle.typed_path.specs.scan.Steps.{first_part, last_part}
 use Rattle.typed_path.proofs.lemmas.scan.LeftLemmas.{last_part-push, last_pushed}
@@ -12,6 +15,19 @@ use Rattle.typed_path.proofs.lemmas.scan.LeftLemmas.{last_part-push, last_pushed
 pub fewer : (p : Part) (cs ds : List Placed) → Some p ≡ first_part cs → ds ≡ drop 1 cs → length ds < length cs
 fewer p [] ds taken items = cc
 fewer p (c ∷ cs) ds taken items = omega (arith, ap length items)
+
+-- components are the prefix, where there is one, and those behind it
+parts-split : (cs : List Placed) → parts cs ≡ option_to_list (prefix_among (parts cs)) ++ parts (behind_prefix cs)
+parts-split [] = refl
+parts-split (c ∷ cs) = by (is_prefix c.part.kind)
+  where
+    by : (b : Bool) → parts (c ∷ cs) ≡ option_to_list (if b then Some c.part else None) ++ parts (if b then cs else c ∷ cs)
+    by true = refl
+    by false = refl
+
+-- so are those of a reading
+pub parts-prefixed : (all cs ds : List Placed) (o : Option Part) → cs ≡ all → o ≡ prefix_among (parts cs) → ds ≡ behind_prefix cs → parts all ≡ option_to_list o ++ parts ds
+parts-prefixed all cs ds o read first behind = ap parts (sym read) ∙ parts-split cs ∙ ap₂ (λ p bs. option_to_list p ++ parts bs) (sym first) (sym behind)
 
 module _ {X : Type 0} (view : X → Part) where
   -- what a step from the front gives

@@ -1,12 +1,6 @@
 -- Fields in a row, and the fields that show components.
 use Rattle.std.proofs.Common.{◌≡◌, ℕ, List, [], ◌∷◌, ◌++◌, map, append-nil, sym, ap}
 use Rattle.std.specs.List.{flat_map, join_with_byte}
-use Rattle.typed_path.specs.components.Part.{Part}
-use Rattle.typed_path.specs.script.Lines.{tab, component_field}
-
--- the fields that show components, each behind a tab
-abbrev pub fields_behind : List Part → List ℕ
-fields_behind ps = flat_map (λ p. tab ∷ component_field p) ps
 
 -- texts with a byte between: the first, and then the byte and a text again and again
 pub join_with_byte-map : {A : Type 0} (c : ℕ) (f : A → List ℕ) (x : List ℕ) (as' : List A) → join_with_byte c (x ∷ map f as') ≡ x ++ flat_map (λ a. c ∷ f a) as'

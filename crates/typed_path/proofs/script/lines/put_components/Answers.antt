@@ -1,11 +1,34 @@
 use Rattle.std.proofs.Common.{◌≡◌, ℕ, List, [], ◌∷◌, ◌++◌, append-nil, append_assoc, sym, ap, ◌∙◌}
-use Rattle.std.specs.Prelude.{codes}
+use Rattle.std.specs.Prelude.{codes, Some, None, option_map}
+use Rattle.std.proofs.lemmas.Grind.{flat_map-append}
+use Rattle.typed_path.specs.components.Comps.{comps, parts_of}
 use Rattle.typed_path.specs.components.Part.{Part}
-use Rattle.typed_path.specs.components.Comps.{parts_of}
+use Rattle.typed_path.specs.script.Lines.{tab, line_feed, reply_line, components_reply, component_field, fields_behind}
+use Rattle.typed_path.specs.views.BodyViews.{body_items}
+use Rattle.typed_path.specs.views.CursorViews.{items_left}
 use Rattle.typed_path.specs.views.PathViews.{path_bytes}
-use Rattle.typed_path.specs.script.Lines.{tab, line_feed, reply_line, components_reply, component_field}
-use Rattle.typed_path.proofs.lemmas.script.FieldLemmas.{fields_behind, join_with_byte-map}
+use Rattle.typed_path.specs.views.PieceViews.{part_of, step_part}
+use Rattle.typed_path.proofs.lemmas.scan.YieldLemmas.{parts-prefixed, yields_first, fewer}
+use Rattle.typed_path.proofs.lemmas.script.FieldLemmas.{join_with_byte-map}
 use Rattle.typed_path.proofs.script.lines.put_components.Goals as goal
+
+-- the fields of the first components stand, and those of the others are left
+some_shown : (replies new : List ℕ) (first left ps : List Part) → ps ≡ first ++ left → new ≡ replies ++ fields_behind first → new ++ fields_behind left ≡ replies ++ fields_behind ps
+some_shown replies new first left ps split shown =
+    ap (λ bs. bs ++ fields_behind left) shown
+    ∙ append_assoc replies (fields_behind first) (fields_behind left)
+    ∙ ap (λ bs. replies ++ bs) (sym (flat_map-append (λ p. tab ∷ component_field p) first left) ∙ ap fields_behind (sym split))
+
+-- that of the prefix stands behind the reply's first one
+first_shown : (old begun new : List ℕ) (first left ps : List Part) → ps ≡ first ++ left → begun ≡ old ++ codes "ok" → new ≡ begun ++ fields_behind first
+    → new ++ fields_behind left ≡ old ++ (codes "ok" ++ fields_behind ps)
+first_shown old begun new first left ps split ok shown =
+    some_shown begun new first left ps split shown ∙ ap (λ bs. bs ++ fields_behind ps) ok ∙ append_assoc old (codes "ok") (fields_behind ps)
+
+-- that of one component more stands
+next_shown : (replies new : List ℕ) (p q : Part) (old rest : List Part) → old ≡ q ∷ rest → p ≡ q → new ≡ replies ++ tab ∷ component_field p → new ++ fields_behind rest ≡ replies ++ fields_behind old
+next_shown replies new p q old rest step same shown =
+    some_shown replies new (p ∷ []) rest old (step ∙ ap (λ x. x ∷ rest) (sym same)) (shown ∙ ap (λ bs. replies ++ bs) (sym (append-nil (tab ∷ component_field p))))
 
 -- the reply is complete once no component is left and the line feed stands
 all_shown : (old new replies : List ℕ) (left ps : List Part) → left ≡ [] → new ≡ replies ++ line_feed ∷ []
@@ -16,5 +39,23 @@ all_shown old new replies left ps none ended h =
     ∙ append_assoc old (codes "ok" ++ fields_behind ps) (line_feed ∷ [])
     ∙ ap (λ bs. old ++ (bs ++ line_feed ∷ [])) (sym (join_with_byte-map tab component_field (codes "ok") ps))
 
+pub steps-init : goal.steps-init
+steps-init g c =
+    let d = g.T.Encoding.dialect in
+    let path = path_bytes c.args.path in
+    let split = parts-prefixed (comps d path) (items_left c.cursor-cursor.result) (body_items c.body-body.result) (option_map part_of c.prefix_piece.result)
+    (c.cursor-cursor.ensures.items ∙ ap (comps d) c.as_bytes.ensures) c.prefix_piece.ensures c.body-body.ensures in
+    first_shown c.args.replies.now.items _ _ _ _ (parts_of d path) split c.in_ok-extend_from_slice.ensures.items c.in_ok-put_prefix.ensures
+
+pub steps-smaller : goal.steps-smaller
+steps-smaller g c = fewer (step_part c.in-Some.step) (body_items c.steps.body) (body_items c.front.new.self) c.in-Some.ensures.taken c.in-Some.ensures.items
+
+pub steps-preserved : goal.steps-preserved
+steps-preserved g c =
+    let taken = yields_first step_part (Some c.in-Some.step) (body_items c.steps.body) (body_items c.front.new.self) c.in-Some.ensures.taken c.in-Some.ensures.items in
+    next_shown c.steps.replies.items _ (part_of c.piece.result) (step_part c.in-Some.step) _ _ taken c.piece.ensures c.in_ok-put_component.ensures ∙ c.steps.invariant
+
 pub returns : goal.returns
-returns g c = all_shown _ _ _ _ (parts_of g.T.Encoding.dialect (path_bytes c.args.path)) c.in-None.ensures.steps.0.0 c.in_ok-push.ensures.items c.pieces.invariant
+returns g c =
+    let none = (yields_first step_part None (body_items c.steps.body) (body_items c.front.new.self) c.in_default.ensures.taken c.in_default.ensures.items).0 in
+    all_shown c.args.replies.now.items c.push.new.self.items c.steps.replies.items _ (parts_of g.T.Encoding.dialect (path_bytes c.args.path)) none c.in_ok-push.ensures.items c.steps.invariant
