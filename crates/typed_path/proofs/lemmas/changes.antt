@@ -10,7 +10,7 @@
 -- FaultLemmas: a path judged component by component, and what holds of one that is not refused
 -- FaultlessLemmas: a path of Windows that is not refused has no prefix and no root
 -- AllowedLemmas: the names of a text in which each byte that no name may have is a separator
--- ConvertLemmas: checked pushes of components in a row, one component at a time
+-- ConvertLemmas: checked pushes of components in a row, some of them first
 -- EndedNames: a root or a name, and names behind it, spelled, with one more name put behind that
 -- PushedNames: plain names pushed one by one behind a prefix that stays, and a root or a name: they are spelled behind these
 -- NameSpans: a path without its file name, and where the stem of the name ends

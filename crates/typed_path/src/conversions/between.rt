@@ -1,12 +1,14 @@
 //! A path of one encoding written in another.
 
-ghost use Rattle.std.specs.Prelude.{◌≡◌, ◌≤◌, ◌+◌, ◌++◌, ℕ, [], map, take, drop, length, IsOk, OnOk, OnErr, Result, Ok, Err, Some};
+ghost use Rattle.std.specs.Prelude.{◌≡◌, ◌≤◌, ◌+◌, ◌++◌, ℕ, [], ◌∷◌, map, option_map, take, drop, length, IsOk, IfOk, OnOk, OnErr, Result, Ok, Err, Some};
+ghost use Rattle.std.specs.Option.{option_to_list};
 ghost use Rattle.std.specs.Vec.{vec_capacity};
 ghost use Rattle.typed_path.specs.declared.errors.CheckedPathError.{CheckedPathError};
 ghost use Rattle.typed_path.specs.components.Comps.{parts_of};
 ghost use Rattle.typed_path.specs.conversions.Convert.{same_dialect, converted, FitsConverted, crossed, crossed_all, passes, crossing_fault, push_checked_each};
 ghost use Rattle.typed_path.specs.changes.Checked.{refusal, error_of};
 ghost use Rattle.typed_path.specs.changes.Run.{FitsEach};
+ghost use Rattle.typed_path.specs.changes.Spelled.{IsKnown};
 ghost use Rattle.typed_path.specs.views.PieceViews.{part_of};
 
 use crate::common::{Encoding, Path, PathBuf, cut_back};
@@ -118,17 +120,58 @@ pub fn convert_checked<T: Encoding, U: Encoding>(
     ensures refused { (e : CheckedPathError) → refusal result ≡ Some e
         → push_checked_each U.dialect (Ok text.old.items) (parts_of T.dialect path.now) ≡ Err e }
 {
-    let mut components = T::cursor(path);
-    let mut known = None;
-    'pieces: while let Some(piece) = T::front(&mut components) {
-        judge::<U>(piece)?;
-        known = U::push_next(text, 0, piece.crossed(U::root_text()), known)?;
+    let cursor = T::cursor(path);
+    let mut known = push_prefix_checked::<U>(text, cursor.prefix_piece())?;
+    let mut body = cursor.body();
+    'steps: while let Some(step) = body.front() {
+        known = push_piece_checked::<U>(text, step.piece(), known)?;
     }
     Ok(())
 }
 
+/// Pushes the prefix of a path, where it has one, onto a path of another encoding by a checked push,
+/// and answers what is known of what stands there then.
+#[inline(always)]
+fn push_prefix_checked<U: Encoding>(
+    text: &mut Vec<u8>,
+    prefix: Option<Piece<'_>>,
+) -> Result<Option<usize>, PathError>
+    ensures ok { OnOk result (push_checked_each U.dialect (Ok text.old.items)
+        (option_to_list (option_map part_of prefix.entry)) ≡ Ok text.new.items) }
+    ensures refused { (e : CheckedPathError) → refusal result ≡ Some e
+        → push_checked_each U.dialect (Ok text.old.items)
+        (option_to_list (option_map part_of prefix.entry)) ≡ Err e }
+    ensures known { IfOk result (λ next. IsKnown U.dialect next text.new.items) }
+{
+    match prefix {
+        Some(piece) => push_piece_checked::<U>(text, piece, None),
+        None => Ok(None),
+    }
+}
+
+/// Pushes a component onto a path of another encoding, of which something may be known, by a checked
+/// push, and answers what is known of what stands there then.
+#[inline(always)]
+fn push_piece_checked<U: Encoding>(
+    text: &mut Vec<u8>,
+    piece: Piece<'_>,
+    known: Option<usize>,
+) -> Result<Option<usize>, PathError>
+    ensures ok { IsKnown U.dialect known text.old.items → OnOk result
+        (push_checked_each U.dialect (Ok text.old.items) (part_of piece.entry ∷ [])
+        ≡ Ok text.new.items) }
+    ensures refused { (e : CheckedPathError) → refusal result ≡ Some e
+        → push_checked_each U.dialect (Ok text.old.items) (part_of piece.entry ∷ []) ≡ Err e }
+    ensures known { IsKnown U.dialect known text.old.items
+        → IfOk result (λ next. IsKnown U.dialect next text.new.items) }
+{
+    judge::<U>(piece)?;
+    Ok(U::push_next(text, 0, piece.crossed(U::root_text()), known)?)
+}
+
 /// Judges a component that is to be pushed onto a path of another encoding. A root, `.` or `..` is
 /// never refused.
+#[inline(always)]
 fn judge<U: Encoding>(piece: Piece<'_>) -> Result<(), CheckedPathError>
     ensures { error_of result ≡ crossing_fault U.dialect (part_of piece.entry) }
 {
@@ -140,6 +183,7 @@ fn judge<U: Encoding>(piece: Piece<'_>) -> Result<(), CheckedPathError>
 }
 
 /// Whether a component is never refused: a root, and every prefix that becomes one, `.` or `..`.
+#[inline(always)]
 fn passes(piece: Piece<'_>) -> bool
     ensures { result ≡ passes (part_of piece.entry).kind }
 {

@@ -85,6 +85,7 @@ impl<'a> Piece<'a> {
     }
 
     /// Whether nothing is above the component: the root, and every prefix but a drive.
+    #[inline(always)]
     pub fn is_root(self) -> bool
         ensures { result ≡ is_root (part_of self.entry).kind }
     {

@@ -1,43 +1,61 @@
-use Rattle.std.proofs.Common.{◌≡◌, sym, ap, ◌∙◌, Some, None, arith}
-use Rattle.std.specs.Prelude.{ℕ, List, Ok}
-use Rattle.typed_path.specs.components.Dialect.{Dialect}
-use Rattle.typed_path.specs.components.Part.{Part}
-use Rattle.typed_path.specs.changes.Checked.{error_of}
-use Rattle.typed_path.specs.changes.Push.{push}
-use Rattle.typed_path.specs.conversions.Convert.{crossed, crossing_fault, push_unless}
+use Rattle.std.proofs.Common.{ap, sym, refl, ◌∙◌, Some, None, ◌∷◌, []}
+use Rattle.std.specs.Prelude.{option_map, Ok}
+use Rattle.std.specs.Option.{option_to_list}
+use Rattle.typed_path.specs.components.Comps.{comps, parts_of}
+use Rattle.typed_path.specs.components.Part.{parts}
+use Rattle.typed_path.specs.conversions.Convert.{push_checked_each}
+use Rattle.typed_path.specs.queries.Queries.{behind_prefix}
+use Rattle.typed_path.specs.views.BodyViews.{body_items}
 use Rattle.typed_path.specs.views.CursorViews.{items_left}
-use Rattle.typed_path.specs.views.PieceViews.{part_of}
-use Rattle.typed_path.proofs.lemmas.changes.ConvertLemmas.{pushed-next, refused-whole, pushed-all, fault-passed}
-use Rattle.typed_path.proofs.lemmas.scan.YieldLemmas.{yields_first}
+use Rattle.typed_path.specs.views.PieceViews.{part_of, step_part}
+use Rattle.typed_path.proofs.lemmas.changes.ConvertLemmas.{pushed-first, refused-whole, pushed-all, refusal-passed}
+use Rattle.typed_path.proofs.lemmas.scan.YieldLemmas.{parts-prefixed, yields_first, fewer}
 use Rattle.typed_path.proofs.conversions.between.convert_checked.Goals as goal
 
--- a component that is not refused is pushed
-accepted : (d : Dialect) (base new written : List ℕ) (p : Part) → None ≡ crossing_fault d p → written ≡ crossed d p → new ≡ push d base written
-    → push_unless d base (crossing_fault d p) (crossed d p) ≡ Ok new
-accepted d base new written p none is pushed = ap (λ o. push_unless d base o (crossed d p)) (sym none) ∙ ap Ok (sym (pushed ∙ ap (push d base) is))
+pub returns-in_err-known-clause-refused : goal.returns-in_err-known-clause-refused
+returns-in_err-known-clause-refused g c =
+    let e = g.U.Encoding.dialect in
+    let split = parts-prefixed (comps g.T.Encoding.dialect c.args.path.now) (items_left c.cursor-cursor.result) (behind_prefix (items_left c.cursor-cursor.result)) (option_map part_of c.prefix_piece.result) c.cursor-cursor.ensures.items c.prefix_piece.ensures refl in
+    λ f told.
+    refused-whole e c.args.text.now.items (option_to_list (option_map part_of c.prefix_piece.result)) _ (parts_of g.T.Encoding.dialect c.args.path.now) split f
+    (c.in_err-known.ensures.refused f (refusal-passed c.push_prefix_checked.result c.from_residual.result _ c.from_residual.ensures.1 f told))
 
-pub pieces-preserved : goal.pieces-preserved
-pieces-preserved g c =
-    let d = g.U.Encoding.dialect in
-    let base = c.pieces.text.items in
-    let step = yields_first part_of (Some c.in-Some.piece) (items_left c.pieces.components) (items_left c.front.new.cursor) c.in-Some.ensures.taken c.in-Some.ensures.items in
-    let done = accepted d base _ _ (part_of c.in-Some.piece) c.in_ok-judge.ensures (c.crossed.ensures d c.root_text.ensures) (c.in_ok-known.ensures.ok c.pieces.invariant.known) in
+pub steps-init : goal.steps-init
+steps-init g c =
+    let e = g.U.Encoding.dialect in
+    let split = parts-prefixed (comps g.T.Encoding.dialect c.args.path.now) (items_left c.cursor-cursor.result) (body_items c.body-body.result) (option_map part_of c.prefix_piece.result) c.cursor-cursor.ensures.items c.prefix_piece.ensures c.body-body.ensures in
     record {
-      pushed = pushed-next d base _ _ _ _ step done ∙ c.pieces.invariant.pushed;
-      known = c.in_ok-known.ensures.known (omega arith) c.pieces.invariant.known;
+      pushed = pushed-first e c.args.text.now.items (option_to_list (option_map part_of c.prefix_piece.result)) (parts (body_items c.body-body.result)) (parts_of g.T.Encoding.dialect c.args.path.now) split c.push_prefix_checked.new.text.items c.in_ok-known.ensures.ok;
+      known = c.in_ok-known.ensures.known;
     }
 
-pub returns-in_err-judge-clause-refused : goal.returns-in_err-judge-clause-refused
-returns-in_err-judge-clause-refused g c =
-    let d = g.U.Encoding.dialect in
-    let step = yields_first part_of (Some c.in-Some.piece) (items_left c.pieces.components) (items_left c.front.new.cursor) c.in-Some.ensures.taken c.in-Some.ensures.items in
-    λ e told.
-    sym c.pieces.invariant.pushed
-    ∙ refused-whole d c.pieces.text.items e (part_of c.in-Some.piece) _ _ step
-    (ap (λ o. push_unless d c.pieces.text.items o (crossed d (part_of c.in-Some.piece)))
-    (sym c.judge.ensures ∙ ap error_of c.in_err-judge.was ∙ fault-passed c.from_residual.result _ c.from_residual.ensures.1 e told))
+pub returns-in_err-known-2-clause-refused : goal.returns-in_err-known-2-clause-refused
+returns-in_err-known-2-clause-refused g c =
+    let e = g.U.Encoding.dialect in
+    let old = parts (body_items c.steps.body) in
+    let taken = yields_first step_part (Some c.in-Some.step) (body_items c.steps.body) (body_items c.front.new.self) c.in-Some.ensures.taken c.in-Some.ensures.items in
+    λ f told.
+    sym c.steps.invariant.pushed
+    ∙ refused-whole e c.steps.text.items (step_part c.in-Some.step ∷ []) _ old taken f
+    (ap (λ p. push_checked_each e (Ok c.steps.text.items) (p ∷ [])) (sym c.piece.ensures)
+    ∙ c.in_err-known-2.ensures.refused f (refusal-passed c.push_piece_checked.result c.from_residual-in_err-known-2.result _ c.from_residual-in_err-known-2.ensures.1 f told))
+
+pub steps-smaller : goal.steps-smaller
+steps-smaller g c = fewer (step_part c.in-Some.step) (body_items c.steps.body) (body_items c.front.new.self) c.in-Some.ensures.taken c.in-Some.ensures.items
+
+pub steps-preserved : goal.steps-preserved
+steps-preserved g c =
+    let e = g.U.Encoding.dialect in
+    let old = parts (body_items c.steps.body) in
+    let taken = yields_first step_part (Some c.in-Some.step) (body_items c.steps.body) (body_items c.front.new.self) c.in-Some.ensures.taken c.in-Some.ensures.items in
+    record {
+      pushed = pushed-first e c.steps.text.items (step_part c.in-Some.step ∷ []) (parts (body_items c.front.new.self)) old taken c.push_piece_checked.new.text.items
+          (ap (λ p. push_checked_each e (Ok c.steps.text.items) (p ∷ [])) (sym c.piece.ensures) ∙ c.in_ok-known-2.ensures.ok c.steps.invariant.known)
+          ∙ c.steps.invariant.pushed;
+      known = c.in_ok-known-2.ensures.known c.steps.invariant.known;
+    }
 
 pub returns-clause-ok : goal.returns-clause-ok
 returns-clause-ok g c =
-    let none = (yields_first part_of None (items_left c.pieces.components) (items_left c.front.new.cursor) c.in_default.ensures.taken c.in_default.ensures.items).0 in
-    sym c.pieces.invariant.pushed ∙ pushed-all g.U.Encoding.dialect c.pieces.text.items _ none
+    let none = (yields_first step_part None (body_items c.steps.body) (body_items c.front.new.self) c.in_default.ensures.taken c.in_default.ensures.items).0 in
+    sym c.steps.invariant.pushed ∙ pushed-all g.U.Encoding.dialect c.steps.text.items (parts (body_items c.steps.body)) none
