@@ -334,21 +334,23 @@ fn put_component(piece: Piece<'_>, replies: &mut Vec<u8>) -> Result<(), AllocErr
     ensures { OnOk result
         (replies.new.items ≡ replies.old.items ++ tab ∷ component_field (part_of piece.entry)) }
 {
-    replies.extend_from_slice(label(piece))?;
+    put_label(piece, replies)?;
     replies.extend_from_slice(piece.text)
 }
 
-/// A tab, what a field calls a component, and an equals sign.
+/// Puts a tab, what a field calls a component, and an equals sign. Each is put as a constant, which
+/// is a store where a slice that is chosen first would be a call.
 #[inline(always)]
-fn label(piece: Piece<'_>) -> &'static [u8]
-    ensures { result.now ≡ tab ∷ kind_name (part_of piece.entry).kind ++ equals_sign ∷ [] }
+fn put_label(piece: Piece<'_>, replies: &mut Vec<u8>) -> Result<(), AllocError>
+    ensures { OnOk result (replies.new.items ≡ replies.old.items
+        ++ tab ∷ kind_name (part_of piece.entry).kind ++ equals_sign ∷ []) }
 {
     match piece.kind {
-        PieceKind::Prefix(prefix) => prefix_label(prefix),
-        PieceKind::RootDir => b"\troot=",
-        PieceKind::CurDir => b"\tcurrent=",
-        PieceKind::ParentDir => b"\tparent=",
-        PieceKind::Normal => b"\tnormal=",
+        PieceKind::Prefix(prefix) => replies.extend_from_slice(prefix_label(prefix)),
+        PieceKind::RootDir => replies.extend_from_slice(b"\troot="),
+        PieceKind::CurDir => replies.extend_from_slice(b"\tcurrent="),
+        PieceKind::ParentDir => replies.extend_from_slice(b"\tparent="),
+        PieceKind::Normal => replies.extend_from_slice(b"\tnormal="),
     }
 }
 
