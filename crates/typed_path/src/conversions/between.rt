@@ -101,12 +101,38 @@ fn push_each<T: Encoding, U: Encoding>(
         → FitsEach U.dialect room [] (map (crossed U.dialect) (parts_of T.dialect path.now))
         → IsOk result }
 {
-    let mut components = T::cursor(path);
-    let mut known = None;
-    'pieces: while let Some(piece) = T::front(&mut components) {
-        known = U::push_next(text, start, piece.crossed(U::root_text()), known)?;
+    let cursor = T::cursor(path);
+    let mut known = put_prefix::<U>(text, cursor.prefix_piece())?;
+    let mut body = cursor.body();
+    'steps: while let Some(step) = body.front() {
+        known = U::push_next(text, start, step.piece().crossed(U::root_text()), known)?;
     }
     Ok(())
+}
+
+/// Puts the prefix of a path, where it has one, behind a text, as it is written in another encoding,
+/// and answers what is known of what stands there then. Where memory is refused, the text is as it
+/// was.
+#[inline(always)]
+fn put_prefix<U: Encoding>(
+    text: &mut Vec<u8>,
+    prefix: Option<Piece<'_>>,
+) -> Result<Option<usize>, AllocError>
+    ensures ok { OnOk result (text.new.items ≡ text.old.items
+        ++ crossed_all U.dialect (option_to_list (option_map part_of prefix.entry))) }
+    ensures err { OnErr result (text.new.items ≡ text.old.items) }
+    ensures known { IfOk result (λ next. IsKnown U.dialect next
+        (crossed_all U.dialect (option_to_list (option_map part_of prefix.entry)))) }
+    ensures capacity { vec_capacity text.old ≤ vec_capacity text.new }
+    ensures succeeds { (room : ℕ) → length text.old.items + room ≤ vec_capacity text.old
+        → FitsEach U.dialect room []
+        (map (crossed U.dialect) (option_to_list (option_map part_of prefix.entry)))
+        → IsOk result }
+{
+    match prefix {
+        Some(piece) => U::push_next(text, text.len(), piece.crossed(U::root_text()), None),
+        None => Ok(None),
+    }
 }
 
 /// Pushes the components of a path onto one of another encoding by checked pushes, and ends at the

@@ -1,23 +1,34 @@
 -- Components of another dialect pushed one by one onto the path at the end of a text.
 use Rattle.std.proofs.Common.{◌≡◌, ◌≤◌, ◌+◌, ◌-◌, ℕ, List, [], ◌∷◌, ◌++◌, map, length, take, drop, slice_range, sym, ap, subst, ◌∙◌, length-append, length-take-le, arith}
 use Rattle.std.proofs.Math.Seq.{drop-append_seam, take-append_seam}
-use Rattle.std.proofs.lemmas.List.{drop-take, take_all, length-drop}
+use Rattle.std.proofs.lemmas.List.{drop-take, take_all, length-drop, map-append}
+use Rattle.std.proofs.lemmas.List.Sums.{fold-append}
 use Rattle.typed_path.specs.components.Dialect.{Dialect}
 use Rattle.typed_path.specs.components.Part.{Part}
-use Rattle.typed_path.specs.changes.Push.{push, push_all, FitsPush}
+use Rattle.typed_path.specs.changes.Push.{push, push_all}
 use Rattle.typed_path.specs.changes.Run.{FitsEach}
 use Rattle.typed_path.specs.conversions.Convert.{crossed}
 
--- one component more is pushed
-pub crossed-next : (e : Dialect) (goal text next : List ℕ) (p : Part) (old rest : List Part) → old ≡ p ∷ rest → next ≡ push e text (crossed e p)
-    → goal ≡ push_all e text (map (crossed e) old) → goal ≡ push_all e next (map (crossed e) rest)
-crossed-next e goal text next p old rest step pushed h =
-    h ∙ ap (λ ps. push_all e text (map (crossed e) ps)) step ∙ ap (λ t. push_all e t (map (crossed e) rest)) (sym pushed)
+-- there is room for each of two lists
+fits_each-append : (e : Dialect) (room : ℕ) (text : List ℕ) (paths others : List (List ℕ)) → FitsEach e room text (paths ++ others) → FitsEach e room text paths × FitsEach e room (push_all e text paths) others
+fits_each-append e room text [] others fits = (tt, fits)
+fits_each-append e room text (path ∷ paths) others fits =
+    let rest = fits_each-append e room (push e text path) paths others fits.1 in ((fits.0, rest.0), rest.1)
 
--- and there is room for it, and for those behind it
-pub crossed-fits : (e : Dialect) (room : ℕ) (text : List ℕ) (p : Part) (old rest : List Part) → old ≡ p ∷ rest → FitsEach e room text (map (crossed e) old)
-    → FitsPush e room text (crossed e p) × FitsEach e room (push e text (crossed e p)) (map (crossed e) rest)
-crossed-fits e room text p old rest step fits = subst (λ ps. FitsEach e room text (map (crossed e) ps)) step fits
+module _ (e : Dialect) (first left ps : List Part) (split : ps ≡ first ++ left) where
+  -- the first components, and the others
+  crossed-split : map (crossed e) ps ≡ map (crossed e) first ++ map (crossed e) left
+  crossed-split = ap (map (crossed e)) split ∙ map-append (crossed e) first left
+
+  -- the first components are pushed, and the others are left
+  pub crossed-next : (goal text next : List ℕ) → next ≡ push_all e text (map (crossed e) first) → goal ≡ push_all e text (map (crossed e) ps) → goal ≡ push_all e next (map (crossed e) left)
+  crossed-next goal text next pushed h =
+      h ∙ ap (push_all e text) crossed-split ∙ fold-append (push e) text (map (crossed e) first) (map (crossed e) left) ∙ ap (λ t. push_all e t (map (crossed e) left)) (sym pushed)
+
+  -- there is room for them, and for those behind them
+  pub crossed-fits : (room : ℕ) (text : List ℕ) → FitsEach e room text (map (crossed e) ps)
+      → FitsEach e room text (map (crossed e) first) × FitsEach e room (push_all e text (map (crossed e) first)) (map (crossed e) left)
+  crossed-fits room text fits = fits_each-append e room text (map (crossed e) first) (map (crossed e) left) (subst (FitsEach e room text) crossed-split fits)
 
 -- none is left
 pub crossed-end : (e : Dialect) (goal text : List ℕ) (ps : List Part) → ps ≡ [] → goal ≡ push_all e text (map (crossed e) ps) → text ≡ goal
@@ -39,3 +50,7 @@ put-whole start old new path within e =
       ap (take start) e ∙ ap (λ n. take n (take start old ++ path)) (sym size) ∙ take-append_seam (take start old) path,
       omega (arith, ap length e, length-append (take start old) path, size),
     )
+
+-- and one that is put behind all of it
+pub put-behind : (start : ℕ) (old new path : List ℕ) → length old ≡ start → new ≡ old ++ path → (drop start new ≡ path) × (take start new ≡ take start old) × (start ≤ length new)
+put-behind start old new path size e = put-whole start old new path (omega (arith, size)) (e ∙ ap (λ t. t ++ path) (sym (take_all start old (omega (arith, size)))))

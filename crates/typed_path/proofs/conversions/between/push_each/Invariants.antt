@@ -6,16 +6,16 @@ use Rattle.typed_path.specs.changes.Push.{push_all}
 use Rattle.typed_path.specs.changes.Run.{FitsEach}
 use Rattle.typed_path.specs.changes.Spelled.{IsKnown}
 use Rattle.typed_path.specs.conversions.Convert.{crossed, crossed_all}
-use Rattle.typed_path.specs.views.CursorViews.{items_left}
+use Rattle.typed_path.specs.views.BodyViews.{body_items}
 use Rattle.typed_path.proofs.conversions.between.push_each.Given as goal
 
-abbrev pub decreases-pieces : goal.decreases-pieces
-decreases-pieces g l = length (items_left l.components)
+abbrev pub decreases-steps : goal.decreases-steps
+decreases-steps g l = length (body_items l.body)
 
-abbrev pub invariant-pieces : goal.invariant-pieces
-invariant-pieces g l =
+abbrev pub invariant-steps : goal.invariant-steps
+invariant-steps g l =
     let e = g.U.Encoding.dialect in
-    let parts_left = parts (items_left l.components) in
+    let parts_left = parts (body_items l.body) in
     record {
       pushed : crossed_all e (parts_of g.T.Encoding.dialect l.path) ≡ push_all e (drop l.start l.text.items) (map (crossed e) parts_left);
       kept : take l.start l.text.items ≡ take l.start l.fn.text.items;
