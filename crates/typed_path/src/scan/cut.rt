@@ -8,7 +8,6 @@ use crate::scan::lanes::first_between;
 use crate::scan::separators::Separators;
 
 /// What stands before the first such byte, and what stands behind it.
-#[inline(always)]
 pub fn cut_at(byte: u8, text: &[u8]) -> Option<(&[u8], &[u8])>
     ensures pieces { MatchOption result
         (slice_split (λ b. b == byte) text.now ≡ text.now ∷ [])

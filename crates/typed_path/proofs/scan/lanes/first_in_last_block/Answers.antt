@@ -1,4 +1,4 @@
-use Rattle.std.proofs.Common.{◌≡◌, ℕ, ◌+◌, ◌-◌, ◌^◌, ◌/◌, ◌≤◌, Bool, List, sym, ap, subst, arith}
+use Rattle.std.proofs.Common.{◌≡◌, ℕ, ◌+◌, ◌-◌, ◌^◌, ◌/◌, ◌≤◌, Bool, ap, subst, arith}
 use Rattle.std.specs.Slice.Scan.{IsFirstPlace}
 use Rattle.typed_path.specs.scan.Masks.{IsMask, stands_at}
 use Rattle.typed_path.proofs.lemmas.scan.MaskLemmas.{mask-behind, mask-alike, block-none, block-first}
