@@ -21,5 +21,5 @@ pub use piece::{Piece, PieceKind, Step, StepKind};
 pub use prefix::{Found, WindowsPrefix, after_mark, drive, find_prefix};
 pub use separators::Separators;
 pub use shared::bodies_behind_shared;
-pub use step::step_of;
+pub use step::{is_dots, step_of};
 pub use valid::has_valid_names;

@@ -2,6 +2,7 @@
 -- JoinLemmas: the components of a text with more put behind a separator at its end
 -- EndedLemmas: a base of Windows with a separator put behind it, where it needs one
 -- PlainNames: what a push onto a text that it spells anew makes of a plain name
+-- NameFaults: a name that is allowed, as a path that is pushed
 -- SpellLemmas: a list as it is read behind a prefix of Windows, spelled and read again
 -- SpelledTexts: what stands behind the prefix of a text of Windows that is spelled as it is read
 -- SpelledRows: texts of Windows that hold components with `\` between them, as they are read
@@ -27,6 +28,7 @@
 pub mod JoinLemmas
 pub mod EndedLemmas
 pub mod PlainNames
+pub mod NameFaults
 pub mod SpellLemmas
 pub mod SpelledTexts
 pub mod SpelledRows

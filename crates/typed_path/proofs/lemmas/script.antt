@@ -2,8 +2,10 @@
 -- LineLemmas: lines of an input that comes in pieces
 -- FieldLemmas: fields in a row, and the fields that show components
 -- CommandLemmas: lines that begin with a command and its tab, and those that do not
+-- EndLemmas: replies whose text is put together at their end
 -- StreamLemmas: bytes that were read and written, step after step
 pub mod LineLemmas
 pub mod FieldLemmas
 pub mod CommandLemmas
+pub mod EndLemmas
 pub mod StreamLemmas

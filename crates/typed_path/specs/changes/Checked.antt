@@ -1,11 +1,11 @@
 -- What a checked call was refused for.
-use Rattle.std.specs.Prelude.{◌≡◌, ℕ, List, Bool, true, not, ◌&&◌, Result, Ok, Err, Option, Some, None}
+use Rattle.std.specs.Prelude.{◌≡◌, ◌==◌, ℕ, List, Bool, true, not, ◌&&◌, ◌||◌, slice_index, Result, Ok, Err, Option, Some, None}
 use Rattle.std.specs.List.{All}
 use Rattle.typed_path.specs.declared.scan.separators.Separators.{Separators}
 use Rattle.typed_path.specs.declared.errors.CheckedPathError.{CheckedPathError}
 use Rattle.typed_path.specs.declared.errors.PathError.{PathError}
 use Rattle.typed_path.specs.declared.errors.PathError.TheVariants.{Checked, OutOfMemory}
-use Rattle.typed_path.specs.components.Dialect.{dialect_of, is_separator}
+use Rattle.typed_path.specs.components.Dialect.{colon, question, dialect_of, is_separator}
 use Rattle.typed_path.specs.queries.Queries.{is_disallowed}
 
 -- the refusal of a path; none where the call succeeds, and where memory is refused
@@ -22,6 +22,14 @@ error_of (Err e) = Some e
 -- a byte that no name may have, and that is no separator
 abbrev pub is_stray : Separators → ℕ → Bool
 is_stray s b = is_disallowed (dialect_of s) b && not (is_separator s b)
+
+-- a byte that no name of Windows may have, and that separates in no text
+abbrev pub is_forbidden : ℕ → Bool
+is_forbidden b = b == colon || b == question || b == 42 || b == 34 || b == 62 || b == 60 || b == 124 || b == 0
+
+-- whether such a byte stands at a place of a text
+abbrev pub forbidden_at : List ℕ → ℕ → Bool
+forbidden_at text k = is_forbidden (slice_index text k)
 
 -- each byte of a text that no name may have is a separator
 abbrev pub SeparatesDisallowed : Separators → List ℕ → Type 0

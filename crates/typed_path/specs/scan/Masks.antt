@@ -1,7 +1,7 @@
 -- What the bits of a mask say of the places of a text, and the first and the last place of one of two bytes within a range.
-use Rattle.std.specs.Prelude.{◌≡◌, ◌≤◌, ◌<◌, ◌==◌, ◌||◌, ℕ, Bool, List, slice_index, if◌then◌else◌}
+use Rattle.std.specs.Prelude.{◌≡◌, ◌≤◌, ◌<◌, ◌==◌, ◌||◌, ℕ, Bool, List, slice_index, if◌then◌else◌, MatchBool}
 use Rattle.std.specs.Int.{bit_at}
-use Rattle.std.specs.Slice.Scan.{IsFirstPlace, IsLastPlace}
+use Rattle.std.specs.Slice.Scan.{HoldsNowhere, HoldsSomewhere, IsFirstPlace, IsLastPlace}
 
 -- of the first `n` bits of a mask, bit `k` is set exactly where `p k` is true; no other bit is set
 pub record IsMask (p : ℕ → Bool) (n mask : ℕ) : Type 0 where
@@ -23,3 +23,7 @@ IsFirstOf pair text from to place = IsFirstPlace (stands_at pair text) from to p
 -- the place behind the last such byte, or the first of the two where there is none
 abbrev pub IsBehindLastOf : ℕ × ℕ → List ℕ → ℕ → ℕ → ℕ → Type 0
 IsBehindLastOf pair text from to place = IsLastPlace (stands_at pair text) from to place
+
+-- whether a test holds at some place of a range
+abbrev pub TellsWhether : (ℕ → Bool) → ℕ → ℕ → Bool → Type 0
+TellsWhether holds from to told = MatchBool told (HoldsSomewhere holds from to) (HoldsNowhere holds from to)

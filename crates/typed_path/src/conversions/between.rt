@@ -1,19 +1,20 @@
 //! A path of one encoding written in another.
 
-ghost use Rattle.std.specs.Prelude.{◌≡◌, ◌≤◌, ◌+◌, ◌++◌, ℕ, [], ◌∷◌, map, option_map, take, drop, length, IsOk, IfOk, OnOk, OnErr, Result, Ok, Err, Some};
+ghost use Rattle.std.specs.Prelude.{◌≡◌, ◌≤◌, ◌+◌, ◌++◌, ℕ, [], ◌∷◌, map, option_map, take, drop, length, IsTrue, IsOk, IfOk, OnOk, OnErr, Result, Ok, Err, Some, None};
 ghost use Rattle.std.specs.Option.{option_to_list};
 ghost use Rattle.std.specs.Vec.{vec_capacity};
 ghost use Rattle.typed_path.specs.declared.errors.CheckedPathError.{CheckedPathError};
 ghost use Rattle.typed_path.specs.components.Comps.{parts_of};
-ghost use Rattle.typed_path.specs.conversions.Convert.{same_dialect, converted, FitsConverted, crossed, crossed_all, passes, crossing_fault, push_checked_each};
+ghost use Rattle.typed_path.specs.conversions.Convert.{same_dialect, converted, converted_checked, FitsConverted, crossed, crossed_all, passes, crossing_fault, push_checked_each};
 ghost use Rattle.typed_path.specs.changes.Checked.{refusal, error_of};
+ghost use Rattle.typed_path.specs.changes.Fault.{fault};
 ghost use Rattle.typed_path.specs.changes.Run.{FitsEach};
 ghost use Rattle.typed_path.specs.changes.Spelled.{IsKnown};
 ghost use Rattle.typed_path.specs.views.PieceViews.{part_of};
 
 use crate::common::{Encoding, Path, PathBuf, cut_back};
 use crate::errors::{CheckedPathError, PathError};
-use crate::scan::{Piece, PieceKind};
+use crate::scan::{Piece, PieceKind, is_dots};
 use std::alloc::{AllocError, Global};
 
 impl<'a, T: Encoding> Path<'a, T> {
@@ -53,7 +54,7 @@ impl<'a, T: Encoding> Path<'a, T> {
     {
         let path = self.as_bytes();
         let mut text = Vec::with_capacity(alloc, path.len() + 1)?;
-        convert_checked::<T, U>(&mut text, path)?;
+        convert_checked::<T, U>(&mut text, 0, path)?;
         Ok(PathBuf::from_vec(text))
     }
 }
@@ -135,77 +136,101 @@ fn put_prefix<U: Encoding>(
     }
 }
 
-/// Pushes the components of a path onto one of another encoding by checked pushes, and ends at the
-/// first that is refused.
+/// Pushes the components of a path onto the empty path at the end of a text, as they are written in
+/// another encoding, by checked pushes, and ends at the first that is refused.
 pub fn convert_checked<T: Encoding, U: Encoding>(
     text: &mut Vec<u8>,
+    start: usize,
     path: &[u8],
 ) -> Result<(), PathError>
-    ensures ok { OnOk result (push_checked_each U.dialect (Ok text.old.items)
-        (parts_of T.dialect path.now) ≡ Ok text.new.items) }
+    requires { length text.old.items ≡ start }
+    ensures ok { OnOk result
+        (converted_checked T.dialect U.dialect path.now ≡ Ok (drop start text.new.items)) }
     ensures refused { (e : CheckedPathError) → refusal result ≡ Some e
-        → push_checked_each U.dialect (Ok text.old.items) (parts_of T.dialect path.now) ≡ Err e }
+        → converted_checked T.dialect U.dialect path.now ≡ Err e }
+    ensures kept { take start text.new.items ≡ take start text.old.items }
+    ensures long { start ≤ length text.new.items }
 {
     let cursor = T::cursor(path);
-    let mut known = push_prefix_checked::<U>(text, cursor.prefix_piece())?;
+    let mut known = push_prefix_checked::<U>(text, start, cursor.prefix_piece())?;
     let mut body = cursor.body();
     'steps: while let Some(step) = body.front() {
-        known = push_piece_checked::<U>(text, step.piece(), known)?;
+        known = push_piece_checked::<U>(text, start, step.piece(), known)?;
     }
     Ok(())
 }
 
-/// Pushes the prefix of a path, where it has one, onto a path of another encoding by a checked push,
-/// and answers what is known of what stands there then.
+/// Pushes the prefix of a path, where it has one, onto the path at the end of a text, which is one of
+/// another encoding, by a checked push, and answers what is known of what stands there then.
 #[inline(always)]
 fn push_prefix_checked<U: Encoding>(
     text: &mut Vec<u8>,
+    start: usize,
     prefix: Option<Piece<'_>>,
 ) -> Result<Option<usize>, PathError>
-    ensures ok { OnOk result (push_checked_each U.dialect (Ok text.old.items)
-        (option_to_list (option_map part_of prefix.entry)) ≡ Ok text.new.items) }
+    requires { start ≤ length text.old.items }
+    ensures ok { OnOk result (push_checked_each U.dialect (Ok (drop start text.old.items))
+        (option_to_list (option_map part_of prefix.entry)) ≡ Ok (drop start text.new.items)) }
     ensures refused { (e : CheckedPathError) → refusal result ≡ Some e
-        → push_checked_each U.dialect (Ok text.old.items)
+        → push_checked_each U.dialect (Ok (drop start text.old.items))
         (option_to_list (option_map part_of prefix.entry)) ≡ Err e }
-    ensures known { IfOk result (λ next. IsKnown U.dialect next text.new.items) }
+    ensures known { IfOk result (λ next. IsKnown U.dialect next (drop start text.new.items)) }
+    ensures kept { take start text.new.items ≡ take start text.old.items }
+    ensures long { start ≤ length text.new.items }
 {
     match prefix {
-        Some(piece) => push_piece_checked::<U>(text, piece, None),
+        Some(piece) => push_piece_checked::<U>(text, start, piece, None),
         None => Ok(None),
     }
 }
 
-/// Pushes a component onto a path of another encoding, of which something may be known, by a checked
-/// push, and answers what is known of what stands there then.
+/// Pushes a component onto the path at the end of a text, which is one of another encoding, and of
+/// which something may be known, by a checked push, and answers what is known of what stands there
+/// then.
 #[inline(always)]
 fn push_piece_checked<U: Encoding>(
     text: &mut Vec<u8>,
+    start: usize,
     piece: Piece<'_>,
     known: Option<usize>,
 ) -> Result<Option<usize>, PathError>
-    ensures ok { IsKnown U.dialect known text.old.items → OnOk result
-        (push_checked_each U.dialect (Ok text.old.items) (part_of piece.entry ∷ [])
-        ≡ Ok text.new.items) }
+    requires { start ≤ length text.old.items }
+    ensures ok { IsKnown U.dialect known (drop start text.old.items) → OnOk result
+        (push_checked_each U.dialect (Ok (drop start text.old.items)) (part_of piece.entry ∷ [])
+        ≡ Ok (drop start text.new.items)) }
     ensures refused { (e : CheckedPathError) → refusal result ≡ Some e
-        → push_checked_each U.dialect (Ok text.old.items) (part_of piece.entry ∷ []) ≡ Err e }
-    ensures known { IsKnown U.dialect known text.old.items
-        → IfOk result (λ next. IsKnown U.dialect next text.new.items) }
+        → push_checked_each U.dialect (Ok (drop start text.old.items))
+        (part_of piece.entry ∷ []) ≡ Err e }
+    ensures known { IsKnown U.dialect known (drop start text.old.items)
+        → IfOk result (λ next. IsKnown U.dialect next (drop start text.new.items)) }
+    ensures kept { IsKnown U.dialect known (drop start text.old.items)
+        → take start text.new.items ≡ take start text.old.items }
+    ensures long { IsKnown U.dialect known (drop start text.old.items)
+        → start ≤ length text.new.items }
 {
     judge::<U>(piece)?;
-    Ok(U::push_next(text, 0, piece.crossed(U::root_text()), known)?)
+    Ok(U::push_next(text, start, piece.crossed(U::root_text()), known)?)
 }
 
 /// Judges a component that is to be pushed onto a path of another encoding. A root, `.` or `..` is
-/// never refused.
+/// never refused, and most others are names that the encoding allows, which need no reading.
 #[inline(always)]
 fn judge<U: Encoding>(piece: Piece<'_>) -> Result<(), CheckedPathError>
     ensures { error_of result ≡ crossing_fault U.dialect (part_of piece.entry) }
 {
-    if passes(piece) {
+    if passes(piece) || is_name::<U>(piece.text) {
         Ok(())
     } else {
         U::check(piece.text)
     }
+}
+
+/// Whether a text is a name that an encoding allows, and neither empty, `.` nor `..`.
+#[inline(always)]
+fn is_name<U: Encoding>(text: &[u8]) -> bool
+    ensures { IsTrue result → fault U.dialect text.now ≡ None }
+{
+    !is_dots(text) && U::valid(text)
 }
 
 /// Whether a component is never refused: a root, and every prefix that becomes one, `.` or `..`.

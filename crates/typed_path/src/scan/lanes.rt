@@ -1,9 +1,13 @@
-//! Bytes found by blocks of 32, of 16 and of 8. What is looked for is a pair, which is one byte twice
-//! where no other is: so one and two are looked for in the same way.
+//! Bytes found by blocks of 32, of 16, of 8 and of 4. What is looked for is a pair, which is one byte twice
+//! where no other is: so one and two are looked for in the same way. Of the bytes that no name of
+//! Windows may have, it is only told whether a text has one.
 
-ghost use Rattle.std.specs.Prelude.{◌≡◌, ◌≢◌, ◌≤◌, ◌<◌, ◌+◌, ◌==◌, ℕ, length, slice_index};
+ghost use Rattle.std.specs.Prelude.{◌≡◌, ◌≢◌, ◌≤◌, ◌<◌, ◌+◌, ◌^◌, ◌==◌, ℕ, Bool, length, slice_index};
 ghost use Rattle.std.specs.Int.{bit_at};
-ghost use Rattle.typed_path.specs.scan.Masks.{IsMask, is_one_of, stands_at, IsFirstOf, IsBehindLastOf};
+ghost use Rattle.std.specs.List.{list_any};
+ghost use Rattle.std.specs.Slice.Scan.{IsFirstPlace};
+ghost use Rattle.typed_path.specs.changes.Checked.{is_forbidden, forbidden_at};
+ghost use Rattle.typed_path.specs.scan.Masks.{IsMask, TellsWhether, is_one_of, stands_at, IsFirstOf, IsBehindLastOf};
 
 use std::simd::prelude::*;
 
@@ -88,6 +92,20 @@ fn last_by_one(text: &[u8], from: usize, to: usize, pair: (u8, u8)) -> usize
     at
 }
 
+/// The place of the first mark of a block, or the end of the block where there is none.
+#[inline(always)]
+fn first_marked<const N: usize>(marks: u64, at: usize) -> usize
+    requires in_range { at + N < 2 ^ 64 }
+    requires beyond { (k : ℕ) → N ≤ k → bit_at marks k ≡ 0 }
+    ensures { (holds : ℕ → Bool) → IsMask (λ k. holds (at + k)) N marks
+        → IsFirstPlace holds at (at + N) result }
+{
+    if marks == 0 {
+        return at + N;
+    }
+    at + lowest(marks)
+}
+
 /// The place of the first byte of a pair in a block, or its end where there is none.
 #[inline(always)]
 fn first_in_block<const N: usize>(text: &[u8], at: usize, pair: (u8, u8)) -> usize
@@ -95,11 +113,7 @@ fn first_in_block<const N: usize>(text: &[u8], at: usize, pair: (u8, u8)) -> usi
     requires in_range { at + N ≤ length text.now }
     ensures { IsFirstOf pair text.now at (at + N) result }
 {
-    let marks = marks_at::<N>(text, at, pair);
-    if marks == 0 {
-        return at + N;
-    }
-    at + lowest(marks)
+    first_marked::<N>(marks_at::<N>(text, at, pair), at)
 }
 
 /// The place behind the last byte of a pair in a block, or its beginning where there is none.
@@ -180,6 +194,9 @@ pub fn first_between(text: &[u8], from: usize, to: usize, pair: (u8, u8)) -> usi
     if 8 <= to {
         return first_by_blocks::<8>(text, at, to, pair);
     }
+    if 4 <= to {
+        return first_by_blocks::<4>(text, at, to, pair);
+    }
     first_by_one(text, at, to, pair)
 }
 
@@ -224,4 +241,91 @@ pub fn last_between(text: &[u8], from: usize, to: usize, pair: (u8, u8)) -> usiz
         return found;
     }
     last_by_block::<8>(text, from, at - 16, pair)
+}
+
+/// Which bytes of a block are those that no name of Windows may have, and that separate in no text.
+#[inline(always)]
+fn forbidden_at<const N: usize>(text: &[u8], at: usize) -> u64
+    requires lanes { (0 < N) × (N ≤ 64) }
+    requires in_range { at + N ≤ length text.now }
+    ensures { IsMask (λ k. forbidden_at text.now (at + k)) N result }
+{
+    marks_at::<N>(text, at, (b':', b'?'))
+        | marks_at::<N>(text, at, (b'*', b'"'))
+        | marks_at::<N>(text, at, (b'>', b'<'))
+        | marks_at::<N>(text, at, (b'|', b'\0'))
+}
+
+/// Whether a block has such a byte.
+#[inline(always)]
+fn is_forbidden_in_block<const N: usize>(text: &[u8], at: usize) -> bool
+    requires lanes { (0 < N) × (N ≤ 64) }
+    requires in_range { at + N ≤ length text.now }
+    ensures { TellsWhether (forbidden_at text.now) at (at + N) result }
+{
+    first_marked::<N>(forbidden_at::<N>(text, at), at) < at + N
+}
+
+/// Whether such a byte stands in a text of N bytes to 2 N, by its first and its last block.
+#[inline(always)]
+fn has_forbidden_in_two<const N: usize>(text: &[u8]) -> bool
+    requires lanes { (0 < N) × (N ≤ 64) }
+    requires size { (N ≤ length text.now) × (length text.now ≤ N + N) }
+    ensures { result ≡ list_any is_forbidden text.now }
+{
+    is_forbidden_in_block::<N>(text, 0) || is_forbidden_in_block::<N>(text, text.len() - N)
+}
+
+/// Whether such a byte stands in a text, byte by byte.
+#[inline(always)]
+fn has_forbidden_by_one(text: &[u8]) -> bool
+    ensures { result ≡ list_any is_forbidden text.now }
+{
+    let mut forbidden = false;
+    'bytes: for byte in text {
+        forbidden |= is_forbidden(*byte);
+    }
+    forbidden
+}
+
+/// Whether the byte is one that no name of Windows may have, and that separates in no text.
+#[inline(always)]
+fn is_forbidden(byte: u8) -> bool
+    ensures { result ≡ is_forbidden byte }
+{
+    (byte == b':')
+        | (byte == b'?')
+        | (byte == b'*')
+        | (byte == b'"')
+        | (byte == b'>')
+        | (byte == b'<')
+        | (byte == b'|')
+        | (byte == 0)
+}
+
+/// Whether a text has a byte that no name of Windows may have, and that separates in no text.
+pub fn has_forbidden(text: &[u8]) -> bool
+    ensures { result ≡ list_any is_forbidden text.now }
+{
+    let len = text.len();
+    let mut at = 0;
+    while 32 <= len - at {
+        if is_forbidden_in_block::<32>(text, at) {
+            return true;
+        }
+        at += 32;
+    }
+    if 32 <= len {
+        return is_forbidden_in_block::<32>(text, len - 32);
+    }
+    if 16 <= len {
+        return has_forbidden_in_two::<16>(text);
+    }
+    if 8 <= len {
+        return has_forbidden_in_two::<8>(text);
+    }
+    if 4 <= len {
+        return has_forbidden_in_two::<4>(text);
+    }
+    has_forbidden_by_one(text)
 }

@@ -1,18 +1,17 @@
 //! Which bytes separate the components of a text.
 
-ghost use Rattle.std.specs.Prelude.{◌≡◌, ◌≤◌, ◌-◌, ◌==◌, ◌||◌, ℕ, length, slice_range, IsTrue};
+ghost use Rattle.std.specs.Prelude.{◌≡◌, ◌≤◌, ◌-◌, ◌==◌, ◌||◌, ℕ, not, length, slice_range, IsTrue};
 ghost use Rattle.typed_path.specs.scan.Masks.{is_one_of};
 ghost use Rattle.std.specs.List.{position_or_len, list_any, before_first, IsAfterLastMatch};
 ghost use Rattle.std.specs.Str.{str_eq_ignore_ascii_case};
 ghost use Rattle.typed_path.specs.components.Dialect.{windows, separators, is_separator, is_verbatim, root_text, dialect_of};
-ghost use Rattle.typed_path.specs.queries.Queries.{is_disallowed, has_allowed_bytes, is_reserved, is_valid_name};
+ghost use Rattle.typed_path.specs.queries.Queries.{has_allowed_bytes, is_reserved, is_valid_name};
 ghost use Rattle.typed_path.specs.queries.Names.{is_a_dot};
 ghost use Rattle.typed_path.specs.changes.Checked.{SeparatesDisallowed, is_stray};
 ghost use Rattle.typed_path.specs.changes.Reserved.{begins_device, may_be_reserved};
 
-use crate::constants::unix;
 use crate::constants::windows::RESERVED_DEVICE_NAMES;
-use crate::scan::lanes::{first_between, is_one_of, last_between};
+use crate::scan::lanes::{first_between, has_forbidden, is_one_of, last_between};
 use memchr::memchr;
 
 /// The separators of one text, and with them the way in which it is read.
@@ -92,18 +91,8 @@ impl Separators {
         }
     }
 
-    /// Whether no name of such a text may have the byte.
-    #[inline(always)]
-    fn is_disallowed(self, byte: u8) -> bool
-        ensures { result ≡ is_disallowed (dialect_of self) byte }
-    {
-        match self {
-            Separators::Slash => unix::DISALLOWED_FILENAME_BYTES.contains(&byte),
-            Separators::Backslash | Separators::Either => is_disallowed_on_windows(byte),
-        }
-    }
-
     /// Whether a name of such a text is allowed: by its bytes, and as it stands for no device.
+    #[inline]
     pub fn is_valid_name(self, name: &[u8]) -> bool
         ensures { result ≡ is_valid_name (dialect_of self) name.now }
     {
@@ -111,10 +100,14 @@ impl Separators {
     }
 
     /// Whether a name of such a text has no byte that no name may have.
+    #[inline(always)]
     pub fn has_allowed_bytes(self, name: &[u8]) -> bool
         ensures { result ≡ has_allowed_bytes (dialect_of self) name.now }
     {
-        !name.iter().any(|byte| self.is_disallowed(*byte))
+        match self {
+            Separators::Slash => is_free_of((b'/', b'\0'), name),
+            Separators::Backslash | Separators::Either => has_allowed_bytes_on_windows(name),
+        }
     }
 
     /// Whether a name of such a text stands for a device.
@@ -145,27 +138,9 @@ impl Separators {
     {
         match self {
             Separators::Slash => memchr(b'\0', bytes).is_some(),
-            Separators::Backslash | Separators::Either => self.has_stray_by_one(bytes),
+            Separators::Backslash => has_stray_in_verbatim(bytes),
+            Separators::Either => has_forbidden(bytes),
         }
-    }
-
-    /// The same, byte by byte. It has no branch by the byte, so that many are looked at at once.
-    fn has_stray_by_one(self, bytes: &[u8]) -> bool
-        ensures { result ≡ list_any (is_stray self) bytes.now }
-    {
-        let mut stray = false;
-        'bytes: for byte in bytes {
-            stray |= self.is_stray(*byte);
-        }
-        stray
-    }
-
-    /// Whether no name of such a text may have the byte, and it is no separator.
-    #[inline(always)]
-    fn is_stray(self, byte: u8) -> bool
-        ensures { result ≡ is_stray self byte }
-    {
-        self.is_disallowed(byte) & !self.contains(byte)
     }
 
     /// The place of the first separator, or the length where there is none.
@@ -200,21 +175,28 @@ impl Separators {
     }
 }
 
-/// Whether no name of Windows may have the byte.
+/// Whether a text has neither byte of a pair.
 #[inline(always)]
-fn is_disallowed_on_windows(byte: u8) -> bool
-    ensures { result ≡ is_disallowed windows byte }
+fn is_free_of(pair: (u8, u8), text: &[u8]) -> bool
+    ensures { result ≡ not (list_any (is_one_of pair) text.now) }
 {
-    (byte == b'\\')
-        | (byte == b'/')
-        | (byte == b':')
-        | (byte == b'?')
-        | (byte == b'*')
-        | (byte == b'"')
-        | (byte == b'>')
-        | (byte == b'<')
-        | (byte == b'|')
-        | (byte == 0)
+    first_between(text, 0, text.len(), pair) == text.len()
+}
+
+/// Whether a name of Windows has no byte that no name may have.
+#[inline(always)]
+fn has_allowed_bytes_on_windows(name: &[u8]) -> bool
+    ensures { result ≡ has_allowed_bytes windows name.now }
+{
+    is_free_of((b'/', b'\\'), name) && !has_forbidden(name)
+}
+
+/// Whether a text that is read verbatim has a byte that no name may have and that is no separator.
+#[inline(always)]
+fn has_stray_in_verbatim(bytes: &[u8]) -> bool
+    ensures { result ≡ list_any (is_stray Separators.Backslash) bytes.now }
+{
+    has_forbidden(bytes) || !is_free_of((b'/', b'/'), bytes)
 }
 
 /// Whether a name may stand for a device: it begins as one does, and a dot, or its end, stands behind

@@ -1,8 +1,9 @@
 //! One component at a time, off a plain slice.
 
-ghost use Rattle.std.specs.Prelude.{◌≡◌, ◌≤◌, ◌<◌, ◌+◌, ◌++◌, ℕ, true, not, take, drop, length, IfSome, IfNone};
+ghost use Rattle.std.specs.Prelude.{◌≡◌, ◌≤◌, ◌<◌, ◌+◌, ◌++◌, ◌||◌, ℕ, true, not, take, drop, length, IfSome, IfNone};
 ghost use Rattle.std.specs.List.{position_or_len};
-ghost use Rattle.typed_path.specs.components.Comps.{component, first, later_body};
+ghost use Rattle.typed_path.specs.components.Prefix.{is_empty};
+ghost use Rattle.typed_path.specs.components.Comps.{is_dot, is_dot_dot, component, first, later_body};
 ghost use Rattle.typed_path.specs.components.Dialect.{is_separator};
 ghost use Rattle.typed_path.specs.scan.Steps.{body_from, is_clean, is_trimmed, end_from};
 ghost use Rattle.typed_path.specs.views.PieceViews.{step_part};
@@ -137,4 +138,12 @@ pub fn back_step(text: &[u8], separators: Separators) -> (Step<'_>, usize)
         return (step, 0);
     }
     (step, trim_blanks(&last[..start], separators))
+}
+
+/// Whether a name is empty, `.` or `..`.
+#[inline(always)]
+pub fn is_dots(name: &[u8]) -> bool
+    ensures { result ≡ (is_empty name.now || is_dot name.now || is_dot_dot name.now) }
+{
+    matches!(name, [] | [b'.'] | [b'.', b'.'])
 }

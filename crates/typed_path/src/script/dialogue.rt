@@ -14,8 +14,6 @@ pub struct Dialogue {
     pub line: Vec<u8>,
     /// The replies that were not taken away yet.
     pub replies: Vec<u8>,
-    /// Room in which paths are joined, used again from line to line.
-    scratch: Vec<u8>,
     ghost is_open: { split_lines line.items ≡ line.items ∷ [] },
 }
 
@@ -31,7 +29,6 @@ impl Dialogue {
         Dialogue {
             line: Vec::new(alloc),
             replies: Vec::new(alloc),
-            scratch: Vec::new(alloc),
         }
     }
 
@@ -59,10 +56,10 @@ impl Dialogue {
         ensures line { OnOk result (self.new.line.items ≡ []) }
     {
         if self.line.is_empty() {
-            return put_reply(piece, &mut self.scratch, &mut self.replies);
+            return put_reply(piece, &mut self.replies);
         }
         self.line.extend_from_slice(piece)?;
-        put_reply(self.line.as_slice(), &mut self.scratch, &mut self.replies)?;
+        put_reply(self.line.as_slice(), &mut self.replies)?;
         self.line.clear();
         Ok(())
     }
@@ -75,6 +72,6 @@ impl Dialogue {
         if self.line.is_empty() {
             return Ok(());
         }
-        put_reply(self.line.as_slice(), &mut self.scratch, &mut self.replies)
+        put_reply(self.line.as_slice(), &mut self.replies)
     }
 }

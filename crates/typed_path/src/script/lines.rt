@@ -59,23 +59,17 @@ fn command_of(line: &[u8]) -> Option<(Command, &[u8])>
 }
 
 /// Puts the reply to a line behind others.
-///
-/// The scratch is room that is used again from line to line; what stands in it is lost.
-pub fn put_reply(
-    line: &[u8],
-    scratch: &mut Vec<u8>,
-    replies: &mut Vec<u8>,
-) -> Result<(), AllocError>
+pub fn put_reply(line: &[u8], replies: &mut Vec<u8>) -> Result<(), AllocError>
     ensures { OnOk result (replies.new.items ≡ replies.old.items ++ reply line.now) }
 {
     let Some((command, rest)) = command_of(line) else {
         return put_bare_reply(line, replies);
     };
     if let Some(texts) = text_behind(b"unix\t", rest) {
-        return put_command::<UnixEncoding>(command, texts, scratch, replies);
+        return put_command::<UnixEncoding>(command, texts, replies);
     }
     if let Some(texts) = text_behind(b"windows\t", rest) {
-        return put_command::<WindowsEncoding>(command, texts, scratch, replies);
+        return put_command::<WindowsEncoding>(command, texts, replies);
     }
     put_bad_line(replies)
 }
@@ -109,7 +103,6 @@ fn put_derived(path: &[u8], replies: &mut Vec<u8>) -> Result<(), AllocError>
 fn put_command<T: Encoding>(
     command: Command,
     texts: &[u8],
-    scratch: &mut Vec<u8>,
     replies: &mut Vec<u8>,
 ) -> Result<(), AllocError>
     ensures { OnOk result (replies.new.items ≡ replies.old.items
@@ -119,7 +112,7 @@ fn put_command<T: Encoding>(
         return put_path_reply::<T>(command, texts, replies);
     };
     match cut_at(b'\t', path) {
-        None => put_pair_reply::<T>(command, first, path, scratch, replies),
+        None => put_pair_reply::<T>(command, first, path, replies),
         Some(_) => put_bad_line(replies),
     }
 }
@@ -153,20 +146,19 @@ fn put_pair_reply<T: Encoding>(
     command: Command,
     first: &[u8],
     path: &[u8],
-    scratch: &mut Vec<u8>,
     replies: &mut Vec<u8>,
 ) -> Result<(), AllocError>
     ensures { OnOk result (replies.new.items ≡ replies.old.items
         ++ reply_line (pair_reply_in T.dialect (command_name command) first.now path.now)) }
 {
     match command {
-        Command::Join => put_joined::<T>(first, path, scratch, replies),
+        Command::Join => put_joined::<T>(first, path, replies),
         Command::JoinChecked => match T::check(path) {
-            Ok(()) => put_joined::<T>(first, path, scratch, replies),
+            Ok(()) => put_joined::<T>(first, path, replies),
             Err(refusal) => put_refusal(refusal, replies),
         },
         Command::Convert | Command::ConvertChecked => {
-            put_convert_reply::<T>(command, first, path, scratch, replies)
+            put_convert_reply::<T>(command, first, path, replies)
         }
         Command::Normalize | Command::Components => put_bad_line(replies),
     }
@@ -177,17 +169,16 @@ fn put_convert_reply<T: Encoding>(
     command: Command,
     target: &[u8],
     path: &[u8],
-    scratch: &mut Vec<u8>,
     replies: &mut Vec<u8>,
 ) -> Result<(), AllocError>
     ensures { OnOk result (replies.new.items ≡ replies.old.items ++ reply_line (in_named
         (convert_reply_in T.dialect (command_name command) path.now) (dialect_named target.now))) }
 {
     if target == b"unix".as_slice() {
-        return put_conversion::<T, UnixEncoding>(command, path, scratch, replies);
+        return put_conversion::<T, UnixEncoding>(command, path, replies);
     }
     if target == b"windows".as_slice() {
-        return put_conversion::<T, WindowsEncoding>(command, path, scratch, replies);
+        return put_conversion::<T, WindowsEncoding>(command, path, replies);
     }
     put_bad_line(replies)
 }
@@ -196,7 +187,6 @@ fn put_convert_reply<T: Encoding>(
 fn put_conversion<T: Encoding, U: Encoding>(
     command: Command,
     path: &[u8],
-    scratch: &mut Vec<u8>,
     replies: &mut Vec<u8>,
 ) -> Result<(), AllocError>
     ensures { OnOk result (replies.new.items ≡ replies.old.items
@@ -204,7 +194,7 @@ fn put_conversion<T: Encoding, U: Encoding>(
 {
     match command {
         Command::Convert => put_converted_text::<T, U>(path, replies),
-        Command::ConvertChecked => put_converted_checked::<T, U>(path, scratch, replies),
+        Command::ConvertChecked => put_converted_checked::<T, U>(path, replies),
         Command::Normalize | Command::Components | Command::Join | Command::JoinChecked => {
             put_bad_line(replies)
         }
@@ -225,46 +215,43 @@ fn put_converted_text<T: Encoding, U: Encoding>(
     Ok(())
 }
 
-/// Puts the reply that is a path in another encoding, or the name of its refusal, behind others. It
-/// is put together in the scratch.
+/// Puts the reply that is a path in another encoding, or the name of its refusal, behind others.
 fn put_converted_checked<T: Encoding, U: Encoding>(
     path: &[u8],
-    scratch: &mut Vec<u8>,
     replies: &mut Vec<u8>,
 ) -> Result<(), AllocError>
     ensures { OnOk result (replies.new.items ≡ replies.old.items
         ++ reply_line (converted_reply (converted_checked T.dialect U.dialect path.now))) }
 {
-    scratch.clear();
-    match convert_checked::<T, U>(scratch, path) {
-        Ok(()) => put_text(scratch.as_slice(), replies),
-        Err(PathError::Checked(refusal)) => put_refusal(refusal, replies),
+    let len = replies.len();
+    replies.extend_from_slice(b"ok\t")?;
+    let start = replies.len();
+    match convert_checked::<T, U>(replies, start, path) {
+        Ok(()) => {
+            replies.push(b'\n')?;
+            Ok(())
+        }
+        Err(PathError::Checked(refusal)) => {
+            replies.truncate(len);
+            put_refusal(refusal, replies)
+        }
         Err(PathError::OutOfMemory) => Err(AllocError),
     }
 }
 
-/// Puts the reply that is a path pushed onto a base behind others. They are joined in the scratch.
+/// Puts the reply that is a path pushed onto a base behind others.
 fn put_joined<T: Encoding>(
     base: &[u8],
     path: &[u8],
-    scratch: &mut Vec<u8>,
     replies: &mut Vec<u8>,
 ) -> Result<(), AllocError>
     ensures { OnOk result
         (replies.new.items ≡ replies.old.items ++ text_reply (push T.dialect base.now path.now)) }
 {
-    scratch.clear();
-    scratch.extend_from_slice(base)?;
-    T::push(scratch, path)?;
-    put_text(scratch.as_slice(), replies)
-}
-
-/// Puts the reply that is a text behind others.
-fn put_text(text: &[u8], replies: &mut Vec<u8>) -> Result<(), AllocError>
-    ensures { OnOk result (replies.new.items ≡ replies.old.items ++ text_reply text.now) }
-{
     replies.extend_from_slice(b"ok\t")?;
-    replies.extend_from_slice(text)?;
+    let start = replies.len();
+    replies.extend_from_slice(base)?;
+    T::push_next(replies, start, path, None)?;
     replies.push(b'\n')?;
     Ok(())
 }

@@ -9,7 +9,7 @@ ghost use Rattle.typed_path.specs.queries.Queries.{is_verbatim_prefix};
 ghost use Rattle.typed_path.specs.components.Comps.{is_dot, is_dot_dot};
 ghost use Rattle.typed_path.specs.changes.Spelled.{is_plain, is_component, is_row, TellsSpelled, IsSpelledHead};
 
-use crate::scan::{Separators, cut_at_separator, drive, find_prefix};
+use crate::scan::{Separators, cut_at_separator, drive, find_prefix, is_dots};
 
 /// Whether a push puts the name as it stands behind a text that it spells as that stands.
 pub fn is_plain(name: &[u8]) -> bool
@@ -24,14 +24,6 @@ pub fn is_separated(separators: Separators, text: &[u8]) -> bool
     ensures { result ≡ list_any (is_separator separators) text.now }
 {
     separators.first_in(text) != text.len()
-}
-
-/// Whether a name is empty, `.` or `..`.
-#[inline(always)]
-pub fn is_dots(name: &[u8]) -> bool
-    ensures { result ≡ (is_empty name.now || is_dot name.now || is_dot_dot name.now) }
-{
-    matches!(name, [] | [b'.'] | [b'.', b'.'])
 }
 
 /// How many bytes the prefix takes of a text that a push spells anew as it stands, in one pass over

@@ -13,9 +13,9 @@ ghost use Rattle.typed_path.specs.views.CursorViews.{items_left};
 ghost use Rattle.typed_path.specs.views.PieceViews.{part_of};
 
 use crate::common::put_over;
-use crate::scan::{Cursor, Piece, PieceKind, Separators};
+use crate::scan::{Cursor, Piece, PieceKind, Separators, is_dots};
 use crate::windows::push::prefix_len;
-use crate::windows::spelled::{is_dots, spelled_head};
+use crate::windows::spelled::spelled_head;
 use std::alloc::{AllocError, Global};
 
 /// Puts a component behind those that stand behind a prefix: `\` and the component, or the component

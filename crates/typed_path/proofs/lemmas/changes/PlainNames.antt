@@ -31,7 +31,7 @@ five_fail false false false false false h = (refl, refl, refl, refl, refl)
 five_fail a b c d e h = cc
 
 -- no byte passes a test that none of a list passes
-each_fails : (p : ℕ → Bool) (bs : List ℕ) → list_any p bs ≡ false → All (λ b. p b ≡ false) bs
+pub each_fails : (p : ℕ → Bool) (bs : List ℕ) → list_any p bs ≡ false → All (λ b. p b ≡ false) bs
 each_fails p [] none = All-nil _
 each_fails p (b ∷ bs) none = let both = or_parts (p b) (list_any p bs) none in All-cons (λ c. p c ≡ false) b bs both.0 (each_fails p bs both.1)
 

@@ -1,4 +1,5 @@
-use Rattle.std.proofs.Common.{ap, sym, refl, ◌∙◌, Some, None, ◌∷◌, []}
+use Rattle.std.proofs.Common.{◌≡◌, List, ℕ, ap, sym, refl, ◌∙◌, Some, None, ◌∷◌, [], length, drop, arith}
+use Rattle.std.proofs.lemmas.List.{drop_all}
 use Rattle.std.specs.Prelude.{option_map, Ok}
 use Rattle.std.specs.Option.{option_to_list}
 use Rattle.typed_path.specs.components.Comps.{comps, parts_of}
@@ -12,20 +13,37 @@ use Rattle.typed_path.proofs.lemmas.changes.ConvertLemmas.{pushed-first, refused
 use Rattle.typed_path.proofs.lemmas.scan.YieldLemmas.{parts-prefixed, yields_first, fewer}
 use Rattle.typed_path.proofs.conversions.between.convert_checked.Goals as goal
 
+-- at the end of a text stands the empty path
+empty : (start : ℕ) (text : List ℕ) → length text ≡ start → drop start text ≡ []
+empty start text e = drop_all start text (omega (arith, e))
+
+pub push_piece_checked-requires : goal.push_piece_checked-requires
+push_piece_checked-requires g c = c.steps.invariant.long
+
+pub returns-in_err-known-2-clause-kept : goal.returns-in_err-known-2-clause-kept
+returns-in_err-known-2-clause-kept g c = c.in_err-known-2.ensures.kept c.steps.invariant.known ∙ c.steps.invariant.kept
+
+pub returns-in_err-known-2-clause-long : goal.returns-in_err-known-2-clause-long
+returns-in_err-known-2-clause-long g c = c.in_err-known-2.ensures.long c.steps.invariant.known
+
 pub returns-in_err-known-clause-refused : goal.returns-in_err-known-clause-refused
 returns-in_err-known-clause-refused g c =
     let e = g.U.Encoding.dialect in
     let split = parts-prefixed (comps g.T.Encoding.dialect c.args.path.now) (items_left c.cursor-cursor.result) (behind_prefix (items_left c.cursor-cursor.result)) (option_map part_of c.prefix_piece.result) c.cursor-cursor.ensures.items c.prefix_piece.ensures refl in
     λ f told.
-    refused-whole e c.args.text.now.items (option_to_list (option_map part_of c.prefix_piece.result)) _ (parts_of g.T.Encoding.dialect c.args.path.now) split f
-    (c.in_err-known.ensures.refused f (refusal-passed c.push_prefix_checked.result c.from_residual.result _ c.from_residual.ensures.1 f told))
+    refused-whole e [] (option_to_list (option_map part_of c.prefix_piece.result)) _ (parts_of g.T.Encoding.dialect c.args.path.now) split f
+    (ap (λ t. push_checked_each e (Ok t) (option_to_list (option_map part_of c.prefix_piece.result))) (sym (empty c.args.start c.args.text.now.items c.requires))
+    ∙ c.in_err-known.ensures.refused f (refusal-passed c.push_prefix_checked.result c.from_residual.result _ c.from_residual.ensures.1 f told))
 
 pub steps-init : goal.steps-init
 steps-init g c =
     let e = g.U.Encoding.dialect in
     let split = parts-prefixed (comps g.T.Encoding.dialect c.args.path.now) (items_left c.cursor-cursor.result) (body_items c.body-body.result) (option_map part_of c.prefix_piece.result) c.cursor-cursor.ensures.items c.prefix_piece.ensures c.body-body.ensures in
     record {
-      pushed = pushed-first e c.args.text.now.items (option_to_list (option_map part_of c.prefix_piece.result)) (parts (body_items c.body-body.result)) (parts_of g.T.Encoding.dialect c.args.path.now) split c.push_prefix_checked.new.text.items c.in_ok-known.ensures.ok;
+      pushed = pushed-first e [] (option_to_list (option_map part_of c.prefix_piece.result)) (parts (body_items c.body-body.result)) (parts_of g.T.Encoding.dialect c.args.path.now) split (drop c.args.start c.push_prefix_checked.new.text.items)
+          (ap (λ t. push_checked_each e (Ok t) (option_to_list (option_map part_of c.prefix_piece.result))) (sym (empty c.args.start c.args.text.now.items c.requires)) ∙ c.in_ok-known.ensures.ok);
+      kept = c.in_ok-known.ensures.kept;
+      long = c.in_ok-known.ensures.long;
       known = c.in_ok-known.ensures.known;
     }
 
@@ -36,8 +54,8 @@ returns-in_err-known-2-clause-refused g c =
     let taken = yields_first step_part (Some c.in-Some.step) (body_items c.steps.body) (body_items c.front.new.self) c.in-Some.ensures.taken c.in-Some.ensures.items in
     λ f told.
     sym c.steps.invariant.pushed
-    ∙ refused-whole e c.steps.text.items (step_part c.in-Some.step ∷ []) _ old taken f
-    (ap (λ p. push_checked_each e (Ok c.steps.text.items) (p ∷ [])) (sym c.piece.ensures)
+    ∙ refused-whole e (drop c.args.start c.steps.text.items) (step_part c.in-Some.step ∷ []) _ old taken f
+    (ap (λ p. push_checked_each e (Ok (drop c.args.start c.steps.text.items)) (p ∷ [])) (sym c.piece.ensures)
     ∙ c.in_err-known-2.ensures.refused f (refusal-passed c.push_piece_checked.result c.from_residual-in_err-known-2.result _ c.from_residual-in_err-known-2.ensures.1 f told))
 
 pub steps-smaller : goal.steps-smaller
@@ -49,13 +67,15 @@ steps-preserved g c =
     let old = parts (body_items c.steps.body) in
     let taken = yields_first step_part (Some c.in-Some.step) (body_items c.steps.body) (body_items c.front.new.self) c.in-Some.ensures.taken c.in-Some.ensures.items in
     record {
-      pushed = pushed-first e c.steps.text.items (step_part c.in-Some.step ∷ []) (parts (body_items c.front.new.self)) old taken c.push_piece_checked.new.text.items
-          (ap (λ p. push_checked_each e (Ok c.steps.text.items) (p ∷ [])) (sym c.piece.ensures) ∙ c.in_ok-known-2.ensures.ok c.steps.invariant.known)
+      pushed = pushed-first e (drop c.args.start c.steps.text.items) (step_part c.in-Some.step ∷ []) (parts (body_items c.front.new.self)) old taken (drop c.args.start c.push_piece_checked.new.text.items)
+          (ap (λ p. push_checked_each e (Ok (drop c.args.start c.steps.text.items)) (p ∷ [])) (sym c.piece.ensures) ∙ c.in_ok-known-2.ensures.ok c.steps.invariant.known)
           ∙ c.steps.invariant.pushed;
+      kept = c.in_ok-known-2.ensures.kept c.steps.invariant.known ∙ c.steps.invariant.kept;
+      long = c.in_ok-known-2.ensures.long c.steps.invariant.known;
       known = c.in_ok-known-2.ensures.known c.steps.invariant.known;
     }
 
 pub returns-clause-ok : goal.returns-clause-ok
 returns-clause-ok g c =
     let none = (yields_first step_part None (body_items c.steps.body) (body_items c.front.new.self) c.in_default.ensures.taken c.in_default.ensures.items).0 in
-    sym c.steps.invariant.pushed ∙ pushed-all g.U.Encoding.dialect c.steps.text.items (parts (body_items c.steps.body)) none
+    sym c.steps.invariant.pushed ∙ pushed-all g.U.Encoding.dialect (drop c.args.start c.steps.text.items) (parts (body_items c.steps.body)) none

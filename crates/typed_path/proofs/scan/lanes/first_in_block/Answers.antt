@@ -1,15 +1,8 @@
 use Rattle.typed_path.specs.scan.Masks.{stands_at}
-use Rattle.typed_path.proofs.lemmas.scan.MaskLemmas.{block-none, block-first}
-use Rattle.std.proofs.Common.{arith}
 use Rattle.typed_path.proofs.scan.lanes.first_in_block.Goals as goal
 
-pub returns-then-marks-eq0 : goal.returns-then-marks-eq0
-returns-then-marks-eq0 g c = record {
-  low = omega arith;
-  high = omega arith;
-  before = block-none (stands_at c.args.pair c.args.text.now) c.args.at g.row.N _ c.marks_at-marks.ensures c.if-marks-eq0.true;
-  hit = λ l. absurd (omega arith);
-}
+pub first_marked-requires-clause-beyond : goal.first_marked-requires-clause-beyond
+first_marked-requires-clause-beyond g c = c.marks_at.ensures.beyond
 
 pub returns : goal.returns
-returns g c = (block-first (stands_at c.args.pair c.args.text.now) c.args.at g.row.N _ c.marks_at-marks.ensures _ c.lowest.ensures.set c.lowest.ensures.below).1
+returns g c = c.first_marked.ensures (stands_at c.args.pair c.args.text.now) c.marks_at.ensures

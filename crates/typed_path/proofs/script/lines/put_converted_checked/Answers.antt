@@ -1,14 +1,19 @@
-use Rattle.std.proofs.Common.{[], ap, sym, ◌∙◌}
-use Rattle.std.specs.Prelude.{Ok, Err, Some, ⊤}
+use Rattle.std.proofs.Common.{[], ◌++◌, ap, sym, subst, ◌≡◌, ◌∙◌, arith}
+use Rattle.std.specs.Prelude.{Err, Some, OnOk, ⊤}
 use Rattle.typed_path.specs.changes.Checked.{refusal}
-use Rattle.typed_path.specs.components.Comps.{parts_of}
-use Rattle.typed_path.specs.conversions.Convert.{push_checked_each}
-use Rattle.typed_path.specs.script.Lines.{joined_reply, converted_reply}
+use Rattle.typed_path.specs.script.Lines.{reply_line, joined_reply, converted_reply}
 use Rattle.typed_path.proofs.lemmas.script.CommandLemmas.{put_same}
+use Rattle.typed_path.proofs.lemmas.script.EndLemmas.{text_answered, text_cut_off}
 use Rattle.typed_path.proofs.script.lines.put_converted_checked.Goals as goal
+
+pub returns-in_ok-push-in-Ok : goal.returns-in_ok-push-in-Ok
+returns-in_ok-push-in-Ok g c =
+    text_answered c.args.replies.now.items _ c.convert_checked.new.text.items c.len-start.result c.in_ok-extend_from_slice.ensures.items (omega (arith, c.len-start.ensures, c.extend_from_slice.new.self.ok)) c.convert_checked.ensures.kept c.push.new.self.items c.in_ok-push-in-Ok.ensures.items
+    ∙ ap (λ r. c.args.replies.now.items ++ reply_line (converted_reply r)) (sym c.in-Ok.ensures.ok)
 
 pub returns-in-Err-Checked : goal.returns-in-Err-Checked
 returns-in-Err-Checked g c =
     let fault = c.in-Err-Checked.ensures.refused c.in-Err-Checked.refusal (ap (λ e. refusal {A = ⊤} (Err e)) c.in-Err-Checked.field-0-is) in
-    let from_empty = ap (λ t. push_checked_each g.U.Encoding.dialect (Ok t) (parts_of g.T.Encoding.dialect c.args.path.now)) c.clear.ensures.items in
-    put_same _ _ _ (joined_reply [] (Some c.in-Err-Checked.refusal)) _ (ap converted_reply (sym fault ∙ from_empty)) c.put_refusal.ensures
+    let cut = text_cut_off c.args.replies.now.items _ c.convert_checked.new.text.items c.len-start.result c.in_ok-extend_from_slice.ensures.items (omega (arith, c.len-start.ensures, c.extend_from_slice.new.self.ok)) c.convert_checked.ensures.kept c.len-len.result (omega (arith, c.len-len.ensures, c.args.replies.now.ok)) in
+    put_same _ _ _ (joined_reply [] (Some c.in-Err-Checked.refusal)) _ (ap converted_reply (sym fault))
+    (subst (λ bs. OnOk c.put_refusal.result (c.put_refusal.new.replies.items ≡ bs ++ reply_line (joined_reply [] (Some c.in-Err-Checked.refusal)))) (c.truncate.ensures.items ∙ cut) c.put_refusal.ensures)

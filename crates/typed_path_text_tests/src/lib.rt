@@ -1,0 +1,5 @@
+//! What no clause of `typed_path` says of paths of text: rows of known answers, and printed texts.
+#![tactic(auto)]
+
+#[cfg(test)]
+mod texts;
