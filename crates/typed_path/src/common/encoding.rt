@@ -126,6 +126,17 @@ pub trait Encoding: Sized {
         Self::push_over(path, path.len(), other)
     }
 
+    /// Pushes a path onto the one that stands behind the first bytes of a text. Where memory is
+    /// refused, the text is as it was.
+    fn push_behind(text: &mut Vec<u8>, start: usize, other: &[u8]) -> Result<(), AllocError>
+        ensures ok { OnOk result (text.new.items ≡ take start text.old.items
+            ++ push_spec.push dialect (drop start text.old.items) other.now) }
+        ensures err { OnErr result (text.new.items ≡ text.old.items) }
+    {
+        Self::push_next(text, start, other, None)?;
+        Ok(())
+    }
+
     /// Pushes a path onto the one that stands behind the first bytes of a text, of which something may
     /// be known, and answers what is known of what stands there then. Where memory is refused, the text
     /// is as it was.

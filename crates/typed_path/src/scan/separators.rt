@@ -153,7 +153,7 @@ impl Separators {
     }
 
     /// How many bytes of a range of a text stand before its first separator, or all where there is
-    /// none. Reads at most 31 bytes of the text before the range.
+    /// none. Reads at most 32 bytes of the text before the range.
     #[inline(always)]
     pub fn first_within(self, text: &[u8], from: usize, to: usize) -> usize
         requires ordered { from ≤ to }

@@ -251,7 +251,7 @@ fn put_joined<T: Encoding>(
     replies.extend_from_slice(b"ok\t")?;
     let start = replies.len();
     replies.extend_from_slice(base)?;
-    T::push_next(replies, start, path, None)?;
+    T::push_behind(replies, start, path)?;
     replies.push(b'\n')?;
     Ok(())
 }

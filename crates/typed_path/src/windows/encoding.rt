@@ -95,6 +95,13 @@ impl Encoding for WindowsEncoding {
         push_at(path, 0, kept, other, None)
     }
 
+    // Nothing is asked of what stands there then, which a push onto it would want to know.
+    fn push_behind(text: &mut Vec<u8>, start: usize, other: &[u8]) -> Result<(), AllocError> {
+        let start = start.min(text.len());
+        let len = text.len();
+        push_at(text, start, len, other, None)
+    }
+
     #[inline]
     fn push_next(
         text: &mut Vec<u8>,
