@@ -132,6 +132,9 @@ pub trait Encoding: Sized {
         ensures ok { OnOk result (text.new.items ≡ take start text.old.items
             ++ push_spec.push dialect (drop start text.old.items) other.now) }
         ensures err { OnErr result (text.new.items ≡ text.old.items) }
+        ensures capacity { vec_capacity text.old ≤ vec_capacity text.new }
+        ensures succeeds { (room : ℕ) → start + room ≤ vec_capacity text.old
+            → FitsPush dialect room (drop start text.old.items) other.now → IsOk result }
     {
         Self::push_next(text, start, other, None)?;
         Ok(())
