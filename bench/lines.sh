@@ -63,7 +63,9 @@ rustc --crate-name typed_path --crate-type rlib --edition "${edition:-2021}" --c
     "${flags[@]}" --cap-lints allow --out-dir "$folder" "$TYPED_PATH_CRATE/src/lib.rs"
 rustc --edition 2024 "${flags[@]}" --extern "typed_path=$folder/libtyped_path.rlib" -o "$folder/peer" "$top/bench/lines_peer.rs"
 
-# Lines of all commands in equal shares, over paths of mixed kinds, from a fixed seed.
+# Lines of all commands in equal shares, over paths of mixed kinds, from a fixed seed: with one to nine
+# names, with one or two, with six to eight, and, fewer lines, with a hundred to four hundred.
+sorts=(mixed short usual deep)
 python3 - "$lines" "$folder" <<'PY'
 import random, sys
 lines, folder = int(sys.argv[1]), sys.argv[2]
@@ -80,36 +82,40 @@ between = {"unix": ["/"] * 40 + ["//", "/./", "/../"],
            "windows": ["\\"] * 34 + ["/"] * 6 + ["\\\\", "\\.\\", "\\..\\", "/../"]}
 ends = {"unix": [""] * 8 + ["/"], "windows": [""] * 8 + ["\\", "/"]}
 
-def path(dialect, start=None):
+def path(dialect, names, start=None):
     text = draw.choice(starts[dialect]) if start is None else start
-    for at in range(draw.randint(1, 9)):
+    for at in range(draw.randint(*names)):
         text += (draw.choice(between[dialect]) if at else "") + draw.choice(rare if draw.random() < 0.02 else usual)
     return text + draw.choice(ends[dialect])
 
-def fields(command):
+def fields(command, names):
     dialect, other = draw.choice(["unix", "windows"]), draw.choice(["unix", "windows"])
     if command == "derive":
-        return [path(dialect)]
+        return [path(dialect, names)]
     if command.startswith("join"):
-        return [dialect, path(dialect), path(dialect, None if draw.random() < 0.1 else "")]
-    return [dialect, other, path(dialect)] if command.startswith("convert") else [dialect, path(dialect)]
+        return [dialect, path(dialect, names), path(dialect, names, None if draw.random() < 0.1 else "")]
+    return [dialect, other, path(dialect, names)] if command.startswith("convert") else [dialect, path(dialect, names)]
 
 commands = ["components", "normalize", "join", "join_checked", "convert", "convert_checked", "derive"]
-with open(folder + "/mixed", "w", encoding="utf-8") as out:
-    for _ in range(lines):
-        command = draw.choice(commands)
-        out.write("\t".join([command] + fields(command)) + "\n")
+sorts = [("mixed", lines, (1, 9)), ("short", lines, (1, 2)), ("usual", lines, (6, 8)), ("deep", lines // 20, (100, 400))]
+for sort, count, names in sorts:
+    with open(f"{folder}/{sort}", "w", encoding="utf-8") as out:
+        for _ in range(count):
+            command = draw.choice(commands)
+            out.write("\t".join([command] + fields(command, names)) + "\n")
 PY
 
-mine=$(seconds mixed "$program")
-theirs=$(seconds mixed "$folder/peer")
-"$program" < "$folder/mixed" > "$folder/replies"
-"$folder/peer" < "$folder/mixed" > "$folder/peer_replies"
-python3 - "$folder" "$lines" "$mine" "$theirs" <<'PY'
+for sort in "${sorts[@]}"; do
+  mine=$(seconds "$sort" "$program")
+  theirs=$(seconds "$sort" "$folder/peer")
+  "$program" < "$folder/$sort" > "$folder/replies"
+  "$folder/peer" < "$folder/$sort" > "$folder/peer_replies"
+  python3 - "$folder" "$sort" "$mine" "$theirs" <<'PY'
 import sys
-folder, lines, mine, theirs = sys.argv[1:]
+folder, sort, mine, theirs = sys.argv[1:]
 with open(folder + "/replies", "rb") as ours, open(folder + "/peer_replies", "rb") as peers:
-    differ = sum(one != other for one, other in zip(ours, peers, strict=True))
-print(f"mixed: {lines} lines of all commands in {mine} s of processor time, by the Rust crate in {theirs} s"
-      f" ({float(mine) / float(theirs):.2f}); {differ} of the replies differ")
+    alike = [one == other for one, other in zip(ours, peers, strict=True)]
+print(f"{sort}: {len(alike)} lines of all commands in {mine} s of processor time, by the Rust crate in {theirs} s"
+      f" ({float(mine) / float(theirs):.2f}); {alike.count(False)} of the replies differ")
 PY
+done
