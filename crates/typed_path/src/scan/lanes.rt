@@ -1,6 +1,6 @@
-//! Bytes found by blocks of 32, of 16, of 8 and of 4. What is looked for is a pair, which is one byte twice
-//! where no other is: so one and two are looked for in the same way. Of the bytes that no name of
-//! Windows may have, it is only told whether a text has one.
+//! Bytes found by blocks of 32, of 16, of 8 and of 4. What is looked for is a pair, which is one
+//! byte twice where no other is: so one and two are looked for in the same way. Of the bytes that no
+//! name of Windows may have, it is only told whether a text has one.
 
 ghost use Rattle.std.specs.Prelude.{◌≡◌, ◌≢◌, ◌≤◌, ◌<◌, ◌+◌, ◌^◌, ◌==◌, ℕ, Bool, length, slice_index};
 ghost use Rattle.std.specs.Int.{bit_at};
