@@ -1,6 +1,6 @@
 //! Texts cut at single bytes, at separators, and behind a beginning.
 
-ghost use Rattle.std.specs.Prelude.{◌≡◌, ◌≢◌, ◌≤◌, ◌<◌, ◌+◌, ◌==◌, List, ℕ, [], ◌∷◌, ◌++◌, length, MatchOption, IfSome, IsTrue};
+ghost use Rattle.std.specs.Prelude.{◌≡◌, ◌≢◌, ◌≤◌, ◌<◌, ◌+◌, ◌==◌, List, ℕ, [], ◌∷◌, ◌++◌, length, MatchOption, IfSome};
 ghost use Rattle.std.specs.List.{slice_split, position_or_len};
 ghost use Rattle.typed_path.specs.components.Dialect.{is_separator};
 
@@ -64,22 +64,8 @@ pub fn text_behind<'a>(beginning: &[u8], text: &'a [u8]) -> Option<&'a [u8]>
     if text.len() < len {
         return None;
     }
-    if begins_otherwise(beginning, text) {
-        return None;
-    }
     if beginning == &text[..len] {
         return Some(&text[len..]);
     }
     None
-}
-
-/// Whether the first byte of each tells that a text does not begin so. False says nothing.
-#[inline(always)]
-fn begins_otherwise(beginning: &[u8], text: &[u8]) -> bool
-    ensures { IsTrue result → (rest : List ℕ) → text.now ≢ beginning.now ++ rest }
-{
-    match (beginning, text) {
-        ([first, ..], [other, ..]) => first != other,
-        _ => false,
-    }
 }
