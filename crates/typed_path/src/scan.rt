@@ -17,6 +17,7 @@ pub use base::base_end;
 pub use body::{Begin, Body};
 pub use cursor::Cursor;
 pub use cut::{cut_at, cut_at_separator, text_behind};
+pub use lanes::first_between;
 pub use piece::{Piece, PieceKind, Step, StepKind};
 pub use prefix::{Found, WindowsPrefix, after_mark, drive, find_prefix};
 pub use separators::Separators;

@@ -4,6 +4,7 @@ mod answer;
 mod dialogue;
 mod ends;
 mod lines;
+mod reading;
 mod run;
 mod status;
 mod std_streams;

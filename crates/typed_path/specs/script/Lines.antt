@@ -1,5 +1,5 @@
 -- What the program answers to its input.
-use Rattle.std.specs.Prelude.{ℕ, List, [], ◌∷◌, ◌++◌, ◌==◌, if◌then◌else◌, codes, length, map, bytes_eq, Option, Some, None, Result, Ok, Err}
+use Rattle.std.specs.Prelude.{◌≡◌, ℕ, List, [], ◌∷◌, ◌++◌, ◌==◌, if◌then◌else◌, codes, length, map, bytes_eq, Option, Some, None, Result, Ok, Err}
 use Rattle.std.specs.List.{slice_split, flat_map, join_with_byte}
 use Rattle.typed_path.specs.components.Dialect.{Dialect, unix, windows}
 use Rattle.typed_path.specs.components.Part.{Prefix, verbatim, verbatim_unc, verbatim_disk, device_ns, unc, disk, Kind, prefix, root, current, parent, normal, Part}
@@ -163,6 +163,11 @@ abbrev pub reply_fields : List (List ℕ) → List (List ℕ)
 reply_fields (command ∷ dialect ∷ first ∷ path ∷ []) = in_named (λ d. pair_reply_in d command first path) (dialect_named dialect)
 reply_fields (command ∷ dialect ∷ path ∷ []) = in_named (λ d. reply_in d command path) (dialect_named dialect)
 reply_fields fields = bare_reply fields
+
+-- what is given for the first line of an input was put behind other bytes, and what stands behind its line feed is left; of an input with no line feed nothing was answered
+abbrev pub AnswersFirst : (List ℕ → List ℕ) → List ℕ → Option (List ℕ) → List ℕ → List ℕ → Type 0
+AnswersFirst given input None old new = (split_lines input ≡ input ∷ []) × (new ≡ old)
+AnswersFirst given input (Some left) old new = (line : List ℕ) × (split_lines input ≡ line ∷ split_lines left) × (new ≡ old ++ given line)
 
 -- the reply to a line
 abbrev pub reply : List ℕ → List ℕ

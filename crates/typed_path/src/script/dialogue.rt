@@ -4,7 +4,7 @@ ghost use Rattle.std.specs.Prelude.{◌≡◌, [], ◌∷◌};
 ghost use Rattle.typed_path.specs.script.Lines.{split_lines};
 
 use crate::scan::cut_at;
-use crate::script::lines::put_reply;
+use crate::script::reading::answer_line;
 use std::alloc::{AllocError, Global};
 
 /// The replies to the lines that were completed, and the line that was begun.
@@ -41,9 +41,15 @@ impl Dialogue {
             (self.new.line.items ≡ open_line (self.old.line.items ++ input.now)) }
     {
         let mut rest = input;
-        'lines: while let Some((piece, behind)) = cut_at(b'\n', rest) {
+        if !self.line.is_empty() {
+            let Some((piece, behind)) = cut_at(b'\n', input) else {
+                return self.line.extend_from_slice(input);
+            };
             self.complete(piece)?;
             rest = behind;
+        }
+        'lines: while let Some(left) = answer_line(rest, &mut self.replies)? {
+            rest = left;
         }
         self.line.extend_from_slice(rest)
     }
@@ -55,13 +61,11 @@ impl Dialogue {
             ≡ self.old.replies.items ++ reply (self.old.line.items ++ piece.now)) }
         ensures line { OnOk result (self.new.line.items ≡ []) }
     {
-        if self.line.is_empty() {
-            return put_reply(piece, &mut self.replies);
-        }
         self.line.extend_from_slice(piece)?;
-        put_reply(self.line.as_slice(), &mut self.replies)?;
+        self.line.push(b'\n')?;
+        let answered = answer_line(self.line.as_slice(), &mut self.replies).is_ok();
         self.line.clear();
-        Ok(())
+        if answered { Ok(()) } else { Err(AllocError) }
     }
 
     /// Answers the line that the end of the input completes, where there is one.
@@ -72,6 +76,6 @@ impl Dialogue {
         if self.line.is_empty() {
             return Ok(());
         }
-        put_reply(self.line.as_slice(), &mut self.replies)
+        self.complete(b"")
     }
 }

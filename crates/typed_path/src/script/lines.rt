@@ -7,13 +7,13 @@ ghost use Rattle.typed_path.specs.changes.Push.{push};
 ghost use Rattle.typed_path.specs.views.PieceViews.{part_of, prefix_view};
 ghost use Rattle.typed_path.specs.views.PathViews.{path_bytes};
 ghost use Rattle.typed_path.specs.conversions.Convert.{converted, converted_checked};
-ghost use Rattle.typed_path.specs.script.Lines.{tab, equals_sign, fields_of, reply, reply_fields, reply_line, text_reply, components_reply, reply_in, pair_reply_in, convert_reply_in, joined_reply, converted_reply, in_named, dialect_named, derived_reply, bare_reply, refusal_name, bad_line, component_field, fields_behind, kind_name, prefix_name};
-ghost use Rattle.typed_path.specs.script.Commands.{command_name, texts_reply};
+ghost use Rattle.typed_path.specs.script.Lines.{tab, equals_sign, reply_line, text_reply, components_reply, reply_in, pair_reply_in, convert_reply_in, joined_reply, converted_reply, in_named, dialect_named, derived_reply, refusal_name, bad_line, component_field, fields_behind, kind_name, prefix_name};
+ghost use Rattle.typed_path.specs.script.Commands.{command_name};
 
 use crate::common::{Encoding, Path};
 use crate::conversions::{convert_checked, put_converted};
 use crate::errors::{CheckedPathError, PathError};
-use crate::scan::{Piece, PieceKind, WindowsPrefix, cut_at, text_behind};
+use crate::scan::{Piece, PieceKind, WindowsPrefix};
 use crate::typed::PathType;
 use crate::unix::UnixEncoding;
 use crate::windows::WindowsEncoding;
@@ -30,66 +30,8 @@ pub enum Command {
     ConvertChecked,
 }
 
-/// The command that a line begins with, and what stands behind its tab.
-fn command_of(line: &[u8]) -> Option<(Command, &[u8])>
-    ensures some { IfSome result
-        (λ found. fields_of line.now ≡ command_name found.0 ∷ fields_of found.1.now) }
-    ensures none { IfNone result
-        (reply_fields (fields_of line.now) ≡ bare_reply (fields_of line.now)) }
-{
-    if let Some(rest) = text_behind(b"normalize\t", line) {
-        return Some((Command::Normalize, rest));
-    }
-    if let Some(rest) = text_behind(b"components\t", line) {
-        return Some((Command::Components, rest));
-    }
-    if let Some(rest) = text_behind(b"join\t", line) {
-        return Some((Command::Join, rest));
-    }
-    if let Some(rest) = text_behind(b"join_checked\t", line) {
-        return Some((Command::JoinChecked, rest));
-    }
-    if let Some(rest) = text_behind(b"convert\t", line) {
-        return Some((Command::Convert, rest));
-    }
-    if let Some(rest) = text_behind(b"convert_checked\t", line) {
-        return Some((Command::ConvertChecked, rest));
-    }
-    None
-}
-
-/// Puts the reply to a line behind others.
-pub fn put_reply(line: &[u8], replies: &mut Vec<u8>) -> Result<(), AllocError>
-    ensures { OnOk result (replies.new.items ≡ replies.old.items ++ reply line.now) }
-{
-    let Some((command, rest)) = command_of(line) else {
-        return put_bare_reply(line, replies);
-    };
-    if let Some(texts) = text_behind(b"unix\t", rest) {
-        return put_command::<UnixEncoding>(command, texts, replies);
-    }
-    if let Some(texts) = text_behind(b"windows\t", rest) {
-        return put_command::<WindowsEncoding>(command, texts, replies);
-    }
-    put_bad_line(replies)
-}
-
-/// Puts the reply to a line that names no encoding behind others.
-fn put_bare_reply(line: &[u8], replies: &mut Vec<u8>) -> Result<(), AllocError>
-    ensures { OnOk result
-        (replies.new.items ≡ replies.old.items ++ reply_line (bare_reply (fields_of line.now))) }
-{
-    let Some(path) = text_behind(b"derive\t", line) else {
-        return put_bad_line(replies);
-    };
-    match cut_at(b'\t', path) {
-        None => put_derived(path, replies),
-        Some(_) => put_bad_line(replies),
-    }
-}
-
 /// Puts the reply that names the encoding that a path looks like behind others.
-fn put_derived(path: &[u8], replies: &mut Vec<u8>) -> Result<(), AllocError>
+pub fn put_derived(path: &[u8], replies: &mut Vec<u8>) -> Result<(), AllocError>
     ensures { OnOk result
         (replies.new.items ≡ replies.old.items ++ reply_line (derived_reply path.now)) }
 {
@@ -99,26 +41,8 @@ fn put_derived(path: &[u8], replies: &mut Vec<u8>) -> Result<(), AllocError>
     }
 }
 
-/// Puts the reply to a command on texts with a tab between behind others.
-fn put_command<T: Encoding>(
-    command: Command,
-    texts: &[u8],
-    replies: &mut Vec<u8>,
-) -> Result<(), AllocError>
-    ensures { OnOk result (replies.new.items ≡ replies.old.items
-        ++ reply_line (texts_reply T.dialect (command_name command) (fields_of texts.now))) }
-{
-    let Some((first, path)) = cut_at(b'\t', texts) else {
-        return put_path_reply::<T>(command, texts, replies);
-    };
-    match cut_at(b'\t', path) {
-        None => put_pair_reply::<T>(command, first, path, replies),
-        Some(_) => put_bad_line(replies),
-    }
-}
-
 /// Puts the reply to a command on a path behind others.
-fn put_path_reply<T: Encoding>(
+pub fn put_path_reply<T: Encoding>(
     command: Command,
     path: &[u8],
     replies: &mut Vec<u8>,
@@ -142,7 +66,7 @@ fn put_path_reply<T: Encoding>(
 
 /// Puts the reply to a command on two texts behind others: a base and a path, or the name of an
 /// encoding and a path.
-fn put_pair_reply<T: Encoding>(
+pub fn put_pair_reply<T: Encoding>(
     command: Command,
     first: &[u8],
     path: &[u8],
@@ -280,7 +204,7 @@ fn refusal_name(refusal: CheckedPathError) -> &'static [u8]
 }
 
 /// Puts the reply to a line that is no command behind others.
-fn put_bad_line(replies: &mut Vec<u8>) -> Result<(), AllocError>
+pub fn put_bad_line(replies: &mut Vec<u8>) -> Result<(), AllocError>
     ensures { OnOk result (replies.new.items ≡ replies.old.items ++ reply_line bad_line) }
 {
     replies.extend_from_slice(b"err\tBadLine\n")

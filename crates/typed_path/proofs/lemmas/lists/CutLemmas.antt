@@ -8,7 +8,7 @@ use Rattle.std.proofs.lemmas.Bool.{eq-eqb, eqb-true, eqb-false, ne_eqb, not-true
 
 module _ (p : ℕ → Bool) (text : List ℕ) where
   -- no element before the first one that passes does
-  fails_before : (n : ℕ) → n ≡ position_or_len p text → n ≤ length text → All (λ b. p b ≡ false) (take n text)
+  pub fails_before : (n : ℕ) → n ≡ position_or_len p text → n ≤ length text → All (λ b. p b ≡ false) (take n text)
   fails_before n is within k d l =
       let size = length-take-le n text within in
       ap p (get_or-take n text k d (omega arith)) ∙ fails_before_first p text k d (omega arith)

@@ -6,11 +6,11 @@ use Rattle.std.proofs.lemmas.List.Splits.{join_with_byte-slice_split}
 use Rattle.std.proofs.lemmas.Slice.Eq.{bytes_eq-Decides}
 use Rattle.std.proofs.lemmas.Bool.{false_from_ne_true}
 use Rattle.typed_path.specs.components.Dialect.{Dialect, unix, windows}
-use Rattle.typed_path.specs.script.Lines.{tab, fields_of, reply_in, convert_reply_in, pair_reply_in, reply_fields, reply_line, derived_reply, bare_reply, bad_line, dialect_named, in_named}
+use Rattle.typed_path.specs.script.Lines.{tab, fields_of, reply_in, convert_reply_in, pair_reply_in, reply_fields, reply_line, derived_reply, bare_reply, bad_line, dialect_named, dialect_name, in_named}
 use Rattle.typed_path.specs.script.Commands.{command_name, texts_reply}
 use Rattle.typed_path.specs.declared.script.lines.Command.{Command}
 use Rattle.typed_path.specs.declared.script.lines.Command.TheVariants.{Normalize, Components, Join, JoinChecked, Convert, ConvertChecked}
-use Rattle.typed_path.proofs.lemmas.lists.SplitLemmas.{slice_split-some, slice_split-append}
+use Rattle.typed_path.proofs.lemmas.lists.SplitLemmas.{slice_split-some}
 
 -- a reply is the same where its fields are
 pub put_same : {A E : Type 0} (r : Result A E) (new old : List ℕ) (us vs : List (List ℕ)) → us ≡ vs → OnOk r (new ≡ old ++ reply_line us) → OnOk r (new ≡ old ++ reply_line vs)
@@ -37,11 +37,20 @@ bad_in_named : (fields : Dialect → List (List ℕ)) (d : Option Dialect) → (
 bad_in_named fields None bad = refl
 bad_in_named fields (Some d) bad = bad d
 
+-- a text that begins with none of the commands begins with no command
+pub no_command_begins : (text : List ℕ) → LacksField (codes "normalize") text → LacksField (codes "components") text → LacksField (codes "join") text → LacksField (codes "join_checked") text
+    → LacksField (codes "convert") text → LacksField (codes "convert_checked") text
+    → (c : Command) → LacksField (command_name c) text
+no_command_begins text normalize components join checked convert converts_checked Normalize = normalize
+no_command_begins text normalize components join checked convert converts_checked Components = components
+no_command_begins text normalize components join checked convert converts_checked Join = join
+no_command_begins text normalize components join checked convert converts_checked JoinChecked = checked
+no_command_begins text normalize components join checked convert converts_checked Convert = convert
+no_command_begins text normalize components join checked convert converts_checked ConvertChecked = converts_checked
+
 -- a line that begins with no command on a dialect and its tab is answered as one that names none
-pub no_command : (line : List ℕ) → LacksField (codes "normalize") line → LacksField (codes "components") line → LacksField (codes "join") line → LacksField (codes "join_checked") line
-    → LacksField (codes "convert") line → LacksField (codes "convert_checked") line
-    → reply_fields (fields_of line) ≡ bare_reply (fields_of line)
-no_command line normalize components join checked convert converts_checked = by (fields_of line) refl
+pub no_command : (line : List ℕ) → ((c : Command) → LacksField (command_name c) line) → reply_fields (fields_of line) ≡ bare_reply (fields_of line)
+no_command line lacks = by (fields_of line) refl
   where
     by : (fields : List (List ℕ)) → fields_of line ≡ fields → reply_fields fields ≡ bare_reply fields
     by [] e = refl
@@ -49,12 +58,12 @@ no_command line normalize components join checked convert converts_checked = by 
     by (f ∷ d ∷ []) e = refl
     by (f ∷ d ∷ p ∷ []) e =
         bad_in_named (λ dialect. reply_in dialect f p) (dialect_named d)
-        (λ dialect. neither _ _ _ _ bad_line (first_is_other line (codes "normalize") f d (p ∷ []) normalize e) (first_is_other line (codes "components") f d (p ∷ []) components e))
+        (λ dialect. neither _ _ _ _ bad_line (first_is_other line (codes "normalize") f d (p ∷ []) (lacks Normalize) e) (first_is_other line (codes "components") f d (p ∷ []) (lacks Components) e))
     by (f ∷ d ∷ b ∷ p ∷ []) e =
         bad_in_named (λ dialect. pair_reply_in dialect f b p) (dialect_named d) (λ dialect.
-        neither _ _ _ _ _ (first_is_other line (codes "join") f d (b ∷ p ∷ []) join e) (first_is_other line (codes "join_checked") f d (b ∷ p ∷ []) checked e)
+        neither _ _ _ _ _ (first_is_other line (codes "join") f d (b ∷ p ∷ []) (lacks Join) e) (first_is_other line (codes "join_checked") f d (b ∷ p ∷ []) (lacks JoinChecked) e)
         ∙ bad_in_named (convert_reply_in dialect f p) (dialect_named b) (λ target.
-        neither _ _ _ _ bad_line (first_is_other line (codes "convert") f d (b ∷ p ∷ []) convert e) (first_is_other line (codes "convert_checked") f d (b ∷ p ∷ []) converts_checked e)))
+        neither _ _ _ _ bad_line (first_is_other line (codes "convert") f d (b ∷ p ∷ []) (lacks Convert) e) (first_is_other line (codes "convert_checked") f d (b ∷ p ∷ []) (lacks ConvertChecked) e)))
     by (f ∷ d ∷ b ∷ p ∷ q ∷ fields) e = refl
 
 -- a test that fails on both names of dialects names none
@@ -105,8 +114,17 @@ no_bare_command line lacks = by (fields_of line) refl
     by (f ∷ p ∷ q ∷ fields) e = refl
 
 -- more than one text is too many for it
-pub bare_too_many : (line path first behind : List ℕ) → line ≡ codes "derive\t" ++ path → fields_of path ≡ first ∷ fields_of behind → bare_reply (fields_of line) ≡ bad_line
-bare_too_many line path first behind begins split =
+pub bare_too_many : (first behind : List ℕ) → bare_reply (codes "derive" ∷ first ∷ fields_of behind) ≡ bad_line
+bare_too_many first behind =
     let some = slice_split-some (λ b. b == tab) behind in
-    let fields : fields_of line ≡ codes "derive" ∷ fields_of path = ap fields_of begins ∙ slice_split-append (λ b. b == tab) (codes "derive") tab path refl in
-    ap bare_reply (fields ∙ ap (λ texts. codes "derive" ∷ texts) (split ∙ ap (λ texts. first ∷ texts) some.2))
+    ap (λ fields. bare_reply (codes "derive" ∷ first ∷ fields)) some.2
+
+-- a command and a dialect in front of texts
+pub named_reply : (c : Command) (d : Dialect) (texts : List (List ℕ)) → reply_fields (command_name c ∷ dialect_name d ∷ texts) ≡ texts_reply d (command_name c) texts
+named_reply c unix [] = one_text c (codes "unix")
+named_reply c windows [] = one_text c (codes "windows")
+named_reply c unix (path ∷ []) = refl
+named_reply c windows (path ∷ []) = refl
+named_reply c unix (first ∷ path ∷ []) = refl
+named_reply c windows (first ∷ path ∷ []) = refl
+named_reply c d (first ∷ second ∷ third ∷ texts) = refl
