@@ -26,7 +26,7 @@ pub use components::Components;
 pub use concrete::{Concrete, ConcreteComponents};
 pub use encoding::Encoding;
 pub use iter::Iter;
-pub use names::{behind_segment, cut_back, drop_name, drop_separator, put_over};
+pub use names::{behind_segment, cut_back, drop_name, drop_separator, put_front, put_over};
 pub(crate) use order::{compare, is_same};
 pub use path::Path;
 pub use path_buf::PathBuf;

@@ -79,6 +79,29 @@ pub fn put_over(
     path.extend_from_slice(other)
 }
 
+/// How many bytes are put as one block.
+const BLOCK: usize = 16;
+
+/// Puts the first bytes of a text behind another text. A few are put as a block, and what is too many
+/// is cut off again: a block is a store, where a copy of any size is a call that branches by the size.
+#[inline(always)]
+pub fn put_front(text: &mut Vec<u8>, source: &[u8], len: usize) -> Result<(), AllocError>
+    requires { len ≤ length source.now }
+    ensures ok { OnOk result (text.new.items ≡ text.old.items ++ take len source.now) }
+    ensures err { OnErr result (text.new.items ≡ text.old.items) }
+    ensures capacity { vec_capacity text.old ≤ vec_capacity text.new }
+    ensures succeeds { vec_len text.old + length source.now ≤ vec_capacity text.old
+        → IsOk result }
+{
+    if BLOCK < len || source.len() < BLOCK {
+        return text.extend_from_slice(&source[..len]);
+    }
+    let end = text.len() + len;
+    text.extend_from_slice(&source[..BLOCK])?;
+    text.truncate(end);
+    Ok(())
+}
+
 /// Takes the last name off, and the separator behind it, where a name stands behind the first bytes.
 #[inline(always)]
 pub fn drop_name(text: &mut Vec<u8>, len: usize, separators: Separators)

@@ -36,9 +36,10 @@ pub struct Body<'a> {
 }
 
 impl<'a> Body<'a> {
-    ghost use Rattle.std.specs.Prelude.{◌≡◌, ◌≤◌, [], true, drop, length, option_map, IfSome, IfNone, IsTrue};
+    ghost use Rattle.std.specs.Prelude.{◌≡◌, ◌≤◌, [], true, take, drop, length, option_map, IfSome, IfNone, IsTrue};
     ghost use Rattle.typed_path.specs.components.Comps.{body, later_body};
     ghost use Rattle.typed_path.specs.declared.scan.body.Begin.{Begin};
+    ghost use Rattle.typed_path.specs.declared.scan.piece.StepKind.{StepKind};
     ghost use Rattle.typed_path.specs.scan.Left.{but_last, last_of, slice_after_front, slice_after_back};
     ghost use Rattle.typed_path.specs.components.Part.{Placed, end_of, kinds, parts};
     ghost use Rattle.typed_path.specs.queries.Queries.{begins_with_root};
@@ -144,6 +145,8 @@ impl<'a> Body<'a> {
         ensures items { body_items self.new ≡ drop 1 (body_items self.old) }
         ensures slice { body_slice self.new
             ≡ slice_after_front (body_items self.old) (body_slice self.old) }
+        ensures named { IfSome result (λ step. step.kind ≡ StepKind.Normal
+            → take (length step.text.now) (body_slice self.old) ≡ step.text.now) }
         ensures separators { self.new.separators ≡ self.old.separators }
     {
         let left = self.as_bytes();

@@ -1,6 +1,6 @@
 //! Texts cut at single bytes, at separators, and behind a beginning.
 
-ghost use Rattle.std.specs.Prelude.{◌≡◌, ◌≢◌, ◌≤◌, ◌<◌, ◌+◌, ◌==◌, List, ℕ, [], ◌∷◌, ◌++◌, length, MatchOption, IfSome};
+ghost use Rattle.std.specs.Prelude.{◌≡◌, ◌≢◌, ◌≤◌, ◌<◌, ◌+◌, ◌==◌, List, ℕ, [], ◌∷◌, ◌++◌, take, length, MatchOption, IfSome};
 ghost use Rattle.std.specs.List.{slice_split, position_or_len};
 ghost use Rattle.typed_path.specs.components.Dialect.{is_separator};
 
@@ -45,6 +45,7 @@ pub fn cut_at_separator(separators: Separators, text: &[u8]) -> Option<(&[u8], &
         (λ cut. slice_split (is_separator separators) cut.0.now ≡ cut.0.now ∷ []) }
     ensures sizes { IfSome result
         (λ cut. length text.now ≡ length cut.0.now + 1 + length cut.1.now) }
+    ensures front { IfSome result (λ cut. take (length cut.0.now) text.now ≡ cut.0.now) }
 {
     let at = separators.first_in(text);
     if at < text.len() {

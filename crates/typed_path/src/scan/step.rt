@@ -8,6 +8,7 @@ ghost use Rattle.typed_path.specs.components.Dialect.{is_separator};
 ghost use Rattle.typed_path.specs.scan.Steps.{body_from, is_clean, is_trimmed, end_from};
 ghost use Rattle.typed_path.specs.views.PieceViews.{step_part};
 ghost use Rattle.typed_path.specs.declared.scan.body.Begin.{Begin};
+ghost use Rattle.typed_path.specs.declared.scan.piece.StepKind.{StepKind};
 
 use crate::scan::piece::{Step, StepKind};
 use crate::scan::separators::Separators;
@@ -78,6 +79,8 @@ pub fn front_step(text: &[u8], end: usize, separators: Separators) -> (Step<'_>,
         ≡ component (step_part result.0) at
         ++ later_body separators (at + result.1) (drop result.1 text.now) }
     ensures clean { is_clean Begin.Inside separators (drop result.1 text.now) ≡ true }
+    ensures named { result.0.kind ≡ StepKind.Normal
+        → take (length result.0.text.now) text.now ≡ result.0.text.now }
 {
     let behind = skip_blanks(&text[end..], separators);
     (step_of(&text[..end], separators), end + behind)

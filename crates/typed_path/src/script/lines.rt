@@ -1,19 +1,20 @@
 //! The replies to lines of commands.
 
-ghost use Rattle.std.specs.Prelude.{◌≡◌, [], ◌∷◌, ◌++◌, Some, OnOk, IfSome, IfNone, option_map};
+ghost use Rattle.std.specs.Prelude.{◌≡◌, [], ◌∷◌, ◌++◌, Some, take, length, OnOk, option_map};
 ghost use Rattle.std.specs.Option.{option_to_list};
 ghost use Rattle.typed_path.specs.components.Comps.{parts_of};
 ghost use Rattle.typed_path.specs.changes.Push.{push};
-ghost use Rattle.typed_path.specs.views.PieceViews.{part_of, prefix_view};
+ghost use Rattle.typed_path.specs.views.PieceViews.{part_of, prefix_view, step_part};
+ghost use Rattle.typed_path.specs.declared.scan.piece.StepKind.{StepKind};
 ghost use Rattle.typed_path.specs.views.PathViews.{path_bytes};
 ghost use Rattle.typed_path.specs.conversions.Convert.{converted, converted_checked};
 ghost use Rattle.typed_path.specs.script.Lines.{tab, equals_sign, reply_line, text_reply, components_reply, reply_in, pair_reply_in, convert_reply_in, joined_reply, converted_reply, in_named, dialect_named, derived_reply, refusal_name, bad_line, component_field, fields_behind, kind_name, prefix_name};
 ghost use Rattle.typed_path.specs.script.Commands.{command_name};
 
-use crate::common::{Encoding, Path};
+use crate::common::{Encoding, Path, put_front};
 use crate::conversions::{convert_checked, put_converted};
 use crate::errors::{CheckedPathError, PathError};
-use crate::scan::{Piece, PieceKind, WindowsPrefix};
+use crate::scan::{Piece, PieceKind, Step, StepKind, WindowsPrefix};
 use crate::typed::PathType;
 use crate::unix::UnixEncoding;
 use crate::windows::WindowsEncoding;
@@ -220,8 +221,10 @@ fn put_components<T: Encoding>(path: Path<'_, T>, replies: &mut Vec<u8>) -> Resu
     replies.extend_from_slice(b"ok")?;
     put_prefix(cursor.prefix_piece(), replies)?;
     let mut body = cursor.body();
+    let mut left = body.as_bytes();
     'steps: while let Some(step) = body.front() {
-        put_component(step.piece(), replies)?;
+        put_step(step, left, replies)?;
+        left = body.as_bytes();
     }
     replies.push(b'\n')?;
     Ok(())
@@ -236,6 +239,22 @@ fn put_prefix(prefix: Option<Piece<'_>>, replies: &mut Vec<u8>) -> Result<(), Al
     match prefix {
         Some(piece) => put_component(piece, replies),
         None => Ok(()),
+    }
+}
+
+/// Puts a tab, and the field that shows a component behind the prefix, by what was left before it was
+/// taken: a name is what that begins with.
+#[inline(always)]
+fn put_step(step: Step<'_>, left: &[u8], replies: &mut Vec<u8>) -> Result<(), AllocError>
+    requires { step.kind ≡ StepKind.Normal
+        → take (length step.text.now) left.now ≡ step.text.now }
+    ensures { OnOk result
+        (replies.new.items ≡ replies.old.items ++ tab ∷ component_field (step_part step.entry)) }
+{
+    put_label(step.piece(), replies)?;
+    match step.kind {
+        StepKind::Normal => put_front(replies, left, step.text.len()),
+        _ => replies.extend_from_slice(step.text),
     }
 }
 

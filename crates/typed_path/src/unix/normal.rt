@@ -6,7 +6,7 @@ ghost use Rattle.typed_path.specs.components.Dialect.{unix};
 ghost use Rattle.typed_path.specs.places.Places.{normal_text};
 ghost use Rattle.typed_path.specs.places.Rows.{rows, settled, names_left, AreRows, IsParted};
 
-use crate::common::{behind_segment, cut_back, drop_name, drop_separator};
+use crate::common::{behind_segment, cut_back, drop_name, drop_separator, put_front};
 use crate::scan::{Separators, StepKind, cut_at_separator, step_of};
 use std::alloc::AllocError;
 
@@ -63,16 +63,17 @@ fn settle_all(text: &mut Vec<u8>, len: usize, path: &[u8]) -> Result<(), AllocEr
 {
     let mut rest = path;
     'segments: while let Some((segment, behind)) = cut_at_separator(Separators::Slash, rest) {
-        settle(text, len, segment)?;
+        settle(text, len, segment, rest)?;
         rest = behind_segment(segment, behind, Separators::Slash);
     }
-    settle(text, len, rest)
+    settle(text, len, rest, rest)
 }
 
-/// Settles one more segment behind the names that stand.
+/// Settles one more segment, which is what the rest begins with, behind the names that stand.
 #[inline(always)]
-fn settle(text: &mut Vec<u8>, len: usize, segment: &[u8]) -> Result<(), AllocError>
-    requires { len ≤ length text.old.items }
+fn settle(text: &mut Vec<u8>, len: usize, segment: &[u8], rest: &[u8]) -> Result<(), AllocError>
+    requires within { len ≤ length text.old.items }
+    requires front { take (length segment.now) rest.now ≡ segment.now }
     ensures ok { OnOk result ((head : List ℕ) (names : List (List ℕ)) → length head ≡ len
         → AreRows text.old.items head names
         → text.new.items ≡ head ++ rows (settled names segment.now)) }
@@ -80,12 +81,12 @@ fn settle(text: &mut Vec<u8>, len: usize, segment: &[u8]) -> Result<(), AllocErr
     ensures long { len ≤ length text.new.items }
     ensures room { vec_len text.new ≤ vec_len text.old + length segment.now + 1 }
     ensures capacity { vec_capacity text.old ≤ vec_capacity text.new }
-    ensures succeeds { vec_len text.old + length segment.now < vec_capacity text.old → IsOk result }
+    ensures succeeds { vec_len text.old + length rest.now < vec_capacity text.old → IsOk result }
 {
     match step_of(segment, Separators::Slash).kind {
         StepKind::ParentDir => drop_name(text, len, Separators::Slash),
         StepKind::Normal => {
-            text.extend_from_slice(segment)?;
+            put_front(text, rest, segment.len())?;
             text.push(b'/')?;
         }
         StepKind::RootDir | StepKind::CurDir => {}

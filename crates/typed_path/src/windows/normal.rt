@@ -11,7 +11,7 @@ ghost use Rattle.typed_path.specs.places.Places.{normal_text};
 ghost use Rattle.typed_path.specs.places.Rows.{rows_of, settled, AreRowsOf, ArePlainRows, IsRowHead, IsPartedEither, TakesRows, HaveNoDrives, HasPlainNames, IsHeadOf};
 ghost use Rattle.typed_path.specs.views.PieceViews.{found_of};
 
-use crate::common::{behind_segment, cut_back, drop_name, drop_separator};
+use crate::common::{behind_segment, cut_back, drop_name, drop_separator, put_front};
 use crate::scan::{
     Cursor, Found, PieceKind, Separators, StepKind, WindowsPrefix, cut_at_separator, drive,
     find_prefix, step_of,
@@ -171,19 +171,20 @@ fn settle_all(text: &mut Vec<u8>, len: usize, path: &[u8]) -> Result<bool, Alloc
 {
     let mut rest = path;
     'segments: while let Some((segment, behind)) = cut_at_separator(Separators::Either, rest) {
-        if !settle(text, len, segment)? {
+        if !settle(text, len, segment, rest)? {
             return Ok(false);
         }
         rest = behind_segment(segment, behind, Separators::Either);
     }
-    settle(text, len, rest)
+    settle(text, len, rest, rest)
 }
 
-/// Settles one more segment behind the names that stand, and answers whether it begins with no
-/// drive: one that does is passed over.
+/// Settles one more segment, which is what the rest begins with, behind the names that stand, and
+/// answers whether it begins with no drive: one that does is passed over.
 #[inline(always)]
-fn settle(text: &mut Vec<u8>, len: usize, segment: &[u8]) -> Result<bool, AllocError>
-    requires { len ≤ length text.old.items }
+fn settle(text: &mut Vec<u8>, len: usize, segment: &[u8], rest: &[u8]) -> Result<bool, AllocError>
+    requires within { len ≤ length text.old.items }
+    requires front { take (length segment.now) rest.now ≡ segment.now }
     ensures ok { IfOk result (λ plain. IsTrue plain → (head : List ℕ) (names : List (List ℕ))
         → length head ≡ len → AreRowsOf Separators.Either text.old.items head names
         → text.new.items ≡ head ++ rows_of Separators.Either (settled names segment.now)) }
@@ -193,7 +194,7 @@ fn settle(text: &mut Vec<u8>, len: usize, segment: &[u8]) -> Result<bool, AllocE
     ensures long { len ≤ length text.new.items }
     ensures room { vec_len text.new ≤ vec_len text.old + length segment.now + 1 }
     ensures capacity { vec_capacity text.old ≤ vec_capacity text.new }
-    ensures succeeds { vec_len text.old + length segment.now < vec_capacity text.old → IsOk result }
+    ensures succeeds { vec_len text.old + length rest.now < vec_capacity text.old → IsOk result }
 {
     if drive(segment).is_some() {
         return Ok(false);
@@ -201,7 +202,7 @@ fn settle(text: &mut Vec<u8>, len: usize, segment: &[u8]) -> Result<bool, AllocE
     match step_of(segment, Separators::Either).kind {
         StepKind::ParentDir => drop_name(text, len, Separators::Either),
         StepKind::Normal => {
-            text.extend_from_slice(segment)?;
+            put_front(text, rest, segment.len())?;
             text.push(b'\\')?;
         }
         StepKind::RootDir | StepKind::CurDir => {}

@@ -1,13 +1,13 @@
-use Rattle.std.proofs.Common.{◌≡◌, ℕ, ◌+◌, ◌<◌, ◌++◌, List, [], ◌∷◌, length, take, drop, true, ap, sym, ◌∙◌, add_assoc, arith}
+use Rattle.std.proofs.Common.{◌≡◌, ℕ, ◌+◌, ◌<◌, ◌++◌, List, [], ◌∷◌, ◌==◌, Bool, false, cond, length, take, drop, true, ap, sym, ◌∙◌, add_assoc, arith}
 use Rattle.std.specs.List.{position_or_len}
-use Rattle.std.proofs.lemmas.List.{take_rest, drop-drop}
+use Rattle.std.proofs.lemmas.List.{take_rest, drop-drop, length-take-le}
 use Rattle.typed_path.specs.declared.scan.separators.Separators.{Separators}
 use Rattle.typed_path.specs.declared.scan.body.Begin.{Begin}
-use Rattle.typed_path.specs.components.Dialect.{is_separator}
-use Rattle.typed_path.specs.components.Part.{Part}
-use Rattle.typed_path.specs.components.Comps.{component, first, later_body}
+use Rattle.typed_path.specs.components.Dialect.{is_separator, root_text}
+use Rattle.typed_path.specs.components.Part.{normal, root, current, parent, Part, Placed, root_part, current_part, parent_part, name_part}
+use Rattle.typed_path.specs.components.Comps.{component, first, later_body, is_dot, is_dot_dot}
 use Rattle.typed_path.specs.scan.Steps.{body_from, is_clean}
-use Rattle.typed_path.specs.views.PieceViews.{step_part}
+use Rattle.typed_path.specs.views.PieceViews.{step_part, step_view}
 use Rattle.typed_path.proofs.lemmas.components.BodyLemmas.{body_from-first}
 use Rattle.typed_path.proofs.scan.step.front_step.Goals as goal
 
@@ -27,3 +27,24 @@ returns-clause-first c = λ begin at clean.
         ∙ ap (λ n. first s (record { text = take n (b ∷ bs); start = at }) ++ later_body s (at + n) (drop n (b ∷ bs))) (sym at_end)
         ∙ ap (λ cs. cs ++ later_body s (at + end) (drop end (b ∷ bs))) segment
         ∙ ap (λ cs. component p at ++ cs) (behind ∙ rw (add_assoc at end blank, drop-drop blank end (b ∷ bs)))
+
+-- a segment that is a name is the whole of it
+name-whole : (s : Separators) (segment : List ℕ) (p : Part) (name : List ℕ) → first s (record { text = segment; start = 0 }) ≡ component p 0 → p.kind ≡ normal name → p.text ≡ segment
+name-whole s segment p name = by (length segment == 0) (is_dot segment) (is_dot_dot segment)
+  where
+    part_at : List Placed → Part
+    part_at [] = p
+    part_at (c ∷ cs) = c.part
+
+    by : (empty dotted twice : Bool)
+        → cond empty (component (root_part (root_text s)) 0) (cond dotted (component current_part 0) (cond twice (component parent_part 0) (component (name_part segment) 0))) ≡ component p 0
+        → p.kind ≡ normal name → p.text ≡ segment
+    by true dotted twice h k = let apart : root ≡ normal name = ap (λ c. (part_at c).kind) h ∙ k in cc
+    by false true twice h k = let apart : current ≡ normal name = ap (λ c. (part_at c).kind) h ∙ k in cc
+    by false false true h k = let apart : parent ≡ normal name = ap (λ c. (part_at c).kind) h ∙ k in cc
+    by false false false h k = sym (ap (λ c. (part_at c).text) h)
+
+pub returns-clause-named : goal.returns-clause-named
+returns-clause-named c = λ is.
+    let whole = name-whole c.args.separators (take c.args.end c.args.text.now) (step_part c.step_of.result) c.step_of.result.text.now (c.step_of.ensures 0) (ap (λ k. step_view k c.step_of.result.text.now) is) in
+    ap (λ t. take (length t) c.args.text.now) whole ∙ ap (λ n. take n c.args.text.now) (length-take-le c.args.end c.args.text.now c.requires.within) ∙ sym whole

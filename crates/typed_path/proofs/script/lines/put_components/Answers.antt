@@ -1,4 +1,4 @@
-use Rattle.std.proofs.Common.{◌≡◌, ℕ, List, [], ◌∷◌, ◌++◌, append-nil, append_assoc, sym, ap, ◌∙◌}
+use Rattle.std.proofs.Common.{◌≡◌, ℕ, List, [], ◌∷◌, ◌++◌, append-nil, append_assoc, refl, sym, ap, ◌∙◌}
 use Rattle.std.specs.Prelude.{codes, Some, None, option_map}
 use Rattle.std.proofs.lemmas.Grind.{flat_map-append}
 use Rattle.typed_path.specs.components.Comps.{comps, parts_of}
@@ -45,7 +45,10 @@ steps-init g c =
     let path = path_bytes c.args.path in
     let split = parts-prefixed (comps d path) (items_left c.cursor-cursor.result) (body_items c.body-body.result) (option_map part_of c.prefix_piece.result)
     (c.cursor-cursor.ensures.items ∙ ap (comps d) c.as_bytes.ensures) c.prefix_piece.ensures c.body-body.ensures in
-    first_shown c.args.replies.now.items _ _ _ _ (parts_of d path) split c.in_ok-extend_from_slice.ensures.items c.in_ok-put_prefix.ensures
+    record {
+      left = c.as_bytes-left.ensures;
+      shown = first_shown c.args.replies.now.items _ _ _ _ (parts_of d path) split c.in_ok-extend_from_slice.ensures.items c.in_ok-put_prefix.ensures;
+    }
 
 pub steps-smaller : goal.steps-smaller
 steps-smaller g c = fewer (step_part c.in-Some.step) (body_items c.steps.body) (body_items c.front.new.self) c.in-Some.ensures.taken c.in-Some.ensures.items
@@ -53,9 +56,12 @@ steps-smaller g c = fewer (step_part c.in-Some.step) (body_items c.steps.body) (
 pub steps-preserved : goal.steps-preserved
 steps-preserved g c =
     let taken = yields_first step_part (Some c.in-Some.step) (body_items c.steps.body) (body_items c.front.new.self) c.in-Some.ensures.taken c.in-Some.ensures.items in
-    next_shown c.steps.replies.items _ (part_of c.piece.result) (step_part c.in-Some.step) _ _ taken c.piece.ensures c.in_ok-put_component.ensures ∙ c.steps.invariant
+    record {
+      left = c.as_bytes-left-in-Some.ensures;
+      shown = next_shown c.steps.replies.items _ (step_part c.in-Some.step) (step_part c.in-Some.step) _ _ taken refl c.in_ok-put_step.ensures ∙ c.steps.invariant.shown;
+    }
 
 pub returns : goal.returns
 returns g c =
     let none = (yields_first step_part None (body_items c.steps.body) (body_items c.front.new.self) c.in_default.ensures.taken c.in_default.ensures.items).0 in
-    all_shown c.args.replies.now.items c.push.new.self.items c.steps.replies.items _ (parts_of g.T.Encoding.dialect (path_bytes c.args.path)) none c.in_ok-push.ensures.items c.steps.invariant
+    all_shown c.args.replies.now.items c.push.new.self.items c.steps.replies.items _ (parts_of g.T.Encoding.dialect (path_bytes c.args.path)) none c.in_ok-push.ensures.items c.steps.invariant.shown

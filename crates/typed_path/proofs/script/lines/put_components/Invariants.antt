@@ -3,7 +3,7 @@ use Rattle.std.specs.Prelude.{codes}
 use Rattle.typed_path.specs.components.Comps.{parts_of}
 use Rattle.typed_path.specs.components.Part.{parts}
 use Rattle.typed_path.specs.script.Lines.{fields_behind}
-use Rattle.typed_path.specs.views.BodyViews.{body_items}
+use Rattle.typed_path.specs.views.BodyViews.{body_items, body_slice}
 use Rattle.typed_path.specs.views.PathViews.{path_bytes}
 use Rattle.typed_path.proofs.script.lines.put_components.Given as goal
 
@@ -11,6 +11,8 @@ abbrev pub decreases-steps : goal.decreases-steps
 decreases-steps g l = length (body_items l.body)
 
 abbrev pub invariant-steps : goal.invariant-steps
-invariant-steps g l =
-    l.replies.items ++ fields_behind (parts (body_items l.body))
-    ≡ l.fn.replies.items ++ (codes "ok" ++ fields_behind (parts_of g.T.Encoding.dialect (path_bytes l.path)))
+invariant-steps g l = record {
+  left : l.left ≡ body_slice l.body;
+  shown : l.replies.items ++ fields_behind (parts (body_items l.body))
+      ≡ l.fn.replies.items ++ (codes "ok" ++ fields_behind (parts_of g.T.Encoding.dialect (path_bytes l.path)));
+}

@@ -17,7 +17,7 @@ pub returns-in_ok-push-in-Normal-clause-ok : goal.returns-in_ok-push-in-Normal-c
 returns-in_ok-push-in-Normal-clause-ok c = λ head names size are.
     let kind = settled_by Slash names c.args.segment.now (step_part c.step_of.result) (c.step_of.ensures 0) ∙ ap (λ k. by_kind names c.args.segment.now (step_view k c.step_of.result.text.now)) c.in-Normal.is in
     c.in_ok-push-in-Normal.ensures.items
-    ∙ ap (λ bs. bs ++ slash ∷ []) (c.in_ok-extend_from_slice-in-Normal.ensures.items ∙ ap (λ bs. bs ++ c.args.segment.now) are.is)
+    ∙ ap (λ bs. bs ++ slash ∷ []) ((c.in_ok-put_front-in-Normal.ensures.ok ∙ ap (λ bs. c.args.text.now.items ++ bs) c.requires.front) ∙ ap (λ bs. bs ++ c.args.segment.now) are.is)
     ∙ sym (rows-more Slash head names c.args.segment.now)
     ∙ ap (λ ns. head ++ rows ns) (sym kind)
 
