@@ -1,5 +1,6 @@
 //! Unix paths.
 
+mod checked;
 mod component;
 mod components;
 mod encoding;

@@ -25,6 +25,7 @@
 -- KeptPrefixes: the prefix of a text that is spelled as it is read, and has more than a root behind that: it stays, whatever stands behind the root
 -- SpelledAgain: a text that is spelled as it is read, once a path is merged into it: it stays so, and keeps its prefix where more than a root stood behind that
 -- ReservedLemmas: names that stand for devices, how they begin, and where their first dot comes
+-- HarmlessLemmas: a path of Unix in which neither NUL nor two dots side by side stand
 pub mod JoinLemmas
 pub mod EndedLemmas
 pub mod PlainNames
@@ -51,3 +52,4 @@ pub mod PutCrossed
 pub mod Standing
 pub mod MergedStanding
 pub mod ReadStanding
+pub mod HarmlessLemmas

@@ -1,11 +1,12 @@
 -- What a checked call was refused for.
-use Rattle.std.specs.Prelude.{◌≡◌, ◌==◌, ℕ, List, Bool, true, not, ◌&&◌, ◌||◌, slice_index, Result, Ok, Err, Option, Some, None}
+use Rattle.std.specs.Prelude.{◌≡◌, ◌==◌, ℕ, List, [], ◌∷◌, Bool, true, false, not, ◌&&◌, ◌||◌, slice_index, Result, Ok, Err, Option, Some, None}
 use Rattle.std.specs.List.{All}
 use Rattle.typed_path.specs.declared.scan.separators.Separators.{Separators}
 use Rattle.typed_path.specs.declared.errors.CheckedPathError.{CheckedPathError}
 use Rattle.typed_path.specs.declared.errors.PathError.{PathError}
 use Rattle.typed_path.specs.declared.errors.PathError.TheVariants.{Checked, OutOfMemory}
-use Rattle.typed_path.specs.components.Dialect.{colon, question, dialect_of, is_separator}
+use Rattle.typed_path.specs.components.Dialect.{dot, colon, question, dialect_of, is_separator}
+use Rattle.typed_path.specs.scan.Masks.{is_one_of}
 use Rattle.typed_path.specs.queries.Queries.{is_disallowed}
 
 -- the refusal of a path; none where the call succeeds, and where memory is refused
@@ -27,10 +28,25 @@ is_stray s b = is_disallowed (dialect_of s) b && not (is_separator s b)
 abbrev pub is_forbidden : ℕ → Bool
 is_forbidden b = b == colon || b == question || b == 42 || b == 34 || b == 62 || b == 60 || b == 124 || b == 0
 
+-- the same, or one of a pair
+abbrev pub is_forbidden_or : ℕ × ℕ → ℕ → Bool
+is_forbidden_or pair b = is_forbidden b || is_one_of pair b
+
 -- whether such a byte stands at a place of a text
-abbrev pub forbidden_at : List ℕ → ℕ → Bool
-forbidden_at text k = is_forbidden (slice_index text k)
+abbrev pub forbidden_at : ℕ × ℕ → List ℕ → ℕ → Bool
+forbidden_at pair text k = is_forbidden_or pair (slice_index text k)
 
 -- each byte of a text that no name may have is a separator
 abbrev pub SeparatesDisallowed : Separators → List ℕ → Type 0
 SeparatesDisallowed s text = All (λ b. is_disallowed (dialect_of s) b ≡ true → is_separator s b ≡ true) text
+
+-- a text begins with NUL, or with two dots
+abbrev pub begins_with_harm : List ℕ → Bool
+begins_with_harm [] = false
+begins_with_harm (a ∷ []) = a == 0
+begins_with_harm (a ∷ b ∷ bytes) = a == 0 || a == dot && b == dot
+
+-- neither NUL nor two dots side by side stand in a text
+abbrev pub is_harmless : List ℕ → Bool
+is_harmless [] = true
+is_harmless (a ∷ bytes) = not (begins_with_harm (a ∷ bytes)) && is_harmless bytes

@@ -6,7 +6,7 @@ ghost use Rattle.std.specs.Prelude.{◌≡◌, ◌≢◌, ◌≤◌, ◌<◌, �
 ghost use Rattle.std.specs.Int.{bit_at};
 ghost use Rattle.std.specs.List.{list_any};
 ghost use Rattle.std.specs.Slice.Scan.{IsFirstPlace};
-ghost use Rattle.typed_path.specs.changes.Checked.{is_forbidden, forbidden_at};
+ghost use Rattle.typed_path.specs.changes.Checked.{is_forbidden, is_forbidden_or, forbidden_at};
 ghost use Rattle.typed_path.specs.scan.Masks.{IsMask, TellsWhether, is_one_of, stands_at, IsFirstOf, IsBehindLastOf};
 
 use std::simd::prelude::*;
@@ -243,47 +243,50 @@ pub fn last_between(text: &[u8], from: usize, to: usize, pair: (u8, u8)) -> usiz
     last_by_block::<8>(text, from, at - 16, pair)
 }
 
-/// Which bytes of a block are those that no name of Windows may have, and that separate in no text.
+/// Which bytes of a block are those that no name of Windows may have, and that separate in no text, or
+/// one of a pair.
 #[inline(always)]
-fn forbidden_at<const N: usize>(text: &[u8], at: usize) -> u64
+fn forbidden_at<const N: usize>(text: &[u8], at: usize, pair: (u8, u8)) -> u64
     requires lanes { (0 < N) × (N ≤ 64) }
     requires in_range { at + N ≤ length text.now }
-    ensures { IsMask (λ k. forbidden_at text.now (at + k)) N result }
+    ensures { IsMask (λ k. forbidden_at pair text.now (at + k)) N result }
 {
     marks_at::<N>(text, at, (b':', b'?'))
         | marks_at::<N>(text, at, (b'*', b'"'))
         | marks_at::<N>(text, at, (b'>', b'<'))
         | marks_at::<N>(text, at, (b'|', b'\0'))
+        | marks_at::<N>(text, at, pair)
 }
 
 /// Whether a block has such a byte.
 #[inline(always)]
-fn is_forbidden_in_block<const N: usize>(text: &[u8], at: usize) -> bool
+fn is_forbidden_in_block<const N: usize>(text: &[u8], at: usize, pair: (u8, u8)) -> bool
     requires lanes { (0 < N) × (N ≤ 64) }
     requires in_range { at + N ≤ length text.now }
-    ensures { TellsWhether (forbidden_at text.now) at (at + N) result }
+    ensures { TellsWhether (forbidden_at pair text.now) at (at + N) result }
 {
-    first_marked::<N>(forbidden_at::<N>(text, at), at) < at + N
+    first_marked::<N>(forbidden_at::<N>(text, at, pair), at) < at + N
 }
 
 /// Whether such a byte stands in a text of N bytes to 2 N, by its first and its last block.
 #[inline(always)]
-fn has_forbidden_in_two<const N: usize>(text: &[u8]) -> bool
+fn has_forbidden_in_two<const N: usize>(text: &[u8], pair: (u8, u8)) -> bool
     requires lanes { (0 < N) × (N ≤ 64) }
     requires size { (N ≤ length text.now) × (length text.now ≤ N + N) }
-    ensures { result ≡ list_any is_forbidden text.now }
+    ensures { result ≡ list_any (is_forbidden_or pair) text.now }
 {
-    is_forbidden_in_block::<N>(text, 0) || is_forbidden_in_block::<N>(text, text.len() - N)
+    is_forbidden_in_block::<N>(text, 0, pair)
+        || is_forbidden_in_block::<N>(text, text.len() - N, pair)
 }
 
 /// Whether such a byte stands in a text, byte by byte.
 #[inline(always)]
-fn has_forbidden_by_one(text: &[u8]) -> bool
-    ensures { result ≡ list_any is_forbidden text.now }
+fn has_forbidden_by_one(text: &[u8], pair: (u8, u8)) -> bool
+    ensures { result ≡ list_any (is_forbidden_or pair) text.now }
 {
     let mut forbidden = false;
     'bytes: for byte in text {
-        forbidden |= is_forbidden(*byte);
+        forbidden |= is_forbidden(*byte) || is_one_of(pair, *byte);
     }
     forbidden
 }
@@ -303,29 +306,31 @@ fn is_forbidden(byte: u8) -> bool
         | (byte == 0)
 }
 
-/// Whether a text has a byte that no name of Windows may have, and that separates in no text.
-pub fn has_forbidden(text: &[u8]) -> bool
-    ensures { result ≡ list_any is_forbidden text.now }
+/// Whether a text has a byte that no name of Windows may have, and that separates in no text, or one of
+/// a pair.
+#[inline(always)]
+pub fn has_forbidden(text: &[u8], pair: (u8, u8)) -> bool
+    ensures { result ≡ list_any (is_forbidden_or pair) text.now }
 {
     let len = text.len();
     let mut at = 0;
     while 32 <= len - at {
-        if is_forbidden_in_block::<32>(text, at) {
+        if is_forbidden_in_block::<32>(text, at, pair) {
             return true;
         }
         at += 32;
     }
     if 32 <= len {
-        return is_forbidden_in_block::<32>(text, len - 32);
+        return is_forbidden_in_block::<32>(text, len - 32, pair);
     }
     if 16 <= len {
-        return has_forbidden_in_two::<16>(text);
+        return has_forbidden_in_two::<16>(text, pair);
     }
     if 8 <= len {
-        return has_forbidden_in_two::<8>(text);
+        return has_forbidden_in_two::<8>(text, pair);
     }
     if 4 <= len {
-        return has_forbidden_in_two::<4>(text);
+        return has_forbidden_in_two::<4>(text, pair);
     }
-    has_forbidden_by_one(text)
+    has_forbidden_by_one(text, pair)
 }

@@ -106,7 +106,7 @@ impl Separators {
     {
         match self {
             Separators::Slash => is_free_of((b'/', b'\0'), name),
-            Separators::Backslash | Separators::Either => has_allowed_bytes_on_windows(name),
+            Separators::Backslash | Separators::Either => !has_forbidden(name, (b'/', b'\\')),
         }
     }
 
@@ -138,8 +138,9 @@ impl Separators {
     {
         match self {
             Separators::Slash => memchr(b'\0', bytes).is_some(),
-            Separators::Backslash => has_stray_in_verbatim(bytes),
-            Separators::Either => has_forbidden(bytes),
+            Separators::Backslash => has_forbidden(bytes, (b'/', b'/')),
+            // No byte that separates strays, so none is asked for beside the forbidden ones.
+            Separators::Either => has_forbidden(bytes, (b':', b':')),
         }
     }
 
@@ -181,22 +182,6 @@ fn is_free_of(pair: (u8, u8), text: &[u8]) -> bool
     ensures { result ≡ not (list_any (is_one_of pair) text.now) }
 {
     first_between(text, 0, text.len(), pair) == text.len()
-}
-
-/// Whether a name of Windows has no byte that no name may have.
-#[inline(always)]
-fn has_allowed_bytes_on_windows(name: &[u8]) -> bool
-    ensures { result ≡ has_allowed_bytes windows name.now }
-{
-    is_free_of((b'/', b'\\'), name) && !has_forbidden(name)
-}
-
-/// Whether a text that is read verbatim has a byte that no name may have and that is no separator.
-#[inline(always)]
-fn has_stray_in_verbatim(bytes: &[u8]) -> bool
-    ensures { result ≡ list_any (is_stray Separators.Backslash) bytes.now }
-{
-    has_forbidden(bytes) || !is_free_of((b'/', b'/'), bytes)
 }
 
 /// Whether a name may stand for a device: it begins as one does, and a dot, or its end, stands behind

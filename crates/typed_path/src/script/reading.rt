@@ -1,7 +1,7 @@
 //! Lines read from the front of an input, and answered.
 //!
-//! A line is read no further than its reply needs, and the line feed behind it is found by the search
-//! that finds its tabs.
+//! What a line asks for is told by its first bytes. The line feed behind it is found by the search that
+//! finds the tabs between its texts.
 
 ghost use Rattle.std.specs.Prelude.{◌≡◌, ◌≢◌, ℕ, List, [], ◌∷◌, ◌++◌, codes, MatchOption, IfOk, IfSome, IfNone, option_map};
 ghost use Rattle.typed_path.specs.script.Lines.{tab, split_lines, fields_of, reply, reply_line, bare_reply, bad_line, AnswersFirst};

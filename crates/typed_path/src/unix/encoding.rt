@@ -6,6 +6,7 @@ ghost use Rattle.typed_path.specs.components.Dialect.{unix};
 use crate::common::Encoding;
 use crate::errors::CheckedPathError;
 use crate::scan::{Cursor, Piece, Separators, base_end, has_valid_names};
+use crate::unix::checked::is_harmless;
 use crate::unix::normal::put_normal;
 use crate::unix::push::push_at;
 use std::alloc::AllocError;
@@ -100,7 +101,11 @@ impl Encoding for UnixEncoding {
         put_normal(text, path)
     }
 
+    // One search tells of most paths that none of their components offends.
     fn check(path: &[u8]) -> Result<(), CheckedPathError> {
+        if !path.starts_with(b"/") && is_harmless(path) {
+            return Ok(());
+        }
         Cursor::new(path, Separators::Slash).check()
     }
 }

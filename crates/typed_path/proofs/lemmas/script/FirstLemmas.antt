@@ -2,11 +2,13 @@
 use Rattle.std.proofs.Common.{◌≡◌, ℕ, List, [], ◌∷◌, ◌++◌, ◌==◌, ◌||◌, Bool, true, false, All, length, take, eqb, append-nil, append_assoc, arith, refl, sym, ap, subst, ◌∙◌}
 use Rattle.std.specs.Prelude.{Option, Some, None, Result, Ok, Err, IfOk, is_ok}
 use Rattle.std.specs.List.{onto_first, join_with_byte}
+use Rattle.std.proofs.lemmas.Result.{IfOk-weaker}
 use Rattle.std.proofs.lemmas.List.{take_all}
 use Rattle.std.proofs.lemmas.List.Elements.{All-weaker}
 use Rattle.std.proofs.lemmas.List.Splits.{slice_split_none, join_with_byte-slice_split}
 use Rattle.typed_path.specs.scan.Masks.{is_one_of, IsFirstOf}
-use Rattle.typed_path.specs.script.Lines.{tab, line_feed, split_lines, fields_of, AnswersFirst}
+use Rattle.typed_path.specs.components.Dialect.{Dialect, unix, windows}
+use Rattle.typed_path.specs.script.Lines.{tab, line_feed, split_lines, fields_of, dialect_name, AnswersFirst}
 use Rattle.typed_path.specs.script.Commands.{command_name, end_byte}
 use Rattle.typed_path.specs.declared.script.lines.Command.{Command}
 use Rattle.typed_path.specs.declared.script.lines.Command.TheVariants.{Normalize, Components, Join, JoinChecked, Convert, ConvertChecked}
@@ -44,22 +46,19 @@ module _ (input : List ℕ) (at : ℕ) (found : IsFirstOf (tab, line_feed) input
 
 -- ---- lines and their fields
 
--- the name of a command has no line feed, and no tab
-pub command_is_open : (c : Command) → split_lines (command_name c) ≡ command_name c ∷ []
-command_is_open Normalize = refl
-command_is_open Components = refl
-command_is_open Join = refl
-command_is_open JoinChecked = refl
-command_is_open Convert = refl
-command_is_open ConvertChecked = refl
+-- the name of a command is one field, and stands in one line
+pub command_is_field : (c : Command) → (split_lines (command_name c) ≡ command_name c ∷ []) × (fields_of (command_name c) ≡ command_name c ∷ [])
+command_is_field Normalize = (refl, refl)
+command_is_field Components = (refl, refl)
+command_is_field Join = (refl, refl)
+command_is_field JoinChecked = (refl, refl)
+command_is_field Convert = (refl, refl)
+command_is_field ConvertChecked = (refl, refl)
 
-pub command_is_field : (c : Command) → fields_of (command_name c) ≡ command_name c ∷ []
-command_is_field Normalize = refl
-command_is_field Components = refl
-command_is_field Join = refl
-command_is_field JoinChecked = refl
-command_is_field Convert = refl
-command_is_field ConvertChecked = refl
+-- so is that of a dialect
+pub dialect_is_field : (d : Dialect) → (split_lines (dialect_name d) ≡ dialect_name d ∷ []) × (fields_of (dialect_name d) ≡ dialect_name d ∷ [])
+dialect_is_field unix = (refl, refl)
+dialect_is_field windows = (refl, refl)
 
 -- the fields of a line, its first field cut off
 pub fields-behind : (field rest : List ℕ) → fields_of field ≡ field ∷ [] → fields_of (field ++ tab ∷ rest) ≡ field ∷ fields_of rest
@@ -82,21 +81,16 @@ answers-alike : (given other : List ℕ → List ℕ) (input : List ℕ) (left :
 answers-alike given other input None old new same h = h
 answers-alike given other input (Some left) old new same h = (h.0, h.1, h.2 ∙ ap (λ bs. old ++ bs) (same h.0 (split_lines left) h.1))
 
--- a refusal says nothing of what was answered
-on_ok : {A E : Type 0} (r : Result A E) (P Q : A → Type 0) → ((a : A) → P a → Q a) → IfOk r P → IfOk r Q
-on_ok (Ok a) P Q follows h = follows a h
-on_ok (Err e) P Q follows h = h
-
 module _ {A E : Type 0} (r : Result A E) (left : A → Option (List ℕ)) (given other : List ℕ → List ℕ) (old new : List ℕ) where
   pub put_alike : (input : List ℕ) → ((line : List ℕ) (lines : List (List ℕ)) → split_lines input ≡ line ∷ lines → other line ≡ given line)
       → IfOk r (λ a. AnswersFirst other input (left a) old new) → IfOk r (λ a. AnswersFirst given input (left a) old new)
-  put_alike input same h = on_ok r _ _ (λ a g. answers-alike given other input (left a) old new same g) h
+  put_alike input same h = IfOk-weaker r _ _ (λ a g. answers-alike given other input (left a) old new same g) h
 
   pub put_behind : (input field rest : List ℕ) → input ≡ field ++ tab ∷ rest → split_lines field ≡ field ∷ []
       → ((line : List ℕ) (lines : List (List ℕ)) → split_lines rest ≡ line ∷ lines → other line ≡ given (field ++ tab ∷ line))
       → IfOk r (λ a. AnswersFirst other rest (left a) old new) → IfOk r (λ a. AnswersFirst given input (left a) old new)
   put_behind input field rest e whole same h =
-      on_ok r _ _
+      IfOk-weaker r _ _
       (λ a g. subst (λ t. AnswersFirst given t (left a) old new) (sym e)
       (answers-behind given field rest (left a) old new whole (answers-alike (λ line. given (field ++ tab ∷ line)) other rest (left a) old new same g)))
       h

@@ -6,7 +6,7 @@ use Rattle.typed_path.proofs.scan.lanes.has_forbidden.Given as goal
 abbrev pub invariant-loop-at : goal.invariant-loop-at
 invariant-loop-at l = record {
   within : l.at ≤ length l.text;
-  passed : HoldsNowhere (forbidden_at l.text) 0 l.at;
+  passed : HoldsNowhere (forbidden_at l.pair l.text) 0 l.at;
 }
 
 abbrev pub decreases-loop-at : goal.decreases-loop-at

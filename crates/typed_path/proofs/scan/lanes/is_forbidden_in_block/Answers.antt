@@ -6,4 +6,4 @@ pub first_marked-requires-clause-beyond : goal.first_marked-requires-clause-beyo
 first_marked-requires-clause-beyond g c = c.forbidden_at.ensures.beyond
 
 pub returns : goal.returns
-returns g c = first-tells (forbidden_at c.args.text.now) c.args.at _ _ (c.first_marked.ensures (forbidden_at c.args.text.now) c.forbidden_at.ensures)
+returns g c = first-tells (forbidden_at c.args.pair c.args.text.now) c.args.at _ _ (c.first_marked.ensures (forbidden_at c.args.pair c.args.text.now) c.forbidden_at.ensures)

@@ -1,14 +1,9 @@
 use Rattle.std.proofs.Common.{sym, ap, ◌∙◌}
 use Rattle.std.specs.List.{list_any}
-use Rattle.typed_path.specs.changes.Checked.{is_stray, is_forbidden}
+use Rattle.typed_path.specs.changes.Checked.{is_stray}
 use Rattle.typed_path.proofs.lemmas.queries.ValidLemmas.{stray-slash}
-use Rattle.typed_path.proofs.lemmas.scan.ForbiddenLemmas.{any-alike, stray-either}
 use Rattle.typed_path.proofs.scan.separators.Separators.has_stray.Goals as goal
 
 pub returns-in-Slash : goal.returns-in-Slash
 returns-in-Slash c =
     c.is_some.ensures ∙ stray-slash c.args.bytes.now c.memchr.result c.memchr.ensures ∙ ap (λ s. list_any (is_stray s) c.args.bytes.now) (sym c.in-Slash.is)
-
-pub returns-in-Either : goal.returns-in-Either
-returns-in-Either c =
-    c.has_forbidden.ensures ∙ sym (any-alike _ is_forbidden c.args.bytes.now stray-either) ∙ ap (λ s. list_any (is_stray s) c.args.bytes.now) (sym c.in-Either.is)

@@ -1,14 +1,11 @@
-use Rattle.std.proofs.Common.{◌≡◌, length, arith, ℕ, List, [], ◌∷◌, ◌++◌, Bool, true, false, cond, append_assoc, sym, ap, subst, refl, ◌∙◌}
+use Rattle.std.proofs.Common.{◌≡◌, arith, ℕ, List, [], ◌∷◌, ◌++◌, Bool, true, false, cond, append_assoc, sym, ap, subst, refl, ◌∙◌}
 use Rattle.std.specs.Prelude.{Some, option_map}
 use Rattle.std.proofs.lemmas.Bool.{eqb-true}
+use Rattle.std.proofs.lemmas.List.{nil_from_length}
 use Rattle.typed_path.specs.script.Lines.{split_lines, reply, replies_to, complete_lines, open_line, AnswersFirst}
 use Rattle.typed_path.proofs.lemmas.script.LineLemmas.{joined-open, complete_lines-joined, open_line-joined}
 use Rattle.typed_path.proofs.script.dialogue.Dialogue.take_in.Goals as goal
 use Rattle.typed_path.proofs.script.dialogue.Dialogue.take_in.Goals.{then-not-is_empty+in-Some+in_ok-complete, else-not-is_empty}
-
-no_bytes : (xs : List ℕ) → length xs ≡ 0 → xs ≡ []
-no_bytes [] e = refl
-no_bytes (x ∷ xs) e = absurd (omega (arith, e))
 
 -- the replies once one more line is complete
 next_replies : (line rest piece behind replies whole : List ℕ) → split_lines line ≡ line ∷ [] → split_lines rest ≡ piece ∷ split_lines behind
@@ -48,7 +45,7 @@ lines-init c =
             line = ap open_line rest ∙ sym (open_line-joined line c.args.self.now.is_open input piece behind w.in-Some.ensures.pieces);
           }
       | else-not-is_empty w ↦
-          let none : line ≡ [] = no_bytes line (omega (arith, c.args.self.now.line.ok, eqb-true _ _ (sym c.is_empty.ensures ∙ w.if-not-is_empty.false))) in
+          let none : line ≡ [] = nil_from_length line (omega (arith, c.args.self.now.line.ok, eqb-true _ _ (sym c.is_empty.ensures ∙ w.if-not-is_empty.false))) in
           let rest : c.if-not-is_empty.rest.now ≡ line ++ input = ap (λ r. r.now) w.rest-is ∙ ap (λ t. t ++ input) (sym none) in
           record {
             none_open = ap (λ s. s.line.items) w.self-is ∙ none;
