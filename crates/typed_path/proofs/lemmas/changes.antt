@@ -1,7 +1,6 @@
 -- What changes a path.
 -- JoinLemmas: the components of a text with more put behind a separator at its end
 -- EndedLemmas: a base of Windows with a separator put behind it, where it needs one
--- PlainNames: what a push onto a text that it spells anew makes of a plain name
 -- NameFaults: a name that is allowed, as a path that is pushed
 -- SpellLemmas: a list as it is read behind a prefix of Windows, spelled and read again
 -- SpelledTexts: what stands behind the prefix of a text of Windows that is spelled as it is read
@@ -28,7 +27,6 @@
 -- HarmlessLemmas: a path of Unix in which neither NUL nor two dots side by side stand
 pub mod JoinLemmas
 pub mod EndedLemmas
-pub mod PlainNames
 pub mod NameFaults
 pub mod SpellLemmas
 pub mod SpelledTexts

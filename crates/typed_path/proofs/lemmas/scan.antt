@@ -9,7 +9,7 @@
 -- PrefixSteps: steps of a reading whose prefix is still to be taken
 -- CursorSteps: steps of a cursor whose prefix is still to be taken
 -- EndSteps: one more request of a list of them
--- ForbiddenLemmas: whether a text has a byte that no name of Windows may have, told by its places and by its dialect
+-- ForbiddenLemmas: whether a text has a byte that no name of Windows may have, told by its places
 -- MaskLemmas: what masks say of places, searches of a range put together from what was seen of it, and a search for one of a pair as one for what passes a test
 -- SingleReadings: a text that two steps from the front tell to be one component
 pub mod BackLemmas

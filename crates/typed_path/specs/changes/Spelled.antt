@@ -1,18 +1,14 @@
 -- The texts of Windows that a push spells anew as they stand, and how such a text is written.
-use Rattle.std.specs.Prelude.{◌≡◌, ℕ, ◌+◌, List, [], ◌∷◌, ◌++◌, length, sum_by, if◌then◌else◌, Bool, true, false, not, ◌&&◌, ◌||◌, is_some, Option, Some, None, ⊤}
+use Rattle.std.specs.Prelude.{◌≡◌, ℕ, ◌+◌, List, [], ◌∷◌, ◌++◌, length, sum_by, if◌then◌else◌, Bool, true, false, not, ◌&&◌, ◌||◌, Option, Some, None, ⊤}
 use Rattle.std.specs.List.{list_any, list_all, slice_split, All, AllByRecursion}
 use Rattle.typed_path.specs.declared.scan.separators.Separators.{Separators}
-use Rattle.typed_path.specs.declared.scan.separators.Separators.TheVariants.{Slash, Backslash, Either}
+use Rattle.typed_path.specs.declared.scan.separators.Separators.TheVariants.{Slash, Backslash}
 use Rattle.typed_path.specs.components.Dialect.{Dialect, unix, windows, backslash, is_separator, is_verbatim}
 use Rattle.typed_path.specs.components.Part.{Kind, prefix, root, current, parent, normal, Part, is_name, root_part}
-use Rattle.typed_path.specs.components.Prefix.{is_empty, drive, prefix_of}
+use Rattle.typed_path.specs.components.Prefix.{is_empty, prefix_of}
 use Rattle.typed_path.specs.components.Comps.{is_dot, is_dot_dot, parts_of}
 use Rattle.typed_path.specs.queries.Queries.{begins_with_root, has_prefix}
 use Rattle.typed_path.specs.changes.Push.{spelled, spells_anew, raw_length}
-
--- a name that a push puts behind a text as it stands
-abbrev pub is_plain : List ℕ → Bool
-is_plain name = not (is_empty name || is_dot name || is_dot_dot name || list_any (is_separator Either) name || is_some (drive name))
 
 -- a piece that is a component as it stands, where others stand before it
 abbrev pub is_component : Separators → List ℕ → Bool

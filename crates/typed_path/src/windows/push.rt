@@ -6,13 +6,13 @@ ghost use Rattle.typed_path.specs.components.Dialect.{windows};
 ghost use Rattle.typed_path.specs.components.Comps.{parts_of};
 ghost use Rattle.typed_path.specs.components.Part.{kinds};
 ghost use Rattle.typed_path.specs.components.Prefix.{prefix_of};
-ghost use Rattle.typed_path.specs.changes.Push.{push_windows, ended_windows, is_disk_alone, raw_length, spells_anew, FitsPush};
-ghost use Rattle.typed_path.specs.changes.Spelled.{IsKnown, is_plain};
+ghost use Rattle.typed_path.specs.changes.Push.{push_windows, ended_windows, is_disk_alone, raw_length, FitsPush};
+ghost use Rattle.typed_path.specs.changes.Spelled.{IsKnown};
 ghost use Rattle.typed_path.specs.queries.Queries.{has_any_verbatim_prefix};
 
 use crate::common::put_over;
 use crate::scan::{Cursor, after_mark, drive, find_prefix};
-use crate::windows::spelled::{is_plain, spelled_head};
+use crate::windows::spelled::spelled_head;
 use crate::windows::verbatim::merge_at;
 use std::alloc::AllocError;
 
@@ -97,24 +97,6 @@ pub fn push_at(
     put_over(text, kept, separator, other)
 }
 
-/// Puts a plain name behind the path that stands behind the first bytes of a text, and has no verbatim
-/// kind. Neither is read: most components of a conversion are such names.
-fn put_plain(text: &mut Vec<u8>, start: usize, name: &[u8]) -> Result<(), AllocError>
-    requires within { start ≤ length text.old.items }
-    requires kind { spells_anew windows (drop start text.old.items) ≡ false }
-    requires plain { is_plain name.now ≡ true }
-    ensures ok { OnOk result (text.new.items
-        ≡ take start text.old.items ++ push_windows (drop start text.old.items) name.now) }
-    ensures err { OnErr result (text.new.items ≡ text.old.items) }
-    ensures capacity { vec_capacity text.old ≤ vec_capacity text.new }
-    ensures succeeds { (room : ℕ) → start + room ≤ vec_capacity text.old
-        → FitsPush windows room (drop start text.old.items) name.now → IsOk result }
-{
-    let separator = separator_behind(&text[start..]);
-    let len = text.len();
-    put_over(text, len, separator, name)
-}
-
 /// Pushes a path onto the one that stands behind the first bytes of a text, of which something may be
 /// known, and answers what is known of what stands there then. Where memory is refused, the text is as
 /// it was.
@@ -140,12 +122,8 @@ pub fn push_next(
         → IsOk result }
 {
     let stays = keeps_prefix(text.len() - start, other, known);
-    if known.is_none() && is_plain(other) && !has_verbatim_kind(&text[start..]) {
-        put_plain(text, start, other)?;
-    } else {
-        let len = text.len();
-        push_at(text, start, len, other, known)?;
-    }
+    let len = text.len();
+    push_at(text, start, len, other, known)?;
     if stays {
         return Ok(known);
     }

@@ -7,16 +7,9 @@ ghost use Rattle.typed_path.specs.components.Dialect.{windows, is_separator};
 ghost use Rattle.typed_path.specs.components.Prefix.{Found, is_empty, prefix_of};
 ghost use Rattle.typed_path.specs.queries.Queries.{is_verbatim_prefix};
 ghost use Rattle.typed_path.specs.components.Comps.{is_dot, is_dot_dot};
-ghost use Rattle.typed_path.specs.changes.Spelled.{is_plain, is_component, is_row, TellsSpelled, IsSpelledHead};
+ghost use Rattle.typed_path.specs.changes.Spelled.{is_component, is_row, TellsSpelled, IsSpelledHead};
 
-use crate::scan::{Separators, cut_at_separator, drive, find_prefix, is_dots};
-
-/// Whether a push puts the name as it stands behind a text that it spells as that stands.
-pub fn is_plain(name: &[u8]) -> bool
-    ensures { result ≡ is_plain name.now }
-{
-    !(is_dots(name) || is_separated(Separators::Either, name) || drive(name).is_some())
-}
+use crate::scan::{Separators, cut_at_separator, find_prefix};
 
 /// Whether some byte of a text separates.
 #[inline(always)]

@@ -1,22 +1,21 @@
 -- A path of Unix in which neither NUL nor two dots side by side stand: none of its components offends.
-use Rattle.std.proofs.Common.{◌≡◌, ℕ, zero, suc, ◌+◌, ◌-◌, ◌≤◌, ◌<◌, ◌==◌, ◌||◌, ◌&&◌, Bool, true, false, not, cond, if◌then◌else◌, List, [], ◌∷◌, ◌++◌, length, take, drop, slice_index, refl, sym, ap, subst, ◌∙◌, arith}
-use Rattle.std.specs.Prelude.{nat_eq, Option, Some, None}
+use Rattle.std.proofs.Common.{◌≡◌, ℕ, zero, suc, ◌+◌, ◌-◌, ◌≤◌, ◌<◌, ◌==◌, ◌||◌, ◌&&◌, Bool, true, false, not, cond, if◌then◌else◌, List, [], ◌∷◌, ◌++◌, length, drop, slice_index, refl, sym, ap, subst, ◌∙◌, arith}
+use Rattle.std.specs.Prelude.{nat_eq, Some, None}
 use Rattle.std.specs.List.{list_any, slice_split, onto_first, starts_with, AllByRecursion}
 use Rattle.std.specs.Option.{option_or}
 use Rattle.std.proofs.lemmas.Bool.{ne_eqb, eqb-false}
-use Rattle.std.proofs.lemmas.List.{drop_more, drop_all}
-use Rattle.typed_path.specs.declared.errors.CheckedPathError.{CheckedPathError}
+use Rattle.std.proofs.lemmas.List.{drop_more}
 use Rattle.typed_path.specs.declared.errors.CheckedPathError.TheVariants.{InvalidFilename}
 use Rattle.typed_path.specs.declared.scan.separators.Separators.TheVariants.{Slash}
 use Rattle.typed_path.specs.components.Dialect.{unix, slash, dot, is_separator, root_text}
-use Rattle.typed_path.specs.components.Part.{Kind, Part, kinds, parts, root_part, current_part, parent_part, name_part}
+use Rattle.typed_path.specs.components.Part.{Kind, Part, kinds, root_part, current_part, parent_part, name_part}
 use Rattle.typed_path.specs.components.Comps.{is_dot, is_dot_dot}
 use Rattle.typed_path.specs.queries.Queries.{is_disallowed}
 use Rattle.typed_path.specs.scan.Masks.{is_one_of, stands_at, IsFirstOf}
 use Rattle.typed_path.specs.changes.Checked.{begins_with_harm, is_harmless}
 use Rattle.typed_path.specs.changes.Fault.{offence, fault, fault_behind}
 use Rattle.typed_path.proofs.lemmas.lists.SplitLemmas.{slice_split-some, AllByRecursion-append}
-use Rattle.typed_path.proofs.lemmas.components.PartLemmas.{pieces, later_part, later_parts, first_part, first_parts, body_parts, parts-body}
+use Rattle.typed_path.proofs.lemmas.components.PartLemmas.{pieces, later_part, later_parts, first_parts, body_parts, parts-body}
 
 neither : (x y : Bool) → (x || y) ≡ false → (x ≡ false) × (y ≡ false)
 neither true y e = cc

@@ -22,7 +22,7 @@ use Rattle.typed_path.proofs.lemmas.components.WindowsCuts.{verbatim-take}
 use Rattle.typed_path.proofs.lemmas.components.ReadLemmas.{prefix-read}
 use Rattle.typed_path.proofs.lemmas.changes.FaultlessLemmas.{parts_of-none, parts_of-some}
 use Rattle.typed_path.proofs.lemmas.changes.PushLemmas.{push-anew}
-use Rattle.typed_path.proofs.lemmas.changes.PlainNames.{clean-either}
+use Rattle.typed_path.proofs.lemmas.components.PlainNames.{clean-either}
 use Rattle.typed_path.proofs.lemmas.changes.SpelledTexts.{Behind, nothing, rooted, IsShaped, spelled-shaped, spelled-prefixed, behind-spelled}
 use Rattle.typed_path.proofs.lemmas.changes.KeptPrefixes.{verbatim-kept}
 use Rattle.typed_path.proofs.lemmas.changes.MergedStanding.{merged-behind}

@@ -21,24 +21,27 @@ pub record IsPlain (name : List ℕ) : Type 0 where
   pub no_drive : drive name ≡ None
 
 -- a name that is clean in each Windows text is clean in one
-pub plain-clean : (s : Separators) (name : List ℕ) → IsPlain name → IsCleanName s name
-plain-clean s name plain =
-    let clean = plain.clean in
+pub clean-either : (s : Separators) (name : List ℕ) → IsCleanName Either name → IsCleanName s name
+clean-either s name clean =
     record { filled = clean.filled; no_dot = clean.no_dot; no_dot_dot = clean.no_dot_dot; unseparated = λ k d l. unseparated-either s _ (clean.unseparated k d l) }
+
+-- so is a plain one
+pub plain-clean : (s : Separators) (name : List ℕ) → IsPlain name → IsCleanName s name
+plain-clean s name plain = clean-either s name plain.clean
 
 -- a byte that a name may have is another than each one that no name may have
 other-byte : (b c : ℕ) → is_disallowed windows c ≡ true → is_disallowed windows b ≡ false → (b == c) ≡ false
 other-byte b c never h = false_from_ne_true _ (λ e. both_ways (is_disallowed windows b) h (ap (is_disallowed windows) (eqb-true b c e) ∙ never))
 
 -- such bytes separate nothing
-allowed-unseparated : (bytes : List ℕ) → list_any (is_disallowed windows) bytes ≡ false → IsUnseparated (is_separator Either) bytes
+pub allowed-unseparated : (bytes : List ℕ) → list_any (is_disallowed windows) bytes ≡ false → IsUnseparated (is_separator Either) bytes
 allowed-unseparated [] h = All-nil _
 allowed-unseparated (b ∷ bs) h =
     let parts = or_parts (is_disallowed windows b) (list_any (is_disallowed windows) bs) h in
     All-cons (λ c. is_separator Either c ≡ false) b bs (rw (other-byte b slash refl parts.0, other-byte b backslash refl parts.0) refl) (allowed-unseparated bs parts.1)
 
 -- nor do they begin with a drive
-allowed-drive : (bytes : List ℕ) → list_any (is_disallowed windows) bytes ≡ false → drive bytes ≡ None
+pub allowed-drive : (bytes : List ℕ) → list_any (is_disallowed windows) bytes ≡ false → drive bytes ≡ None
 allowed-drive [] h = refl
 allowed-drive (a ∷ []) h = refl
 allowed-drive (a ∷ b ∷ bs) h =

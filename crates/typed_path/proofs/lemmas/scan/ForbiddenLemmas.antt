@@ -1,14 +1,10 @@
--- Whether a text has a byte that no name of Windows may have, told by its places and by its dialect.
-use Rattle.std.proofs.Common.{◌≡◌, ℕ, suc, ◌≤◌, ◌<◌, ◌==◌, Bool, true, false, not, ◌||◌, ◌&&◌, List, [], ◌∷◌, length, slice_index, nat_lt, ⊎_elim, true≢false, refl, sym, ap, ◌∙◌, arith}
+-- Whether a text has a byte that no name of Windows may have, told by its places.
+use Rattle.std.proofs.Common.{◌≡◌, ℕ, suc, ◌≤◌, ◌<◌, Bool, true, false, ◌||◌, List, [], ◌∷◌, length, slice_index, nat_lt, ⊎_elim, true≢false, refl, sym, ap, ◌∙◌, arith}
 use Rattle.std.specs.List.{list_any}
 use Rattle.std.specs.Slice.Scan.{HoldsNowhere, HoldsSomewhere, IsFirstPlace}
-use Rattle.std.proofs.lemmas.Bool.{eqb-true, cases_lt, ltb-true, lt-ltb}
+use Rattle.std.proofs.lemmas.Bool.{cases_lt, ltb-true, lt-ltb}
 use Rattle.std.proofs.lemmas.List.Folds.{list_any_at}
 use Rattle.typed_path.specs.scan.Masks.{TellsWhether}
-use Rattle.typed_path.specs.declared.scan.separators.Separators.TheVariants.{Backslash, Either}
-use Rattle.typed_path.specs.components.Dialect.{windows, slash, backslash, colon, is_separator}
-use Rattle.typed_path.specs.queries.Queries.{is_disallowed, has_allowed_bytes}
-use Rattle.typed_path.specs.changes.Checked.{is_forbidden, is_forbidden_or, is_stray}
 
 -- a test that holds at no place of a text holds of no byte
 pub any-nowhere : (p : ℕ → Bool) (text : List ℕ) → HoldsNowhere (λ k. p (slice_index text k)) 0 (length text) → list_any p text ≡ false
@@ -41,11 +37,3 @@ paired false false false true e f g h = refl
 paired false false false false true f g h = refl
 paired false false false false false true g h = refl
 paired false false false false false false g h = refl
-
--- the bytes that no name of Windows may have: the separators, and those that separate in no text
-pub disallowed-windows : (b : ℕ) → is_disallowed windows b ≡ ((b == backslash || b == slash) || is_forbidden b)
-disallowed-windows b = apart (b == backslash || b == slash) (b == 58) (b == 63) (b == 42) (b == 34) (b == 62) (b == 60) (b == 124) (b == 0)
-  where
-    apart : (x c d e f g h i j : Bool) → x || c || d || e || f || g || h || i || j ≡ (x || (c || d || e || f || g || h || i || j))
-    apart true c d e f g h i j = refl
-    apart false c d e f g h i j = refl

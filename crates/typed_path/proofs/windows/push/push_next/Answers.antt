@@ -5,9 +5,6 @@ use Rattle.typed_path.specs.changes.Spelled.{IsKnown}
 use Rattle.typed_path.proofs.lemmas.changes.PutCrossed.{whole_range}
 use Rattle.typed_path.proofs.windows.push.push_next.Goals as goal
 
-pub returns-in_err-put_plain-clause-succeeds : goal.returns-in_err-put_plain-clause-succeeds
-returns-in_err-put_plain-clause-succeeds c = λ room within known fits. absurd (true≢false (sym (c.in_err-put_plain.ensures.succeeds room within fits)))
-
 pub returns-in_err-push_at-clause-succeeds : goal.returns-in_err-push_at-clause-succeeds
 returns-in_err-push_at-clause-succeeds c = λ room within known fits.
     let old = c.args.text.now.items in
