@@ -4,7 +4,8 @@
 # Build the program first: (cd crates/typath && rt run < stdin)
 #
 # bench/lines.sh [LINES]. Where TYPED_PATH_CRATE names a folder with the source of the Rust crate, as
-# many lines of all commands are answered beside bench/lines_peer.rs, which asks that crate.
+# many lines of all commands are answered beside bench/lines_peer.rs, which asks that crate: as fast as
+# it can be asked, and as most programs would ask it.
 set -euo pipefail
 top=$(cd "$(dirname "$0")/.." && pwd)
 program=$top/crates/typath/out/typath
@@ -108,14 +109,16 @@ PY
 for sort in "${sorts[@]}"; do
   mine=$(seconds "$sort" "$program")
   theirs=$(seconds "$sort" "$folder/peer")
+  plain=$(seconds "$sort" "$folder/peer" plain)
   "$program" < "$folder/$sort" > "$folder/replies"
   "$folder/peer" < "$folder/$sort" > "$folder/peer_replies"
-  python3 - "$folder" "$sort" "$mine" "$theirs" <<'PY'
+  python3 - "$folder" "$sort" "$mine" "$theirs" "$plain" <<'PY'
 import sys
-folder, sort, mine, theirs = sys.argv[1:]
+folder, sort, mine, theirs, plain = sys.argv[1:]
 with open(folder + "/replies", "rb") as ours, open(folder + "/peer_replies", "rb") as peers:
     alike = [one == other for one, other in zip(ours, peers, strict=True)]
 print(f"{sort}: {len(alike)} lines of all commands in {mine} s of processor time, by the Rust crate in {theirs} s"
-      f" ({float(mine) / float(theirs):.2f}); {alike.count(False)} of the replies differ")
+      f" ({float(mine) / float(theirs):.2f}), by a plain program over it in {plain} s"
+      f" ({float(mine) / float(plain):.2f}); {alike.count(False)} of the replies differ")
 PY
 done

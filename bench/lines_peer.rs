@@ -1,8 +1,10 @@
-//! Answers the lines that the program `typath` answers, by the Rust crate, as fast as it can be asked:
-//! lines and fields are found by the C library's search for a byte, joined paths are pushed into one
-//! vector that keeps its room, and the replies to all that was read are written in one piece.
+//! Answers the lines that the program `typath` answers, by the Rust crate, in one of two manners. Without
+//! an argument it is as fast as the crate can be asked: lines and fields are found by the C library's
+//! search for a byte, joined paths are pushed into one vector that keeps its room, and the replies to all
+//! that was read are written in one piece. With the argument `plain` it is what most programs would be:
+//! lines by `read_until`, fields by `split`, paths joined by `join`, and a buffered writer.
 
-use std::io::{self, Read, Write};
+use std::io::{self, BufRead, BufReader, BufWriter, Read, Write};
 use typed_path::{
     CheckedPathError, Component, Encoding, Path, TypedPath, UnixComponent, UnixEncoding, UnixPath, WindowsComponent,
     WindowsEncoding, WindowsPath, WindowsPrefix,
@@ -36,6 +38,20 @@ fn fields(mut line: &[u8]) -> ([&[u8]; FIELDS], usize) {
         line = &line[end + 1..];
     }
     (fields, FIELDS + 1)
+}
+
+/// The same by the standard library alone.
+fn fields_by_split(line: &[u8]) -> ([&[u8]; FIELDS], usize) {
+    let mut fields: [&[u8]; FIELDS] = [b""; FIELDS];
+    let mut count = 0;
+    for field in line.split(|byte| *byte == b'\t') {
+        if count == FIELDS {
+            return (fields, FIELDS + 1);
+        }
+        fields[count] = field;
+        count += 1;
+    }
+    (fields, count)
 }
 
 /// A dialect whose components have a word for their kind.
@@ -117,18 +133,30 @@ fn put_one<T: Words>(command: &[u8], path: &[u8], out: &mut Vec<u8>) {
     }
 }
 
-/// A command on a base, which has room to be pushed onto, and a path.
-fn put_joined<T: Encoding>(command: &[u8], base: &[u8], path: &[u8], room: &mut Vec<u8>, out: &mut Vec<u8>) {
-    room.clear();
-    room.extend_from_slice(base);
-    if command == b"join" {
-        T::push(room, path);
-        return put_text(room, out);
-    }
-    match T::push_checked(room, path) {
-        Ok(()) => put_text(room, out),
+fn put_made(made: Result<impl AsRef<[u8]>, CheckedPathError>, out: &mut Vec<u8>) {
+    match made {
+        Ok(text) => put_text(text.as_ref(), out),
         Err(refusal) => put_refusal(refusal, out),
     }
+}
+
+/// A command on a base and a path, which is pushed onto one vector that keeps its room, where there is one.
+fn put_joined<T: Encoding>(command: &[u8], base: &[u8], path: &[u8], room: Option<&mut Vec<u8>>, out: &mut Vec<u8>) {
+    let checked = command == b"join_checked";
+    let Some(room) = room else {
+        let (base, path) = (Path::<T>::new(base), Path::<T>::new(path));
+        let joined = if checked { base.join_checked(path) } else { Ok(base.join(path)) };
+        return put_made(joined, out);
+    };
+    room.clear();
+    room.extend_from_slice(base);
+    let mut pushed = Ok(());
+    if checked {
+        pushed = T::push_checked(room, path);
+    } else {
+        T::push(room, path);
+    }
+    put_made(pushed.map(|()| room.as_slice()), out);
 }
 
 fn put_converted<T: Encoding, U: Encoding>(command: &[u8], path: &[u8], out: &mut Vec<u8>) {
@@ -136,14 +164,12 @@ fn put_converted<T: Encoding, U: Encoding>(command: &[u8], path: &[u8], out: &mu
     if command == b"convert" {
         return put_text(path.with_encoding::<U>().as_bytes(), out);
     }
-    match path.with_encoding_checked::<U>() {
-        Ok(made) => put_text(made.as_bytes(), out),
-        Err(refusal) => put_refusal(refusal, out),
-    }
+    put_made(path.with_encoding_checked::<U>(), out);
 }
 
-fn put_reply(line: &[u8], room: &mut Vec<u8>, out: &mut Vec<u8>) {
-    match fields(line) {
+/// The reply to the fields of a line.
+fn put_reply(fields: ([&[u8]; FIELDS], usize), room: Option<&mut Vec<u8>>, out: &mut Vec<u8>) {
+    match fields {
         ([b"derive", path, ..], 2) => put_text(
             match TypedPath::derive(path) {
                 TypedPath::Unix(_) => b"unix",
@@ -170,7 +196,8 @@ fn put_reply(line: &[u8], room: &mut Vec<u8>, out: &mut Vec<u8>) {
     out.push(b'\n');
 }
 
-fn main() -> io::Result<()> {
+/// Answers as fast as the crate can be asked.
+fn answer_leanly() -> io::Result<()> {
     let (mut input, mut output) = (io::stdin().lock(), io::stdout().lock());
     let (mut read, mut filled) = (vec![0; ROOM], 0);
     let (mut room, mut out) = (Vec::new(), Vec::new());
@@ -186,7 +213,7 @@ fn main() -> io::Result<()> {
         let (mut start, mut from) = (0, filled);
         filled += count;
         while let Some(end) = find(b'\n', &read[from..filled]) {
-            put_reply(&read[start..from + end], &mut room, &mut out);
+            put_reply(fields(&read[start..from + end]), Some(&mut room), &mut out);
             from += end + 1;
             start = from;
         }
@@ -196,8 +223,30 @@ fn main() -> io::Result<()> {
         filled -= start;
     }
     if filled > 0 {
-        put_reply(&read[..filled], &mut room, &mut out);
+        put_reply(fields(&read[..filled]), Some(&mut room), &mut out);
     }
     output.write_all(&out)?;
     output.flush()
+}
+
+/// Answers as most programs would.
+fn answer_plainly() -> io::Result<()> {
+    let mut input = BufReader::with_capacity(ROOM, io::stdin().lock());
+    let mut output = BufWriter::with_capacity(ROOM, io::stdout().lock());
+    let (mut line, mut out) = (Vec::new(), Vec::new());
+    while input.read_until(b'\n', &mut line)? > 0 {
+        put_reply(fields_by_split(line.strip_suffix(b"\n").unwrap_or(&line)), None, &mut out);
+        output.write_all(&out)?;
+        line.clear();
+        out.clear();
+    }
+    output.flush()
+}
+
+fn main() -> io::Result<()> {
+    if std::env::args().nth(1).is_some_and(|manner| manner == "plain") {
+        answer_plainly()
+    } else {
+        answer_leanly()
+    }
 }

@@ -55,6 +55,9 @@ pub fn cut_at_separator(separators: Separators, text: &[u8]) -> Option<(&[u8], &
 }
 
 /// What stands behind a beginning of a text, where the text begins so.
+///
+/// The beginnings are a few bytes that are known here, so each is compared with a constant, where the
+/// comparison of slices is a call.
 #[inline(always)]
 pub fn text_behind<'a>(beginning: &[u8], text: &'a [u8]) -> Option<&'a [u8]>
     ensures { MatchOption result
@@ -65,8 +68,10 @@ pub fn text_behind<'a>(beginning: &[u8], text: &'a [u8]) -> Option<&'a [u8]>
     if text.len() < len {
         return None;
     }
-    if beginning == &text[..len] {
-        return Some(&text[len..]);
+    for at in 0..len {
+        if beginning[at] != text[at] {
+            return None;
+        }
     }
-    None
+    Some(&text[len..])
 }

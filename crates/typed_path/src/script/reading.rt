@@ -124,6 +124,9 @@ fn answer_derive<'a>(input: &'a [u8], replies: &mut Vec<u8>) -> Result<Option<&'
 }
 
 /// Answers a command by the texts of its line, with a tab between.
+///
+/// It is built into its caller, which would hand an answer on through memory.
+#[inline(always)]
 fn answer_texts<'a, T: Encoding>(
     command: Command,
     input: &'a [u8],
