@@ -56,8 +56,8 @@ pub fn cut_at_separator(separators: Separators, text: &[u8]) -> Option<(&[u8], &
 
 /// What stands behind a beginning of a text, where the text begins so.
 ///
-/// The beginnings are a few bytes that are known here, so each is compared with a constant, where the
-/// comparison of slices is a call.
+/// Where it is called, the beginning is a few bytes that are known, so each is compared with a constant:
+/// the comparison of slices would be a call.
 #[inline(always)]
 pub fn text_behind<'a>(beginning: &[u8], text: &'a [u8]) -> Option<&'a [u8]>
     ensures { MatchOption result

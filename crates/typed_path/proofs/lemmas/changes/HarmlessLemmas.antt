@@ -3,7 +3,7 @@ use Rattle.std.proofs.Common.{◌≡◌, ℕ, zero, suc, ◌+◌, ◌-◌, ◌�
 use Rattle.std.specs.Prelude.{nat_eq, Some, None}
 use Rattle.std.specs.List.{list_any, slice_split, onto_first, starts_with, AllByRecursion}
 use Rattle.std.specs.Option.{option_or}
-use Rattle.std.proofs.lemmas.Bool.{ne_eqb, eqb-false}
+use Rattle.std.proofs.lemmas.Bool.{and_parts, or_parts, not-true, ne_eqb, eqb-false}
 use Rattle.std.proofs.lemmas.List.{drop_more}
 use Rattle.typed_path.specs.declared.errors.CheckedPathError.TheVariants.{InvalidFilename}
 use Rattle.typed_path.specs.declared.scan.separators.Separators.TheVariants.{Slash}
@@ -17,17 +17,13 @@ use Rattle.typed_path.specs.changes.Fault.{offence, fault, fault_behind}
 use Rattle.typed_path.proofs.lemmas.lists.SplitLemmas.{slice_split-some, AllByRecursion-append}
 use Rattle.typed_path.proofs.lemmas.components.PartLemmas.{pieces, later_part, later_parts, first_parts, body_parts, parts-body}
 
-neither : (x y : Bool) → (x || y) ≡ false → (x ≡ false) × (y ≡ false)
-neither true y e = cc
-neither false y e = (refl, e)
-
 -- ---- the search for them
 
 -- a byte that is neither a dot nor NUL does no harm
 front_free : (x : ℕ) (rest : List ℕ) → is_one_of (dot, 0) x ≡ false → is_harmless (x ∷ rest) ≡ is_harmless rest
-front_free x [] e = ap (λ z. not z && true) (neither (x == dot) (x == 0) e).1
+front_free x [] e = ap (λ z. not z && true) (or_parts (x == dot) (x == 0) e).1
 front_free x (y ∷ rest) e =
-    let free = neither (x == dot) (x == 0) e in
+    let free = or_parts (x == dot) (x == 0) e in
     ap (λ z. not (z || x == dot && y == dot) && is_harmless (y ∷ rest)) free.1 ∙ ap (λ d. not (d && y == dot) && is_harmless (y ∷ rest)) free.0
 
 -- nor do many of them
@@ -77,25 +73,17 @@ put_onto x y false [] allowed apart all = (put x (y ∷ []) allowed all.0 apart,
 put_onto x y false ([] ∷ ps) allowed apart all = (put x (y ∷ []) allowed all.0 apart, all.1)
 put_onto x y false ((z ∷ zs) ∷ ps) allowed apart all = (put x (y ∷ z ∷ zs) allowed all.0 refl, all.1)
 
-apart_of : (z d h : Bool) → not (z || d) && h ≡ true → (z ≡ false) × (d ≡ false) × (h ≡ true)
-apart_of true d h e = cc
-apart_of false true h e = cc
-apart_of false false h e = (refl, refl, e)
-
 harmless-pieces : (text : List ℕ) → is_harmless text ≡ true → AllByRecursion IsHarmlessPiece (pieces Slash text)
 harmless-pieces [] e = ((refl, refl), tt)
 harmless-pieces (x ∷ []) e = by (x == slash) refl
   where
     by : (separates : Bool) → (x == slash) ≡ separates → AllByRecursion IsHarmlessPiece (cond separates ([] ∷ [] ∷ []) ((x ∷ []) ∷ []))
     by true s = ((refl, refl), ((refl, refl), tt))
-    by false s = ((refl, ap (λ b. (b || x == 0) || false) s ∙ ap (λ b. b || false) (alone (x == 0) e)), tt)
-      where
-        alone : (z : Bool) → not z && true ≡ true → z ≡ false
-        alone true h = cc
-        alone false h = refl
+    by false s = ((refl, ap (λ b. (b || x == 0) || false) s ∙ ap (λ b. b || false) (not-true (x == 0) (and_parts (not (x == 0)) true e).0)), tt)
 harmless-pieces (x ∷ y ∷ ys) e =
-    let told = apart_of (x == 0) (x == dot && y == dot) (is_harmless (y ∷ ys)) e in
-    by (x == slash) refl told.0 told.1 (harmless-pieces (y ∷ ys) told.2)
+    let told = and_parts (not (begins_with_harm (x ∷ y ∷ ys))) (is_harmless (y ∷ ys)) e in
+    let front = or_parts (x == 0) (x == dot && y == dot) (not-true _ told.0) in
+    by (x == slash) refl front.0 front.1 (harmless-pieces (y ∷ ys) told.1)
   where
     by : (separates : Bool) → (x == slash) ≡ separates → (x == 0) ≡ false → (x == dot && y == dot) ≡ false
         → AllByRecursion IsHarmlessPiece (pieces Slash (y ∷ ys)) → AllByRecursion IsHarmlessPiece (cond separates ([] ∷ pieces Slash (y ∷ ys)) (onto_first x (pieces Slash (y ∷ ys))))

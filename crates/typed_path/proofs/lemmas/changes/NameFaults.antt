@@ -1,7 +1,7 @@
 -- A name that is allowed is refused nowhere.
-use Rattle.std.proofs.Common.{◌≡◌, ℕ, ◌==◌, Bool, true, false, not, ◌||◌, List, [], ◌∷◌, None, refl, ap, ◌∙◌}
+use Rattle.std.proofs.Common.{◌≡◌, ℕ, ◌==◌, true, false, ◌||◌, List, [], ◌∷◌, None, refl, ap, ◌∙◌}
 use Rattle.std.specs.List.{list_any}
-use Rattle.std.proofs.lemmas.Bool.{and_parts, or_parts}
+use Rattle.std.proofs.lemmas.Bool.{and_parts, or_parts, not-true}
 use Rattle.std.proofs.lemmas.List.Elements.{All-nil, All-cons}
 use Rattle.typed_path.specs.declared.scan.separators.Separators.TheVariants.{Slash}
 use Rattle.typed_path.specs.components.Dialect.{Dialect, unix, windows, slash, is_separator}
@@ -16,15 +16,7 @@ use Rattle.typed_path.proofs.lemmas.components.PlainTexts.{plain-read}
 use Rattle.typed_path.proofs.lemmas.changes.JoinLemmas.{body_parts-name}
 use Rattle.typed_path.proofs.lemmas.promises.UnixNormal.{parts_of-unix}
 
--- no byte of an allowed name is one that no name may have
-none_disallowed : (d : Dialect) (name : List ℕ) → has_allowed_bytes d name ≡ true → list_any (is_disallowed d) name ≡ false
-none_disallowed d name allowed = by (list_any (is_disallowed d) name) allowed
-  where
-    by : (b : Bool) → not b ≡ true → b ≡ false
-    by true e = cc
-    by false e = refl
-
--- such bytes separate nothing on Unix
+-- bytes that a name of Unix may have separate nothing
 allowed-unseparated_unix : (name : List ℕ) → list_any (is_disallowed unix) name ≡ false → IsUnseparated (is_separator Slash) name
 allowed-unseparated_unix [] none = All-nil _
 allowed-unseparated_unix (b ∷ bs) none =
@@ -36,11 +28,11 @@ module _ (name : List ℕ) (filled : is_empty name ≡ false) (no_dot : is_dot n
   read-unix : has_allowed_bytes unix name ≡ true → parts_of unix name ≡ name_part name ∷ []
   read-unix allowed =
       parts_of-unix name
-      ∙ body_parts-name Slash name (record { filled = filled; no_dot = no_dot; no_dot_dot = no_dot_dot; unseparated = allowed-unseparated_unix name (none_disallowed unix name allowed) })
+      ∙ body_parts-name Slash name (record { filled = filled; no_dot = no_dot; no_dot_dot = no_dot_dot; unseparated = allowed-unseparated_unix name (not-true _ allowed) })
 
   read-windows : has_allowed_bytes windows name ≡ true → parts_of windows name ≡ name_part name ∷ []
   read-windows allowed =
-      let none = none_disallowed windows name allowed in
+      let none = not-true _ allowed in
       plain-read name (record {
         clean = record { filled = filled; no_dot = no_dot; no_dot_dot = no_dot_dot; unseparated = allowed-unseparated name none };
         no_drive = allowed-drive name none;
