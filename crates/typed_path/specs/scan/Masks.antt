@@ -1,5 +1,5 @@
 -- What the bits of a mask say of the places of a text, and the first and the last place of one of two bytes within a range.
-use Rattle.std.specs.Prelude.{◌≡◌, ◌≤◌, ◌<◌, ◌==◌, ◌||◌, ℕ, Bool, List, slice_index, if◌then◌else◌, MatchBool}
+use Rattle.std.specs.Prelude.{◌≡◌, ◌≤◌, ◌<◌, ◌==◌, ◌||◌, ℕ, Bool, not, List, slice_index, if◌then◌else◌, MatchBool}
 use Rattle.std.specs.Int.{bit_at}
 use Rattle.std.specs.Slice.Scan.{HoldsNowhere, HoldsSomewhere, IsFirstPlace, IsLastPlace}
 
@@ -15,6 +15,10 @@ is_one_of pair b = b == pair.0 || b == pair.1
 -- whether one of a pair stands at a place of a text
 abbrev pub stands_at : ℕ × ℕ → List ℕ → ℕ → Bool
 stands_at pair text k = is_one_of pair (slice_index text k)
+
+-- whether two texts differ at a place
+abbrev pub differs_at : List ℕ → List ℕ → ℕ → Bool
+differs_at text other k = not (slice_index text k == slice_index other k)
 
 -- the place of the first of a pair in a text from one place up to another, or that other where there is none
 abbrev pub IsFirstOf : ℕ × ℕ → List ℕ → ℕ → ℕ → ℕ → Type 0

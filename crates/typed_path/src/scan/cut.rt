@@ -4,7 +4,7 @@ ghost use Rattle.std.specs.Prelude.{◌≡◌, ◌≢◌, ◌≤◌, ◌<◌, �
 ghost use Rattle.std.specs.List.{slice_split, position_or_len};
 ghost use Rattle.typed_path.specs.components.Dialect.{is_separator};
 
-use crate::scan::lanes::first_between;
+use crate::scan::lanes::{differs_from_front, first_between};
 use crate::scan::separators::Separators;
 
 /// What stands before the first such byte, and what stands behind it.
@@ -56,10 +56,11 @@ pub fn cut_at_separator(separators: Separators, text: &[u8]) -> Option<(&[u8], &
 
 /// What stands behind a beginning of a text, where the text begins so.
 ///
-/// Where it is called, the beginning is a few bytes that are known, so each is compared with a constant:
-/// the comparison of slices would be a call.
+/// Where it is called, the beginning is known, so the comparison is one of two words with constants:
+/// that of slices would be a call.
 #[inline(always)]
 pub fn text_behind<'a>(beginning: &[u8], text: &'a [u8]) -> Option<&'a [u8]>
+    requires short { (4 ≤ length beginning.now) × (length beginning.now ≤ 16) }
     ensures { MatchOption result
         ((rest : List ℕ) → text.now ≢ beginning.now ++ rest)
         (λ rest. text.now ≡ beginning.now ++ rest.now) }
@@ -68,10 +69,10 @@ pub fn text_behind<'a>(beginning: &[u8], text: &'a [u8]) -> Option<&'a [u8]>
     if text.len() < len {
         return None;
     }
-    for at in 0..len {
-        if beginning[at] != text[at] {
-            return None;
-        }
-    }
-    Some(&text[len..])
+    let differs = if 8 <= len {
+        differs_from_front::<8>(beginning, text)
+    } else {
+        differs_from_front::<4>(beginning, text)
+    };
+    if differs { None } else { Some(&text[len..]) }
 }

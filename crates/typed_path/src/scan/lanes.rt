@@ -7,7 +7,7 @@ ghost use Rattle.std.specs.Int.{bit_at};
 ghost use Rattle.std.specs.List.{list_any};
 ghost use Rattle.std.specs.Slice.Scan.{IsFirstPlace};
 ghost use Rattle.typed_path.specs.changes.Checked.{is_forbidden, is_forbidden_or, forbidden_at};
-ghost use Rattle.typed_path.specs.scan.Masks.{IsMask, TellsWhether, is_one_of, stands_at, IsFirstOf, IsBehindLastOf};
+ghost use Rattle.typed_path.specs.scan.Masks.{IsMask, TellsWhether, is_one_of, stands_at, differs_at, IsFirstOf, IsBehindLastOf};
 
 use std::simd::prelude::*;
 
@@ -241,6 +241,34 @@ pub fn last_between(text: &[u8], from: usize, to: usize, pair: (u8, u8)) -> usiz
         return found;
     }
     last_by_block::<8>(text, from, at - 16, pair)
+}
+
+/// Which bytes of a block differ from those of another text.
+#[inline(always)]
+fn differences_at<const N: usize>(text: &[u8], other: &[u8], at: usize) -> u64
+    requires lanes { (0 < N) × (N ≤ 64) }
+    requires in_text { at + N ≤ length text.now }
+    requires in_other { at + N ≤ length other.now }
+    ensures { IsMask (λ k. differs_at text.now other.now (at + k)) N result }
+{
+    Simd::<u8, N>::from_slice(&text[at..])
+        .simd_ne(Simd::from_slice(&other[at..]))
+        .to_bitmask()
+}
+
+/// Whether a text differs from what another begins with, by the first N bytes and the last, which
+/// are all. Both are looked at, so that one branch tells.
+#[inline(always)]
+pub fn differs_from_front<const N: usize>(beginning: &[u8], text: &[u8]) -> bool
+    requires lanes { (0 < N) × (N ≤ 64) }
+    requires size { (N ≤ length beginning.now) × (length beginning.now ≤ N + N) }
+    requires room { length beginning.now ≤ length text.now }
+    ensures { TellsWhether (differs_at beginning.now text.now) 0 (length beginning.now) result }
+{
+    let last = beginning.len() - N;
+    let differences =
+        differences_at::<N>(beginning, text, 0) | differences_at::<N>(beginning, text, last);
+    differences != 0
 }
 
 /// Which bytes of a block are those that no name of Windows may have, and that separate in no text, or

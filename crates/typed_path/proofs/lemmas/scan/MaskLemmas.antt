@@ -1,18 +1,18 @@
 -- What masks say of places, and searches of a range put together from what was seen of it.
-use Rattle.std.proofs.Common.{◌≡◌, ℕ, suc, ◌+◌, ◌-◌, ◌*◌, ◌^◌, ◌/◌, ◌%◌, ◌≤◌, ◌<◌, List, Bool, true, false, ◌||◌, max, cond, length, slice_index, slice_range, take, drop, get_or, map, refl, sym, ap, ◌∙◌, arith, bit_or, ⊎_elim, pow_pos, pow_mono, div-lt_iff_lt-mul, le-div_iff_mul-le}
-use Rattle.std.specs.Int.{bit_at}
-use Rattle.std.specs.Slice.Scan.{HoldsNowhere, IsFirstPlace, IsLastPlace}
+use Rattle.std.proofs.Common.{◌≡◌, ℕ, suc, ◌+◌, ◌-◌, ◌*◌, ◌^◌, ◌/◌, ◌%◌, ◌≤◌, ◌<◌, List, Bool, true, false, not, ◌||◌, ◌==◌, max, w64, cond, length, slice_index, slice_range, take, drop, get_or, map, refl, sym, ap, subst, ◌∙◌, arith, bit_or, ⊎_elim, pow_pos, pow_mono, div-lt_iff_lt-mul, le-div_iff_mul-le}
+use Rattle.std.specs.Int.{bit_at, trailing_zeros}
+use Rattle.std.specs.Slice.Scan.{HoldsNowhere, HoldsSomewhere, IsFirstPlace, IsLastPlace}
 use Rattle.std.specs.Simd.Lanes.{mask_l}
 use Rattle.std.proofs.lemmas.Nat.{shr-shr}
 use Rattle.std.proofs.Math.Nat.{two-pow-succ, div-eq_of_lt}
-use Rattle.std.proofs.lemmas.Bool.{cases_lt}
+use Rattle.std.proofs.lemmas.Bool.{cases_lt, or_parts, eqb-true, eqb-false}
 use Rattle.std.proofs.lemmas.List.{get_or-map, get_or_past, get_or-take, get_or-drop, length-map, length-take-le, length-drop, take_all}
-use Rattle.std.proofs.lemmas.Nat.Bits.{bit_at-zero, bit_at_or}
-use Rattle.std.proofs.lemmas.Simd.{bit_mask_l, length-chunk, get_or-chunk}
+use Rattle.std.proofs.lemmas.Nat.Bits.{bit_at-zero, bit_at_or, bit_at-trailing_zeros}
+use Rattle.std.proofs.lemmas.Simd.{bit_mask_l, length-chunk, get_or-chunk, length-zip2, get_or-zip2}
 use Rattle.std.specs.List.{position_or_len}
 use Rattle.std.proofs.lemmas.List.Sums.{position_or_len_is}
-use Rattle.typed_path.specs.scan.Masks.{IsMask, is_one_of, stands_at, IsFirstOf}
-use lib.Lanes.{chunk}
+use Rattle.typed_path.specs.scan.Masks.{IsMask, TellsWhether, is_one_of, stands_at, IsFirstOf}
+use lib.Lanes.{zip2, chunk}
 
 -- ---- masks
 
@@ -48,6 +48,21 @@ mask-alike p q n a same g = record {
   within = λ k l. g.within k l ∙ ap (λ b. cond b 1 0) (sym (same k));
   beyond = g.beyond;
 }
+
+-- the mask of a comparison of the bytes from a place on with those of another text
+pub mask-chunks : (f : ℕ → ℕ → Bool) (at n : ℕ) (xs ys : List ℕ) → at + n ≤ length xs → at + n ≤ length ys
+    → IsMask (λ k. f (get_or xs (at + k) 0) (get_or ys (at + k) 0)) n (mask_l (zip2 f (chunk at n xs) (chunk at n ys)))
+mask-chunks f at n xs ys fits fits' =
+    let long = length-chunk at n xs fits in
+    let long' = length-chunk at n ys fits' in
+    let zipped = length-zip2 f (chunk at n xs) (chunk at n ys) (long ∙ sym long') in
+    let marks = zip2 f (chunk at n xs) (chunk at n ys) in
+    record {
+      within = λ k l.
+          bit_mask_l marks k
+          ∙ ap (λ b. cond b 1 0) (get_or-zip2 f (chunk at n xs) (chunk at n ys) k 0 0 false (omega arith) (omega arith) ∙ (λ i. f (get_or-chunk at n xs k 0 l i) (get_or-chunk at n ys k 0 l i)));
+      beyond = λ k l. bit_mask_l marks k ∙ ap (λ b. cond b 1 0) (get_or_past marks k false (omega arith));
+    }
 
 -- a mask without its lowest bits
 pub mask-behind : (p : ℕ → Bool) (s n mask : ℕ) → IsMask p (s + n) mask → IsMask (λ k. p (s + k)) n (mask / 2 ^ s)
@@ -95,6 +110,16 @@ module _ (q : ℕ → Bool) (at n mask : ℕ) (marks : IsMask (λ k. q (at + k))
   pub block-none : mask ≡ 0 → HoldsNowhere q at (at + n)
   block-none none k low high = block-clear k low high (ap (λ m. bit_at m (k - at)) none ∙ bit_at-zero (k - at))
 
+  -- whether one is
+  block-tells : mask < 2 ^ 64 → TellsWhether q at (at + n) (not (mask == 0))
+  block-tells fits = by (mask == 0) refl
+    where
+      by : (none : Bool) → (mask == 0) ≡ none → TellsWhether q at (at + n) (not none)
+      by true e = block-none (eqb-true mask 0 e)
+      by false e =
+          let low = bit_at-trailing_zeros w64 mask (omega (arith, eqb-false mask 0 e)) fits in
+          let found = block-set (trailing_zeros w64 mask) low.1 in (at + trailing_zeros w64 mask, omega arith, omega (arith, found.0), found.1)
+
   -- the lowest bit
   pub block-first : (low : ℕ) → bit_at mask low ≡ 1 → ((k : ℕ) → k < low → bit_at mask k ≡ 0) → (low < n) × IsFirstPlace q at (at + n) (at + low)
   block-first low set below =
@@ -117,6 +142,22 @@ module _ (q : ℕ → Bool) (at n mask : ℕ) (marks : IsMask (λ k. q (at + k))
           hit = λ _. ap q (omega arith) ∙ found.1;
         },
       )
+
+-- whether a bit of a mask of the first places is set
+pub mask-tells : (p : ℕ → Bool) (n mask : ℕ) → IsMask p n mask → mask < 2 ^ 64 → TellsWhether p 0 n (not (mask == 0))
+mask-tells p n mask marks fits =
+    let front : (k : ℕ) → 0 + k ≡ k = λ k. omega arith in
+    subst (λ to. TellsWhether p 0 to (not (mask == 0))) (front n) (block-tells p 0 n mask (mask-alike p (λ k. p (0 + k)) n mask (λ k. ap p (front k)) marks) fits)
+
+-- what is told of n places from the first on, and with them of the last n, is told of all
+pub both-tell : (q : ℕ → Bool) (n last : ℕ) (told : Bool) → last ≤ n → TellsWhether (λ k. q k || q (last + k)) 0 n told → TellsWhether q 0 (last + n) told
+both-tell q n last true short some = by (q some.0) refl some.3
+  where
+    by : (front : Bool) → q some.0 ≡ front → (front || q (last + some.0)) ≡ true → HoldsSomewhere q 0 (last + n)
+    by true e h = (some.0, omega arith, omega (arith, some.2), e)
+    by false e h = (last + some.0, omega arith, omega (arith, some.2), h)
+both-tell q n last false short none = λ k low high. ⊎_elim (λ l. (or_parts _ _ (none k low l)).0)
+    (λ l. let same : k ≡ last + (k - last) = omega arith in ap q same ∙ (or_parts _ _ (none (k - last) (omega arith) (omega arith))).1) (cases_lt k n)
 
 -- ---- one of a pair, and a test that agrees with it
 module _ (pair : ℕ × ℕ) (p : ℕ → Bool) (same : (b : ℕ) → p b ≡ is_one_of pair b) (text : List ℕ) where
