@@ -243,17 +243,18 @@ pub fn last_between(text: &[u8], from: usize, to: usize, pair: (u8, u8)) -> usiz
     last_by_block::<8>(text, from, at - 16, pair)
 }
 
-/// Which bytes of a block differ from those of another text.
+/// Whether a block of a text differs from that of another.
 #[inline(always)]
-fn differences_at<const N: usize>(text: &[u8], other: &[u8], at: usize) -> u64
+fn differs_in_block<const N: usize>(text: &[u8], other: &[u8], at: usize) -> bool
     requires lanes { (0 < N) × (N ≤ 64) }
     requires in_text { at + N ≤ length text.now }
     requires in_other { at + N ≤ length other.now }
-    ensures { IsMask (λ k. differs_at text.now other.now (at + k)) N result }
+    ensures { TellsWhether (differs_at text.now other.now) at (at + N) result }
 {
-    Simd::<u8, N>::from_slice(&text[at..])
+    let differences = Simd::<u8, N>::from_slice(&text[at..])
         .simd_ne(Simd::from_slice(&other[at..]))
-        .to_bitmask()
+        .to_bitmask();
+    differences != 0
 }
 
 /// Whether a text differs from what another begins with, by the first N bytes and the last, which
@@ -266,9 +267,7 @@ pub fn differs_from_front<const N: usize>(beginning: &[u8], text: &[u8]) -> bool
     ensures { TellsWhether (differs_at beginning.now text.now) 0 (length beginning.now) result }
 {
     let last = beginning.len() - N;
-    let differences =
-        differences_at::<N>(beginning, text, 0) | differences_at::<N>(beginning, text, last);
-    differences != 0
+    differs_in_block::<N>(beginning, text, 0) | differs_in_block::<N>(beginning, text, last)
 }
 
 /// Which bytes of a block are those that no name of Windows may have, and that separate in no text, or

@@ -1,11 +1,11 @@
 -- What masks say of places, and searches of a range put together from what was seen of it.
-use Rattle.std.proofs.Common.{◌≡◌, ℕ, suc, ◌+◌, ◌-◌, ◌*◌, ◌^◌, ◌/◌, ◌%◌, ◌≤◌, ◌<◌, List, Bool, true, false, not, ◌||◌, ◌==◌, max, w64, cond, length, slice_index, slice_range, take, drop, get_or, map, refl, sym, ap, subst, ◌∙◌, arith, bit_or, ⊎_elim, pow_pos, pow_mono, div-lt_iff_lt-mul, le-div_iff_mul-le}
+use Rattle.std.proofs.Common.{◌≡◌, ℕ, suc, ◌+◌, ◌-◌, ◌*◌, ◌^◌, ◌/◌, ◌%◌, ◌≤◌, ◌<◌, List, Bool, true, false, not, ◌||◌, ◌==◌, max, w64, cond, length, slice_index, slice_range, take, drop, get_or, map, refl, sym, ap, ◌∙◌, arith, bit_or, ⊎_elim, pow_pos, pow_mono, div-lt_iff_lt-mul, le-div_iff_mul-le}
 use Rattle.std.specs.Int.{bit_at, trailing_zeros}
-use Rattle.std.specs.Slice.Scan.{HoldsNowhere, HoldsSomewhere, IsFirstPlace, IsLastPlace}
+use Rattle.std.specs.Slice.Scan.{HoldsNowhere, IsFirstPlace, IsLastPlace}
 use Rattle.std.specs.Simd.Lanes.{mask_l}
 use Rattle.std.proofs.lemmas.Nat.{shr-shr}
 use Rattle.std.proofs.Math.Nat.{two-pow-succ, div-eq_of_lt}
-use Rattle.std.proofs.lemmas.Bool.{cases_lt, or_parts, eqb-true, eqb-false}
+use Rattle.std.proofs.lemmas.Bool.{cases_lt, eqb-true, eqb-false}
 use Rattle.std.proofs.lemmas.List.{get_or-map, get_or_past, get_or-take, get_or-drop, length-map, length-take-le, length-drop, take_all}
 use Rattle.std.proofs.lemmas.Nat.Bits.{bit_at-zero, bit_at_or, bit_at-trailing_zeros}
 use Rattle.std.proofs.lemmas.Simd.{bit_mask_l, length-chunk, get_or-chunk, length-zip2, get_or-zip2}
@@ -111,7 +111,7 @@ module _ (q : ℕ → Bool) (at n mask : ℕ) (marks : IsMask (λ k. q (at + k))
   block-none none k low high = block-clear k low high (ap (λ m. bit_at m (k - at)) none ∙ bit_at-zero (k - at))
 
   -- whether one is
-  block-tells : mask < 2 ^ 64 → TellsWhether q at (at + n) (not (mask == 0))
+  pub block-tells : mask < 2 ^ 64 → TellsWhether q at (at + n) (not (mask == 0))
   block-tells fits = by (mask == 0) refl
     where
       by : (none : Bool) → (mask == 0) ≡ none → TellsWhether q at (at + n) (not none)
@@ -143,21 +143,11 @@ module _ (q : ℕ → Bool) (at n mask : ℕ) (marks : IsMask (λ k. q (at + k))
         },
       )
 
--- whether a bit of a mask of the first places is set
-pub mask-tells : (p : ℕ → Bool) (n mask : ℕ) → IsMask p n mask → mask < 2 ^ 64 → TellsWhether p 0 n (not (mask == 0))
-mask-tells p n mask marks fits =
-    let front : (k : ℕ) → 0 + k ≡ k = λ k. omega arith in
-    subst (λ to. TellsWhether p 0 to (not (mask == 0))) (front n) (block-tells p 0 n mask (mask-alike p (λ k. p (0 + k)) n mask (λ k. ap p (front k)) marks) fits)
-
--- what is told of n places from the first on, and with them of the last n, is told of all
-pub both-tell : (q : ℕ → Bool) (n last : ℕ) (told : Bool) → last ≤ n → TellsWhether (λ k. q k || q (last + k)) 0 n told → TellsWhether q 0 (last + n) told
-both-tell q n last true short some = by (q some.0) refl some.3
-  where
-    by : (front : Bool) → q some.0 ≡ front → (front || q (last + some.0)) ≡ true → HoldsSomewhere q 0 (last + n)
-    by true e h = (some.0, omega arith, omega (arith, some.2), e)
-    by false e h = (last + some.0, omega arith, omega (arith, some.2), h)
-both-tell q n last false short none = λ k low high. ⊎_elim (λ l. (or_parts _ _ (none k low l)).0)
-    (λ l. let same : k ≡ last + (k - last) = omega arith in ap q same ∙ (or_parts _ _ (none (k - last) (omega arith) (omega arith))).1) (cases_lt k n)
+-- what is told of n places from the first on, and of the last n, is told of all
+pub both-tell : (q : ℕ → Bool) (n last : ℕ) (front back : Bool) → last ≤ n → TellsWhether q 0 (0 + n) front → TellsWhether q last (last + n) back → TellsWhether q 0 (last + n) (front || back)
+both-tell q n last true back short some told = (some.0, omega arith, omega (arith, some.2), some.3)
+both-tell q n last false true short none some = (some.0, omega arith, some.2, some.3)
+both-tell q n last false false short none none' = λ k low high. ⊎_elim (λ l. none k low (omega arith)) (λ l. none' k (omega arith) high) (cases_lt k n)
 
 -- ---- one of a pair, and a test that agrees with it
 module _ (pair : ℕ × ℕ) (p : ℕ → Bool) (same : (b : ℕ) → p b ≡ is_one_of pair b) (text : List ℕ) where
