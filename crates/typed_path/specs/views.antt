@@ -1,5 +1,6 @@
 -- The crate's values as data of the definitions.
 pub mod PieceViews
+pub mod FrontViews
 pub mod BodyViews
 pub mod CursorViews
 pub mod PathViews

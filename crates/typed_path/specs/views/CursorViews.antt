@@ -24,6 +24,10 @@ prefix_left (Some f) at text rest = component (prefix_part (prefix_view f.kind) 
 abbrev pub items_left : Cursor → List Placed
 items_left c = prefix_left c.prefix (start_left c.prefix c.body.from) (slice_left c) (body_items c.body)
 
+-- the whole text
+abbrev pub cursor_text : Cursor → List ℕ
+cursor_text c = c.body.text.now
+
 -- the separators of the whole text
 abbrev pub cursor_separators : Cursor → Separators
 cursor_separators c = c.body.separators

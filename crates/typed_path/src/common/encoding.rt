@@ -9,7 +9,7 @@ ghost use Rattle.typed_path.specs.components.Comps.{comps, parts_of};
 ghost use Rattle.typed_path.specs.scan.Left.{but_last, slice_after_front, slice_after_back};
 ghost use Rattle.typed_path.specs.scan.Steps.{first_part, last_part};
 ghost use Rattle.typed_path.specs.views.PieceViews.{part_of};
-ghost use Rattle.typed_path.specs.views.CursorViews.{slice_left, items_left};
+ghost use Rattle.typed_path.specs.views.CursorViews.{slice_left, items_left, cursor_text};
 ghost use Rattle.typed_path.specs.components.Part.{kinds, parts};
 ghost use Rattle.typed_path.specs.queries.Queries.{is_absolute, has_root, is_valid_name, is_valid, stripped};
 ghost use Rattle.typed_path.specs.places.Places.{normal_text};
@@ -48,7 +48,8 @@ pub trait Encoding: Sized {
     /// A reading of the components of a text.
     fn cursor(path: &[u8]) -> Cursor<'_>
         ensures items { items_left result ≡ comps dialect path.now }
-        ensures slice { slice_left result ≡ path.now };
+        ensures slice { slice_left result ≡ path.now }
+        ensures text { cursor_text result ≡ path.now };
 
     /// Takes the first component that is left, with the separators behind it.
     fn front<'a>(cursor: &mut Cursor<'a>) -> Option<Piece<'a>>

@@ -4,6 +4,7 @@ use crate::common::{Encoding, Path, PathBuf};
 use crate::conversions::between::put_converted;
 use crate::errors::AbsolutizeError;
 use crate::platform::{PlatformEncoding, PlatformPath};
+use crate::scan::Front;
 use std::alloc::{AllocError, Global};
 
 impl<'a, T: Encoding> Path<'a, T> {
@@ -56,7 +57,7 @@ impl<'a, T: Encoding> Path<'a, T> {
         let base = directory.as_bytes();
         let path = self.as_bytes();
         let mut joined = Vec::with_capacity(alloc, base.len() + path.len() + 1)?;
-        put_converted::<PlatformEncoding, T>(&mut joined, base)?;
+        put_converted::<PlatformEncoding, T>(&mut joined, Front::whole(base))?;
         T::push(&mut joined, path)?;
         Ok(PathBuf::from_vec(joined))
     }

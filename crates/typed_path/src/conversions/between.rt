@@ -10,11 +10,12 @@ ghost use Rattle.typed_path.specs.changes.Checked.{refusal, error_of};
 ghost use Rattle.typed_path.specs.changes.Fault.{fault};
 ghost use Rattle.typed_path.specs.changes.Run.{FitsEach};
 ghost use Rattle.typed_path.specs.changes.Spelled.{IsKnown};
+ghost use Rattle.typed_path.specs.views.FrontViews.{front_bytes};
 ghost use Rattle.typed_path.specs.views.PieceViews.{part_of};
 
 use crate::common::{Encoding, Path, PathBuf, cut_back};
 use crate::errors::{CheckedPathError, PathError};
-use crate::scan::{Piece, PieceKind, is_dots};
+use crate::scan::{Front, Piece, PieceKind, is_dots};
 use std::alloc::{AllocError, Global};
 
 impl<'a, T: Encoding> Path<'a, T> {
@@ -35,7 +36,7 @@ impl<'a, T: Encoding> Path<'a, T> {
     {
         let path = self.as_bytes();
         let mut text = Vec::with_capacity(alloc, path.len() + 1)?;
-        put_converted::<T, U>(&mut text, path)?;
+        put_converted::<T, U>(&mut text, Front::whole(path))?;
         Ok(PathBuf::from_vec(text))
     }
 
@@ -54,7 +55,7 @@ impl<'a, T: Encoding> Path<'a, T> {
     {
         let path = self.as_bytes();
         let mut text = Vec::with_capacity(alloc, path.len() + 1)?;
-        convert_checked::<T, U>(&mut text, 0, path)?;
+        convert_checked::<T, U>(&mut text, 0, Front::whole(path))?;
         Ok(PathBuf::from_vec(text))
     }
 }
@@ -70,16 +71,16 @@ pub fn have_one_label<T: Encoding, U: Encoding>() -> bool
 /// it was.
 pub fn put_converted<T: Encoding, U: Encoding>(
     text: &mut Vec<u8>,
-    path: &[u8],
+    path: Front<'_>,
 ) -> Result<(), AllocError>
     ensures ok { OnOk result (text.new.items
-        ≡ text.old.items ++ converted T.dialect U.dialect path.now) }
+        ≡ text.old.items ++ converted T.dialect U.dialect (front_bytes path.entry)) }
     ensures err { OnErr result (text.new.items ≡ text.old.items) }
     ensures succeeds { (room : ℕ) → length text.old.items + room ≤ vec_capacity text.old
-        → FitsConverted T.dialect U.dialect room path.now → IsOk result }
+        → FitsConverted T.dialect U.dialect room (front_bytes path.entry) → IsOk result }
 {
     if have_one_label::<T, U>() {
-        return text.extend_from_slice(path);
+        return text.extend_from_slice(path.as_bytes());
     }
     let len = text.len();
     let done = push_each::<T, U>(text, len, path);
@@ -91,20 +92,20 @@ pub fn put_converted<T: Encoding, U: Encoding>(
 fn push_each<T: Encoding, U: Encoding>(
     text: &mut Vec<u8>,
     start: usize,
-    path: &[u8],
+    path: Front<'_>,
 ) -> Result<(), AllocError>
     requires { length text.old.items ≡ start }
     ensures ok { OnOk result (drop start text.new.items
-        ≡ crossed_all U.dialect (parts_of T.dialect path.now)) }
+        ≡ crossed_all U.dialect (parts_of T.dialect (front_bytes path.entry))) }
     ensures kept { take start text.new.items ≡ take start text.old.items }
     ensures long { start ≤ length text.new.items }
     ensures succeeds { (room : ℕ) → start + room ≤ vec_capacity text.old
-        → FitsEach U.dialect room [] (map (crossed U.dialect) (parts_of T.dialect path.now))
+        → FitsEach U.dialect room [] (map (crossed U.dialect) (parts_of T.dialect (front_bytes path.entry)))
         → IsOk result }
 {
-    let cursor = T::cursor(path);
+    let cursor = T::cursor(path.as_bytes());
     let mut known = put_prefix::<U>(text, cursor.prefix_piece())?;
-    let mut body = cursor.body();
+    let mut body = cursor.body().within(path);
     'steps: while let Some(step) = body.front() {
         known = U::push_next(text, start, step.piece().crossed(U::root_text()), known)?;
     }
@@ -141,19 +142,19 @@ fn put_prefix<U: Encoding>(
 pub fn convert_checked<T: Encoding, U: Encoding>(
     text: &mut Vec<u8>,
     start: usize,
-    path: &[u8],
+    path: Front<'_>,
 ) -> Result<(), PathError>
     requires { length text.old.items ≡ start }
     ensures ok { OnOk result
-        (converted_checked T.dialect U.dialect path.now ≡ Ok (drop start text.new.items)) }
+        (converted_checked T.dialect U.dialect (front_bytes path.entry) ≡ Ok (drop start text.new.items)) }
     ensures refused { (e : CheckedPathError) → refusal result ≡ Some e
-        → converted_checked T.dialect U.dialect path.now ≡ Err e }
+        → converted_checked T.dialect U.dialect (front_bytes path.entry) ≡ Err e }
     ensures kept { take start text.new.items ≡ take start text.old.items }
     ensures long { start ≤ length text.new.items }
 {
-    let cursor = T::cursor(path);
+    let cursor = T::cursor(path.as_bytes());
     let mut known = push_prefix_checked::<U>(text, start, cursor.prefix_piece())?;
-    let mut body = cursor.body();
+    let mut body = cursor.body().within(path);
     'steps: while let Some(step) = body.front() {
         known = push_piece_checked::<U>(text, start, step.piece(), known)?;
     }

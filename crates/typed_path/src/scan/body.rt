@@ -5,6 +5,7 @@ ghost use Rattle.typed_path.specs.scan.Steps.{is_clean};
 
 use crate::errors::CheckedPathError;
 use crate::scan::depth::depth_behind;
+use crate::scan::front::Front;
 use crate::scan::piece::Step;
 use crate::scan::separators::Separators;
 use crate::scan::step::{back_step, front_step, trim_blanks};
@@ -44,6 +45,7 @@ impl<'a> Body<'a> {
     ghost use Rattle.typed_path.specs.components.Part.{Placed, end_of, kinds, parts};
     ghost use Rattle.typed_path.specs.queries.Queries.{begins_with_root};
     ghost use Rattle.typed_path.specs.scan.Steps.{first_part, last_part, end_from};
+    ghost use Rattle.typed_path.specs.views.FrontViews.{front_bytes};
     ghost use Rattle.typed_path.specs.views.PieceViews.{step_part};
     ghost use Rattle.typed_path.specs.views.BodyViews.{body_slice, body_items};
     ghost use Rattle.typed_path.specs.changes.Checked.{error_of};
@@ -84,6 +86,29 @@ impl<'a> Body<'a> {
             begin: Begin::Inside,
             separators,
         }
+    }
+
+    /// The same reading, where the text is the front of another.
+    #[inline(always)]
+    pub fn within(self, front: Front<'a>) -> Body<'a>
+        requires { self.text.now ≡ front_bytes front }
+        ensures { body_items result ≡ body_items self.entry }
+    {
+        Body {
+            text: front.text,
+            from: self.from,
+            to: self.to,
+            begin: self.begin,
+            separators: self.separators,
+        }
+    }
+
+    /// What stands in the text from the slice left on.
+    #[inline(always)]
+    pub fn onward(&self) -> &'a [u8]
+        ensures { result.now ≡ drop self.now.from self.now.text.now }
+    {
+        &self.text[self.from..]
     }
 
     /// The slice left: from the first component that is left to the last.
@@ -146,7 +171,8 @@ impl<'a> Body<'a> {
         ensures slice { body_slice self.new
             ≡ slice_after_front (body_items self.old) (body_slice self.old) }
         ensures named { IfSome result (λ step. step.kind ≡ StepKind.Normal
-            → take (length step.text.now) (body_slice self.old) ≡ step.text.now) }
+            → take (length step.text.now) (drop self.old.from self.old.text.now)
+            ≡ step.text.now) }
         ensures separators { self.new.separators ≡ self.old.separators }
     {
         let left = self.as_bytes();

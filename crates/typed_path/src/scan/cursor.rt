@@ -29,7 +29,7 @@ impl<'a> Cursor<'a> {
     ghost use Rattle.typed_path.specs.scan.Steps.{first_part, last_part, is_clean};
     ghost use Rattle.typed_path.specs.views.PieceViews.{part_of, prefix_view};
     ghost use Rattle.typed_path.specs.views.BodyViews.{body_items};
-    ghost use Rattle.typed_path.specs.views.CursorViews.{slice_left, items_left, cursor_separators};
+    ghost use Rattle.typed_path.specs.views.CursorViews.{slice_left, items_left, cursor_text, cursor_separators};
     ghost use Rattle.typed_path.specs.changes.Checked.{error_of};
     ghost use Rattle.typed_path.specs.components.Dialect.{windows, dialect_of};
     ghost use Rattle.typed_path.specs.changes.Fault.{fault_behind};
@@ -39,6 +39,7 @@ impl<'a> Cursor<'a> {
     pub(crate) fn new(text: &'a [u8], separators: Separators) -> Cursor<'a>
         ensures slice { slice_left result ≡ text.now }
         ensures items { items_left result ≡ body separators 0 text.now }
+        ensures text { cursor_text result ≡ text.now }
         ensures separators { cursor_separators result ≡ separators }
     {
         Cursor {
@@ -60,6 +61,7 @@ impl<'a> Cursor<'a> {
             ≡ component (prefix_part (prefix_view prefix.entry.kind)
             (take prefix.entry.length text.now)) 0
             ++ body separators prefix.entry.length (drop prefix.entry.length text.now) }
+        ensures text { cursor_text result ≡ text.now }
         ensures separators { cursor_separators result ≡ separators }
     {
         Cursor {
@@ -73,6 +75,7 @@ impl<'a> Cursor<'a> {
     pub(crate) fn of_windows(text: &'a [u8]) -> Cursor<'a>
         ensures items { items_left result ≡ comps windows text.now }
         ensures slice { slice_left result ≡ text.now }
+        ensures text { cursor_text result ≡ text.now }
         ensures dialect { dialect_of (cursor_separators result) ≡ windows }
     {
         let separators = Separators::of_windows(text);
@@ -125,7 +128,8 @@ impl<'a> Cursor<'a> {
     /// What is left behind the prefix.
     #[inline(always)]
     pub(crate) fn body(&self) -> Body<'a>
-        ensures { body_items result ≡ behind_prefix (items_left self.now) }
+        ensures items { body_items result ≡ behind_prefix (items_left self.now) }
+        ensures text { result.text.now ≡ cursor_text self.now }
     {
         self.body
     }

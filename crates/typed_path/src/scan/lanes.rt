@@ -171,6 +171,8 @@ fn first_by_blocks<const N: usize>(text: &[u8], from: usize, to: usize, pair: (u
 }
 
 /// The place of the first byte of a pair in a range, or the end of the range where there is none.
+///
+/// Where the text goes on behind the range, the last block of the search may look at what stands there.
 #[inline(always)]
 pub fn first_between(text: &[u8], from: usize, to: usize, pair: (u8, u8)) -> usize
     requires ordered { from ≤ to }
@@ -184,6 +186,9 @@ pub fn first_between(text: &[u8], from: usize, to: usize, pair: (u8, u8)) -> usi
             return found;
         }
         at += 32;
+    }
+    if 32 <= text.len() - at {
+        return first_in_block::<32>(text, at, pair).min(to);
     }
     if 32 <= to {
         return first_in_last_block::<32>(text, at, to, pair);

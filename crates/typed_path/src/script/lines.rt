@@ -1,20 +1,20 @@
 //! The replies to lines of commands.
 
-ghost use Rattle.std.specs.Prelude.{◌≡◌, [], ◌∷◌, ◌++◌, Some, take, length, OnOk, option_map};
+ghost use Rattle.std.specs.Prelude.{◌≡◌, [], ◌∷◌, ◌++◌, Some, take, drop, length, OnOk, option_map};
 ghost use Rattle.std.specs.Option.{option_to_list};
 ghost use Rattle.typed_path.specs.components.Comps.{parts_of};
 ghost use Rattle.typed_path.specs.changes.Push.{push};
 ghost use Rattle.typed_path.specs.views.PieceViews.{part_of, prefix_view, step_part};
 ghost use Rattle.typed_path.specs.declared.scan.piece.StepKind.{StepKind};
-ghost use Rattle.typed_path.specs.views.PathViews.{path_bytes};
+ghost use Rattle.typed_path.specs.views.FrontViews.{front_bytes};
 ghost use Rattle.typed_path.specs.conversions.Convert.{converted, converted_checked};
 ghost use Rattle.typed_path.specs.script.Lines.{tab, equals_sign, reply_line, text_reply, components_reply, reply_in, pair_reply_in, convert_reply_in, joined_reply, converted_reply, in_named, dialect_named, derived_reply, refusal_name, bad_line, component_field, fields_behind, kind_name, prefix_name};
 ghost use Rattle.typed_path.specs.script.Commands.{command_name};
 
-use crate::common::{Encoding, Path, put_front};
+use crate::common::{Encoding, put_front};
 use crate::conversions::{convert_checked, put_converted};
 use crate::errors::{CheckedPathError, PathError};
-use crate::scan::{Piece, PieceKind, Step, StepKind, WindowsPrefix};
+use crate::scan::{Front, Piece, PieceKind, Step, StepKind, WindowsPrefix};
 use crate::typed::PathType;
 use crate::unix::UnixEncoding;
 use crate::windows::WindowsEncoding;
@@ -45,20 +45,20 @@ pub fn put_derived(path: &[u8], replies: &mut Vec<u8>) -> Result<(), AllocError>
 /// Puts the reply to a command on a path behind others.
 pub fn put_path_reply<T: Encoding>(
     command: Command,
-    path: &[u8],
+    path: Front<'_>,
     replies: &mut Vec<u8>,
 ) -> Result<(), AllocError>
-    ensures { OnOk result (replies.new.items
-        ≡ replies.old.items ++ reply_line (reply_in T.dialect (command_name command) path.now)) }
+    ensures { OnOk result (replies.new.items ≡ replies.old.items
+        ++ reply_line (reply_in T.dialect (command_name command) (front_bytes path.entry))) }
 {
     match command {
         Command::Normalize => {
             replies.extend_from_slice(b"ok\t")?;
-            T::put_normal(replies, path)?;
+            T::put_normal(replies, path.as_bytes())?;
             replies.push(b'\n')?;
             Ok(())
         }
-        Command::Components => put_components(Path::<T>::new(path), replies),
+        Command::Components => put_components::<T>(path, replies),
         Command::Join | Command::JoinChecked | Command::Convert | Command::ConvertChecked => {
             put_bad_line(replies)
         }
@@ -70,16 +70,16 @@ pub fn put_path_reply<T: Encoding>(
 pub fn put_pair_reply<T: Encoding>(
     command: Command,
     first: &[u8],
-    path: &[u8],
+    path: Front<'_>,
     replies: &mut Vec<u8>,
 ) -> Result<(), AllocError>
-    ensures { OnOk result (replies.new.items ≡ replies.old.items
-        ++ reply_line (pair_reply_in T.dialect (command_name command) first.now path.now)) }
+    ensures { OnOk result (replies.new.items ≡ replies.old.items ++ reply_line
+        (pair_reply_in T.dialect (command_name command) first.now (front_bytes path.entry))) }
 {
     match command {
-        Command::Join => put_joined::<T>(first, path, replies),
-        Command::JoinChecked => match T::check(path) {
-            Ok(()) => put_joined::<T>(first, path, replies),
+        Command::Join => put_joined::<T>(first, path.as_bytes(), replies),
+        Command::JoinChecked => match T::check(path.as_bytes()) {
+            Ok(()) => put_joined::<T>(first, path.as_bytes(), replies),
             Err(refusal) => put_refusal(refusal, replies),
         },
         Command::Convert | Command::ConvertChecked => {
@@ -93,11 +93,12 @@ pub fn put_pair_reply<T: Encoding>(
 fn put_convert_reply<T: Encoding>(
     command: Command,
     target: &[u8],
-    path: &[u8],
+    path: Front<'_>,
     replies: &mut Vec<u8>,
 ) -> Result<(), AllocError>
     ensures { OnOk result (replies.new.items ≡ replies.old.items ++ reply_line (in_named
-        (convert_reply_in T.dialect (command_name command) path.now) (dialect_named target.now))) }
+        (convert_reply_in T.dialect (command_name command) (front_bytes path.entry))
+        (dialect_named target.now))) }
 {
     if target == b"unix".as_slice() {
         return put_conversion::<T, UnixEncoding>(command, path, replies);
@@ -111,11 +112,11 @@ fn put_convert_reply<T: Encoding>(
 /// Puts the reply to a conversion into an encoding behind others.
 fn put_conversion<T: Encoding, U: Encoding>(
     command: Command,
-    path: &[u8],
+    path: Front<'_>,
     replies: &mut Vec<u8>,
 ) -> Result<(), AllocError>
-    ensures { OnOk result (replies.new.items ≡ replies.old.items
-        ++ reply_line (convert_reply_in T.dialect (command_name command) path.now U.dialect)) }
+    ensures { OnOk result (replies.new.items ≡ replies.old.items ++ reply_line
+        (convert_reply_in T.dialect (command_name command) (front_bytes path.entry) U.dialect)) }
 {
     match command {
         Command::Convert => put_converted_text::<T, U>(path, replies),
@@ -128,11 +129,11 @@ fn put_conversion<T: Encoding, U: Encoding>(
 
 /// Puts the reply that is a path in another encoding behind others.
 fn put_converted_text<T: Encoding, U: Encoding>(
-    path: &[u8],
+    path: Front<'_>,
     replies: &mut Vec<u8>,
 ) -> Result<(), AllocError>
     ensures { OnOk result (replies.new.items
-        ≡ replies.old.items ++ text_reply (converted T.dialect U.dialect path.now)) }
+        ≡ replies.old.items ++ text_reply (converted T.dialect U.dialect (front_bytes path.entry))) }
 {
     replies.extend_from_slice(b"ok\t")?;
     put_converted::<T, U>(replies, path)?;
@@ -142,11 +143,11 @@ fn put_converted_text<T: Encoding, U: Encoding>(
 
 /// Puts the reply that is a path in another encoding, or the name of its refusal, behind others.
 fn put_converted_checked<T: Encoding, U: Encoding>(
-    path: &[u8],
+    path: Front<'_>,
     replies: &mut Vec<u8>,
 ) -> Result<(), AllocError>
     ensures { OnOk result (replies.new.items ≡ replies.old.items
-        ++ reply_line (converted_reply (converted_checked T.dialect U.dialect path.now))) }
+        ++ reply_line (converted_reply (converted_checked T.dialect U.dialect (front_bytes path.entry)))) }
 {
     let len = replies.len();
     replies.extend_from_slice(b"ok\t")?;
@@ -213,18 +214,18 @@ pub fn put_bad_line(replies: &mut Vec<u8>) -> Result<(), AllocError>
 
 /// Puts the reply that shows the components of a path behind others: the prefix first, so that the
 /// loop over the other components holds none.
-fn put_components<T: Encoding>(path: Path<'_, T>, replies: &mut Vec<u8>) -> Result<(), AllocError>
+fn put_components<T: Encoding>(path: Front<'_>, replies: &mut Vec<u8>) -> Result<(), AllocError>
     ensures { OnOk result (replies.new.items ≡ replies.old.items
-        ++ reply_line (components_reply (parts_of T.dialect (path_bytes path.entry)))) }
+        ++ reply_line (components_reply (parts_of T.dialect (front_bytes path.entry)))) }
 {
     let cursor = T::cursor(path.as_bytes());
     replies.extend_from_slice(b"ok")?;
     put_prefix(cursor.prefix_piece(), replies)?;
-    let mut body = cursor.body();
-    let mut left = body.as_bytes();
+    let mut body = cursor.body().within(path);
+    let mut left = body.onward();
     'steps: while let Some(step) = body.front() {
         put_step(step, left, replies)?;
-        left = body.as_bytes();
+        left = body.onward();
     }
     replies.push(b'\n')?;
     Ok(())
@@ -242,8 +243,8 @@ fn put_prefix(prefix: Option<Piece<'_>>, replies: &mut Vec<u8>) -> Result<(), Al
     }
 }
 
-/// Puts a tab, and the field that shows a component behind the prefix, by what was left before it was
-/// taken: a name is what that begins with.
+/// Puts a tab, and the field that shows a component behind the prefix, by what stood there before it
+/// was taken: a name is what that begins with.
 #[inline(always)]
 fn put_step(step: Step<'_>, left: &[u8], replies: &mut Vec<u8>) -> Result<(), AllocError>
     requires { step.kind ≡ StepKind.Normal

@@ -4,11 +4,12 @@
 //! finds the tabs between its texts.
 
 ghost use Rattle.std.specs.Prelude.{◌≡◌, ◌≢◌, ℕ, List, [], ◌∷◌, ◌++◌, codes, MatchOption, IfOk, IfSome, IfNone, option_map};
+ghost use Rattle.typed_path.specs.views.FrontViews.{front_bytes};
 ghost use Rattle.typed_path.specs.script.Lines.{tab, split_lines, fields_of, reply, reply_line, bare_reply, bad_line, AnswersFirst};
 ghost use Rattle.typed_path.specs.script.Commands.{command_name, end_byte, texts_reply};
 
 use crate::common::Encoding;
-use crate::scan::{cut_at, first_between, text_behind};
+use crate::scan::{Front, cut_at, first_between, text_behind};
 use crate::script::lines::{Command, put_bad_line, put_derived, put_pair_reply, put_path_reply};
 use crate::unix::UnixEncoding;
 use crate::windows::WindowsEncoding;
@@ -25,12 +26,12 @@ pub enum FieldEnd {
 
 /// The field at the front of an input, what it ends with, and what stands behind that.
 #[inline(always)]
-fn cut_field(input: &[u8]) -> Option<(&[u8], FieldEnd, &[u8])>
+fn cut_field(input: &[u8]) -> Option<(Front<'_>, FieldEnd, &[u8])>
     ensures none { IfNone result (split_lines input.now ≡ input.now ∷ []) }
     ensures text { IfSome result
-        (λ cut. input.now ≡ cut.0.now ++ end_byte cut.1 ∷ cut.2.now) }
-    ensures field { IfSome result (λ cut. fields_of cut.0.now ≡ cut.0.now ∷ []) }
-    ensures line { IfSome result (λ cut. split_lines cut.0.now ≡ cut.0.now ∷ []) }
+        (λ cut. input.now ≡ front_bytes cut.0 ++ end_byte cut.1 ∷ cut.2.now) }
+    ensures field { IfSome result (λ cut. fields_of (front_bytes cut.0) ≡ front_bytes cut.0 ∷ []) }
+    ensures line { IfSome result (λ cut. split_lines (front_bytes cut.0) ≡ front_bytes cut.0 ∷ []) }
 {
     let at = first_between(input, 0, input.len(), (b'\t', b'\n'));
     if at == input.len() {
@@ -41,7 +42,11 @@ fn cut_field(input: &[u8]) -> Option<(&[u8], FieldEnd, &[u8])>
     } else {
         FieldEnd::LineFeed
     };
-    Some((&input[..at], end, &input[at + 1..]))
+    let field = Front {
+        text: input,
+        len: at,
+    };
+    Some((field, end, &input[at + 1..]))
 }
 
 /// The command that an input begins with, and what stands behind its tab.
@@ -116,7 +121,7 @@ fn answer_derive<'a>(input: &'a [u8], replies: &mut Vec<u8>) -> Result<Option<&'
     match cut_field(input) {
         None => Ok(None),
         Some((path, FieldEnd::LineFeed, left)) => {
-            put_derived(path, replies)?;
+            put_derived(path.as_bytes(), replies)?;
             Ok(Some(left))
         }
         Some((_, FieldEnd::Tab, rest)) => answer_bad_line(rest, replies),
@@ -143,7 +148,12 @@ fn answer_texts<'a, T: Encoding>(
             put_path_reply::<T>(command, path, replies)?;
             Ok(Some(left))
         }
-        Some((first, FieldEnd::Tab, rest)) => answer_pair::<T>(command, first, rest, replies),
+        Some((first, FieldEnd::Tab, rest)) => answer_pair::<T>(
+            command,
+            first.as_bytes(),
+            rest,
+            replies,
+        ),
     }
 }
 

@@ -20,14 +20,14 @@ returns-then-is_ne g c =
 pub returns-in-Some-None : goal.returns-in-Some-None
 returns-in-Some-None g c =
     prefixed-bare (items_left c.cursor-own.result) (items_left c.cursor-others.result) (body_items c.body.result) (prefix_view c.in-Some-None.field-0-0) c.order_of_prefixed.result
-    c.in-Some-None.ensures c.in-Some-None.ensures' c.body.ensures c.order_of_prefixed.ensures
+    c.in-Some-None.ensures c.in-Some-None.ensures' c.body.ensures.items c.order_of_prefixed.ensures
     ∙ ap₂ left_cmp c.cursor-own.ensures.items c.cursor-others.ensures.items
 
 pub returns-in-None-Some : goal.returns-in-None-Some
 returns-in-None-Some g c =
     c.reverse.ensures
     ∙ bare-prefixed (items_left c.cursor-others.result) (items_left c.cursor-own.result) (body_items c.body-in-None-Some.result) (prefix_view c.in-None-Some.field-0-1) c.order_of_prefixed-in-None-Some.result
-    c.in-None-Some.ensures' c.in-None-Some.ensures c.body-in-None-Some.ensures c.order_of_prefixed-in-None-Some.ensures
+    c.in-None-Some.ensures' c.in-None-Some.ensures c.body-in-None-Some.ensures.items c.order_of_prefixed-in-None-Some.ensures
     ∙ ap₂ left_cmp c.cursor-own.ensures.items c.cursor-others.ensures.items
 
 pub steps-init : goal.steps-init
@@ -39,7 +39,7 @@ steps-init g c =
       | in-None-None w ↦ prefixes-none cs ds w.in-None-None.ensures w.in-None-None.ensures'
     ] in
     sym (c.bodies_behind_shared.ensures
-    ∙ ap₂ left_cmp c.body-2.ensures c.body-3.ensures
+    ∙ ap₂ left_cmp c.body-2.ensures.items c.body-3.ensures.items
     ∙ behind
     ∙ ap₂ left_cmp c.cursor-own.ensures.items c.cursor-others.ensures.items)
 

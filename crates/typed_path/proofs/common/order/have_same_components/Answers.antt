@@ -24,7 +24,7 @@ returns-then-not-take_same_last g c =
     let ds = items_left c.cursor-others.result in
     sym (ap is_eq (sym (ap₂ left_cmp c.cursor-own.ensures.items c.cursor-others.ensures.items))
     ∙ same-behind cs ds (body_items c.body-rest.result) (body_items c.body-wanted.result) (option_map prefix_view c.prefix.result) (option_map prefix_view c.prefix-2.result) c.have_same_prefixes.result
-    c.prefix.ensures c.prefix-2.ensures c.have_same_prefixes.ensures c.if-not-have_same_prefixes.false c.body-rest.ensures c.body-wanted.ensures
+    c.prefix.ensures c.prefix-2.ensures c.have_same_prefixes.ensures c.if-not-have_same_prefixes.false c.body-rest.ensures.items c.body-wanted.ensures.items
     ∙ c.take_same_last.ensures
     ∙ ap (λ b. b && left_same (body_items c.take_same_last.new.rest) (body_items c.take_same_last.new.wanted)) c.if-not-take_same_last.true)
 
@@ -34,7 +34,7 @@ steps-init g c =
     let ds = items_left c.cursor-others.result in
     ap is_eq (sym (ap₂ left_cmp c.cursor-own.ensures.items c.cursor-others.ensures.items))
     ∙ same-behind cs ds (body_items c.body-rest.result) (body_items c.body-wanted.result) (option_map prefix_view c.prefix.result) (option_map prefix_view c.prefix-2.result) c.have_same_prefixes.result
-    c.prefix.ensures c.prefix-2.ensures c.have_same_prefixes.ensures c.if-not-have_same_prefixes.false c.body-rest.ensures c.body-wanted.ensures
+    c.prefix.ensures c.prefix-2.ensures c.have_same_prefixes.ensures c.if-not-have_same_prefixes.false c.body-rest.ensures.items c.body-wanted.ensures.items
     ∙ c.take_same_last.ensures
     ∙ ap (λ b. b && left_same (body_items c.take_same_last.new.rest) (body_items c.take_same_last.new.wanted)) c.if-not-take_same_last.false
     ∙ ap is_eq (sym c.bodies_behind_shared.ensures)

@@ -10,6 +10,7 @@ use Rattle.typed_path.specs.conversions.Convert.{crossed, crossed_all}
 use Rattle.typed_path.specs.queries.Queries.{behind_prefix}
 use Rattle.typed_path.specs.views.BodyViews.{body_items}
 use Rattle.typed_path.specs.views.CursorViews.{items_left}
+use Rattle.typed_path.specs.views.FrontViews.{front_bytes}
 use Rattle.typed_path.specs.views.PieceViews.{part_of, step_part}
 use Rattle.typed_path.proofs.lemmas.scan.YieldLemmas.{parts-prefixed, yields_first}
 use Rattle.typed_path.proofs.lemmas.changes.PutCrossed.{put-whole, put-behind, crossed-next, crossed-end, crossed-fits}
@@ -21,9 +22,9 @@ returns-in_err-known-clause-succeeds g c = λ room within fits.
     let d = g.T.Encoding.dialect in
     let cs = items_left c.cursor-cursor.result in
     let prefix = option_map part_of c.prefix_piece.result in
-    let split = parts-prefixed (comps d c.args.path.now) cs (behind_prefix cs) prefix c.cursor-cursor.ensures.items c.prefix_piece.ensures refl in
+    let split = parts-prefixed (comps d (front_bytes c.args.path)) cs (behind_prefix cs) prefix (c.cursor-cursor.ensures.items ∙ ap (comps d) c.as_bytes.ensures) c.prefix_piece.ensures refl in
     absurd (true≢false (sym {a = false} (c.in_err-known.ensures.succeeds room (omega (arith, within, c.requires))
-    (crossed-fits e (option_to_list prefix) (parts (behind_prefix cs)) (parts_of d c.args.path.now) split room [] fits).0)))
+    (crossed-fits e (option_to_list prefix) (parts (behind_prefix cs)) (parts_of d (front_bytes c.args.path)) split room [] fits).0)))
 
 pub steps-init : goal.steps-init
 steps-init g c =
@@ -32,9 +33,9 @@ steps-init g c =
     let start = c.args.start in
     let prefix = option_map part_of c.prefix_piece.result in
     let first = option_to_list prefix in
-    let left = parts (body_items c.body-body.result) in
-    let ps = parts_of d c.args.path.now in
-    let split = parts-prefixed (comps d c.args.path.now) (items_left c.cursor-cursor.result) (body_items c.body-body.result) prefix c.cursor-cursor.ensures.items c.prefix_piece.ensures c.body-body.ensures in
+    let left = parts (body_items c.within-body.result) in
+    let ps = parts_of d (front_bytes c.args.path) in
+    let split = parts-prefixed (comps d (front_bytes c.args.path)) (items_left c.cursor-cursor.result) (body_items c.within-body.result) prefix (c.cursor-cursor.ensures.items ∙ ap (comps d) c.as_bytes.ensures) c.prefix_piece.ensures (c.within-body.ensures ∙ c.body.ensures.items) in
     let whole = put-behind start c.args.text.now.items c.put_prefix.new.text.items (crossed_all e first) c.requires c.in_ok-known.ensures.ok in
     record {
       pushed = crossed-next e first left ps split (crossed_all e ps) [] (drop start c.put_prefix.new.text.items) whole.0 refl;

@@ -7,6 +7,7 @@ use Rattle.typed_path.specs.changes.Run.{FitsEach}
 use Rattle.typed_path.specs.changes.Spelled.{IsKnown}
 use Rattle.typed_path.specs.conversions.Convert.{crossed, crossed_all}
 use Rattle.typed_path.specs.views.BodyViews.{body_items}
+use Rattle.typed_path.specs.views.FrontViews.{front_bytes}
 use Rattle.typed_path.proofs.conversions.between.push_each.Given as goal
 
 abbrev pub decreases-steps : goal.decreases-steps
@@ -17,11 +18,11 @@ invariant-steps g l =
     let e = g.U.Encoding.dialect in
     let parts_left = parts (body_items l.body) in
     record {
-      pushed : crossed_all e (parts_of g.T.Encoding.dialect l.path) ≡ push_all e (drop l.start l.text.items) (map (crossed e) parts_left);
+      pushed : crossed_all e (parts_of g.T.Encoding.dialect (front_bytes l.path)) ≡ push_all e (drop l.start l.text.items) (map (crossed e) parts_left);
       kept : take l.start l.text.items ≡ take l.start l.fn.text.items;
       long : l.start ≤ length l.text.items;
       capacity : vec_capacity l.fn.text ≤ vec_capacity l.text;
       known : IsKnown e l.known (drop l.start l.text.items);
-      fits : (room : ℕ) → FitsEach e room [] (map (crossed e) (parts_of g.T.Encoding.dialect l.path))
+      fits : (room : ℕ) → FitsEach e room [] (map (crossed e) (parts_of g.T.Encoding.dialect (front_bytes l.path)))
           → FitsEach e room (drop l.start l.text.items) (map (crossed e) parts_left);
     }

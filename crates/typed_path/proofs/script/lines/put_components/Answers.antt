@@ -6,7 +6,7 @@ use Rattle.typed_path.specs.components.Part.{Part}
 use Rattle.typed_path.specs.script.Lines.{tab, line_feed, reply_line, components_reply, component_field, fields_behind}
 use Rattle.typed_path.specs.views.BodyViews.{body_items}
 use Rattle.typed_path.specs.views.CursorViews.{items_left}
-use Rattle.typed_path.specs.views.PathViews.{path_bytes}
+use Rattle.typed_path.specs.views.FrontViews.{front_bytes}
 use Rattle.typed_path.specs.views.PieceViews.{part_of, step_part}
 use Rattle.typed_path.proofs.lemmas.scan.YieldLemmas.{parts-prefixed, yields_first, fewer}
 use Rattle.typed_path.proofs.lemmas.script.FieldLemmas.{join_with_byte-map}
@@ -42,11 +42,11 @@ all_shown old new replies left ps none ended h =
 pub steps-init : goal.steps-init
 steps-init g c =
     let d = g.T.Encoding.dialect in
-    let path = path_bytes c.args.path in
-    let split = parts-prefixed (comps d path) (items_left c.cursor-cursor.result) (body_items c.body-body.result) (option_map part_of c.prefix_piece.result)
-    (c.cursor-cursor.ensures.items ∙ ap (comps d) c.as_bytes.ensures) c.prefix_piece.ensures c.body-body.ensures in
+    let path = front_bytes c.args.path in
+    let split = parts-prefixed (comps d path) (items_left c.cursor-cursor.result) (body_items c.within-body.result) (option_map part_of c.prefix_piece.result)
+    (c.cursor-cursor.ensures.items ∙ ap (comps d) c.as_bytes.ensures) c.prefix_piece.ensures (c.within-body.ensures ∙ c.body.ensures.items) in
     record {
-      left = c.as_bytes-left.ensures;
+      left = c.onward-left.ensures;
       shown = first_shown c.args.replies.now.items _ _ _ _ (parts_of d path) split c.in_ok-extend_from_slice.ensures.items c.in_ok-put_prefix.ensures;
     }
 
@@ -57,11 +57,11 @@ pub steps-preserved : goal.steps-preserved
 steps-preserved g c =
     let taken = yields_first step_part (Some c.in-Some.step) (body_items c.steps.body) (body_items c.front.new.self) c.in-Some.ensures.taken c.in-Some.ensures.items in
     record {
-      left = c.as_bytes-left-in-Some.ensures;
+      left = c.onward-left-in-Some.ensures;
       shown = next_shown c.steps.replies.items _ (step_part c.in-Some.step) (step_part c.in-Some.step) _ _ taken refl c.in_ok-put_step.ensures ∙ c.steps.invariant.shown;
     }
 
 pub returns : goal.returns
 returns g c =
     let none = (yields_first step_part None (body_items c.steps.body) (body_items c.front.new.self) c.in_default.ensures.taken c.in_default.ensures.items).0 in
-    all_shown c.args.replies.now.items c.push.new.self.items c.steps.replies.items _ (parts_of g.T.Encoding.dialect (path_bytes c.args.path)) none c.in_ok-push.ensures.items c.steps.invariant.shown
+    all_shown c.args.replies.now.items c.push.new.self.items c.steps.replies.items _ (parts_of g.T.Encoding.dialect (front_bytes c.args.path)) none c.in_ok-push.ensures.items c.steps.invariant.shown

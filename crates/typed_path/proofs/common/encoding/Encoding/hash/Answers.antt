@@ -13,8 +13,8 @@ steps-init g c =
     let cs = items_left c.cursor-cursor.result in
     let ds = body_items c.body-body.result in (
       ap (fold g.H.Hasher.write c.args.state.now) (path_words-fed d c.args.path.now cs c.cursor-cursor.ensures.items)
-          ∙ fed-prefix g.H.Hasher.write c.args.state.now c.feed_prefix.new.state cs ds (option_map prefix_view c.prefix.result) c.prefix.ensures c.body-body.ensures c.feed_prefix.ensures,
-      counted-bare d c.args.path.now cs ds c.cursor-cursor.ensures.items c.body-body.ensures,
+          ∙ fed-prefix g.H.Hasher.write c.args.state.now c.feed_prefix.new.state cs ds (option_map prefix_view c.prefix.result) c.prefix.ensures c.body-body.ensures.items c.feed_prefix.ensures,
+      counted-bare d c.args.path.now cs ds c.cursor-cursor.ensures.items c.body-body.ensures.items,
     )
 
 pub steps-smaller : goal.steps-smaller
