@@ -100,7 +100,8 @@ fn push_each<T: Encoding, U: Encoding>(
     ensures kept { take start text.new.items ≡ take start text.old.items }
     ensures long { start ≤ length text.new.items }
     ensures succeeds { (room : ℕ) → start + room ≤ vec_capacity text.old
-        → FitsEach U.dialect room [] (map (crossed U.dialect) (parts_of T.dialect (front_bytes path.entry)))
+        → FitsEach U.dialect room []
+        (map (crossed U.dialect) (parts_of T.dialect (front_bytes path.entry)))
         → IsOk result }
 {
     let cursor = T::cursor(path.as_bytes());
@@ -146,7 +147,8 @@ pub fn convert_checked<T: Encoding, U: Encoding>(
 ) -> Result<(), PathError>
     requires { length text.old.items ≡ start }
     ensures ok { OnOk result
-        (converted_checked T.dialect U.dialect (front_bytes path.entry) ≡ Ok (drop start text.new.items)) }
+        (converted_checked T.dialect U.dialect (front_bytes path.entry)
+        ≡ Ok (drop start text.new.items)) }
     ensures refused { (e : CheckedPathError) → refusal result ≡ Some e
         → converted_checked T.dialect U.dialect (front_bytes path.entry) ≡ Err e }
     ensures kept { take start text.new.items ≡ take start text.old.items }

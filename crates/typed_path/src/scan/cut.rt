@@ -4,7 +4,7 @@ ghost use Rattle.std.specs.Prelude.{◌≡◌, ◌≢◌, ◌≤◌, ◌<◌, �
 ghost use Rattle.std.specs.List.{slice_split, position_or_len};
 ghost use Rattle.typed_path.specs.components.Dialect.{is_separator};
 
-use crate::scan::lanes::{differs_from_front, first_between};
+use crate::scan::lanes::{begins_otherwise, first_between};
 use crate::scan::separators::Separators;
 
 /// What stands before the first such byte, and what stands behind it.
@@ -70,9 +70,9 @@ pub fn text_behind<'a>(beginning: &[u8], text: &'a [u8]) -> Option<&'a [u8]>
         return None;
     }
     let differs = if 8 <= len {
-        differs_from_front::<8>(beginning, text)
+        begins_otherwise::<8>(beginning, text)
     } else {
-        differs_from_front::<4>(beginning, text)
+        begins_otherwise::<4>(beginning, text)
     };
     if differs { None } else { Some(&text[len..]) }
 }

@@ -262,10 +262,10 @@ fn differs_in_block<const N: usize>(text: &[u8], other: &[u8], at: usize) -> boo
     differences != 0
 }
 
-/// Whether a text differs from what another begins with, by the first N bytes and the last, which
-/// are all. Both are looked at, so that one branch tells.
+/// Whether a text begins otherwise, by the first N bytes of a beginning and its last N, which together
+/// are all of it. Both are looked at, so that one branch tells.
 #[inline(always)]
-pub fn differs_from_front<const N: usize>(beginning: &[u8], text: &[u8]) -> bool
+pub fn begins_otherwise<const N: usize>(beginning: &[u8], text: &[u8]) -> bool
     requires lanes { (0 < N) × (N ≤ 64) }
     requires size { (N ≤ length beginning.now) × (length beginning.now ≤ N + N) }
     requires room { length beginning.now ≤ length text.now }

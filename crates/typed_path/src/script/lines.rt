@@ -1,6 +1,6 @@
 //! The replies to lines of commands.
 
-ghost use Rattle.std.specs.Prelude.{◌≡◌, [], ◌∷◌, ◌++◌, Some, take, drop, length, OnOk, option_map};
+ghost use Rattle.std.specs.Prelude.{◌≡◌, [], ◌∷◌, ◌++◌, Some, take, length, OnOk, option_map};
 ghost use Rattle.std.specs.Option.{option_to_list};
 ghost use Rattle.typed_path.specs.components.Comps.{parts_of};
 ghost use Rattle.typed_path.specs.changes.Push.{push};
@@ -147,7 +147,8 @@ fn put_converted_checked<T: Encoding, U: Encoding>(
     replies: &mut Vec<u8>,
 ) -> Result<(), AllocError>
     ensures { OnOk result (replies.new.items ≡ replies.old.items
-        ++ reply_line (converted_reply (converted_checked T.dialect U.dialect (front_bytes path.entry)))) }
+        ++ reply_line (converted_reply
+        (converted_checked T.dialect U.dialect (front_bytes path.entry)))) }
 {
     let len = replies.len();
     replies.extend_from_slice(b"ok\t")?;

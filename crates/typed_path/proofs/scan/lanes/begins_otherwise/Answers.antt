@@ -1,7 +1,7 @@
 use Rattle.std.proofs.Common.{◌-◌, ◌||◌, length, subst, arith}
 use Rattle.typed_path.specs.scan.Masks.{TellsWhether, differs_at}
 use Rattle.typed_path.proofs.lemmas.scan.MaskLemmas.{both-tell}
-use Rattle.typed_path.proofs.scan.lanes.differs_from_front.Goals as goal
+use Rattle.typed_path.proofs.scan.lanes.begins_otherwise.Goals as goal
 
 pub returns : goal.returns
 returns g c =
