@@ -6,6 +6,7 @@ pub mod queries
 pub mod order
 pub mod changes
 pub mod places
+pub mod conversions
 pub mod promises
 pub mod script
 pub mod texts

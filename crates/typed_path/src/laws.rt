@@ -50,19 +50,19 @@ pub use windows::{
 };
 
 /// A normal text of Unix reads as what the list of its path resolves to.
-#[tactic(auto, using(crate::proofs::lemmas::promises::UnixNormal::reads_as_resolved))]
+#[tactic(auto, using(crate::proofs::lemmas::promises::UnixContained::reads_as_resolved))]
 pub fn normal_reads_as_resolved(path: &[u8])
     ensures { ReadsAsResolved path.now }
 {}
 
 /// A normal text of Unix is its own normal text.
-#[tactic(auto, using(crate::proofs::lemmas::promises::UnixNormal::stays_normal))]
+#[tactic(auto, using(crate::proofs::lemmas::promises::UnixContained::stays_normal))]
 pub fn normal_stays_normal(path: &[u8])
     ensures { StaysNormal path.now }
 {}
 
 /// Two paths of Unix have one normal text exactly if their lists resolve to the same kinds.
-#[tactic(auto, using(crate::proofs::lemmas::promises::UnixNormal::is_canonical))]
+#[tactic(auto, using(crate::proofs::lemmas::promises::UnixContained::is_canonical))]
 pub fn normal_is_canonical(path: &[u8], other: &[u8])
     ensures { IsCanonical path.now other.now }
 {}
@@ -90,7 +90,7 @@ pub fn order_agrees_with_equality(path: &[u8], other: &[u8])
 {}
 
 /// Equal paths feed the same to a hasher.
-#[tactic(auto, using(crate::proofs::lemmas::order::OrderLaws::hash_alike))]
+#[tactic(auto, using(crate::proofs::lemmas::order::OrderLemmas::hash_alike))]
 pub fn equal_paths_hash_alike(path: &[u8], other: &[u8])
     ghost d: { Dialect }
     ensures { HashAlike d path.now other.now }
@@ -206,13 +206,13 @@ pub fn steps_agree_with_counts(path: &[u8])
 
 /// What was taken from the front of a list of components, what is left, and what was taken from the
 /// back are together the list, in order.
-#[tactic(auto, using(crate::proofs::lemmas::scan::ReadingLemmas::is_whole))]
+#[tactic(auto, using(crate::proofs::lemmas::scan::Readings::is_whole))]
 pub fn ends_and_rest_are_the_list()
     ensures { (cs : List Placed) (i j : ℕ) → IsWhole cs i j }
 {}
 
 /// The list of a parent is the list without its last component, each component at its place.
-#[tactic(auto, using(crate::proofs::lemmas::queries::WindowsParent::parent_list))]
+#[tactic(auto, using(crate::proofs::lemmas::queries::Parents::parent_list))]
 pub fn parent_is_the_list_without_its_last(path: &[u8])
     ghost d: { Dialect }
     ensures { (parent : List ℕ) → parent_of d path.now ≡ Some parent
@@ -221,7 +221,7 @@ pub fn parent_is_the_list_without_its_last(path: &[u8])
 
 /// A path ends in a name and its parent is read as a list exactly where the path is read as that list
 /// and one name behind it.
-#[tactic(auto, using(crate::proofs::lemmas::queries::ChildLemmas::child_is_one_below))]
+#[tactic(auto, using(crate::proofs::lemmas::queries::Parents::child_is_one_below))]
 pub fn children_are_one_name_below(path: &[u8])
     ghost d: { Dialect }
     ensures { (above : List Kind) → (is_child_of d above path.now ≡ true)
@@ -230,13 +230,13 @@ pub fn children_are_one_name_below(path: &[u8])
 
 /// A relative Unix path joined to a base that is not empty is read as the list of the base and,
 /// behind it, that of the path without a current directory at its beginning.
-#[tactic(auto, using(crate::proofs::lemmas::promises::UnixJoin::join_appends))]
+#[tactic(auto, using(crate::proofs::lemmas::promises::UnixContained::join_appends))]
 pub fn join_appends(base: &[u8], path: &[u8])
     ensures { JoinAppends base.now path.now }
 {}
 
 /// Where a Unix path begins with a base, what is left behind the base, joined to it, equals the path.
-#[tactic(auto, using(crate::proofs::lemmas::promises::UnixStrip::strip_joins))]
+#[tactic(auto, using(crate::proofs::lemmas::promises::UnixContained::strip_joins))]
 pub fn strip_joins(path: &[u8], base: &[u8])
     ensures { StripJoins path.now base.now }
 {}

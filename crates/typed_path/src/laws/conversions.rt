@@ -21,7 +21,7 @@ pub fn platform_is_unix()
 /// Windows allows each name: none has a byte that Windows allows in no name, and none stands for a
 /// device. Then the answer is read as the same components, and its conversion to Unix equals the
 /// path.
-#[tactic(auto, using(crate::proofs::lemmas::promises::CheckedCrossings::crosses_where_allowed, crate::proofs::lemmas::promises::CrossedToWindows::crosses_as_it_is, crate::proofs::lemmas::promises::CrossedToUnix::crosses_back))]
+#[tactic(auto, using(crate::proofs::lemmas::conversions::CrossedLemmas::crosses_where_allowed, crate::proofs::lemmas::conversions::CrossedPaths::crosses_as_it_is, crate::proofs::lemmas::conversions::CrossedPaths::crosses_back))]
 pub fn unix_paths_cross_to_windows(path: &[u8])
     ensures accepted { CrossesWhereAllowed path.now }
     ensures kept { CrossesAsItIs path.now }
@@ -31,7 +31,7 @@ pub fn unix_paths_cross_to_windows(path: &[u8])
 /// A Windows path none of whose names has a byte that no name may have becomes on Unix: a root, where
 /// it has one or a prefix that is no drive, or else its drive as a name, or a current that stands
 /// first; and then its parents and names, in order.
-#[tactic(auto, using(crate::proofs::lemmas::promises::CrossedToUnix::crosses_to_unix))]
+#[tactic(auto, using(crate::proofs::lemmas::conversions::CrossedPaths::crosses_to_unix))]
 pub fn windows_paths_cross_to_unix(path: &[u8])
     ensures { CrossesToUnix path.now }
 {}

@@ -112,7 +112,7 @@ impl Separators {
 
     /// Whether a name of such a text stands for a device.
     #[inline(always)]
-    #[tactic(auto, using(crate::proofs::lemmas::changes::ReservedLemmas::unlike_device))]
+    #[tactic(auto, using(crate::proofs::lemmas::queries::ValidNames::unlike_device))]
     pub fn is_reserved(self, name: &[u8]) -> bool
         ensures { result ≡ is_reserved (dialect_of self) name.now }
     {

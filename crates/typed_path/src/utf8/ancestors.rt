@@ -1,5 +1,5 @@
 //! A path of text, its parent, the parent of that, and so on.
-#![tactic(auto, using(crate::proofs::lemmas::texts::TextLaws::text_laws))]
+#![tactic(auto, using(crate::proofs::lemmas::texts::TextChanges::text_laws))]
 
 ghost use Rattle.std.specs.Prelude.{◌≡◌, true};
 ghost use Rattle.typed_path.specs.texts.Texts.{are_texts};

@@ -1,5 +1,5 @@
 //! Paths of text in other encodings, and made absolute.
-#![tactic(auto, using(crate::proofs::lemmas::texts::TextLaws::text_laws))]
+#![tactic(auto, using(crate::proofs::lemmas::texts::TextChanges::text_laws))]
 
 use crate::errors::{AbsolutizeError, PathError};
 use crate::utf8::encoding::Utf8Encoding;

@@ -1,5 +1,5 @@
 //! What every encoding of paths of text can do.
-#![tactic(auto, using(crate::proofs::lemmas::texts::TextLaws::text_laws))]
+#![tactic(auto, using(crate::proofs::lemmas::texts::TextChanges::text_laws))]
 
 ghost use Rattle.std.specs.Prelude.{◌≡◌, ◌≤◌, Bool, fold, None, IsSome, IsOk, OnOk, OnErr};
 ghost use Rattle.std.specs.String.{string_bytes, string_capacity};

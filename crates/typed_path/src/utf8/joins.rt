@@ -1,5 +1,5 @@
 //! Owned paths of text made of lent ones.
-#![tactic(auto, using(crate::proofs::lemmas::texts::TextLaws::text_laws))]
+#![tactic(auto, using(crate::proofs::lemmas::texts::TextChanges::text_laws))]
 
 use crate::errors::PathError;
 use crate::utf8::encoding::Utf8Encoding;

@@ -1,5 +1,5 @@
 //! The parts of a path of text that are read off its ends, and what is left behind a base.
-#![tactic(auto, using(crate::proofs::lemmas::texts::TextLaws::text_laws))]
+#![tactic(auto, using(crate::proofs::lemmas::texts::TextChanges::text_laws))]
 
 use crate::errors::StripPrefixError;
 use crate::utf8::encoding::Utf8Encoding;

@@ -1,5 +1,5 @@
 //! Owned paths of text made of other values, and grown by lists of paths.
-#![tactic(auto, using(crate::proofs::lemmas::texts::TextLaws::text_laws))]
+#![tactic(auto, using(crate::proofs::lemmas::texts::TextChanges::text_laws))]
 
 ghost use Rattle.std.specs.Prelude.{◌≡◌, true};
 

@@ -1,5 +1,5 @@
 //! A component of a path of text.
-#![tactic(auto, using(crate::proofs::lemmas::texts::TextLaws::reading_laws))]
+#![tactic(auto, using(crate::proofs::lemmas::texts::TextChanges::reading_laws))]
 
 ghost use Rattle.std.specs.Prelude.{◌≡◌, true};
 ghost use Rattle.typed_path.specs.components.Part.{Part};

@@ -1,5 +1,5 @@
 //! The components of a path of text, each as a value of the type that the iterator names.
-#![tactic(auto, using(crate::proofs::lemmas::texts::TextLaws::reading_laws))]
+#![tactic(auto, using(crate::proofs::lemmas::texts::TextChanges::reading_laws))]
 
 ghost use Rattle.std.specs.Prelude.{◌≡◌, true};
 ghost use Rattle.typed_path.specs.components.Part.{Part};

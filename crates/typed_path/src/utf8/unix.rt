@@ -1,5 +1,5 @@
 //! Paths of text, written as on Unix.
-#![tactic(auto, using(crate::proofs::lemmas::texts::TextLaws::text_laws))]
+#![tactic(auto, using(crate::proofs::lemmas::texts::TextChanges::text_laws))]
 
 ghost use Rattle.std.specs.Prelude.{◌≡◌, true, false};
 ghost use Rattle.typed_path.specs.components.Dialect.{unix};
@@ -79,7 +79,7 @@ impl<'a> Utf8UnixComponent<'a> {
     /// # Errors
     ///
     /// The name that is no text.
-    #[tactic(auto, using(crate::proofs::lemmas::texts::TextLaws::component_laws))]
+    #[tactic(auto, using(crate::proofs::lemmas::texts::TextChanges::component_laws))]
     pub fn from_utf8(component: &UnixComponent<'a>) -> Result<Utf8UnixComponent<'a>, Utf8Error>
         ensures ok { IfOk result (λ c. text_unix_part c ≡ unix_part component.now) }
         ensures flag { is_ok result ≡ is_text_part (unix_part component.now) }

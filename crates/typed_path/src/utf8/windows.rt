@@ -1,5 +1,5 @@
 //! Paths of text, written as on Windows.
-#![tactic(auto, using(crate::proofs::lemmas::texts::TextLaws::text_laws))]
+#![tactic(auto, using(crate::proofs::lemmas::texts::TextChanges::text_laws))]
 
 ghost use Rattle.std.specs.Prelude.{◌≡◌, true, false};
 ghost use Rattle.typed_path.specs.components.Dialect.{windows};
@@ -85,7 +85,7 @@ impl<'a> Utf8WindowsComponent<'a> {
     /// # Errors
     ///
     /// The name, or the raw text of a prefix, that is no text.
-    #[tactic(auto, using(crate::proofs::lemmas::texts::TextLaws::component_laws))]
+    #[tactic(auto, using(crate::proofs::lemmas::texts::TextChanges::component_laws))]
     pub fn from_utf8(
         component: &WindowsComponent<'a>,
     ) -> Result<Utf8WindowsComponent<'a>, Utf8Error>

@@ -1,4 +1,4 @@
-use Rattle.typed_path.proofs.lemmas.components.PlaceLemmas.{comps-laid_out}
+use Rattle.typed_path.proofs.lemmas.components.Cuts.{comps-laid_out}
 use Rattle.typed_path.proofs.laws.components_stand_in_order.Goals as goal
 
 pub returns : goal.returns

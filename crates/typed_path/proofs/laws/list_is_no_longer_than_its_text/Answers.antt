@@ -1,4 +1,4 @@
-use Rattle.typed_path.proofs.lemmas.components.CountLemmas.{comps-count}
+use Rattle.typed_path.proofs.lemmas.components.Cuts.{comps-count}
 use Rattle.typed_path.proofs.laws.list_is_no_longer_than_its_text.Goals as goal
 
 pub returns : goal.returns

@@ -1,4 +1,4 @@
-use Rattle.typed_path.proofs.lemmas.queries.NameLemmas.{stem_of-whole, stem_of-extension, stem_of-filled}
+use Rattle.typed_path.proofs.lemmas.queries.FileNames.{stem_of-whole, stem_of-extension, stem_of-filled}
 use Rattle.typed_path.proofs.laws.name_is_stem_and_extension.Goals as goal
 
 pub returns : goal.returns

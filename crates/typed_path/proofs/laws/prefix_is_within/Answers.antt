@@ -1,4 +1,4 @@
-use Rattle.typed_path.proofs.lemmas.components.PrefixLemmas.{prefix-fits}
+use Rattle.typed_path.proofs.lemmas.components.Prefixes.{prefix-fits}
 use Rattle.typed_path.proofs.laws.prefix_is_within.Goals as goal
 
 pub returns : goal.returns

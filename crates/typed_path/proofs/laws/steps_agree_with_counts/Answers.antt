@@ -1,7 +1,6 @@
 use Rattle.typed_path.specs.components.Comps.{comps}
-use Rattle.typed_path.proofs.lemmas.scan.ReadingLemmas.{stepwise_answers, stepwise_items, stepwise_none}
-use Rattle.typed_path.proofs.lemmas.components.PlaceLemmas.{comps-laid_out}
-use Rattle.typed_path.proofs.lemmas.scan.SliceLemmas.{slice_after-left, stepwise_slices, stepwise_end}
+use Rattle.typed_path.proofs.lemmas.scan.Readings.{stepwise_answers, stepwise_items, stepwise_none, slice_after-left, stepwise_slices, stepwise_end}
+use Rattle.typed_path.proofs.lemmas.components.Cuts.{comps-laid_out}
 use Rattle.typed_path.proofs.laws.steps_agree_with_counts.Goals as goal
 
 pub returns : goal.returns

@@ -1,21 +1,96 @@
--- A prefix with more of its text behind it stays where something else is put apart in the place of that.
-use Rattle.std.proofs.Common.{◌≡◌, ℕ, ◌+◌, ◌<◌, ◌≤◌, false, nat_lt, if◌then◌else◌, List, [], ◌∷◌, ◌++◌, length, take, Some, refl, sym, ap, ◌∙◌, inl, inr, length-take, arith}
-use Rattle.std.specs.List.{position_or_len}
-use Rattle.std.proofs.lemmas.Bool.{cases_lt, cond-false, le-ltb}
-use Rattle.std.proofs.lemmas.List.{take-append-le, take_all}
+-- A prefix with more of its text behind it: where it ends, and what stands right behind it.
+use Rattle.std.proofs.Common.{◌≡◌, ℕ, suc, ◌+◌, ◌<◌, Bool, true, false, not, cond, if◌then◌else◌, List, [], ◌∷◌, length, drop, Some, None, refl, sym, ap, ◌∙◌, subst, length-drop, arith, ◌≤◌, nat_lt, ◌++◌, take, inl, inr, length-take, ◌⊎◌, ◌==◌, append-nil}
+use Rattle.std.specs.List.{position_or_len, after_first, list_any}
+use Rattle.std.proofs.lemmas.Bool.{not-true, false_from_ne_true, cases_lt, cond-false, le-ltb, both_ways, eqb-true, or_cases}
+use Rattle.std.proofs.lemmas.List.{drop-drop, take-append-le, take_all}
+use Rattle.std.proofs.lemmas.List.Splits.{slice_split-cons_yes}
 use Rattle.typed_path.specs.declared.scan.separators.Separators.{Separators}
-use Rattle.typed_path.specs.declared.scan.separators.Separators.TheVariants.{Backslash, Either}
-use Rattle.typed_path.specs.components.Dialect.{windows, separators, begins_verbatim, is_separator}
-use Rattle.typed_path.specs.components.Part.{verbatim}
-use Rattle.typed_path.specs.components.Prefix.{Found, name, second_name, names_length, prefix_of}
-use Rattle.typed_path.specs.queries.Queries.{is_disk}
+use Rattle.typed_path.specs.declared.scan.separators.Separators.TheVariants.{Backslash, Either, Slash}
+use Rattle.typed_path.specs.components.Dialect.{windows, separators, is_separator, question, begins_verbatim, is_verbatim, slash, backslash}
+use Rattle.typed_path.specs.components.Prefix.{Found, after_mark, name, second_name, names_length, prefix_of, found}
+use Rattle.typed_path.specs.queries.Queries.{is_disk, is_verbatim_prefix, begins_with_root}
+use Rattle.typed_path.specs.components.Part.{verbatim, Prefix, verbatim_unc, verbatim_disk, device_ns, unc, disk, kinds}
 use Rattle.typed_path.specs.promises.Promises.{is_verbatim_unc_name}
-use Rattle.typed_path.proofs.lemmas.components.NameCuts.{name-length}
-use Rattle.typed_path.proofs.lemmas.components.ReadLemmas.{Read, of_verbatim_unc, of_verbatim_disk, of_verbatim, of_device, of_unc, of_disk, prefix-read}
-use Rattle.typed_path.proofs.lemmas.components.PrefixCuts.{prefix_by}
-use Rattle.typed_path.proofs.lemmas.components.WindowsCuts.{verbatim-take}
-use Rattle.typed_path.proofs.lemmas.components.ApartLemmas.{Apart, filled-long, names-inside}
-use Rattle.typed_path.proofs.lemmas.components.FirmLemmas.{no_question, verbatim_unc-again, verbatim_disk-again, verbatim-again, device-again, unc-again}
+use Rattle.typed_path.specs.changes.Push.{raw_length}
+use Rattle.typed_path.specs.places.Places.{resolve}
+use Rattle.typed_path.specs.places.Rows.{IsPartedEither, TakesRows, IsHeadOf}
+use Rattle.typed_path.proofs.lemmas.components.Prefixes.{drive-size, name-fits, names-fit, Read, of_verbatim_unc, of_verbatim_disk, of_verbatim, of_device, of_unc, of_disk, prefix-read, after_mark-reads}
+use Rattle.typed_path.proofs.lemmas.components.PrefixCuts.{name-length, verbatim_text, IsUnended, name-unended, prefix_by, verbatim-take, plain-kind}
+use Rattle.typed_path.proofs.lemmas.components.FirmPrefixes.{Apart, nothing, parted, filled-long, second-inside, names-inside, names-size, names-long, is_firm, marks-differ, no_question, verbatim_unc-again, verbatim_disk-again, verbatim-again, device-again, unc-again, after_four-tests}
+use Rattle.typed_path.proofs.lemmas.components.Segments.{first_parts, body_parts}
+
+-- Where a firm prefix ends that is neither a drive nor verbatim.
+
+module _ (s : Separators) where
+  -- behind a name stands nothing, or a separator
+  position-behind : (text : List ℕ) → Apart s (drop (position_or_len (is_separator s) text) text)
+  position-behind [] = nothing
+  position-behind (b ∷ bs) = by (is_separator s b) refl (position-behind bs)
+    where
+      by : (separates : Bool) → is_separator s b ≡ separates → Apart s (drop (position_or_len (is_separator s) bs) bs) → Apart s (drop (cond (not separates) (1 + position_or_len (is_separator s) bs) 0) (b ∷ bs))
+      by true e rest = parted b bs e
+      by false e rest = let next : suc (position_or_len (is_separator s) bs) ≡ 1 + position_or_len (is_separator s) bs = omega arith in subst (λ n. Apart s (drop n (b ∷ bs))) next rest
+
+  -- the same, by the length of the name
+  pub name-behind : (text : List ℕ) → Apart s (drop (length (name s text)) text)
+  name-behind text = subst (λ n. Apart s (drop n text)) (sym (name-length s text)) (position-behind text)
+
+  -- so it is behind two names with a separator between them
+  pub names-behind : (text : List ℕ) → position_or_len (is_separator s) text < length text → Apart s (drop (names_length s text) text)
+  names-behind text less =
+      let n = position_or_len (is_separator s) text in
+      let size : n + 1 + length (second_name s text) ≡ names_length s text = omega (arith, names-inside s text less, name-length s text) in
+      subst (Apart s) (drop-drop (length (second_name s text)) (n + 1) text ∙ ap (λ m. drop m text) size) (name-behind (after_first (is_separator s) text))
+
+-- a text without the mark of a verbatim prefix is not read verbatim
+unmarked-plain : (text : List ℕ) → after_mark question text ≡ None → separators windows text ≡ Either
+unmarked-plain text none = ap (λ b. if b then Backslash else Either) (false_from_ne_true _ (λ marked.
+    let some : after_mark question text ≡ Some (drop 4 text) = ap (after_mark question) (verbatim_text text marked) in
+    cc))
+
+-- behind such a prefix stands nothing, or a separator, and where it is the whole text, that does not end with `\`
+pub record FirmEnd (text : List ℕ) (f : Found) : Type 0 where
+  pub plain : separators windows text ≡ Either
+  pub behind : Apart Either (drop f.length text)
+  pub unended : f.length ≡ length text → IsUnended text
+
+-- a prefix that is firm, no drive and not verbatim ends so
+firm_end : (s : Separators) (text : List ℕ) (f : Found) → Read s text f → is_firm f.prefix ≡ true → is_disk f.prefix ≡ false → is_verbatim_prefix f.prefix ≡ false → FirmEnd text f
+firm_end s text f (of_verbatim_unc rest mark filled) firm other plain = cc
+firm_end s text f (of_verbatim_disk rest letter mark drives) firm other plain = cc
+firm_end s text f (of_verbatim rest mark filled no_unc no_drive) firm other plain = cc
+firm_end s text f (of_device rest mark filled) firm other plain = record {
+  plain = unmarked-plain text (marks-differ text rest mark.marked);
+  behind = subst (Apart Either) (ap (drop (length (name Either rest))) (sym mark.dropped) ∙ drop-drop (length (name Either rest)) 4 text) (name-behind Either rest);
+  unended = λ whole. name-unended Either 4 text rest refl mark.dropped mark.size filled (omega (arith, mark.size));
+}
+firm_end s text f (of_unc rest mark filled no_verbatim no_device) firm other plain =
+    let shared = not-true _ firm in
+    let n = position_or_len (is_separator Either) rest in
+    let less = second-inside Either rest shared in
+    let size = names-size Either rest shared in
+    let behind = length-drop (n + 1) rest in
+    record {
+      plain = unmarked-plain text (no_question s text (omega (arith, mark.size, names-long Either rest filled shared, names-fit Either rest)) no_verbatim);
+      behind = subst (Apart Either) (ap (drop (names_length Either rest)) (sym mark.dropped) ∙ drop-drop (names_length Either rest) 2 text) (names-behind Either rest less);
+      unended = λ whole. name-unended Either (2 + (n + 1)) text (after_first (is_separator Either) rest) refl (sym (drop-drop (n + 1) 2 text) ∙ ap (drop (n + 1)) mark.dropped) (omega (arith, mark.size)) shared (omega (arith, mark.size));
+    }
+firm_end s text f (of_disk letter drives) firm other plain = cc
+
+-- so does that of a text
+pub firm-end : (text : List ℕ) (f : Found) → prefix_of windows text ≡ Some f → is_firm f.prefix ≡ true → is_disk f.prefix ≡ false → is_verbatim_prefix f.prefix ≡ false → FirmEnd text f
+firm-end text f is firm other plain = firm_end (separators windows text) text f (prefix-read text f is) firm other plain
+
+-- a text with a firm prefix that is no drive has more than four bytes
+pub firm-more : (s : Separators) (text : List ℕ) (f : Found) → Read s text f → is_firm f.prefix ≡ true → is_disk f.prefix ≡ false → 4 < length text
+firm-more s text f (of_verbatim_unc rest mark filled) firm other = omega (arith, mark.size)
+firm-more s text f (of_verbatim_disk rest letter mark drives) firm other = omega (arith, mark.size, drive-size rest letter drives)
+firm-more s text f (of_verbatim rest mark filled no_unc no_drive) firm other = omega (arith, mark.size, filled-long rest filled)
+firm-more s text f (of_device rest mark filled) firm other = omega (arith, mark.size, filled-long _ filled, name-fits Either rest)
+firm-more s text f (of_unc rest mark filled no_verbatim no_device) firm other = omega (arith, mark.size, names-long Either rest filled (not-true _ firm), names-fit Either rest)
+firm-more s text f (of_disk letter drives) firm other = cc
+
+-- A prefix with more of its text behind it stays where something else is put apart in the place of that.
 
 -- two names that are not the whole text have a separator between them
 pub names-parted : (s : Separators) (text : List ℕ) → names_length s text < length text → position_or_len (is_separator s) text < length text
@@ -39,30 +114,192 @@ parted-long s text f (of_disk letter drives) other more = cc
 -- it is read again with something put apart behind it, which an empty verbatim name needs
 parted-again : (s : Separators) (text x : List ℕ) (f : Found) → Read s text f → is_disk f.prefix ≡ false → is_verbatim_unc_name (Some f.prefix) ≡ false → f.length < length text → Apart s x → (f.prefix ≡ verbatim [] → 0 < length x)
     → prefix_by s (take f.length text ++ x) ≡ Some f
-parted-again s text x f (of_verbatim_unc rest mark filled) other no_unc more apart some =
-    verbatim_unc-again s text x apart rest mark.marked filled (names-parted s rest (omega (arith, mark.size)))
-parted-again s text x f (of_verbatim_disk rest letter mark drives) other no_unc more apart some = verbatim_disk-again s text x apart rest letter mark.marked drives
-parted-again s text x f (of_verbatim rest mark filled no_share no_drive) other no_unc more apart some =
-    verbatim-again s text x apart rest mark.marked no_drive no_unc (by (name s rest) refl)
+parted-again s text x f (of_verbatim_unc rest mark filled) other no_unc more put_apart some =
+    verbatim_unc-again s text x put_apart rest mark.marked filled (names-parted s rest (omega (arith, mark.size)))
+parted-again s text x f (of_verbatim_disk rest letter mark drives) other no_unc more put_apart some = verbatim_disk-again s text x put_apart rest letter mark.marked drives
+parted-again s text x f (of_verbatim rest mark filled no_share no_drive) other no_unc more put_apart some =
+    verbatim-again s text x put_apart rest mark.marked no_drive no_unc (by (name s rest) refl)
   where
     by : (bytes : List ℕ) → name s rest ≡ bytes → 0 < length bytes + length x
     by [] e = omega (arith, some (ap verbatim e))
     by (b ∷ bs) e = omega arith
-parted-again s text x f (of_device rest mark filled) other no_unc more apart some = device-again s text x apart rest mark.marked filled
-parted-again s text x f (of_unc rest mark filled no_verbatim no_device) other no_unc more apart some =
-    let parted = names-parted Either rest (omega (arith, mark.size)) in
-    let long : 4 < length text = omega (arith, mark.size, names-inside Either rest parted, filled-long (name Either rest) filled, more) in
-    unc-again s text x apart rest mark.marked filled parted (no_question s text long no_verbatim) no_device (omega (arith, mark.size))
-parted-again s text x f (of_disk letter drives) other no_unc more apart some = cc
+parted-again s text x f (of_device rest mark filled) other no_unc more put_apart some = device-again s text x put_apart rest mark.marked filled
+parted-again s text x f (of_unc rest mark filled no_verbatim no_device) other no_unc more put_apart some =
+    let names_apart = names-parted Either rest (omega (arith, mark.size)) in
+    let long : 4 < length text = omega (arith, mark.size, names-inside Either rest names_apart, filled-long (name Either rest) filled, more) in
+    unc-again s text x put_apart rest mark.marked filled names_apart (no_question s text long no_verbatim) no_device (omega (arith, mark.size))
+parted-again s text x f (of_disk letter drives) other no_unc more put_apart some = cc
 
 -- so the prefix stays, and with it the separators
 pub parted-stays : (text x : List ℕ) (f : Found) → prefix_of windows text ≡ Some f → is_disk f.prefix ≡ false → is_verbatim_unc_name (Some f.prefix) ≡ false → f.length < length text → Apart (separators windows text) x
     → (f.prefix ≡ verbatim [] → 0 < length x) → (separators windows (take f.length text ++ x) ≡ separators windows text) × (prefix_of windows (take f.length text ++ x) ≡ Some f)
-parted-stays text x f is other no_unc more apart some =
+parted-stays text x f is other no_unc more put_apart some =
     let read = prefix-read text f is in
     let four = parted-long (separators windows text) text f read other more in
     let raw = take f.length text in
     let front : begins_verbatim (raw ++ x) ≡ begins_verbatim text =
     sym (verbatim-take (raw ++ x) f.length four) ∙ ap begins_verbatim (take-append-le f.length raw x (omega (arith, length-take f.length text, more)) ∙ take_all f.length raw (omega (arith, length-take f.length text))) ∙ verbatim-take text f.length four in
     let same : separators windows (raw ++ x) ≡ separators windows text = ap (λ b. if b then Backslash else Either) front in
-    (same, ap (λ s. prefix_by s (raw ++ x)) same ∙ parted-again (separators windows text) text x f read other no_unc more apart some)
+    (same, ap (λ s. prefix_by s (raw ++ x)) same ∙ parted-again (separators windows text) text x f read other no_unc more put_apart some)
+
+-- What stands right behind a prefix of Windows that is not the whole text: a root, unless the prefix is a drive.
+
+-- a verbatim drive, or a prefix with something apart behind it
+data BehindPrefix (text : List ℕ) : Found → Type 0 where
+  behind_drive : (letter : ℕ) (n : ℕ) → BehindPrefix text (found (verbatim_disk letter) n)
+  apart : {f : Found} (s : Separators) → (is_verbatim_prefix f.prefix ≡ true → s ≡ separators windows text) → (is_verbatim_prefix f.prefix ≡ false → s ≡ Either) → Apart s (drop f.length text) → BehindPrefix text f
+
+-- what stands behind the name at the front of what is left by a mark
+behind_mark : (k n : ℕ) (s : Separators) (text rest : List ℕ) → drop k text ≡ rest → Apart s (drop n rest) → Apart s (drop (k + n) text)
+behind_mark k n s text rest dropped h = subst (Apart s) (ap (drop n) (sym dropped) ∙ drop-drop n k text) h
+
+-- so it is behind each prefix with more behind it
+behind_prefix : (text : List ℕ) (f : Found) → Read (separators windows text) text f → is_disk f.prefix ≡ false → f.length < length text → BehindPrefix text f
+behind_prefix text _ (of_verbatim_unc rest mark filled) other more =
+    let s = separators windows text in
+    apart s (λ kind. refl) (λ kind. cc) (behind_mark 8 (names_length s rest) s text rest mark.dropped (names-behind s rest (names-parted s rest (omega (arith, mark.size)))))
+behind_prefix text _ (of_verbatim_disk rest letter mark drives) other more = behind_drive letter 6
+behind_prefix text _ (of_verbatim rest mark filled no_unc no_drive) other more =
+    let s = separators windows text in
+    apart s (λ kind. refl) (λ kind. cc) (behind_mark 4 (length (name s rest)) s text rest mark.dropped (name-behind s rest))
+behind_prefix text _ (of_device rest mark filled) other more =
+    apart Either (λ kind. cc) (λ kind. refl) (behind_mark 4 (length (name Either rest)) Either text rest mark.dropped (name-behind Either rest))
+behind_prefix text _ (of_unc rest mark filled no_verbatim no_device) other more =
+    apart Either (λ kind. cc) (λ kind. refl) (behind_mark 2 (names_length Either rest) Either text rest mark.dropped (names-behind Either rest (names-parted Either rest (omega (arith, mark.size)))))
+behind_prefix text _ (of_disk letter drives) other more = cc
+
+-- what stands apart begins with a root, unless it is empty
+apart-root : (s : Separators) (rest : List ℕ) → Apart s rest → 0 < length rest → begins_with_root (kinds (resolve (body_parts s rest))) ≡ true
+apart-root s _ nothing some = absurd (omega (arith, some))
+apart-root s _ (parted b bs separates) some = ap (λ ps. begins_with_root (kinds (resolve (first_parts s ps)))) (slice_split-cons_yes (is_separator s) b bs separates)
+
+-- a verbatim drive, or a prefix with a root behind it
+abbrev pub RootBehind : List ℕ → Found → Type 0
+RootBehind text f = ((letter : ℕ) × (f.prefix ≡ verbatim_disk letter)) ⊎ (begins_with_root (kinds (resolve (body_parts (separators windows text) (drop f.length text)))) ≡ true)
+
+-- each prefix with more behind it is one of these
+pub root-behind : (text : List ℕ) (f : Found) → prefix_of windows text ≡ Some f → is_disk f.prefix ≡ false → f.length < length text → RootBehind text f
+root-behind text f is other more = by f is more (behind_prefix text f read other more) (parted-long (separators windows text) text f read other more)
+  where
+    read : Read (separators windows text) text f
+    read = prefix-read text f is
+
+    by : (f : Found) → prefix_of windows text ≡ Some f → f.length < length text → BehindPrefix text f → 4 ≤ f.length → RootBehind text f
+    by _ is more (behind_drive letter n) long = inl (letter, refl)
+    by f is more (apart s kind plain h) long = inr (apart-root (separators windows text) (drop f.length text) (subst (λ r. Apart r (drop f.length text)) (same (is_verbatim_prefix f.prefix) refl) h) (omega (arith, more, length-drop f.length text)))
+      where
+        same : (b : Bool) → is_verbatim_prefix f.prefix ≡ b → s ≡ separators windows text
+        same true e = kind e
+        same false e = plain e ∙ sym (ap (λ b. if b then Backslash else Either) (plain-kind text f is e (omega (arith, long, more))))
+
+-- a part that stands behind a place is a root and the rest, or begins with no separator
+ends-parted : (s : Separators) (text root rest : List ℕ) → s ≡ Either → Apart s text → IsPartedEither text root rest → length root ≡ 0 → length rest ≡ 0
+ends-parted s _ root rest e nothing (inl cut) none = cc
+ends-parted s _ root rest e nothing (inr cut) none = ap length cut.1
+ends-parted s _ root rest e (parted b bs separates) (inl cut) none = absurd (omega (arith, ap length cut.3, none))
+ends-parted s _ root rest e (parted b bs separates) (inr cut) none =
+    absurd (both_ways (is_separator s b) (ap (λ z. is_separator z b) e ∙ cut.2 b bs refl) separates)
+
+-- names stand in rows behind each prefix that is no drive and has no verbatim kind
+pub plain-takes : (text root rest : List ℕ) (f : Found) → prefix_of windows text ≡ Some f → is_disk f.prefix ≡ false → is_verbatim_prefix f.prefix ≡ false → IsPartedEither (drop f.length text) root rest
+    → TakesRows text f root rest
+plain-takes text root rest f is other plain cut = record { no_unc = no-unc f.prefix plain; ends = ends (drop f.length text) refl; slashless = slashless (drop f.length text) refl }
+  where
+    no-unc : (p : Prefix) → is_verbatim_prefix p ≡ false → is_verbatim_unc_name (Some p) ≡ false
+    no-unc (verbatim n) e = cc
+    no-unc (verbatim_unc server share) e = refl
+    no-unc (verbatim_disk letter) e = refl
+    no-unc (device_ns n) e = refl
+    no-unc (unc server share) e = refl
+    no-unc (disk letter) e = refl
+
+    more : (b : ℕ) (bs : List ℕ) → drop f.length text ≡ b ∷ bs → f.length < length text
+    more b bs e = omega (arith, ap length e, length-drop f.length text)
+
+    ends-behind : (g : Found) → is_verbatim_prefix g.prefix ≡ false → IsPartedEither (drop g.length text) root rest → BehindPrefix text g → length root ≡ 0 → length rest ≡ 0
+    ends-behind _ e h (behind_drive letter n) = cc
+    ends-behind g e h (apart s kind either behind) = ends-parted s (drop g.length text) root rest (either e) behind h
+
+    ends : (t : List ℕ) → drop f.length text ≡ t → length root ≡ 0 → length rest ≡ 0
+    ends [] e = ends-parted Either [] root rest refl nothing (subst (λ t. IsPartedEither t root rest) e cut)
+    ends (b ∷ bs) e = ends-behind f plain cut (behind_prefix text f (prefix-read text f is) other (more b bs e))
+
+    slashless : (t : List ℕ) → drop f.length text ≡ t → is_verbatim (separators windows text) ≡ true → list_any (is_separator Slash) (drop f.length text) ≡ false
+    slashless [] e v = ap (list_any (is_separator Slash)) e
+    slashless (b ∷ bs) e v =
+        let long = more b bs e in
+        let four = parted-long (separators windows text) text f (prefix-read text f is) other long in
+        absurd (both_ways (is_verbatim (separators windows text)) (ap (λ z. is_verbatim (if z then Backslash else Either)) (plain-kind text f is plain (omega (arith, long, four)))) v)
+
+-- a path of Windows in its prefix, a root or none, and the rest
+pub head-cut : (path raw root rest : List ℕ) (f : Found) → prefix_of windows path ≡ Some f → raw ≡ take f.length path → IsPartedEither (drop f.length path) root rest → IsHeadOf path raw root rest
+head-cut path raw root rest f is e cut = rw is (e, cut)
+
+-- these are no longer than it
+pub head-size : (path raw root rest : List ℕ) → IsHeadOf path raw root rest → length raw + length root + length rest ≤ length path
+head-size path raw root rest h =
+    let behind = sizes (drop (raw_length (prefix_of windows path)) path) h.1 in
+    omega (arith, behind, ap length h.0, length-take (raw_length (prefix_of windows path)) path, length-drop (raw_length (prefix_of windows path)) path)
+  where
+    sizes : (text : List ℕ) → IsPartedEither text root rest → length root + length rest ≤ length text
+    sizes text (inl cut) = omega (arith, ap length cut.2, ap length cut.3)
+    sizes text (inr cut) = omega (arith, ap length cut.0, ap length cut.1)
+
+-- The raw text of a Windows prefix with more behind it, read again: it is a prefix and nothing else.
+
+-- what holds at both separators holds at each
+at_separators : (P : ℕ → Type 0) → P slash → P backslash → (b : ℕ) → is_separator Either b ≡ true → P b
+at_separators P one other b h = elim (or_cases _ _ h) [
+  | inl e ↦ subst P (sym (eqb-true b slash e)) one
+  | inr e ↦ subst P (sym (eqb-true b backslash e)) other
+]
+
+-- three bytes around the mark of a verbatim prefix, read as a share
+abbrev IsShare : ℕ → ℕ → ℕ → Type 0
+IsShare x y z = prefix_of windows (x ∷ y ∷ question ∷ z ∷ []) ≡ Some (found (unc (question ∷ []) []) 4)
+
+-- the mark of a verbatim prefix alone is a share
+mark-alone : (text : List ℕ) → after_mark question text ≡ Some [] → prefix_of windows text ≡ Some (found (unc (question ∷ []) []) 4)
+mark-alone (a ∷ b ∷ c ∷ d ∷ rest) is =
+    let tests = after_four-tests (is_separator Either) (is_separator Either) (λ e. e == question) (is_separator Either) a b c d rest [] is in
+    (λ i. prefix_of windows (a ∷ b ∷ eqb-true c question tests.2 i ∷ d ∷ tests.4 i))
+    ∙ at_separators (λ x. IsShare x b d) (at_separators (λ y. IsShare slash y d) (by slash slash refl refl tests.3) (by slash backslash refl refl tests.3) b tests.1)
+    (at_separators (λ y. IsShare backslash y d) (by backslash slash refl refl tests.3) (by backslash backslash refl refl tests.3) b tests.1) a tests.0
+  where
+    by : (x y : ℕ) → IsShare x y slash → IsShare x y backslash → is_separator Either d ≡ true → IsShare x y d
+    by x y one other h = at_separators (λ z. IsShare x y z) one other d h
+mark-alone text is = cc
+
+-- an empty verbatim name stands right behind its mark
+bare_name : (s : Separators) (text : List ℕ) (f : Found) → Read s text f → f.prefix ≡ verbatim [] → (f.length ≡ 4) × (after_mark question (take f.length text) ≡ Some [])
+bare_name s text _ (of_verbatim_unc rest mark filled) e = cc
+bare_name s text _ (of_verbatim_disk rest letter mark drives) e = cc
+bare_name s text _ (of_verbatim rest mark filled no_unc no_drive) e =
+    let bare : name s rest ≡ [] = cc in
+    let size : 4 + length (name s rest) ≡ 4 = omega (arith, ap length bare) in
+    (size, ap (λ n. after_mark question (take n text)) size ∙ (after_mark-reads question).whole text rest 0 mark.marked)
+bare_name s text _ (of_device rest mark filled) e = cc
+bare_name s text _ (of_unc rest mark filled no_verbatim no_device) e = cc
+bare_name s text _ (of_disk letter drives) e = cc
+
+-- whether a prefix is an empty verbatim name
+abbrev is_bare : Prefix → Bool
+is_bare (verbatim []) = true
+is_bare p = false
+
+-- the raw text of a prefix with more behind it is a prefix and nothing else
+pub raw-whole : (text : List ℕ) (f : Found) → prefix_of windows text ≡ Some f → is_disk f.prefix ≡ false → is_verbatim_unc_name (Some f.prefix) ≡ false → f.length < length text
+    → (g : Found) × (prefix_of windows (take f.length text) ≡ Some g) × (g.length ≡ length (take f.length text))
+raw-whole text f is other no_unc more = by f.prefix refl
+  where
+    raw : List ℕ
+    raw = take f.length text
+
+    same : (f.prefix ≡ verbatim [] → ⊥) → (g : Found) × (prefix_of windows raw ≡ Some g) × (g.length ≡ length raw)
+    same filled = (f, ap (prefix_of windows) (sym (append-nil raw)) ∙ (parted-stays text [] f is other no_unc more nothing (λ e. absurd (filled e))).1, omega (arith, length-take f.length text, more))
+
+    by : (p : Prefix) → f.prefix ≡ p → (g : Found) × (prefix_of windows raw ≡ Some g) × (g.length ≡ length raw)
+    by (verbatim []) e =
+        let bare = bare_name (separators windows text) text f (prefix-read text f is) e in
+        (found (unc (question ∷ []) []) 4, mark-alone raw bare.1, omega (arith, length-take f.length text, more, bare.0))
+    by p e = same (λ h. both_ways (is_bare f.prefix) (ap is_bare e) (ap is_bare h))

@@ -1,15 +1,87 @@
--- A Windows text that is cut behind its prefix begins with the same prefix.
-use Rattle.std.proofs.Common.{◌≡◌, ℕ, zero, suc, ◌+◌, ◌-◌, ◌≤◌, Bool, true, false, if◌then◌else◌, List, [], ◌∷◌, inl, inr, length, take, drop, Option, Some, None, option_and_then, refl, sym, ap, ◌∙◌, subst, arith, ne_eqb, length-take}
-use Rattle.std.proofs.lemmas.Bool.{eq-eqb, eqb-true, cond-true, cond-false}
+-- A Windows text that is cut behind its prefix, and how many bytes a prefix takes of it.
+use Rattle.std.proofs.Common.{◌≡◌, ℕ, zero, suc, ◌+◌, ◌-◌, ◌<◌, ◌≤◌, Bool, true, false, not, cond, nat_lt, List, [], ◌∷◌, inl, inr, length, min, take, drop, sym, ap, ap₂, ◌∙◌, arith, length-take, take_all, take-take, if◌then◌else◌, Option, Some, None, option_and_then, refl, subst, ne_eqb, nat_eq, ◌⊎◌, ◌++◌}
+use Rattle.std.specs.List.{position_or_len, prefix_len, after_first}
+use Rattle.std.proofs.lemmas.Bool.{cases_lt, cond-true, cond-false, lt-ltb, le-ltb, eq-eqb, eqb-true, cases_Bool, false_from_ne_true, eqb-false, both_ways}
+use Rattle.std.proofs.lemmas.List.{drop-take, length-append, length-drop, drop-append-le}
+use Rattle.std.proofs.lemmas.List.Sums.{prefix_len-le-length}
 use Rattle.std.specs.Option.{option_or}
+use Rattle.std.specs.Cmp.Lexicographic.{pointwise}
+use Rattle.std.proofs.lemmas.Bool.Decides.{Decides-eqb}
+use Rattle.std.proofs.lemmas.Slice.Eq.{starts_is}
 use Rattle.typed_path.specs.declared.scan.separators.Separators.{Separators}
-use Rattle.typed_path.specs.declared.scan.separators.Separators.TheVariants.{Either}
-use Rattle.typed_path.specs.components.Dialect.{is_separator, question, dot}
+use Rattle.typed_path.specs.declared.scan.separators.Separators.TheVariants.{Either, Backslash}
+use Rattle.typed_path.specs.components.Dialect.{is_separator, question, dot, windows, backslash, separators, begins_verbatim}
+use Rattle.typed_path.specs.components.Prefix.{is_empty, name, second_name, names_length, Found, found, drive, after_two, after_mark, after_unc, verbatim_unc_case, verbatim_disk_case, verbatim_case, device_case, unc_case, disk_case, prefix_of}
 use Rattle.typed_path.specs.components.Part.{Prefix, verbatim, verbatim_unc, verbatim_disk, device_ns, unc, disk}
-use Rattle.typed_path.specs.components.Prefix.{Found, found, is_empty, drive, after_two, after_mark, after_unc, name, second_name, names_length, verbatim_unc_case, verbatim_disk_case, verbatim_case, device_case, unc_case, disk_case}
-use Rattle.typed_path.proofs.lemmas.components.PrefixLemmas.{and_then-some, unless-some, some_is}
-use Rattle.typed_path.proofs.lemmas.components.NameCuts.{name-filled, name-take, empty-take, names-take}
-use Rattle.typed_path.proofs.lemmas.components.MarkLemmas.{ReadsMark, IsFront, after_mark-reads, after_unc-reads, after_two-reads, both-read, drive-take, drive-none}
+use Rattle.typed_path.specs.queries.Queries.{is_disk, is_verbatim_prefix}
+use Rattle.typed_path.proofs.lemmas.components.Prefixes.{and_then-some, unless-some, some_is, ReadsMark, IsFront, after_mark-reads, after_unc-reads, after_two-reads, both-read, drive-take, drive-none, OfWindows, separators-windows, backslash-separates, name-fits, Read, of_verbatim_unc, of_verbatim_disk, of_verbatim, of_device, of_unc, of_disk, prefix-read}
+use Rattle.typed_path.proofs.lemmas.components.Segments.{position-append}
+
+-- The names at the front of a text that is cut behind them.
+
+-- the front of a list passes a test as far as the list does
+prefix_len-take : (q : ℕ → Bool) (m : ℕ) (xs : List ℕ) → prefix_len q (take m xs) ≡ min m (prefix_len q xs)
+prefix_len-take q zero xs = omega arith
+prefix_len-take q (suc m) [] = omega arith
+prefix_len-take q (suc m) (x ∷ xs) = by (q x) (prefix_len-take q m xs)
+  where
+    by : (b : Bool) → prefix_len q (take m xs) ≡ min m (prefix_len q xs) → cond b (1 + prefix_len q (take m xs)) 0 ≡ min (suc m) (cond b (1 + prefix_len q xs) 0)
+    by true e = omega arith
+    by false e = omega arith
+
+module _ (s : Separators) where
+  -- a name is as long as the place where it ends
+  pub name-length : (text : List ℕ) → length (name s text) ≡ position_or_len (is_separator s) text
+  name-length text = omega (arith, length-take (position_or_len (is_separator s) text) text, prefix_len-le-length (λ b. not (is_separator s b)) text)
+
+  -- where a text is cut, its name ends there at the latest
+  position-take : (m : ℕ) (text : List ℕ) → position_or_len (is_separator s) (take m text) ≡ min m (position_or_len (is_separator s) text)
+  position-take m text = prefix_len-take (λ b. not (is_separator s b)) m text
+
+  -- a text that begins with no separator begins with a name
+  pub name-filled : (b : ℕ) (bs : List ℕ) → is_separator s b ≡ false → 0 < length (name s (b ∷ bs))
+  name-filled b bs h = rw (name-length (b ∷ bs), h) (omega arith)
+
+  -- a text cut behind its name has the same name
+  pub name-take : (m : ℕ) (text : List ℕ) → length (name s text) ≤ m → name s (take m text) ≡ name s text
+  name-take m text fits =
+      let place : position_or_len (is_separator s) (take m text) ≡ position_or_len (is_separator s) text = omega (arith, position-take m text, name-length text) in
+      ap (λ n. take n (take m text)) place ∙ take-take (position_or_len (is_separator s) text) m text (omega (arith, name-length text))
+
+  -- a text without a name has none where it is cut
+  pub empty-take : (m : ℕ) (text : List ℕ) → is_empty (name s text) ≡ true → is_empty (name s (take m text)) ≡ true
+  empty-take m text none = eq-eqb _ 0 (omega (arith, eqb-true _ 0 none, name-length text, name-length (take m text), position-take m text))
+
+  -- a text cut behind two names has the same two names
+  pub record SameNames (m : ℕ) (text : List ℕ) : Type 0 where
+    pub first : name s (take m text) ≡ name s text
+    pub second : second_name s (take m text) ≡ second_name s text
+    pub size : names_length s (take m text) ≡ names_length s text
+
+  pub names-take : (m : ℕ) (text : List ℕ) → names_length s text ≤ m → SameNames m text
+  names-take m text fits = elim (cases_lt (length (name s text)) (length text)) [
+    | inl less ↦
+        let p = is_separator s in
+        let n = position_or_len p text in
+        let long : names_length s text ≡ length (name s text) + 1 + length (second_name s text) = cond-true (nat_lt (length (name s text)) (length text)) _ _ (lt-ltb _ _ less) in
+        let same : name s (take m text) ≡ name s text = name-take m text (omega arith) in
+        let place : position_or_len p (take m text) ≡ n = omega (arith, position-take m text, name-length text) in
+        let size : m ≡ n + 1 + (m - (n + 1)) = omega (arith, name-length text) in
+        let rest : after_first p (take m text) ≡ take (m - (n + 1)) (after_first p text) = ap (λ k. drop (k + 1) (take m text)) place ∙ ap (λ k. drop (n + 1) (take k text)) size ∙ drop-take (n + 1) (m - (n + 1)) text in
+        let behind : second_name s (take m text) ≡ second_name s text = ap (name s) rest ∙ name-take (m - (n + 1)) (after_first p text) (omega (arith, name-length text)) in
+        let inside : length (name s (take m text)) < length (take m text) = omega (arith, ap length same, length-take m text) in
+        record {
+          first = same;
+          second = behind;
+          size = cond-true (nat_lt (length (name s (take m text))) (length (take m text))) _ _ (lt-ltb _ _ inside) ∙ ap₂ (λ a b. length a + 1 + length b) same behind ∙ sym long;
+        }
+    | inr most ↦
+        let long : names_length s text ≡ length (name s text) = cond-false (nat_lt (length (name s text)) (length text)) _ _ (le-ltb _ _ most) in
+        let whole : take m text ≡ text = take_all m text (omega arith) in
+        record { first = ap (name s) whole; second = ap (second_name s) whole; size = ap (names_length s) whole }
+  ]
+
+-- A Windows text that is cut behind its prefix begins with the same prefix.
 
 -- what no value unless a test holds tells
 pub unless-none : {A : Type 0} (b : Bool) (x : A) → (if b then None else Some x) ≡ None → b ≡ true
@@ -172,3 +244,224 @@ module _ (s : Separators) (text : List ℕ) (e : ℕ) where
       (or-keeps (device_case text) _ _ _ (marked-keeps 4 (after_mark dot) _ _ (after_mark-reads dot) (one-keeps 4 Either device_ns))
       (or-keeps (unc_case text) _ _ _ (marked-keeps 2 after_two _ _ after_two-reads (two-keep 2 Either unc))
       disk-keeps))))
+
+-- A Windows text that is cut behind its prefix keeps its separators and its prefix.
+
+-- a text that is read verbatim is its first four bytes, and a rest
+pub verbatim_text : (text : List ℕ) → begins_verbatim text ≡ true → text ≡ backslash ∷ backslash ∷ question ∷ backslash ∷ drop 4 text
+verbatim_text text h = (starts_is Decides-eqb text (backslash ∷ backslash ∷ question ∷ backslash ∷ []) true (sym h)).0 refl
+
+-- a text cut behind its first four bytes is read verbatim where the whole text is
+pub verbatim-take : (text : List ℕ) (e : ℕ) → 4 ≤ e → begins_verbatim (take e text) ≡ begins_verbatim text
+verbatim-take text e h = ap (pointwise nat_eq (backslash ∷ backslash ∷ question ∷ backslash ∷ [])) (take-take 4 e text h)
+
+-- a text that is not read verbatim is not where it is cut
+plain-take : (text : List ℕ) (e : ℕ) → begins_verbatim text ≡ false → begins_verbatim (take e text) ≡ false
+plain-take text e plain = elim (cases_lt e 4) [
+  | inl short ↦ false_from_ne_true _ (λ h. omega (arith, length-take e text, ap length (verbatim_text (take e text) h)))
+  | inr long ↦ verbatim-take text e long ∙ plain
+]
+
+-- a value is not none
+pub not_none : {A : Type 0} (x : A) → Some x ≡ None → ⊥
+not_none x e = cc
+
+-- the first of two cases that holds is long where both are
+or-long : (o p : Option Found) (f : Found) → ((g : Found) → o ≡ Some g → 4 ≤ g.length) → ((g : Found) → p ≡ Some g → 4 ≤ g.length) → option_or o p ≡ Some f → 4 ≤ f.length
+or-long None p f first rest e = rest f e
+or-long (Some g) p f first rest e = first f e
+
+-- where neither of two cases holds the second does not
+pub or-none : {A : Type 0} (o p : Option A) → option_or o p ≡ None → p ≡ None
+or-none None p e = e
+or-none (Some x) p e = cc
+
+-- a text that is read verbatim with more behind its mark has a verbatim name
+pub verbatim-some : (b : ℕ) (bs : List ℕ) → verbatim_case Backslash (backslash ∷ backslash ∷ question ∷ backslash ∷ b ∷ bs) ≡ Some (found (verbatim (name Backslash (b ∷ bs))) (4 + length (name Backslash (b ∷ bs))))
+verbatim-some b bs = cond-false (is_empty (b ∷ bs)) None (Some (found (verbatim (name Backslash (b ∷ bs))) (4 + length (name Backslash (b ∷ bs))))) (ne_eqb _ 0 (λ none. omega arith))
+
+-- a text that is read verbatim has a prefix of four bytes or more
+pub verbatim-long : (rest : List ℕ) (f : Found) → prefix_of windows (backslash ∷ backslash ∷ question ∷ backslash ∷ rest) ≡ Some f → 4 ≤ f.length
+verbatim-long [] f e = let size : 4 ≡ f.length = ap (λ g. g.length) (some_is e) in omega arith
+verbatim-long (b ∷ bs) f e =
+    or-long (verbatim_unc_case Backslash text) _ f unc_long (λ h. or-long (verbatim_disk_case text) _ h disk_long third) e
+  where
+    text : List ℕ
+    text = backslash ∷ backslash ∷ question ∷ backslash ∷ b ∷ bs
+
+    unc_long : (g : Found) → verbatim_unc_case Backslash text ≡ Some g → 4 ≤ g.length
+    unc_long g is =
+        let rest = and_then-some _ (option_and_then (after_unc Backslash) (after_mark question text)) g is in
+        omega (arith, ap (λ h. h.length) (unless-some (is_empty (name Backslash rest.0)) _ g rest.2).1)
+
+    disk_long : (g : Found) → verbatim_disk_case text ≡ Some g → 4 ≤ g.length
+    disk_long g is =
+        let letter = and_then-some _ (option_and_then drive (after_mark question text)) g is in
+        let size : 6 ≡ g.length = ap (λ h. h.length) (some_is letter.2) in
+        omega arith
+
+    third : (g : Found) → option_or (verbatim_case Backslash text) (option_or (device_case text) (option_or (unc_case text) (disk_case text))) ≡ Some g → 4 ≤ g.length
+    third g is =
+        let same = sym (ap (λ o. option_or o (option_or (device_case text) (option_or (unc_case text) (disk_case text)))) (verbatim-some b bs)) ∙ is in
+        omega (arith, ap (λ h. h.length) (some_is same))
+
+-- a text that is read verbatim has a prefix
+verbatim-found : (rest : List ℕ) → prefix_of windows (backslash ∷ backslash ∷ question ∷ backslash ∷ rest) ≡ None → ⊥
+verbatim-found [] e = cc
+verbatim-found (b ∷ bs) e =
+    let text = backslash ∷ backslash ∷ question ∷ backslash ∷ b ∷ bs in
+    let others = option_or (device_case text) (option_or (unc_case text) (disk_case text)) in
+    let third : option_or (verbatim_case Backslash text) others ≡ None = or-none (verbatim_disk_case text) _ (or-none (verbatim_unc_case Backslash text) _ e) in
+    not_none _ (sym (ap (λ o. option_or o others) (verbatim-some b bs)) ∙ third)
+
+-- a text with a prefix keeps it, and its separators
+pub record SamePrefix (text : List ℕ) (e : ℕ) : Type 0 where
+  pub same_separators : separators windows (take e text) ≡ separators windows text
+  pub same_prefix : prefix_of windows (take e text) ≡ prefix_of windows text
+
+-- the separators and the prefix stay where the text is read verbatim or not as before
+same_from : (text : List ℕ) (e : ℕ) → begins_verbatim (take e text) ≡ begins_verbatim text → prefix_by (separators windows text) (take e text) ≡ prefix_of windows text → SamePrefix text e
+same_from text e same is =
+    let seps : separators windows (take e text) ≡ separators windows text = ap (λ b. if b then Backslash else Either) same in
+    record { same_separators = seps; same_prefix = ap (λ s. prefix_by s (take e text)) seps ∙ is }
+
+-- they stay where the text is cut behind its prefix
+pub same-found : (text : List ℕ) (e : ℕ) (f : Found) → prefix_of windows text ≡ Some f → IsBehind (separators windows text) text e f → SamePrefix text e
+same-found text e f is behind = same_from text e (by (cases_Bool (begins_verbatim text))) ((prefix-keeps (separators windows text) text e).some f is behind ∙ sym is)
+  where
+    by : (begins_verbatim text ≡ true) ⊎ (begins_verbatim text ≡ false) → begins_verbatim (take e text) ≡ begins_verbatim text
+    by (inl marked) =
+        let fits = behind.fits in
+        verbatim-take text e (omega (arith, verbatim-long (drop 4 text) f (ap (prefix_of windows) (sym (verbatim_text text marked)) ∙ is)))
+    by (inr plain) = plain-take text e plain ∙ sym plain
+
+-- a text without a prefix is not read verbatim
+pub plain-none : (text : List ℕ) → prefix_of windows text ≡ None → begins_verbatim text ≡ false
+plain-none text is = false_from_ne_true _ (λ marked. verbatim-found (drop 4 text) (ap (prefix_of windows) (sym (verbatim_text text marked)) ∙ is))
+
+-- they stay where the text has no prefix
+pub same-none : (text : List ℕ) (e : ℕ) → prefix_of windows text ≡ None → SamePrefix text e
+same-none text e is = same_from text e (plain-take text e (plain-none text is) ∙ sym (plain-none text is)) ((prefix-keeps (separators windows text) text e).none is ∙ sym is)
+
+-- How many bytes a Windows prefix takes of its text: its kind tells, but for one separator behind a server alone.
+
+-- a text that does not end with `\`
+abbrev pub IsUnended : List ℕ → Type 0
+IsUnended t = (front : List ℕ) → t ≡ front ++ backslash ∷ [] → ⊥
+
+-- a mark of k bytes and a server, with a share behind it
+pub record IsShared (k : ℕ) (server share t : List ℕ) (size : ℕ) : Type 0 where
+  pub less : k + length server < length t
+  pub long : size ≡ k + length server + 1 + length share
+
+-- the same, with the server alone
+pub record IsAlone (k : ℕ) (server share t : List ℕ) (size : ℕ) : Type 0 where
+  pub whole : size ≡ length t
+  pub long : size ≡ k + length server
+  pub no_share : length share ≡ 0
+  pub unended : IsUnended t
+
+-- how many bytes a prefix takes of a text
+abbrev pub IsSize : Prefix → List ℕ → ℕ → Type 0
+IsSize (verbatim name) t size = size ≡ 4 + length name
+IsSize (verbatim_unc server share) t size = IsShared 8 server share t size ⊎ IsAlone 8 server share t size
+IsSize (verbatim_disk letter) t size = size ≡ 6
+IsSize (device_ns name) t size = size ≡ 4 + length name
+IsSize (unc server share) t size = IsShared 2 server share t size ⊎ IsAlone 2 server share t size
+IsSize (disk letter) t size = size ≡ 2
+
+-- a name that is the whole text ends with no separator
+pub name-unended : (s : Separators) (k : ℕ) (t rest : List ℕ) → OfWindows s → drop k t ≡ rest → length t ≡ k + length rest → is_empty (name s rest) ≡ false → length rest ≤ length (name s rest) → IsUnended t
+name-unended s k t rest w dropped size filled most front is =
+    let some : 0 < length rest = omega (arith, name-fits s rest, eqb-false (length (name s rest)) 0 filled) in
+    let ends : rest ≡ drop k front ++ backslash ∷ [] =
+    sym dropped ∙ ap (drop k) is ∙ drop-append-le k front (backslash ∷ []) (omega (arith, ap length is, length-append front (backslash ∷ []))) in
+    let place = ap (position_or_len (is_separator s)) ends ∙ position-append s backslash (backslash-separates s w) (drop k front) [] in
+    omega (arith, place, name-length s rest, prefix_len-le-length (λ b. not (is_separator s b)) (drop k front), ap length ends, length-append (drop k front) (backslash ∷ []))
+
+-- two names behind a mark take one of the two sizes
+names-size : (s : Separators) (k : ℕ) (t rest : List ℕ) → OfWindows s → drop k t ≡ rest → length t ≡ k + length rest → is_empty (name s rest) ≡ false
+    → IsShared k (name s rest) (second_name s rest) t (k + names_length s rest) ⊎ IsAlone k (name s rest) (second_name s rest) t (k + names_length s rest)
+names-size s k t rest w dropped size filled = elim (cases_lt (length (name s rest)) (length rest)) [
+  | inl less ↦
+      let long = cond-true (nat_lt (length (name s rest)) (length rest)) (length (name s rest) + 1 + length (second_name s rest)) (length (name s rest)) (lt-ltb _ _ less) in
+      inl (record { less = omega arith; long = omega arith })
+  | inr most ↦
+      let long = cond-false (nat_lt (length (name s rest)) (length rest)) (length (name s rest) + 1 + length (second_name s rest)) (length (name s rest)) (le-ltb _ _ most) in
+      let fits = name-fits s rest in
+      inr (record {
+        whole = omega arith;
+        long = omega arith;
+        no_share = omega (arith, name-fits s (after_first (is_separator s) rest), length-drop (position_or_len (is_separator s) rest + 1) rest, name-length s rest);
+        unended = name-unended s k t rest w dropped size filled most;
+      })
+]
+
+-- so each prefix takes what its kind tells
+read-size : (s : Separators) (t : List ℕ) (f : Found) → OfWindows s → Read s t f → IsSize f.prefix t f.length
+read-size s t _ w (of_verbatim_unc rest mark filled) = names-size s 8 t rest w mark.dropped mark.size filled
+read-size s t _ w (of_verbatim_disk rest letter mark drives) = refl
+read-size s t _ w (of_verbatim rest mark filled no_unc no_drive) = refl
+read-size s t _ w (of_device rest mark filled) = refl
+read-size s t _ w (of_unc rest mark filled no_verbatim no_device) = names-size Either 2 t rest refl mark.dropped mark.size filled
+read-size s t _ w (of_disk letter drives) = refl
+
+-- the same, by the prefix of the text
+pub prefix-size : (t : List ℕ) (f : Found) → prefix_of windows t ≡ Some f → IsSize f.prefix t f.length
+prefix-size t f is = read-size (separators windows t) t f (separators-windows t) (prefix-read t f is)
+
+-- one separator more behind a server alone
+pub record IsGrown (p : Prefix) (t : List ℕ) (a b : ℕ) : Type 0 where
+  pub whole : a ≡ length t
+  pub more : b ≡ suc a
+  pub no_drive : is_disk p ≡ false
+  pub unended : IsUnended t
+
+-- two sizes of one server and share
+shared-sizes : (k : ℕ) (server share t u : List ℕ) (a b : ℕ) → IsShared k server share t a ⊎ IsAlone k server share t a → IsShared k server share u b ⊎ IsAlone k server share u b → a ≤ length u
+    → (b ≡ a) ⊎ ((a ≡ length t) × (b ≡ suc a) × IsUnended t)
+shared-sizes k server share t u a b (inl one) (inl other) within = inl (omega (arith, one.long, other.long))
+shared-sizes k server share t u a b (inl one) (inr other) within = absurd (omega (arith, one.long, other.long, other.whole))
+shared-sizes k server share t u a b (inr one) (inl other) within = inr (one.whole, omega (arith, one.long, other.long, one.no_share), one.unended)
+shared-sizes k server share t u a b (inr one) (inr other) within = inl (omega (arith, one.long, other.long))
+
+-- a prefix of one kind takes as much of one text as of another that is not shorter than it, or one separator more
+pub same-sizes : (p : Prefix) (t u : List ℕ) (a b : ℕ) → IsSize p t a → IsSize p u b → a ≤ length u → (b ≡ a) ⊎ IsGrown p t a b
+same-sizes p t u a b one other within = by p one other
+  where
+    grown : (p : Prefix) → is_disk p ≡ false → (b ≡ a) ⊎ ((a ≡ length t) × (b ≡ suc a) × IsUnended t) → (b ≡ a) ⊎ IsGrown p t a b
+    grown p no_drive (inl same) = inl same
+    grown p no_drive (inr more) = inr (record { whole = more.0; more = more.1; no_drive = no_drive; unended = more.2 })
+
+    by : (p : Prefix) → IsSize p t a → IsSize p u b → (b ≡ a) ⊎ IsGrown p t a b
+    by (verbatim name) one other = inl (other ∙ sym one)
+    by (verbatim_unc server share) one other = grown (verbatim_unc server share) refl (shared-sizes 8 server share t u a b one other within)
+    by (verbatim_disk letter) one other = inl (other ∙ sym one)
+    by (device_ns name) one other = inl (other ∙ sym one)
+    by (unc server share) one other = grown (unc server share) refl (shared-sizes 2 server share t u a b one other within)
+    by (disk letter) one other = inl (other ∙ sym one)
+
+-- a prefix of a verbatim kind takes four bytes or more
+pub verbatim-size : (p : Prefix) (t : List ℕ) (a : ℕ) → IsSize p t a → is_verbatim_prefix p ≡ true → 4 ≤ a
+verbatim-size (verbatim name) t a size kind = omega arith
+verbatim-size (verbatim_unc server share) t a (inl size) kind = omega (arith, size.long)
+verbatim-size (verbatim_unc server share) t a (inr size) kind = omega (arith, size.long)
+verbatim-size (verbatim_disk letter) t a size kind = omega arith
+verbatim-size p t a size kind = cc
+
+-- what begins with exactly `\\?\` and has more behind it is of a verbatim kind
+marked-kind : (b : ℕ) (bs : List ℕ) (f : Found) → Read Backslash (backslash ∷ backslash ∷ question ∷ backslash ∷ b ∷ bs) f → is_verbatim_prefix f.prefix ≡ true
+marked-kind b bs _ (of_verbatim_unc rest mark filled) = refl
+marked-kind b bs _ (of_verbatim_disk rest letter mark drives) = refl
+marked-kind b bs _ (of_verbatim rest mark filled no_unc no_drive) = refl
+marked-kind b bs _ (of_device rest mark filled) = let marked = mark.marked in cc
+marked-kind b bs _ (of_unc rest mark filled no_verbatim no_device) = absurd (not_none _ (sym (verbatim-some b bs) ∙ no_verbatim))
+marked-kind b bs _ (of_disk letter drives) = cc
+
+-- so a longer text of another kind does not begin with it
+pub plain-kind : (t : List ℕ) (f : Found) → prefix_of windows t ≡ Some f → is_verbatim_prefix f.prefix ≡ false → 4 < length t → begins_verbatim t ≡ false
+plain-kind t f is kind long = false_from_ne_true _ (λ marked. by (drop 4 t) (verbatim_text t marked))
+  where
+    by : (rest : List ℕ) → t ≡ backslash ∷ backslash ∷ question ∷ backslash ∷ rest → ⊥
+    by [] e = omega (arith, ap length e)
+    by (b ∷ bs) e = both_ways (is_verbatim_prefix f.prefix) kind (marked-kind b bs f (prefix-read (backslash ∷ backslash ∷ question ∷ backslash ∷ b ∷ bs) f (ap (prefix_of windows) (sym e) ∙ is)))

@@ -1,21 +1,215 @@
--- A checked push on Unix stays within its base.
-use Rattle.std.proofs.Common.{◌≡◌, ℕ, zero, Bool, true, false, if◌then◌else◌, List, [], ◌∷◌, ◌++◌, refl, sym, ap, ◌∙◌, arith, ◌==◌}
-use Rattle.std.specs.Prelude.{None}
-use Rattle.std.proofs.lemmas.List.{map-append}
+-- The normal text of Unix, a relative path joined on Unix, and where a checked one leads.
+use Rattle.std.proofs.Common.{◌≡◌, ℕ, zero, suc, Bool, true, false, not, if◌then◌else◌, List, [], ◌∷◌, ◌++◌, map, refl, sym, ap, ◌∙◌, ◌==◌, length, append_assoc, append-nil, ne_eqb, arith, ◌-◌, ◌<◌, drop, bytes_eq, Some, None, ap₂, inl, inr}
+use Rattle.std.proofs.lemmas.List.{map-append, drop-map, drop_all, length-map}
+use Rattle.std.specs.List.{AllByRecursion}
+use Rattle.std.proofs.lemmas.List.Elements.{All-head}
+use Rattle.std.proofs.lemmas.List.Splits.{slice_split-cons_yes}
+use Rattle.std.proofs.lemmas.Bool.{cases_lt, cond_both}
+use Rattle.std.proofs.lemmas.Slice.Eq.{starts_is, bytes_eq-Decides}
+use Rattle.typed_path.specs.declared.errors.CheckedPathError.TheVariants.{InvalidFilename}
 use Rattle.typed_path.specs.declared.scan.separators.Separators.TheVariants.{Slash}
-use Rattle.typed_path.specs.components.Dialect.{unix, slash}
-use Rattle.typed_path.specs.components.Part.{Kind, prefix, root, current, parent, normal, Part, kinds}
-use Rattle.typed_path.specs.components.Comps.{parts_of}
-use Rattle.typed_path.specs.promises.Joins.{without_leading_current}
-use Rattle.typed_path.specs.changes.Push.{push_unix}
-use Rattle.typed_path.specs.changes.Fault.{fault}
-use Rattle.typed_path.specs.places.Places.{resolve, with_implied_root, place}
-use Rattle.typed_path.specs.promises.Promises.{LiesWithin, HasPrefixOf}
-use Rattle.typed_path.proofs.lemmas.components.PartLemmas.{AreRead}
-use Rattle.typed_path.proofs.lemmas.promises.UnixNormal.{resolved-read}
-use Rattle.typed_path.proofs.lemmas.promises.UnixJoin.{join_appends}
+use Rattle.typed_path.specs.components.Dialect.{Dialect, unix, slash, is_separator}
+use Rattle.typed_path.specs.components.Part.{Kind, prefix, root, current, parent, normal, Part, kinds, texts, name_part, current_part, parent_part, root_part, parts}
+use Rattle.typed_path.specs.components.Comps.{parts_of, is_dot, is_dot_dot, comps}
+use Rattle.typed_path.specs.queries.Queries.{is_valid_name, begins_with_root, path_starts_with}
+use Rattle.typed_path.specs.changes.Fault.{fault, fault_at}
+use Rattle.typed_path.specs.places.Places.{overdraws, resolve, place, stays, normal_text, with_implied_root}
+use Rattle.typed_path.specs.promises.Promises.{keeps_prefix, HasPrefixOf, LiesWithin, ReadsAsResolved, StaysNormal, IsCanonical, IsCanonicalForm}
+use Rattle.typed_path.specs.promises.Below.{IsBelow}
+use Rattle.typed_path.specs.changes.Push.{ended_with, push_unix, push_all}
+use Rattle.typed_path.specs.promises.Joins.{without_leading_current, JoinAppends, StripJoins}
+use Rattle.typed_path.specs.scan.Left.{left, start_at}
 use Rattle.typed_path.proofs.lemmas.changes.FaultLemmas.{fault_behind-at, fault_at-overdraws, fault_at-relative}
-use Rattle.typed_path.proofs.lemmas.promises.ContainLemmas.{resolve-append, overdraws-without_leading_current, resolve-without_leading_current}
+use Rattle.typed_path.proofs.lemmas.components.Segments.{body_parts, parts-body, body_parts-read, IsCleanName, IsLaterPart, IsWritten, IsLater, AreRead, text_by_kind, texts-read, pieces, first_parts, later_parts, parts-later_body, IsWrittenPart, each-written}
+use Rattle.typed_path.proofs.lemmas.changes.JoinLemmas.{later_parts-name, body_parts-name, body_parts-ended}
+use Rattle.typed_path.proofs.lemmas.places.ResolveLemmas.{IsKept, resolve-kept, resolve-read, resolve-resolve, resolve-append, overdraws-without_leading_current, resolve-without_leading_current}
+use Rattle.typed_path.proofs.lemmas.lists.Lists.{map-through, AllByRecursion-weaker}
+use Rattle.typed_path.proofs.lemmas.scan.Readings.{left-taken, left-all, left-front}
+use Rattle.typed_path.proofs.lemmas.components.Cuts.{body-filled, tail}
+
+-- A path that is not refused leads to names alone, so a checked join lies below its base.
+
+-- a list of names alone
+record AreNames (ks : List Kind) : Type 0 where
+  names : List (List ℕ)
+  are : ks ≡ map normal names
+
+-- one component more, of a list that is not refused
+resolved-more : (d : Dialect) (depth : ℕ) (k : Kind) (text : List ℕ) (ps : List Part) → fault_at d depth (k ∷ kinds ps) ≡ None
+    → ((n : ℕ) → fault_at d n (kinds ps) ≡ None → AreNames (kinds (resolve ps))) → AreNames (kinds (resolve (record { kind = k; text = text } ∷ ps)))
+resolved-more d depth (prefix p) text ps e rest = absurd (cc)
+resolved-more d depth root text ps e rest = absurd (cc)
+resolved-more d depth current text ps e rest = rest depth e
+resolved-more d zero parent text ps e rest = absurd (cc)
+resolved-more d (suc depth) parent text ps e rest = rest depth e
+resolved-more d depth (normal name) text ps e rest = named (not (overdraws zero (kinds ps))) (rest (suc depth) (valid (is_valid_name d name) e))
+  where
+    valid : (b : Bool) → (if b then fault_at d (suc depth) (kinds ps) else Some InvalidFilename) ≡ None → fault_at d (suc depth) (kinds ps) ≡ None
+    valid true h = h
+    valid false h = cc
+
+    named : (b : Bool) → AreNames (kinds (resolve ps)) → AreNames (kinds ((if b then record { kind = normal name; text = text } ∷ [] else []) ++ resolve ps))
+    named true h = record { names = name ∷ h.names; are = ap (λ ks. normal name ∷ ks) h.are }
+    named false h = h
+
+-- a list that is not refused resolves to names
+resolved-names : (d : Dialect) (depth : ℕ) (ps : List Part) → fault_at d depth (kinds ps) ≡ None → AreNames (kinds (resolve ps))
+resolved-names d depth [] e = record { names = []; are = refl }
+resolved-names d depth (p ∷ ps) e = resolved-more d depth p.kind p.text ps e (λ n h. resolved-names d n ps h)
+
+-- a path that is not refused leads to names
+accepted-names : (d : Dialect) (path : List ℕ) → fault d path ≡ None → AreNames (kinds (resolve (parts_of d path)))
+accepted-names d path e = resolved-names d zero (parts_of d path) (sym (fault_behind-at d [] zero (kinds (parts_of d path)) refl) ∙ e)
+
+-- what has the promises of a checked join lies below its base, where that keeps its prefix
+pub lies_below : (d : Dialect) (base path joined : List ℕ) → fault d path ≡ None → HasPrefixOf d base joined → LiesWithin d base path joined → keeps_prefix d base ≡ true → IsBelow d base joined
+lies_below d base path joined accepted stays contained kept =
+    let found = accepted-names d path accepted in
+    record { names = found.names; leads = contained (stays kept) ∙ ap (λ ks. place d base ++ ks) found.are }
+
+-- a path below one that is below a base is below the base
+pub below-below : (d : Dialect) (base middle path : List ℕ) → IsBelow d base middle → IsBelow d middle path → IsBelow d base path
+below-below d base middle path outer inner = record {
+  names = outer.names ++ inner.names;
+  leads = inner.leads ∙ ap (λ ks. ks ++ map normal inner.names) outer.leads
+      ∙ append_assoc (place d base) (map normal outer.names) (map normal inner.names)
+      ∙ ap (λ ks. place d base ++ ks) (sym (map-append normal outer.names inner.names));
+}
+
+-- The normal text of a Unix path reads as what its list resolves to, is its own normal text, and is one text for each such list.
+
+-- the components of a Unix text, read off its pieces
+pub parts_of-unix : (t : List ℕ) → parts_of unix t ≡ body_parts Slash t
+parts_of-unix t = parts-body Slash 0 t
+
+-- a name pushed onto a text stands behind a separator
+pub push_unix-name : (base name : List ℕ) → IsCleanName Slash name → push_unix base name ≡ ended_with slash base ++ name
+push_unix-name base [] clean = cc
+push_unix-name base (b ∷ bs) clean = rw (All-head (λ c. is_separator Slash c ≡ false) b bs clean.unseparated)
+
+-- a name pushed onto a text adds one component
+push_unix-parts : (base name : List ℕ) → (length base == 0) ≡ false → IsCleanName Slash name → body_parts Slash (push_unix base name) ≡ body_parts Slash base ++ name_part name ∷ []
+push_unix-parts base name filled clean =
+    ap (body_parts Slash) (push_unix-name base name clean) ∙ body_parts-ended Slash slash base name refl filled ∙ ap (λ ps. body_parts Slash base ++ ps) (later_parts-name Slash name clean)
+
+-- a text with a name behind it is not empty
+push_unix-filled : (base name : List ℕ) → IsCleanName Slash name → (length (push_unix base name) == 0) ≡ false
+push_unix-filled base name clean = rw (push_unix-name base name clean) (behind (ended_with slash base))
+  where
+    behind : (front : List ℕ) → (length (front ++ name) == 0) ≡ false
+    behind [] = clean.filled
+    behind (b ∷ bs) = ne_eqb (suc (length (bs ++ name))) 0 (λ e. cc)
+
+-- a later component that a list resolves to is a name
+later-name : (p : Part) → IsLaterPart Slash p → IsKept p → (p ≡ name_part p.text) × IsCleanName Slash p.text
+later-name p later kept = by p.kind p.text later kept
+  where
+    by : (k : Kind) (text : List ℕ) → IsLater Slash k text → stays k [] ≡ true → ((record { kind = k; text = text }) ≡ name_part text) × IsCleanName Slash text
+    by (prefix q) text later kept = absurd later
+    by root text later kept = absurd later
+    by (normal name) text later kept = (ap (λ n. record { kind = normal n; text = text }) (sym later.0), rw later.0 later.1)
+    by k text later kept = cc
+
+-- names pushed one by one add one component each
+push_all-names : (base : List ℕ) (ps : List Part) → (length base == 0) ≡ false → AllByRecursion (IsLaterPart Slash) ps → AllByRecursion IsKept ps
+    → body_parts Slash (push_all unix base (texts ps)) ≡ body_parts Slash base ++ ps
+push_all-names base [] filled later kept = sym (append-nil (body_parts Slash base))
+push_all-names base (p ∷ ps) filled later kept =
+    let name = later-name p later.0 kept.0 in
+    push_all-names (push_unix base p.text) ps (push_unix-filled base p.text name.1) later.1 kept.1
+    ∙ ap (λ qs. qs ++ ps) (push_unix-parts base p.text filled name.1)
+    ∙ append_assoc (body_parts Slash base) (name_part p.text ∷ []) ps
+    ∙ ap (λ q. body_parts Slash base ++ q ∷ ps) (sym name.0)
+
+-- a first component pushed onto the empty text is read as itself
+push_all-first : (k : Kind) (text : List ℕ) (ps : List Part) → IsWritten Slash k text → stays k [] ≡ true → AllByRecursion (IsLaterPart Slash) ps → AllByRecursion IsKept ps
+    → body_parts Slash (push_all unix [] (text ∷ texts ps)) ≡ record { kind = k; text = text } ∷ ps
+push_all-first (prefix q) text ps written kept later rest = absurd written
+push_all-first root text ps written kept later rest = rw written (push_all-names (slash ∷ []) ps refl later rest)
+push_all-first (normal name) text ps written kept later rest =
+    rw written.0
+    (ap (λ base. body_parts Slash (push_all unix base (texts ps))) (push_unix-name [] name written.1)
+    ∙ push_all-names name ps written.1.filled later rest
+    ∙ ap (λ qs. qs ++ ps) (body_parts-name Slash name written.1))
+push_all-first k text ps written kept later rest = cc
+
+-- a root and names, pushed one by one onto the empty text, are read as themselves
+push_all-read : (ps : List Part) → AreRead Slash ps → AllByRecursion IsKept ps → parts_of unix (push_all unix [] (texts ps)) ≡ ps
+push_all-read [] read kept = refl
+push_all-read (p ∷ ps) read kept = parts_of-unix (push_all unix [] (texts (p ∷ ps))) ∙ push_all-first p.kind p.text ps read.0 kept.0 read.1 kept.1
+
+-- what the list of a Unix path resolves to is a list as it is read
+pub resolved-read : (t : List ℕ) → AreRead Slash (resolve (parts_of unix t))
+resolved-read t = resolve-read Slash (parts_of unix t) (rw (parts_of-unix t) (body_parts-read Slash t))
+
+-- a normal text reads as what the list resolves to
+pub reads_as_resolved : (t : List ℕ) → ReadsAsResolved t
+reads_as_resolved t = push_all-read (resolve (parts_of unix t)) (resolved-read t) (resolve-kept (parts_of unix t))
+
+-- a normal text is its own normal text
+pub stays_normal : (t : List ℕ) → StaysNormal t
+stays_normal t = ap (λ ps. push_all unix [] (texts ps)) (ap resolve (reads_as_resolved t) ∙ resolve-resolve (parts_of unix t))
+
+-- two normal texts are equal exactly if both lists resolve to the same kinds
+pub is_canonical : (t u : List ℕ) → IsCanonical t u
+is_canonical t u = (
+  (λ e. ap kinds (sym (reads_as_resolved t) ∙ ap (parts_of unix) e ∙ reads_as_resolved u)),
+  λ e. ap (push_all unix []) (texts_of t ∙ ap (map (text_by_kind Slash)) e ∙ sym (texts_of u)),
+)
+  where
+    texts_of : (v : List ℕ) → texts (resolve (parts_of unix v)) ≡ map (text_by_kind Slash) (kinds (resolve (parts_of unix v)))
+    texts_of v = texts-read Slash (resolve (parts_of unix v)) (resolved-read v)
+
+-- a normal text of Unix has the canonical form
+pub canonical_form : (t : List ℕ) → IsCanonicalForm t (normal_text unix t)
+canonical_form t = record { reads = reads_as_resolved t; stays = stays_normal t; alone = λ u. is_canonical t u }
+
+-- A Unix path with a relative one joined to it.
+
+-- a text that is empty or begins with no slash is read as later pieces, once it is pushed
+pub push_unix-behind : (base path : List ℕ) → (length base == 0) ≡ false → begins_with_root (kinds (body_parts Slash path)) ≡ false
+    → body_parts Slash (push_unix base path) ≡ body_parts Slash base ++ later_parts Slash (pieces Slash path)
+push_unix-behind base [] filled relative = sym (append-nil (body_parts Slash base))
+push_unix-behind base (b ∷ path) filled relative = by (b == slash) refl
+  where
+    by : (rooted : Bool) → (b == slash) ≡ rooted
+        → body_parts Slash (if rooted then b ∷ path else ended_with slash base ++ b ∷ path) ≡ body_parts Slash base ++ later_parts Slash (pieces Slash (b ∷ path))
+    by true e = let e = rw (slice_split-cons_yes (is_separator Slash) b path e) at relative in cc
+    by false e = body_parts-ended Slash slash base (b ∷ path) refl filled
+
+-- read as later pieces, a relative text loses a current directory at its beginning
+later_parts-relative : (some : List (List ℕ)) → begins_with_root (kinds (first_parts Slash some)) ≡ false
+    → later_parts Slash some ≡ without_leading_current (first_parts Slash some)
+later_parts-relative [] relative = refl
+later_parts-relative (piece ∷ rest) relative = by (length piece == 0) (is_dot piece) (is_dot_dot piece) relative
+  where
+    named : Bool → Part
+    named twice = if twice then parent_part else name_part piece
+
+    first : Bool → Bool → Bool → Part
+    first empty dotted twice = if empty then root_part (slash ∷ []) else (if dotted then current_part else named twice)
+
+    by : (empty dotted twice : Bool) → begins_with_root ((first empty dotted twice).kind ∷ kinds (later_parts Slash rest)) ≡ false
+        → (if empty then [] else (if dotted then [] else named twice ∷ [])) ++ later_parts Slash rest ≡ without_leading_current (first empty dotted twice ∷ later_parts Slash rest)
+    by true dotted twice unrooted = cc
+    by false true twice unrooted = refl
+    by false false true unrooted = refl
+    by false false false unrooted = refl
+
+-- an empty text is read as no pieces, both at the beginning and later
+body_parts-relative : (path : List ℕ) → begins_with_root (kinds (body_parts Slash path)) ≡ false
+    → later_parts Slash (pieces Slash path) ≡ without_leading_current (body_parts Slash path)
+body_parts-relative [] relative = refl
+body_parts-relative (b ∷ path) relative = later_parts-relative (pieces Slash (b ∷ path)) relative
+
+-- a relative path joined to a base that is not empty
+pub join_appends : (base path : List ℕ) → JoinAppends base path
+join_appends base path filled relative =
+    let read : begins_with_root (kinds (body_parts Slash path)) ≡ false = ap (λ ps. begins_with_root (kinds ps)) (sym (parts_of-unix path)) ∙ relative in
+    rw (parts_of-unix (push_unix base path), parts_of-unix base, parts_of-unix path)
+    (push_unix-behind base path (ne_eqb (length base) 0 (λ none. omega arith)) read ∙ ap (λ ps. body_parts Slash base ++ ps) (body_parts-relative path read))
+
+-- A checked push on Unix stays within its base.
 
 -- no root is implied by a list without a prefix
 with_implied_root-read : (ps : List Part) → AreRead Slash ps → with_implied_root (kinds ps) ≡ kinds ps
@@ -61,3 +255,103 @@ contained base path accepted stays =
 
 pub keeps : (base path : List ℕ) → fault unix path ≡ None → HasPrefixOf unix base (push_unix base path)
 keeps base path accepted kept = refl
+
+-- What is left of a Unix path behind a base, joined to that base.
+
+-- the kind of a component, as its text tells it
+kind_by_text : List ℕ → Kind
+kind_by_text text = if bytes_eq text (slash ∷ []) then root else (if is_dot text then current else (if is_dot_dot text then parent else normal text))
+
+-- a clean name is not the root's text
+clean-no_root : (name : List ℕ) → IsCleanName Slash name → bytes_eq name (slash ∷ []) ≡ false
+clean-no_root [] clean = refl
+clean-no_root (b ∷ bs) clean = rw (All-head (λ c. is_separator Slash c ≡ false) b bs clean.unseparated)
+
+-- a component that is written as its kind tells has the kind that its text tells
+kind-written : (k : Kind) (text : List ℕ) → IsWritten Slash k text → k ≡ kind_by_text text
+unfolding kind_by_text
+kind-written (prefix p) text written = absurd written
+kind-written root text written = rw written
+kind-written current text written = rw written
+kind-written parent text written = rw written
+kind-written (normal name) text written = rw (written.0, clean-no_root name written.1, written.1.no_dot, written.1.no_dot_dot)
+
+-- the texts of a Unix path tell its kinds
+kinds-texts : (t : List ℕ) → kinds (parts_of unix t) ≡ map kind_by_text (texts (parts_of unix t))
+kinds-texts t =
+    let read = AllByRecursion-weaker (IsWrittenPart Slash) (λ p. p.kind ≡ kind_by_text p.text) (λ p. kind-written p.kind p.text) (body_parts Slash t) (each-written Slash (body_parts Slash t) (body_parts-read Slash t)) in
+    rw (parts_of-unix t) (map-through (λ p. p.text) (λ p. p.kind) kind_by_text (body_parts Slash t) read)
+
+-- a path that begins with a base has its kinds, and more behind them
+kinds-begin : (t b : List ℕ) → path_starts_with unix t b ≡ true → kinds (parts_of unix t) ≡ kinds (parts_of unix b) ++ drop (length (comps unix b)) (kinds (parts_of unix t))
+kinds-begin t b begins =
+    let T = texts (parts_of unix t) in
+    let B = texts (parts_of unix b) in
+    let n = length (comps unix b) in
+    let size : length B ≡ n = length-map (parts_of unix b) (λ p. p.text) ∙ length-map (comps unix b) (λ c. c.part) in
+    let split : T ≡ B ++ drop (length B) T = (starts_is bytes_eq-Decides T B true (sym begins)).0 refl in
+    kinds-texts t
+    ∙ ap (map kind_by_text) (split ∙ ap (λ m. B ++ drop m T) size)
+    ∙ map-append kind_by_text B (drop n T)
+    ∙ ap₂ ◌++◌ (sym (kinds-texts b)) (sym (drop-map kind_by_text n T) ∙ ap (drop n) (sym (kinds-texts t)))
+
+-- pushed onto the empty text, a path is itself
+push_unix-empty : (t : List ℕ) → push_unix [] t ≡ t
+push_unix-empty [] = refl
+push_unix-empty (b ∷ t) = cond_both (b == slash) (b ∷ t) (b ∷ t) (λ u. u ≡ b ∷ t) (λ e. refl) (λ e. refl)
+
+-- a text whose first piece is filled is not absolute
+filled-relative : (text head : List ℕ) (others : List (List ℕ)) → pieces Slash text ≡ head ∷ others → (length head == 0) ≡ false → begins_with_root (kinds (body_parts Slash text)) ≡ false
+filled-relative [] head others split filled = refl
+filled-relative (b ∷ text) head others split filled = rw (split, filled) (by (is_dot head) (is_dot_dot head))
+  where
+    by : (dotted twice : Bool) → begins_with_root (kinds ((if dotted then current_part else (if twice then parent_part else name_part head)) ∷ later_parts Slash others)) ≡ false
+    by true twice = refl
+    by false true = refl
+    by false false = refl
+
+-- a base with more behind it: the kinds of the base, and those of the components from there on
+push_unix-tail : (t b : List ℕ) (k : ℕ) → (length b == 0) ≡ false → suc k < length (comps unix t)
+    → kinds (parts_of unix (push_unix b (left (comps unix t) t (suc k) 0))) ≡ kinds (parts_of unix b) ++ drop (suc k) (kinds (parts_of unix t))
+push_unix-tail t b k filled more =
+    let S = start_at (comps unix t) (suc k) in
+    let r = drop (S - 0) t in
+    let end = tail Slash 0 t k more in
+    let rest : left (comps unix t) t (suc k) 0 ≡ r = left-front (comps unix t) t (suc k) (omega arith) more ∙ ap (λ n. drop n t) (omega arith) in
+    let kinds_of : later_parts Slash (pieces Slash r) ≡ parts (drop (suc k) (comps unix t)) = sym (parts-later_body Slash S r) ∙ ap parts end.rest in
+    ap (λ u. kinds (parts_of unix (push_unix b u))) rest
+    ∙ ap kinds (parts_of-unix (push_unix b r) ∙ push_unix-behind b r filled (filled-relative r end.head end.others end.split end.filled))
+    ∙ map-append (λ p. p.kind) (body_parts Slash b) (later_parts Slash (pieces Slash r))
+    ∙ ap₂ ◌++◌ (ap kinds (sym (parts_of-unix b))) (ap kinds (kinds_of ∙ sym (drop-map (λ c. c.part) (suc k) (comps unix t))) ∙ sym (drop-map (λ p. p.kind) (suc k) (parts_of unix t)))
+
+-- a path has as many kinds as components
+count : (t : List ℕ) → length (kinds (parts_of unix t)) ≡ length (comps unix t)
+count t = length-map (parts_of unix t) (λ p. p.kind) ∙ length-map (comps unix t) (λ c. c.part)
+
+-- what is left of a path behind a base, joined to that base
+left_joins : (t b : List ℕ) → path_starts_with unix t b ≡ true → kinds (parts_of unix (push_unix b (left (comps unix t) t (length (comps unix b)) 0))) ≡ kinds (parts_of unix t)
+left_joins t [] begins = ap (λ u. kinds (parts_of unix u)) (push_unix-empty (left (comps unix t) t 0 0) ∙ left-all (comps unix t) t)
+left_joins t (b ∷ bs) begins = by (length (comps unix (b ∷ bs))) refl (body-filled Slash 0 b bs)
+  where
+    by : (n : ℕ) → length (comps unix (b ∷ bs)) ≡ n → 0 < n → kinds (parts_of unix (push_unix (b ∷ bs) (left (comps unix t) t n 0))) ≡ kinds (parts_of unix t)
+    by zero size some = absurd (omega arith)
+    by (suc k) size some =
+        let split = kinds-begin t (b ∷ bs) begins ∙ ap (λ m. kinds (parts_of unix (b ∷ bs)) ++ drop m (kinds (parts_of unix t))) size in
+        elim (cases_lt (suc k) (length (comps unix t))) [
+          | inl more ↦ push_unix-tail t (b ∷ bs) k (ne_eqb (suc (length bs)) 0 (λ e. cc)) more ∙ sym split
+          | inr all ↦
+              let K = kinds (parts_of unix t) in
+              let long : length K ≡ length (comps unix t) = count t in
+              let same : K ≡ kinds (parts_of unix (b ∷ bs)) = split ∙ ap (λ ks. kinds (parts_of unix (b ∷ bs)) ++ ks) (drop_all (suc k) K (omega arith)) ∙ append-nil (kinds (parts_of unix (b ∷ bs))) in
+              let nothing : left (comps unix t) t (suc k) 0 ≡ [] = left-taken (comps unix t) t (suc k) 0 (omega (arith, ap length same, count (b ∷ bs))) (omega (arith, ap length same, count (b ∷ bs))) in
+              ap (λ u. kinds (parts_of unix (push_unix (b ∷ bs) u))) nothing ∙ sym same
+        ]
+
+-- where a path begins with a base, what is left of it, joined to that base, equals the path
+pub strip_joins : (t b : List ℕ) → StripJoins t b
+strip_joins t b rest some = by (path_starts_with unix t b) refl some
+  where
+    by : (begins : Bool) → path_starts_with unix t b ≡ begins → (if begins then Some (left (comps unix t) t (length (comps unix b)) 0) else None) ≡ Some rest
+        → kinds (parts_of unix (push_unix b rest)) ≡ kinds (parts_of unix t)
+    by true begins same = let is : left (comps unix t) t (length (comps unix b)) 0 ≡ rest = cc in ap (λ u. kinds (parts_of unix (push_unix b u))) (sym is) ∙ left_joins t b begins
+    by false begins same = cc

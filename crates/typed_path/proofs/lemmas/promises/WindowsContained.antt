@@ -1,25 +1,30 @@
--- A checked push on Windows stays within its base, where the prefix stays.
-use Rattle.std.proofs.Common.{◌≡◌, ℕ, ◌<◌, true, false, if◌then◌else◌, List, [], ◌∷◌, ◌++◌, length, take, refl, sym, ap, ap₂, ◌∙◌, subst, append-nil, append_assoc, arith}
-use Rattle.std.specs.Prelude.{Option, Some, None}
-use Rattle.std.specs.Option.{option_map}
-use Rattle.std.proofs.lemmas.Bool.{cond_both, both_ways, false_from_ne_true}
+-- A checked push on Windows stays within its base, and the bases that keep their prefix.
+use Rattle.std.proofs.Common.{◌≡◌, ℕ, ◌<◌, true, false, if◌then◌else◌, List, [], ◌∷◌, ◌++◌, length, take, refl, sym, ap, ap₂, ◌∙◌, subst, append-nil, append_assoc, arith, ◌==◌, ◌&&◌, inl, inr, drop, Option, Some, None, option_and_then, take-append-drop, length-append, length-drop, ◌+◌, ◌⊎◌, ne_eqb, option_map}
+use Rattle.std.proofs.lemmas.Bool.{cond_both, both_ways, false_from_ne_true, cases_Bool, and_parts, cond-true, cond-false, and_left, and_right, or_cases, eqb-true, true_from_ne_false}
+use Rattle.std.specs.Option.{option_or}
+use Rattle.std.proofs.lemmas.List.{same_from_push}
 use Rattle.typed_path.specs.declared.scan.separators.Separators.TheVariants.{Backslash, Either}
-use Rattle.typed_path.specs.components.Dialect.{windows, begins_verbatim}
-use Rattle.typed_path.specs.components.Part.{Prefix, Kind, prefix, Part, kinds}
-use Rattle.typed_path.specs.components.Prefix.{Found, prefix_of}
+use Rattle.typed_path.specs.declared.scan.separators.Separators.{Separators}
+use Rattle.typed_path.specs.components.Dialect.{windows, begins_verbatim, separators, slash, backslash, colon, is_separator}
+use Rattle.typed_path.specs.components.Part.{Prefix, Kind, prefix, Part, kinds, unc, disk, verbatim, verbatim_unc, verbatim_disk, device_ns}
+use Rattle.typed_path.specs.components.Prefix.{Found, prefix_of, found, is_empty, is_drive_letter, to_upper, drive, name, verbatim_unc_case, verbatim_disk_case, verbatim_case, device_case, unc_case, disk_case}
 use Rattle.typed_path.specs.components.Comps.{parts_of}
-use Rattle.typed_path.specs.queries.Queries.{is_verbatim_prefix, has_any_verbatim_prefix}
-use Rattle.typed_path.specs.changes.Push.{push_windows, spelled, merged, ended_windows}
+use Rattle.typed_path.specs.queries.Queries.{is_verbatim_prefix, has_any_verbatim_prefix, is_disk}
+use Rattle.typed_path.specs.changes.Push.{push_windows, spelled, merged, ended_windows, is_disk_alone}
 use Rattle.typed_path.specs.places.Places.{resolve, place}
 use Rattle.typed_path.specs.changes.Fault.{fault}
-use Rattle.typed_path.specs.promises.Promises.{prefix_kind, LiesWithin}
-use Rattle.typed_path.proofs.lemmas.components.PartLemmas.{body_parts, body_parts-read, AreRead, IsWritten, parts_behind}
-use Rattle.typed_path.proofs.lemmas.components.WindowsCuts.{verbatim_text}
-use Rattle.typed_path.proofs.lemmas.places.PlacedBehind.{place_of}
-use Rattle.typed_path.proofs.lemmas.changes.FaultlessLemmas.{IsFaultless, faultless, parts_of-none, parts_of-some, push-faultless}
-use Rattle.typed_path.proofs.lemmas.changes.EndedLemmas.{Ending, ending}
-use Rattle.typed_path.proofs.lemmas.promises.EndedBases.{none-place, plain-joined, found-place}
-use Rattle.typed_path.proofs.lemmas.promises.SpelledBases.{spelled-rest, separators-spelled, spelled-place}
+use Rattle.typed_path.specs.promises.Promises.{prefix_kind, LiesWithin, keeps_by_prefix, HasPrefixOf}
+use Rattle.typed_path.proofs.lemmas.components.Segments.{body_parts, body_parts-read, AreRead, IsWritten, parts_behind, first_part, later_parts}
+use Rattle.typed_path.proofs.lemmas.components.PrefixCuts.{verbatim_text, unless-none, name-filled, or-none}
+use Rattle.typed_path.proofs.lemmas.changes.FaultLemmas.{place_of, IsFaultless, faultless, parts_of-none, parts_of-some, push-faultless, no_heads-relative, body_parts-relative}
+use Rattle.typed_path.proofs.lemmas.changes.JoinLemmas.{Ending, ending, empty, ended, drive_alone, parted as put, spelled-filled}
+use Rattle.typed_path.proofs.lemmas.promises.WindowsBases.{none-place, plain-joined, found-place, spelled-rest, separators-spelled, spelled-place, Rest, from_root, from_other, read-no_drive, disk_alone-disk, rest-separated, verbatim-no_drive, merged-read}
+use Rattle.typed_path.proofs.lemmas.components.Prefixes.{FoundFits, prefix-fits, prefix-read, separators-windows, backslash-separates, Read, of_disk}
+use Rattle.typed_path.proofs.lemmas.components.FirmPrefixes.{Apart, nothing, parted, share_made, is_firm, firm-long, firm-stays, prefix-apart, three_separators, nothing as bare, filled-long, drive-stays}
+use Rattle.typed_path.proofs.lemmas.components.PartedPrefixes.{FirmEnd, firm-end, firm-more}
+use Rattle.typed_path.proofs.lemmas.lists.Lists.{slice_split-some}
+
+-- A checked push on Windows stays within its base, where the prefix stays.
 
 -- a text without a kind of prefix has no prefix, and one with a kind has one of that kind
 prefix_kind-none : (t : List ℕ) → prefix_kind windows t ≡ None → prefix_of windows t ≡ None
@@ -117,3 +122,203 @@ contained base (b ∷ path) accepted =
     let fine = faultless (b ∷ path) accepted in
     subst (LiesWithin windows base (b ∷ path)) (sym (push-faultless base b path fine))
     (cond_both (has_any_verbatim_prefix (kinds (parts_of windows base))) _ _ (LiesWithin windows base (b ∷ path)) (within-anew base (b ∷ path) fine) (within-ended base (b ∷ path) fine (omega arith)))
+
+-- A base of Windows keeps its prefix where a path is put behind it, with a separator where it needs one.
+
+-- what is put behind a base stands apart from its prefix
+pub firm-joined : (base mid path : List ℕ) (f : Found) → prefix_of windows base ≡ Some f → is_firm f.prefix ≡ true → is_disk f.prefix ≡ false → is_verbatim_prefix f.prefix ≡ false
+    → is_disk_alone (kinds (parts_of windows base)) ≡ false → Ending base mid → prefix_of windows (base ++ (mid ++ path)) ≡ Some f
+firm-joined base mid path f is firm other plain no_drive ending =
+    let x = drop f.length base ++ (mid ++ path) in
+    let whole : base ++ (mid ++ path) ≡ take f.length base ++ x = ap (λ t. t ++ (mid ++ path)) (sym (take-append-drop f.length base)) ∙ append_assoc (take f.length base) (drop f.length base) (mid ++ path) in
+    let behind = by (drop f.length base) refl end.behind mid ending in
+    let long = firm-long (separators windows base) base f (prefix-read base f is) firm other in
+    ap (prefix_of windows) whole ∙ firm-stays base x f is firm other (subst (λ s. Apart s x) (sym end.plain) behind.0) (omega (arith, long, behind.1))
+  where
+    end : FirmEnd base f
+    end = firm-end base f is firm other plain
+
+    fits : FoundFits base f
+    fits = prefix-fits windows base f is
+
+    by : (rest : List ℕ) → drop f.length base ≡ rest → Apart Either rest → (mid : List ℕ) → Ending base mid → Apart Either (rest ++ (mid ++ path)) × (0 < length (rest ++ (mid ++ path)))
+    by _ e (parted b bs h) mid ending = (parted b (bs ++ (mid ++ path)) h, omega arith)
+    by _ e nothing _ (empty none) = absurd (omega (arith, fits.filled, fits.fits, ap length none))
+    by _ e nothing _ (ended front last) = absurd (end.unended (omega (arith, fits.fits, ap length e, length-drop f.length base)) front last)
+    by _ e nothing _ (drive_alone drive) = absurd (both_ways _ no_drive drive)
+    by _ e nothing _ (put other_drive filled unended) = (parted backslash path refl, omega arith)
+
+-- the first of two cases does not hold where neither does
+none-first : {A : Type 0} (o p : Option A) → option_or o p ≡ None → o ≡ None
+none-first None p e = refl
+none-first (Some x) p e = cc
+
+-- two separators that begin a text without a prefix have a third behind them
+third-separates : (a b c : ℕ) (text : List ℕ) → (is_separator Either a && is_separator Either b) ≡ true → prefix_of windows (a ∷ b ∷ c ∷ text) ≡ None → is_separator Either c ≡ true
+third-separates a b c text two none =
+    let whole = a ∷ b ∷ c ∷ text in
+    let s = separators windows whole in
+    let case : unc_case whole ≡ None = none-first (unc_case whole) (disk_case whole)
+    (or-none (device_case whole) _ (or-none (verbatim_case s whole) _ (or-none (verbatim_disk_case whole) _ (or-none (verbatim_unc_case s whole) _ none)))) in
+    let nameless = unless-none (is_empty (name Either (c ∷ text))) _
+    (sym (ap (option_and_then (share_made unc 2 Either)) (cond-true (is_separator Either a && is_separator Either b) (Some (c ∷ text)) None two)) ∙ case) in
+    true_from_ne_false _ (λ plain. omega (arith, name-filled Either c text plain, eqb-true (length (name Either (c ∷ text))) 0 nameless))
+
+-- a text with a path put behind it that begins with no separator
+module _ (b : ℕ) (path : List ℕ) (plain : is_separator Either b ≡ false) where
+  -- a base of one byte
+  one-joined : (c : ℕ) (mid : List ℕ) → keeps_by_prefix (c ∷ []) None ≡ true → is_disk_alone (kinds (parts_of windows (c ∷ []))) ≡ false → Ending (c ∷ []) mid → prefix_of windows (c ∷ [] ++ (mid ++ b ∷ path)) ≡ None
+  one-joined c _ kept no_drive (empty e) = cc
+  one-joined c _ kept no_drive (ended front e) =
+      let last : c ≡ backslash = (same_from_push [] front c backslash e).1 in
+      prefix-apart c b path (and_right (is_separator Either c) (is_separator Either b) plain)
+      ∙ ap (option_and_then (λ l. Some (found (disk l) 2))) (cond-false (is_drive_letter c && b == colon) (Some (to_upper c)) None (and_left (is_drive_letter c) (b == colon) (ap is_drive_letter last)))
+  one-joined c _ kept no_drive (drive_alone drive) = absurd (both_ways _ no_drive drive)
+  one-joined c _ kept no_drive (put other filled unended) =
+      let alone : is_separator Either c ≡ false = false_from_ne_true _ (λ h. elim (or_cases (c == slash) (c == backslash) h) [
+        | inl e ↦ both_ways _ (ap (λ d. keeps_by_prefix (d ∷ []) None) (eqb-true c slash e)) kept
+        | inr e ↦ unended [] (ap (λ d. d ∷ []) (eqb-true c backslash e))
+      ]) in
+      prefix-apart c backslash (b ∷ path) (and_left (is_separator Either c) true alone)
+      ∙ ap (option_and_then (λ l. Some (found (disk l) 2))) (cond-false (is_drive_letter c && backslash == colon) (Some (to_upper c)) None (and_right (is_drive_letter c) false refl))
+
+  -- a base of two bytes or more
+  two-joined : (c d : ℕ) (rest mid : List ℕ) → prefix_of windows (c ∷ d ∷ rest) ≡ None → keeps_by_prefix (c ∷ d ∷ rest) None ≡ true → is_disk_alone (kinds (parts_of windows (c ∷ d ∷ rest))) ≡ false → Ending (c ∷ d ∷ rest) mid
+      → prefix_of windows (c ∷ d ∷ rest ++ (mid ++ b ∷ path)) ≡ None
+  two-joined c d rest mid is kept no_drive ending = elim (cases_Bool (is_separator Either c && is_separator Either d)) [
+    | inl two ↦ by rest mid two is kept no_drive ending
+    | inr apart ↦ prefix-apart c d (rest ++ (mid ++ b ∷ path)) apart ∙ sym (prefix-apart c d rest apart) ∙ is
+  ]
+    where
+      by : (rest mid : List ℕ) → (is_separator Either c && is_separator Either d) ≡ true → prefix_of windows (c ∷ d ∷ rest) ≡ None → keeps_by_prefix (c ∷ d ∷ rest) None ≡ true → is_disk_alone (kinds (parts_of windows (c ∷ d ∷ rest))) ≡ false
+          → Ending (c ∷ d ∷ rest) mid → prefix_of windows (c ∷ d ∷ rest ++ (mid ++ b ∷ path)) ≡ None
+      by (e ∷ es) mid two is kept no_drive ending =
+          let both = and_parts (is_separator Either c) (is_separator Either d) two in
+          three_separators c d e (es ++ (mid ++ b ∷ path)) both.0 both.1 (third-separates c d e es two is)
+      by [] _ two is kept no_drive (empty e) = cc
+      by [] _ two is kept no_drive (ended front e) =
+          let last : d ≡ backslash = (same_from_push (c ∷ []) front d backslash e).1 in
+          absurd (elim (or_cases (c == slash) (c == backslash) (and_parts (is_separator Either c) (is_separator Either d) two).0) [
+            | inl first ↦ both_ways _ (λ i. keeps_by_prefix (eqb-true c slash first i ∷ last i ∷ []) None) kept
+            | inr first ↦ both_ways _ (λ i. keeps_by_prefix (eqb-true c backslash first i ∷ last i ∷ []) None) kept
+          ])
+      by [] _ two is kept no_drive (drive_alone drive) = absurd (both_ways _ no_drive drive)
+      by [] _ two is kept no_drive (put other filled unended) =
+          let both = and_parts (is_separator Either c) (is_separator Either d) two in
+          three_separators c d backslash (b ∷ path) both.0 both.1 refl
+
+  -- a base without a prefix gets none, where it is listed
+  pub none-joined : (base mid : List ℕ) → prefix_of windows (b ∷ path) ≡ None → prefix_of windows base ≡ None → keeps_by_prefix base None ≡ true → is_disk_alone (kinds (parts_of windows base)) ≡ false → Ending base mid
+      → prefix_of windows (base ++ (mid ++ b ∷ path)) ≡ None
+  none-joined [] _ none is kept no_drive (empty e) = none
+  none-joined [] _ none is kept no_drive (ended front e) = absurd (omega (arith, ap length e, length-append front (backslash ∷ [])))
+  none-joined [] _ none is kept no_drive (drive_alone drive) = none
+  none-joined [] _ none is kept no_drive (put other filled unended) = absurd (omega arith)
+  none-joined (c ∷ []) mid none is kept no_drive ending = one-joined c mid kept no_drive ending
+  none-joined (c ∷ d ∷ rest) mid none is kept no_drive ending = two-joined c d rest mid is kept no_drive ending
+
+-- A base of Windows keeps a verbatim prefix where its list is spelled anew.
+
+-- a text is read as some component, unless it is empty
+body_parts-some : (s : Separators) (b : ℕ) (bs : List ℕ) → (p : Part) × (ps : List Part) × (body_parts s (b ∷ bs) ≡ p ∷ ps)
+body_parts-some s b bs = let some = slice_split-some (is_separator s) (b ∷ bs) in (first_part s some.0, later_parts s some.1, rw some.2 refl)
+
+-- a list that is not empty is spelled with some bytes
+rest-filled : (s : Separators) (p : Part) (ps : List Part) (rest : List ℕ) → AreRead s (p ∷ ps) → Rest (p ∷ ps) rest → (length rest == 0) ≡ false
+rest-filled s _ _ _ read (from_root p ps e) = spelled-filled s p ps read.0
+rest-filled s _ _ _ read (from_other p ps e) = ne_eqb _ 0 (λ none. cc)
+
+-- a rest that begins with a separator or is empty stands apart
+rest-apart : (s : Separators) (rest : List ℕ) → is_separator s backslash ≡ true → (rest ≡ []) ⊎ ((more : List ℕ) × (rest ≡ backslash ∷ more)) → Apart s rest
+rest-apart s rest separates (inl none) = subst (Apart s) (sym none) bare
+rest-apart s rest separates (inr some) = subst (Apart s) (sym some.1) (parted backslash some.0 separates)
+
+-- a raw prefix with the rest of its list behind it, and more components at its end, has the same prefix
+pub spelled-keeps : (base rest : List ℕ) (f : Found) (added : List Part) → prefix_of windows base ≡ Some f → is_firm f.prefix ≡ true → is_disk f.prefix ≡ false
+    → AreRead (separators windows base) (body_parts (separators windows base) (drop f.length base) ++ added) → Rest (body_parts (separators windows base) (drop f.length base) ++ added) rest
+    → (rest ≡ []) ⊎ ((more : List ℕ) × (rest ≡ backslash ∷ more)) → prefix_of windows (take f.length base ++ rest) ≡ Some f
+spelled-keeps base rest f added is firm other read spelt separated =
+    firm-stays base rest f is firm other (rest-apart s rest (backslash-separates s (separators-windows base)) separated) (long (drop f.length base) refl read spelt)
+  where
+    s : Separators
+    s = separators windows base
+
+    long : (behind : List ℕ) → drop f.length base ≡ behind → AreRead s (body_parts s behind ++ added) → Rest (body_parts s behind ++ added) rest → 4 < f.length + length rest
+    long [] e read spelt = omega (arith, firm-more s base f (prefix-read base f is) firm other, ap length e, length-drop f.length base)
+    long (b ∷ bs) e read spelt =
+        let some = body_parts-some s b bs in
+        let filled = rest-filled s some.0 (some.1 ++ added) rest (subst (λ ps. AreRead s (ps ++ added)) some.2 read) (subst (λ ps. Rest (ps ++ added) rest) some.2 spelt) in
+        omega (arith, firm-long s base f (prefix-read base f is) firm other, filled-long rest filled)
+
+-- The bases of Windows that keep their prefix under every path that is not refused.
+
+-- where there is a prefix, the base itself does not count
+keeps_by_prefix-firm : (base : List ℕ) (p : Prefix) → keeps_by_prefix base (Some p) ≡ is_firm p
+keeps_by_prefix-firm base (verbatim name) = refl
+keeps_by_prefix-firm base (verbatim_unc server share) = refl
+keeps_by_prefix-firm base (verbatim_disk letter) = refl
+keeps_by_prefix-firm base (device_ns name) = refl
+keeps_by_prefix-firm base (unc server share) = refl
+keeps_by_prefix-firm base (disk letter) = refl
+
+module _ (base : List ℕ) (b : ℕ) (bs : List ℕ) (fine : IsFaultless (b ∷ bs)) where
+  abbrev path : List ℕ
+  path = b ∷ bs
+
+  -- a base without a verbatim prefix has the path put behind it
+  push-behind : has_any_verbatim_prefix (kinds (parts_of windows base)) ≡ false → push_windows base path ≡ base ++ ((ending base).0 ++ path)
+  push-behind plain =
+      push-faultless base b bs fine
+      ∙ cond-false _ (spelled (merged (parts_of windows base) (parts_of windows path))) (ended_windows base ++ path) plain
+      ∙ ap (λ t. t ++ path) (ending base).1
+      ∙ append_assoc base (ending base).0 path
+
+  -- a base without a prefix gets none
+  none-kept : prefix_of windows base ≡ None → keeps_by_prefix base None ≡ true → prefix_kind windows (push_windows base path) ≡ None
+  none-kept none kept =
+      let plain = body_parts-relative Either b bs (no_heads-relative (kinds (body_parts Either path)) fine.headless) in
+      let no_drive = false_from_ne_true _ (λ alone. read-no_drive Either (body_parts Either base) (body_parts-read Either base) (ap (λ ps. is_disk_alone (kinds ps)) (sym (parts_of-none base none)) ∙ alone)) in
+      ap (prefix_kind windows) (push-behind (verbatim-none base none))
+      ∙ ap (option_map (λ g. g.prefix)) (none-joined b bs plain base (ending base).0 fine.no_prefix none kept no_drive (ending base).2)
+
+  module _ (f : Found) (is : prefix_of windows base ≡ Some f) where
+    -- under a prefix that is not verbatim
+    plain-kept : is_firm f.prefix ≡ true → is_verbatim_prefix f.prefix ≡ false → prefix_kind windows (push_windows base path) ≡ Some f.prefix
+    plain-kept firm plain =
+        ap (prefix_kind windows) (push-behind (verbatim-some base f is ∙ plain))
+        ∙ elim (cases_Bool (is_disk f.prefix)) [
+          | inl drives ↦ drive-kept f (prefix-read base f is) drives
+          | inr other ↦ ap (option_map (λ g. g.prefix)) (firm-joined base (ending base).0 path f is firm other plain (no_drive other) (ending base).2)
+        ]
+      where
+        drive-kept : (f : Found) → Read (separators windows base) base f → is_disk f.prefix ≡ true → prefix_kind windows (base ++ ((ending base).0 ++ path)) ≡ Some f.prefix
+        drive-kept f (of_disk letter drives) kind = ap (option_map (λ g. g.prefix)) (drive-stays base ((ending base).0 ++ path) letter drives)
+        drive-kept f read kind = cc
+
+        no_drive : is_disk f.prefix ≡ false → is_disk_alone (kinds (parts_of windows base)) ≡ false
+        no_drive other = false_from_ne_true _ (λ alone. both_ways _ other (disk_alone-disk f.prefix _ (ap (λ ps. is_disk_alone (kinds ps)) (sym (parts_of-some base f is)) ∙ alone)))
+
+    -- under a verbatim prefix
+    verbatim-kept : is_firm f.prefix ≡ true → is_verbatim_prefix f.prefix ≡ true → prefix_kind windows (push_windows base path) ≡ Some f.prefix
+    verbatim-kept firm marked =
+        let written = spelled-rest base path f is marked fine in
+        let separated = rest-separated (separators windows base) (separators-windows base) _ written.0 (merged-read base path f is marked fine) written.2 in
+        ap (prefix_kind windows)
+        (push-faultless base b bs fine
+        ∙ cond-true _ (spelled (merged (parts_of windows base) (parts_of windows path))) (ended_windows base ++ path) (verbatim-some base f is ∙ marked)
+        ∙ written.1)
+        ∙ ap (option_map (λ g. g.prefix)) (spelled-keeps base written.0 f _ is firm (verbatim-no_drive f.prefix marked) (merged-read base path f is marked fine) written.2 separated)
+
+-- every base that is listed keeps its prefix
+pub keeps : (base path : List ℕ) → fault windows path ≡ None → HasPrefixOf windows base (push_windows base path)
+keeps base [] accepted kept = refl
+keeps base (b ∷ bs) accepted kept = by (prefix_of windows base) refl kept
+  where
+    fine : IsFaultless (b ∷ bs)
+    fine = faultless (b ∷ bs) accepted
+
+    by : (o : Option Found) → prefix_of windows base ≡ o → keeps_by_prefix base (option_map (λ f. f.prefix) o) ≡ true → prefix_kind windows (push_windows base (b ∷ bs)) ≡ option_map (λ f. f.prefix) o
+    by None is kept = none-kept base b bs fine is kept
+    by (Some f) is kept =
+        let firm = sym (keeps_by_prefix-firm base f.prefix) ∙ kept in
+        elim (cases_Bool (is_verbatim_prefix f.prefix)) [ inl marked ↦ verbatim-kept base b bs fine f is firm marked | inr plain ↦ plain-kept base b bs fine f is firm plain ]

@@ -1,37 +1,154 @@
--- The normal text of Windows is stable, where no name has a byte that no name may have and the prefix is not the verbatim one named `UNC`.
-use Rattle.std.proofs.Common.{◌≡◌, ℕ, ◌<◌, ◌≤◌, Bool, true, false, if◌then◌else◌, ◌⊎◌, inl, inr, List, [], ◌∷◌, ◌++◌, map, length, take, drop, Option, Some, None, option_map, refl, sym, ap, ap₂, ◌∙◌, subst, append-nil, append_assoc, take_all, length-take, arith}
+-- The normal text of Windows is stable, where no name has a byte that no name may have.
+use Rattle.std.proofs.Common.{◌≡◌, ℕ, Bool, true, false, if◌then◌else◌, List, [], ◌∷◌, ◌++◌, map, Option, Some, None, refl, sym, ap, ◌∙◌, ◌<◌, length, take, append_assoc, append-nil, length-take, arith, ◌≤◌, ◌⊎◌, inl, inr, drop, option_map, ap₂, subst, take_all}
 use Rattle.std.specs.List.{AllByRecursion}
-use Rattle.std.proofs.lemmas.Bool.{cases_Bool, cases_lt, cond-true}
+use Rattle.std.proofs.lemmas.Bool.{both_ways, false_from_ne_true, cases_Bool, cases_lt, cond-true}
+use Rattle.std.proofs.lemmas.List.Elements.{All-head}
 use Rattle.std.proofs.lemmas.List.{drop_all}
 use Rattle.typed_path.specs.declared.scan.separators.Separators.{Separators}
-use Rattle.typed_path.specs.declared.scan.separators.Separators.TheVariants.{Either}
-use Rattle.typed_path.specs.components.Dialect.{windows, backslash, separators}
-use Rattle.typed_path.specs.components.Part.{verbatim, verbatim_disk, disk, Part, kinds, texts, name_part, root_part, prefix_part}
+use Rattle.typed_path.specs.declared.scan.separators.Separators.TheVariants.{Backslash, Either}
+use Rattle.typed_path.specs.components.Dialect.{windows, backslash, separators, begins_verbatim, is_separator, Dialect, unix}
+use Rattle.typed_path.specs.components.Part.{Part, kinds, texts, name_part, disk, root_part, verbatim, verbatim_disk, prefix_part}
 use Rattle.typed_path.specs.components.Prefix.{Found, found, drive, prefix_of}
 use Rattle.typed_path.specs.components.Comps.{parts_of}
-use Rattle.typed_path.specs.queries.Queries.{is_disk, is_verbatim_prefix, begins_with_root, has_any_verbatim_prefix, have_allowed_bytes}
-use Rattle.typed_path.specs.changes.Push.{is_disk_alone, ended_with, ended_windows, merged, push_all, push_windows, raw_prefix, raw_length, spelled}
-use Rattle.typed_path.specs.places.Places.{resolve}
-use Rattle.typed_path.specs.promises.Promises.{is_verbatim_unc_name, with_drive_root, StaysStable}
-use Rattle.typed_path.proofs.lemmas.components.SeparatorLemmas.{OfWindows, separators-windows}
-use Rattle.typed_path.proofs.lemmas.components.PartLemmas.{body_parts, body_parts-read}
-use Rattle.typed_path.proofs.lemmas.components.PrefixLemmas.{prefix-fits, drive-size}
-use Rattle.typed_path.proofs.lemmas.components.MarkLemmas.{drive-take}
-use Rattle.typed_path.proofs.lemmas.components.PlainLemmas.{drive-stays}
-use Rattle.typed_path.proofs.lemmas.components.ReadLemmas.{Read, of_disk, prefix-read}
-use Rattle.typed_path.proofs.lemmas.components.ApartLemmas.{nothing}
-use Rattle.typed_path.proofs.lemmas.components.PartedPrefixes.{parted-stays}
-use Rattle.typed_path.proofs.lemmas.components.PlainNames.{IsPlain, Resolved, unrooted, rooted, resolved, allowed-resolve}
-use Rattle.typed_path.proofs.lemmas.components.RootsBehind.{root-behind}
-use Rattle.typed_path.proofs.lemmas.components.RawPrefixes.{raw-whole}
-use Rattle.typed_path.proofs.lemmas.places.SettleLemmas.{texts-names}
-use Rattle.typed_path.proofs.lemmas.places.ResolveLemmas.{resolve-kept, resolve-read}
-use Rattle.typed_path.proofs.lemmas.places.DriveRoots.{with_drive_root-rooted}
-use Rattle.typed_path.proofs.lemmas.changes.FaultlessLemmas.{parts_of-none, parts_of-some}
-use Rattle.typed_path.proofs.lemmas.changes.EndedNames.{a_root, a_name}
-use Rattle.typed_path.proofs.lemmas.changes.PushedNames.{Settled, text_of, push-plain, settled-read, push_all-settled}
-use Rattle.typed_path.proofs.lemmas.promises.SettledTexts.{settled-none, settled-drive, settled-parted}
-use Rattle.typed_path.proofs.lemmas.promises.ReadAgain.{IsReadAgain, stable-again, push-first, settled-text, settled-again}
+use Rattle.typed_path.specs.queries.Queries.{begins_with_root, has_prefix, is_disk, is_verbatim_prefix, has_any_verbatim_prefix, have_allowed_bytes}
+use Rattle.typed_path.specs.changes.Push.{push_all, push_windows, spelled, is_disk_alone, ended_with, ended_windows, merged, raw_prefix, raw_length}
+use Rattle.typed_path.specs.places.Places.{normal_text, resolve, with_implied_root}
+use Rattle.typed_path.specs.promises.Promises.{with_drive_root, IsStableForm, is_verbatim_unc_name, StaysStable, HasNormalForm}
+use Rattle.typed_path.proofs.lemmas.places.ResolveLemmas.{texts-names, resolve-kept, resolve-same, with_drive_root-kept, with_drive_root-place, resolve-read, with_drive_root-rooted}
+use Rattle.typed_path.proofs.lemmas.components.PlainNames.{IsPlain, Settled, prefix_parts, text_of, settled-read, push_all-settled, plain-no_prefix, rooted-none, IsHead, a_root, a_name, Resolved, unrooted, rooted, resolved, allowed-resolve, push-plain}
+use Rattle.typed_path.proofs.lemmas.components.Prefixes.{OfWindows, separators-windows, backslash-separates, drive-size, some_is, drive-take, prefix-fits, Read, of_disk, prefix-read}
+use Rattle.typed_path.proofs.lemmas.components.PrefixCuts.{verbatim_text, plain-none}
+use Rattle.typed_path.proofs.lemmas.components.FirmPrefixes.{Apart, nothing, parted, drive-extends, drive-stays}
+use Rattle.typed_path.proofs.lemmas.components.PartedPrefixes.{parted-stays, root-behind, raw-whole}
+use Rattle.typed_path.proofs.lemmas.components.Segments.{body_parts, body_parts-read}
+use Rattle.typed_path.proofs.lemmas.changes.FaultLemmas.{parts_of-none, parts_of-some}
+use Rattle.typed_path.proofs.lemmas.promises.UnixContained.{canonical_form}
+
+-- Lists whose texts, pushed one by one onto the empty text of Windows, are read as the list again.
+
+-- a list that is read again off what its texts are pushed to, but for a root behind a verbatim drive
+pub record IsReadAgain (ps : List Part) : Type 0 where
+  pub reads : parts_of windows (push_all windows [] (texts ps)) ≡ with_drive_root ps
+  pub same_text : push_all windows [] (texts (with_drive_root ps)) ≡ push_all windows [] (texts ps)
+
+-- where the list that a path resolves to is, its normal text is stable
+pub stable-again : (t : List ℕ) → IsReadAgain (resolve (parts_of windows t)) → IsStableForm t (normal_text windows t)
+stable-again t again =
+    let ps = resolve (parts_of windows t) in
+    let settled : resolve (with_drive_root ps) ≡ with_drive_root ps = resolve-same (with_drive_root ps) (with_drive_root-kept ps (resolve-kept (parts_of windows t))) in
+    let twice = ap resolve again.reads ∙ settled in
+    record {
+      reads = again.reads;
+      same_place = ap (λ qs. with_implied_root (kinds qs)) twice ∙ with_drive_root-place ps;
+      stays = ap (λ qs. push_all windows [] (texts qs)) twice ∙ again.same_text;
+    }
+
+-- a text pushed onto the empty one is that text
+pub push-first : (t : List ℕ) → push_windows [] t ≡ t
+push-first [] = refl
+push-first (b ∷ bs) = by (has_prefix (kinds (parts_of windows (b ∷ bs)))) (begins_with_root (kinds (parts_of windows (b ∷ bs))))
+  where
+    by : (prefixed has_root : Bool) → (if prefixed then b ∷ bs else (if has_root then b ∷ bs else b ∷ bs)) ≡ b ∷ bs
+    by true has_root = refl
+    by false true = refl
+    by false false = refl
+
+module _ (raw : List ℕ) (o : Option Found) (s : Separators) (q : Part) (h : Settled raw o s q) where
+  -- where the first texts are pushed to a settled text, names behind it are
+  pub settled-text : (names : List (List ℕ)) → AllByRecursion IsPlain names → push_all windows [] (texts (prefix_parts o raw ++ q ∷ [])) ≡ raw ++ q.text
+      → push_all windows [] (texts (prefix_parts o raw ++ q ∷ map name_part names)) ≡ text_of raw o s q h names
+  settled-text names plain first =
+      by o first
+      ∙ ap (push_all windows (raw ++ q.text)) (texts-names names)
+      ∙ push_all-settled raw o s q h [] names tt plain
+    where
+      by : (o : Option Found) → push_all windows [] (texts (prefix_parts o raw ++ q ∷ [])) ≡ raw ++ q.text
+          → push_all windows [] (texts (prefix_parts o raw ++ q ∷ map name_part names)) ≡ push_all windows (raw ++ q.text) (texts (map name_part names))
+      by None first = ap (λ t. push_all windows t (texts (map name_part names))) first
+      by (Some f) first = ap (λ t. push_all windows t (texts (map name_part names))) first
+
+  -- so the list is read again
+  pub settled-again : (names : List (List ℕ)) → AllByRecursion IsPlain names → push_all windows [] (texts (prefix_parts o raw ++ q ∷ [])) ≡ raw ++ q.text
+      → with_drive_root (prefix_parts o raw ++ q ∷ map name_part names) ≡ prefix_parts o raw ++ q ∷ map name_part names
+      → IsReadAgain (prefix_parts o raw ++ q ∷ map name_part names)
+  settled-again names plain first same = record {
+    reads = ap (parts_of windows) (settled-text names plain first) ∙ settled-read raw o s q h names plain ∙ sym same;
+    same_text = ap (λ ps. push_all windows [] (texts ps)) same;
+  }
+
+-- Texts of Windows behind which names may stand: nothing, a drive, and a root behind another prefix.
+
+-- a name, and what stands behind it
+names-spelled : (name : List ℕ) (names : List (List ℕ)) → (rest : List ℕ) × (spelled (name_part name ∷ map name_part names) ≡ name ++ rest) × Apart Either rest
+names-spelled name [] = ([], sym (append-nil name), nothing)
+names-spelled name (own ∷ names) =
+    let behind = spelled (name_part own ∷ map name_part names) in
+    (backslash ∷ behind, append_assoc name (backslash ∷ []) behind, parted backslash behind refl)
+
+-- a root or a name with names behind it has no prefix
+headed-none : (q : Part) (names : List (List ℕ)) → IsHead q → AllByRecursion IsPlain names → prefix_of windows (spelled (q ∷ map name_part names)) ≡ None
+headed-none _ names (a_name own h) plain = let behind = names-spelled own names in ap (prefix_of windows) behind.1 ∙ plain-no_prefix own behind.0 h behind.2
+headed-none _ [] a_root plain = refl
+headed-none _ (name ∷ names) a_root plain =
+    let behind = names-spelled name names in
+    ap (λ t. prefix_of windows (backslash ∷ t)) behind.1 ∙ by name plain.0 behind.0
+  where
+    by : (name : List ℕ) → IsPlain name → (rest : List ℕ) → prefix_of windows (backslash ∷ name ++ rest) ≡ None
+    by [] h rest = let clean = h.clean in let filled = clean.filled in cc
+    by (b ∷ bs) h rest = let clean = h.clean in rooted-none b (bs ++ rest) (All-head (λ c. is_separator Either c ≡ false) b bs clean.unseparated)
+
+-- under no prefix
+pub settled-none : (q : Part) → IsHead q → Settled [] None Either q
+settled-none q head = record {
+  of_windows = refl;
+  whole = refl;
+  head = head;
+  rooted = λ f e. absurd (none e);
+  stays = λ names plain. let is = headed-none q names head plain in (ap (λ b. if b then Backslash else Either) (plain-none (spelled (q ∷ map name_part names)) is), is);
+}
+  where
+    none : {f : Found} → None ≡ Some f → ⊥
+    none e = cc
+
+-- a text that begins with a drive is not read verbatim
+pub drive-plain : (t : List ℕ) (letter : ℕ) → drive t ≡ Some letter → begins_verbatim t ≡ false
+drive-plain t letter is = false_from_ne_true _ (λ marked. no_drive (sym (ap drive (verbatim_text t marked)) ∙ is))
+  where
+    no_drive : None ≡ Some letter → ⊥
+    no_drive e = cc
+
+-- under a drive
+pub settled-drive : (t : List ℕ) (letter : ℕ) (q : Part) → drive t ≡ Some letter → IsHead q → Settled (take 2 t) (Some (found (disk letter) 2)) Either q
+settled-drive t letter q is head = record {
+  of_windows = refl;
+  whole = omega (arith, length-take 2 t, drive-size t letter is);
+  head = head;
+  rooted = λ f e marked. absurd (both_ways (is_verbatim_prefix f.prefix) (ap (λ g. is_verbatim_prefix g.prefix) (sym (some_is e))) marked);
+  stays = λ names plain.
+      let rest = spelled (q ∷ map name_part names) in
+      (ap (λ b. if b then Backslash else Either) (drive-plain (take 2 t ++ rest) letter (drive-extends (take 2 t) rest letter cut)), drive-stays (take 2 t) rest letter cut);
+}
+  where
+    cut : drive (take 2 t) ≡ Some letter
+    cut = drive-take 2 t (omega arith) ∙ is
+
+-- a root, with names behind it, begins with a separator
+rooted-apart : (s : Separators) → OfWindows s → (names : List (List ℕ)) → Apart s (spelled (root_part (backslash ∷ []) ∷ map name_part names)) × (0 < length (spelled (root_part (backslash ∷ []) ∷ map name_part names)))
+rooted-apart s w [] = (parted backslash [] (backslash-separates s w), omega arith)
+rooted-apart s w (name ∷ names) = (parted backslash _ (backslash-separates s w), omega arith)
+
+-- under another prefix with more behind it
+pub settled-parted : (t : List ℕ) (f : Found) → prefix_of windows t ≡ Some f → is_disk f.prefix ≡ false → is_verbatim_unc_name (Some f.prefix) ≡ false → f.length < length t
+    → Settled (take f.length t) (Some f) (separators windows t) (root_part (backslash ∷ []))
+settled-parted t f is other no_unc more = record {
+  of_windows = separators-windows t;
+  whole = omega (arith, length-take f.length t, more);
+  head = a_root;
+  rooted = λ g e marked. refl;
+  stays = λ names plain. let apart = rooted-apart (separators windows t) (separators-windows t) names in parted-stays t _ f is other no_unc more apart.0 (λ e. apart.1);
+}
+
+-- The normal text of Windows is stable, where no name has a byte that no name may have and the prefix is not the verbatim one named `UNC`.
 
 -- a prefix and nothing else is read as that
 pub prefix-alone : (raw : List ℕ) (g : Found) → prefix_of windows raw ≡ Some g → g.length ≡ length raw → parts_of windows raw ≡ prefix_part g.prefix raw ∷ []
@@ -207,3 +324,10 @@ resolved-again t allowed no_unc = by (prefix_of windows t) refl
 -- the normal text of Windows is stable
 pub stays_stable : (t : List ℕ) → StaysStable t
 stays_stable t allowed no_unc = stable-again t (resolved-again t allowed no_unc)
+
+-- The form of a normal text, by its dialect.
+
+-- a normal text has the form that its dialect promises
+pub normal_form : (d : Dialect) (t : List ℕ) → HasNormalForm d t (normal_text d t)
+normal_form unix t = canonical_form t
+normal_form windows t = stays_stable t

@@ -2,7 +2,7 @@ use Rattle.std.proofs.Common.{◌∷◌, ◌++◌, map, drop, suc, sym, ap, ◌�
 use Rattle.std.specs.Prelude.{Ok}
 use Rattle.typed_path.specs.conversions.Convert.{converted_checked}
 use Rattle.typed_path_uses.specs.Uses.{crossings, first_refusal}
-use Rattle.typed_path.proofs.lemmas.changes.ConvertLemmas.{refusal-passed}
+use Rattle.typed_path.proofs.lemmas.conversions.CrossedLemmas.{refusal-passed}
 use Rattle.typed_path_uses.proofs.Crossings.{refused-behind, crossings-next}
 use Rattle.typed_path_uses.proofs.manifest.rewritten_texts.Goals as goal
 

@@ -1,5 +1,5 @@
 use Rattle.std.proofs.Common.{◌≡◌, ◌-◌, length, take, drop, ap, ap₂, sym, ◌∙◌, arith}
-use Rattle.typed_path.proofs.lemmas.places.RowSteps.{name_dropped, none_dropped}
+use Rattle.typed_path.proofs.lemmas.places.RowLemmas.{name_dropped, none_dropped}
 use Rattle.typed_path.proofs.common.names.drop_name.Goals as goal
 
 pub returns-then-len-clause-dropped : goal.returns-then-len-clause-dropped

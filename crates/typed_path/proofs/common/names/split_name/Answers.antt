@@ -1,7 +1,7 @@
 use Rattle.std.proofs.Common.{ap, sym, ◌∙◌, ◌+◌, arith}
 use Rattle.std.specs.Prelude.{Some}
 use Rattle.std.proofs.lemmas.List.{take_rest}
-use Rattle.typed_path.proofs.lemmas.queries.DotLemmas.{stem-whole, extension-none, stem-before, extension-behind}
+use Rattle.typed_path.proofs.lemmas.queries.FileNames.{stem-whole, extension-none, stem-before, extension-behind}
 use Rattle.typed_path.proofs.common.names.split_name.Goals as goal
 
 pub returns-in_default-clause-stem : goal.returns-in_default-clause-stem

@@ -5,8 +5,7 @@ use Rattle.typed_path.specs.views.BodyViews.{body_items}
 use Rattle.typed_path.specs.views.CursorViews.{items_left}
 use Rattle.typed_path.specs.views.PieceViews.{prefix_view, step_part}
 use Rattle.typed_path.proofs.lemmas.changes.FaultLemmas.{taken-first}
-use Rattle.typed_path.proofs.lemmas.order.KindLemmas.{cmp-none, cmp-more, cmp-fewer, cmp-differ, cmp-alike}
-use Rattle.typed_path.proofs.lemmas.order.PrefixFirst.{prefixes-differ, prefixes-alike, prefixes-none, prefixed-bare, bare-prefixed}
+use Rattle.typed_path.proofs.lemmas.order.OrderLemmas.{cmp-none, cmp-more, cmp-fewer, cmp-differ, cmp-alike, prefixes-differ, prefixes-alike, prefixes-none, prefixed-bare, bare-prefixed}
 use Rattle.typed_path.proofs.common.order.compare_components.Goals as goal
 use Rattle.typed_path.proofs.common.order.compare_components.Goals.{in-Some-Some+else-is_ne, in-None-None}
 

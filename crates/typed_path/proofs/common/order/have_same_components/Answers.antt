@@ -6,8 +6,7 @@ use Rattle.typed_path.specs.order.Same.{left_cmp, left_same}
 use Rattle.typed_path.specs.views.BodyViews.{body_items}
 use Rattle.typed_path.specs.views.CursorViews.{items_left}
 use Rattle.typed_path.specs.views.PieceViews.{prefix_view, step_part}
-use Rattle.typed_path.proofs.lemmas.order.KindLemmas.{alike-differ, alike-step, alike-end}
-use Rattle.typed_path.proofs.lemmas.order.PrefixFirst.{same-prefixes, same-behind}
+use Rattle.typed_path.proofs.lemmas.order.OrderLemmas.{alike-differ, alike-step, alike-end, same-prefixes, same-behind}
 use Rattle.typed_path.proofs.common.order.have_same_components.Goals as goal
 
 pub returns-then-not-have_same_prefixes : goal.returns-then-not-have_same_prefixes

@@ -10,8 +10,8 @@ use Rattle.typed_path.specs.views.BodyViews.{body_items}
 use Rattle.typed_path.specs.views.CursorViews.{items_left}
 use Rattle.typed_path.specs.views.FrontViews.{front_bytes}
 use Rattle.typed_path.specs.views.PieceViews.{part_of, step_part}
-use Rattle.typed_path.proofs.lemmas.changes.ConvertLemmas.{pushed-first, refused-whole, pushed-all, refusal-passed}
-use Rattle.typed_path.proofs.lemmas.scan.YieldLemmas.{parts-prefixed, yields_first, fewer}
+use Rattle.typed_path.proofs.lemmas.conversions.CrossedLemmas.{pushed-first, refused-whole, pushed-all, refusal-passed}
+use Rattle.typed_path.proofs.lemmas.scan.StepLemmas.{parts-prefixed, yields_first, fewer}
 use Rattle.typed_path.proofs.conversions.between.convert_checked.Goals as goal
 
 -- at the end of a text stands the empty path

@@ -12,8 +12,8 @@ use Rattle.typed_path.specs.views.BodyViews.{body_items}
 use Rattle.typed_path.specs.views.CursorViews.{items_left}
 use Rattle.typed_path.specs.views.FrontViews.{front_bytes}
 use Rattle.typed_path.specs.views.PieceViews.{part_of, step_part}
-use Rattle.typed_path.proofs.lemmas.scan.YieldLemmas.{parts-prefixed, yields_first}
-use Rattle.typed_path.proofs.lemmas.changes.PutCrossed.{put-whole, put-behind, crossed-next, crossed-end, crossed-fits}
+use Rattle.typed_path.proofs.lemmas.scan.StepLemmas.{parts-prefixed, yields_first}
+use Rattle.typed_path.proofs.lemmas.conversions.CrossedLemmas.{put-whole, put-behind, crossed-next, crossed-end, crossed-fits}
 use Rattle.typed_path.proofs.conversions.between.push_each.Goals as goal
 
 pub returns-in_err-known-clause-succeeds : goal.returns-in_err-known-clause-succeeds

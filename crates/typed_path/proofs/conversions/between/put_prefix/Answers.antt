@@ -4,7 +4,7 @@ use Rattle.std.specs.Option.{option_to_list}
 use Rattle.std.proofs.lemmas.List.{drop_all}
 use Rattle.typed_path.specs.changes.Push.{FitsPush}
 use Rattle.typed_path.specs.views.PieceViews.{part_of}
-use Rattle.typed_path.proofs.lemmas.changes.PutCrossed.{crossed-fits}
+use Rattle.typed_path.proofs.lemmas.conversions.CrossedLemmas.{crossed-fits}
 use Rattle.typed_path.proofs.conversions.between.put_prefix.Goals as goal
 
 pub returns-in-Some-clause-succeeds : goal.returns-in-Some-clause-succeeds

@@ -1,5 +1,5 @@
 use Rattle.std.proofs.Common.{sym, ◌∙◌}
-use Rattle.typed_path.proofs.lemmas.queries.BaseLemmas.{body-ended, body-begun}
+use Rattle.typed_path.proofs.lemmas.queries.Bases.{body-ended, body-begun}
 use Rattle.typed_path.proofs.scan.base.is_border.Goals as goal
 
 pub returns-then-contains : goal.returns-then-contains

@@ -1,6 +1,6 @@
 use Rattle.std.proofs.Common.{◌+◌, ◌==◌, arith}
 use Rattle.std.proofs.lemmas.List.{take_rest}
-use Rattle.typed_path.proofs.lemmas.lists.CutLemmas.{split-none_passes, split-at_first, open-at_first}
+use Rattle.typed_path.proofs.lemmas.lists.Lists.{split-none_passes, split-at_first, open-at_first}
 use Rattle.typed_path.proofs.scan.cut.cut_at.Goals as goal
 
 pub returns-then-at-text-clause-pieces : goal.returns-then-at-text-clause-pieces

@@ -1,4 +1,4 @@
-use Rattle.typed_path.proofs.lemmas.changes.ReservedLemmas.{before_dot-at, before_dot-nowhere}
+use Rattle.typed_path.proofs.lemmas.queries.ValidNames.{before_dot-at, before_dot-nowhere}
 use Rattle.typed_path.proofs.scan.separators.before_dot.Goals as goal
 
 pub returns-in-Some : goal.returns-in-Some

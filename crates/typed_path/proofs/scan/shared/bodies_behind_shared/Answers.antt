@@ -7,8 +7,8 @@ use Rattle.typed_path.specs.components.Comps.{body, later_body}
 use Rattle.typed_path.specs.order.Same.{kinds_cmp, left_cmp}
 use Rattle.typed_path.specs.scan.Steps.{body_from}
 use Rattle.typed_path.specs.views.BodyViews.{body_slice, body_items}
-use Rattle.typed_path.proofs.lemmas.components.PartLemmas.{parts-body}
-use Rattle.typed_path.proofs.lemmas.order.KindLemmas.{cmp-behind}
+use Rattle.typed_path.proofs.lemmas.components.Segments.{parts-body}
+use Rattle.typed_path.proofs.lemmas.order.OrderLemmas.{cmp-behind}
 use Rattle.typed_path.proofs.scan.shared.bodies_behind_shared.Goals as goal
 
 -- a whole body has the components of its slice, wherever that stands

@@ -5,8 +5,8 @@ use Rattle.typed_path.specs.components.Comps.{component}
 use Rattle.typed_path.specs.views.PieceViews.{step_part}
 use Rattle.typed_path.specs.declared.scan.body.Begin.{Begin}
 use Rattle.typed_path.specs.scan.Steps.{body_from, is_clean, end_from}
-use Rattle.typed_path.proofs.lemmas.lists.LastLemmas.{IsLastPlace}
-use Rattle.typed_path.proofs.lemmas.scan.BackLemmas.{IsLast, last-at_end, last-before_end, is_clean-kept, end_from-trimmed}
+use Rattle.typed_path.proofs.lemmas.lists.Lists.{IsLastPlace}
+use Rattle.typed_path.proofs.lemmas.scan.TextEnds.{IsLast, last-at_end, last-before_end, is_clean-kept, end_from-trimmed}
 use Rattle.typed_path.proofs.scan.step.back_step.Goals as goal
 use Rattle.typed_path.proofs.scan.step.back_step.Goals.{After-step_of-step}
 

@@ -8,7 +8,7 @@ use Rattle.typed_path.specs.components.Part.{normal, root, current, parent, Part
 use Rattle.typed_path.specs.components.Comps.{component, first, later_body, is_dot, is_dot_dot}
 use Rattle.typed_path.specs.scan.Steps.{body_from, is_clean}
 use Rattle.typed_path.specs.views.PieceViews.{step_part, step_view}
-use Rattle.typed_path.proofs.lemmas.components.BodyLemmas.{body_from-first}
+use Rattle.typed_path.proofs.lemmas.components.Segments.{body_from-first}
 use Rattle.typed_path.proofs.scan.step.front_step.Goals as goal
 
 pub returns-clause-first : goal.returns-clause-first

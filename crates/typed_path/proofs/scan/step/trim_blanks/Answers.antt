@@ -3,7 +3,7 @@ use Rattle.std.proofs.lemmas.Bool.{not-true}
 use Rattle.std.proofs.lemmas.List.{take-take, length-take-le}
 use Rattle.typed_path.specs.declared.scan.separators.Separators.{Separators}
 use Rattle.typed_path.specs.scan.Steps.{is_trimmed}
-use Rattle.typed_path.proofs.lemmas.scan.TrimLemmas.{IsTrimOf, trim_once}
+use Rattle.typed_path.proofs.lemmas.scan.TextEnds.{IsTrimOf, trim_once}
 use Rattle.typed_path.proofs.scan.step.trim_blanks.Goals as goal
 
 -- one byte less of what is left

@@ -2,7 +2,7 @@ use Rattle.std.proofs.Common.{option_map, ap, ◌∙◌, arith}
 use Rattle.typed_path.specs.declared.script.ends.End.TheVariants.{Front, Back}
 use Rattle.typed_path.specs.views.PieceViews.{part_of}
 use Rattle.typed_path.specs.views.PathViews.{components_items, components_slice}
-use Rattle.typed_path.proofs.lemmas.scan.EndSteps.{items-step, slice-step, answers-step}
+use Rattle.typed_path.proofs.lemmas.scan.Readings.{items-step, slice-step, answers-step}
 use Rattle.typed_path.proofs.script.ends.read_ends.Goals.{in-Front, in-Back}
 use Rattle.typed_path.proofs.script.ends.read_ends.Goals as goal
 

@@ -8,8 +8,8 @@ use Rattle.typed_path.specs.views.BodyViews.{body_items}
 use Rattle.typed_path.specs.views.CursorViews.{items_left}
 use Rattle.typed_path.specs.views.FrontViews.{front_bytes}
 use Rattle.typed_path.specs.views.PieceViews.{part_of, step_part}
-use Rattle.typed_path.proofs.lemmas.scan.YieldLemmas.{parts-prefixed, yields_first, fewer}
-use Rattle.typed_path.proofs.lemmas.script.FieldLemmas.{join_with_byte-map}
+use Rattle.typed_path.proofs.lemmas.scan.StepLemmas.{parts-prefixed, yields_first, fewer}
+use Rattle.typed_path.proofs.lemmas.script.LineLemmas.{join_with_byte-map}
 use Rattle.typed_path.proofs.script.lines.put_components.Goals as goal
 
 -- the fields of the first components stand, and those of the others are left

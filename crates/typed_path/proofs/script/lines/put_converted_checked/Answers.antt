@@ -2,8 +2,7 @@ use Rattle.std.proofs.Common.{[], ◌++◌, ap, sym, subst, ◌≡◌, ◌∙◌
 use Rattle.std.specs.Prelude.{Err, Some, OnOk, ⊤}
 use Rattle.typed_path.specs.changes.Checked.{refusal}
 use Rattle.typed_path.specs.script.Lines.{reply_line, joined_reply, converted_reply}
-use Rattle.typed_path.proofs.lemmas.script.CommandLemmas.{put_same}
-use Rattle.typed_path.proofs.lemmas.script.EndLemmas.{text_answered, text_cut_off}
+use Rattle.typed_path.proofs.lemmas.script.LineLemmas.{put_same, text_answered, text_cut_off}
 use Rattle.typed_path.proofs.script.lines.put_converted_checked.Goals as goal
 
 pub returns-in_ok-push-in-Ok : goal.returns-in_ok-push-in-Ok

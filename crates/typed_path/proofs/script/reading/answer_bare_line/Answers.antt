@@ -1,8 +1,7 @@
 use Rattle.std.proofs.Common.{ap, refl, sym}
 use Rattle.std.specs.Prelude.{codes}
 use Rattle.typed_path.specs.script.Lines.{fields_of, reply_line, bare_reply}
-use Rattle.typed_path.proofs.lemmas.script.CommandLemmas.{no_bare_command}
-use Rattle.typed_path.proofs.lemmas.script.FirstLemmas.{fields-behind, lacks-first, put_alike, put_behind}
+use Rattle.typed_path.proofs.lemmas.script.LineLemmas.{no_bare_command, fields-behind, lacks-first, put_alike, put_behind}
 use Rattle.typed_path.proofs.script.reading.answer_bare_line.Goals as goal
 
 pub returns-in-Some : goal.returns-in-Some

@@ -2,8 +2,7 @@ use Rattle.std.proofs.Common.{ℕ, List, [], ◌∷◌, ap, sym, ◌∙◌}
 use Rattle.std.specs.Prelude.{codes}
 use Rattle.typed_path.specs.views.FrontViews.{front_bytes}
 use Rattle.typed_path.specs.script.Lines.{fields_of, reply_line, bare_reply}
-use Rattle.typed_path.proofs.lemmas.script.CommandLemmas.{bare_too_many}
-use Rattle.typed_path.proofs.lemmas.script.FirstLemmas.{fields-behind, ended_so, ends_line, put_behind}
+use Rattle.typed_path.proofs.lemmas.script.LineLemmas.{bare_too_many, fields-behind, ended_so, ends_line, put_behind}
 use Rattle.typed_path.proofs.script.reading.answer_derive.Goals as goal
 
 abbrev given : List (List ℕ) → List ℕ

@@ -4,8 +4,7 @@ use Rattle.typed_path.specs.components.Dialect.{Dialect, unix, windows}
 use Rattle.typed_path.specs.script.Lines.{tab, fields_of, reply, reply_line, reply_fields, dialect_name, AnswersFirst}
 use Rattle.typed_path.specs.script.Commands.{command_name, texts_reply}
 use Rattle.typed_path.specs.declared.script.lines.Command.{Command}
-use Rattle.typed_path.proofs.lemmas.script.CommandLemmas.{named_reply, no_command, no_encoding}
-use Rattle.typed_path.proofs.lemmas.script.FirstLemmas.{command_is_field, dialect_is_field, fields-behind, lacks-first, put_alike, put_behind}
+use Rattle.typed_path.proofs.lemmas.script.LineLemmas.{named_reply, no_command, no_encoding, command_is_field, dialect_is_field, fields-behind, lacks-first, put_alike, put_behind}
 use Rattle.typed_path.proofs.script.reading.answer_line.Goals as goal
 
 pub returns-in_default : goal.returns-in_default

@@ -2,8 +2,7 @@ use Rattle.std.proofs.Common.{ℕ, List, ◌∷◌, ap, sym, ◌∙◌}
 use Rattle.typed_path.specs.views.FrontViews.{front_bytes}
 use Rattle.typed_path.specs.script.Lines.{fields_of, reply_line}
 use Rattle.typed_path.specs.script.Commands.{command_name, texts_reply}
-use Rattle.typed_path.proofs.lemmas.script.CommandLemmas.{too_many}
-use Rattle.typed_path.proofs.lemmas.script.FirstLemmas.{fields-behind, ended_so, ends_line, put_behind}
+use Rattle.typed_path.proofs.lemmas.script.LineLemmas.{too_many, fields-behind, ended_so, ends_line, put_behind}
 use Rattle.typed_path.proofs.script.reading.answer_pair.Goals as goal
 
 pub returns-in_ok-put_pair_reply-in-Some-default-LineFeed-default : goal.returns-in_ok-put_pair_reply-in-Some-default-LineFeed-default

@@ -3,7 +3,7 @@ use Rattle.std.proofs.lemmas.List.{take_rest, drop_all}
 use Rattle.typed_path.specs.components.Dialect.{dot}
 use Rattle.typed_path.specs.scan.Masks.{IsFirstOf}
 use Rattle.typed_path.specs.changes.Checked.{begins_with_harm, is_harmless}
-use Rattle.typed_path.proofs.lemmas.changes.HarmlessLemmas.{harmless-from, harmless-behind, harmful-here}
+use Rattle.typed_path.proofs.lemmas.changes.FaultLemmas.{harmless-from, harmless-behind, harmful-here}
 use Rattle.typed_path.proofs.unix.checked.is_harmless.Goals as goal
 
 -- what is known of the path, told from the place of the next such byte

@@ -1,7 +1,7 @@
 use Rattle.std.proofs.Common.{◌≡◌, ◌++◌, List, ℕ, [], length, ap, sym, subst, arith}
 use Rattle.typed_path.specs.declared.scan.separators.Separators.TheVariants.{Slash}
 use Rattle.typed_path.specs.places.Rows.{AreRows}
-use Rattle.typed_path.proofs.lemmas.places.RowSteps.{rows-start, parted-end}
+use Rattle.typed_path.proofs.lemmas.places.RowLemmas.{rows-start, parted-end}
 use Rattle.typed_path.proofs.unix.normal.put_rows.Goals as goal
 
 pub returns-clause-ok : goal.returns-clause-ok

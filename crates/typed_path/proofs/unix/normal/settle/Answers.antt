@@ -5,7 +5,7 @@ use Rattle.typed_path.specs.declared.scan.separators.Separators.TheVariants.{Sla
 use Rattle.typed_path.specs.components.Dialect.{slash}
 use Rattle.typed_path.specs.views.PieceViews.{step_part, step_view}
 use Rattle.typed_path.specs.places.Rows.{rows}
-use Rattle.typed_path.proofs.lemmas.places.RowSteps.{settled_by, by_kind, rows-more}
+use Rattle.typed_path.proofs.lemmas.places.RowLemmas.{settled_by, by_kind, rows-more}
 use Rattle.typed_path.proofs.unix.normal.settle.Goals as goal
 
 pub returns-in-ParentDir-clause-ok : goal.returns-in-ParentDir-clause-ok

@@ -2,7 +2,7 @@ use Rattle.std.proofs.Common.{arith, refl, ◌∙◌}
 use Rattle.std.specs.Prelude.{⊤}
 use Rattle.std.proofs.lemmas.Result.{on_ok_weaker}
 use Rattle.typed_path.specs.declared.scan.separators.Separators.TheVariants.{Slash}
-use Rattle.typed_path.proofs.lemmas.places.RowSteps.{standing-start, standing-step, standing-over, standing-end}
+use Rattle.typed_path.proofs.lemmas.places.RowLemmas.{standing-start, standing-step, standing-over, standing-end}
 use Rattle.typed_path.proofs.unix.normal.settle_all.Goals as goal
 
 pub segments-init : goal.segments-init

@@ -2,7 +2,7 @@ use Rattle.std.proofs.Common.{◌≡◌, ◌≤◌, ◌<◌, ◌+◌, vec_len, v
 use Rattle.std.specs.Prelude.{⊤}
 use Rattle.typed_path.specs.declared.scan.separators.Separators.TheVariants.{Slash}
 use Rattle.typed_path.specs.places.Rows.{AreRows}
-use Rattle.typed_path.proofs.lemmas.places.RowSteps.{Standing}
+use Rattle.typed_path.proofs.lemmas.places.RowLemmas.{Standing}
 use Rattle.typed_path.proofs.unix.normal.settle_all.Given as goal
 
 abbrev pub invariant-segments : goal.invariant-segments

@@ -6,10 +6,10 @@ use Rattle.typed_path.specs.components.Part.{kinds}
 use Rattle.typed_path.specs.queries.Queries.{is_disk, has_any_verbatim_prefix}
 use Rattle.typed_path.specs.places.Rows.{IsRowHead}
 use Rattle.typed_path.specs.views.PieceViews.{found_of, prefix_view}
-use Rattle.typed_path.proofs.lemmas.components.PrefixLemmas.{prefix-fits}
-use Rattle.typed_path.proofs.lemmas.components.RootsBehind.{head-cut, plain-takes}
-use Rattle.typed_path.proofs.lemmas.changes.FaultlessLemmas.{parts_of-some}
-use Rattle.typed_path.proofs.lemmas.promises.WindowsRows.{none-head, drive-head, marked-head}
+use Rattle.typed_path.proofs.lemmas.components.Prefixes.{prefix-fits}
+use Rattle.typed_path.proofs.lemmas.components.PartedPrefixes.{head-cut, plain-takes}
+use Rattle.typed_path.proofs.lemmas.changes.FaultLemmas.{parts_of-some}
+use Rattle.typed_path.proofs.lemmas.places.WindowsRows.{none-head, drive-head, marked-head}
 use Rattle.typed_path.proofs.windows.normal.head_of.Goals as goal
 
 pub returns-in_default-clause-rows : goal.returns-in_default-clause-rows

@@ -11,9 +11,9 @@ use Rattle.typed_path.specs.components.Comps.{parts_of}
 use Rattle.typed_path.specs.places.Places.{normal_text}
 use Rattle.typed_path.specs.views.CursorViews.{items_left}
 use Rattle.typed_path.specs.views.PieceViews.{part_of, kind_view}
-use Rattle.typed_path.proofs.lemmas.places.SettleLemmas.{is_head, Comes, comes-current, comes-name, comes-parent, comes-parent_alone, comes-head, comes-end}
-use Rattle.typed_path.proofs.lemmas.components.ShapeLemmas.{heads_first-parts_of}
-use Rattle.typed_path.proofs.lemmas.scan.YieldLemmas.{yields_first, fewer}
+use Rattle.typed_path.proofs.lemmas.places.ResolveLemmas.{is_head, Comes, comes-current, comes-name, comes-parent, comes-parent_alone, comes-head, comes-end}
+use Rattle.typed_path.proofs.lemmas.components.WrittenLemmas.{heads_first-parts_of}
+use Rattle.typed_path.proofs.lemmas.scan.StepLemmas.{yields_first, fewer}
 use Rattle.typed_path.proofs.windows.normal.push_heads.Goals as goal
 
 -- a piece of a known kind, at the front of what the list comes down to

@@ -4,7 +4,7 @@ use Rattle.typed_path.specs.components.Dialect.{windows}
 use Rattle.typed_path.specs.components.Part.{parts}
 use Rattle.typed_path.specs.places.Places.{normal_text}
 use Rattle.typed_path.specs.views.CursorViews.{items_left}
-use Rattle.typed_path.proofs.lemmas.places.SettleLemmas.{Comes}
+use Rattle.typed_path.proofs.lemmas.places.ResolveLemmas.{Comes}
 use Rattle.typed_path.proofs.windows.normal.push_heads.Given as goal
 
 abbrev pub decreases-pieces : goal.decreases-pieces

@@ -2,7 +2,7 @@ use Rattle.std.proofs.Common.{◌≡◌, ℕ, ◌+◌, ◌<◌, arith, length, g
 use Rattle.std.proofs.lemmas.List.{drop-map, drop_more}
 use Rattle.typed_path.specs.components.Dialect.{windows}
 use Rattle.typed_path.specs.changes.Push.{push_windows, push_all}
-use Rattle.typed_path.proofs.lemmas.changes.PutCrossed.{put-whole}
+use Rattle.typed_path.proofs.lemmas.conversions.CrossedLemmas.{put-whole}
 use Rattle.typed_path.proofs.windows.normal.push_resolved.Goals as goal
 
 -- one more name pushed

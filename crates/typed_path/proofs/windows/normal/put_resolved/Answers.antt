@@ -1,5 +1,5 @@
 use Rattle.std.proofs.Common.{true≢false, sym, arith}
-use Rattle.typed_path.proofs.lemmas.components.RootsBehind.{head-size}
+use Rattle.typed_path.proofs.lemmas.components.PartedPrefixes.{head-size}
 use Rattle.typed_path.proofs.windows.normal.put_resolved.Goals as goal
 
 pub returns-in_err-put_rows-clause-succeeds : goal.returns-in_err-put_rows-clause-succeeds

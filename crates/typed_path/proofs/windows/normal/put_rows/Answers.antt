@@ -4,7 +4,7 @@ use Rattle.typed_path.specs.declared.scan.separators.Separators.TheVariants.{Eit
 use Rattle.typed_path.specs.components.Dialect.{windows}
 use Rattle.typed_path.specs.places.Places.{normal_text}
 use Rattle.typed_path.specs.places.Rows.{rows_of, names_left_of, AreRowsOf}
-use Rattle.typed_path.proofs.lemmas.places.RowSteps.{rows-start, normal-end}
+use Rattle.typed_path.proofs.lemmas.places.RowLemmas.{rows-start, normal-end}
 use Rattle.typed_path.proofs.windows.normal.put_rows.Goals as goal
 
 pub returns-clause-ok : goal.returns-clause-ok

@@ -4,7 +4,7 @@ use Rattle.std.proofs.lemmas.Bool.{both_ways}
 use Rattle.typed_path.specs.declared.scan.separators.Separators.TheVariants.{Either}
 use Rattle.typed_path.specs.components.Prefix.{drive}
 use Rattle.typed_path.specs.places.Rows.{HaveNoDrives}
-use Rattle.typed_path.proofs.lemmas.places.RowSteps.{standing-start, standing-step, standing-over, standing-end, standing-each}
+use Rattle.typed_path.proofs.lemmas.places.RowLemmas.{standing-start, standing-step, standing-over, standing-end, standing-each}
 use Rattle.typed_path.proofs.windows.normal.settle_all.Goals as goal
 
 -- no drive is at the front

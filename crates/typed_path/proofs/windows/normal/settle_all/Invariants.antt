@@ -4,7 +4,7 @@ use Rattle.typed_path.specs.declared.scan.separators.Separators.TheVariants.{Eit
 use Rattle.typed_path.specs.components.Dialect.{is_separator}
 use Rattle.typed_path.specs.components.Prefix.{drive}
 use Rattle.typed_path.specs.places.Rows.{AreRowsOf, HaveNoDrives}
-use Rattle.typed_path.proofs.lemmas.places.RowSteps.{Standing}
+use Rattle.typed_path.proofs.lemmas.places.RowLemmas.{Standing}
 use Rattle.typed_path.proofs.windows.normal.settle_all.Given as goal
 
 abbrev pub invariant-segments : goal.invariant-segments

@@ -4,7 +4,7 @@ use Rattle.typed_path.specs.components.Dialect.{windows}
 use Rattle.typed_path.specs.changes.Push.{push_windows}
 use Rattle.typed_path.specs.changes.Spelled.{IsKnown}
 use Rattle.typed_path.specs.views.PieceViews.{found_of}
-use Rattle.typed_path.proofs.lemmas.changes.SpelledAgain.{keeps-known}
+use Rattle.typed_path.proofs.lemmas.changes.ReadStanding.{keeps-known}
 use Rattle.typed_path.proofs.windows.push.keeps_prefix.Goals as goal
 
 none_is : {A : Type 0} (o : Option A) (b : Bool) → is_some o ≡ not b → IsTrue b → o ≡ None

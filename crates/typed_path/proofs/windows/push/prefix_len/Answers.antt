@@ -1,7 +1,7 @@
 use Rattle.std.proofs.Common.{sym}
 use Rattle.typed_path.specs.components.Dialect.{windows}
 use Rattle.typed_path.specs.views.PieceViews.{found_of}
-use Rattle.typed_path.proofs.lemmas.components.PrefixLemmas.{prefix-fits}
+use Rattle.typed_path.proofs.lemmas.components.Prefixes.{prefix-fits}
 use Rattle.typed_path.proofs.windows.push.prefix_len.Goals as goal
 
 pub returns-in-Some-clause-within : goal.returns-in-Some-clause-within

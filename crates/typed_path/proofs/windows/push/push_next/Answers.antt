@@ -2,7 +2,7 @@ use Rattle.std.proofs.Common.{◌≡◌, true≢false, length, drop, slice_range
 use Rattle.typed_path.specs.components.Dialect.{windows}
 use Rattle.typed_path.specs.changes.Push.{FitsPush}
 use Rattle.typed_path.specs.changes.Spelled.{IsKnown}
-use Rattle.typed_path.proofs.lemmas.changes.PutCrossed.{whole_range}
+use Rattle.typed_path.proofs.lemmas.conversions.CrossedLemmas.{whole_range}
 use Rattle.typed_path.proofs.windows.push.push_next.Goals as goal
 
 pub returns-in_err-push_at-clause-succeeds : goal.returns-in_err-push_at-clause-succeeds

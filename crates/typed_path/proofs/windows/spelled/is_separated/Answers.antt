@@ -1,6 +1,6 @@
 use Rattle.std.proofs.Common.{ap, not, length, ◌==◌, ◌∙◌}
 use Rattle.typed_path.specs.components.Dialect.{is_separator}
-use Rattle.typed_path.proofs.lemmas.lists.CutLemmas.{position-any}
+use Rattle.typed_path.proofs.lemmas.lists.Lists.{position-any}
 use Rattle.typed_path.proofs.windows.spelled.is_separated.Goals as goal
 
 pub returns : goal.returns

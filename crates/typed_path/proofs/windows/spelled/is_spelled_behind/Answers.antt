@@ -6,7 +6,7 @@ use Rattle.typed_path.specs.components.Dialect.{windows, backslash, separators}
 use Rattle.typed_path.specs.components.Prefix.{Found, prefix_of, is_empty}
 use Rattle.typed_path.specs.queries.Queries.{is_verbatim_prefix}
 use Rattle.typed_path.specs.changes.Spelled.{is_row, TellsSpelled}
-use Rattle.typed_path.proofs.lemmas.changes.SpellingLemmas.{root-spelled, row-spelled_text, other-unspelled, row-unspelled}
+use Rattle.typed_path.proofs.lemmas.changes.Spellings.{root-spelled, row-spelled_text, other-unspelled, row-unspelled}
 use Rattle.typed_path.proofs.windows.spelled.is_spelled_behind.Goals as goal
 
 pub returns-then-first-ne92 : goal.returns-then-first-ne92

@@ -4,8 +4,8 @@ use Rattle.typed_path.specs.components.Dialect.{windows}
 use Rattle.typed_path.specs.changes.Push.{raw_length}
 use Rattle.typed_path.specs.changes.Spelled.{TellsSpelled}
 use Rattle.typed_path.specs.views.PieceViews.{found_of}
-use Rattle.typed_path.proofs.lemmas.components.PrefixLemmas.{prefix-fits}
-use Rattle.typed_path.proofs.lemmas.changes.SpellingLemmas.{plain-unspelled}
+use Rattle.typed_path.proofs.lemmas.components.Prefixes.{prefix-fits}
+use Rattle.typed_path.proofs.lemmas.changes.Spellings.{plain-unspelled}
 use Rattle.typed_path.proofs.windows.spelled.spelled_head.Goals as goal
 
 pub slice_bounds-is_spelled_behind-count : goal.slice_bounds-is_spelled_behind-count

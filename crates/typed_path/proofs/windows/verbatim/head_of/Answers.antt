@@ -4,7 +4,7 @@ use Rattle.typed_path.specs.components.Dialect.{windows}
 use Rattle.typed_path.specs.components.Prefix.{Found, prefix_of}
 use Rattle.typed_path.specs.changes.Push.{raw_length}
 use Rattle.typed_path.specs.changes.Spelled.{IsSpelledHead}
-use Rattle.typed_path.proofs.lemmas.components.PrefixLemmas.{prefix-fits}
+use Rattle.typed_path.proofs.lemmas.components.Prefixes.{prefix-fits}
 use Rattle.typed_path.proofs.windows.verbatim.head_of.Goals as goal
 
 -- the prefix of a text takes no more bytes than that has

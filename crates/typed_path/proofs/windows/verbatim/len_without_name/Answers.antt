@@ -6,9 +6,9 @@ use Rattle.typed_path.specs.components.Dialect.{is_separator}
 use Rattle.typed_path.specs.components.Part.{Part}
 use Rattle.typed_path.specs.changes.Push.{without_last_name}
 use Rattle.typed_path.specs.changes.Spelled.{Stands}
-use Rattle.typed_path.proofs.lemmas.lists.LastLemmas.{IsLastPlace}
-use Rattle.typed_path.proofs.lemmas.changes.PutCrossed.{whole_range}
-use Rattle.typed_path.proofs.lemmas.changes.Standing.{is_dots, stands-short, stands-dots, stands-cut, stands-alone}
+use Rattle.typed_path.proofs.lemmas.lists.Lists.{IsLastPlace}
+use Rattle.typed_path.proofs.lemmas.conversions.CrossedLemmas.{whole_range}
+use Rattle.typed_path.proofs.lemmas.changes.PushLemmas.{is_dots, stands-short, stands-dots, stands-cut, stands-alone}
 use Rattle.typed_path.proofs.windows.verbatim.len_without_name.Goals as goal
 
 -- the whole text, where no name is taken off

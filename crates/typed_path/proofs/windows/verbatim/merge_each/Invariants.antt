@@ -3,7 +3,7 @@ use Rattle.std.specs.Vec.{vec_len, vec_capacity}
 use Rattle.typed_path.specs.components.Part.{parts}
 use Rattle.typed_path.specs.changes.Spelled.{room_of}
 use Rattle.typed_path.specs.views.CursorViews.{items_left}
-use Rattle.typed_path.proofs.lemmas.changes.MergedStanding.{IsMerging}
+use Rattle.typed_path.proofs.lemmas.changes.Spellings.{IsMerging}
 use Rattle.typed_path.proofs.windows.verbatim.merge_each.Given as goal
 
 abbrev pub decreases-pieces : goal.decreases-pieces

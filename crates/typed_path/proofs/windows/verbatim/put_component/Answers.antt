@@ -2,7 +2,7 @@ use Rattle.std.proofs.Common.{◌≡◌, ◌++◌, ◌∷◌, [], List, length, 
 use Rattle.std.proofs.lemmas.List.{drop-append-le}
 use Rattle.std.specs.Prelude.{ℕ, Result, Ok, Err, is_ok, if◌then◌else◌}
 use Rattle.typed_path.specs.components.Dialect.{backslash}
-use Rattle.typed_path.proofs.lemmas.changes.Standing.{stands-more}
+use Rattle.typed_path.proofs.lemmas.changes.PushLemmas.{stands-more}
 use Rattle.typed_path.proofs.windows.verbatim.put_component.Goals as goal
 use Rattle.typed_path.proofs.windows.verbatim.put_component.Goals.{then-len-head+in_ok-push, else-len-head}
 

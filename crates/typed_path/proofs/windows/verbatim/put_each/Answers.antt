@@ -5,7 +5,7 @@ use Rattle.typed_path.specs.components.Dialect.{backslash}
 use Rattle.typed_path.specs.components.Part.{Placed, parts}
 use Rattle.typed_path.specs.views.CursorViews.{items_left}
 use Rattle.typed_path.specs.views.PieceViews.{part_of}
-use Rattle.typed_path.proofs.lemmas.scan.YieldLemmas.{yields_first}
+use Rattle.typed_path.proofs.lemmas.scan.StepLemmas.{yields_first}
 use Rattle.typed_path.proofs.lemmas.changes.ReadStanding.{ArePut, put-relative, put-rooted, put-next, put-end}
 use Rattle.typed_path.proofs.windows.verbatim.put_each.Goals as goal
 use Rattle.typed_path.proofs.windows.verbatim.put_each.Goals.{then-not-parted+in_ok-push, else-not-parted}

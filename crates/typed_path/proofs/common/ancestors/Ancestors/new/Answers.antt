@@ -2,7 +2,7 @@ use Rattle.std.proofs.Common.{ap, ◌∙◌}
 use Rattle.typed_path.specs.components.Comps.{comps}
 use Rattle.typed_path.specs.queries.Ancestry.{readings_above}
 use Rattle.typed_path.specs.views.PathViews.{components_slice, path_bytes}
-use Rattle.typed_path.proofs.lemmas.queries.AncestorLemmas.{ancestors-reading}
+use Rattle.typed_path.proofs.lemmas.queries.Parents.{ancestors-reading}
 use Rattle.typed_path.proofs.common.ancestors.Ancestors.new.Goals as goal
 
 pub returns : goal.returns

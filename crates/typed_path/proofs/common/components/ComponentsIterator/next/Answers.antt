@@ -1,6 +1,6 @@
 use Rattle.typed_path.specs.views.PieceViews.{part_of}
 use Rattle.typed_path.specs.views.PathViews.{components_parts}
-use Rattle.typed_path.proofs.lemmas.scan.YieldLemmas.{yields_first, progress_first}
+use Rattle.typed_path.proofs.lemmas.scan.StepLemmas.{yields_first, progress_first}
 use Rattle.typed_path.proofs.common.components.ComponentsIterator.next.Goals as goal
 
 pub returns-clause-steps : goal.returns-clause-steps

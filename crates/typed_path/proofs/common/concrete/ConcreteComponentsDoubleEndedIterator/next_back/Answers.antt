@@ -1,5 +1,5 @@
 use Rattle.typed_path.specs.views.ConcreteViews.{concrete_parts}
-use Rattle.typed_path.proofs.lemmas.scan.YieldLemmas.{yields_last, progress}
+use Rattle.typed_path.proofs.lemmas.scan.StepLemmas.{yields_last, progress}
 use Rattle.typed_path.proofs.common.concrete.ConcreteComponentsDoubleEndedIterator.next_back.Goals as goal
 
 pub returns-clause-steps : goal.returns-clause-steps

@@ -1,5 +1,5 @@
 use Rattle.typed_path.specs.views.ConcreteViews.{concrete_parts}
-use Rattle.typed_path.proofs.lemmas.scan.YieldLemmas.{yields_first, progress_first}
+use Rattle.typed_path.proofs.lemmas.scan.StepLemmas.{yields_first, progress_first}
 use Rattle.typed_path.proofs.common.concrete.ConcreteComponentsIterator.next.Goals as goal
 
 pub returns-clause-steps : goal.returns-clause-steps

@@ -4,7 +4,7 @@ use Rattle.typed_path.specs.views.BodyViews.{body_items}
 use Rattle.typed_path.specs.views.CursorViews.{items_left}
 use Rattle.typed_path.specs.views.PieceViews.{prefix_view, step_part}
 use Rattle.typed_path.proofs.lemmas.changes.FaultLemmas.{taken-first}
-use Rattle.typed_path.proofs.lemmas.order.FedLemmas.{counted-bare, counted-step, path_words-fed, fed-prefix, fed-step, fed-end}
+use Rattle.typed_path.proofs.lemmas.order.OrderLemmas.{counted-bare, counted-step, path_words-fed, fed-prefix, fed-step, fed-end}
 use Rattle.typed_path.proofs.common.encoding.Encoding.hash.Goals as goal
 
 pub steps-init : goal.steps-init

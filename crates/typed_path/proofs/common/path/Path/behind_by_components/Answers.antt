@@ -5,7 +5,7 @@ use Rattle.typed_path.specs.components.Part.{Placed}
 use Rattle.typed_path.specs.scan.Steps.{first_part}
 use Rattle.typed_path.specs.views.PathViews.{path_bytes}
 use Rattle.typed_path.specs.views.PieceViews.{part_of}
-use Rattle.typed_path.proofs.lemmas.queries.StripLemmas.{Strips-start, Strips-end, Strips-short, Strips-differ, Strips-step}
+use Rattle.typed_path.proofs.lemmas.queries.Bases.{Strips-start, Strips-end, Strips-short, Strips-differ, Strips-step}
 use Rattle.typed_path.proofs.common.path.Path.behind_by_components.Goals as goal
 
 nothing_left : (cs : List Placed) → None ≡ first_part cs → cs ≡ []

@@ -1,6 +1,6 @@
 use Rattle.std.proofs.Common.{length}
 use Rattle.typed_path.specs.views.PathViews.{path_bytes, components_items, components_slice}
-use Rattle.typed_path.proofs.lemmas.queries.StripLemmas.{Strips}
+use Rattle.typed_path.proofs.lemmas.queries.Bases.{Strips}
 use Rattle.typed_path.proofs.common.path.Path.behind_by_components.Given as goal
 
 abbrev pub invariant-pieces : goal.invariant-pieces

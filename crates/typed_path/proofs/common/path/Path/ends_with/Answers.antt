@@ -4,7 +4,7 @@ use Rattle.std.proofs.Math.Bool.{and-false, and-true}
 use Rattle.typed_path.specs.scan.Left.{but_last}
 use Rattle.typed_path.specs.views.PathViews.{components_items}
 use Rattle.typed_path.specs.views.PieceViews.{part_of}
-use Rattle.typed_path.proofs.lemmas.queries.EndLemmas.{ends, ends-nothing, ends-short, ends-step}
+use Rattle.typed_path.proofs.lemmas.queries.Bases.{ends, ends-nothing, ends-short, ends-step}
 use Rattle.typed_path.proofs.common.path.Path.ends_with.Goals as goal
 
 pub returns-in_default-next_back : goal.returns-in_default-next_back

@@ -5,7 +5,7 @@ use Rattle.typed_path.specs.scan.Left.{slice_after_back}
 use Rattle.typed_path.specs.scan.Steps.{last_part}
 use Rattle.typed_path.specs.views.PieceViews.{part_of}
 use Rattle.typed_path.specs.views.PathViews.{path_bytes, components_slice}
-use Rattle.typed_path.proofs.lemmas.queries.ParentLemmas.{parent_left}
+use Rattle.typed_path.proofs.lemmas.queries.Parents.{parent_left}
 use Rattle.typed_path.proofs.common.path.Path.parent.Goals as goal
 
 pub returns : goal.returns

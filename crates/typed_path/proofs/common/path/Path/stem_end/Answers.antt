@@ -2,7 +2,7 @@ use Rattle.std.proofs.Common.{◌≡◌, ◌+◌, length, sym, ap, ◌∙◌, ar
 use Rattle.std.specs.Prelude.{Some}
 use Rattle.typed_path.specs.scan.Left.{last_of}
 use Rattle.typed_path.specs.views.PathViews.{path_bytes}
-use Rattle.typed_path.proofs.lemmas.changes.NameSpans.{HasName, has_name, stem_end-name, last-within}
+use Rattle.typed_path.proofs.lemmas.queries.Parents.{HasName, has_name, stem_end-name, last-within}
 use Rattle.typed_path.proofs.common.path.Path.stem_end.Given.{Over}
 use Rattle.typed_path.proofs.common.path.Path.stem_end.Goals as goal
 use Rattle.typed_path.proofs.common.path.Path.stem_end.Goals.{After-last_end}

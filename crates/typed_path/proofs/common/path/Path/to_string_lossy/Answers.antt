@@ -1,7 +1,7 @@
 use Rattle.std.proofs.Common.{sym, ◌∙◌}
 use Rattle.std.proofs.lemmas.Str.{utf8_lossy-IsUtf8}
 use Rattle.typed_path.specs.views.PathViews.{path_bytes}
-use Rattle.typed_path.proofs.lemmas.queries.TextLemmas.{text_of_bytes-some, text_of_bytes-is}
+use Rattle.typed_path.proofs.lemmas.queries.FileNames.{text_of_bytes-some, text_of_bytes-is}
 use Rattle.typed_path.proofs.common.path.Path.to_string_lossy.Goals as goal
 
 pub returns-in_err-replaced-in-None-clause-succeeds : goal.returns-in_err-replaced-in-None-clause-succeeds

@@ -4,7 +4,7 @@ use Rattle.typed_path.specs.scan.Left.{slice_after_back}
 use Rattle.typed_path.specs.scan.Steps.{last_part}
 use Rattle.typed_path.specs.views.PieceViews.{part_of}
 use Rattle.typed_path.specs.views.PathViews.{path_bytes, components_slice}
-use Rattle.typed_path.proofs.lemmas.changes.NameSpans.{without_file_name-step}
+use Rattle.typed_path.proofs.lemmas.queries.Parents.{without_file_name-step}
 use Rattle.typed_path.proofs.common.path.Path.without_file_name.Goals as goal
 
 pub returns-in-Some : goal.returns-in-Some

@@ -2,7 +2,7 @@ use Rattle.std.proofs.Common.{◌≡◌, length, take, sym, ap, ◌∙◌}
 use Rattle.std.specs.Prelude.{Some, unwrap_or}
 use Rattle.typed_path.specs.queries.Queries.{parent_of}
 use Rattle.typed_path.specs.views.PathViews.{path_bytes}
-use Rattle.typed_path.proofs.lemmas.queries.ParentLemmas.{parent-front}
+use Rattle.typed_path.proofs.lemmas.queries.Parents.{parent-front}
 use Rattle.typed_path.proofs.common.path_buf.PathBuf.pop.Goals as goal
 
 pub returns-clause-bytes : goal.returns-clause-bytes

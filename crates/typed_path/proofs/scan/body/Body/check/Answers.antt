@@ -9,9 +9,9 @@ use Rattle.typed_path.specs.views.PieceViews.{step_part}
 use Rattle.typed_path.specs.changes.Fault.{fault_behind, fault_at}
 use Rattle.typed_path.specs.changes.Checked.{error_of, SeparatesDisallowed}
 use Rattle.typed_path.specs.queries.Queries.{kind_has_allowed_bytes}
-use Rattle.typed_path.proofs.lemmas.changes.AllowedLemmas.{AllowsEach, allowed-body_from}
+use Rattle.typed_path.proofs.lemmas.queries.FileNames.{AllowsEach, allowed-body_from}
 use Rattle.std.specs.Result.{IsErrAnd}
-use Rattle.typed_path.proofs.lemmas.components.CountLemmas.{body_from-count}
+use Rattle.typed_path.proofs.lemmas.components.Cuts.{body_from-count}
 use Rattle.typed_path.proofs.lemmas.changes.FaultLemmas.{fault_behind-at, taken-first}
 use Rattle.typed_path.proofs.scan.body.Body.check.Goals as goal
 use Rattle.typed_path.proofs.scan.body.Body.check.Goals.{After-depth_behind}

@@ -4,7 +4,7 @@ use Rattle.typed_path.specs.components.Comps.{later_body, component}
 use Rattle.typed_path.specs.scan.Left.{slice_after_front}
 use Rattle.typed_path.specs.scan.Steps.{body_from}
 use Rattle.typed_path.specs.views.PieceViews.{step_part}
-use Rattle.typed_path.proofs.lemmas.components.BodyLemmas.{slice_after_front-first, slice_range-later}
+use Rattle.typed_path.proofs.lemmas.components.Segments.{slice_after_front-first, slice_range-later}
 use Rattle.typed_path.proofs.scan.body.Body.front.Goals as goal
 use Rattle.typed_path.proofs.scan.body.Body.front.Goals.{After-front_step-taken}
 

@@ -1,5 +1,5 @@
 use Rattle.typed_path.specs.views.PieceViews.{part_of, step_part}
-use Rattle.typed_path.proofs.lemmas.scan.CursorSteps.{with_body, step-items, step-slice, back-none}
+use Rattle.typed_path.proofs.lemmas.scan.StepLemmas.{with_body, step-items, step-slice, back-none}
 use Rattle.typed_path.proofs.scan.cursor.Cursor.back.Goals as goal
 
 pub returns-in-Some-clause-items : goal.returns-in-Some-clause-items

@@ -7,7 +7,7 @@ use Rattle.typed_path.specs.scan.Left.{last_of}
 use Rattle.typed_path.specs.scan.Steps.{end_from}
 use Rattle.typed_path.specs.views.BodyViews.{body_items}
 use Rattle.typed_path.specs.views.CursorViews.{items_left}
-use Rattle.typed_path.proofs.lemmas.scan.CursorSteps.{last_end-pending}
+use Rattle.typed_path.proofs.lemmas.scan.StepLemmas.{last_end-pending}
 use Rattle.typed_path.proofs.scan.cursor.Cursor.last_end.Goals as goal
 
 -- where the last component ends, with a prefix before the body or none

@@ -1,7 +1,7 @@
 use Rattle.std.proofs.Common.{sym}
 use Rattle.typed_path.specs.components.Dialect.{windows}
 use Rattle.typed_path.specs.views.PieceViews.{found_of}
-use Rattle.typed_path.proofs.lemmas.components.PrefixLemmas.{prefix-fits}
+use Rattle.typed_path.proofs.lemmas.components.Prefixes.{prefix-fits}
 use Rattle.typed_path.proofs.scan.cursor.Cursor.of_windows.Goals as goal
 
 pub with_prefix-requires : goal.with_prefix-requires

@@ -3,7 +3,7 @@ use Rattle.std.proofs.lemmas.List.{take_rest}
 use Rattle.typed_path.specs.declared.scan.separators.Separators.TheVariants.{Slash}
 use Rattle.typed_path.specs.components.Comps.{body, later_body}
 use Rattle.typed_path.specs.components.Dialect.{unix}
-use Rattle.typed_path.proofs.lemmas.queries.BaseLemmas.{filled, stripped-split}
+use Rattle.typed_path.proofs.lemmas.queries.Bases.{filled, stripped-split}
 use Rattle.typed_path.proofs.unix.encoding.UnixEncodingEncoding.behind.Goals as goal
 
 pub returns : goal.returns

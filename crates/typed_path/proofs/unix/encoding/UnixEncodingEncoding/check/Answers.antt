@@ -8,7 +8,7 @@ use Rattle.typed_path.specs.components.Part.{kinds, parts}
 use Rattle.typed_path.specs.changes.Push.{push}
 use Rattle.typed_path.specs.changes.Fault.{fault, fault_behind}
 use Rattle.typed_path.specs.promises.Promises.{LiesWithin}
-use Rattle.typed_path.proofs.lemmas.changes.HarmlessLemmas.{harmless}
+use Rattle.typed_path.proofs.lemmas.changes.FaultLemmas.{harmless}
 use Rattle.typed_path.proofs.lemmas.promises.UnixContained.{contained}
 use Rattle.typed_path.proofs.unix.encoding.UnixEncodingEncoding.check.Goals as goal
 

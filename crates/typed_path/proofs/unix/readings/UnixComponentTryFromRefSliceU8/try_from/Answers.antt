@@ -5,7 +5,7 @@ use Rattle.typed_path.specs.components.Comps.{comps}
 use Rattle.typed_path.specs.scan.Steps.{first_part}
 use Rattle.typed_path.specs.views.UnixViews.{unix_part}
 use Rattle.typed_path.specs.views.ConcreteViews.{concrete_items}
-use Rattle.typed_path.proofs.lemmas.scan.SingleReadings.{no_component, one_component, more_components}
+use Rattle.typed_path.proofs.lemmas.scan.StepLemmas.{no_component, one_component, more_components}
 use Rattle.typed_path.proofs.unix.readings.UnixComponentTryFromRefSliceU8.try_from.Goals as goal
 
 pub returns-in-None : goal.returns-in-None

@@ -4,7 +4,7 @@ use Rattle.std.specs.Str.{is_utf8}
 use Rattle.typed_path.specs.texts.Texts.{is_text_prefix}
 use Rattle.typed_path.specs.views.PieceViews.{prefix_view}
 use Rattle.typed_path.specs.components.Dialect.{windows}
-use Rattle.typed_path.proofs.lemmas.texts.QueryTexts.{single-text}
+use Rattle.typed_path.proofs.lemmas.texts.TextsLeft.{single-text}
 use Rattle.typed_path.proofs.utf8.prefix.Utf8WindowsPrefixTryFromRefStr.try_from.Goals as goal
 
 pub from_utf8_unchecked-requires : goal.from_utf8_unchecked-requires

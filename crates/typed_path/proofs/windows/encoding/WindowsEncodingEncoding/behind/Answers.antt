@@ -6,7 +6,7 @@ use Rattle.typed_path.specs.components.Comps.{body, later_body}
 use Rattle.typed_path.specs.components.Dialect.{windows, separators, is_verbatim}
 use Rattle.typed_path.specs.components.Prefix.{prefix_of}
 use Rattle.typed_path.specs.scan.Steps.{is_clean}
-use Rattle.typed_path.proofs.lemmas.queries.BaseLemmas.{same_separators, stripped-behind_prefix}
+use Rattle.typed_path.proofs.lemmas.queries.Bases.{same_separators, stripped-behind_prefix}
 use Rattle.typed_path.proofs.windows.encoding.WindowsEncodingEncoding.behind.Goals as goal
 
 pub returns : goal.returns

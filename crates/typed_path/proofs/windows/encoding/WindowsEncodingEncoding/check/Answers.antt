@@ -8,8 +8,7 @@ use Rattle.typed_path.specs.components.Part.{kinds, parts}
 use Rattle.typed_path.specs.changes.Push.{push}
 use Rattle.typed_path.specs.changes.Fault.{fault, fault_behind}
 use Rattle.typed_path.specs.promises.Promises.{LiesWithin, HasPrefixOf}
-use Rattle.typed_path.proofs.lemmas.promises.WindowsContained.{contained}
-use Rattle.typed_path.proofs.lemmas.promises.WindowsKept.{keeps}
+use Rattle.typed_path.proofs.lemmas.promises.WindowsContained.{contained, keeps}
 use Rattle.typed_path.proofs.windows.encoding.WindowsEncodingEncoding.check.Goals as goal
 
 within : {A : Type 0} (r : Result A CheckedPathError) (path : List ℕ) → error_of r ≡ fault windows path → OnOk r ((base : List ℕ) → LiesWithin windows base path (push windows base path))

@@ -2,7 +2,7 @@ use Rattle.std.proofs.Common.{◌≡◌, ◌++◌, min, length, take, drop, slic
 use Rattle.std.proofs.lemmas.List.{take_min, drop_min}
 use Rattle.typed_path.specs.components.Dialect.{windows}
 use Rattle.typed_path.specs.changes.Push.{push_windows, FitsPush}
-use Rattle.typed_path.proofs.lemmas.changes.PutCrossed.{whole_range}
+use Rattle.typed_path.proofs.lemmas.conversions.CrossedLemmas.{whole_range}
 use Rattle.typed_path.proofs.windows.encoding.WindowsEncodingEncoding.push_behind.Goals as goal
 
 -- the place is at most the end of the text

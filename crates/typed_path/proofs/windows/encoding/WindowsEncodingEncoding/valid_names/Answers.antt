@@ -5,7 +5,7 @@ use Rattle.typed_path.specs.components.Dialect.{windows, dialect_of}
 use Rattle.typed_path.specs.components.Part.{kinds, parts}
 use Rattle.typed_path.specs.components.Prefix.{prefix_of}
 use Rattle.typed_path.specs.queries.Queries.{is_valid}
-use Rattle.typed_path.proofs.lemmas.queries.ValidLemmas.{valid-windows}
+use Rattle.typed_path.proofs.lemmas.queries.ValidNames.{valid-windows}
 use Rattle.typed_path.proofs.windows.encoding.WindowsEncodingEncoding.valid_names.Goals as goal
 
 pub returns : goal.returns

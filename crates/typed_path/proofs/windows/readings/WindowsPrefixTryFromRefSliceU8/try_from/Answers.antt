@@ -2,7 +2,7 @@ use Rattle.std.proofs.Common.{◌≡◌, inr, refl, rules}
 use Rattle.std.specs.Prelude.{Option, Some, None, IsSome}
 use Rattle.typed_path.specs.components.Prefix.{Found}
 use Rattle.typed_path.specs.views.PieceViews.{found_of}
-use Rattle.typed_path.proofs.lemmas.components.CountLemmas.{behind-count}
+use Rattle.typed_path.proofs.lemmas.components.Cuts.{behind-count}
 use Rattle.typed_path.proofs.windows.readings.WindowsPrefixTryFromRefSliceU8.try_from.Goals as goal
 
 here : (o : Option Found) (f : Found) → Some f ≡ o → IsSome o

@@ -1,0 +1,461 @@
+-- A prefix stays where its text is cut behind it and something put apart behind that.
+use Rattle.std.proofs.Common.{◌≡◌, ℕ, ◌+◌, ◌<◌, ◌≤◌, ◌==◌, Bool, true, false, not, ◌&&◌, if◌then◌else◌, nat_lt, List, [], ◌∷◌, ◌++◌, inl, inr, length, take, drop, Option, Some, None, option_and_then, option_map, refl, sym, ap, ap₂, ◌∙◌, append-nil, length-append, length-take, arith, ◌-◌, nat_eq, codes, le_refl}
+use Rattle.std.specs.List.{position_or_len, after_first}
+use Rattle.std.proofs.lemmas.Bool.{cases_lt, cond-true, cond-false, lt-ltb, eqb-true, or_left, or_right, or_cases, and_parts, and_left, and_right, ne_eqb, both_ways, not-true, and_from, false_from_ne_true}
+use Rattle.std.proofs.lemmas.List.{take-append-le, drop-append-le, drop_all, take-take}
+use Rattle.std.proofs.lemmas.List.Sums.{prefix_len-le-length}
+use Rattle.std.specs.Option.{option_or}
+use Rattle.std.specs.Str.{bytes_eq}
+use Rattle.std.specs.Cmp.Lexicographic.{pointwise}
+use Rattle.typed_path.specs.declared.scan.separators.Separators.{Separators}
+use Rattle.typed_path.specs.declared.scan.separators.Separators.TheVariants.{Slash, Backslash, Either}
+use Rattle.typed_path.specs.components.Dialect.{is_separator, slash, backslash, colon, windows, separators, begins_verbatim, question, dot}
+use Rattle.typed_path.specs.components.Prefix.{is_empty, is_drive_letter, to_upper, drive, after_two, after_four, name, second_name, names_length, Found, found, after_mark, after_unc, verbatim_case, device_case, unc_case, disk_case, prefix_of}
+use Rattle.typed_path.specs.queries.Queries.{is_disk}
+use Rattle.typed_path.specs.promises.Promises.{keeps_by_prefix}
+use Rattle.typed_path.specs.components.Part.{Prefix, verbatim, verbatim_unc, verbatim_disk, device_ns, unc, disk}
+use Rattle.typed_path.proofs.lemmas.components.Prefixes.{and_then-some, where-some, ReadsMark, IsFront, after_four-reads, after_mark-size, name-fits, names-fit, prefix-fits, Read, of_verbatim_unc, of_verbatim_disk, of_verbatim, of_device, of_unc, of_disk, prefix-read, after_mark-reads, after_unc-reads, after_two-reads, both-read, drive-take, drive-none}
+use Rattle.typed_path.proofs.lemmas.components.PrefixCuts.{name-length, name-take, names-take, prefix_by, unless-none, empty-take}
+use Rattle.typed_path.proofs.lemmas.components.Segments.{position-append}
+
+-- The names and marks of a text that is cut behind them, with something put apart behind it.
+
+-- nothing, or a separator and more: what may stand behind a whole name
+pub data Apart (s : Separators) : List ℕ → Type 0 where
+  nothing : Apart s []
+  parted : (b : ℕ) (bs : List ℕ) → is_separator s b ≡ true → Apart s (b ∷ bs)
+
+-- what is not empty has some bytes
+pub filled-long : (bytes : List ℕ) → is_empty bytes ≡ false → 0 < length bytes
+filled-long [] h = cc
+filled-long (b ∷ bs) h = omega arith
+
+module _ (s : Separators) where
+  -- a name ends where something stands apart behind its text
+  position-apart : (text x : List ℕ) → Apart s x → position_or_len (is_separator s) (text ++ x) ≡ position_or_len (is_separator s) text
+  position-apart text x nothing = ap (position_or_len (is_separator s)) (append-nil text)
+  position-apart text x (parted b bs h) = position-append s b h text bs
+
+  -- so it stays
+  pub name-apart : (text x : List ℕ) → Apart s x → name s (text ++ x) ≡ name s text
+  name-apart text x h =
+      ap (λ n. take n (text ++ x)) (position-apart text x h)
+      ∙ take-append-le (position_or_len (is_separator s) text) text x (prefix_len-le-length (λ b. not (is_separator s b)) text)
+
+  -- a text with a second name has a separator behind the first
+  pub second-inside : (text : List ℕ) → is_empty (second_name s text) ≡ false → position_or_len (is_separator s) text < length text
+  second-inside text filled = elim (cases_lt (position_or_len (is_separator s) text) (length text)) [
+    | inl less ↦ less
+    | inr most ↦
+        let none : after_first (is_separator s) text ≡ [] = drop_all (position_or_len (is_separator s) text + 1) text (omega arith) in
+        let empty : is_empty (second_name s text) ≡ true = ap (λ rest. is_empty (name s rest)) none in
+        cc
+  ]
+
+  -- so does the second name, where a separator stands behind the first
+  second-apart : (text x : List ℕ) → Apart s x → position_or_len (is_separator s) text < length text → second_name s (text ++ x) ≡ second_name s text
+  second-apart text x h less =
+      let p = is_separator s in
+      ap (λ n. name s (drop (n + 1) (text ++ x))) (position-apart text x h)
+      ∙ ap (name s) (drop-append-le (position_or_len p text + 1) text x (omega arith))
+      ∙ name-apart (after_first p text) x h
+
+  -- two names, with a separator between them, take as many bytes as they have, and the separator
+  pub names-inside : (text : List ℕ) → position_or_len (is_separator s) text < length text → names_length s text ≡ length (name s text) + 1 + length (second_name s text)
+  names-inside text less = cond-true (nat_lt (length (name s text)) (length text)) _ _ (lt-ltb _ _ (omega (arith, name-length s text)))
+
+  -- they stay and take as many bytes
+  names-apart : (text x : List ℕ) → Apart s x → position_or_len (is_separator s) text < length text → names_length s (text ++ x) ≡ names_length s text
+  names-apart text x h less =
+      names-inside (text ++ x) (omega (arith, position-apart text x h, length-append text x))
+      ∙ ap₂ (λ a b. length a + 1 + length b) (name-apart text x h) (second-apart text x h less)
+      ∙ sym (names-inside text less)
+
+  -- two names, of which the second is not empty, take as many bytes as they have, and the separator
+  pub names-size : (text : List ℕ) → is_empty (second_name s text) ≡ false → names_length s text ≡ position_or_len (is_separator s) text + 1 + length (second_name s text)
+  names-size text shared = omega (arith, names-inside text (second-inside text shared), name-length s text)
+
+  -- they take three bytes where neither is empty
+  pub names-long : (text : List ℕ) → is_empty (name s text) ≡ false → is_empty (second_name s text) ≡ false → 3 ≤ names_length s text
+  names-long text filled shared =
+      omega (arith, names-size text shared, name-length s text, filled-long (name s text) filled, filled-long (second_name s text) shared)
+
+  -- a name stays where its text is cut behind it, and something put apart behind that
+  pub name-recut : (m : ℕ) (text x : List ℕ) → Apart s x → length (name s text) ≤ m → name s (take m text ++ x) ≡ name s text
+  name-recut m text x h fits = name-apart (take m text) x h ∙ name-take s m text fits
+
+  -- what two names and their length are of one text, they are of another
+  pub record HasNamesOf (text now : List ℕ) : Type 0 where
+    pub first : name s now ≡ name s text
+    pub second : second_name s now ≡ second_name s text
+    pub size : names_length s now ≡ names_length s text
+
+  -- two names with a separator between them are kept where their text is cut behind them
+  pub names-recut : (m : ℕ) (text x : List ℕ) → Apart s x → names_length s text ≤ m → position_or_len (is_separator s) text < length text → HasNamesOf text (take m text ++ x)
+  names-recut m text x h fits less =
+      let cut = names-take s m text fits in
+      let still : position_or_len (is_separator s) (take m text) < length (take m text) =
+      omega (arith, names-inside text less, length-take m text, ap length cut.first, name-length s text, name-length s (take m text)) in
+      record {
+        first = name-apart (take m text) x h ∙ cut.first;
+        second = second-apart (take m text) x h still ∙ cut.second;
+        size = names-apart (take m text) x h still ∙ cut.size;
+      }
+
+-- each separator is one of both
+pub separates-either : (s : Separators) (b : ℕ) → is_separator s b ≡ true → is_separator Either b ≡ true
+separates-either Slash b h = or_left (b == slash) (b == backslash) h
+separates-either Backslash b h = or_right (b == slash) (b == backslash) h
+separates-either Either b h = h
+
+-- what stands apart by some separators does by both
+pub apart-either : (s : Separators) (x : List ℕ) → Apart s x → Apart Either x
+apart-either s x nothing = nothing
+apart-either s x (parted b bs h) = parted b bs (separates-either s b h)
+
+-- a separator fails each test that `/` and `\` fail
+pub separator-fails : (test : ℕ → Bool) (s : Separators) (b : ℕ) → test slash ≡ false → test backslash ≡ false → is_separator s b ≡ true → test b ≡ false
+separator-fails test s b first second h = elim (or_cases (b == slash) (b == backslash) (separates-either s b h)) [
+  | inl e ↦ ap test (eqb-true b slash e) ∙ first
+  | inr e ↦ ap test (eqb-true b backslash e) ∙ second
+]
+
+-- a value where a test holds, with more behind it
+test-append : (b : Bool) (text rest x : List ℕ) → (if b then Some text else None) ≡ Some rest → (if b then Some (text ++ x) else None) ≡ Some (rest ++ x)
+test-append true text rest x e = ap (option_map (λ t. t ++ x)) e
+test-append false text rest x e = cc
+
+-- no value is no value with more behind it
+test-none : (b : Bool) (text now : List ℕ) → (if b then Some text else None) ≡ None → (if b then Some now else None) ≡ None
+test-none true text now e = cc
+test-none false text now e = refl
+
+-- what is read at the front of a text is read too where more stands behind it
+abbrev pub Extends : (List ℕ → Option (List ℕ)) → Type 0
+Extends read = (text rest x : List ℕ) → read text ≡ Some rest → read (text ++ x) ≡ Some (rest ++ x)
+
+-- two separators
+pub after_two-extends : Extends after_two
+after_two-extends (a ∷ b ∷ text) rest x e = test-append _ text rest x e
+after_two-extends text rest x e = cc
+
+module _ (p q r s : ℕ → Bool) where
+  -- four bytes
+  pub after_four-extends : Extends (after_four p q r s)
+  after_four-extends (a ∷ b ∷ c ∷ d ∷ text) rest x e = test-append _ text rest x e
+  after_four-extends text rest x e = cc
+
+  -- the tests that four bytes pass
+  pub after_four-tests : (a b c d : ℕ) (text rest : List ℕ) → after_four p q r s (a ∷ b ∷ c ∷ d ∷ text) ≡ Some rest → (p a ≡ true) × (q b ≡ true) × (r c ≡ true) × (s d ≡ true) × (text ≡ rest)
+  after_four-tests a b c d text rest e =
+      let tests = where-some (p a && q b && r c && s d) text rest e in
+      let last = and_parts (p a && q b && r c) (s d) tests.0 in
+      let third = and_parts (p a && q b) (r c) last.0 in
+      let second = and_parts (p a) (q b) third.0 in
+      (second.0, second.1, third.1, last.1, tests.1)
+
+  -- four bytes that fail go on failing
+  after_four-fails : (text x : List ℕ) → 4 ≤ length text → after_four p q r s text ≡ None → after_four p q r s (text ++ x) ≡ None
+  after_four-fails (a ∷ b ∷ c ∷ d ∷ text) x long e = test-none _ text (text ++ x) e
+  after_four-fails text x long e = absurd (omega arith)
+
+  -- also where the text is cut behind them
+  pub after_four-none : (e : ℕ) (text x : List ℕ) → 4 ≤ e → e ≤ length text → after_four p q r s text ≡ None → after_four p q r s (take e text ++ x) ≡ None
+  after_four-none e text x long fits is = after_four-fails (take e text) x (omega (arith, length-take e text)) (by ((after_four-reads p q r s).cut text e))
+    where
+      by : IsFront (after_four p q r s text) (after_four p q r s (take e text)) → after_four p q r s (take e text) ≡ None
+      by (inl none) = none
+      by (inr some) = let was = some.2 in cc
+
+-- one mark behind another
+pub both-extend : (f g : List ℕ → Option (List ℕ)) → Extends f → Extends g → Extends (λ text. option_and_then g (f text))
+both-extend f g first second text rest x e =
+    let some = and_then-some g (f text) rest e in
+    ap (option_and_then g) (first text some.0 x some.1) ∙ second some.0 rest x some.2
+
+-- what stands behind a mark of k bytes, where the text is cut behind that and has more put behind it
+pub mark-recut : (k : ℕ) (read : List ℕ → Option (List ℕ)) → ReadsMark k read → Extends read → (m : ℕ) (text rest x : List ℕ) → read text ≡ Some rest → read (take (k + m) text ++ x) ≡ Some (take m rest ++ x)
+mark-recut k read reads extends m text rest x e = extends (take (k + m) text) (take m rest) x (reads.whole text rest m e)
+
+-- a drive is read off two bytes, whatever stands behind them
+pub drive-extends : (text x : List ℕ) (letter : ℕ) → drive text ≡ Some letter → drive (text ++ x) ≡ Some letter
+drive-extends (a ∷ b ∷ text) x letter e = e
+drive-extends text x letter e = cc
+
+-- what stands apart makes no drive
+pub drive-apart : (s : Separators) (text x : List ℕ) → Apart s x → drive text ≡ None → drive (text ++ x) ≡ None
+drive-apart s (a ∷ b ∷ text) x h e = e
+drive-apart s (a ∷ []) x nothing e = refl
+drive-apart s (a ∷ []) x (parted b bs h) e =
+    cond-false (is_drive_letter a && b == colon) (Some (to_upper a)) None (and_right (is_drive_letter a) (b == colon) (separator-fails (λ c. c == colon) s b refl refl h))
+drive-apart s [] x nothing e = refl
+drive-apart s [] x (parted b [] h) e = refl
+drive-apart s [] x (parted b (c ∷ bs) h) e =
+    cond-false (is_drive_letter b && c == colon) (Some (to_upper b)) None (and_left (is_drive_letter b) (c == colon) (separator-fails is_drive_letter s b refl refl h))
+
+-- A prefix stays where its text is cut behind it and something put apart behind that.
+
+-- what the cases make of what stands behind their marks
+abbrev pub share_made : (List ℕ → List ℕ → Prefix) → ℕ → Separators → List ℕ → Option Found
+share_made make k s rest = if is_empty (name s rest) then None else Some (found (make (name s rest) (second_name s rest)) (k + names_length s rest))
+
+abbrev verbatim_made : Separators → List ℕ → Option Found
+verbatim_made s rest = if is_empty rest then None else Some (found (verbatim (name s rest)) (4 + length (name s rest)))
+
+abbrev pub device_made : List ℕ → Option Found
+device_made rest = if is_empty (name Either rest) then None else Some (found (device_ns (name Either rest)) (4 + length (name Either rest)))
+
+abbrev disk_made : ℕ → Option Found
+disk_made letter = Some (found (verbatim_disk letter) 6)
+
+-- the first of two cases that holds
+pub first-some : (o p : Option Found) (f : Found) → o ≡ Some f → option_or o p ≡ Some f
+first-some o p f is = ap (λ q. option_or q p) is
+
+-- or the second
+pub first-none : (o p r : Option Found) → o ≡ None → p ≡ r → option_or o p ≡ r
+first-none o p r is e = ap (λ q. option_or q p) is ∙ e
+
+-- what no value tells: each value is impossible
+pub none_from : {A : Type 0} (o : Option A) → ((x : A) → o ≡ Some x → ⊥) → o ≡ None
+none_from {A = A} o never = by o refl
+  where
+    by : (p : Option A) → o ≡ p → p ≡ None
+    by None e = refl
+    by (Some x) e = absurd (never x e)
+
+-- a mark is read where more stands behind it
+pub mark-extends : (sign : ℕ) → Extends (after_mark sign)
+mark-extends sign = after_four-extends (is_separator Either) (is_separator Either) (λ b. b == sign) (is_separator Either)
+
+-- so is `UNC` with its separator
+pub unc-extends : (s : Separators) → Extends (after_unc s)
+unc-extends s = after_four-extends (λ b. b == 85) (λ b. b == 78) (λ b. b == 67) (is_separator s)
+
+-- what stands behind a mark, once the text is cut and has more put behind it
+pub mark-again : (sign m : ℕ) (text rest x : List ℕ) → after_mark sign text ≡ Some rest → after_mark sign (take (4 + m) text ++ x) ≡ Some (take m rest ++ x)
+mark-again sign m text rest x is = mark-recut 4 (after_mark sign) (after_mark-reads sign) (mark-extends sign) m text rest x is
+
+-- a text whose first name ends with a separator behind `UNC` has that name
+after_unc-name : (s : Separators) (text rest : List ℕ) → after_unc s text ≡ Some rest → name s text ≡ codes "UNC"
+after_unc-name s (a ∷ b ∷ c ∷ d ∷ text) rest is =
+    let tests = after_four-tests (λ b. b == 85) (λ b. b == 78) (λ b. b == 67) (is_separator s) a b c d text rest is in
+    (λ i. name s (eqb-true a 85 tests.0 i ∷ eqb-true b 78 tests.1 i ∷ eqb-true c 67 tests.2 i ∷ d ∷ text)) ∙ by s tests.3
+  where
+    by : (s : Separators) → is_separator s d ≡ true → name s (85 ∷ 78 ∷ 67 ∷ d ∷ text) ≡ codes "UNC"
+    by Slash h = rw h refl
+    by Backslash h = rw h refl
+    by Either h = rw h refl
+after_unc-name s text rest is = cc
+
+-- a drive has a colon behind its letter
+pub drive-letter : (a b : ℕ) (text : List ℕ) (letter : ℕ) → drive (a ∷ b ∷ text) ≡ Some letter → (is_drive_letter a ≡ true) × (b ≡ 58) × (to_upper a ≡ letter)
+drive-letter a b text letter is =
+    let some = where-some (is_drive_letter a && b == colon) (to_upper a) letter is in
+    let tests = and_parts (is_drive_letter a) (b == colon) some.0 in
+    (tests.0, eqb-true b 58 tests.1, some.1)
+
+-- a drive is not `UNC`
+drive-no_unc : (s : Separators) (text : List ℕ) (letter : ℕ) → drive text ≡ Some letter → after_unc s text ≡ None
+drive-no_unc s (a ∷ b ∷ c ∷ d ∷ text) letter is = none_from _ (λ rest found.
+    let tests = after_four-tests (λ b. b == 85) (λ b. b == 78) (λ b. b == 67) (is_separator s) a b c d text rest found in
+    omega (arith, eqb-true b 78 tests.1, (drive-letter a b (c ∷ d ∷ text) letter is).1))
+drive-no_unc s text letter is = refl
+
+-- a mark has one sign
+pub marks-differ : (text rest : List ℕ) → after_mark dot text ≡ Some rest → after_mark question text ≡ None
+marks-differ (a ∷ b ∷ c ∷ d ∷ text) rest is = none_from _ (λ other found.
+    let one = after_four-tests (is_separator Either) (is_separator Either) (λ b. b == dot) (is_separator Either) a b c d text rest is in
+    let two = after_four-tests (is_separator Either) (is_separator Either) (λ b. b == question) (is_separator Either) a b c d text other found in
+    omega (arith, eqb-true c 46 one.2, eqb-true c 63 two.2))
+marks-differ text rest is = refl
+
+-- a text without a question mark has no verbatim prefix
+pub unmarked : (s : Separators) (t : List ℕ) → after_mark question t ≡ None → prefix_by s t ≡ option_or (device_case t) (option_or (unc_case t) (disk_case t))
+unmarked s t none =
+    first-none _ _ _ (ap (λ o. option_and_then (share_made verbatim_unc 8 s) (option_and_then (after_unc s) o)) none)
+    (first-none _ _ _ (ap (λ o. option_and_then disk_made (option_and_then drive o)) none)
+    (first-none _ _ _ (ap (option_and_then (verbatim_made s)) none) refl))
+
+module _ (s : Separators) (text x : List ℕ) (apart : Apart s x) where
+  -- the verbatim share
+  pub verbatim_unc-again : (rest : List ℕ) → option_and_then (after_unc s) (after_mark question text) ≡ Some rest → is_empty (name s rest) ≡ false → position_or_len (is_separator s) rest < length rest
+      → prefix_by s (take (8 + names_length s rest) text ++ x) ≡ Some (found (verbatim_unc (name s rest) (second_name s rest)) (8 + names_length s rest))
+  verbatim_unc-again rest is filled less =
+      let now = take (names_length s rest) rest ++ x in
+      let mark = mark-recut 8 (λ t. option_and_then (after_unc s) (after_mark question t)) (both-read 4 4 (after_mark question) (after_unc s) (after_mark-reads question) (after_unc-reads s))
+      (both-extend (after_mark question) (after_unc s) (mark-extends question) (unc-extends s)) (names_length s rest) text rest x is in
+      let names = names-recut s (names_length s rest) rest x apart (le_refl (names_length s rest)) less in
+      first-some _ _ _
+      (ap (option_and_then (share_made verbatim_unc 8 s)) mark
+      ∙ cond-false (is_empty (name s now)) None _ (ap is_empty names.first ∙ filled)
+      ∙ (λ i. Some (found (verbatim_unc (names.first i) (names.second i)) (8 + names.size i))))
+
+  -- the verbatim drive
+  pub verbatim_disk-again : (rest : List ℕ) (letter : ℕ) → after_mark question text ≡ Some rest → drive rest ≡ Some letter → prefix_by s (take 6 text ++ x) ≡ Some (found (verbatim_disk letter) 6)
+  verbatim_disk-again rest letter is drives =
+      let now = take 2 rest ++ x in
+      let mark = mark-again question 2 text rest x is in
+      let again : drive now ≡ Some letter = drive-extends (take 2 rest) x letter (drive-take 2 rest (omega arith) ∙ drives) in
+      first-none _ _ _
+      (ap (λ o. option_and_then (share_made verbatim_unc 8 s) (option_and_then (after_unc s) o)) mark
+      ∙ ap (option_and_then (share_made verbatim_unc 8 s)) (drive-no_unc s now letter again))
+      (first-some _ _ _
+      (ap (λ o. option_and_then disk_made (option_and_then drive o)) mark
+      ∙ ap (option_and_then disk_made) again))
+
+  -- the verbatim name, unless it is `UNC`
+  pub verbatim-again : (rest : List ℕ) → after_mark question text ≡ Some rest → drive rest ≡ None → bytes_eq (name s rest) (codes "UNC") ≡ false → 0 < length (name s rest) + length x
+      → prefix_by s (take (4 + length (name s rest)) text ++ x) ≡ Some (found (verbatim (name s rest)) (4 + length (name s rest)))
+  verbatim-again rest is no_drive other some =
+      let m = length (name s rest) in
+      let now = take m rest ++ x in
+      let mark = mark-again question m text rest x is in
+      let same : name s now ≡ name s rest = name-recut s m rest x apart (le_refl m) in
+      let no_unc : after_unc s now ≡ None = none_from _ (λ r found.
+      let unc : bytes_eq (name s rest) (codes "UNC") ≡ true = ap (λ n. bytes_eq n (codes "UNC")) (sym same ∙ after_unc-name s now r found) in
+      both_ways _ other unc) in
+      let filled : is_empty now ≡ false = ne_eqb (length now) 0 (λ none. omega (arith, length-append (take m rest) x, length-take m rest, name-fits s rest)) in
+      first-none _ _ _ (ap (λ o. option_and_then (share_made verbatim_unc 8 s) (option_and_then (after_unc s) o)) mark ∙ ap (option_and_then (share_made verbatim_unc 8 s)) no_unc)
+      (first-none _ _ _
+      (ap (λ o. option_and_then disk_made (option_and_then drive o)) mark ∙ ap (option_and_then disk_made) (drive-apart s (take m rest) x apart (drive-none m rest no_drive)))
+      (first-some _ _ _
+      (ap (option_and_then (verbatim_made s)) mark
+      ∙ cond-false (is_empty now) None _ filled
+      ∙ ap (λ n. Some (found (verbatim n) (4 + length n))) same)))
+
+  -- the device
+  pub device-again : (rest : List ℕ) → after_mark dot text ≡ Some rest → is_empty (name Either rest) ≡ false
+      → prefix_by s (take (4 + length (name Either rest)) text ++ x) ≡ Some (found (device_ns (name Either rest)) (4 + length (name Either rest)))
+  device-again rest is filled =
+      let m = length (name Either rest) in
+      let whole = take (4 + m) text ++ x in
+      let now = take m rest ++ x in
+      let mark = mark-again dot m text rest x is in
+      let same : name Either now ≡ name Either rest = name-recut Either m rest x (apart-either s x apart) (le_refl m) in
+      unmarked s whole (marks-differ whole now mark)
+      ∙ first-some (device_case whole) (option_or (unc_case whole) (disk_case whole)) _
+      (ap (option_and_then device_made) mark
+      ∙ cond-false (is_empty (name Either now)) None _ (ap is_empty same ∙ filled)
+      ∙ ap (λ n. Some (found (device_ns n) (4 + length n))) same)
+
+  -- no device becomes none
+  no_device-again : (e : ℕ) → 4 ≤ e → e ≤ length text → device_case text ≡ None → device_case (take e text ++ x) ≡ None
+  no_device-again e long fits none = by (after_mark dot text) refl
+    where
+      by : (o : Option (List ℕ)) → after_mark dot text ≡ o → device_case (take e text ++ x) ≡ None
+      by None is = ap (option_and_then device_made) (after_four-none (is_separator Either) (is_separator Either) (λ b. b == dot) (is_separator Either) e text x long fits is)
+      by (Some rest) is =
+          let m = e - 4 in
+          let size : e ≡ 4 + m = omega (arith, long) in
+          let bare = unless-none (is_empty (name Either rest)) _ (ap (option_and_then device_made) (sym is) ∙ none) in
+          ap (λ n. device_case (take n text ++ x)) size
+          ∙ ap (option_and_then device_made) (mark-again dot m text rest x is)
+          ∙ cond-true (is_empty (name Either (take m rest ++ x))) None _ (ap is_empty (name-apart Either (take m rest) x (apart-either s x apart)) ∙ empty-take Either m rest bare)
+
+  -- the share, where no mark is read before it
+  pub unc-again : (rest : List ℕ) → after_two text ≡ Some rest → is_empty (name Either rest) ≡ false → position_or_len (is_separator Either) rest < length rest
+      → after_mark question text ≡ None → device_case text ≡ None → 2 + names_length Either rest ≤ length text
+      → prefix_by s (take (2 + names_length Either rest) text ++ x) ≡ Some (found (unc (name Either rest) (second_name Either rest)) (2 + names_length Either rest))
+  unc-again rest is filled less no_question no_device fits =
+      let m = names_length Either rest in
+      let whole = take (2 + m) text ++ x in
+      let now = take m rest ++ x in
+      let mark = mark-recut 2 after_two after_two-reads after_two-extends m text rest x is in
+      let names = names-recut Either m rest x (apart-either s x apart) (le_refl m) less in
+      let long : 4 ≤ 2 + m = omega (arith, names-inside Either rest less, filled-long (name Either rest) filled) in
+      unmarked s whole (after_four-none (is_separator Either) (is_separator Either) (λ b. b == question) (is_separator Either) (2 + m) text x long fits no_question)
+      ∙ first-none (device_case whole) (option_or (unc_case whole) (disk_case whole)) _ (no_device-again (2 + m) long fits no_device)
+      (first-some (unc_case whole) (disk_case whole) _
+      (ap (option_and_then (share_made unc 2 Either)) mark
+      ∙ cond-false (is_empty (name Either now)) None _ (ap is_empty names.first ∙ filled)
+      ∙ (λ i. Some (found (unc (names.first i) (names.second i)) (2 + names.size i)))))
+
+-- a text that is longer than a mark and has no verbatim name has no mark of one
+pub no_question : (s : Separators) (text : List ℕ) → 4 < length text → verbatim_case s text ≡ None → after_mark question text ≡ None
+no_question s text long none = none_from _ (λ other mark.
+    let bare = unless-none (is_empty other) _ (ap (option_and_then (verbatim_made s)) (sym mark) ∙ none) in
+    omega (arith, after_mark-size question text other mark, eqb-true (length other) 0 bare))
+
+-- a prefix that every path keeps behind its text
+abbrev pub is_firm : Prefix → Bool
+is_firm p = keeps_by_prefix [] (Some p)
+
+-- a prefix that is firm and no drive takes four bytes or more
+pub firm-long : (s : Separators) (text : List ℕ) (f : Found) → Read s text f → is_firm f.prefix ≡ true → is_disk f.prefix ≡ false → 4 ≤ f.length
+firm-long s text f (of_verbatim_unc rest mark filled) firm other = omega arith
+firm-long s text f (of_verbatim_disk rest letter mark drives) firm other = omega arith
+firm-long s text f (of_verbatim rest mark filled no_unc no_drive) firm other = omega arith
+firm-long s text f (of_device rest mark filled) firm other = omega arith
+firm-long s text f (of_unc rest mark filled no_verbatim no_device) firm other = let long = names-long Either rest filled (not-true _ firm) in omega arith
+firm-long s text f (of_disk letter drives) firm other = cc
+
+-- it is read again where its text is cut behind it and has something put apart behind that
+pub firm-again : (s : Separators) (text x : List ℕ) (f : Found) → Read s text f → is_firm f.prefix ≡ true → is_disk f.prefix ≡ false → Apart s x → 4 < f.length + length x → prefix_by s (take f.length text ++ x) ≡ Some f
+firm-again s text x f (of_verbatim_unc rest mark filled) firm other apart long = verbatim_unc-again s text x apart rest mark.marked filled (second-inside s rest (not-true _ firm))
+firm-again s text x f (of_verbatim_disk rest letter mark drives) firm other apart long = verbatim_disk-again s text x apart rest letter mark.marked drives
+firm-again s text x f (of_verbatim rest mark filled no_unc no_drive) firm other apart long = verbatim-again s text x apart rest mark.marked no_drive (not-true _ firm) (omega arith)
+firm-again s text x f (of_device rest mark filled) firm other apart long = device-again s text x apart rest mark.marked filled
+firm-again s text x f (of_unc rest mark filled no_verbatim no_device) firm other apart long =
+    let shared : is_empty (second_name Either rest) ≡ false = not-true _ firm in
+    let fits : 2 + names_length Either rest ≤ length text = omega (arith, mark.size, names-fit Either rest) in
+    let more : 4 < length text = omega (arith, fits, names-long Either rest filled shared) in
+    unc-again s text x apart rest mark.marked filled (second-inside Either rest shared) (no_question s text more no_verbatim) no_device fits
+firm-again s text x f (of_disk letter drives) firm other apart long = cc
+
+-- so the prefix stays, and with it the separators
+pub firm-stays : (text x : List ℕ) (f : Found) → prefix_of windows text ≡ Some f → is_firm f.prefix ≡ true → is_disk f.prefix ≡ false → Apart (separators windows text) x → 4 < f.length + length x
+    → prefix_of windows (take f.length text ++ x) ≡ Some f
+firm-stays text x f is firm other apart long =
+    let read = prefix-read text f is in
+    let four = firm-long (separators windows text) text f read firm other in
+    let fits = (prefix-fits windows text f is).fits in
+    let front : take 4 (take f.length text ++ x) ≡ take 4 text = take-append-le 4 (take f.length text) x (omega (arith, length-take f.length text)) ∙ take-take 4 f.length text four in
+    let same : begins_verbatim (take f.length text ++ x) ≡ begins_verbatim text = ap (pointwise nat_eq (backslash ∷ backslash ∷ question ∷ backslash ∷ [])) front in
+    ap (λ b. prefix_by (if b then Backslash else Either) (take f.length text ++ x)) same ∙ firm-again (separators windows text) text x f read firm other apart long
+
+-- Windows texts that begin with a drive, with no two separators, or with three.
+
+-- a text that does not begin with two separators has no mark
+no_mark : (sign a b : ℕ) (text : List ℕ) → (is_separator Either a && is_separator Either b) ≡ false → after_mark sign (a ∷ b ∷ text) ≡ None
+no_mark sign a b (c ∷ d ∷ text) apart = none_from _ (λ rest found.
+    let tests = after_four-tests (is_separator Either) (is_separator Either) (λ e. e == sign) (is_separator Either) a b c d text rest found in
+    both_ways _ apart (and_from (is_separator Either a) (is_separator Either b) tests.0 tests.1))
+no_mark sign a b text apart = refl
+
+-- its prefix can only be a drive
+pub prefix-apart : (a b : ℕ) (text : List ℕ) → (is_separator Either a && is_separator Either b) ≡ false → prefix_of windows (a ∷ b ∷ text) ≡ disk_case (a ∷ b ∷ text)
+prefix-apart a b text apart =
+    let whole = a ∷ b ∷ text in
+    unmarked (separators windows whole) whole (no_mark question a b text apart)
+    ∙ first-none (device_case whole) (option_or (unc_case whole) (disk_case whole)) _
+    (ap (option_and_then device_made) (no_mark dot a b text apart))
+    (first-none (unc_case whole) (disk_case whole) _
+    (ap (option_and_then (share_made unc 2 Either)) (cond-false (is_separator Either a && is_separator Either b) (Some text) None apart))
+    refl)
+
+-- a drive stays, whatever is put behind its text
+pub drive-stays : (text x : List ℕ) (letter : ℕ) → drive text ≡ Some letter → prefix_of windows (text ++ x) ≡ Some (found (disk letter) 2)
+drive-stays (a ∷ b ∷ text) x letter is =
+    let two = drive-letter a b text letter is in
+    let plain : is_separator Either a ≡ false = false_from_ne_true _ (λ h. both_ways _ (separator-fails is_drive_letter Either a refl refl h) two.0) in
+    prefix-apart a b (text ++ x) (and_left (is_separator Either a) (is_separator Either b) plain) ∙ ap (option_and_then (λ l. Some (found (disk l) 2))) is
+drive-stays text x letter is = cc
+
+-- three separators in front are no prefix
+pub three_separators : (a b c : ℕ) (text : List ℕ) → is_separator Either a ≡ true → is_separator Either b ≡ true → is_separator Either c ≡ true → prefix_of windows (a ∷ b ∷ c ∷ text) ≡ None
+three_separators a b c text first second third =
+    let whole = a ∷ b ∷ c ∷ text in
+    unmarked (separators windows whole) whole (no_sign question refl refl text)
+    ∙ first-none (device_case whole) (option_or (unc_case whole) (disk_case whole)) _
+    (ap (option_and_then device_made) (no_sign dot refl refl text))
+    (first-none (unc_case whole) (disk_case whole) _
+    (ap (option_and_then (share_made unc 2 Either)) (cond-true (is_separator Either a && is_separator Either b) (Some (c ∷ text)) None (and_from (is_separator Either a) (is_separator Either b) first second))
+    ∙ cond-true (is_empty (name Either (c ∷ text))) None _ (rw third refl))
+    (ap (option_and_then (λ l. Some (found (disk l) 2))) (cond-false (is_drive_letter a && b == colon) (Some (to_upper a)) None (and_left (is_drive_letter a) (b == colon) (separator-fails is_drive_letter Either a refl refl first)))))
+  where
+    no_sign : (sign : ℕ) → (47 == sign) ≡ false → (92 == sign) ≡ false → (rest : List ℕ) → after_mark sign (a ∷ b ∷ c ∷ rest) ≡ None
+    no_sign sign slash backslash [] = refl
+    no_sign sign slash backslash (d ∷ rest) = none_from _ (λ other found.
+        let tests = after_four-tests (is_separator Either) (is_separator Either) (λ e. e == sign) (is_separator Either) a b c d rest other found in
+        both_ways _ (separator-fails (λ e. e == sign) Either c slash backslash third) tests.2)

@@ -1,0 +1,233 @@
+-- A file name, its stem and its extension, and names with allowed bytes.
+use Rattle.std.proofs.Common.{◌≡◌, ℕ, ◌+◌, ◌-◌, ◌<◌, ◌≤◌, Bool, true, false, not, if◌then◌else◌, List, [], ◌∷◌, ◌++◌, length, reverse, drop, get_or, Some, None, All, ◌⊎◌, inl, inr, refl, sym, ap, ◌∙◌, append_assoc, arith, cond, take, Bor, ◌||◌, ◌==◌, subst, true≢false}
+use Rattle.std.specs.List.{list_any, before_last, after_last, suffix_len, slice_split, onto_first, AllByRecursion}
+use Rattle.std.proofs.lemmas.Bool.{not-true, not-false, cases_lt, both_ways, cond_both, eqb-true, false_from_ne_true}
+use Rattle.std.proofs.lemmas.List.{take_more, get_or-reverse, get_or-drop, get_or_default, length-reverse, length-drop, length-take, take-append-drop}
+use Rattle.std.proofs.lemmas.List.Folds.{Any-from_list_any, list_any_none, list_any_at}
+use Rattle.std.proofs.lemmas.List.Sums.{prefix_len_passes, prefix_len_stops, suffix_len_is}
+use Rattle.memchr.specs.Find.{Nowhere, NoneAfter, Passes}
+use Rattle.std.specs.Prelude.{Result, Ok, Err, MatchResult, option_copied}
+use Rattle.std.specs.Str.{IsUtf8, is_utf8}
+use Rattle.std.specs.Result.{result_ok}
+use Rattle.std.proofs.lemmas.Str.{IsUtf8-from_is_utf8, is_utf8-from_IsUtf8}
+use Rattle.std.proofs.lemmas.List.Elements.{All-head, All-tail}
+use Rattle.typed_path.specs.declared.scan.separators.Separators.{Separators}
+use Rattle.typed_path.specs.declared.scan.body.Begin.{Begin}
+use Rattle.typed_path.specs.declared.scan.body.Begin.TheVariants.{Body, Inside}
+use Rattle.typed_path.specs.components.Dialect.{dot, Dialect, dialect_of, is_separator, is_verbatim, root_text}
+use Rattle.typed_path.specs.queries.Names.{is_a_dot, has_extension, stem_of, extension_of}
+use Rattle.typed_path.specs.queries.Texts.{text_of_bytes}
+use Rattle.typed_path.specs.components.Part.{Part, Kind, kinds, parts, root_part, current_part, parent_part, name_part}
+use Rattle.typed_path.specs.components.Comps.{is_dot, is_dot_dot}
+use Rattle.typed_path.specs.queries.Queries.{is_disallowed, kind_has_allowed_bytes}
+use Rattle.typed_path.specs.scan.Steps.{body_from}
+use Rattle.typed_path.specs.changes.Checked.{SeparatesDisallowed}
+use Rattle.typed_path.proofs.lemmas.lists.Lists.{AllByRecursion-append}
+use Rattle.typed_path.proofs.lemmas.components.Segments.{pieces, later_part, later_parts, first_parts, body_parts, parts-body, parts-later_body}
+
+-- A file name, its stem and its extension.
+
+-- an element that passes, not the first, and the parts before and behind the last such element
+record IsParted {X : Type 0} (p : X → Bool) (xs : List X) (d : X) : Type 0 where
+  pub whole : xs ≡ before_last p xs ++ get_or xs (length xs - suffix_len (λ x. not (p x)) xs - 1) d ∷ after_last p xs
+  pub passes : p (get_or xs (length xs - suffix_len (λ x. not (p x)) xs - 1) d) ≡ true
+  pub behind : All (λ x. p x ≡ false) (after_last p xs)
+  pub filled : 0 < length (before_last p xs)
+
+module _ {X : Type 0} (p : X → Bool) (xs : List X) where
+  -- no element behind the last one that passes does
+  fails_behind : (k : ℕ) (d : X) → k < length xs → length xs ≤ k + suffix_len (λ x. not (p x)) xs → p (get_or xs k d) ≡ false
+  fails_behind k d inside late =
+      let place : length xs - 1 - (length xs - 1 - k) ≡ k = omega arith in
+      let e = prefix_len_passes (λ x. not (p x)) (reverse xs) (length xs - 1 - k) d (omega arith) in
+      not-true _ (rw (get_or-reverse xs (length xs - 1 - k) d (omega arith), place) at e)
+
+  -- a list with an element that passes behind its first is parted at the last such element
+  parted : (k : ℕ) (d : X) → 0 < k → k < length xs → p (get_or xs k d) ≡ true → IsParted p xs d
+  parted k d later inside passes =
+      let n = suffix_len (λ x. not (p x)) xs in
+      let early : k + n < length xs = early_by (cases_lt (k + n) (length xs)) in
+      let at : length xs - n - 1 + 1 ≡ length xs - n = omega arith in
+      let place : length xs - 1 - n ≡ length xs - n - 1 = omega arith in
+      record {
+        whole = sym (take-append-drop (length xs - n) xs)
+            ∙ ap (λ ys. ys ++ after_last p xs) (rw at at (take_more xs (length xs - n - 1) d (omega arith)))
+            ∙ append_assoc (before_last p xs) (get_or xs (length xs - n - 1) d ∷ []) (after_last p xs);
+        passes = not-false _ (rw (get_or-reverse xs n d (omega arith), place) at (prefix_len_stops (λ x. not (p x)) (reverse xs) d (rw (length-reverse xs) (omega arith))));
+        behind = λ j e h. rw (get_or-drop (length xs - n) xs j e) (fails_behind (length xs - n + j) e (omega (arith, length-drop (length xs - n) xs)) (omega arith));
+        filled = rw (length-take (length xs - n - 1) xs) (omega arith);
+      }
+    where
+      early_by : (k + suffix_len (λ x. not (p x)) xs < length xs) ⊎ (length xs ≤ k + suffix_len (λ x. not (p x)) xs) → k + suffix_len (λ x. not (p x)) xs < length xs
+      early_by (inl h) = h
+      early_by (inr h) = absurd (both_ways _ (fails_behind k d inside h) passes)
+
+-- a name with an extension is parted at its last dot
+named : (name : List ℕ) → has_extension name ≡ true → IsParted is_a_dot name 0
+named name has =
+    let some = Any-from_list_any is_a_dot (drop 1 name) has in
+    parted is_a_dot name (1 + some.0) 0 (omega arith) (omega (arith, some.2, length-drop 1 name))
+    (ap is_a_dot (sym (get_or-drop 1 name some.0 0) ∙ get_or_default (drop 1 name) some.0 0 some.1 some.2 ∙ some.3) ∙ some.4)
+
+-- without an extension a name is its own stem
+pub stem_of-whole : (name : List ℕ) → extension_of name ≡ None → stem_of name ≡ name
+stem_of-whole name none = by (has_extension name) none
+  where
+    by : (b : Bool) → (if b then Some (after_last is_a_dot name) else None) ≡ None → (if b then before_last is_a_dot name else name) ≡ name
+    by true e = cc
+    by false e = refl
+
+-- with one it is its stem, a dot, and the extension, which holds no dot
+pub stem_of-extension : (name e : List ℕ) → extension_of name ≡ Some e → (name ≡ stem_of name ++ dot ∷ e) × (list_any is_a_dot e ≡ false)
+stem_of-extension name e some = by (has_extension name) refl some
+  where
+    by : (b : Bool) → has_extension name ≡ b → (if b then Some (after_last is_a_dot name) else None) ≡ Some e
+        → (name ≡ (if b then before_last is_a_dot name else name) ++ dot ∷ e) × (list_any is_a_dot e ≡ false)
+    by true has same =
+        let is = named name has in
+        let behind : after_last is_a_dot name ≡ e = cc in (
+          is.whole ∙ ap (λ b. before_last is_a_dot name ++ b ∷ after_last is_a_dot name) (eqb-true _ dot is.passes) ∙ ap (λ rest. before_last is_a_dot name ++ dot ∷ rest) behind,
+          ap (list_any is_a_dot) (sym behind) ∙ list_any_none is_a_dot (after_last is_a_dot name) is.behind,
+        )
+    by false has same = cc
+
+-- a name has a stem
+pub stem_of-filled : (name : List ℕ) → 0 < length name → 0 < length (stem_of name)
+stem_of-filled name filled = cond_both (has_extension name) (before_last is_a_dot name) name (λ stem. 0 < length stem) (λ has. (named name has).filled) (λ none. filled)
+
+-- The last dot of a name.
+
+module _ (name : List ℕ) where
+  -- no dot behind the first byte: no extension
+  no_extension : Nowhere (Passes is_a_dot name) 1 (length name) → has_extension name ≡ false
+  no_extension h = list_any_none is_a_dot (drop 1 name) (λ k d l.
+      let size = length-drop 1 name in
+      let within : 1 + k < length name = omega arith in
+      ap is_a_dot (get_or-drop 1 name k d ∙ get_or_default name (1 + k) d 0 within) ∙ false_from_ne_true _ (h (1 + k) (omega arith) within))
+
+  pub stem-whole : Nowhere (Passes is_a_dot name) 1 (length name) → stem_of name ≡ name
+  stem-whole h = ap (λ b. cond b (before_last is_a_dot name) name) (no_extension h)
+
+  pub extension-none : Nowhere (Passes is_a_dot name) 1 (length name) → extension_of name ≡ None
+  extension-none h = ap (λ b. cond b (Some (after_last is_a_dot name)) None) (no_extension h)
+
+  module _ (at : ℕ) (later : 0 < at) (last : NoneAfter (Passes is_a_dot name) 0 (length name) at) (is_dot : Passes is_a_dot name at) where
+    some_extension : has_extension name ≡ true
+    some_extension =
+        let size = length-drop 1 name in
+        let within = last.high in
+        list_any_at is_a_dot (drop 1 name) (at - 1) 0 (omega arith) (ap is_a_dot (get_or-drop 1 name (at - 1) 0 ∙ ap (λ i. get_or name i 0) (omega arith)) ∙ is_dot)
+
+    behind_last : suffix_len (λ b. not (is_a_dot b)) name ≡ length name - (at + 1)
+    behind_last =
+        let within = last.high in
+        suffix_len_is (λ b. not (is_a_dot b)) name (at + 1) 0 (omega arith) (λ k low high. ap not (false_from_ne_true _ (last.after k low high)))
+        (λ _. ap (λ i. not (is_a_dot (get_or name i 0))) (omega arith) ∙ ap not is_dot)
+
+    pub stem-before : stem_of name ≡ take at name
+    stem-before =
+        let within = last.high in
+        let cut = behind_last in
+        ap (λ b. cond b (before_last is_a_dot name) name) some_extension ∙ ap (λ n. take n name) (omega arith)
+
+    pub extension-behind : extension_of name ≡ Some (drop (at + 1) name)
+    extension-behind =
+        let within = last.high in
+        let cut = behind_last in
+        ap (λ b. cond b (Some (after_last is_a_dot name)) None) some_extension ∙ ap (λ n. Some (drop n name)) (omega arith)
+
+-- Bytes that are a text, and bytes that are none.
+
+pub text_of_bytes-some : (t : List ℕ) → IsUtf8 t → text_of_bytes t ≡ Some t
+text_of_bytes-some t is = rw (is_utf8-from_IsUtf8 t is) refl
+
+pub text_of_bytes-none : (t : List ℕ) → ¬ (IsUtf8 t) → text_of_bytes t ≡ None
+text_of_bytes-none t isnt = by (is_utf8 t) refl
+  where
+    by : (b : Bool) → is_utf8 t ≡ b → (if b then Some t else None) ≡ None
+    by true e = absurd (isnt (IsUtf8-from_is_utf8 t e))
+    by false e = refl
+
+-- a text found in bytes is all of them
+pub text_of_bytes-is : (t u : List ℕ) → text_of_bytes t ≡ Some u → IsUtf8 t × (t ≡ u)
+text_of_bytes-is t u = by (is_utf8 t) refl
+  where
+    by : (b : Bool) → is_utf8 t ≡ b → (if b then Some t else None) ≡ Some u → IsUtf8 t × (t ≡ u)
+    by true e h = (IsUtf8-from_is_utf8 t e, cc)
+    by false e h = cc
+
+-- what reading bytes as a text gives
+pub text_of_bytes-read : {E : Type 0} (P : E → Type 0) (r : Result (Bor (List ℕ)) E) (t : List ℕ) → MatchResult r (λ s. (s.now ≡ t) × IsUtf8 t) (λ e. ¬ (IsUtf8 t) × P e) → option_copied (result_ok r) ≡ text_of_bytes t
+text_of_bytes-read P (Ok s) t h = ap Some h.0 ∙ sym (text_of_bytes-some t h.1)
+text_of_bytes-read P (Err e) t h = sym (text_of_bytes-none t h.0)
+
+-- The names of a text in which each byte that no name may have is a separator.
+
+-- each name of a list has allowed bytes
+abbrev pub AllowsEach : Dialect → List Kind → Type 0
+AllowsEach d ks = AllByRecursion (λ k. kind_has_allowed_bytes d k ≡ true) ks
+
+-- no byte of a piece is one that no name may have
+abbrev IsAllowed : Dialect → List ℕ → Type 0
+IsAllowed d piece = list_any (is_disallowed d) piece ≡ false
+
+-- the component of a piece is allowed
+abbrev IsAllowedPart : Dialect → Part → Type 0
+IsAllowedPart d p = kind_has_allowed_bytes d p.kind ≡ true
+
+-- between two separators no such byte stands
+allowed-pieces : (s : Separators) (text : List ℕ) → SeparatesDisallowed s text → AllByRecursion (IsAllowed (dialect_of s)) (pieces s text)
+allowed-pieces s [] h = (refl, tt)
+allowed-pieces s (x ∷ xs) h =
+    by (is_separator s x) (is_disallowed (dialect_of s) x) refl refl (All-head (λ b. is_disallowed (dialect_of s) b ≡ true → is_separator s b ≡ true) x xs h) (slice_split (is_separator s) xs)
+    (allowed-pieces s xs (All-tail (λ b. is_disallowed (dialect_of s) b ≡ true → is_separator s b ≡ true) x xs h))
+  where
+    by : (separates disallowed : Bool) → is_separator s x ≡ separates → is_disallowed (dialect_of s) x ≡ disallowed → (is_disallowed (dialect_of s) x ≡ true → is_separator s x ≡ true)
+        → (ps : List (List ℕ)) → AllByRecursion (IsAllowed (dialect_of s)) ps → AllByRecursion (IsAllowed (dialect_of s)) (cond separates ([] ∷ ps) (onto_first x ps))
+    by true disallowed e f g ps all = (refl, all)
+    by false true e f g ps all = absurd (true≢false (sym (g f) ∙ e))
+    by false false e f g [] all = (ap (λ b. b || false) f, tt)
+    by false false e f g (p ∷ ps) all = (ap (λ b. b || list_any (is_disallowed (dialect_of s)) p) f ∙ all.0, all.1)
+
+-- the component of a piece, by what the piece is
+module _ (s : Separators) (d : Dialect) (piece : List ℕ) (allowed : IsAllowed d piece) where
+  allowed-first : (empty dotted twice : Bool) → IsAllowedPart d (if empty then root_part (root_text s) else (if dotted then current_part else (if twice then parent_part else name_part piece)))
+  allowed-first true dotted twice = refl
+  allowed-first false true twice = refl
+  allowed-first false false true = refl
+  allowed-first false false false = ap not allowed
+
+  allowed-later : (empty dotted verbatim twice : Bool)
+      → AllByRecursion (IsAllowedPart d) (if empty then [] else (if dotted then (if verbatim then current_part ∷ [] else []) else (if twice then parent_part else name_part piece) ∷ []))
+  allowed-later true dotted verbatim twice = tt
+  allowed-later false true true twice = (refl, tt)
+  allowed-later false true false twice = tt
+  allowed-later false false verbatim true = (refl, tt)
+  allowed-later false false verbatim false = (ap not allowed, tt)
+
+module _ (s : Separators) (d : Dialect) where
+  allowed-later_parts : (ps : List (List ℕ)) → AllByRecursion (IsAllowed d) ps → AllByRecursion (IsAllowedPart d) (later_parts s ps)
+  allowed-later_parts [] all = tt
+  allowed-later_parts (p ∷ ps) all =
+      AllByRecursion-append (IsAllowedPart d) (later_part s p) (later_parts s ps)
+      (allowed-later s d p all.0 (length p == 0) (is_dot p) (is_verbatim s) (is_dot_dot p)) (allowed-later_parts ps all.1)
+
+  allowed-first_parts : (ps : List (List ℕ)) → AllByRecursion (IsAllowed d) ps → AllByRecursion (IsAllowedPart d) (first_parts s ps)
+  allowed-first_parts [] all = tt
+  allowed-first_parts (p ∷ ps) all = (allowed-first s d p all.0 (length p == 0) (is_dot p) (is_dot_dot p), allowed-later_parts ps all.1)
+
+-- the kinds of such components
+allowed-kinds : (d : Dialect) (ps : List Part) → AllByRecursion (IsAllowedPart d) ps → AllowsEach d (kinds ps)
+allowed-kinds d [] all = tt
+allowed-kinds d (p ∷ ps) all = (all.0, allowed-kinds d ps all.1)
+
+-- the names of a text are allowed
+pub allowed-body_from : (begin : Begin) (s : Separators) (at : ℕ) (text : List ℕ) → SeparatesDisallowed s text
+    → AllowsEach (dialect_of s) (kinds (parts (body_from begin s at text)))
+allowed-body_from Body s at [] h = tt
+allowed-body_from Body s at (b ∷ bs) h =
+    subst (λ ps. AllowsEach (dialect_of s) (kinds ps)) (sym (parts-body s at (b ∷ bs)))
+    (allowed-kinds (dialect_of s) (body_parts s (b ∷ bs)) (allowed-first_parts s (dialect_of s) (pieces s (b ∷ bs)) (allowed-pieces s (b ∷ bs) h)))
+allowed-body_from Inside s at text h =
+    subst (λ ps. AllowsEach (dialect_of s) (kinds ps)) (sym (parts-later_body s at text))
+    (allowed-kinds (dialect_of s) (later_parts s (pieces s text)) (allowed-later_parts s (dialect_of s) (pieces s text) (allowed-pieces s text h)))
