@@ -1,7 +1,374 @@
 //! Paths in other encodings, and made absolute.
 
-mod absolute;
-mod between;
-mod named;
+ghost use Rattle.std.specs.Prelude.{◌≡◌, ◌≤◌, ◌+◌, ◌++◌, ℕ, [], ◌∷◌, map, option_map, take, drop, length, IsTrue, IsOk, IfOk, OnOk, OnErr, Result, Ok, Err, Some, None};
+ghost use Rattle.std.specs.Option.{option_to_list};
+ghost use Rattle.std.specs.Vec.{vec_capacity};
+ghost use Rattle.typed_path.specs.declared.errors.CheckedPathError.{CheckedPathError};
+ghost use Rattle.typed_path.specs.components.Comps.{parts_of};
+ghost use Rattle.typed_path.specs.conversions.Convert.{same_dialect, converted, converted_checked, FitsConverted, crossed, crossed_all, passes, crossing_fault, push_checked_each};
+ghost use Rattle.typed_path.specs.changes.Checked.{refusal, error_of};
+ghost use Rattle.typed_path.specs.changes.Fault.{fault};
+ghost use Rattle.typed_path.specs.changes.Run.{FitsEach};
+ghost use Rattle.typed_path.specs.changes.Spelled.{IsKnown};
+ghost use Rattle.typed_path.specs.views.FrontViews.{front_bytes};
+ghost use Rattle.typed_path.specs.views.PieceViews.{part_of};
 
-pub(crate) use between::{convert_checked, put_converted};
+use crate::common::{Encoding, Path, PathBuf, cut_back};
+use crate::errors::{AbsolutizeError, CheckedPathError, PathError};
+use crate::platform::{PlatformEncoding, PlatformPath, PlatformPathBuf};
+use crate::scan::{Front, Piece, PieceKind, is_dots};
+use crate::unix::{UnixEncoding, UnixPathBuf};
+use crate::windows::{WindowsEncoding, WindowsPathBuf};
+use std::alloc::{AllocError, Global};
+
+impl<'a, T: Encoding> Path<'a, T> {
+    ghost use Rattle.std.specs.Prelude.{◌≡◌, IfOk, [], Ok, Err, Some, None};
+    ghost use Rattle.typed_path.specs.declared.errors.CheckedPathError.{CheckedPathError};
+    ghost use Rattle.typed_path.specs.views.PathViews.{path_bytes};
+    ghost use Rattle.typed_path.specs.changes.Checked.{refusal};
+    ghost use Rattle.typed_path.specs.conversions.Convert.{converted, converted_checked, platform, same_dialect, absolute_from};
+    ghost use Rattle.typed_path.specs.components.Dialect.{unix, windows};
+    ghost use Rattle.typed_path.specs.declared.errors.AbsolutizeError.TheVariants.{Ambiguous};
+    ghost use Rattle.typed_path.specs.changes.Push as push_spec;
+
+    /// The path in another encoding: its components pushed one by one onto the empty path. The root,
+    /// and every prefix but a drive, becomes the root of that encoding; all else is pushed as it
+    /// stands. In an encoding of the same label it is a copy.
+    ///
+    /// From Windows to Unix `C:\x` is `/x`, and `C:tmp` is `C:/tmp`.
+    pub fn with_encoding<U: Encoding>(self, alloc: Global) -> Result<PathBuf<U>, AllocError>
+        ensures { IfOk result
+            (λ p. p.bytes ≡ converted T.dialect U.dialect (path_bytes self.entry)) }
+    {
+        let path = self.as_bytes();
+        let mut text = Vec::with_capacity(alloc, path.len() + 1)?;
+        put_converted::<T, U>(&mut text, Front::whole(path))?;
+        Ok(PathBuf::from_vec(text))
+    }
+
+    /// The same by checked pushes, also in an encoding of the same label.
+    ///
+    /// # Errors
+    ///
+    /// `Checked` by the first component that is no root, `.` or `..`, and that a checked push refuses:
+    /// from Unix to Windows `/tmp/ab:c` is refused as `InvalidFilename`. `OutOfMemory` where memory is
+    /// refused before such a component is met.
+    pub fn with_encoding_checked<U: Encoding>(self, alloc: Global) -> Result<PathBuf<U>, PathError>
+        ensures ok { IfOk result (λ p.
+            converted_checked T.dialect U.dialect (path_bytes self.entry) ≡ Ok p.bytes) }
+        ensures refused { (e : CheckedPathError) → refusal result ≡ Some e
+            → converted_checked T.dialect U.dialect (path_bytes self.entry) ≡ Err e }
+    {
+        let path = self.as_bytes();
+        let mut text = Vec::with_capacity(alloc, path.len() + 1)?;
+        convert_checked::<T, U>(&mut text, 0, Front::whole(path))?;
+        Ok(PathBuf::from_vec(text))
+    }
+
+    /// Whether the encoding has the label of Unix.
+    pub fn has_unix_encoding(self) -> bool
+        ensures { result ≡ same_dialect T.dialect unix }
+    {
+        have_one_label::<T, UnixEncoding>()
+    }
+
+    /// The path as on Unix, as [`Path::with_encoding`] writes it.
+    pub fn with_unix_encoding(self, alloc: Global) -> Result<UnixPathBuf, AllocError>
+        ensures { IfOk result (λ p. p.bytes ≡ converted T.dialect unix (path_bytes self.entry)) }
+    {
+        self.with_encoding::<UnixEncoding>(alloc)
+    }
+
+    /// The path as on Unix, refused as [`Path::with_encoding_checked`] does.
+    pub fn with_unix_encoding_checked(self, alloc: Global) -> Result<UnixPathBuf, PathError>
+        ensures ok { IfOk result
+            (λ p. converted_checked T.dialect unix (path_bytes self.entry) ≡ Ok p.bytes) }
+        ensures refused { (e : CheckedPathError) → refusal result ≡ Some e
+            → converted_checked T.dialect unix (path_bytes self.entry) ≡ Err e }
+    {
+        self.with_encoding_checked::<UnixEncoding>(alloc)
+    }
+
+    /// Whether the encoding has the label of Windows.
+    pub fn has_windows_encoding(self) -> bool
+        ensures { result ≡ same_dialect T.dialect windows }
+    {
+        have_one_label::<T, WindowsEncoding>()
+    }
+
+    /// The path as on Windows, as [`Path::with_encoding`] writes it.
+    pub fn with_windows_encoding(self, alloc: Global) -> Result<WindowsPathBuf, AllocError>
+        ensures { IfOk result (λ p. p.bytes ≡ converted T.dialect windows (path_bytes self.entry)) }
+    {
+        self.with_encoding::<WindowsEncoding>(alloc)
+    }
+
+    /// The path as on Windows, refused as [`Path::with_encoding_checked`] does.
+    pub fn with_windows_encoding_checked(self, alloc: Global) -> Result<WindowsPathBuf, PathError>
+        ensures ok { IfOk result
+            (λ p. converted_checked T.dialect windows (path_bytes self.entry) ≡ Ok p.bytes) }
+        ensures refused { (e : CheckedPathError) → refusal result ≡ Some e
+            → converted_checked T.dialect windows (path_bytes self.entry) ≡ Err e }
+    {
+        self.with_encoding_checked::<WindowsEncoding>(alloc)
+    }
+
+    /// Whether the encoding is that of the machine, which [`PlatformEncoding`] alone is.
+    pub fn has_platform_encoding(self) -> bool
+        ensures { result ≡ T.IS_PLATFORM }
+    {
+        T::IS_PLATFORM
+    }
+
+    /// The path as on the machine, as [`Path::with_encoding`] writes it.
+    pub fn with_platform_encoding(self, alloc: Global) -> Result<PlatformPathBuf, AllocError>
+        ensures { IfOk result (λ p. p.bytes ≡ converted T.dialect platform (path_bytes self.entry)) }
+    {
+        self.with_encoding::<PlatformEncoding>(alloc)
+    }
+
+    /// The path as on the machine, refused as [`Path::with_encoding_checked`] does.
+    pub fn with_platform_encoding_checked(self, alloc: Global) -> Result<PlatformPathBuf, PathError>
+        ensures ok { IfOk result
+            (λ p. converted_checked T.dialect platform (path_bytes self.entry) ≡ Ok p.bytes) }
+        ensures refused { (e : CheckedPathError) → refusal result ≡ Some e
+            → converted_checked T.dialect platform (path_bytes self.entry) ≡ Err e }
+    {
+        self.with_encoding_checked::<PlatformEncoding>(alloc)
+    }
+
+    /// The normal text of the path where it is absolute, and else of the directory in this path's
+    /// encoding with the path pushed onto it.
+    ///
+    /// Of the Unix path `a/../b` it is `/home/u/b`, from `/home/u`.
+    ///
+    /// # Errors
+    ///
+    /// `Ambiguous` where the path is absolute neither alone nor behind the directory, as `C:a` on
+    /// Windows behind any, or a path behind a directory that is relative. `OutOfMemory` where memory
+    /// is refused.
+    pub fn absolutize(
+        self,
+        alloc: Global,
+        directory: PlatformPath<'_>,
+    ) -> Result<PathBuf<T>, AbsolutizeError>
+        ensures ok { IfOk result (λ p.
+            absolute_from T.dialect (path_bytes directory.entry) (path_bytes self.entry)
+            ≡ Some p.bytes) }
+        ensures ambiguous { result ≡ Err Ambiguous
+            → absolute_from T.dialect (path_bytes directory.entry) (path_bytes self.entry) ≡ None }
+    {
+        if self.is_absolute() {
+            return Ok(self.normalize(alloc)?);
+        }
+        let joined = self.joined_behind(alloc, directory)?;
+        if !joined.as_path().is_absolute() {
+            return Err(AbsolutizeError::Ambiguous);
+        }
+        Ok(joined.as_path().normalize(alloc)?)
+    }
+
+    /// The path pushed onto a directory of the machine, in this path's encoding.
+    fn joined_behind(
+        self,
+        alloc: Global,
+        directory: PlatformPath<'_>,
+    ) -> Result<PathBuf<T>, AllocError>
+        ensures { IfOk result (λ p. p.bytes ≡ push_spec.push T.dialect
+            (converted platform T.dialect (path_bytes directory.entry)) (path_bytes self.entry)) }
+    {
+        let base = directory.as_bytes();
+        let path = self.as_bytes();
+        let mut joined = Vec::with_capacity(alloc, base.len() + path.len() + 1)?;
+        put_converted::<PlatformEncoding, T>(&mut joined, Front::whole(base))?;
+        T::push(&mut joined, path)?;
+        Ok(PathBuf::from_vec(joined))
+    }
+}
+
+/// Whether two encodings have one label.
+pub fn have_one_label<T: Encoding, U: Encoding>() -> bool
+    ensures { result ≡ same_dialect T.dialect U.dialect }
+{
+    T::label() == U::label()
+}
+
+/// Puts a path behind a text, written in another encoding. Where memory is refused, the text is as
+/// it was.
+pub fn put_converted<T: Encoding, U: Encoding>(
+    text: &mut Vec<u8>,
+    path: Front<'_>,
+) -> Result<(), AllocError>
+    ensures ok { OnOk result (text.new.items
+        ≡ text.old.items ++ converted T.dialect U.dialect (front_bytes path.entry)) }
+    ensures err { OnErr result (text.new.items ≡ text.old.items) }
+    ensures succeeds { (room : ℕ) → length text.old.items + room ≤ vec_capacity text.old
+        → FitsConverted T.dialect U.dialect room (front_bytes path.entry) → IsOk result }
+{
+    if have_one_label::<T, U>() {
+        return text.extend_from_slice(path.as_bytes());
+    }
+    let len = text.len();
+    let done = push_each::<T, U>(text, len, path);
+    cut_back(text, len, done)
+}
+
+/// Pushes the components of a path, as they are written in another encoding, onto the empty path at
+/// the end of a text.
+fn push_each<T: Encoding, U: Encoding>(
+    text: &mut Vec<u8>,
+    start: usize,
+    path: Front<'_>,
+) -> Result<(), AllocError>
+    requires { length text.old.items ≡ start }
+    ensures ok { OnOk result (drop start text.new.items
+        ≡ crossed_all U.dialect (parts_of T.dialect (front_bytes path.entry))) }
+    ensures kept { take start text.new.items ≡ take start text.old.items }
+    ensures long { start ≤ length text.new.items }
+    ensures succeeds { (room : ℕ) → start + room ≤ vec_capacity text.old
+        → FitsEach U.dialect room []
+        (map (crossed U.dialect) (parts_of T.dialect (front_bytes path.entry)))
+        → IsOk result }
+{
+    let cursor = T::cursor(path.as_bytes());
+    let mut known = put_prefix::<U>(text, cursor.prefix_piece())?;
+    let mut body = cursor.body().within(path);
+    'steps: while let Some(step) = body.front() {
+        known = U::push_next(text, start, step.piece().crossed(U::root_text()), known)?;
+    }
+    Ok(())
+}
+
+/// Puts the prefix of a path, where it has one, behind a text, as it is written in another encoding,
+/// and answers what is known of what stands there then. Where memory is refused, the text is as it
+/// was.
+#[inline(always)]
+fn put_prefix<U: Encoding>(
+    text: &mut Vec<u8>,
+    prefix: Option<Piece<'_>>,
+) -> Result<Option<usize>, AllocError>
+    ensures ok { OnOk result (text.new.items ≡ text.old.items
+        ++ crossed_all U.dialect (option_to_list (option_map part_of prefix.entry))) }
+    ensures err { OnErr result (text.new.items ≡ text.old.items) }
+    ensures known { IfOk result (λ next. IsKnown U.dialect next
+        (crossed_all U.dialect (option_to_list (option_map part_of prefix.entry)))) }
+    ensures capacity { vec_capacity text.old ≤ vec_capacity text.new }
+    ensures succeeds { (room : ℕ) → length text.old.items + room ≤ vec_capacity text.old
+        → FitsEach U.dialect room []
+        (map (crossed U.dialect) (option_to_list (option_map part_of prefix.entry)))
+        → IsOk result }
+{
+    match prefix {
+        Some(piece) => U::push_next(text, text.len(), piece.crossed(U::root_text()), None),
+        None => Ok(None),
+    }
+}
+
+/// Pushes the components of a path onto the empty path at the end of a text, as they are written in
+/// another encoding, by checked pushes, and ends at the first that is refused.
+pub fn convert_checked<T: Encoding, U: Encoding>(
+    text: &mut Vec<u8>,
+    start: usize,
+    path: Front<'_>,
+) -> Result<(), PathError>
+    requires { length text.old.items ≡ start }
+    ensures ok { OnOk result
+        (converted_checked T.dialect U.dialect (front_bytes path.entry)
+        ≡ Ok (drop start text.new.items)) }
+    ensures refused { (e : CheckedPathError) → refusal result ≡ Some e
+        → converted_checked T.dialect U.dialect (front_bytes path.entry) ≡ Err e }
+    ensures kept { take start text.new.items ≡ take start text.old.items }
+    ensures long { start ≤ length text.new.items }
+{
+    let cursor = T::cursor(path.as_bytes());
+    let mut known = push_prefix_checked::<U>(text, start, cursor.prefix_piece())?;
+    let mut body = cursor.body().within(path);
+    'steps: while let Some(step) = body.front() {
+        known = push_piece_checked::<U>(text, start, step.piece(), known)?;
+    }
+    Ok(())
+}
+
+/// Pushes the prefix of a path, where it has one, onto the path at the end of a text, which is one of
+/// another encoding, by a checked push, and answers what is known of what stands there then.
+#[inline(always)]
+fn push_prefix_checked<U: Encoding>(
+    text: &mut Vec<u8>,
+    start: usize,
+    prefix: Option<Piece<'_>>,
+) -> Result<Option<usize>, PathError>
+    requires { start ≤ length text.old.items }
+    ensures ok { OnOk result (push_checked_each U.dialect (Ok (drop start text.old.items))
+        (option_to_list (option_map part_of prefix.entry)) ≡ Ok (drop start text.new.items)) }
+    ensures refused { (e : CheckedPathError) → refusal result ≡ Some e
+        → push_checked_each U.dialect (Ok (drop start text.old.items))
+        (option_to_list (option_map part_of prefix.entry)) ≡ Err e }
+    ensures known { IfOk result (λ next. IsKnown U.dialect next (drop start text.new.items)) }
+    ensures kept { take start text.new.items ≡ take start text.old.items }
+    ensures long { start ≤ length text.new.items }
+{
+    match prefix {
+        Some(piece) => push_piece_checked::<U>(text, start, piece, None),
+        None => Ok(None),
+    }
+}
+
+/// Pushes a component onto the path at the end of a text, which is one of another encoding, and of
+/// which something may be known, by a checked push, and answers what is known of what stands there
+/// then.
+#[inline(always)]
+fn push_piece_checked<U: Encoding>(
+    text: &mut Vec<u8>,
+    start: usize,
+    piece: Piece<'_>,
+    known: Option<usize>,
+) -> Result<Option<usize>, PathError>
+    requires { start ≤ length text.old.items }
+    ensures ok { IsKnown U.dialect known (drop start text.old.items) → OnOk result
+        (push_checked_each U.dialect (Ok (drop start text.old.items)) (part_of piece.entry ∷ [])
+        ≡ Ok (drop start text.new.items)) }
+    ensures refused { (e : CheckedPathError) → refusal result ≡ Some e
+        → push_checked_each U.dialect (Ok (drop start text.old.items))
+        (part_of piece.entry ∷ []) ≡ Err e }
+    ensures known { IsKnown U.dialect known (drop start text.old.items)
+        → IfOk result (λ next. IsKnown U.dialect next (drop start text.new.items)) }
+    ensures kept { IsKnown U.dialect known (drop start text.old.items)
+        → take start text.new.items ≡ take start text.old.items }
+    ensures long { IsKnown U.dialect known (drop start text.old.items)
+        → start ≤ length text.new.items }
+{
+    judge::<U>(piece)?;
+    Ok(U::push_next(text, start, piece.crossed(U::root_text()), known)?)
+}
+
+/// Judges a component that is to be pushed onto a path of another encoding. A root, `.` or `..` is
+/// never refused, and most others are names that the encoding allows, which need no reading.
+#[inline(always)]
+fn judge<U: Encoding>(piece: Piece<'_>) -> Result<(), CheckedPathError>
+    ensures { error_of result ≡ crossing_fault U.dialect (part_of piece.entry) }
+{
+    if passes(piece) || is_name::<U>(piece.text) {
+        Ok(())
+    } else {
+        U::check(piece.text)
+    }
+}
+
+/// Whether a text is a name that an encoding allows, and neither empty, `.` nor `..`.
+#[inline(always)]
+fn is_name<U: Encoding>(text: &[u8]) -> bool
+    ensures { IsTrue result → fault U.dialect text.now ≡ None }
+{
+    !is_dots(text) && U::valid(text)
+}
+
+/// Whether a component is never refused: a root, and every prefix that becomes one, `.` or `..`.
+#[inline(always)]
+fn passes(piece: Piece<'_>) -> bool
+    ensures { result ≡ passes (part_of piece.entry).kind }
+{
+    match piece.kind {
+        PieceKind::CurDir | PieceKind::ParentDir => true,
+        _ => piece.is_root(),
+    }
+}

@@ -1,29 +1,35 @@
 //! The laws of paths, each as a function that does nothing and ensures the law.
 
-ghost use Rattle.std.specs.Prelude.{◌≡◌, ◌↔◌, ℕ, ◌+◌, ◌<◌, ◌≤◌, List, [], ◌∷◌, ◌++◌, true, false, length, Some, None};
+ghost use Rattle.std.specs.Prelude.{◌≡◌, ◌↔◌, ℕ, ◌+◌, ◌<◌, ◌≤◌, List, [], ◌∷◌, ◌++◌, true, false, length, Some, None, IfSome, pos};
 ghost use Rattle.std.specs.List.{list_any};
 ghost use Rattle.std.specs.Cmp.{IsTotalOrder};
 ghost use Rattle.std.specs.declared.cmp.Ordering.{Ordering};
+ghost use Rattle.std.specs.Ordering.{ordering_then, nat_cmp};
+ghost use Rattle.std.specs.Hash.{isize};
 ghost use Rattle.typed_path.specs.components.Dialect.{Dialect, dot, slash};
-ghost use Rattle.typed_path.specs.components.Part.{Kind, Placed, kinds};
+ghost use Rattle.typed_path.specs.components.Part.{Kind, Placed, kinds, prefix};
 ghost use Rattle.typed_path.specs.components.Prefix.{Found, prefix_of};
 ghost use Rattle.typed_path.specs.components.Comps.{comps, parts_of};
 ghost use Rattle.typed_path.specs.scan.Left.{Side, reads, left, items_between, but_last};
 ghost use Rattle.typed_path.specs.scan.Reading.{answers_after, items_after, slice_after, fronts, backs, IsWhole, IsLaidOut};
 ghost use Rattle.typed_path.specs.queries.Ancestry.{is_child_of, IsOneBelow};
-ghost use Rattle.typed_path.specs.queries.Queries.{parent_of};
+ghost use Rattle.typed_path.specs.queries.Queries.{parent_of, prefix_in};
 ghost use Rattle.typed_path.specs.promises.Joins.{JoinAppends, StripJoins};
 ghost use Rattle.typed_path.specs.queries.Names.{is_a_dot, stem_of, extension_of};
-ghost use Rattle.typed_path.specs.order.Same.{IsSame, is_same, path_cmp, kind_cmp};
+ghost use Rattle.typed_path.specs.order.Same.{IsSame, is_same, path_cmp, kind_cmp, bytes_cmp};
 ghost use Rattle.typed_path.specs.views.UnixViews.{unix_part};
 ghost use Rattle.typed_path.specs.views.ConcreteViews.{concrete_slice};
 ghost use Rattle.typed_path.specs.order.Words.{path_words, unix_words};
 ghost use Rattle.typed_path.specs.views.PathViews.{path_bytes, iter_slice};
 ghost use Rattle.typed_path.specs.promises.Promises.{ReadsAsResolved, StaysNormal, IsCanonical, HashAlike};
+ghost use Rattle.typed_path.specs.promises.Crossings.{CrossesWhereAllowed, CrossesAsItIs, CrossesBack, CrossesToUnix};
+ghost use Rattle.typed_path.specs.order.TextWords.{text_unix_words, text_prefix_words, text_kind_words, text_windows_words, text_piece_words};
+ghost use Rattle.typed_path.specs.views.TextViews.{utf8_bytes};
+ghost use Rattle.typed_path.specs.views.ReadingViews.{reading_slice};
+ghost use Rattle.typed_path.specs.views.TextPieceViews.{text_prefix, text_kind, text_part};
+ghost use Rattle.typed_path.specs.views.TextComponentViews.{text_unix_part, text_prefix_part, text_windows_part};
+ghost use Rattle.typed_path.specs.typed.Orders.{typed_eq, typed_cmp, typed_words, reading_eq, reading_partial_cmp, kind_place};
 
-mod conversions;
-mod texts;
-mod typed;
 mod windows;
 
 use crate::common::{Ancestors, Components, ConcreteComponents, Encoding, Iter, Path};
@@ -31,19 +37,18 @@ use crate::constants::unix::{
     CURRENT_DIR, CURRENT_DIR_STR, DISALLOWED_FILENAME_BYTES, DISALLOWED_FILENAME_CHARS, PARENT_DIR,
     PARENT_DIR_STR, SEPARATOR, SEPARATOR_STR,
 };
-use crate::unix::UnixComponent;
-pub use conversions::{platform_is_unix, unix_paths_cross_to_windows, windows_paths_cross_to_unix};
+use crate::platform::PlatformEncoding;
+use crate::typed::{
+    PathType, Typed, TypedAncestors, TypedComponents, TypedIter, TypedReading, Utf8TypedAncestors,
+    Utf8TypedComponents, Utf8TypedIter,
+};
+use crate::unix::{UnixComponent, UnixEncoding};
+use crate::utf8::{
+    Utf8Ancestors, Utf8Encoding, Utf8Path, Utf8Piece, Utf8PieceKind, Utf8Reading,
+    Utf8UnixComponent, Utf8WindowsComponent, Utf8WindowsPrefix, Utf8WindowsPrefixComponent,
+};
+use crate::windows::WindowsEncoding;
 use std::hash::Hash;
-pub use texts::{
-    text_iterators_are_cloned, text_paths_compare_by_components, text_piece_kinds_compare_by_kind,
-    text_pieces_compare_by_kind_and_text, text_prefix_components_compare_by_kind,
-    text_prefixes_compare_by_kind, text_readings_compare_by_what_is_left,
-    text_unix_components_compare_by_kind, text_windows_components_compare_by_kind,
-};
-pub use typed::{
-    path_types_compare_by_place, typed_iterators_are_cloned, typed_readings_compare_by_kind,
-    typed_values_compare_by_kind,
-};
 pub use windows::{
     normal_stays_stable, windows_components_compare_by_kind, windows_constants_are_these,
     windows_prefix_components_compare_by_kind, windows_prefixes_compare_by_kind,
@@ -261,4 +266,192 @@ pub fn unix_constants_are_these()
     ensures current_text { CURRENT_DIR_STR.now ≡ dot ∷ [] }
     ensures disallowed_bytes { DISALLOWED_FILENAME_BYTES ≡ slash ∷ 0 ∷ [] }
     ensures disallowed_characters { DISALLOWED_FILENAME_CHARS ≡ slash ∷ 0 ∷ [] }
+{}
+
+/// The encoding of the machine reads and writes as that of Unix does, and it alone is the machine's.
+pub fn platform_is_unix()
+    ensures dialect { ⟦<PlatformEncoding as Encoding>⟧.dialect
+        ≡ ⟦<UnixEncoding as Encoding>⟧.dialect }
+    ensures platform { ⟦<PlatformEncoding as Encoding>⟧.IS_PLATFORM ≡ true }
+    ensures unix { ⟦<UnixEncoding as Encoding>⟧.IS_PLATFORM ≡ false }
+    ensures windows { ⟦<WindowsEncoding as Encoding>⟧.IS_PLATFORM ≡ false }
+{}
+
+/// The checked conversion to Windows accepts a Unix path in whose names no `\` stands exactly where
+/// Windows allows each name: none has a byte that Windows allows in no name, and none stands for a
+/// device. Then the answer is read as the same components, and its conversion to Unix equals the
+/// path.
+#[tactic(auto, using(crate::proofs::lemmas::conversions::CrossedLemmas::crosses_where_allowed, crate::proofs::lemmas::conversions::CrossedPaths::crosses_as_it_is, crate::proofs::lemmas::conversions::CrossedPaths::crosses_back))]
+pub fn unix_paths_cross_to_windows(path: &[u8])
+    ensures accepted { CrossesWhereAllowed path.now }
+    ensures kept { CrossesAsItIs path.now }
+    ensures back { CrossesBack path.now }
+{}
+
+/// A Windows path none of whose names has a byte that no name may have becomes on Unix: a root, where
+/// it has one or a prefix that is no drive, or else its drive as a name, or a current that stands
+/// first; and then its parents and names, in order.
+#[tactic(auto, using(crate::proofs::lemmas::conversions::CrossedPaths::crosses_to_unix))]
+pub fn windows_paths_cross_to_unix(path: &[u8])
+    ensures { CrossesToUnix path.now }
+{}
+
+/// Paths of text are equal, compare and hash by their components, as the paths of their bytes do.
+pub fn text_paths_compare_by_components<'a, T: Utf8Encoding>(
+    one: Utf8Path<'a, T>,
+    other: Utf8Path<'a, T>,
+)
+    ensures equality { (⟦<Utf8Path<'a, T> as PartialEq>⟧.eq one.entry other.entry ≡ true)
+        ↔ IsSame T.Bytes.dialect (utf8_bytes one.entry) (utf8_bytes other.entry) }
+    ensures order { ⟦<Utf8Path<'a, T> as Ord>⟧.cmp one.entry other.entry
+        ≡ path_cmp T.Bytes.dialect (utf8_bytes one.entry) (utf8_bytes other.entry) }
+    ensures hash { ⟦<Utf8Path<'a, T> as Hash>⟧.hash_input one.entry
+        ≡ path_words T.Bytes.dialect (utf8_bytes one.entry) }
+{}
+
+/// What a reading of a text has left is equal and in order as the path of its slice left, read anew.
+pub fn text_readings_compare_by_what_is_left<'a, T: Utf8Encoding, I>(
+    one: Utf8Reading<'a, T, I>,
+    other: Utf8Reading<'a, T, I>,
+)
+    ensures equality { ⟦<Utf8Reading<'a, T, I> as PartialEq>⟧.eq one.entry other.entry
+        ≡ is_same T.Bytes.dialect (reading_slice one.entry) (reading_slice other.entry) }
+    ensures partial_order { ⟦<Utf8Reading<'a, T, I> as PartialOrd>⟧.partial_cmp one.entry other.entry
+        ≡ Some (path_cmp T.Bytes.dialect (reading_slice one.entry) (reading_slice other.entry)) }
+    ensures order { ⟦<Utf8Reading<'a, T, I> as Ord>⟧.cmp one.entry other.entry
+        ≡ path_cmp T.Bytes.dialect (reading_slice one.entry) (reading_slice other.entry) }
+{}
+
+/// The clone of an iterator over a text is never refused, and is that iterator.
+pub fn text_iterators_are_cloned<'a, T: Utf8Encoding, I>(
+    reading: Utf8Reading<'a, T, I>,
+    ancestors: Utf8Ancestors<'a, T>,
+)
+    ensures reading { ⟦<Utf8Reading<'a, T, I> as Clone>⟧.is_infallible reading.entry }
+    ensures ancestors { ⟦<Utf8Ancestors<'a, T> as Clone>⟧.is_infallible ancestors.entry }
+    ensures same_reading { (copy : _) → ⟦<Utf8Reading<'a, T, I> as Clone>⟧.is_clone reading.entry copy
+        → copy ≡ reading.entry }
+    ensures same_ancestors { (copy : _) → ⟦<Utf8Ancestors<'a, T> as Clone>⟧.is_clone ancestors.entry copy
+        → copy ≡ ancestors.entry }
+{}
+
+/// Single components of Unix texts are equal, compare and hash as their kinds say.
+pub fn text_unix_components_compare_by_kind<'a>(
+    one: Utf8UnixComponent<'a>,
+    other: Utf8UnixComponent<'a>,
+)
+    ensures equality { (⟦<Utf8UnixComponent<'a> as PartialEq>⟧.eq one.entry other.entry ≡ true)
+        ↔ ((text_unix_part one.entry).kind ≡ (text_unix_part other.entry).kind) }
+    ensures order { ⟦<Utf8UnixComponent<'a> as Ord>⟧.cmp one.entry other.entry
+        ≡ kind_cmp (text_unix_part one.entry).kind (text_unix_part other.entry).kind }
+    ensures hash { ⟦<Utf8UnixComponent<'a> as Hash>⟧.hash_input one.entry
+        ≡ text_unix_words (text_unix_part one.entry).kind }
+{}
+
+/// Prefixes of Windows texts are equal, compare and hash as their kinds and names say.
+pub fn text_prefixes_compare_by_kind<'a>(one: Utf8WindowsPrefix<'a>, other: Utf8WindowsPrefix<'a>)
+    ensures equality { (⟦<Utf8WindowsPrefix<'a> as PartialEq>⟧.eq one.entry other.entry ≡ true)
+        ↔ (text_prefix one.entry ≡ text_prefix other.entry) }
+    ensures order { ⟦<Utf8WindowsPrefix<'a> as Ord>⟧.cmp one.entry other.entry
+        ≡ kind_cmp (prefix (text_prefix one.entry)) (prefix (text_prefix other.entry)) }
+    ensures hash { ⟦<Utf8WindowsPrefix<'a> as Hash>⟧.hash_input one.entry
+        ≡ text_prefix_words (text_prefix one.entry) }
+{}
+
+/// Prefixes of texts, with how they are written, are equal, compare and hash as their kinds say,
+/// however they are written.
+pub fn text_prefix_components_compare_by_kind<'a>(
+    one: Utf8WindowsPrefixComponent<'a>,
+    other: Utf8WindowsPrefixComponent<'a>,
+)
+    ensures equality { (⟦<Utf8WindowsPrefixComponent<'a> as PartialEq>⟧.eq one.entry other.entry ≡ true)
+        ↔ ((text_prefix_part one.entry).kind ≡ (text_prefix_part other.entry).kind) }
+    ensures order { ⟦<Utf8WindowsPrefixComponent<'a> as Ord>⟧.cmp one.entry other.entry
+        ≡ kind_cmp (text_prefix_part one.entry).kind (text_prefix_part other.entry).kind }
+    ensures hash { IfSome (prefix_in (text_prefix_part one.entry).kind) (λ p.
+        ⟦<Utf8WindowsPrefixComponent<'a> as Hash>⟧.hash_input one.entry ≡ text_prefix_words p) }
+{}
+
+/// Single components of Windows texts are equal, compare and hash as their kinds say.
+pub fn text_windows_components_compare_by_kind<'a>(
+    one: Utf8WindowsComponent<'a>,
+    other: Utf8WindowsComponent<'a>,
+)
+    ensures equality { (⟦<Utf8WindowsComponent<'a> as PartialEq>⟧.eq one.entry other.entry ≡ true)
+        ↔ ((text_windows_part one.entry).kind ≡ (text_windows_part other.entry).kind) }
+    ensures order { ⟦<Utf8WindowsComponent<'a> as Ord>⟧.cmp one.entry other.entry
+        ≡ kind_cmp (text_windows_part one.entry).kind (text_windows_part other.entry).kind }
+    ensures hash { ⟦<Utf8WindowsComponent<'a> as Hash>⟧.hash_input one.entry
+        ≡ text_windows_words (text_windows_part one.entry).kind }
+{}
+
+/// What a component of a text is, beside its text, is equal, compares and hashes as the kind of a
+/// component with an empty text.
+pub fn text_piece_kinds_compare_by_kind<'a>(one: Utf8PieceKind<'a>, other: Utf8PieceKind<'a>)
+    ensures equality { (⟦<Utf8PieceKind<'a> as PartialEq>⟧.eq one.entry other.entry ≡ true)
+        ↔ (text_kind one.entry [] ≡ text_kind other.entry []) }
+    ensures order { ⟦<Utf8PieceKind<'a> as Ord>⟧.cmp one.entry other.entry
+        ≡ kind_cmp (text_kind one.entry []) (text_kind other.entry []) }
+    ensures hash { ⟦<Utf8PieceKind<'a> as Hash>⟧.hash_input one.entry
+        ≡ text_kind_words (text_kind one.entry []) }
+{}
+
+/// Components of texts, as the readings of both dialects give them, are equal, compare and hash as
+/// their kinds say, and then their texts.
+pub fn text_pieces_compare_by_kind_and_text<'a>(one: Utf8Piece<'a>, other: Utf8Piece<'a>)
+    ensures equality { (⟦<Utf8Piece<'a> as PartialEq>⟧.eq one.entry other.entry ≡ true)
+        ↔ (text_part one.entry ≡ text_part other.entry) }
+    ensures order { ⟦<Utf8Piece<'a> as Ord>⟧.cmp one.entry other.entry
+        ≡ ordering_then (kind_cmp (text_part one.entry).kind (text_part other.entry).kind)
+        (bytes_cmp (text_part one.entry).text (text_part other.entry).text) }
+    ensures hash { ⟦<Utf8Piece<'a> as Hash>⟧.hash_input one.entry
+        ≡ text_piece_words (text_part one.entry) }
+{}
+
+/// Values of two kinds are never equal, and one of Unix is less. Those of one kind are equal, in order
+/// and hashed as what they hold, behind the kind.
+pub fn typed_values_compare_by_kind<U: Ord + Hash, W: Ord + Hash>(
+    one: &Typed<U, W>,
+    other: &Typed<U, W>,
+)
+    ensures equality { ⟦<Typed<U, W> as PartialEq>⟧.eq one.now other.now
+        ≡ typed_eq U.eq W.eq one.now other.now }
+    ensures order { ⟦<Typed<U, W> as Ord>⟧.cmp one.now other.now
+        ≡ typed_cmp U.cmp W.cmp one.now other.now }
+    ensures hash { ⟦<Typed<U, W> as Hash>⟧.hash_input one.now
+        ≡ typed_words U.hash_input W.hash_input one.now }
+{}
+
+/// Readings of two kinds are never equal, and in no order. Those of one kind compare as what they hold.
+pub fn typed_readings_compare_by_kind<U: PartialOrd, W: PartialOrd>(
+    one: &TypedReading<U, W>,
+    other: &TypedReading<U, W>,
+)
+    ensures equality { ⟦<TypedReading<U, W> as PartialEq>⟧.eq one.now other.now
+        ≡ reading_eq U.eq W.eq one.now other.now }
+    ensures partial_order { ⟦<TypedReading<U, W> as PartialOrd>⟧.partial_cmp one.now other.now
+        ≡ reading_partial_cmp U.partial_cmp W.partial_cmp one.now other.now }
+{}
+
+/// Kinds of paths compare by their place, Unix first, and feed a hasher that place.
+pub fn path_types_compare_by_place(one: PathType, other: PathType)
+    ensures order { ⟦<PathType as Ord>⟧.cmp one other ≡ nat_cmp (kind_place one) (kind_place other) }
+    ensures hash { ⟦<PathType as Hash>⟧.hash_input one ≡ isize (pos (kind_place one)) }
+{}
+
+/// The clone of an iterator whose dialect is chosen when the program runs is never refused.
+pub fn typed_iterators_are_cloned<'a>(
+    components: TypedComponents<'a>,
+    texts: TypedIter<'a>,
+    ancestors: TypedAncestors<'a>,
+    text_components: Utf8TypedComponents<'a>,
+    text_texts: Utf8TypedIter<'a>,
+    text_ancestors: Utf8TypedAncestors<'a>,
+)
+    ensures components { ⟦<TypedComponents<'a> as Clone>⟧.is_infallible components.entry }
+    ensures texts { ⟦<TypedIter<'a> as Clone>⟧.is_infallible texts.entry }
+    ensures ancestors { ⟦<TypedAncestors<'a> as Clone>⟧.is_infallible ancestors.entry }
+    ensures text_components { ⟦<Utf8TypedComponents<'a> as Clone>⟧.is_infallible text_components.entry }
+    ensures text_texts { ⟦<Utf8TypedIter<'a> as Clone>⟧.is_infallible text_texts.entry }
+    ensures text_ancestors { ⟦<Utf8TypedAncestors<'a> as Clone>⟧.is_infallible text_ancestors.entry }
 {}

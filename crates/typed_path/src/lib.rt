@@ -38,7 +38,6 @@ pub mod constants;
 mod conversions;
 mod errors;
 pub mod laws;
-mod native;
 mod platform;
 mod scan;
 mod script;
@@ -55,8 +54,10 @@ pub use errors::{
     AbsolutizeError, CheckedPathError, LineError, ParseError, PathError, StripPrefixError,
     ValueError,
 };
-pub use native::{NativeComponent, NativeEncoding, NativePath, NativePathBuf};
-pub use platform::{PlatformEncoding, PlatformPath, PlatformPathBuf};
+pub use platform::{
+    NativeComponent, NativeEncoding, NativePath, NativePathBuf, PlatformEncoding, PlatformPath,
+    PlatformPathBuf,
+};
 pub use scan::{Cursor, Piece, PieceKind};
 pub use script::{
     End, Failed, PathOp, Reply, Sink, Source, StdSink, StdSource, answer_lines, exit_status,

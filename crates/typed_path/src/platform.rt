@@ -6,7 +6,7 @@ ghost use Rattle.typed_path.specs.conversions.Convert.{platform};
 use crate::common::{Encoding, Path, PathBuf};
 use crate::errors::CheckedPathError;
 use crate::scan::{Cursor, Piece};
-use crate::unix::UnixEncoding;
+use crate::unix::{UnixComponent, UnixEncoding, UnixPath, UnixPathBuf};
 use std::alloc::AllocError;
 use std::fmt;
 
@@ -103,3 +103,15 @@ impl Encoding for PlatformEncoding {
         UnixEncoding::check(path)
     }
 }
+
+/// The encoding of the machine's own paths.
+pub type NativeEncoding = UnixEncoding;
+
+/// A path of the machine's own kind.
+pub type NativePath<'a> = UnixPath<'a>;
+
+/// An owned path of the machine's own kind.
+pub type NativePathBuf = UnixPathBuf;
+
+/// A component of such a path.
+pub type NativeComponent<'a> = UnixComponent<'a>;

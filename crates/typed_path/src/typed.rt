@@ -2,25 +2,17 @@
 //!
 //! Each value is one of Unix or one of Windows, and each call is that of the value which it holds.
 
-mod answers;
-mod component;
-mod joins;
-mod kind;
-mod owned;
 mod path;
 mod path_buf;
 mod reading;
 mod text;
 mod variant;
 
-pub use component::TypedComponent;
-pub use kind::PathType;
-pub use owned::TryAsRef;
 pub use path::{TypedAncestors, TypedDisplay, TypedIter, TypedPath};
-pub use path_buf::TypedPathBuf;
-pub use reading::{TypedComponents, TypedReading};
+pub use path_buf::{TryAsRef, TypedPathBuf};
+pub use reading::{TypedComponent, TypedComponents, TypedReading};
 pub use text::{
     Utf8TypedAncestors, Utf8TypedComponent, Utf8TypedComponents, Utf8TypedIter, Utf8TypedPath,
     Utf8TypedPathBuf,
 };
-pub use variant::Typed;
+pub use variant::{PathType, Typed};

@@ -1,7 +1,7 @@
 -- The requests of a reading from both ends, and its answers.
 use Rattle.std.specs.Prelude.{List, map, Option, option_map}
-use Rattle.typed_path.specs.declared.script.ends.End.{End}
-use Rattle.typed_path.specs.declared.script.ends.End.TheVariants.{Front, Back}
+use Rattle.typed_path.specs.declared.script.run.End.{End}
+use Rattle.typed_path.specs.declared.script.run.End.TheVariants.{Front, Back}
 use Rattle.typed_path.specs.components.Part.{Part, Placed}
 use Rattle.typed_path.specs.scan.Left.{Side, front, back}
 

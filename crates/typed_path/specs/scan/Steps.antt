@@ -3,8 +3,8 @@ use Rattle.std.specs.Prelude.{◌≡◌, ℕ, drop, List, [], ◌∷◌, Bool, t
 use Rattle.std.specs.Option.{unwrap_or}
 use Rattle.std.specs.List.{before_first, after_last}
 use Rattle.typed_path.specs.declared.scan.separators.Separators.{Separators}
-use Rattle.typed_path.specs.declared.scan.body.Begin.{Begin}
-use Rattle.typed_path.specs.declared.scan.body.Begin.TheVariants.{Body, Inside}
+use Rattle.typed_path.specs.declared.scan.cursor.Begin.{Begin}
+use Rattle.typed_path.specs.declared.scan.cursor.Begin.TheVariants.{Body, Inside}
 use Rattle.typed_path.specs.components.Dialect.{is_separator, is_verbatim}
 use Rattle.typed_path.specs.components.Part.{Part, Placed, end_of}
 use Rattle.typed_path.specs.components.Comps.{body, later_body, is_dot}

@@ -4,8 +4,8 @@ use Rattle.typed_path.specs.components.Dialect.{Dialect}
 use Rattle.typed_path.specs.script.Lines.{tab, line_feed, reply_in, pair_reply_in, bad_line}
 use Rattle.typed_path.specs.declared.script.lines.Command.{Command}
 use Rattle.typed_path.specs.declared.script.lines.Command.TheVariants.{Normalize, Components, Join, JoinChecked, Convert, ConvertChecked}
-use Rattle.typed_path.specs.declared.script.reading.FieldEnd.{FieldEnd}
-use Rattle.typed_path.specs.declared.script.reading.FieldEnd.TheVariants.{Tab, LineFeed}
+use Rattle.typed_path.specs.declared.script.lines.FieldEnd.{FieldEnd}
+use Rattle.typed_path.specs.declared.script.lines.FieldEnd.TheVariants.{Tab, LineFeed}
 
 abbrev pub command_name : Command → List ℕ
 command_name Normalize = codes "normalize"

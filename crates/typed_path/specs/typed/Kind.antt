@@ -1,7 +1,7 @@
 -- Which dialect a text looks like, and which one a value is of.
 use Rattle.std.specs.Prelude.{◌≡◌, ℕ, List, [], ◌∷◌, Bool, false, ◌||◌, ◌==◌, is_some, if◌then◌else◌, Option, Some, None}
-use Rattle.typed_path.specs.declared.typed.kind.PathType.{PathType}
-use Rattle.typed_path.specs.declared.typed.kind.PathType.TheVariants as kind
+use Rattle.typed_path.specs.declared.typed.variant.PathType.{PathType}
+use Rattle.typed_path.specs.declared.typed.variant.PathType.TheVariants as kind
 use Rattle.typed_path.specs.declared.typed.variant.Typed.{Typed}
 use Rattle.typed_path.specs.declared.typed.variant.Typed.TheVariants.{Unix, Windows}
 use Rattle.typed_path.specs.components.Dialect.{Dialect, unix, windows, backslash}

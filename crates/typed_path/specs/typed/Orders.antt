@@ -7,8 +7,8 @@ use Rattle.typed_path.specs.declared.typed.reading.TypedReading.{TypedReading}
 use Rattle.typed_path.specs.declared.typed.reading.TypedReading.TheVariants.{Unix, Windows}
 use Rattle.typed_path.specs.declared.typed.variant.Typed.{Typed}
 use Rattle.typed_path.specs.declared.typed.variant.Typed.TheVariants as typed
-use Rattle.typed_path.specs.declared.typed.kind.PathType.{PathType}
-use Rattle.typed_path.specs.declared.typed.kind.PathType.TheVariants as kind
+use Rattle.typed_path.specs.declared.typed.variant.PathType.{PathType}
+use Rattle.typed_path.specs.declared.typed.variant.PathType.TheVariants as kind
 
 -- readings of one kind are in the order of what they hold, and readings of two kinds in none
 abbrev pub reading_partial_cmp : {U W : Type 0} → (U → U → Option Ordering) → (W → W → Option Ordering) → TypedReading U W → TypedReading U W → Option Ordering

@@ -1,7 +1,7 @@
 -- The view of the components of a path as values of its encoding's own type.
 use Rattle.std.specs.Prelude.{ℕ, List}
 use Rattle.typed_path.specs.declared.common.encoding.Encoding.{Ghosts}
-use Rattle.typed_path.specs.declared.common.concrete.ConcreteComponents.{ConcreteComponents}
+use Rattle.typed_path.specs.declared.common.component.ConcreteComponents.{ConcreteComponents}
 use Rattle.typed_path.specs.components.Part.{Part, Placed, parts}
 use Rattle.typed_path.specs.views.PathViews.{components_items, components_slice}
 

@@ -4,8 +4,8 @@ use Rattle.typed_path.specs.declared.common.path.Path.{Path}
 use Rattle.typed_path.specs.declared.common.components.Components.{Components}
 use Rattle.typed_path.specs.components.Part.{Part, Placed, parts, texts}
 use Rattle.typed_path.specs.views.CursorViews.{slice_left, items_left}
-use Rattle.typed_path.specs.declared.common.iter.Iter.{Iter}
-use Rattle.typed_path.specs.declared.common.ancestors.Ancestors.{Ancestors}
+use Rattle.typed_path.specs.declared.common.components.Iter.{Iter}
+use Rattle.typed_path.specs.declared.common.components.Ancestors.{Ancestors}
 use Rattle.typed_path.specs.queries.Ancestry.{readings_above}
 use Rattle.typed_path.specs.declared.common.texts.Display.{Display}
 

@@ -3,12 +3,12 @@ use Rattle.std.specs.Prelude.{ℕ, List}
 use Rattle.typed_path.specs.declared.scan.prefix.WindowsPrefix.{WindowsPrefix}
 use Rattle.typed_path.specs.declared.scan.prefix.WindowsPrefix.TheVariants.{Verbatim, VerbatimUNC, VerbatimDisk, DeviceNS, UNC, Disk}
 use Rattle.typed_path.specs.declared.scan.prefix.Found.{Found}
-use Rattle.typed_path.specs.declared.scan.piece.Piece.{Piece}
-use Rattle.typed_path.specs.declared.scan.piece.PieceKind.{PieceKind}
-use Rattle.typed_path.specs.declared.scan.piece.PieceKind.TheVariants.{Prefix, RootDir, CurDir, ParentDir, Normal}
-use Rattle.typed_path.specs.declared.scan.piece.Step.{Step}
-use Rattle.typed_path.specs.declared.scan.piece.StepKind.{StepKind}
-use Rattle.typed_path.specs.declared.scan.piece.StepKind.TheVariants as step
+use Rattle.typed_path.specs.declared.scan.step.Piece.{Piece}
+use Rattle.typed_path.specs.declared.scan.step.PieceKind.{PieceKind}
+use Rattle.typed_path.specs.declared.scan.step.PieceKind.TheVariants.{Prefix, RootDir, CurDir, ParentDir, Normal}
+use Rattle.typed_path.specs.declared.scan.step.Step.{Step}
+use Rattle.typed_path.specs.declared.scan.step.StepKind.{StepKind}
+use Rattle.typed_path.specs.declared.scan.step.StepKind.TheVariants as step
 use Rattle.typed_path.specs.components.Part.{verbatim, verbatim_unc, verbatim_disk, device_ns, unc, disk, Kind, prefix, root, current, parent, normal, Part}
 use Rattle.typed_path.specs.components.Part as part
 use Rattle.typed_path.specs.components.Prefix as definitions

@@ -2,8 +2,8 @@
 use Rattle.std.specs.Prelude.{◌≡◌, ◌⊎◌, ◌<◌, ℕ, List, [], ◌∷◌, codes, length, Result, MatchResult, IfOk, IfErr, is_ok}
 use Rattle.std.specs.Borrow.{Bor}
 use Rattle.std.specs.declared.str.Utf8Error.{Utf8Error}
-use Rattle.typed_path.specs.declared.utf8.prefix.Utf8WindowsPrefix.{Utf8WindowsPrefix}
-use Rattle.typed_path.specs.declared.utf8.prefix.Utf8WindowsPrefixComponent.{Utf8WindowsPrefixComponent}
+use Rattle.typed_path.specs.declared.utf8.windows.Utf8WindowsPrefix.{Utf8WindowsPrefix}
+use Rattle.typed_path.specs.declared.utf8.windows.Utf8WindowsPrefixComponent.{Utf8WindowsPrefixComponent}
 use Rattle.typed_path.specs.declared.unix.component.UnixComponent.{UnixComponent}
 use Rattle.typed_path.specs.declared.utf8.unix.Utf8UnixComponent.{Utf8UnixComponent}
 use Rattle.typed_path.specs.declared.utf8.unix.Utf8UnixComponent.TheVariants as unix

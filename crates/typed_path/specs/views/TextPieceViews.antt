@@ -1,10 +1,10 @@
 -- The components of texts, as pure data.
 use Rattle.std.specs.Prelude.{ℕ, List}
-use Rattle.typed_path.specs.declared.utf8.prefix.Utf8WindowsPrefix.{Utf8WindowsPrefix}
-use Rattle.typed_path.specs.declared.utf8.prefix.Utf8WindowsPrefix.TheVariants.{Verbatim, VerbatimUNC, VerbatimDisk, DeviceNS, UNC, Disk}
-use Rattle.typed_path.specs.declared.utf8.piece.Utf8Piece.{Utf8Piece}
-use Rattle.typed_path.specs.declared.utf8.piece.Utf8PieceKind.{Utf8PieceKind}
-use Rattle.typed_path.specs.declared.utf8.piece.Utf8PieceKind.TheVariants.{Prefix, RootDir, CurDir, ParentDir, Normal}
+use Rattle.typed_path.specs.declared.utf8.windows.Utf8WindowsPrefix.{Utf8WindowsPrefix}
+use Rattle.typed_path.specs.declared.utf8.windows.Utf8WindowsPrefix.TheVariants.{Verbatim, VerbatimUNC, VerbatimDisk, DeviceNS, UNC, Disk}
+use Rattle.typed_path.specs.declared.utf8.reading.Utf8Piece.{Utf8Piece}
+use Rattle.typed_path.specs.declared.utf8.reading.Utf8PieceKind.{Utf8PieceKind}
+use Rattle.typed_path.specs.declared.utf8.reading.Utf8PieceKind.TheVariants.{Prefix, RootDir, CurDir, ParentDir, Normal}
 use Rattle.typed_path.specs.components.Part.{verbatim, verbatim_unc, verbatim_disk, device_ns, unc, disk, Kind, prefix, root, current, parent, normal, Part}
 use Rattle.typed_path.specs.components.Part as part
 

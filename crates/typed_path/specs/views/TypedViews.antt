@@ -2,10 +2,10 @@
 use Rattle.std.specs.Prelude.{ℕ, List}
 use Rattle.typed_path.specs.declared.common.encoding.Encoding.{Ghosts}
 use Rattle.typed_path.specs.declared.common.path.Path.{Path}
-use Rattle.typed_path.specs.declared.common.iter.Iter.{Iter}
-use Rattle.typed_path.specs.declared.common.ancestors.Ancestors.{Ancestors}
+use Rattle.typed_path.specs.declared.common.components.Iter.{Iter}
+use Rattle.typed_path.specs.declared.common.components.Ancestors.{Ancestors}
 use Rattle.typed_path.specs.declared.common.texts.Display.{Display}
-use Rattle.typed_path.specs.declared.common.concrete.ConcreteComponents.{ConcreteComponents}
+use Rattle.typed_path.specs.declared.common.component.ConcreteComponents.{ConcreteComponents}
 use Rattle.typed_path.specs.declared.unix.component.UnixComponent.{UnixComponent}
 use Rattle.typed_path.specs.declared.windows.component.WindowsComponent.{WindowsComponent}
 use Rattle.typed_path.specs.declared.typed.variant.Typed.{Typed}

@@ -2,7 +2,7 @@
 use Rattle.std.specs.Prelude.{◌≡◌, ◌⊎◌, ◌<◌, List, [], ◌∷◌, ℕ, codes, length, None, IsSome, Result, MatchResult}
 use Rattle.std.specs.Borrow.{Bor}
 use Rattle.typed_path.specs.declared.scan.prefix.WindowsPrefix.{WindowsPrefix}
-use Rattle.typed_path.specs.declared.windows.prefix.WindowsPrefixComponent.{WindowsPrefixComponent}
+use Rattle.typed_path.specs.declared.windows.component.WindowsPrefixComponent.{WindowsPrefixComponent}
 use Rattle.typed_path.specs.declared.windows.component.WindowsComponent.{WindowsComponent}
 use Rattle.typed_path.specs.declared.windows.component.WindowsComponent.TheVariants.{Prefix, RootDir, CurDir, ParentDir, Normal}
 use Rattle.typed_path.specs.components.Dialect.{windows, backslash}

@@ -1,7 +1,11 @@
 //! The components of a path.
 
+ghost use Rattle.std.specs.Prelude.{◌≡◌};
+ghost use Rattle.typed_path.specs.views.PathViews.{ancestors_from, components_items, components_slice};
+ghost use Rattle.typed_path.specs.queries.Ancestry.{readings_behind};
+
 use crate::common::encoding::Encoding;
-use crate::common::reversed::Reversed;
+use crate::common::path::Path;
 use crate::scan::{Cursor, Piece};
 use std::iter::FusedIterator;
 use std::marker::PhantomData;
@@ -146,3 +150,227 @@ impl<'a, T: Encoding> DoubleEndedIterator for Components<'a, T> {
 }
 
 impl<'a, T: Encoding> FusedIterator for Components<'a, T> {}
+
+/// The texts of the components that are left to be read.
+#[derive_where(Clone, Copy)]
+#[derive_where(PartialEq, Eq, PartialOrd, Ord; T: Encoding)]
+pub struct Iter<'a, T> {
+    components: Components<'a, T>,
+}
+
+impl<'a, T: Encoding> Iter<'a, T> {
+    ghost use Rattle.std.specs.Prelude.{◌≡◌, drop, option_map, option_copied};
+    ghost use Rattle.typed_path.specs.scan.Left.{but_last, slice_after_front, slice_after_back};
+    ghost use Rattle.typed_path.specs.views.PathViews.{path_bytes, iter_components, iter_items, iter_slice};
+    ghost use Rattle.typed_path.specs.views.ReversedViews.{reversed_source};
+    ghost use Rattle.typed_path.specs.scan.Steps.{first_part, last_part};
+
+    /// The texts of the components that are left.
+    #[inline(always)]
+    pub(crate) fn new(components: Components<'a, T>) -> Iter<'a, T>
+        ensures { iter_components result ≡ components.entry }
+    {
+        Iter { components }
+    }
+
+    /// Takes the text of the first component that is left.
+    #[inline(always)]
+    pub fn next(&mut self) -> Option<&'a [u8]>
+        ensures taken { option_copied result
+            ≡ option_map (λ p. p.text) (first_part (iter_items self.old)) }
+        ensures items { iter_items self.new ≡ drop 1 (iter_items self.old) }
+        ensures slice { iter_slice self.new
+            ≡ slice_after_front (iter_items self.old) (iter_slice self.old) }
+    {
+        let piece = self.components.next()?;
+        Some(piece.text)
+    }
+
+    /// Takes the text of the last component that is left.
+    #[inline(always)]
+    pub fn next_back(&mut self) -> Option<&'a [u8]>
+        ensures taken { option_copied result
+            ≡ option_map (λ p. p.text) (last_part (iter_items self.old)) }
+        ensures items { iter_items self.new ≡ but_last (iter_items self.old) }
+        ensures slice { iter_slice self.new
+            ≡ slice_after_back (iter_items self.old) (iter_slice self.old) }
+    {
+        let piece = self.components.next_back()?;
+        Some(piece.text)
+    }
+
+    /// The texts that are left, from the last to the first.
+    #[inline(always)]
+    pub fn rev(self) -> Reversed<Iter<'a, T>>
+        ensures { reversed_source result ≡ self.entry }
+    {
+        Reversed::new(self)
+    }
+
+    /// The slice left, as a path.
+    ///
+    /// Of the Unix path `/a/b` it is `a/b` after one step from the front.
+    pub fn as_path(self) -> Path<'a, T>
+        ensures { path_bytes result ≡ iter_slice self.entry }
+    {
+        Path::new(self.components.as_bytes())
+    }
+}
+
+impl<'a, T: Encoding> Iterator for Iter<'a, T> {
+    ghost use Rattle.std.specs.Iterator.{YieldsFirstRef, item_count};
+    ghost use Rattle.typed_path.specs.scan.Steps.{LeavesFront};
+    ghost use Rattle.typed_path.specs.views.PathViews.{iter_items, iter_slice, iter_texts};
+
+    type Item = &'a [u8];
+
+    ghost next_gives = { λ s text t. YieldsFirstRef iter_texts s text t
+        × LeavesFront iter_items iter_slice s t };
+
+    ghost remaining = { item_count iter_texts };
+
+    #[inline(always)]
+    fn next(&mut self) -> Option<&'a [u8]> {
+        let piece = Iterator::next(&mut self.components)?;
+        Some(piece.text)
+    }
+}
+
+impl<'a, T: Encoding> DoubleEndedIterator for Iter<'a, T> {
+    ghost use Rattle.std.specs.Iterator.{YieldsLastRef};
+    ghost use Rattle.typed_path.specs.scan.Steps.{LeavesBack};
+    ghost use Rattle.typed_path.specs.views.PathViews.{iter_items, iter_slice, iter_texts};
+
+    ghost next_back_gives = { λ s text t. YieldsLastRef iter_texts s text t
+        × LeavesBack iter_items iter_slice s t };
+
+    #[inline(always)]
+    fn next_back(&mut self) -> Option<&'a [u8]> {
+        let piece = DoubleEndedIterator::next_back(&mut self.components)?;
+        Some(piece.text)
+    }
+}
+
+impl<'a, T: Encoding> FusedIterator for Iter<'a, T> {}
+
+/// A path, and then each parent of the one before.
+///
+/// They are what is left of one reading from the back, so the prefix is read once.
+#[derive_where(Clone, Copy)]
+pub struct Ancestors<'a, T> {
+    rest: Components<'a, T>,
+    done: bool,
+}
+
+impl<'a, T: Encoding> Ancestors<'a, T> {
+    ghost use Rattle.std.specs.Prelude.{◌≡◌, option_map, slice_get};
+    ghost use Rattle.typed_path.specs.views.PathViews.{path_bytes, ancestors_left};
+    ghost use Rattle.typed_path.specs.queries.Ancestry.{ancestors_of};
+
+    /// The path and those above it.
+    #[inline(always)]
+    pub(crate) fn new(path: Path<'a, T>) -> Ancestors<'a, T>
+        ensures { ancestors_left result ≡ ancestors_of T.dialect (path_bytes path.entry) }
+    {
+        Ancestors {
+            rest: path.components(),
+            done: false,
+        }
+    }
+
+    /// The path that comes next, where one does.
+    pub(crate) fn path(self) -> Option<Path<'a, T>>
+        ensures { option_map path_bytes result ≡ slice_get (ancestors_left self.entry) 0 }
+    {
+        if self.done {
+            return None;
+        }
+        Some(Path::new(self.rest.as_bytes()))
+    }
+}
+
+/// Takes the last component of a reading, and answers whether nothing is above it.
+#[inline(always)]
+fn take_last<T: Encoding>(rest: &mut Components<'_, T>) -> bool
+    ensures { ancestors_from result rest.new
+        ≡ readings_behind (components_items rest.old) (components_slice rest.old) }
+{
+    match rest.next_back() {
+        Some(last) => last.is_root(),
+        None => true,
+    }
+}
+
+impl<'a, T: Encoding> Iterator for Ancestors<'a, T> {
+    ghost use Rattle.std.specs.Iterator.{YieldsFirstBy, item_count};
+    ghost use Rattle.typed_path.specs.views.PathViews.{path_bytes, ancestors_left};
+
+    type Item = Path<'a, T>;
+
+    ghost next_gives = { YieldsFirstBy path_bytes ancestors_left };
+
+    ghost remaining = { item_count ancestors_left };
+
+    #[inline(always)]
+    fn next(&mut self) -> Option<Path<'a, T>> {
+        if self.done {
+            return None;
+        }
+        let path = Path::new(self.rest.as_bytes());
+        self.done = take_last(&mut self.rest);
+        Some(path)
+    }
+}
+
+impl<'a, T: Encoding> FusedIterator for Ancestors<'a, T> {}
+
+/// What another iterator has left, from the last item to the first.
+#[derive(Clone, Copy)]
+pub struct Reversed<I> {
+    source: I,
+}
+
+impl<I: DoubleEndedIterator> Reversed<I> {
+    ghost use Rattle.std.specs.Prelude.{◌≡◌};
+    ghost use Rattle.typed_path.specs.views.ReversedViews.{reversed_source};
+
+    /// What an iterator has left, from its end.
+    #[inline(always)]
+    pub(crate) fn new(source: I) -> Reversed<I>
+        ensures { reversed_source result ≡ source }
+    {
+        Reversed { source }
+    }
+}
+
+impl<I: DoubleEndedIterator> Iterator for Reversed<I> {
+    ghost use Rattle.typed_path.specs.views.ReversedViews.{reversed_source};
+
+    type Item = I::Item;
+
+    ghost can_next = { λ s. I.can_next_back (reversed_source s) };
+
+    ghost next_gives = { λ s item t. I.next_back_gives (reversed_source s) item
+        (reversed_source t) };
+
+    ghost remaining = { λ s. I.remaining (reversed_source s) };
+
+    #[inline(always)]
+    fn next(&mut self) -> Option<I::Item> {
+        self.source.next_back()
+    }
+}
+
+impl<I: DoubleEndedIterator> DoubleEndedIterator for Reversed<I> {
+    ghost use Rattle.typed_path.specs.views.ReversedViews.{reversed_source};
+
+    ghost can_next_back = { λ s. I.can_next (reversed_source s) };
+
+    ghost next_back_gives = { λ s item t. I.next_gives (reversed_source s) item
+        (reversed_source t) };
+
+    #[inline(always)]
+    fn next_back(&mut self) -> Option<I::Item> {
+        self.source.next()
+    }
+}

@@ -1,7 +1,12 @@
 //! A path that is lent.
 
-use crate::common::components::Components;
+use crate::common::components::{Ancestors, Components, Iter};
 use crate::common::encoding::Encoding;
+use crate::common::names::{dotted_len, put_extension, split_name};
+use crate::common::path_buf::PathBuf;
+use crate::errors::{PathError, StripPrefixError};
+use crate::scan::Piece;
+use std::alloc::{AllocError, Global};
 use std::marker::PhantomData;
 
 /// A path: a slice of bytes, with the encoding by which it is read.
@@ -36,11 +41,22 @@ impl<'a, T> Path<'a, T> {
 }
 
 impl<'a, T: Encoding> Path<'a, T> {
-    ghost use Rattle.std.specs.Prelude.{◌≡◌, not};
+    ghost use Rattle.std.specs.Prelude.{◌≡◌, not, ◌≤◌, length, option_map, option_copied, IfSome, IfOk, [], IsOk};
     ghost use Rattle.typed_path.specs.components.Part.{kinds};
     ghost use Rattle.typed_path.specs.components.Comps.{comps, parts_of};
-    ghost use Rattle.typed_path.specs.queries.Queries.{is_absolute, has_root, is_valid};
-    ghost use Rattle.typed_path.specs.views.PathViews.{path_bytes, components_items, components_slice};
+    ghost use Rattle.typed_path.specs.queries.Queries.{is_absolute, has_root, is_valid, parent_of, file_name_of, file_stem_of, extension, stripped, path_starts_with, path_ends_with};
+    ghost use Rattle.typed_path.specs.views.PathViews.{path_bytes, components_items, components_slice, iter_items, iter_slice, ancestors_left};
+    ghost use Rattle.typed_path.specs.scan.Steps.{last_part};
+    ghost use Rattle.typed_path.specs.views.PieceViews.{part_of};
+    ghost use Rattle.typed_path.specs.changes.Changes.{without_file_name, stem_end, with_file_name, with_extension};
+    ghost use Rattle.typed_path.specs.queries.Ancestry.{ancestors_of};
+    ghost use Rattle.typed_path.specs.queries.Strip.{stripped_to};
+    ghost use Rattle.typed_path.specs.places.Places.{normal_text};
+    ghost use Rattle.typed_path.specs.promises.Promises.{HasNormalForm, HasPrefixOf, LiesWithin};
+    ghost use Rattle.typed_path.specs.changes.Checked.{refusal};
+    ghost use Rattle.typed_path.specs.promises.Below.{LiesBelow};
+    ghost use Rattle.typed_path.specs.changes.Fault.{fault};
+    ghost use Rattle.typed_path.specs.changes.Push as push_spec;
 
     /// The components of the path, from either end.
     ///
@@ -87,5 +103,288 @@ impl<'a, T: Encoding> Path<'a, T> {
         ensures { result ≡ is_valid T.dialect (kinds (parts_of T.dialect (path_bytes self.entry))) }
     {
         T::valid_names(self.bytes)
+    }
+
+    /// The last component.
+    #[inline(always)]
+    fn last(self) -> Option<Piece<'a>>
+        ensures { option_map part_of result ≡ last_part (comps T.dialect (path_bytes self.entry)) }
+    {
+        self.components().next_back()
+    }
+
+    /// The path without its last component, or none where there is no component or nothing is above
+    /// the last one.
+    ///
+    /// On Unix that of `/a/./b//` is `/a`, that of `a` is the empty path, and `/` has none.
+    pub fn parent(self) -> Option<Path<'a, T>>
+        ensures { option_map path_bytes result ≡ parent_of T.dialect (path_bytes self.entry) }
+    {
+        let mut components = self.components();
+        let last = components.next_back()?;
+        if last.is_root() {
+            return None;
+        }
+        Some(Path::new(components.as_bytes()))
+    }
+
+    /// The path, and then each parent of the one before.
+    ///
+    /// Those of the Unix path `/a/b/.` are `/a/b/.`, `/a` and `/`.
+    #[inline(always)]
+    pub fn ancestors(self) -> Ancestors<'a, T>
+        ensures { ancestors_left result ≡ ancestors_of T.dialect (path_bytes self.entry) }
+    {
+        Ancestors::new(self)
+    }
+
+    /// The last component, where it is a name.
+    ///
+    /// Of `a/b//` it is `b`, and `a/..` has none.
+    pub fn file_name(self) -> Option<&'a [u8]>
+        ensures { option_copied result ≡ file_name_of T.dialect (path_bytes self.entry) }
+    {
+        let last = self.last()?;
+        if last.is_normal() {
+            Some(last.text)
+        } else {
+            None
+        }
+    }
+
+    /// The file name up to its last dot, or the whole of it where no dot but a first one is there.
+    ///
+    /// Of `a.tar.gz` it is `a.tar`, and of `.bashrc` it is `.bashrc`.
+    pub fn file_stem(self) -> Option<&'a [u8]>
+        ensures { option_copied result ≡ file_stem_of T.dialect (path_bytes self.entry) }
+    {
+        let name = self.file_name()?;
+        Some(split_name(name).0)
+    }
+
+    /// What stands in the file name behind its last dot, where that is not its first byte.
+    ///
+    /// Of `a.tar.gz` it is `gz`, of `a.` it is empty, and `.bashrc` has none.
+    pub fn extension(self) -> Option<&'a [u8]>
+        ensures { option_copied result ≡ extension T.dialect (path_bytes self.entry) }
+    {
+        split_name(self.file_name()?).1
+    }
+
+    /// The path without its file name, where it has one.
+    pub(crate) fn without_file_name(self) -> Path<'a, T>
+        ensures { path_bytes result ≡ without_file_name T.dialect (path_bytes self.entry) }
+    {
+        let mut components = self.components();
+        match components.next_back() {
+            Some(last) if last.is_normal() => Path::new(components.as_bytes()),
+            _ => self,
+        }
+    }
+
+    /// Where the stem of the file name ends.
+    pub(crate) fn stem_end(self) -> Option<usize>
+        ensures end { result ≡ stem_end T.dialect (path_bytes self.entry) }
+        ensures within { IfSome result (λ end. end ≤ length (path_bytes self.entry)) }
+    {
+        let last = self.last()?;
+        if !last.is_normal() {
+            return None;
+        }
+        let extension = last.text.len() - split_name(last.text).0.len();
+        Some(self.components().last_end() - extension)
+    }
+
+    /// The texts of the components, from either end.
+    ///
+    /// Those of the Unix path `/a/./b` are `/`, `a` and `b`.
+    #[inline(always)]
+    pub fn iter(self) -> Iter<'a, T>
+        ensures items { iter_items result ≡ comps T.dialect (path_bytes self.entry) }
+        ensures slice { iter_slice result ≡ path_bytes self.entry }
+    {
+        Iter::new(self.components())
+    }
+
+    /// What is left of the path behind a base, where it begins with the base's components as they
+    /// are written. The bytes are asked first.
+    fn behind(self, base: Path<'_, T>) -> Option<Path<'a, T>>
+        ensures { option_map path_bytes result
+            ≡ stripped T.dialect (path_bytes self.entry) (path_bytes base.entry) }
+    {
+        match T::behind(self.as_bytes(), base.as_bytes()) {
+            Some(rest) => Some(Path::new(rest)),
+            None => self.behind_by_components(base),
+        }
+    }
+
+    /// The same, component by component.
+    fn behind_by_components(self, base: Path<'_, T>) -> Option<Path<'a, T>>
+        ensures { option_map path_bytes result
+            ≡ stripped T.dialect (path_bytes self.entry) (path_bytes base.entry) }
+    {
+        let mut rest = self.components();
+        let mut wanted = base.components();
+        'pieces: while let Some(piece) = wanted.next() {
+            let own = rest.next()?;
+            if piece.text != own.text {
+                return None;
+            }
+        }
+        Some(Path::new(rest.as_bytes()))
+    }
+
+    /// What is left of the path behind a base.
+    ///
+    /// Of the Unix path `/a/./b/c` it is `b/c` behind `/a`.
+    ///
+    /// # Errors
+    ///
+    /// `StripPrefixError` exactly where the path does not begin with the base's components, compared
+    /// as they are written: on Windows `c:\a` does not begin with `C:`.
+    pub fn strip_prefix(self, base: Path<'_, T>) -> Result<Path<'a, T>, StripPrefixError>
+        ensures { stripped_to path_bytes result
+            ≡ stripped T.dialect (path_bytes self.entry) (path_bytes base.entry) }
+    {
+        self.behind(base).ok_or(StripPrefixError)
+    }
+
+    /// Whether the path begins with the components of another, as they are written.
+    ///
+    /// `a/b` begins with `a`, and `ab` does not.
+    pub fn starts_with(self, base: Path<'_, T>) -> bool
+        ensures { result ≡ path_starts_with T.dialect (path_bytes self.entry)
+            (path_bytes base.entry) }
+    {
+        self.behind(base).is_some()
+    }
+
+    /// Whether the path ends with the components of another, as they are written.
+    ///
+    /// `a/b/c` ends with `b/c`, and `a/bc` does not end with `c`.
+    pub fn ends_with(self, end: Path<'_, T>) -> bool
+        ensures { result ≡ path_ends_with T.dialect (path_bytes self.entry) (path_bytes end.entry) }
+    {
+        let mut rest = self.components();
+        let mut wanted = end.components();
+        'pieces: while let Some(piece) = wanted.next_back() {
+            let Some(own) = rest.next_back() else {
+                return false;
+            };
+            if piece.text != own.text {
+                return false;
+            }
+        }
+        true
+    }
+
+    /// The path without `.`, and without `..` and the names that these take away.
+    ///
+    /// That of the Unix path `foo/bar//baz/./asdf/quux/..` is `foo/bar/baz/asdf`.
+    ///
+    /// The components that are left are pushed one by one onto the empty path. A `..` that finds no
+    /// name to take away vanishes. On Unix the answer is read as just these components, is its own
+    /// normal text, and is the same, byte for byte, for all paths that lead to the same. On Windows,
+    /// where no name has a byte that no name may have and the prefix is not the verbatim one named
+    /// `UNC`, the answer is read as these components with a root put in behind a verbatim drive, leads
+    /// where the path does, and is its own normal text.
+    pub fn normalize(self, alloc: Global) -> Result<PathBuf<T>, AllocError>
+        ensures text { IfOk result (λ p. p.bytes ≡ normal_text T.dialect (path_bytes self.entry)) }
+        ensures form { IfOk result (λ p. HasNormalForm T.dialect (path_bytes self.entry) p.bytes) }
+    {
+        Ok(PathBuf::from_vec(T::normal(alloc, self.as_bytes())?))
+    }
+
+    /// A copy that owns its bytes.
+    pub fn to_path_buf(self, alloc: Global) -> Result<PathBuf<T>, AllocError>
+        ensures bytes { IfOk result (λ p. p.bytes ≡ path_bytes self.entry) }
+        ensures succeeds { path_bytes self.entry ≡ [] → IsOk result }
+    {
+        PathBuf::from_bytes(alloc, self.as_bytes())
+    }
+
+    /// The path with another pushed onto it: an absolute one stands in its place, and with an empty
+    /// one it is a copy.
+    ///
+    /// On Unix `/etc` with `a` is `/etc/a`; on Windows `C:\a\b` with `\c` is `C:\c`.
+    pub fn join(self, alloc: Global, path: Path<'_, T>) -> Result<PathBuf<T>, AllocError>
+        ensures { IfOk result (λ p. p.bytes
+            ≡ push_spec.push T.dialect (path_bytes self.entry) (path_bytes path.entry)) }
+    {
+        let base = self.as_bytes();
+        let other = path.as_bytes();
+        let mut joined = Vec::with_capacity(alloc, base.len() + other.len() + 1)?;
+        joined.extend_from_slice(base)?;
+        T::push(&mut joined, other)?;
+        Ok(PathBuf::from_vec(joined))
+    }
+
+    /// The path with another pushed onto it, unless that has a component that offends.
+    ///
+    /// The answer lies within this path, where it has the prefix of this one: on Unix `/etc` with
+    /// `abc/../def` is `/etc/abc/../def`. Where this path keeps its prefix, the place of the answer is
+    /// that of this path, and then some names. A path that is refused costs no memory.
+    ///
+    /// # Errors
+    ///
+    /// `Checked` where the pushed path has a prefix, a root, a `..` that no earlier name of it makes up
+    /// for, or a name that the encoding does not allow: the first of these says which. `OutOfMemory`
+    /// where it has none of them, and memory is refused.
+    pub fn join_checked(self, alloc: Global, path: Path<'_, T>) -> Result<PathBuf<T>, PathError>
+        ensures refused { refusal result ≡ fault T.dialect (path_bytes path.entry) }
+        ensures joined { IfOk result (λ p. p.bytes
+            ≡ push_spec.push T.dialect (path_bytes self.entry) (path_bytes path.entry)) }
+        ensures prefix { IfOk result (λ p. HasPrefixOf T.dialect (path_bytes self.entry) p.bytes) }
+        ensures contained { IfOk result
+            (λ p. LiesWithin T.dialect (path_bytes self.entry) (path_bytes path.entry) p.bytes) }
+        ensures below { IfOk result (λ p. LiesBelow T.dialect (path_bytes self.entry) p.bytes) }
+    {
+        T::check(path.as_bytes())?;
+        Ok(self.join(alloc, path)?)
+    }
+
+    /// A copy with another file name, or with the name pushed where there is none.
+    ///
+    /// On Unix `a//b/` with `c` is `a/c`, and `a/..` with `c` is `a/../c`.
+    pub fn with_file_name(self, alloc: Global, name: &[u8]) -> Result<PathBuf<T>, AllocError>
+        ensures { IfOk result
+            (λ p. p.bytes ≡ with_file_name T.dialect (path_bytes self.entry) name.now) }
+    {
+        self.without_file_name().join(alloc, Path::new(name))
+    }
+
+    /// A copy whose file name has another extension, or none where the new one is empty. Without a
+    /// file name it is a mere copy.
+    ///
+    /// `a.tar.gz` with `zip` is `a.tar.zip`, and with an empty one `a.tar`.
+    pub fn with_extension(self, alloc: Global, extension: &[u8]) -> Result<PathBuf<T>, AllocError>
+        ensures { IfOk result
+            (λ p. p.bytes ≡ with_extension T.dialect (path_bytes self.entry) extension.now) }
+    {
+        let Some(end) = self.stem_end() else {
+            return self.to_path_buf(alloc);
+        };
+        let stem = &self.as_bytes()[..end];
+        let mut renamed = Vec::with_capacity(alloc, stem.len() + dotted_len(extension))?;
+        renamed.extend_from_slice(stem)?;
+        put_extension(&mut renamed, extension)?;
+        Ok(PathBuf::from_vec(renamed))
+    }
+}
+
+impl<'a, T: Encoding> IntoIterator for Path<'a, T> {
+    ghost use Rattle.std.specs.Prelude.{◌≡◌};
+    ghost use Rattle.typed_path.specs.components.Comps.{comps};
+    ghost use Rattle.typed_path.specs.views.PathViews.{path_bytes, iter_items, iter_slice};
+
+    type Item = &'a [u8];
+
+    type IntoIter = Iter<'a, T>;
+
+    ghost into_iter_gives = { λ path iter. iter_items iter ≡ comps T.dialect (path_bytes path)
+        × iter_slice iter ≡ path_bytes path };
+
+    fn into_iter(self) -> Iter<'a, T> {
+        self.iter()
     }
 }

@@ -1,11 +1,18 @@
 //! Texts cut at single bytes, at separators, and behind a beginning.
 
-ghost use Rattle.std.specs.Prelude.{◌≡◌, ◌≢◌, ◌≤◌, ◌<◌, ◌+◌, ◌==◌, List, ℕ, [], ◌∷◌, ◌++◌, take, length, MatchOption, IfSome};
+ghost use Rattle.std.specs.Prelude.{◌≡◌, ◌≢◌, ◌≤◌, ◌<◌, ◌+◌, ◌==◌, List, ℕ, [], ◌∷◌, ◌++◌, take, length, MatchOption, IfSome, true, drop, IsTrue};
 ghost use Rattle.std.specs.List.{slice_split, position_or_len};
 ghost use Rattle.typed_path.specs.components.Dialect.{is_separator};
+ghost use Rattle.typed_path.specs.components.Comps.{body, later_body};
+ghost use Rattle.typed_path.specs.scan.Steps.{is_clean};
+ghost use Rattle.typed_path.specs.declared.scan.cursor.Begin.{Begin};
+ghost use Rattle.typed_path.specs.order.Same.{left_cmp};
+ghost use Rattle.typed_path.specs.views.BodyViews.{body_items};
 
+use crate::scan::cursor::Body;
 use crate::scan::lanes::{begins_otherwise, first_between};
 use crate::scan::separators::Separators;
+use crate::scan::step::skip_blanks;
 
 /// What stands before the first such byte, and what stands behind it.
 pub fn cut_at(byte: u8, text: &[u8]) -> Option<(&[u8], &[u8])>
@@ -75,4 +82,96 @@ pub fn text_behind<'a>(beginning: &[u8], text: &'a [u8]) -> Option<&'a [u8]>
         begins_otherwise::<4>(beginning, text)
     };
     if differs { None } else { Some(&text[len..]) }
+}
+
+/// Whether no component reaches over the border between two texts: one of them has a separator
+/// there, or one is empty.
+#[inline(always)]
+fn is_border(front: &[u8], rest: &[u8], separators: Separators) -> bool
+    ensures { IsTrue result → 0 < length front.now → (at : ℕ)
+        → body separators at (front.now ++ rest.now)
+        ≡ body separators at front.now ++ later_body separators (at + length front.now) rest.now }
+{
+    let Some((last, _)) = front.split_last() else {
+        return true;
+    };
+    let Some((first, _)) = rest.split_first() else {
+        return true;
+    };
+    separators.contains(*last) || separators.contains(*first)
+}
+
+/// How many bytes of a text stand before the component behind a base, where the bytes tell: the
+/// text begins with those of the base, and no component reaches over its end.
+#[inline(always)]
+pub fn base_end(text: &[u8], base: &[u8], separators: Separators) -> Option<usize>
+    ensures within { IfSome result (λ n. n ≤ length text.now) }
+    ensures some { IfSome result (λ n. 0 < length base.now) }
+    ensures items { IfSome result (λ n. (at : ℕ) → body separators at text.now
+        ≡ body separators at base.now ++ later_body separators (at + n) (drop n text.now)) }
+    ensures clean { IfSome result (λ n.
+        is_clean Begin.Inside separators (drop n text.now) ≡ true) }
+{
+    if base.is_empty() || !text.starts_with(base) {
+        return None;
+    }
+    let rest = &text[base.len()..];
+    if !is_border(base, rest, separators) {
+        return None;
+    }
+    Some(base.len() + skip_blanks(rest, separators))
+}
+
+/// How many bytes are compared at once.
+const BLOCK: usize = 32;
+
+/// How many bytes two texts begin with alike. Only that the first has so many is relied on.
+#[inline(always)]
+fn shared_len(text: &[u8], other: &[u8]) -> usize
+    ensures { result ≤ length text.now }
+{
+    let len = text.len().min(other.len());
+    let mut at = 0;
+    'chunks: while len - at >= BLOCK && text[at..at + BLOCK] == other[at..at + BLOCK] {
+        at += BLOCK;
+    }
+    'bytes: while at < len && text[at] == other[at] {
+        at += 1;
+    }
+    at
+}
+
+/// The first bytes of a text that another begins with too, to behind the last separator among them.
+/// Nothing rests on this answer: whether both texts begin with it is looked at again.
+#[inline(always)]
+fn shared_front<'a>(text: &'a [u8], other: &[u8], separators: Separators) -> &'a [u8] {
+    let shared = &text[..shared_len(text, other)];
+    &shared[..separators.last_in(shared)]
+}
+
+/// Two readings behind the components that the bytes of both begin with, which compare as the two do.
+/// Where the bytes tell of none, or the readings are not those of whole bodies with the same
+/// separators, they stay as they are.
+#[inline(always)]
+pub fn bodies_behind_shared<'a>(rest: Body<'a>, wanted: Body<'a>) -> (Body<'a>, Body<'a>)
+    ensures { left_cmp (body_items result.0) (body_items result.1)
+        ≡ left_cmp (body_items rest.entry) (body_items wanted.entry) }
+{
+    let separators = rest.separators;
+    if !rest.is_whole() || !wanted.is_whole() || !separators.is_same(wanted.separators) {
+        return (rest, wanted);
+    }
+    let text = rest.as_bytes();
+    let other = wanted.as_bytes();
+    let front = shared_front(text, other, separators);
+    match (
+        base_end(text, front, separators),
+        base_end(other, front, separators),
+    ) {
+        (Some(from), Some(other_from)) => (
+            Body::inside(text, from, separators),
+            Body::inside(other, other_from, separators),
+        ),
+        _ => (rest, wanted),
+    }
 }

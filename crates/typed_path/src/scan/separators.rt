@@ -1,16 +1,19 @@
 //! Which bytes separate the components of a text.
 
 ghost use Rattle.std.specs.Prelude.{◌≡◌, ◌≤◌, ◌-◌, ◌==◌, ◌||◌, ℕ, not, length, slice_range, IsTrue};
-ghost use Rattle.typed_path.specs.scan.Masks.{is_one_of};
-ghost use Rattle.std.specs.List.{position_or_len, list_any, before_first, IsAfterLastMatch};
+ghost use Rattle.std.specs.List.{position_or_len, list_any, before_first, IsAfterLastMatch, slice_split};
 ghost use Rattle.std.specs.Str.{str_eq_ignore_ascii_case};
+ghost use Rattle.typed_path.specs.scan.Masks.{is_one_of};
 ghost use Rattle.typed_path.specs.components.Dialect.{windows, separators, is_separator, is_verbatim, root_text, dialect_of};
-ghost use Rattle.typed_path.specs.queries.Queries.{has_allowed_bytes, is_reserved, is_valid_name};
+ghost use Rattle.typed_path.specs.queries.Queries.{has_allowed_bytes, is_reserved, is_valid_name, is_valid};
 ghost use Rattle.typed_path.specs.queries.Names.{is_a_dot};
 ghost use Rattle.typed_path.specs.changes.Checked.{SeparatesDisallowed, is_stray};
 ghost use Rattle.typed_path.specs.changes.Reserved.{begins_device, may_be_reserved};
+ghost use Rattle.typed_path.specs.components.Comps.{body};
+ghost use Rattle.typed_path.specs.components.Part.{kinds, parts};
 
 use crate::constants::windows::RESERVED_DEVICE_NAMES;
+use crate::scan::cut::cut_at_separator;
 use crate::scan::lanes::{first_between, has_forbidden, is_one_of, last_between};
 use memchr::memchr;
 
@@ -234,4 +237,34 @@ fn is_same_aside_case(text: &[u8], other: &[u8]) -> bool
     ensures { result ≡ str_eq_ignore_ascii_case text.now other.now }
 {
     text.eq_ignore_ascii_case(other)
+}
+
+/// Whether a segment of a text stands for a device.
+fn has_reserved(text: &[u8], separators: Separators) -> bool
+    ensures { result ≡ list_any (is_reserved (dialect_of separators))
+        (slice_split (is_separator separators) text.now) }
+{
+    let mut rest = text;
+    'segments: while let Some((segment, behind)) = cut_at_separator(separators, rest) {
+        if separators.is_reserved(segment) {
+            return true;
+        }
+        rest = behind;
+    }
+    separators.is_reserved(rest)
+}
+
+/// Whether each name of a text without its prefix is valid. One look tells of all its bytes, and
+/// only Windows has names that stand for devices.
+pub fn has_valid_names(text: &[u8], separators: Separators) -> bool
+    ensures { (at : ℕ) → result
+        ≡ is_valid (dialect_of separators) (kinds (parts (body separators at text.now))) }
+{
+    if separators.has_stray(text) {
+        return false;
+    }
+    match separators {
+        Separators::Slash => true,
+        Separators::Backslash | Separators::Either => !has_reserved(text, separators),
+    }
 }

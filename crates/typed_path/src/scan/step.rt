@@ -1,16 +1,20 @@
 //! One component at a time, off a plain slice.
 
-ghost use Rattle.std.specs.Prelude.{◌≡◌, ◌≤◌, ◌<◌, ◌+◌, ◌++◌, ◌||◌, ℕ, true, not, take, drop, length, IfSome, IfNone};
+ghost use Rattle.std.specs.Prelude.{◌≡◌, ◌≤◌, ◌<◌, ◌+◌, ◌++◌, ◌||◌, ℕ, true, not, take, drop, length, IfSome, IfNone, ◌^◌, List, ◌∷◌, IfOk, IsTrue};
 ghost use Rattle.std.specs.List.{position_or_len};
 ghost use Rattle.typed_path.specs.components.Prefix.{is_empty};
 ghost use Rattle.typed_path.specs.components.Comps.{is_dot, is_dot_dot, component, first, later_body};
-ghost use Rattle.typed_path.specs.components.Dialect.{is_separator};
+ghost use Rattle.typed_path.specs.components.Dialect.{is_separator, dialect_of};
 ghost use Rattle.typed_path.specs.scan.Steps.{body_from, is_clean, is_trimmed, end_from};
 ghost use Rattle.typed_path.specs.views.PieceViews.{step_part};
-ghost use Rattle.typed_path.specs.declared.scan.body.Begin.{Begin};
-ghost use Rattle.typed_path.specs.declared.scan.piece.StepKind.{StepKind};
+ghost use Rattle.typed_path.specs.declared.scan.cursor.Begin.{Begin};
+ghost use Rattle.typed_path.specs.declared.scan.step.StepKind.{StepKind};
+ghost use Rattle.typed_path.specs.components.Part.{Kind};
+ghost use Rattle.typed_path.specs.changes.Fault.{fault_at, judged};
+ghost use Rattle.typed_path.specs.queries.Queries.{kind_has_allowed_bytes};
 
-use crate::scan::piece::{Step, StepKind};
+use crate::errors::CheckedPathError;
+use crate::scan::prefix::WindowsPrefix;
 use crate::scan::separators::Separators;
 
 /// How many bytes at the front of what stands behind a component hold none: a separator, or a `.`
@@ -149,4 +153,165 @@ pub fn is_dots(name: &[u8]) -> bool
     ensures { result ≡ (is_empty name.now || is_dot name.now || is_dot_dot name.now) }
 {
     matches!(name, [] | [b'.'] | [b'.', b'.'])
+}
+
+/// How many names are left behind a component that no parent has taken, where so many were left
+/// before it; or what the component is refused for. Of a name that is known to have allowed bytes
+/// the bytes are not looked at.
+pub fn depth_behind(
+    step: Step<'_>,
+    depth: usize,
+    separators: Separators,
+    allowed: bool,
+) -> Result<usize, CheckedPathError>
+    requires fits { depth + 1 < 2 ^ 64 }
+    requires allowed { IsTrue allowed
+        → kind_has_allowed_bytes (dialect_of separators) (step_part step).kind ≡ true }
+    ensures within { IfOk result (λ deeper. deeper ≤ depth + 1) }
+    ensures judged { (ks : List Kind)
+        → fault_at (dialect_of separators) depth ((step_part step.entry).kind ∷ ks)
+        ≡ judged (λ deeper. fault_at (dialect_of separators) deeper ks) result }
+{
+    match step.kind {
+        StepKind::RootDir => Err(CheckedPathError::UnexpectedRoot),
+        StepKind::CurDir => Ok(depth),
+        StepKind::ParentDir => depth
+            .checked_sub(1)
+            .ok_or(CheckedPathError::PathTraversalAttack),
+        StepKind::Normal
+            if (allowed || separators.has_allowed_bytes(step.text))
+                && !separators.is_reserved(step.text) => { Ok(depth + 1) }
+        StepKind::Normal => Err(CheckedPathError::InvalidFilename),
+    }
+}
+
+/// What a component is.
+#[derive(Clone, Copy, Debug, PartialEq, Eq, PartialOrd, Ord, Hash)]
+pub enum PieceKind<'a> {
+    /// The prefix of a Windows path.
+    Prefix(WindowsPrefix<'a>),
+    /// The root directory.
+    RootDir,
+    /// The current directory, `.`.
+    CurDir,
+    /// The parent directory, `..`.
+    ParentDir,
+    /// A name.
+    Normal,
+}
+
+/// One component of a path: what it is, and its text.
+#[derive(Clone, Copy, Debug, PartialEq, Eq, PartialOrd, Ord, Hash)]
+pub struct Piece<'a> {
+    /// What the component is.
+    pub kind: PieceKind<'a>,
+    /// How it is written: the raw text of a prefix, `/` or `\` for the root, `.`, `..`, or the name.
+    pub text: &'a [u8],
+}
+
+/// What a component behind the prefix is.
+#[derive(Clone, Copy, Debug)]
+pub enum StepKind {
+    /// The root directory.
+    RootDir,
+    /// The current directory, `.`.
+    CurDir,
+    /// The parent directory, `..`.
+    ParentDir,
+    /// A name.
+    Normal,
+}
+
+/// One component behind the prefix. A `Piece` has room for a prefix, which a walk would copy at each
+/// step; this has none.
+#[derive(Clone, Copy, Debug)]
+pub struct Step<'a> {
+    /// What the component is.
+    pub kind: StepKind,
+    /// How it is written.
+    pub text: &'a [u8],
+}
+
+impl<'a> Step<'a> {
+    ghost use Rattle.std.specs.Prelude.{◌≡◌};
+    ghost use Rattle.typed_path.specs.views.PieceViews.{part_of, step_part};
+
+    /// The same component as one of a whole path.
+    #[inline(always)]
+    pub fn piece(self) -> Piece<'a>
+        ensures { part_of result ≡ step_part self.entry }
+    {
+        let kind = match self.kind {
+            StepKind::RootDir => PieceKind::RootDir,
+            StepKind::CurDir => PieceKind::CurDir,
+            StepKind::ParentDir => PieceKind::ParentDir,
+            StepKind::Normal => PieceKind::Normal,
+        };
+        Piece {
+            kind,
+            text: self.text,
+        }
+    }
+}
+
+impl<'a> Piece<'a> {
+    ghost use Rattle.std.specs.Prelude.{◌≡◌, ◌==◌, length};
+    ghost use Rattle.typed_path.specs.queries.Queries.{is_root};
+    ghost use Rattle.typed_path.specs.components.Part.{is_name, is_parent, is_current};
+    ghost use Rattle.typed_path.specs.views.PieceViews.{part_of};
+
+    /// The text of the component.
+    pub fn as_bytes(self) -> &'a [u8]
+        ensures { result.now ≡ (part_of self.entry).text }
+    {
+        self.text
+    }
+
+    /// Whether nothing is above the component: the root, and every prefix but a drive.
+    #[inline(always)]
+    pub fn is_root(self) -> bool
+        ensures { result ≡ is_root (part_of self.entry).kind }
+    {
+        match self.kind {
+            PieceKind::RootDir => true,
+            PieceKind::Prefix(WindowsPrefix::Disk(_)) => false,
+            PieceKind::Prefix(_) => true,
+            _ => false,
+        }
+    }
+
+    /// Whether the component is a name.
+    pub fn is_normal(self) -> bool
+        ensures { result ≡ is_name (part_of self.entry).kind }
+    {
+        matches!(self.kind, PieceKind::Normal)
+    }
+
+    /// Whether the component is the parent directory, `..`.
+    pub fn is_parent(self) -> bool
+        ensures { result ≡ is_parent (part_of self.entry).kind }
+    {
+        matches!(self.kind, PieceKind::ParentDir)
+    }
+
+    /// Whether the component is the current directory, `.`.
+    pub fn is_current(self) -> bool
+        ensures { result ≡ is_current (part_of self.entry).kind }
+    {
+        matches!(self.kind, PieceKind::CurDir)
+    }
+
+    /// How many bytes the text has.
+    pub fn len(self) -> usize
+        ensures { result ≡ length (part_of self.entry).text }
+    {
+        self.text.len()
+    }
+
+    /// Whether the text is empty.
+    pub fn is_empty(self) -> bool
+        ensures { result ≡ (length (part_of self.entry).text == 0) }
+    {
+        self.text.is_empty()
+    }
 }

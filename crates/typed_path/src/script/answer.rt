@@ -1,13 +1,17 @@
 //! A dialogue of lines between a source and a sink.
 
-ghost use Rattle.std.specs.Prelude.{◌≡◌, ◌<◌, [], length, true, OnOk, OnErr, IfErr, IsErrOf};
-ghost use Rattle.std.specs.Io.KnownBytes.{Appends};
-ghost use Rattle.typed_path.specs.script.Streams.{streams, AnswersAll, StopsReading, StopsWriting, RunsOut, Ends, WritesPart};
+ghost use Rattle.std.specs.Prelude.{◌≡◌, ◌<◌, [], length, true, OnOk, OnErr, IfErr, IsErrOf, ◌∷◌, ◌≤◌, ℕ, List, Bool, Option, take, IfOk, ◌-◌, ◌^◌, false, None, if◌then◌else◌};
+ghost use Rattle.std.specs.Io.KnownBytes.{Appends, Consumes, IsAtEnd};
+ghost use Rattle.typed_path.specs.script.Streams.{streams, AnswersAll, StopsReading, StopsWriting, RunsOut, Ends, WritesPart, KeepsIfTold};
+ghost use Rattle.typed_path.specs.script.Lines.{split_lines};
+ghost use Rattle.typed_path.specs.script.Status.{status_of};
 
 use crate::errors::LineError;
-use crate::script::dialogue::Dialogue;
-use crate::script::streams::{Failed, Sink, Source};
-use std::alloc::Global;
+use crate::scan::cut_at;
+use crate::script::lines::answer_line;
+use std::alloc::{AllocError, Global};
+use std::io::{Read, Write};
+use thiserror::Error;
 
 /// How many bytes are asked for in one read.
 const CHUNK: usize = 65_536;
@@ -115,4 +119,243 @@ fn send<W: Sink>(dialogue: &mut Dialogue, writer: &mut W) -> Result<(), LineErro
     write_all(writer, dialogue.replies.as_slice()).map_err(|_| LineError::Write)?;
     dialogue.replies.clear();
     Ok(())
+}
+
+/// The replies to the lines that were completed, and the line that was begun.
+#[derive(Drop)]
+pub struct Dialogue {
+    /// What came behind the last line feed.
+    pub line: Vec<u8>,
+    /// The replies that were not taken away yet.
+    pub replies: Vec<u8>,
+    ghost is_open: { split_lines line.items ≡ line.items ∷ [] },
+}
+
+impl Dialogue {
+    ghost use Rattle.std.specs.Prelude.{◌≡◌, [], ◌∷◌, ◌++◌, OnOk};
+    ghost use Rattle.typed_path.specs.script.Lines.{split_lines, reply, replies_to, complete_lines, open_line, all_lines};
+
+    /// A dialogue with no open line and no replies.
+    pub fn new(alloc: Global) -> Dialogue
+        ensures line { result.line.items ≡ [] }
+        ensures replies { result.replies.items ≡ [] }
+    {
+        Dialogue {
+            line: Vec::new(alloc),
+            replies: Vec::new(alloc),
+        }
+    }
+
+    /// Takes in more input, and answers the lines that it completes.
+    pub fn take_in(&mut self, input: &[u8]) -> Result<(), AllocError>
+        ensures replies { OnOk result (self.new.replies.items
+            ≡ self.old.replies.items
+            ++ replies_to (complete_lines (self.old.line.items ++ input.now))) }
+        ensures line { OnOk result
+            (self.new.line.items ≡ open_line (self.old.line.items ++ input.now)) }
+    {
+        let mut rest = input;
+        if !self.line.is_empty() {
+            let Some((piece, behind)) = cut_at(b'\n', input) else {
+                return self.line.extend_from_slice(input);
+            };
+            self.complete(piece)?;
+            rest = behind;
+        }
+        'lines: while let Some(left) = answer_line(rest, &mut self.replies)? {
+            rest = left;
+        }
+        self.line.extend_from_slice(rest)
+    }
+
+    /// Answers the line that a piece with no line feed completes.
+    fn complete(&mut self, piece: &[u8]) -> Result<(), AllocError>
+        requires { split_lines piece.now ≡ piece.now ∷ [] }
+        ensures replies { OnOk result (self.new.replies.items
+            ≡ self.old.replies.items ++ reply (self.old.line.items ++ piece.now)) }
+        ensures line { OnOk result (self.new.line.items ≡ []) }
+    {
+        self.line.extend_from_slice(piece)?;
+        self.line.push(b'\n')?;
+        let answered = answer_line(self.line.as_slice(), &mut self.replies).is_ok();
+        self.line.clear();
+        if answered { Ok(()) } else { Err(AllocError) }
+    }
+
+    /// Answers the line that the end of the input completes, where there is one.
+    pub fn finish(&mut self) -> Result<(), AllocError>
+        ensures { OnOk result (self.new.replies.items
+            ≡ self.old.replies.items ++ replies_to (all_lines (self.old.line.items ∷ []))) }
+    {
+        if self.line.is_empty() {
+            return Ok(());
+        }
+        self.complete(b"")
+    }
+}
+
+/// A reader or a writer failed.
+#[derive(Clone, Copy, Debug, PartialEq, Eq, Error)]
+#[error("a stream failed")]
+pub struct Failed;
+
+/// Where bytes come from.
+///
+/// It tells the bytes that are left where it can, whether it has failed, and a bound on how many
+/// reads may still give bytes.
+pub trait Source {
+    ghost remaining: { Self → Option (List ℕ) };
+
+    ghost has_failed: { Self → Bool };
+
+    ghost bound: { Self → ℕ };
+
+    /// Reads into the buffer, and answers how many bytes came. Into a buffer that is not empty, none
+    /// come only at the end. A failure moves no byte.
+    fn read(&mut self, buffer: &mut [u8]) -> Result<usize, Failed>
+        ensures count { IfOk result (λ n. n ≤ length buffer.new) }
+        ensures bytes { IfOk result
+            (λ n. Consumes (remaining self.old) (remaining self.new) (take n buffer.new)) }
+        ensures end { IfOk result
+            (λ n. n ≡ 0 → 0 < length buffer.new → IsAtEnd (remaining self.new)) }
+        ensures nearer { IfOk result (λ n. 0 < n → bound self.new < bound self.old) }
+        ensures unfailed { OnOk result (has_failed self.new ≡ has_failed self.old) }
+        ensures failed { OnErr result (has_failed self.new ≡ true) }
+        ensures kept { OnErr result (KeepsIfTold (remaining self.old) (remaining self.new)) };
+}
+
+/// Where bytes go to.
+///
+/// It tells the bytes that were written where it can, and whether it has failed.
+pub trait Sink {
+    ghost contents: { Self → Option (List ℕ) };
+
+    ghost has_failed: { Self → Bool };
+
+    /// Writes bytes from the front of the slice, and answers how many: at least one of a slice that
+    /// is not empty. A failure moves no byte.
+    fn write(&mut self, bytes: &[u8]) -> Result<usize, Failed>
+        ensures count { IfOk result (λ n. n ≤ length bytes.now) }
+        ensures some { IfOk result (λ n. 0 < length bytes.now → 0 < n) }
+        ensures bytes { IfOk result
+            (λ n. Appends (contents self.old) (contents self.new) (take n bytes.now)) }
+        ensures unfailed { OnOk result (has_failed self.new ≡ has_failed self.old) }
+        ensures failed { OnErr result (has_failed self.new ≡ true) }
+        ensures kept { OnErr result (KeepsIfTold (contents self.old) (contents self.new)) };
+}
+
+/// A source over a reader of std. It tells no bytes once it has failed.
+///
+/// It grants 2^64 - 1 reads; one past them is a failure.
+#[derive(Drop)]
+pub struct StdSource<R> {
+    reader: R,
+    granted: u64,
+    failed: bool,
+}
+
+impl<R: Read> StdSource<R> {
+    /// A source over the reader, which has not failed.
+    pub fn new(reader: R) -> StdSource<R>
+        ensures remaining { ⟦<StdSource<R> as Source>⟧.remaining result ≡ R.remaining reader }
+        ensures unfailed { ⟦<StdSource<R> as Source>⟧.has_failed result ≡ false }
+        ensures granted { ⟦<StdSource<R> as Source>⟧.bound result ≡ 2 ^ 64 - 1 }
+    {
+        StdSource {
+            reader,
+            granted: u64::MAX,
+            failed: false,
+        }
+    }
+}
+
+impl<R: Read> Source for StdSource<R> {
+    ghost remaining = { λ s. if s.failed then None else R.remaining s.reader };
+
+    ghost has_failed = { λ s. s.failed };
+
+    ghost bound = { λ s. s.granted };
+
+    /// Takes one of the reads that are granted, where one is left.
+    fn read(&mut self, buffer: &mut [u8]) -> Result<usize, Failed>
+        ensures count { IfOk result (λ n. n ≤ length buffer.new) }
+        ensures bytes { IfOk result
+            (λ n. Consumes (⟦<StdSource<R> as Source>⟧.remaining self.old)
+            (⟦<StdSource<R> as Source>⟧.remaining self.new) (take n buffer.new)) }
+        ensures end { IfOk result (λ n. n ≡ 0 → 0 < length buffer.new
+            → IsAtEnd (⟦<StdSource<R> as Source>⟧.remaining self.new)) }
+        ensures nearer { IfOk result (λ n. 0 < n
+            → ⟦<StdSource<R> as Source>⟧.bound self.new
+            < ⟦<StdSource<R> as Source>⟧.bound self.old) }
+        ensures granted { ⟦<StdSource<R> as Source>⟧.bound self.new
+            ≡ ⟦<StdSource<R> as Source>⟧.bound self.old - 1 }
+        ensures unfailed { OnOk result (⟦<StdSource<R> as Source>⟧.has_failed self.new
+            ≡ ⟦<StdSource<R> as Source>⟧.has_failed self.old) }
+        ensures failed { OnErr result (⟦<StdSource<R> as Source>⟧.has_failed self.new ≡ true) }
+        ensures kept { OnErr result (KeepsIfTold (⟦<StdSource<R> as Source>⟧.remaining self.old)
+            (⟦<StdSource<R> as Source>⟧.remaining self.new)) }
+    {
+        if self.granted == 0 {
+            self.failed = true;
+            return Err(Failed);
+        }
+        self.granted -= 1;
+        match self.reader.read(buffer) {
+            Ok(count) => Ok(count),
+            Err(_) => {
+                self.failed = true;
+                Err(Failed)
+            }
+        }
+    }
+}
+
+/// A sink over a writer of std. It tells no bytes once it has failed.
+///
+/// A write of no bytes is a failure where there are some to write.
+#[derive(Drop)]
+pub struct StdSink<W> {
+    writer: W,
+    failed: bool,
+}
+
+impl<W: Write> StdSink<W> {
+    /// A sink over the writer, which has not failed.
+    pub fn new(writer: W) -> StdSink<W>
+        ensures contents { ⟦<StdSink<W> as Sink>⟧.contents result ≡ W.contents writer }
+        ensures unfailed { ⟦<StdSink<W> as Sink>⟧.has_failed result ≡ false }
+    {
+        StdSink {
+            writer,
+            failed: false,
+        }
+    }
+}
+
+impl<W: Write> Sink for StdSink<W> {
+    ghost contents = { λ s. if s.failed then None else W.contents s.writer };
+
+    ghost has_failed = { λ s. s.failed };
+
+    fn write(&mut self, bytes: &[u8]) -> Result<usize, Failed> {
+        match self.writer.write(bytes) {
+            Ok(count) if count > 0 || bytes.is_empty() => Ok(count),
+            _ => {
+                self.failed = true;
+                Err(Failed)
+            }
+        }
+    }
+}
+
+/// The exit status of a run: 0 where all was answered, 1 where the reader or the writer failed, 2
+/// where memory was refused.
+pub fn exit_status(outcome: &Result<(), LineError>) -> u8
+    ensures { result ≡ status_of outcome.now }
+{
+    match outcome {
+        Ok(()) => 0,
+        Err(LineError::Read | LineError::Write) => 1,
+        Err(LineError::OutOfMemory) => 2,
+    }
 }

@@ -1,20 +1,42 @@
 //! An owned path whose dialect is chosen when the program runs.
 
-ghost use Rattle.std.specs.Prelude.{◌≡◌, [], IfOk, IsOk};
+ghost use Rattle.std.specs.Prelude.{◌≡◌, [], IfOk, IsOk, not, Ok, Err, Some, None, IfSome, option_map, option_copied, Option, IfErr, is_ok};
 ghost use Rattle.std.specs.Vec.{vec_capacity};
+ghost use Rattle.std.specs.Str.{IsUtf8};
+ghost use Rattle.std.specs.Str.Lossy.{utf8_lossy};
+ghost use Rattle.std.specs.Cow.{cow_str_bytes, IsBorrowedStr};
 ghost use Rattle.typed_path.specs.components.Dialect.{unix, windows};
-ghost use Rattle.typed_path.specs.typed.Kind.{kind_dialect, derived_dialect, typed_dialect, KeepsDialect};
+ghost use Rattle.typed_path.specs.typed.Kind.{kind_dialect, derived_dialect, typed_dialect, KeepsDialect, held_unix, held_windows};
 ghost use Rattle.typed_path.specs.typed.Outcomes.{Pushes, PushesChecked, Pops, SetsFileName, SetsExtension, Clears, Reserves, ReservesExactly, ShrinksTo};
-ghost use Rattle.typed_path.specs.views.TypedViews.{typed_bytes, typed_owned, owned_bytes};
+ghost use Rattle.typed_path.specs.views.TypedViews.{typed_bytes, typed_owned, owned_bytes, typed_items, typed_slice, typed_iter_items, typed_iter_slice, typed_ancestors_left, reading_dialect};
+ghost use Rattle.typed_path.specs.declared.errors.CheckedPathError.{CheckedPathError};
+ghost use Rattle.typed_path.specs.declared.errors.AbsolutizeError.TheVariants.{Ambiguous};
+ghost use Rattle.typed_path.specs.components.Part.{kinds};
+ghost use Rattle.typed_path.specs.components.Comps.{comps, parts_of};
+ghost use Rattle.typed_path.specs.queries.Queries.{is_absolute, has_root, parent_of, file_name_of, file_stem_of, extension, stripped, path_starts_with, path_ends_with};
+ghost use Rattle.typed_path.specs.queries.Ancestry.{ancestors_of};
+ghost use Rattle.typed_path.specs.queries.Strip.{stripped_to};
+ghost use Rattle.typed_path.specs.queries.Texts.{text_of_bytes};
+ghost use Rattle.typed_path.specs.changes.Changes.{with_file_name, with_extension};
+ghost use Rattle.typed_path.specs.changes.Checked.{refusal};
+ghost use Rattle.typed_path.specs.changes.Fault.{fault};
+ghost use Rattle.typed_path.specs.conversions.Convert.{platform, converted, converted_checked, absolute_from, same_dialect};
+ghost use Rattle.typed_path.specs.places.Places.{normal_text};
+ghost use Rattle.typed_path.specs.promises.Promises.{HasPrefixOf, LiesWithin, HasNormalForm};
+ghost use Rattle.typed_path.specs.promises.Below.{LiesBelow};
+ghost use Rattle.typed_path.specs.views.PathViews.{path_bytes};
+ghost use Rattle.typed_path.specs.changes.Push as push_spec;
 
 use crate::common::{Path, PathBuf};
-use crate::errors::PathError;
-use crate::typed::kind::PathType;
-use crate::typed::path::TypedPath;
-use crate::typed::variant::{Typed, each, made_as, typed};
-use crate::unix::UnixPathBuf;
-use crate::windows::WindowsPathBuf;
+use crate::errors::{AbsolutizeError, PathError, StripPrefixError};
+use crate::platform::PlatformPath;
+use crate::typed::path::{TypedAncestors, TypedIter, TypedPath};
+use crate::typed::reading::TypedComponents;
+use crate::typed::variant::{PathType, Typed, each, made_as, typed};
+use crate::unix::{UnixPath, UnixPathBuf};
+use crate::windows::{WindowsPath, WindowsPathBuf};
 use std::alloc::{AllocError, Global};
+use std::borrow::CowStr;
 
 /// An owned path of Unix or of Windows, which grows.
 pub type TypedPathBuf = Typed<UnixPathBuf, WindowsPathBuf>;
@@ -217,5 +239,407 @@ impl TypedPathBuf {
         ensures capacity { vec_capacity result ≡ (typed_owned self).capacity }
     {
         each!(self, own => own.into_vec())
+    }
+
+    /// The bytes of the path.
+    pub fn as_bytes(&self) -> &[u8]
+        ensures { result.now ≡ owned_bytes self.now }
+    {
+        self.to_path().as_bytes()
+    }
+
+    /// The path as a text, where its bytes are UTF-8.
+    pub fn to_str(&self) -> Option<&str>
+        ensures { option_copied result ≡ text_of_bytes (owned_bytes self.now) }
+    {
+        self.to_path().to_str()
+    }
+
+    /// The path as a text, with U+FFFD where its bytes are none. Where they are UTF-8, the text is
+    /// lent and no memory is asked for.
+    pub fn to_string_lossy(&self, alloc: Global) -> Result<CowStr<'_>, AllocError>
+        ensures text { IfOk result
+            (λ text. cow_str_bytes text ≡ utf8_lossy (owned_bytes self.now)) }
+        ensures lent { IsUtf8 (owned_bytes self.now) → IfOk result IsBorrowedStr }
+        ensures succeeds { IsUtf8 (owned_bytes self.now) → IsOk result }
+    {
+        self.to_path().to_string_lossy(alloc)
+    }
+
+    /// Whether the path leads to one place, whatever the current directory is.
+    pub fn is_absolute(&self) -> bool
+        ensures { result ≡ is_absolute (typed_dialect self.now)
+            (kinds (parts_of (typed_dialect self.now) (owned_bytes self.now))) }
+    {
+        self.to_path().is_absolute()
+    }
+
+    /// Whether the path is not absolute.
+    pub fn is_relative(&self) -> bool
+        ensures { result ≡ not (is_absolute (typed_dialect self.now)
+            (kinds (parts_of (typed_dialect self.now) (owned_bytes self.now)))) }
+    {
+        self.to_path().is_relative()
+    }
+
+    /// Whether the path begins with a root, written or implied by a prefix.
+    pub fn has_root(&self) -> bool
+        ensures { result ≡ has_root (typed_dialect self.now)
+            (kinds (parts_of (typed_dialect self.now) (owned_bytes self.now))) }
+    {
+        self.to_path().has_root()
+    }
+
+    /// The path without its last component, or none where there is no component or nothing is above
+    /// the last one.
+    pub fn parent(&self) -> Option<TypedPath<'_>>
+        ensures dialect { IfSome result (λ p. typed_dialect p ≡ typed_dialect self.now) }
+        ensures bytes { option_map typed_bytes result
+            ≡ parent_of (typed_dialect self.now) (owned_bytes self.now) }
+    {
+        self.to_path().parent()
+    }
+
+    /// The path, and then each parent of the one before.
+    pub fn ancestors(&self) -> TypedAncestors<'_>
+        ensures dialect { typed_dialect result ≡ typed_dialect self.now }
+        ensures left { typed_ancestors_left result
+            ≡ ancestors_of (typed_dialect self.now) (owned_bytes self.now) }
+    {
+        self.to_path().ancestors()
+    }
+
+    /// The last component, where it is a name.
+    pub fn file_name(&self) -> Option<&[u8]>
+        ensures { option_copied result
+            ≡ file_name_of (typed_dialect self.now) (owned_bytes self.now) }
+    {
+        self.to_path().file_name()
+    }
+
+    /// The file name up to its last dot, or the whole of it where no dot but a first one is there.
+    pub fn file_stem(&self) -> Option<&[u8]>
+        ensures { option_copied result
+            ≡ file_stem_of (typed_dialect self.now) (owned_bytes self.now) }
+    {
+        self.to_path().file_stem()
+    }
+
+    /// What stands in the file name behind its last dot, where that is not its first byte.
+    pub fn extension(&self) -> Option<&[u8]>
+        ensures { option_copied result
+            ≡ extension (typed_dialect self.now) (owned_bytes self.now) }
+    {
+        self.to_path().extension()
+    }
+
+    /// What is left of the path behind a base of its kind.
+    ///
+    /// # Errors
+    ///
+    /// `StripPrefixError` exactly where the path does not begin with the base's components, compared
+    /// as they are written.
+    pub fn strip_prefix(&self, base: &[u8]) -> Result<TypedPath<'_>, StripPrefixError>
+        ensures dialect { IfOk result (λ p. typed_dialect p ≡ typed_dialect self.now) }
+        ensures bytes { stripped_to typed_bytes result
+            ≡ stripped (typed_dialect self.now) (owned_bytes self.now) base.now }
+    {
+        self.to_path().strip_prefix(base)
+    }
+
+    /// Whether the path begins with the components of another of its kind, as they are written.
+    pub fn starts_with(&self, base: &[u8]) -> bool
+        ensures { result
+            ≡ path_starts_with (typed_dialect self.now) (owned_bytes self.now) base.now }
+    {
+        self.to_path().starts_with(base)
+    }
+
+    /// Whether the path ends with the components of another of its kind, as they are written.
+    pub fn ends_with(&self, end: &[u8]) -> bool
+        ensures { result
+            ≡ path_ends_with (typed_dialect self.now) (owned_bytes self.now) end.now }
+    {
+        self.to_path().ends_with(end)
+    }
+
+    /// The components of the path, from either end.
+    pub fn components(&self) -> TypedComponents<'_>
+        ensures dialect { reading_dialect result ≡ typed_dialect self.now }
+        ensures items { typed_items result
+            ≡ comps (typed_dialect self.now) (owned_bytes self.now) }
+        ensures slice { typed_slice result ≡ owned_bytes self.now }
+    {
+        self.to_path().components()
+    }
+
+    /// The texts of the components, from either end.
+    pub fn iter(&self) -> TypedIter<'_>
+        ensures dialect { typed_dialect result ≡ typed_dialect self.now }
+        ensures items { typed_iter_items result
+            ≡ comps (typed_dialect self.now) (owned_bytes self.now) }
+        ensures slice { typed_iter_slice result ≡ owned_bytes self.now }
+    {
+        self.to_path().iter()
+    }
+
+    /// The path with another of its kind pushed onto it: an absolute one stands in its place, and with
+    /// an empty one it is a copy.
+    pub fn join(&self, alloc: Global, path: &[u8]) -> Result<TypedPathBuf, AllocError>
+        ensures dialect { IfOk result (λ p. typed_dialect p ≡ typed_dialect self.now) }
+        ensures joined { IfOk result (λ p. owned_bytes p
+            ≡ push_spec.push (typed_dialect self.now) (owned_bytes self.now) path.now) }
+    {
+        self.to_path().join(alloc, path)
+    }
+
+    /// The path with another of its kind pushed onto it, unless that has a component that offends.
+    ///
+    /// The answer lies within this path, where it has the prefix of this one. A path that is refused
+    /// costs no memory.
+    ///
+    /// # Errors
+    ///
+    /// Those of [`Path::join_checked`].
+    pub fn join_checked(&self, alloc: Global, path: &[u8]) -> Result<TypedPathBuf, PathError>
+        ensures refused { refusal result ≡ fault (typed_dialect self.now) path.now }
+        ensures dialect { IfOk result (λ p. typed_dialect p ≡ typed_dialect self.now) }
+        ensures joined { IfOk result (λ p. owned_bytes p
+            ≡ push_spec.push (typed_dialect self.now) (owned_bytes self.now) path.now) }
+        ensures prefix { IfOk result
+            (λ p. HasPrefixOf (typed_dialect self.now) (owned_bytes self.now) (owned_bytes p)) }
+        ensures contained { IfOk result
+            (λ p. LiesWithin (typed_dialect self.now) (owned_bytes self.now) path.now (owned_bytes p)) }
+        ensures below { IfOk result (λ p. LiesBelow (typed_dialect self.now) (owned_bytes self.now) (owned_bytes p)) }
+    {
+        self.to_path().join_checked(alloc, path)
+    }
+
+    /// A copy with another file name, or with the name pushed where there is none.
+    pub fn with_file_name(&self, alloc: Global, name: &[u8]) -> Result<TypedPathBuf, AllocError>
+        ensures dialect { IfOk result (λ p. typed_dialect p ≡ typed_dialect self.now) }
+        ensures bytes { IfOk result (λ p. owned_bytes p
+            ≡ with_file_name (typed_dialect self.now) (owned_bytes self.now) name.now) }
+    {
+        self.to_path().with_file_name(alloc, name)
+    }
+
+    /// A copy whose file name has another extension, or none where the new one is empty. Without a
+    /// file name it is a mere copy.
+    pub fn with_extension(
+        &self,
+        alloc: Global,
+        extension: &[u8],
+    ) -> Result<TypedPathBuf, AllocError>
+        ensures dialect { IfOk result (λ p. typed_dialect p ≡ typed_dialect self.now) }
+        ensures bytes { IfOk result (λ p. owned_bytes p
+            ≡ with_extension (typed_dialect self.now) (owned_bytes self.now) extension.now) }
+    {
+        self.to_path().with_extension(alloc, extension)
+    }
+
+    /// The path without `.`, and without `..` and the names that these take away, in the form of
+    /// [`Path::normalize`].
+    pub fn normalize(&self, alloc: Global) -> Result<TypedPathBuf, AllocError>
+        ensures dialect { IfOk result (λ p. typed_dialect p ≡ typed_dialect self.now) }
+        ensures text { IfOk result (λ p. owned_bytes p
+            ≡ normal_text (typed_dialect self.now) (owned_bytes self.now)) }
+        ensures form { IfOk result
+            (λ p. HasNormalForm (typed_dialect self.now) (owned_bytes self.now) (owned_bytes p)) }
+    {
+        self.to_path().normalize(alloc)
+    }
+
+    /// The normal text of the path where it is absolute, and else of the directory in this path's
+    /// dialect with the path pushed onto it.
+    ///
+    /// # Errors
+    ///
+    /// `Ambiguous` where the path is absolute neither alone nor behind the directory, as every Windows
+    /// path without a prefix is behind `/home/u`. `OutOfMemory` where memory is refused.
+    pub fn absolutize(
+        &self,
+        alloc: Global,
+        directory: PlatformPath<'_>,
+    ) -> Result<TypedPathBuf, AbsolutizeError>
+        ensures dialect { IfOk result (λ p. typed_dialect p ≡ typed_dialect self.now) }
+        ensures ok { IfOk result (λ p.
+            absolute_from (typed_dialect self.now) (path_bytes directory.entry) (owned_bytes self.now)
+            ≡ Some (owned_bytes p)) }
+        ensures ambiguous { result ≡ Err Ambiguous
+            → absolute_from (typed_dialect self.now) (path_bytes directory.entry) (owned_bytes self.now)
+            ≡ None }
+    {
+        self.to_path().absolutize(alloc, directory)
+    }
+
+    /// The path as on Unix: that of Unix is copied, and that of Windows written as
+    /// [`Path::with_encoding`] does.
+    pub fn with_unix_encoding(&self, alloc: Global) -> Result<TypedPathBuf, AllocError>
+        ensures dialect { IfOk result (λ p. typed_dialect p ≡ unix) }
+        ensures bytes { IfOk result (λ p. owned_bytes p
+            ≡ converted (typed_dialect self.now) unix (owned_bytes self.now)) }
+    {
+        self.to_path().with_unix_encoding(alloc)
+    }
+
+    /// The path as on Unix, refused as [`Path::with_encoding_checked`] does, also where it is of Unix.
+    pub fn with_unix_encoding_checked(&self, alloc: Global) -> Result<TypedPathBuf, PathError>
+        ensures dialect { IfOk result (λ p. typed_dialect p ≡ unix) }
+        ensures ok { IfOk result (λ p.
+            converted_checked (typed_dialect self.now) unix (owned_bytes self.now)
+            ≡ Ok (owned_bytes p)) }
+        ensures refused { (e : CheckedPathError) → refusal result ≡ Some e
+            → converted_checked (typed_dialect self.now) unix (owned_bytes self.now) ≡ Err e }
+    {
+        self.to_path().with_unix_encoding_checked(alloc)
+    }
+
+    /// The path as on Windows: that of Windows is copied, and that of Unix written as
+    /// [`Path::with_encoding`] does.
+    pub fn with_windows_encoding(&self, alloc: Global) -> Result<TypedPathBuf, AllocError>
+        ensures dialect { IfOk result (λ p. typed_dialect p ≡ windows) }
+        ensures bytes { IfOk result (λ p. owned_bytes p
+            ≡ converted (typed_dialect self.now) windows (owned_bytes self.now)) }
+    {
+        self.to_path().with_windows_encoding(alloc)
+    }
+
+    /// The path as on Windows, refused as [`Path::with_encoding_checked`] does, also where it is of
+    /// Windows.
+    pub fn with_windows_encoding_checked(&self, alloc: Global) -> Result<TypedPathBuf, PathError>
+        ensures dialect { IfOk result (λ p. typed_dialect p ≡ windows) }
+        ensures ok { IfOk result (λ p.
+            converted_checked (typed_dialect self.now) windows (owned_bytes self.now)
+            ≡ Ok (owned_bytes p)) }
+        ensures refused { (e : CheckedPathError) → refusal result ≡ Some e
+            → converted_checked (typed_dialect self.now) windows (owned_bytes self.now) ≡ Err e }
+    {
+        self.to_path().with_windows_encoding_checked(alloc)
+    }
+}
+
+/// A value that may hold one of another type.
+pub trait TryAsRef<T> {
+    ghost try_as_ref_gives: { Self → Option T → Type 0 };
+
+    /// The value that is held, where it is one of that type.
+    fn try_as_ref(&self) -> Option<T>
+        ensures { try_as_ref_gives self.now result };
+}
+
+/// The path that is held, where it is one of Unix.
+impl<'a> TryAsRef<UnixPath<'a>> for TypedPath<'a> {
+    ghost try_as_ref_gives = { λ path held. held ≡ held_unix path };
+
+    fn try_as_ref(&self) -> Option<UnixPath<'a>> {
+        match self {
+            Typed::Unix(path) => Some(*path),
+            Typed::Windows(_) => None,
+        }
+    }
+}
+
+/// The path that is held, where it is one of Windows.
+impl<'a> TryAsRef<WindowsPath<'a>> for TypedPath<'a> {
+    ghost try_as_ref_gives = { λ path held. held ≡ held_windows path };
+
+    fn try_as_ref(&self) -> Option<WindowsPath<'a>> {
+        match self {
+            Typed::Unix(_) => None,
+            Typed::Windows(path) => Some(*path),
+        }
+    }
+}
+
+impl<'a> UnixPath<'a> {
+    /// The path as one whose dialect is chosen when the program runs.
+    pub fn to_typed_path(self) -> TypedPath<'a>
+        ensures dialect { typed_dialect result ≡ unix }
+        ensures bytes { typed_bytes result ≡ path_bytes self.entry }
+    {
+        Typed::Unix(self)
+    }
+
+    /// A copy of the path as one whose dialect is chosen when the program runs.
+    pub fn to_typed_path_buf(self, alloc: Global) -> Result<TypedPathBuf, AllocError>
+        ensures dialect { IfOk result (λ p. typed_dialect p ≡ unix) }
+        ensures bytes { IfOk result (λ p. owned_bytes p ≡ path_bytes self.entry) }
+        ensures succeeds { path_bytes self.entry ≡ [] → IsOk result }
+    {
+        self.to_typed_path().to_path_buf(alloc)
+    }
+}
+
+impl<'a> WindowsPath<'a> {
+    /// The path as one whose dialect is chosen when the program runs.
+    pub fn to_typed_path(self) -> TypedPath<'a>
+        ensures dialect { typed_dialect result ≡ windows }
+        ensures bytes { typed_bytes result ≡ path_bytes self.entry }
+    {
+        Typed::Windows(self)
+    }
+
+    /// A copy of the path as one whose dialect is chosen when the program runs.
+    pub fn to_typed_path_buf(self, alloc: Global) -> Result<TypedPathBuf, AllocError>
+        ensures dialect { IfOk result (λ p. typed_dialect p ≡ windows) }
+        ensures bytes { IfOk result (λ p. owned_bytes p ≡ path_bytes self.entry) }
+        ensures succeeds { path_bytes self.entry ≡ [] → IsOk result }
+    {
+        self.to_typed_path().to_path_buf(alloc)
+    }
+}
+
+/// The path of the bytes of a vector, of the kind that they look like, with no copy.
+impl From<Vec<u8>> for TypedPathBuf {
+    ghost from_gives = { λ bytes path. (typed_dialect path ≡ derived_dialect bytes.items)
+        × (owned_bytes path ≡ bytes.items) };
+
+    fn from(bytes: Vec<u8>) -> TypedPathBuf {
+        made_as!(PathType::derive(bytes.as_slice()), PathBuf::from(bytes))
+    }
+}
+
+/// The path of the bytes of a text, of the kind that it looks like, with no copy.
+impl From<String> for TypedPathBuf {
+    ghost use Rattle.std.specs.String.{string_bytes};
+
+    ghost from_gives = { λ text path. (typed_dialect path ≡ derived_dialect (string_bytes text))
+        × (owned_bytes path ≡ string_bytes text) };
+
+    fn from(text: String) -> TypedPathBuf {
+        TypedPathBuf::from(text.into_bytes())
+    }
+}
+
+/// The path that is held, where it is one of Unix; one of Windows is given back.
+impl TryFrom<TypedPathBuf> for UnixPathBuf {
+    type Error = TypedPathBuf;
+
+    ghost try_from_gives = { λ path made. (is_ok made ≡ same_dialect (typed_dialect path) unix)
+        × IfOk made (λ p. p ≡ typed_owned path)
+        × IfErr made (λ back. back ≡ path) };
+
+    fn try_from(path: TypedPathBuf) -> Result<UnixPathBuf, TypedPathBuf> {
+        match path {
+            Typed::Unix(path) => Ok(path),
+            Typed::Windows(path) => Err(Typed::Windows(path)),
+        }
+    }
+}
+
+/// The path that is held, where it is one of Windows; one of Unix is given back.
+impl TryFrom<TypedPathBuf> for WindowsPathBuf {
+    type Error = TypedPathBuf;
+
+    ghost try_from_gives = { λ path made. (is_ok made ≡ same_dialect (typed_dialect path) windows)
+        × IfOk made (λ p. p ≡ typed_owned path)
+        × IfErr made (λ back. back ≡ path) };
+
+    fn try_from(path: TypedPathBuf) -> Result<WindowsPathBuf, TypedPathBuf> {
+        match path {
+            Typed::Unix(path) => Err(Typed::Unix(path)),
+            Typed::Windows(path) => Ok(path),
+        }
     }
 }

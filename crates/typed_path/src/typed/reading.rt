@@ -6,11 +6,11 @@ ghost use Rattle.typed_path.specs.scan.Steps.{first_part, last_part};
 ghost use Rattle.typed_path.specs.typed.Kind.{typed_dialect, KeepsDialect};
 ghost use Rattle.typed_path.specs.views.TypedViews.{typed_bytes};
 
-use crate::typed::component::TypedComponent;
+use crate::common::Component;
 use crate::typed::path::{TypedAncestors, TypedIter, TypedPath};
 use crate::typed::variant::{Typed, each, typed, typed_option};
-use crate::unix::UnixComponents;
-use crate::windows::WindowsComponents;
+use crate::unix::{UnixComponent, UnixComponents};
+use crate::windows::{WindowsComponent, WindowsComponents};
 use std::cmp::Ordering;
 use std::iter::FusedIterator;
 
@@ -265,3 +265,84 @@ impl<'a> Iterator for TypedAncestors<'a> {
 }
 
 impl<'a> FusedIterator for TypedAncestors<'a> {}
+
+/// A component of a path of Unix or of Windows.
+pub type TypedComponent<'a> = Typed<UnixComponent<'a>, WindowsComponent<'a>>;
+
+impl<'a> TypedComponent<'a> {
+    ghost use Rattle.std.specs.Prelude.{◌≡◌, ◌==◌, length, option_copied};
+    ghost use Rattle.typed_path.specs.components.Part.{is_name, is_parent, is_current};
+    ghost use Rattle.typed_path.specs.queries.Queries.{is_root, name_of};
+    ghost use Rattle.typed_path.specs.typed.Kind.{derived_dialect, typed_dialect};
+    ghost use Rattle.typed_path.specs.views.TypedViews.{typed_bytes, typed_part};
+
+    /// The path of this one component, of the kind that its text looks like.
+    ///
+    /// Of the component `a` of the Windows path `C:\a` it is the Unix path `a`.
+    pub fn to_path(self) -> TypedPath<'a>
+        ensures dialect { typed_dialect result ≡ derived_dialect (typed_part self.entry).text }
+        ensures bytes { typed_bytes result ≡ (typed_part self.entry).text }
+    {
+        TypedPath::derive(self.as_bytes())
+    }
+
+    /// The text of the component.
+    pub fn as_bytes(self) -> &'a [u8]
+        ensures { result.now ≡ (typed_part self.entry).text }
+    {
+        each!(self, component => component.as_bytes())
+    }
+
+    /// Whether nothing is above the component: the root, and every prefix but a drive.
+    pub fn is_root(self) -> bool
+        ensures { result ≡ is_root (typed_part self.entry).kind }
+    {
+        each!(self, component => component.is_root())
+    }
+
+    /// Whether the component is a name.
+    pub fn is_normal(self) -> bool
+        ensures { result ≡ is_name (typed_part self.entry).kind }
+    {
+        each!(self, component => component.is_normal())
+    }
+
+    /// The name that the component is, where it is one.
+    pub fn as_normal_bytes(self) -> Option<&'a [u8]>
+        ensures { option_copied result ≡ name_of (typed_part self.entry).kind }
+    {
+        match self {
+            Typed::Unix(UnixComponent::Normal(name)) => Some(name),
+            Typed::Windows(WindowsComponent::Normal(name)) => Some(name),
+            _ => None,
+        }
+    }
+
+    /// Whether the component is the parent directory, `..`.
+    pub fn is_parent(self) -> bool
+        ensures { result ≡ is_parent (typed_part self.entry).kind }
+    {
+        each!(self, component => component.is_parent())
+    }
+
+    /// Whether the component is the current directory, `.`.
+    pub fn is_current(self) -> bool
+        ensures { result ≡ is_current (typed_part self.entry).kind }
+    {
+        each!(self, component => component.is_current())
+    }
+
+    /// How many bytes the text has.
+    pub fn len(self) -> usize
+        ensures { result ≡ length (typed_part self.entry).text }
+    {
+        each!(self, component => component.len())
+    }
+
+    /// Whether the text is empty.
+    pub fn is_empty(self) -> bool
+        ensures { result ≡ (length (typed_part self.entry).text == 0) }
+    {
+        each!(self, component => component.is_empty())
+    }
+}

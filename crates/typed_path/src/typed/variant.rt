@@ -3,8 +3,9 @@
 ghost use Rattle.std.specs.Prelude.{◌≡◌};
 ghost use Rattle.typed_path.specs.components.Dialect.{unix, windows};
 ghost use Rattle.typed_path.specs.conversions.Convert.{same_dialect};
-ghost use Rattle.typed_path.specs.typed.Kind.{typed_dialect, of_held};
+ghost use Rattle.typed_path.specs.typed.Kind.{typed_dialect, of_held, kind_dialect, derived_dialect, looks_like_windows};
 
+use crate::scan::find_prefix;
 use std::fmt;
 
 /// A value of Unix or one of Windows, as it was chosen when the program ran.
@@ -109,5 +110,38 @@ impl<U: fmt::Display, V: fmt::Display> fmt::Display for Typed<U, V> {
 
     fn fmt<W: fmt::Write>(&self, f: &mut fmt::Formatter<W>) -> fmt::Result {
         each!(self, held => held.fmt(f))
+    }
+}
+
+/// The kind of a path: as on Unix, or as on Windows.
+#[derive(Clone, Copy, Debug, PartialEq, Eq, PartialOrd, Ord, Hash)]
+pub enum PathType {
+    /// Written as on Unix.
+    Unix,
+    /// Written as on Windows.
+    Windows,
+}
+
+/// Whether a text begins with a backslash, or with a prefix of Windows.
+#[inline]
+fn looks_like_windows(text: &[u8]) -> bool
+    ensures { result ≡ looks_like_windows text.now }
+{
+    matches!(text, [b'\\', ..]) || find_prefix(text).is_some()
+}
+
+impl PathType {
+    /// The kind that a text looks like: Windows where it begins with `\` or with a prefix of Windows,
+    /// and else Unix.
+    ///
+    /// `\`, `//a/b` and `a:b` are of Windows, the empty text and `///a` of Unix.
+    pub fn derive(text: &[u8]) -> PathType
+        ensures { kind_dialect result ≡ derived_dialect text.now }
+    {
+        if looks_like_windows(text) {
+            PathType::Windows
+        } else {
+            PathType::Unix
+        }
     }
 }

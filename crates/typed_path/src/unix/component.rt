@@ -1,7 +1,9 @@
 //! One component of a Unix path.
 
-use crate::common::{Component, Encoding, Path};
+use crate::common::{Component, Concrete, ConcreteComponents, Encoding, Path};
 use crate::constants::unix::{CURRENT_DIR, PARENT_DIR};
+use crate::errors::ParseError;
+use crate::scan::{Piece, PieceKind};
 use crate::unix::encoding::UnixEncoding;
 
 /// A component of a Unix path.
@@ -90,5 +92,90 @@ impl<'a> Component<'a> for UnixComponent<'a> {
 
     fn current() -> UnixComponent<'a> {
         UnixComponent::CurDir
+    }
+}
+
+/// The components of a Unix path that are left to be read.
+pub type UnixComponents<'a> = ConcreteComponents<'a, UnixEncoding>;
+
+impl<'a> Concrete<'a> for UnixEncoding {
+    ghost use Rattle.std.specs.Prelude.{◌≡◌};
+    ghost use Rattle.typed_path.specs.components.Dialect.{unix, iterator_name};
+    ghost use Rattle.typed_path.specs.components.Written.{written};
+    ghost use Rattle.typed_path.specs.views.PieceViews.{part_of};
+    ghost use Rattle.typed_path.specs.views.UnixViews.{unix_part};
+
+    type Component = UnixComponent<'a>;
+
+    ghost part = { unix_part };
+
+    fn iterator_name() -> &'static str
+        ensures { result.now ≡ iterator_name unix }
+    {
+        "UnixComponents"
+    }
+
+    #[inline(always)]
+    fn component(piece: Piece<'a>) -> UnixComponent<'a>
+        requires { part_of piece ≡ written unix (part_of piece) }
+        ensures { unix_part result ≡ part_of piece.entry }
+    {
+        match piece.kind {
+            PieceKind::RootDir => UnixComponent::RootDir,
+            PieceKind::ParentDir => UnixComponent::ParentDir,
+            PieceKind::Normal => UnixComponent::Normal(piece.text),
+            PieceKind::CurDir | PieceKind::Prefix(_) => UnixComponent::CurDir,
+        }
+    }
+}
+
+/// Reads bytes that are one component: `a//.` is the name `a`.
+///
+/// # Errors
+///
+/// `no component found` where they have none, and `found more than one component` where they have two
+/// or more, as `/a`.
+impl<'a> TryFrom<&'a [u8]> for UnixComponent<'a> {
+    ghost use Rattle.typed_path.specs.views.UnixViews.{IsUnixReading};
+
+    type Error = ParseError;
+
+    ghost try_from_gives = { λ text reading. IsUnixReading text.now reading };
+
+    fn try_from(text: &'a [u8]) -> Result<UnixComponent<'a>, ParseError> {
+        let mut components = UnixComponents::new(Path::new(text));
+        let Some(component) = components.next() else {
+            return Err("no component found");
+        };
+        match components.next() {
+            None => Ok(component),
+            Some(_) => Err("found more than one component"),
+        }
+    }
+}
+
+/// Reads an array as the slice of its bytes.
+impl<'a, const N: usize> TryFrom<&'a [u8; N]> for UnixComponent<'a> {
+    ghost use Rattle.typed_path.specs.views.UnixViews.{IsUnixReading};
+
+    type Error = ParseError;
+
+    ghost try_from_gives = { λ text reading. IsUnixReading text.now reading };
+
+    fn try_from(text: &'a [u8; N]) -> Result<UnixComponent<'a>, ParseError> {
+        UnixComponent::try_from(text.as_slice())
+    }
+}
+
+/// Reads a text as the slice of its bytes.
+impl<'a> TryFrom<&'a str> for UnixComponent<'a> {
+    ghost use Rattle.typed_path.specs.views.UnixViews.{IsUnixReading};
+
+    type Error = ParseError;
+
+    ghost try_from_gives = { λ text reading. IsUnixReading text.now reading };
+
+    fn try_from(text: &'a str) -> Result<UnixComponent<'a>, ParseError> {
+        UnixComponent::try_from(text.as_bytes())
     }
 }

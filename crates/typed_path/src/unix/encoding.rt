@@ -1,14 +1,21 @@
 //! The encoding of Unix paths.
 
-ghost use Rattle.std.specs.Prelude.{false};
-ghost use Rattle.typed_path.specs.components.Dialect.{unix};
+ghost use Rattle.std.specs.Prelude.{false, ◌≡◌, ◌≤◌, ◌+◌, ◌++◌, ℕ, take, slice_range, length, IfSome, IsNone, IsOk, OnOk, OnErr, ◌<◌, ◌-◌, List, []};
+ghost use Rattle.std.specs.Vec.{vec_capacity, vec_len};
+ghost use Rattle.typed_path.specs.components.Dialect.{unix, slash};
+ghost use Rattle.typed_path.specs.changes.Push.{push_unix, ended_with, FitsPush};
+ghost use Rattle.typed_path.specs.changes.Checked.{begins_with_harm, is_harmless};
+ghost use Rattle.typed_path.specs.places.Places.{normal_text};
+ghost use Rattle.typed_path.specs.places.Rows.{rows, settled, names_left, AreRows, IsParted};
 
-use crate::common::Encoding;
+use crate::common::{
+    Encoding, behind_segment, cut_back, drop_name, drop_separator, put_front, put_over,
+};
 use crate::errors::CheckedPathError;
-use crate::scan::{Cursor, Piece, Separators, base_end, has_valid_names};
-use crate::unix::checked::is_harmless;
-use crate::unix::normal::put_normal;
-use crate::unix::push::push_at;
+use crate::scan::{
+    Cursor, Piece, Separators, StepKind, base_end, cut_at_separator, first_between,
+    has_valid_names, step_of,
+};
 use std::alloc::AllocError;
 use std::fmt;
 
@@ -108,4 +115,165 @@ impl Encoding for UnixEncoding {
         }
         Cursor::new(path, Separators::Slash).check()
     }
+}
+
+/// Cuts a text to its first bytes, and pushes a path onto the one that stands there from a place
+/// on. Where memory is refused, the text is as it was.
+#[inline(always)]
+pub fn push_at(
+    text: &mut Vec<u8>,
+    start: usize,
+    kept: usize,
+    other: &[u8],
+) -> Result<(), AllocError>
+    requires ordered { start ≤ kept }
+    requires within { kept ≤ length text.old.items }
+    ensures ok { OnOk result (text.new.items ≡ take start text.old.items
+        ++ push_unix (slice_range text.old.items start kept) other.now) }
+    ensures err { OnErr result (text.new.items ≡ text.old.items) }
+    ensures capacity { vec_capacity text.old ≤ vec_capacity text.new }
+    ensures succeeds { (room : ℕ) → start + room ≤ vec_capacity text.old
+        → FitsPush unix room (slice_range text.old.items start kept) other.now → IsOk result }
+{
+    match joint(&text[start..kept], other) {
+        Some(separator) => put_over(text, kept, separator, other),
+        None => put_over(text, start, b"", other),
+    }
+}
+
+/// What a push puts between a base and a path; none where the path replaces the base.
+#[inline(always)]
+fn joint(base: &[u8], other: &[u8]) -> Option<&'static [u8]>
+    ensures behind { IfSome result (λ separator. push_unix base.now other.now
+        ≡ base.now ++ separator.now ++ other.now) }
+    ensures replaced { IsNone result → push_unix base.now other.now ≡ other.now }
+    ensures short { IfSome result (λ separator. length separator.now ≤ 1) }
+{
+    match other {
+        [] => Some(b""),
+        [b'/', ..] => None,
+        _ => Some(separator_behind(base)),
+    }
+}
+
+/// What a base wants behind it before a relative path.
+#[inline(always)]
+fn separator_behind(base: &[u8]) -> &'static [u8]
+    ensures text { ended_with slash base.now ≡ base.now ++ result.now }
+    ensures short { length result.now ≤ 1 }
+{
+    match base {
+        [] | [.., b'/'] => b"",
+        _ => b"/",
+    }
+}
+
+/// Whether a path holds neither NUL nor two dots side by side. Without a root, such a path has no
+/// component that offends.
+pub fn is_harmless(path: &[u8]) -> bool
+    ensures { result ≡ is_harmless path.now }
+{
+    let mut at = 0;
+    'dots: while at < path.len() {
+        let found = first_between(path, at, path.len(), (b'.', b'\0'));
+        if found == path.len() {
+            return true;
+        }
+        if begins_with_harm(&path[found..]) {
+            return false;
+        }
+        at = found + 1;
+    }
+    true
+}
+
+/// Whether a text begins with NUL, or with two dots.
+fn begins_with_harm(text: &[u8]) -> bool
+    ensures { result ≡ begins_with_harm text.now }
+{
+    matches!(text, [b'\0', ..] | [b'.', b'.', ..])
+}
+
+/// Puts the normal text of a path behind a text, in one pass.
+///
+/// Each name is put behind the ones before it with a separator behind it, and a `..` takes the last
+/// one off again; at the end the last separator goes. Where memory is refused, all of it goes.
+pub fn put_normal(text: &mut Vec<u8>, path: &[u8]) -> Result<(), AllocError>
+    ensures ok { OnOk result (text.new.items ≡ text.old.items ++ normal_text unix path.now) }
+    ensures err { OnErr result (text.new.items ≡ text.old.items) }
+    ensures capacity { vec_capacity text.old ≤ vec_capacity text.new }
+    ensures succeeds { vec_len text.old + length path.now < vec_capacity text.old → IsOk result }
+{
+    let len = text.len();
+    let done = put_rows(text, path);
+    cut_back(text, len, done)
+}
+
+/// Puts the normal text of a path behind a text: the root, and the names that are left behind it.
+#[inline(always)]
+fn put_rows(text: &mut Vec<u8>, path: &[u8]) -> Result<(), AllocError>
+    ensures ok { OnOk result (text.new.items ≡ text.old.items ++ normal_text unix path.now) }
+    ensures kept { take (length text.old.items) text.new.items ≡ text.old.items }
+    ensures capacity { vec_capacity text.old ≤ vec_capacity text.new }
+    ensures succeeds { vec_len text.old + length path.now < vec_capacity text.old → IsOk result }
+{
+    let (root, rest) = split_root(path);
+    text.extend_from_slice(root)?;
+    let len = text.len();
+    settle_all(text, len, rest)?;
+    drop_separator(text, len);
+    Ok(())
+}
+
+/// The root of a path, or nothing, and what stands behind it.
+fn split_root(path: &[u8]) -> (&[u8], &[u8])
+    ensures { IsParted path.now result.0.now result.1.now }
+{
+    match path {
+        [b'/', rest @ ..] => (&path[..1], rest),
+        _ => (&path[..0], path),
+    }
+}
+
+/// Puts the names that are left of a path behind the first bytes of a text.
+fn settle_all(text: &mut Vec<u8>, len: usize, path: &[u8]) -> Result<(), AllocError>
+    requires { len ≤ length text.old.items }
+    ensures ok { OnOk result ((head : List ℕ) → length head ≡ len → AreRows text.old.items head []
+        → text.new.items ≡ head ++ rows (names_left path.now)) }
+    ensures kept { take len text.new.items ≡ take len text.old.items }
+    ensures long { len ≤ length text.new.items }
+    ensures capacity { vec_capacity text.old ≤ vec_capacity text.new }
+    ensures succeeds { vec_len text.old + length path.now < vec_capacity text.old → IsOk result }
+{
+    let mut rest = path;
+    'segments: while let Some((segment, behind)) = cut_at_separator(Separators::Slash, rest) {
+        settle(text, len, segment, rest)?;
+        rest = behind_segment(segment, behind, Separators::Slash);
+    }
+    settle(text, len, rest, rest)
+}
+
+/// Settles one more segment, which is what the rest begins with, behind the names that stand.
+#[inline(always)]
+fn settle(text: &mut Vec<u8>, len: usize, segment: &[u8], rest: &[u8]) -> Result<(), AllocError>
+    requires within { len ≤ length text.old.items }
+    requires front { take (length segment.now) rest.now ≡ segment.now }
+    ensures ok { OnOk result ((head : List ℕ) (names : List (List ℕ)) → length head ≡ len
+        → AreRows text.old.items head names
+        → text.new.items ≡ head ++ rows (settled names segment.now)) }
+    ensures kept { take len text.new.items ≡ take len text.old.items }
+    ensures long { len ≤ length text.new.items }
+    ensures room { vec_len text.new ≤ vec_len text.old + length segment.now + 1 }
+    ensures capacity { vec_capacity text.old ≤ vec_capacity text.new }
+    ensures succeeds { vec_len text.old + length rest.now < vec_capacity text.old → IsOk result }
+{
+    match step_of(segment, Separators::Slash).kind {
+        StepKind::ParentDir => drop_name(text, len, Separators::Slash),
+        StepKind::Normal => {
+            put_front(text, rest, segment.len())?;
+            text.push(b'/')?;
+        }
+        StepKind::RootDir | StepKind::CurDir => {}
+    }
+    Ok(())
 }

@@ -1,22 +1,25 @@
 //! What every encoding of paths of text can do.
 #![tactic(auto, using(crate::proofs::lemmas::texts::TextChanges::text_laws))]
 
-ghost use Rattle.std.specs.Prelude.{◌≡◌, ◌≤◌, Bool, fold, None, IsSome, IsOk, OnOk, OnErr};
-ghost use Rattle.std.specs.String.{string_bytes, string_capacity};
-ghost use Rattle.typed_path.specs.components.Dialect.{label_of};
+ghost use Rattle.std.specs.Prelude.{◌≡◌, ◌≤◌, Bool, fold, None, IsSome, IsOk, OnOk, OnErr, ◌==◌, [], ◌∷◌, length, option_copied, true};
+ghost use Rattle.std.specs.String.{string_bytes, string_capacity, string_vec};
+ghost use Rattle.std.specs.Str.{is_utf8};
+ghost use Rattle.typed_path.specs.components.Dialect.{label_of, Dialect, root_of, dot};
 ghost use Rattle.typed_path.specs.changes.Checked.{refusal};
-ghost use Rattle.typed_path.specs.changes.Push as push_spec;
 ghost use Rattle.typed_path.specs.changes.Push.{FitsPush};
 ghost use Rattle.typed_path.specs.changes.Fault.{fault};
 ghost use Rattle.typed_path.specs.order.Words.{path_words};
 ghost use Rattle.typed_path.specs.promises.Promises.{HasPrefixOf, LiesWithin};
+ghost use Rattle.typed_path.specs.components.Part.{Part, root as root_kind, parent as parent_kind, current as current_kind, is_name, is_parent, is_current};
+ghost use Rattle.typed_path.specs.queries.Queries.{is_root as is_root_kind, is_valid_kind};
+ghost use Rattle.typed_path.specs.texts.Texts.{is_text_option};
+ghost use Rattle.typed_path.specs.changes.Push as push_spec;
 
 use crate::common::Encoding;
 use crate::errors::PathError;
-use crate::utf8::text::string_of;
 use std::alloc::AllocError;
-use std::hash::Hasher;
-use std::mem;
+use std::hash::{Hash, Hasher};
+use std::{fmt, mem, str};
 
 /// A way of writing paths that are texts.
 ///
@@ -80,4 +83,89 @@ pub trait Utf8Encoding: Sized {
         Self::Bytes::check(other.as_bytes())?;
         Ok(Self::push(path, other)?)
     }
+}
+
+/// A component of a path of text of one encoding.
+pub trait Utf8Component<'a>: Copy + fmt::Debug + Ord + Hash {
+    ghost dialect: { Dialect };
+
+    ghost part: { Self → Part };
+
+    /// The text of the component.
+    fn as_str(&self) -> &'a str
+        ensures { result.now ≡ (part self.now).text };
+
+    /// Whether nothing is above the component: the root, and every prefix but a drive.
+    fn is_root(&self) -> bool
+        ensures { result ≡ is_root_kind (part self.now).kind };
+
+    /// Whether the component is a name.
+    fn is_normal(&self) -> bool
+        ensures { result ≡ is_name (part self.now).kind };
+
+    /// Whether the component is the parent directory, `..`.
+    fn is_parent(&self) -> bool
+        ensures { result ≡ is_parent (part self.now).kind };
+
+    /// Whether the component is the current directory, `.`.
+    fn is_current(&self) -> bool
+        ensures { result ≡ is_current (part self.now).kind };
+
+    /// Whether the component is no name, or a name that the encoding allows: `ab:c` is one of Unix, and
+    /// none of Windows.
+    fn is_valid(&self) -> bool
+        ensures { result ≡ is_valid_kind dialect (part self.now).kind };
+
+    /// How many bytes the text has.
+    fn len(&self) -> usize
+        ensures { result ≡ length (part self.now).text };
+
+    /// Whether the text is empty.
+    fn is_empty(&self) -> bool
+        ensures { result ≡ (length (part self.now).text == 0) };
+
+    /// The root directory.
+    fn root() -> Self
+        ensures kind { (part result).kind ≡ root_kind }
+        ensures text { (part result).text ≡ root_of dialect };
+
+    /// The parent directory.
+    fn parent() -> Self
+        ensures kind { (part result).kind ≡ parent_kind }
+        ensures text { (part result).text ≡ dot ∷ dot ∷ [] };
+
+    /// The current directory.
+    fn current() -> Self
+        ensures kind { (part result).kind ≡ current_kind }
+        ensures text { (part result).text ≡ dot ∷ [] };
+}
+
+/// Bytes that are UTF-8, as a text.
+#[inline(always)]
+pub fn text_of(bytes: &[u8]) -> &str
+    requires { is_utf8 bytes.now ≡ true }
+    ensures { result.now ≡ bytes.now }
+{
+    unsafe { str::from_utf8_unchecked(bytes) }
+}
+
+/// The same of bytes that may not be there.
+#[inline(always)]
+pub fn text_of_option(bytes: Option<&[u8]>) -> Option<&str>
+    requires { is_text_option (option_copied bytes) ≡ true }
+    ensures { option_copied result ≡ option_copied bytes.entry }
+{
+    match bytes {
+        Some(bytes) => Some(text_of(bytes)),
+        None => None,
+    }
+}
+
+/// The same of bytes that are owned.
+#[inline(always)]
+pub fn string_of(bytes: Vec<u8>) -> String
+    requires { is_utf8 bytes.items ≡ true }
+    ensures { string_vec result ≡ bytes }
+{
+    unsafe { String::from_utf8_unchecked(bytes) }
 }

@@ -6,12 +6,15 @@ ghost use Rattle.std.specs.Str.{is_utf8};
 ghost use Rattle.typed_path.specs.views.PathViews.{path_bytes};
 
 use crate::common::Path;
+use crate::errors::{AbsolutizeError, PathError, StripPrefixError};
 use crate::utf8::ancestors::Utf8Ancestors;
-use crate::utf8::encoding::Utf8Encoding;
-use crate::utf8::piece::Utf8Piece;
-use crate::utf8::reading::Utf8Reading;
-use crate::utf8::text::text_of;
-use std::alloc::AllocError;
+use crate::utf8::encoding::{Utf8Encoding, text_of, text_of_option};
+use crate::utf8::path_buf::{Utf8PathBuf, owned};
+use crate::utf8::platform::{Utf8PlatformEncoding, Utf8PlatformPath, Utf8PlatformPathBuf};
+use crate::utf8::reading::{Utf8Piece, Utf8Reading};
+use crate::utf8::unix::{Utf8UnixEncoding, Utf8UnixPathBuf};
+use crate::utf8::windows::{Utf8WindowsEncoding, Utf8WindowsPathBuf};
+use std::alloc::{AllocError, Global};
 use std::cmp::Ordering;
 use std::str;
 use std::str::Utf8Error;
@@ -47,17 +50,29 @@ impl<'a, T: Utf8Encoding> Clone for Utf8Path<'a, T> {
 impl<'a, T: Utf8Encoding> Copy for Utf8Path<'a, T> {}
 
 impl<'a, T: Utf8Encoding> Utf8Path<'a, T> {
-    ghost use Rattle.std.specs.Prelude.{not, option_map, is_ok, IfOk, IfErr};
+    ghost use Rattle.std.specs.Prelude.{not, option_map, is_ok, IfOk, IfErr, ◌≡◌, option_copied, [], IsOk, Ok, Err, Some, None};
     ghost use Rattle.typed_path.specs.texts.Texts.{is_text_option};
     ghost use Rattle.typed_path.specs.texts.TextErrors.{IsTextError};
     ghost use Rattle.typed_path.specs.components.Part.{kinds};
     ghost use Rattle.typed_path.specs.components.Comps.{comps, parts_of};
-    ghost use Rattle.typed_path.specs.queries.Queries.{is_absolute, has_root, is_valid};
+    ghost use Rattle.typed_path.specs.queries.Queries.{is_absolute, has_root, is_valid, parent_of, file_name_of, file_stem_of, extension, stripped, path_starts_with, path_ends_with};
     ghost use Rattle.typed_path.specs.queries.Ancestry.{ancestors_of};
     ghost use Rattle.typed_path.specs.order.Same.{is_same, path_cmp};
     ghost use Rattle.typed_path.specs.views.ReadingViews.{reading_items, reading_slice};
     ghost use Rattle.typed_path.specs.views.TextAncestorViews.{utf8_ancestors_left};
     ghost use Rattle.typed_path.specs.views.TextViews.{utf8_bytes};
+    ghost use Rattle.typed_path.specs.queries.Strip.{stripped_to};
+    ghost use Rattle.typed_path.specs.changes.Checked.{refusal};
+    ghost use Rattle.typed_path.specs.promises.Promises.{HasPrefixOf, LiesWithin, HasNormalForm};
+    ghost use Rattle.typed_path.specs.promises.Below.{LiesBelow};
+    ghost use Rattle.typed_path.specs.places.Places.{normal_text};
+    ghost use Rattle.typed_path.specs.changes.Changes.{with_file_name, with_extension};
+    ghost use Rattle.typed_path.specs.changes.Fault.{fault};
+    ghost use Rattle.typed_path.specs.declared.errors.CheckedPathError.{CheckedPathError};
+    ghost use Rattle.typed_path.specs.declared.errors.AbsolutizeError.TheVariants.{Ambiguous};
+    ghost use Rattle.typed_path.specs.components.Dialect.{unix, windows};
+    ghost use Rattle.typed_path.specs.conversions.Convert.{platform, same_dialect, converted, converted_checked, absolute_from};
+    ghost use Rattle.typed_path.specs.changes.Push as push_spec;
 
     /// The path of this text, whatever it is.
     #[inline(always)]
@@ -198,6 +213,278 @@ impl<'a, T: Utf8Encoding> Utf8Path<'a, T> {
         ensures { result ≡ path_cmp T.Bytes.dialect (utf8_bytes self.entry) other.now }
     {
         self.path.cmp_bytes(other.as_bytes())
+    }
+
+    /// The path without its last component, or none where there is no component or nothing is above
+    /// the last one.
+    ///
+    /// Of the Unix path `日/本//語/` it is `日/本`.
+    pub fn parent(self) -> Option<Utf8Path<'a, T>>
+        ensures { option_map utf8_bytes result ≡ parent_of T.Bytes.dialect (utf8_bytes self.entry) }
+    {
+        Utf8Path::of_option(self.as_bytes_path().parent())
+    }
+
+    /// The last component, where it is a name.
+    pub fn file_name(self) -> Option<&'a str>
+        ensures { option_copied result ≡ file_name_of T.Bytes.dialect (utf8_bytes self.entry) }
+    {
+        text_of_option(self.as_bytes_path().file_name())
+    }
+
+    /// The file name up to its last dot, or the whole of it where no dot but a first one is there.
+    pub fn file_stem(self) -> Option<&'a str>
+        ensures { option_copied result ≡ file_stem_of T.Bytes.dialect (utf8_bytes self.entry) }
+    {
+        text_of_option(self.as_bytes_path().file_stem())
+    }
+
+    /// What stands in the file name behind its last dot, where that is not its first character.
+    pub fn extension(self) -> Option<&'a str>
+        ensures { option_copied result ≡ extension T.Bytes.dialect (utf8_bytes self.entry) }
+    {
+        text_of_option(self.as_bytes_path().extension())
+    }
+
+    /// What is left of the path behind a base.
+    ///
+    /// # Errors
+    ///
+    /// `StripPrefixError` exactly where the path does not begin with the base's components, compared
+    /// as they are written.
+    pub fn strip_prefix(self, base: Utf8Path<'_, T>) -> Result<Utf8Path<'a, T>, StripPrefixError>
+        ensures { stripped_to utf8_bytes result
+            ≡ stripped T.Bytes.dialect (utf8_bytes self.entry) (utf8_bytes base.entry) }
+    {
+        match self.as_bytes_path().strip_prefix(base.as_bytes_path()) {
+            Ok(rest) => Ok(Utf8Path::of(rest)),
+            Err(error) => Err(error),
+        }
+    }
+
+    /// Whether the path begins with the components of another, as they are written.
+    pub fn starts_with(self, base: Utf8Path<'_, T>) -> bool
+        ensures { result ≡ path_starts_with T.Bytes.dialect (utf8_bytes self.entry)
+            (utf8_bytes base.entry) }
+    {
+        self.as_bytes_path().starts_with(base.as_bytes_path())
+    }
+
+    /// Whether the path ends with the components of another, as they are written.
+    pub fn ends_with(self, end: Utf8Path<'_, T>) -> bool
+        ensures { result ≡ path_ends_with T.Bytes.dialect (utf8_bytes self.entry) (utf8_bytes end.entry) }
+    {
+        self.as_bytes_path().ends_with(end.as_bytes_path())
+    }
+
+    /// A copy that owns its text.
+    pub fn to_path_buf(self, alloc: Global) -> Result<Utf8PathBuf<T>, AllocError>
+        ensures bytes { IfOk result (λ p. p.bytes ≡ utf8_bytes self.entry) }
+        ensures succeeds { utf8_bytes self.entry ≡ [] → IsOk result }
+    {
+        owned!(self.as_bytes_path().to_path_buf(alloc))
+    }
+
+    /// The path with another pushed onto it: an absolute one stands in its place, and with an empty
+    /// one it is a copy.
+    pub fn join(self, alloc: Global, path: Utf8Path<'_, T>) -> Result<Utf8PathBuf<T>, AllocError>
+        ensures { IfOk result (λ p. p.bytes
+            ≡ push_spec.push T.Bytes.dialect (utf8_bytes self.entry) (utf8_bytes path.entry)) }
+    {
+        owned!(self.as_bytes_path().join(alloc, path.as_bytes_path()))
+    }
+
+    /// The path with another pushed onto it, unless that has a component that offends.
+    ///
+    /// The answer lies within this path, where it has the prefix of this one. A path that is refused
+    /// costs no memory.
+    ///
+    /// # Errors
+    ///
+    /// Those of [`Path::join_checked`](crate::Path::join_checked).
+    pub fn join_checked(
+        self,
+        alloc: Global,
+        path: Utf8Path<'_, T>,
+    ) -> Result<Utf8PathBuf<T>, PathError>
+        ensures refused { refusal result ≡ fault T.Bytes.dialect (utf8_bytes path.entry) }
+        ensures joined { IfOk result (λ p. p.bytes
+            ≡ push_spec.push T.Bytes.dialect (utf8_bytes self.entry) (utf8_bytes path.entry)) }
+        ensures prefix { IfOk result (λ p. HasPrefixOf T.Bytes.dialect (utf8_bytes self.entry) p.bytes) }
+        ensures contained { IfOk result
+            (λ p. LiesWithin T.Bytes.dialect (utf8_bytes self.entry) (utf8_bytes path.entry) p.bytes) }
+        ensures below { IfOk result (λ p. LiesBelow T.Bytes.dialect (utf8_bytes self.entry) p.bytes) }
+    {
+        owned!(
+            self.as_bytes_path()
+                .join_checked(alloc, path.as_bytes_path())
+        )
+    }
+
+    /// A copy with another file name, or with the name pushed where there is none.
+    pub fn with_file_name(self, alloc: Global, name: &str) -> Result<Utf8PathBuf<T>, AllocError>
+        ensures { IfOk result
+            (λ p. p.bytes ≡ with_file_name T.Bytes.dialect (utf8_bytes self.entry) name.now) }
+    {
+        owned!(self.as_bytes_path().with_file_name(alloc, name.as_bytes()))
+    }
+
+    /// A copy whose file name has another extension, or none where the new one is empty. Without a
+    /// file name it is a mere copy.
+    ///
+    /// `/tmp/日本語.txt/` with `z` is `/tmp/日本語.z`.
+    pub fn with_extension(
+        self,
+        alloc: Global,
+        extension: &str,
+    ) -> Result<Utf8PathBuf<T>, AllocError>
+        ensures { IfOk result
+            (λ p. p.bytes ≡ with_extension T.Bytes.dialect (utf8_bytes self.entry) extension.now) }
+    {
+        owned!(
+            self.as_bytes_path()
+                .with_extension(alloc, extension.as_bytes())
+        )
+    }
+
+    /// The path without `.`, and without `..` and the names that these take away, in the form of
+    /// [`Path::normalize`](crate::Path::normalize).
+    pub fn normalize(self, alloc: Global) -> Result<Utf8PathBuf<T>, AllocError>
+        ensures text { IfOk result (λ p. p.bytes ≡ normal_text T.Bytes.dialect (utf8_bytes self.entry)) }
+        ensures form { IfOk result (λ p. HasNormalForm T.Bytes.dialect (utf8_bytes self.entry) p.bytes) }
+    {
+        owned!(self.as_bytes_path().normalize(alloc))
+    }
+
+    /// The path in another encoding: its components pushed one by one onto the empty path, as
+    /// [`Path::with_encoding`](crate::Path::with_encoding) writes them.
+    pub fn with_encoding<U: Utf8Encoding>(self, alloc: Global) -> Result<Utf8PathBuf<U>, AllocError>
+        ensures { IfOk result
+            (λ p. p.bytes ≡ converted T.Bytes.dialect U.Bytes.dialect (utf8_bytes self.entry)) }
+    {
+        owned!(self.as_bytes_path().with_encoding::<U::Bytes>(alloc))
+    }
+
+    /// The same by checked pushes, also in an encoding of the same label.
+    ///
+    /// # Errors
+    ///
+    /// Those of [`Path::with_encoding_checked`](crate::Path::with_encoding_checked).
+    pub fn with_encoding_checked<U: Utf8Encoding>(
+        self,
+        alloc: Global,
+    ) -> Result<Utf8PathBuf<U>, PathError>
+        ensures ok { IfOk result (λ p.
+            converted_checked T.Bytes.dialect U.Bytes.dialect (utf8_bytes self.entry) ≡ Ok p.bytes) }
+        ensures refused { (e : CheckedPathError) → refusal result ≡ Some e
+            → converted_checked T.Bytes.dialect U.Bytes.dialect (utf8_bytes self.entry) ≡ Err e }
+    {
+        owned!(
+            self.as_bytes_path()
+                .with_encoding_checked::<U::Bytes>(alloc)
+        )
+    }
+
+    /// Whether the encoding has the label of Unix.
+    pub fn has_unix_encoding(self) -> bool
+        ensures { result ≡ same_dialect T.Bytes.dialect unix }
+    {
+        self.as_bytes_path().has_unix_encoding()
+    }
+
+    /// The path as on Unix, as [`Utf8Path::with_encoding`] writes it.
+    pub fn with_unix_encoding(self, alloc: Global) -> Result<Utf8UnixPathBuf, AllocError>
+        ensures { IfOk result (λ p. p.bytes ≡ converted T.Bytes.dialect unix (utf8_bytes self.entry)) }
+    {
+        self.with_encoding::<Utf8UnixEncoding>(alloc)
+    }
+
+    /// The path as on Unix, refused as [`Utf8Path::with_encoding_checked`] does.
+    pub fn with_unix_encoding_checked(self, alloc: Global) -> Result<Utf8UnixPathBuf, PathError>
+        ensures ok { IfOk result
+            (λ p. converted_checked T.Bytes.dialect unix (utf8_bytes self.entry) ≡ Ok p.bytes) }
+        ensures refused { (e : CheckedPathError) → refusal result ≡ Some e
+            → converted_checked T.Bytes.dialect unix (utf8_bytes self.entry) ≡ Err e }
+    {
+        self.with_encoding_checked::<Utf8UnixEncoding>(alloc)
+    }
+
+    /// Whether the encoding has the label of Windows.
+    pub fn has_windows_encoding(self) -> bool
+        ensures { result ≡ same_dialect T.Bytes.dialect windows }
+    {
+        self.as_bytes_path().has_windows_encoding()
+    }
+
+    /// The path as on Windows, as [`Utf8Path::with_encoding`] writes it.
+    pub fn with_windows_encoding(self, alloc: Global) -> Result<Utf8WindowsPathBuf, AllocError>
+        ensures { IfOk result (λ p. p.bytes ≡ converted T.Bytes.dialect windows (utf8_bytes self.entry)) }
+    {
+        self.with_encoding::<Utf8WindowsEncoding>(alloc)
+    }
+
+    /// The path as on Windows, refused as [`Utf8Path::with_encoding_checked`] does.
+    pub fn with_windows_encoding_checked(
+        self,
+        alloc: Global,
+    ) -> Result<Utf8WindowsPathBuf, PathError>
+        ensures ok { IfOk result
+            (λ p. converted_checked T.Bytes.dialect windows (utf8_bytes self.entry) ≡ Ok p.bytes) }
+        ensures refused { (e : CheckedPathError) → refusal result ≡ Some e
+            → converted_checked T.Bytes.dialect windows (utf8_bytes self.entry) ≡ Err e }
+    {
+        self.with_encoding_checked::<Utf8WindowsEncoding>(alloc)
+    }
+
+    /// Whether the encoding is that of the machine, which [`Utf8PlatformEncoding`] alone is.
+    pub fn has_platform_encoding(self) -> bool
+        ensures { result ≡ T.IS_PLATFORM }
+    {
+        T::IS_PLATFORM
+    }
+
+    /// The path as on the machine, as [`Utf8Path::with_encoding`] writes it.
+    pub fn with_platform_encoding(self, alloc: Global) -> Result<Utf8PlatformPathBuf, AllocError>
+        ensures { IfOk result (λ p. p.bytes ≡ converted T.Bytes.dialect platform (utf8_bytes self.entry)) }
+    {
+        self.with_encoding::<Utf8PlatformEncoding>(alloc)
+    }
+
+    /// The path as on the machine, refused as [`Utf8Path::with_encoding_checked`] does.
+    pub fn with_platform_encoding_checked(
+        self,
+        alloc: Global,
+    ) -> Result<Utf8PlatformPathBuf, PathError>
+        ensures ok { IfOk result
+            (λ p. converted_checked T.Bytes.dialect platform (utf8_bytes self.entry) ≡ Ok p.bytes) }
+        ensures refused { (e : CheckedPathError) → refusal result ≡ Some e
+            → converted_checked T.Bytes.dialect platform (utf8_bytes self.entry) ≡ Err e }
+    {
+        self.with_encoding_checked::<Utf8PlatformEncoding>(alloc)
+    }
+
+    /// The normal text of the path where it is absolute, and else of the directory in this path's
+    /// encoding with the path pushed onto it.
+    ///
+    /// # Errors
+    ///
+    /// `Ambiguous` where the path is absolute neither alone nor behind the directory. `OutOfMemory`
+    /// where memory is refused.
+    pub fn absolutize(
+        self,
+        alloc: Global,
+        directory: Utf8PlatformPath<'_>,
+    ) -> Result<Utf8PathBuf<T>, AbsolutizeError>
+        ensures ok { IfOk result (λ p.
+            absolute_from T.Bytes.dialect (utf8_bytes directory.entry) (utf8_bytes self.entry)
+            ≡ Some p.bytes) }
+        ensures ambiguous { result ≡ Err Ambiguous
+            → absolute_from T.Bytes.dialect (utf8_bytes directory.entry) (utf8_bytes self.entry) ≡ None }
+    {
+        let absolute = self
+            .as_bytes_path()
+            .absolutize(alloc, directory.as_bytes_path());
+        owned!(absolute)
     }
 }
 

@@ -6,10 +6,11 @@ ghost use Rattle.std.specs.Str.{is_utf8};
 
 use crate::common::PathBuf;
 use crate::errors::PathError;
-use crate::utf8::encoding::Utf8Encoding;
+use crate::utf8::encoding::{Utf8Encoding, string_of};
 use crate::utf8::path::Utf8Path;
-use crate::utf8::text::string_of;
 use std::alloc::{AllocError, Global};
+use std::cmp::Ordering;
+use std::hash::{Hash, Hasher};
 use std::marker::Model;
 
 /// What is owned of bytes that are a text, where there is one.
@@ -40,17 +41,18 @@ impl<T: Utf8Encoding> Model for Utf8PathBuf<T> {
 }
 
 impl<T: Utf8Encoding> Utf8PathBuf<T> {
-    ghost use Rattle.std.specs.Prelude.{◌≤◌, ◌+◌, [], length, is_some, max, min, IsSome, None, IfOk, OnOk, OnErr, IsOk};
+    ghost use Rattle.std.specs.Prelude.{◌≤◌, ◌+◌, [], length, is_some, max, min, IsSome, None, IfOk, OnOk, OnErr, IsOk, is_ok, IfErr};
     ghost use Rattle.std.specs.String.{string_bytes, string_capacity};
+    ghost use Rattle.std.specs.Str.{is_utf8};
     ghost use Rattle.typed_path.specs.changes.Checked.{refusal};
     ghost use Rattle.typed_path.specs.promises.Promises.{HasPrefixOf, LiesWithin};
-    ghost use Rattle.typed_path.specs.changes.Push as push_spec;
     ghost use Rattle.typed_path.specs.changes.Push.{FitsPush};
     ghost use Rattle.typed_path.specs.changes.Spelled.{IsKnown};
     ghost use Rattle.typed_path.specs.changes.Fault.{fault};
     ghost use Rattle.typed_path.specs.queries.Queries.{parent_of, file_name_of};
     ghost use Rattle.typed_path.specs.changes.Changes.{popped, without_file_name, with_file_name, with_extension};
     ghost use Rattle.typed_path.specs.views.TextViews.{utf8_bytes};
+    ghost use Rattle.typed_path.specs.changes.Push as push_spec;
 
     /// The empty path.
     pub fn new(alloc: Global) -> Utf8PathBuf<T>
@@ -278,5 +280,190 @@ impl<T: Utf8Encoding> Utf8PathBuf<T> {
     {
         let Utf8PathBuf { inner } = self;
         string_of(inner.into_vec())
+    }
+
+    /// The path of the bytes of another, with no copy.
+    ///
+    /// # Errors
+    ///
+    /// The path of bytes, given back, exactly where its bytes are no text.
+    pub fn from_bytes_path_buf(path: PathBuf<T::Bytes>) -> Result<Utf8PathBuf<T>, PathBuf<T::Bytes>>
+        ensures ok { IfOk result (λ p. (p.bytes ≡ path.bytes) × (p.capacity ≡ path.capacity)) }
+        ensures back { IfErr result (λ p. p ≡ path) }
+        ensures flag { is_ok result ≡ is_utf8 path.bytes }
+    {
+        if path.as_path().to_str().is_some() {
+            Ok(Utf8PathBuf::of(path))
+        } else {
+            Err(path)
+        }
+    }
+
+    /// The same of a path whose bytes are known to be a text; they are not looked at again.
+    pub fn from_bytes_path_buf_unchecked(path: PathBuf<T::Bytes>) -> Utf8PathBuf<T>
+        requires { is_utf8 path.bytes ≡ true }
+        ensures bytes { result.bytes ≡ path.bytes }
+        ensures capacity { result.capacity ≡ path.capacity }
+    {
+        Utf8PathBuf::of(path)
+    }
+
+    /// The path of the bytes, with no copy.
+    pub fn into_bytes_path_buf(self) -> PathBuf<T::Bytes>
+        ensures bytes { result.bytes ≡ self.bytes }
+        ensures capacity { result.capacity ≡ self.capacity }
+    {
+        let Utf8PathBuf { inner } = self;
+        inner
+    }
+}
+
+/// A copy of the text, all at once, in the memory of the same allocator.
+impl<T: Utf8Encoding> Clone for Utf8PathBuf<T> {
+    ghost is_clone = { λ path copy. copy.bytes ≡ path.bytes };
+
+    fn clone(&self) -> Result<Utf8PathBuf<T>, AllocError> {
+        owned!(self.inner.clone())
+    }
+}
+
+/// The path of a text, with no copy.
+impl<T: Utf8Encoding> From<String> for Utf8PathBuf<T> {
+    ghost use Rattle.std.specs.String.{string_bytes};
+
+    ghost from_gives = { λ text path. path.bytes ≡ string_bytes text };
+
+    fn from(text: String) -> Utf8PathBuf<T> {
+        Utf8PathBuf::of(PathBuf::from(text))
+    }
+}
+
+/// The text of a path, with no copy.
+impl<T: Utf8Encoding> From<Utf8PathBuf<T>> for String {
+    ghost use Rattle.std.specs.String.{string_bytes};
+
+    ghost from_gives = { λ path text. string_bytes text ≡ path.bytes };
+
+    fn from(path: Utf8PathBuf<T>) -> String {
+        path.into_string()
+    }
+}
+
+/// Pushes paths one by one. Where memory is refused, those before it stay pushed.
+impl<'p, T: Utf8Encoding> Extend<Utf8Path<'p, T>> for Utf8PathBuf<T> {
+    ghost use Rattle.std.specs.Prelude.{map};
+    ghost use Rattle.typed_path.specs.views.TextViews.{utf8_bytes};
+    ghost use Rattle.typed_path.specs.changes.Push.{push_all};
+
+    ghost extend_gives = { λ old paths new. new.bytes
+        ≡ push_all T.Bytes.dialect old.bytes (map utf8_bytes paths) };
+
+    fn extend<U: IntoIterator<Item = Utf8Path<'p, T>>>(
+        &mut self,
+        paths: U,
+    ) -> Result<(), AllocError> {
+        let mut rest = paths.into_iter();
+        let mut known = None;
+        'paths: while let Some(path) = rest.next() {
+            known = self.push_next(path, known)?;
+        }
+        Ok(())
+    }
+}
+
+/// The paths pushed one by one onto the empty path.
+impl<'p, T: Utf8Encoding> FromIterator<Utf8Path<'p, T>> for Utf8PathBuf<T> {
+    ghost use Rattle.std.specs.Prelude.{[], map};
+    ghost use Rattle.typed_path.specs.views.TextViews.{utf8_bytes};
+    ghost use Rattle.typed_path.specs.changes.Push.{push_all};
+
+    type Alloc = Global;
+
+    ghost from_iter_gives = { λ paths path. path.bytes
+        ≡ push_all T.Bytes.dialect [] (map utf8_bytes paths) };
+
+    fn from_iter<U: IntoIterator<Item = Utf8Path<'p, T>>>(
+        alloc: Global,
+        paths: U,
+    ) -> Result<Utf8PathBuf<T>, AllocError> {
+        let mut path = Utf8PathBuf::new(alloc);
+        path.extend(paths)?;
+        Ok(path)
+    }
+}
+
+impl<T: Utf8Encoding> PartialEq for Utf8PathBuf<T> {
+    ghost use Rattle.std.specs.Cmp.{eq_by_cmp_equiv, on_total, partial_equiv_from_equiv};
+    ghost use Rattle.std.specs.Ordering.{on};
+    ghost use Rattle.typed_path.specs.order.Same.{is_same};
+    ghost use Rattle.typed_path.specs.order.Laws.{path_cmp_total};
+
+    ghost eq = { on (λ p. p.bytes) (is_same T.Bytes.dialect) };
+
+    ghost laws = { partial_equiv_from_equiv (eq_by_cmp_equiv (on_total (λ p. p.bytes) (path_cmp_total T.Bytes.dialect))) };
+
+    #[inline]
+    fn eq(&self, other: &Utf8PathBuf<T>) -> bool {
+        self.inner == other.inner
+    }
+}
+
+impl<T: Utf8Encoding> Eq for Utf8PathBuf<T> {
+    ghost use Rattle.std.specs.Cmp.{eq_by_cmp_equiv, on_total};
+    ghost use Rattle.typed_path.specs.order.Laws.{path_cmp_total};
+
+    ghost laws = { eq_by_cmp_equiv (on_total (λ p. p.bytes) (path_cmp_total T.Bytes.dialect)) };
+}
+
+impl<T: Utf8Encoding> PartialOrd for Utf8PathBuf<T> {
+    ghost use Rattle.std.specs.Cmp.{on_total, partial_order_from_total};
+    ghost use Rattle.std.specs.Ordering.{as_partial_cmp, on};
+    ghost use Rattle.typed_path.specs.order.Same.{path_cmp};
+    ghost use Rattle.typed_path.specs.order.Laws.{path_cmp_total};
+
+    ghost partial_cmp = { as_partial_cmp (on (λ p. p.bytes) (path_cmp T.Bytes.dialect)) };
+
+    ghost laws = { partial_order_from_total (on_total (λ p. p.bytes) (path_cmp_total T.Bytes.dialect)) };
+
+    #[inline]
+    fn partial_cmp(&self, other: &Utf8PathBuf<T>) -> Option<Ordering> {
+        Some(self.cmp(other))
+    }
+}
+
+impl<T: Utf8Encoding> Ord for Utf8PathBuf<T> {
+    ghost use Rattle.std.specs.Prelude.{refl};
+    ghost use Rattle.std.specs.Cmp.{on_total};
+    ghost use Rattle.std.specs.Ordering.{on};
+    ghost use Rattle.typed_path.specs.order.Same.{path_cmp};
+    ghost use Rattle.typed_path.specs.order.Laws.{path_cmp_total};
+
+    ghost cmp = { on (λ p. p.bytes) (path_cmp T.Bytes.dialect) };
+
+    ghost total = { on_total (λ p. p.bytes) (path_cmp_total T.Bytes.dialect) };
+
+    ghost matches_partial_cmp = { λ p q. refl };
+
+    ghost matches_eq = { λ p q. refl };
+
+    #[inline]
+    fn cmp(&self, other: &Utf8PathBuf<T>) -> Ordering {
+        self.inner.cmp(&other.inner)
+    }
+}
+
+impl<T: Utf8Encoding> Hash for Utf8PathBuf<T> {
+    ghost use Rattle.std.proofs.Common.{ap};
+    ghost use Rattle.typed_path.specs.components.Part.{kinds};
+    ghost use Rattle.typed_path.specs.components.Comps.{parts_of};
+    ghost use Rattle.typed_path.specs.order.Words.{kinds_words};
+    ghost use Rattle.typed_path.specs.order.Laws.{same-kinds};
+
+    ghost hash_input = { λ p. kinds_words (kinds (parts_of T.Bytes.dialect p.bytes)) };
+
+    ghost respects_eq = { λ p q same. ap kinds_words (same-kinds T.Bytes.dialect p.bytes q.bytes same) };
+
+    fn hash<H: Hasher>(&self, state: &mut H) {
+        self.inner.hash(state);
     }
 }

@@ -6,6 +6,7 @@ use crate::platform::PlatformEncoding;
 use crate::utf8::encoding::Utf8Encoding;
 use crate::utf8::path::Utf8Path;
 use crate::utf8::path_buf::Utf8PathBuf;
+use crate::utf8::unix::{Utf8UnixComponent, Utf8UnixEncoding, Utf8UnixPath, Utf8UnixPathBuf};
 use std::fmt;
 
 /// Texts of paths as on the machine.
@@ -36,3 +37,15 @@ impl fmt::Display for Utf8PlatformEncoding {
         f.pad("Utf8PlatformEncoding")
     }
 }
+
+/// The encoding of texts of the machine's own paths.
+pub type Utf8NativeEncoding = Utf8UnixEncoding;
+
+/// A path of text of the machine's own kind.
+pub type Utf8NativePath<'a> = Utf8UnixPath<'a>;
+
+/// An owned path of text of the machine's own kind.
+pub type Utf8NativePathBuf = Utf8UnixPathBuf;
+
+/// A component of such a path.
+pub type Utf8NativeComponent<'a> = Utf8UnixComponent<'a>;

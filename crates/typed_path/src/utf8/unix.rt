@@ -11,12 +11,10 @@ use crate::constants::unix::{CURRENT_DIR_STR, PARENT_DIR_STR, SEPARATOR_STR};
 use crate::errors::ParseError;
 use crate::scan::Piece;
 use crate::unix::{UnixComponent, UnixEncoding};
-use crate::utf8::component::Utf8Component;
-use crate::utf8::encoding::Utf8Encoding;
+use crate::utf8::encoding::{Utf8Component, Utf8Encoding, text_of};
 use crate::utf8::path::Utf8Path;
 use crate::utf8::path_buf::Utf8PathBuf;
 use crate::utf8::reading::{FromPiece, Utf8Reading};
-use crate::utf8::text::text_of;
 use std::str::Utf8Error;
 use std::{fmt, str};
 

@@ -16,8 +16,7 @@ use crate::scan::{
     Cursor, Found, PieceKind, Separators, StepKind, WindowsPrefix, cut_at_separator, drive,
     find_prefix, step_of,
 };
-use crate::windows::push::{push_at, push_next};
-use crate::windows::spelled::is_separated;
+use crate::windows::push::{is_separated, push_at, push_next};
 use std::alloc::AllocError;
 
 /// How many names find room before more is asked for.

@@ -1,20 +1,24 @@
 //! A path of Windows pushed onto another.
 
-ghost use Rattle.std.specs.Prelude.{◌≡◌, ◌≤◌, ◌+◌, ◌++◌, ℕ, List, IsTrue, true, false, take, drop, slice_range, length, IfOk, IsOk, OnOk, OnErr};
-ghost use Rattle.std.specs.Vec.{vec_capacity};
-ghost use Rattle.typed_path.specs.components.Dialect.{windows};
-ghost use Rattle.typed_path.specs.components.Comps.{parts_of};
-ghost use Rattle.typed_path.specs.components.Part.{kinds};
-ghost use Rattle.typed_path.specs.components.Prefix.{prefix_of};
-ghost use Rattle.typed_path.specs.changes.Push.{push_windows, ended_windows, is_disk_alone, raw_length, FitsPush};
-ghost use Rattle.typed_path.specs.changes.Spelled.{IsKnown};
-ghost use Rattle.typed_path.specs.queries.Queries.{has_any_verbatim_prefix};
+ghost use Rattle.std.specs.Prelude.{◌≡◌, ◌≤◌, ◌+◌, ◌++◌, ℕ, List, IsTrue, true, false, take, drop, slice_range, length, IfOk, IsOk, OnOk, OnErr, ◌||◌, Some, ◌<◌, ◌∷◌, [], Bool, IfSome};
+ghost use Rattle.std.specs.Vec.{vec_capacity, vec_len};
+ghost use Rattle.std.specs.List.{list_any, list_all, slice_split};
+ghost use Rattle.typed_path.specs.components.Dialect.{windows, is_separator};
+ghost use Rattle.typed_path.specs.components.Comps.{parts_of, is_dot, is_dot_dot};
+ghost use Rattle.typed_path.specs.components.Part.{kinds, Part, parts};
+ghost use Rattle.typed_path.specs.components.Prefix.{prefix_of, Found, is_empty};
+ghost use Rattle.typed_path.specs.changes.Push.{push_windows, ended_windows, is_disk_alone, raw_length, FitsPush, without_last_name, merge_by_kind, merged, spelled, spells_anew};
+ghost use Rattle.typed_path.specs.changes.Spelled.{IsKnown, is_component, is_row, TellsSpelled, IsSpelledHead, IsStanding, IsMergeable, AreMergeable, AreReadBehind, Stands, IsSpelled, room_of};
+ghost use Rattle.typed_path.specs.queries.Queries.{has_any_verbatim_prefix, is_verbatim_prefix, has_prefix};
+ghost use Rattle.typed_path.specs.declared.scan.separators.Separators.{Separators};
+ghost use Rattle.typed_path.specs.views.CursorViews.{items_left};
+ghost use Rattle.typed_path.specs.views.PieceViews.{part_of};
 
 use crate::common::put_over;
-use crate::scan::{Cursor, after_mark, drive, find_prefix};
-use crate::windows::spelled::spelled_head;
-use crate::windows::verbatim::merge_at;
-use std::alloc::AllocError;
+use crate::scan::{
+    Cursor, Piece, PieceKind, Separators, after_mark, cut_at_separator, drive, find_prefix, is_dots,
+};
+use std::alloc::{AllocError, Global};
 
 /// Whether a path has one of the three verbatim kinds, which its first bytes tell.
 pub fn has_verbatim_kind(path: &[u8]) -> bool
@@ -154,4 +158,304 @@ fn known_of(path: &[u8]) -> Option<usize>
     } else {
         None
     }
+}
+
+/// Whether some byte of a text separates.
+#[inline(always)]
+pub fn is_separated(separators: Separators, text: &[u8]) -> bool
+    ensures { result ≡ list_any (is_separator separators) text.now }
+{
+    separators.first_in(text) != text.len()
+}
+
+/// How many bytes the prefix takes of a text that a push spells anew as it stands, in one pass over
+/// what stands behind the prefix; none of another text.
+pub fn spelled_head(text: &[u8]) -> Option<usize>
+    ensures { IsSpelledHead result text.now }
+{
+    let found = find_prefix(text)?;
+    if !found.kind.is_verbatim() {
+        return None;
+    }
+    if !is_spelled_behind(text, &text[found.length..]) {
+        return None;
+    }
+    Some(found.length)
+}
+
+/// Whether a text with a verbatim prefix is spelled as it stands, by what stands behind that.
+fn is_spelled_behind(text: &[u8], behind: &[u8]) -> bool
+    ensures { (f : Found) → prefix_of windows text.now ≡ Some f → is_verbatim_prefix f.prefix ≡ true
+        → drop f.length text.now ≡ behind.now → TellsSpelled result text.now }
+{
+    let Some((first, names)) = behind.split_first() else {
+        return true;
+    };
+    if *first != b'\\' {
+        return false;
+    }
+    if names.is_empty() {
+        return true;
+    }
+    is_row(Separators::of_windows(text), names)
+}
+
+/// Whether a text holds components with `\` between them, as they are read where others stand
+/// before them.
+fn is_row(separators: Separators, text: &[u8]) -> bool
+    ensures { result ≡ is_row separators text.now }
+{
+    (separators.is_verbatim() || !is_separated(Separators::Slash, text))
+        && are_components(separators, text)
+}
+
+/// Whether each piece between two `\` is a component.
+fn are_components(separators: Separators, text: &[u8]) -> bool
+    ensures { result
+        ≡ list_all (is_component separators) (slice_split (is_separator Separators.Backslash) text.now) }
+{
+    let mut rest = text;
+    'pieces: while let Some((piece, behind)) = cut_at_separator(Separators::Backslash, rest) {
+        if !is_component(separators, piece) {
+            return false;
+        }
+        rest = behind;
+    }
+    is_component(separators, rest)
+}
+
+/// Whether a piece is a component as it stands, where others stand before it.
+fn is_component(separators: Separators, piece: &[u8]) -> bool
+    ensures { result ≡ is_component separators piece.now }
+{
+    match piece {
+        [] => false,
+        [b'.'] => separators.is_verbatim(),
+        _ => true,
+    }
+}
+
+/// Puts a component behind those that stand behind a prefix: `\` and the component, or the component
+/// at once where only a root stands there.
+#[inline(always)]
+fn put_component(text: &mut Vec<u8>, head: usize, component: &[u8]) -> Result<(), AllocError>
+    requires { head ≤ length text.old.items }
+    ensures stands { OnOk result ((parted : Bool) (ps : List Part) (p : Part)
+        → Stands parted ps (drop head text.old.items) → IsStanding p → p.text ≡ component.now
+        → Stands parted (ps ++ p ∷ []) (drop head text.new.items)) }
+    ensures kept { take head text.new.items ≡ take head text.old.items }
+    ensures long { head ≤ length text.new.items }
+    ensures capacity { vec_capacity text.old ≤ vec_capacity text.new }
+    ensures room { vec_len text.new ≤ vec_len text.old + length component.now + 1 }
+    ensures succeeds { vec_len text.old + length component.now < vec_capacity text.old
+        → IsOk result }
+{
+    if text.len() != head + 1 {
+        text.push(b'\\')?;
+    }
+    text.extend_from_slice(component)
+}
+
+/// How many bytes `..` leaves of what stands behind a prefix.
+fn len_without_name(text: &[u8], parted: bool) -> usize
+    ensures within { result ≤ length text.now }
+    ensures left { (ps : List Part) → Stands parted ps text.now
+        → Stands parted (without_last_name ps) (take result text.now) }
+{
+    if text.len() <= 1 {
+        return text.len();
+    }
+    let names = &text[1..];
+    let last = Separators::Backslash.last_in(names);
+    if is_dots(&names[last..]) {
+        return text.len();
+    }
+    if last != 0 {
+        return last;
+    }
+    if parted {
+        return 0;
+    }
+    1
+}
+
+/// Merges a component into those that stand behind a prefix: a root cuts these away, `.` is passed
+/// over, and `..` takes the last one where it is a name. It answers whether what stands is parted
+/// from the prefix.
+fn merge_piece(
+    text: &mut Vec<u8>,
+    head: usize,
+    parted: bool,
+    piece: Piece<'_>,
+) -> Result<bool, AllocError>
+    requires within { head ≤ length text.old.items }
+    requires mergeable { IsMergeable (part_of piece) (part_of piece).kind }
+    ensures stands { IfOk result (λ now. (ps : List Part)
+        → Stands parted ps (drop head text.old.items)
+        → Stands now (merge_by_kind ps (part_of piece.entry) (part_of piece.entry).kind)
+        (drop head text.new.items)) }
+    ensures kept { take head text.new.items ≡ take head text.old.items }
+    ensures long { head ≤ length text.new.items }
+    ensures capacity { vec_capacity text.old ≤ vec_capacity text.new }
+    ensures room { vec_len text.new ≤ vec_len text.old + room_of (part_of piece.entry ∷ []) }
+    ensures succeeds { vec_len text.old + room_of (part_of piece.entry ∷ [])
+        ≤ vec_capacity text.old → IsOk result }
+{
+    match piece.kind {
+        PieceKind::RootDir => {
+            text.truncate(head);
+            text.push(b'\\')?;
+            return Ok(false);
+        }
+        PieceKind::CurDir => {}
+        PieceKind::ParentDir => {
+            let kept = len_without_name(&text[head..], parted);
+            text.truncate(head + kept);
+        }
+        PieceKind::Prefix(_) | PieceKind::Normal => put_component(text, head, piece.text)?,
+    }
+    Ok(parted)
+}
+
+/// Merges the components of a path into those that stand behind a prefix. With room for each of them
+/// and a separator it does not fail.
+pub fn merge_each(
+    text: &mut Vec<u8>,
+    head: usize,
+    parted: bool,
+    path: Cursor<'_>,
+) -> Result<bool, AllocError>
+    requires within { head ≤ length text.old.items }
+    requires mergeable { AreMergeable (parts (items_left path)) }
+    ensures stands { IfOk result (λ now. (ps : List Part)
+        → Stands parted ps (drop head text.old.items)
+        → Stands now (merged ps (parts (items_left path.entry))) (drop head text.new.items)) }
+    ensures kept { take head text.new.items ≡ take head text.old.items }
+    ensures long { head ≤ length text.new.items }
+    ensures capacity { vec_capacity text.old ≤ vec_capacity text.new }
+    ensures succeeds { vec_len text.old + room_of (parts (items_left path.entry))
+        ≤ vec_capacity text.old → IsOk result }
+{
+    let mut rest = path;
+    let mut apart = parted;
+    'pieces: while let Some(piece) = rest.front() {
+        apart = merge_piece(text, head, apart, piece)?;
+    }
+    Ok(apart)
+}
+
+/// Puts the components that stand behind a prefix behind it, and answers whether they are parted from
+/// it: a root is put there at once.
+fn put_each(text: &mut Vec<u8>, head: usize, path: Cursor<'_>) -> Result<bool, AllocError>
+    requires within { length text.old.items ≡ head }
+    requires read { AreReadBehind (parts (items_left path)) }
+    ensures stands { IfOk result (λ parted. Stands parted (parts (items_left path.entry))
+        (drop head text.new.items)) }
+    ensures kept { take head text.new.items ≡ take head text.old.items }
+    ensures long { head ≤ length text.new.items }
+{
+    let mut rest = path;
+    let parted = !rest.begins_with_root();
+    if !parted {
+        text.push(b'\\')?;
+        rest.front();
+    }
+    'pieces: while let Some(piece) = rest.front() {
+        put_component(text, head, piece.text)?;
+    }
+    Ok(parted)
+}
+
+/// A base with a prefix, written anew with another path merged into it.
+fn spelled_anew(alloc: Global, base: &[u8], other: &[u8]) -> Result<Vec<u8>, AllocError>
+    requires own { has_prefix (kinds (parts_of windows base.now)) ≡ true }
+    requires no_prefix { has_prefix (kinds (parts_of windows other.now)) ≡ false }
+    ensures { IfOk result (λ text. text.items
+        ≡ spelled (merged (parts_of windows base.now) (parts_of windows other.now))) }
+{
+    let head = prefix_len(base);
+    let room = base.len().saturating_add(other.len()).saturating_add(2);
+    let mut text = Vec::with_capacity(alloc, room)?;
+    text.extend_from_slice(&base[..head])?;
+    let mut rest = Cursor::of_windows(base);
+    rest.front();
+    let parted = put_each(&mut text, head, rest)?;
+    merge_each(&mut text, head, parted, Cursor::of_windows(other))?;
+    Ok(text)
+}
+
+/// How many bytes the prefix takes of a base that is spelled as it stands, which may be known; none of
+/// another base.
+fn head_of(base: &[u8], known: Option<usize>) -> Option<usize>
+    ensures within { IfSome result (λ head. head ≤ length base.now) }
+    ensures told { IsKnown windows known base.now → IsSpelledHead result base.now }
+{
+    match known {
+        Some(head) if head <= base.len() => Some(head),
+        _ => spelled_head(base),
+    }
+}
+
+/// Merges a path without a prefix into the base that stands in a text from one place up to another,
+/// and is spelled as it stands. All the room is found first. Where memory is refused, the text is as it
+/// was.
+fn merge_in_place(
+    text: &mut Vec<u8>,
+    start: usize,
+    kept: usize,
+    head: usize,
+    other: &[u8],
+) -> Result<(), AllocError>
+    requires inside { start + head ≤ kept }
+    requires within { kept ≤ length text.old.items }
+    requires no_prefix { has_prefix (kinds (parts_of windows other.now)) ≡ false }
+    ensures ok { IsKnown windows (Some head) (slice_range text.old.items start kept)
+        → OnOk result (text.new.items ≡ take start text.old.items
+        ++ spelled (merged (parts_of windows (slice_range text.old.items start kept))
+        (parts_of windows other.now))) }
+    ensures err { OnErr result (text.new.items ≡ text.old.items) }
+    ensures capacity { vec_capacity text.old ≤ vec_capacity text.new }
+    ensures succeeds { kept + length other.now < vec_capacity text.old → IsOk result }
+{
+    let parted = start + head == kept;
+    text.reserve((kept + other.len() + 1).saturating_sub(text.len()))?;
+    text.truncate(kept);
+    merge_each(text, start + head, parted, Cursor::of_windows(other))?;
+    Ok(())
+}
+
+/// Merges a path without a prefix into the base of a verbatim kind that stands in a text from one
+/// place up to another, and cuts off what stands behind that. Where memory is refused, the text is as
+/// it was.
+///
+/// A base that is spelled as it stands is written in place: how many bytes its prefix takes may be
+/// known. Another one is written anew beside the text.
+pub fn merge_at(
+    text: &mut Vec<u8>,
+    start: usize,
+    kept: usize,
+    other: &[u8],
+    known: Option<usize>,
+) -> Result<(), AllocError>
+    requires ordered { start ≤ kept }
+    requires within { kept ≤ length text.old.items }
+    requires marked { spells_anew windows (slice_range text.old.items start kept) ≡ true }
+    requires no_prefix { has_prefix (kinds (parts_of windows other.now)) ≡ false }
+    ensures ok { IsKnown windows known (slice_range text.old.items start kept)
+        → OnOk result (text.new.items ≡ take start text.old.items
+        ++ spelled (merged (parts_of windows (slice_range text.old.items start kept))
+        (parts_of windows other.now))) }
+    ensures err { OnErr result (text.new.items ≡ text.old.items) }
+    ensures capacity { vec_capacity text.old ≤ vec_capacity text.new }
+    ensures succeeds { IsKnown windows known (slice_range text.old.items start kept)
+        → IsSpelled (slice_range text.old.items start kept)
+        → kept + length other.now < vec_capacity text.old → IsOk result }
+{
+    let base = &text[start..kept];
+    if let Some(head) = head_of(base, known) {
+        return merge_in_place(text, start, kept, head, other);
+    }
+    let alloc = *text.allocator();
+    let spelled = spelled_anew(alloc, base, other)?;
+    put_over(text, start, b"", &spelled)
 }

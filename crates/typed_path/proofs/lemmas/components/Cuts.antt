@@ -6,8 +6,8 @@ use Rattle.std.proofs.lemmas.List.Splits.{slice_split-cons_yes, slice_split-cons
 use Rattle.std.proofs.lemmas.List.{length-append, length-map}
 use Rattle.typed_path.specs.declared.scan.separators.Separators.{Separators}
 use Rattle.typed_path.specs.declared.scan.separators.Separators.TheVariants.{Slash, Backslash, Either}
-use Rattle.typed_path.specs.declared.scan.body.Begin.{Begin}
-use Rattle.typed_path.specs.declared.scan.body.Begin.TheVariants.{Body, Inside}
+use Rattle.typed_path.specs.declared.scan.cursor.Begin.{Begin}
+use Rattle.typed_path.specs.declared.scan.cursor.Begin.TheVariants.{Body, Inside}
 use Rattle.typed_path.specs.components.Dialect.{root_text, is_separator, Dialect, separators, windows, is_verbatim}
 use Rattle.typed_path.specs.components.Part.{Part, Placed, current_part, parent_part, name_part, root_part, end_of, parts}
 use Rattle.typed_path.specs.components.Comps.{Segment, placed, later, first, component, body_of, body, later_body, comps, comps_behind, is_dot, parts_of}

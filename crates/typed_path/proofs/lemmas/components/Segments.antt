@@ -8,8 +8,8 @@ use Rattle.std.proofs.lemmas.Bool.{cases_lt, not-true, not-false, not_from_true,
 use Rattle.std.proofs.lemmas.List.Concat.{flat_map-append}
 use Rattle.std.specs.Prelude.{⊤}
 use Rattle.typed_path.specs.declared.scan.separators.Separators.{Separators}
-use Rattle.typed_path.specs.declared.scan.body.Begin.{Begin}
-use Rattle.typed_path.specs.declared.scan.body.Begin.TheVariants.{Body, Inside}
+use Rattle.typed_path.specs.declared.scan.cursor.Begin.{Begin}
+use Rattle.typed_path.specs.declared.scan.cursor.Begin.TheVariants.{Body, Inside}
 use Rattle.typed_path.specs.components.Dialect.{is_verbatim, root_text, is_separator, dot}
 use Rattle.typed_path.specs.components.Part.{Placed, current_part, parent_part, name_part, root_part, Part, Kind, prefix, root, current, parent, normal, parts, kinds, texts, prefix_part}
 use Rattle.typed_path.specs.components.Comps.{Segment, component, later, first, is_dot, is_dot_dot, placed, segments, later_body, body_of, named, body, comps_behind}

@@ -10,7 +10,7 @@ use lib.Pointwise.{pointwise}
 use Rattle.std.proofs.lemmas.Slice.Eq.{starts_is, bytes_eq-Decides}
 use Rattle.typed_path.specs.declared.scan.separators.Separators.{Separators}
 use Rattle.typed_path.specs.declared.scan.separators.Separators.TheVariants.{Backslash, Either}
-use Rattle.typed_path.specs.declared.scan.body.Begin.TheVariants.{Body, Inside}
+use Rattle.typed_path.specs.declared.scan.cursor.Begin.TheVariants.{Body, Inside}
 use Rattle.typed_path.specs.components.Dialect.{Dialect, windows, separators, is_separator, is_verbatim, begins_verbatim}
 use Rattle.typed_path.specs.components.Part.{Part, Placed, parts, texts, prefix_part}
 use Rattle.typed_path.specs.scan.Steps.{first_part, last_part, is_clean}

@@ -12,8 +12,8 @@ use Rattle.std.specs.Result.{result_ok}
 use Rattle.std.proofs.lemmas.Str.{IsUtf8-from_is_utf8, is_utf8-from_IsUtf8}
 use Rattle.std.proofs.lemmas.List.Elements.{All-head, All-tail}
 use Rattle.typed_path.specs.declared.scan.separators.Separators.{Separators}
-use Rattle.typed_path.specs.declared.scan.body.Begin.{Begin}
-use Rattle.typed_path.specs.declared.scan.body.Begin.TheVariants.{Body, Inside}
+use Rattle.typed_path.specs.declared.scan.cursor.Begin.{Begin}
+use Rattle.typed_path.specs.declared.scan.cursor.Begin.TheVariants.{Body, Inside}
 use Rattle.typed_path.specs.components.Dialect.{dot, Dialect, dialect_of, is_separator, is_verbatim, root_text}
 use Rattle.typed_path.specs.queries.Names.{is_a_dot, has_extension, stem_of, extension_of}
 use Rattle.typed_path.specs.queries.Texts.{text_of_bytes}

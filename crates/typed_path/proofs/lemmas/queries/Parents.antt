@@ -10,9 +10,9 @@ use Rattle.std.specs.Ordering.{is_eq}
 use Rattle.std.specs.Prelude.{unwrap_or}
 use Rattle.typed_path.specs.declared.scan.separators.Separators.{Separators}
 use Rattle.typed_path.specs.declared.scan.separators.Separators.TheVariants.{Slash}
-use Rattle.typed_path.specs.declared.scan.piece.Piece.{Piece}
-use Rattle.typed_path.specs.declared.scan.piece.PieceKind.{PieceKind}
-use Rattle.typed_path.specs.declared.scan.piece.PieceKind.TheVariants.{Prefix, RootDir, CurDir, ParentDir, Normal}
+use Rattle.typed_path.specs.declared.scan.step.Piece.{Piece}
+use Rattle.typed_path.specs.declared.scan.step.PieceKind.{PieceKind}
+use Rattle.typed_path.specs.declared.scan.step.PieceKind.TheVariants.{Prefix, RootDir, CurDir, ParentDir, Normal}
 use Rattle.typed_path.specs.components.Dialect.{Dialect, unix, windows, separators, is_separator, root_text}
 use Rattle.typed_path.specs.components.Part.{Part, Placed, prefix_part, root_part, Kind, prefix, root, current, parent, normal, parts, kinds, is_name, end_of, name_part}
 use Rattle.typed_path.specs.scan.Steps.{last_part}

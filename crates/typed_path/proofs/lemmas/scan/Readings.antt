@@ -3,9 +3,9 @@ use Rattle.std.proofs.Common.{◌≡◌, ℕ, ◌+◌, ◌-◌, ◌<◌, ◌≤�
 use Rattle.std.proofs.lemmas.List.{length-drop, length-take, length-reverse, take-append-drop, drop-drop, take_at, reverse-append, reverse-reverse, get_or-take, get_or-drop, get_or-reverse, nil_from_length, drop-take, take_rest, drop_more, map-append}
 use Rattle.std.proofs.lemmas.Bool.{cases_lt, cond-true, cond-false, lt-ltb, le-ltb, and_left, and_from, eq-eqb}
 use Rattle.std.proofs.lemmas.Option.{slice_get-get_or}
-use Rattle.typed_path.specs.declared.scan.piece.Piece.{Piece}
-use Rattle.typed_path.specs.declared.script.ends.End.{End}
-use Rattle.typed_path.specs.declared.script.ends.End.TheVariants.{Front}
+use Rattle.typed_path.specs.declared.scan.step.Piece.{Piece}
+use Rattle.typed_path.specs.declared.script.run.End.{End}
+use Rattle.typed_path.specs.declared.script.run.End.TheVariants.{Front}
 use Rattle.typed_path.specs.components.Part.{Placed, current_part, end_of, Part}
 use Rattle.typed_path.specs.scan.Left.{Side, front, back, first_of, last_of, but_last, items_between, answer, reads_after, reads, left, start_at, end_at, slice_after_front, slice_after_back, cut_to, end_before_last}
 use Rattle.typed_path.specs.scan.Reading.{answers_after, items_after, fronts, backs, IsWhole, items_behind, slice_behind, slice_after, IsLaidOut, answer_of}

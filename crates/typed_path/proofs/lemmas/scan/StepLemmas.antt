@@ -6,9 +6,9 @@ use Rattle.std.proofs.lemmas.List.{reverse-append, length-append, length-take, t
 use Rattle.std.specs.Iterator.{MakesProgress, YieldsFirstBy, YieldsLastBy, item_count}
 use Rattle.std.proofs.lemmas.Option.{same_Some}
 use Rattle.typed_path.specs.declared.scan.separators.Separators.{Separators}
-use Rattle.typed_path.specs.declared.scan.body.Begin.{Begin}
+use Rattle.typed_path.specs.declared.scan.cursor.Begin.{Begin}
 use Rattle.typed_path.specs.declared.scan.cursor.Cursor.{Cursor}
-use Rattle.typed_path.specs.declared.scan.body.Body.{Body}
+use Rattle.typed_path.specs.declared.scan.cursor.Body.{Body}
 use Rattle.typed_path.specs.declared.scan.prefix.Found.{Found}
 use Rattle.typed_path.specs.components.Part.{Placed, end_of, Part, parts, prefix_part}
 use Rattle.typed_path.specs.scan.Left.{first_of, last_of, but_last, cut_to, slice_after_back, slice_after_front}

@@ -7,8 +7,8 @@ use Rattle.std.proofs.lemmas.List.Splits.{slice_split_none}
 use Rattle.std.proofs.lemmas.List.Sums.{position_or_len_is}
 use Rattle.std.specs.Option.{unwrap_or}
 use Rattle.typed_path.specs.declared.scan.separators.Separators.{Separators}
-use Rattle.typed_path.specs.declared.scan.body.Begin.{Begin}
-use Rattle.typed_path.specs.declared.scan.body.Begin.TheVariants.{Body, Inside}
+use Rattle.typed_path.specs.declared.scan.cursor.Begin.{Begin}
+use Rattle.typed_path.specs.declared.scan.cursor.Begin.TheVariants.{Body, Inside}
 use Rattle.typed_path.specs.declared.scan.separators.Separators.TheVariants.{Slash, Backslash, Either}
 use Rattle.typed_path.specs.components.Dialect.{is_separator, is_verbatim, dot, root_text}
 use Rattle.typed_path.specs.components.Part.{Placed, Part, end_of, current_part, parent_part, name_part, root_part}

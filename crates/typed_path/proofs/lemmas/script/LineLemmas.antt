@@ -11,7 +11,7 @@ use Rattle.std.proofs.Math.Seq.{take-append_seam}
 use Rattle.std.proofs.lemmas.List.{take-append-drop}
 use Rattle.typed_path.specs.declared.script.lines.Command.{Command}
 use Rattle.typed_path.specs.declared.script.lines.Command.TheVariants.{Normalize, Components, Join, JoinChecked, Convert, ConvertChecked}
-use Rattle.typed_path.specs.declared.script.reading.FieldEnd.{FieldEnd}
+use Rattle.typed_path.specs.declared.script.lines.FieldEnd.{FieldEnd}
 use Rattle.typed_path.specs.script.Lines.{line_feed, split_lines, ended, last_line, all_lines, complete_lines, open_line, lines_of, reply, replies_to, tab, fields_of, reply_in, convert_reply_in, pair_reply_in, reply_fields, reply_line, derived_reply, bare_reply, bad_line, dialect_named, dialect_name, in_named, AnswersFirst, text_reply}
 use Rattle.typed_path.specs.components.Dialect.{Dialect, unix, windows}
 use Rattle.typed_path.specs.script.Commands.{command_name, texts_reply, end_byte}

@@ -8,7 +8,7 @@ use Rattle.std.proofs.lemmas.Str.{IsUtf8-nil, IsUtf8-append, IsUtf8-take, IsUtf8
 use Rattle.std.specs.String.{string_bytes}
 use Rattle.std.specs.declared.string.String.{String}
 use Rattle.typed_path.specs.declared.errors.CheckedPathError.{CheckedPathError}
-use Rattle.typed_path.specs.declared.scan.piece.Piece.{Piece}
+use Rattle.typed_path.specs.declared.scan.step.Piece.{Piece}
 use Rattle.typed_path.specs.components.Dialect.{Dialect, unix, windows, slash, backslash, dot, root_of}
 use Rattle.typed_path.specs.components.Part.{Kind, root, current, parent, Part, kinds, is_name, texts, Placed, parts}
 use Rattle.typed_path.specs.components.Prefix.{Found, prefix_of}

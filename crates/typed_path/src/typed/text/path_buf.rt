@@ -1,18 +1,38 @@
 //! An owned path of text whose dialect is chosen when the program runs.
 
-ghost use Rattle.std.specs.Prelude.{◌≡◌, [], IfOk, IsOk};
+ghost use Rattle.std.specs.Prelude.{◌≡◌, [], IfOk, IsOk, not, bytes_eq, Ok, Err, Some, None, IfSome, option_map, option_copied, Option, IfErr, is_ok};
 ghost use Rattle.std.specs.String.{string_bytes, string_capacity};
 ghost use Rattle.typed_path.specs.components.Dialect.{unix, windows};
-ghost use Rattle.typed_path.specs.typed.Kind.{kind_dialect, derived_dialect, typed_dialect, KeepsDialect};
+ghost use Rattle.typed_path.specs.typed.Kind.{kind_dialect, derived_dialect, typed_dialect, KeepsDialect, held_unix, held_windows};
 ghost use Rattle.typed_path.specs.typed.Outcomes.{Pushes, PushesChecked, Pops, SetsFileName, SetsExtension, Clears, Reserves, ReservesExactly, ShrinksTo};
-ghost use Rattle.typed_path.specs.views.TypedViews.{typed_owned, owned_bytes};
-ghost use Rattle.typed_path.specs.views.TypedTextViews.{typed_text};
+ghost use Rattle.typed_path.specs.views.TypedViews.{typed_owned, owned_bytes, reading_dialect};
+ghost use Rattle.typed_path.specs.views.TypedTextViews.{typed_text, typed_text_items, typed_text_slice, typed_text_iter_items, typed_text_iter_slice, typed_text_ancestors_left};
+ghost use Rattle.typed_path.specs.declared.errors.CheckedPathError.{CheckedPathError};
+ghost use Rattle.typed_path.specs.declared.errors.AbsolutizeError.TheVariants.{Ambiguous};
+ghost use Rattle.typed_path.specs.components.Part.{kinds};
+ghost use Rattle.typed_path.specs.components.Comps.{comps, parts_of};
+ghost use Rattle.typed_path.specs.queries.Queries.{is_absolute, has_root, parent_of, file_name_of, file_stem_of, extension, stripped, path_starts_with, path_ends_with};
+ghost use Rattle.typed_path.specs.queries.Ancestry.{ancestors_of};
+ghost use Rattle.typed_path.specs.queries.Strip.{stripped_to};
+ghost use Rattle.typed_path.specs.changes.Changes.{with_file_name, with_extension};
+ghost use Rattle.typed_path.specs.changes.Checked.{refusal};
+ghost use Rattle.typed_path.specs.changes.Fault.{fault};
+ghost use Rattle.typed_path.specs.conversions.Convert.{platform, converted, converted_checked, absolute_from, same_dialect};
+ghost use Rattle.typed_path.specs.places.Places.{normal_text};
+ghost use Rattle.typed_path.specs.promises.Promises.{HasPrefixOf, LiesWithin, HasNormalForm};
+ghost use Rattle.typed_path.specs.promises.Below.{LiesBelow};
+ghost use Rattle.typed_path.specs.views.TextViews.{utf8_bytes};
+ghost use Rattle.typed_path.specs.changes.Push as push_spec;
 
-use crate::errors::PathError;
-use crate::typed::kind::PathType;
-use crate::typed::text::path::Utf8TypedPath;
-use crate::typed::variant::{Typed, each, made_as, typed};
-use crate::utf8::{Utf8Path, Utf8PathBuf, Utf8UnixPathBuf, Utf8WindowsPathBuf};
+use crate::errors::{AbsolutizeError, PathError, StripPrefixError};
+use crate::typed::path_buf::TryAsRef;
+use crate::typed::text::path::{Utf8TypedAncestors, Utf8TypedIter, Utf8TypedPath};
+use crate::typed::text::reading::Utf8TypedComponents;
+use crate::typed::variant::{PathType, Typed, each, made_as, typed};
+use crate::utf8::{
+    Utf8Path, Utf8PathBuf, Utf8PlatformPath, Utf8UnixPath, Utf8UnixPathBuf, Utf8WindowsPath,
+    Utf8WindowsPathBuf,
+};
 use std::alloc::{AllocError, Global};
 
 /// An owned path of text of Unix or of Windows, which grows.
@@ -207,5 +227,381 @@ impl Utf8TypedPathBuf {
         ensures capacity { string_capacity result ≡ (typed_owned self).capacity }
     {
         each!(self, own => own.into_string())
+    }
+
+    /// The text of the path.
+    pub fn as_str(&self) -> &str
+        ensures { result.now ≡ owned_bytes self.now }
+    {
+        self.to_path().as_str()
+    }
+
+    /// Whether the path leads to one place, whatever the current directory is.
+    pub fn is_absolute(&self) -> bool
+        ensures { result ≡ is_absolute (typed_dialect self.now)
+            (kinds (parts_of (typed_dialect self.now) (owned_bytes self.now))) }
+    {
+        self.to_path().is_absolute()
+    }
+
+    /// Whether the path is not absolute.
+    pub fn is_relative(&self) -> bool
+        ensures { result ≡ not (is_absolute (typed_dialect self.now)
+            (kinds (parts_of (typed_dialect self.now) (owned_bytes self.now)))) }
+    {
+        self.to_path().is_relative()
+    }
+
+    /// Whether the path begins with a root, written or implied by a prefix.
+    pub fn has_root(&self) -> bool
+        ensures { result ≡ has_root (typed_dialect self.now)
+            (kinds (parts_of (typed_dialect self.now) (owned_bytes self.now))) }
+    {
+        self.to_path().has_root()
+    }
+
+    /// The path without its last component, or none where there is no component or nothing is above
+    /// the last one.
+    pub fn parent(&self) -> Option<Utf8TypedPath<'_>>
+        ensures dialect { IfSome result (λ p. typed_dialect p ≡ typed_dialect self.now) }
+        ensures bytes { option_map typed_text result
+            ≡ parent_of (typed_dialect self.now) (owned_bytes self.now) }
+    {
+        self.to_path().parent()
+    }
+
+    /// The path, and then each parent of the one before.
+    pub fn ancestors(&self) -> Utf8TypedAncestors<'_>
+        ensures dialect { typed_dialect result ≡ typed_dialect self.now }
+        ensures left { typed_text_ancestors_left result
+            ≡ ancestors_of (typed_dialect self.now) (owned_bytes self.now) }
+    {
+        self.to_path().ancestors()
+    }
+
+    /// The last component, where it is a name.
+    pub fn file_name(&self) -> Option<&str>
+        ensures { option_copied result
+            ≡ file_name_of (typed_dialect self.now) (owned_bytes self.now) }
+    {
+        self.to_path().file_name()
+    }
+
+    /// The file name up to its last dot, or the whole of it where no dot but a first one is there.
+    pub fn file_stem(&self) -> Option<&str>
+        ensures { option_copied result
+            ≡ file_stem_of (typed_dialect self.now) (owned_bytes self.now) }
+    {
+        self.to_path().file_stem()
+    }
+
+    /// What stands in the file name behind its last dot, where that is not its first character.
+    pub fn extension(&self) -> Option<&str>
+        ensures { option_copied result
+            ≡ extension (typed_dialect self.now) (owned_bytes self.now) }
+    {
+        self.to_path().extension()
+    }
+
+    /// What is left of the path behind a base of its kind.
+    ///
+    /// # Errors
+    ///
+    /// `StripPrefixError` exactly where the path does not begin with the base's components, compared
+    /// as they are written.
+    pub fn strip_prefix(&self, base: &str) -> Result<Utf8TypedPath<'_>, StripPrefixError>
+        ensures dialect { IfOk result (λ p. typed_dialect p ≡ typed_dialect self.now) }
+        ensures bytes { stripped_to typed_text result
+            ≡ stripped (typed_dialect self.now) (owned_bytes self.now) base.now }
+    {
+        self.to_path().strip_prefix(base)
+    }
+
+    /// Whether the path begins with the components of another of its kind, as they are written.
+    pub fn starts_with(&self, base: &str) -> bool
+        ensures { result
+            ≡ path_starts_with (typed_dialect self.now) (owned_bytes self.now) base.now }
+    {
+        self.to_path().starts_with(base)
+    }
+
+    /// Whether the path ends with the components of another of its kind, as they are written.
+    pub fn ends_with(&self, end: &str) -> bool
+        ensures { result
+            ≡ path_ends_with (typed_dialect self.now) (owned_bytes self.now) end.now }
+    {
+        self.to_path().ends_with(end)
+    }
+
+    /// Whether the path is this text, character by character: `a/` is not `a`.
+    #[inline]
+    pub fn eq_str(&self, other: &str) -> bool
+        ensures { result ≡ bytes_eq (owned_bytes self.now) other.now }
+    {
+        self.to_path().eq_str(other)
+    }
+
+    /// The components of the path, from either end.
+    pub fn components(&self) -> Utf8TypedComponents<'_>
+        ensures dialect { reading_dialect result ≡ typed_dialect self.now }
+        ensures items { typed_text_items result
+            ≡ comps (typed_dialect self.now) (owned_bytes self.now) }
+        ensures slice { typed_text_slice result ≡ owned_bytes self.now }
+    {
+        self.to_path().components()
+    }
+
+    /// The texts of the components, from either end.
+    pub fn iter(&self) -> Utf8TypedIter<'_>
+        ensures dialect { typed_dialect result ≡ typed_dialect self.now }
+        ensures items { typed_text_iter_items result
+            ≡ comps (typed_dialect self.now) (owned_bytes self.now) }
+        ensures slice { typed_text_iter_slice result ≡ owned_bytes self.now }
+    {
+        self.to_path().iter()
+    }
+
+    /// The path with another of its kind pushed onto it: an absolute one stands in its place, and with
+    /// an empty one it is a copy.
+    pub fn join(&self, alloc: Global, path: &str) -> Result<Utf8TypedPathBuf, AllocError>
+        ensures dialect { IfOk result (λ p. typed_dialect p ≡ typed_dialect self.now) }
+        ensures joined { IfOk result (λ p. owned_bytes p
+            ≡ push_spec.push (typed_dialect self.now) (owned_bytes self.now) path.now) }
+    {
+        self.to_path().join(alloc, path)
+    }
+
+    /// The path with another of its kind pushed onto it, unless that has a component that offends.
+    ///
+    /// The answer lies within this path, where it has the prefix of this one. A path that is refused
+    /// costs no memory.
+    ///
+    /// # Errors
+    ///
+    /// Those of [`Utf8Path::join_checked`].
+    pub fn join_checked(&self, alloc: Global, path: &str) -> Result<Utf8TypedPathBuf, PathError>
+        ensures refused { refusal result ≡ fault (typed_dialect self.now) path.now }
+        ensures dialect { IfOk result (λ p. typed_dialect p ≡ typed_dialect self.now) }
+        ensures joined { IfOk result (λ p. owned_bytes p
+            ≡ push_spec.push (typed_dialect self.now) (owned_bytes self.now) path.now) }
+        ensures prefix { IfOk result
+            (λ p. HasPrefixOf (typed_dialect self.now) (owned_bytes self.now) (owned_bytes p)) }
+        ensures contained { IfOk result
+            (λ p. LiesWithin (typed_dialect self.now) (owned_bytes self.now) path.now (owned_bytes p)) }
+        ensures below { IfOk result (λ p. LiesBelow (typed_dialect self.now) (owned_bytes self.now) (owned_bytes p)) }
+    {
+        self.to_path().join_checked(alloc, path)
+    }
+
+    /// A copy with another file name, or with the name pushed where there is none.
+    pub fn with_file_name(&self, alloc: Global, name: &str) -> Result<Utf8TypedPathBuf, AllocError>
+        ensures dialect { IfOk result (λ p. typed_dialect p ≡ typed_dialect self.now) }
+        ensures bytes { IfOk result (λ p. owned_bytes p
+            ≡ with_file_name (typed_dialect self.now) (owned_bytes self.now) name.now) }
+    {
+        self.to_path().with_file_name(alloc, name)
+    }
+
+    /// A copy whose file name has another extension, or none where the new one is empty. Without a
+    /// file name it is a mere copy.
+    pub fn with_extension(
+        &self,
+        alloc: Global,
+        extension: &str,
+    ) -> Result<Utf8TypedPathBuf, AllocError>
+        ensures dialect { IfOk result (λ p. typed_dialect p ≡ typed_dialect self.now) }
+        ensures bytes { IfOk result (λ p. owned_bytes p
+            ≡ with_extension (typed_dialect self.now) (owned_bytes self.now) extension.now) }
+    {
+        self.to_path().with_extension(alloc, extension)
+    }
+
+    /// The path without `.`, and without `..` and the names that these take away, in the form of
+    /// [`Utf8Path::normalize`].
+    pub fn normalize(&self, alloc: Global) -> Result<Utf8TypedPathBuf, AllocError>
+        ensures dialect { IfOk result (λ p. typed_dialect p ≡ typed_dialect self.now) }
+        ensures text { IfOk result (λ p. owned_bytes p
+            ≡ normal_text (typed_dialect self.now) (owned_bytes self.now)) }
+        ensures form { IfOk result
+            (λ p. HasNormalForm (typed_dialect self.now) (owned_bytes self.now) (owned_bytes p)) }
+    {
+        self.to_path().normalize(alloc)
+    }
+
+    /// The normal text of the path where it is absolute, and else of the directory in this path's
+    /// dialect with the path pushed onto it.
+    ///
+    /// # Errors
+    ///
+    /// `Ambiguous` where the path is absolute neither alone nor behind the directory, as every Windows
+    /// path without a prefix is behind `/home/u`. `OutOfMemory` where memory is refused.
+    pub fn absolutize(
+        &self,
+        alloc: Global,
+        directory: Utf8PlatformPath<'_>,
+    ) -> Result<Utf8TypedPathBuf, AbsolutizeError>
+        ensures dialect { IfOk result (λ p. typed_dialect p ≡ typed_dialect self.now) }
+        ensures ok { IfOk result (λ p.
+            absolute_from (typed_dialect self.now) (utf8_bytes directory.entry) (owned_bytes self.now)
+            ≡ Some (owned_bytes p)) }
+        ensures ambiguous { result ≡ Err Ambiguous
+            → absolute_from (typed_dialect self.now) (utf8_bytes directory.entry) (owned_bytes self.now)
+            ≡ None }
+    {
+        self.to_path().absolutize(alloc, directory)
+    }
+
+    /// The path as on Unix: that of Unix is copied, and that of Windows written as
+    /// [`Utf8Path::with_encoding`] does.
+    pub fn with_unix_encoding(&self, alloc: Global) -> Result<Utf8TypedPathBuf, AllocError>
+        ensures dialect { IfOk result (λ p. typed_dialect p ≡ unix) }
+        ensures bytes { IfOk result (λ p. owned_bytes p
+            ≡ converted (typed_dialect self.now) unix (owned_bytes self.now)) }
+    {
+        self.to_path().with_unix_encoding(alloc)
+    }
+
+    /// The path as on Unix, refused as [`Utf8Path::with_encoding_checked`] does, also where it is of Unix.
+    pub fn with_unix_encoding_checked(&self, alloc: Global) -> Result<Utf8TypedPathBuf, PathError>
+        ensures dialect { IfOk result (λ p. typed_dialect p ≡ unix) }
+        ensures ok { IfOk result (λ p.
+            converted_checked (typed_dialect self.now) unix (owned_bytes self.now)
+            ≡ Ok (owned_bytes p)) }
+        ensures refused { (e : CheckedPathError) → refusal result ≡ Some e
+            → converted_checked (typed_dialect self.now) unix (owned_bytes self.now) ≡ Err e }
+    {
+        self.to_path().with_unix_encoding_checked(alloc)
+    }
+
+    /// The path as on Windows: that of Windows is copied, and that of Unix written as
+    /// [`Utf8Path::with_encoding`] does.
+    pub fn with_windows_encoding(&self, alloc: Global) -> Result<Utf8TypedPathBuf, AllocError>
+        ensures dialect { IfOk result (λ p. typed_dialect p ≡ windows) }
+        ensures bytes { IfOk result (λ p. owned_bytes p
+            ≡ converted (typed_dialect self.now) windows (owned_bytes self.now)) }
+    {
+        self.to_path().with_windows_encoding(alloc)
+    }
+
+    /// The path as on Windows, refused as [`Utf8Path::with_encoding_checked`] does, also where it is of
+    /// Windows.
+    pub fn with_windows_encoding_checked(
+        &self,
+        alloc: Global,
+    ) -> Result<Utf8TypedPathBuf, PathError>
+        ensures dialect { IfOk result (λ p. typed_dialect p ≡ windows) }
+        ensures ok { IfOk result (λ p.
+            converted_checked (typed_dialect self.now) windows (owned_bytes self.now)
+            ≡ Ok (owned_bytes p)) }
+        ensures refused { (e : CheckedPathError) → refusal result ≡ Some e
+            → converted_checked (typed_dialect self.now) windows (owned_bytes self.now) ≡ Err e }
+    {
+        self.to_path().with_windows_encoding_checked(alloc)
+    }
+}
+
+/// The path that is held, where it is one of Unix.
+impl<'a> TryAsRef<Utf8UnixPath<'a>> for Utf8TypedPath<'a> {
+    ghost try_as_ref_gives = { λ path held. held ≡ held_unix path };
+
+    fn try_as_ref(&self) -> Option<Utf8UnixPath<'a>> {
+        match self {
+            Typed::Unix(path) => Some(*path),
+            Typed::Windows(_) => None,
+        }
+    }
+}
+
+/// The path that is held, where it is one of Windows.
+impl<'a> TryAsRef<Utf8WindowsPath<'a>> for Utf8TypedPath<'a> {
+    ghost try_as_ref_gives = { λ path held. held ≡ held_windows path };
+
+    fn try_as_ref(&self) -> Option<Utf8WindowsPath<'a>> {
+        match self {
+            Typed::Unix(_) => None,
+            Typed::Windows(path) => Some(*path),
+        }
+    }
+}
+
+impl<'a> Utf8UnixPath<'a> {
+    /// The path as one whose dialect is chosen when the program runs.
+    pub fn to_typed_path(self) -> Utf8TypedPath<'a>
+        ensures dialect { typed_dialect result ≡ unix }
+        ensures bytes { typed_text result ≡ utf8_bytes self.entry }
+    {
+        Typed::Unix(self)
+    }
+
+    /// A copy of the path as one whose dialect is chosen when the program runs.
+    pub fn to_typed_path_buf(self, alloc: Global) -> Result<Utf8TypedPathBuf, AllocError>
+        ensures dialect { IfOk result (λ p. typed_dialect p ≡ unix) }
+        ensures bytes { IfOk result (λ p. owned_bytes p ≡ utf8_bytes self.entry) }
+        ensures succeeds { utf8_bytes self.entry ≡ [] → IsOk result }
+    {
+        self.to_typed_path().to_path_buf(alloc)
+    }
+}
+
+impl<'a> Utf8WindowsPath<'a> {
+    /// The path as one whose dialect is chosen when the program runs.
+    pub fn to_typed_path(self) -> Utf8TypedPath<'a>
+        ensures dialect { typed_dialect result ≡ windows }
+        ensures bytes { typed_text result ≡ utf8_bytes self.entry }
+    {
+        Typed::Windows(self)
+    }
+
+    /// A copy of the path as one whose dialect is chosen when the program runs.
+    pub fn to_typed_path_buf(self, alloc: Global) -> Result<Utf8TypedPathBuf, AllocError>
+        ensures dialect { IfOk result (λ p. typed_dialect p ≡ windows) }
+        ensures bytes { IfOk result (λ p. owned_bytes p ≡ utf8_bytes self.entry) }
+        ensures succeeds { utf8_bytes self.entry ≡ [] → IsOk result }
+    {
+        self.to_typed_path().to_path_buf(alloc)
+    }
+}
+
+/// The path of a text, of the kind that it looks like, with no copy.
+impl From<String> for Utf8TypedPathBuf {
+    ghost use Rattle.std.specs.String.{string_bytes};
+
+    ghost from_gives = { λ text path. (typed_dialect path ≡ derived_dialect (string_bytes text))
+        × (owned_bytes path ≡ string_bytes text) };
+
+    fn from(text: String) -> Utf8TypedPathBuf {
+        made_as!(PathType::derive(text.as_bytes()), Utf8PathBuf::from(text))
+    }
+}
+
+/// The path that is held, where it is one of Unix; one of Windows is given back.
+impl TryFrom<Utf8TypedPathBuf> for Utf8UnixPathBuf {
+    type Error = Utf8TypedPathBuf;
+
+    ghost try_from_gives = { λ path made. (is_ok made ≡ same_dialect (typed_dialect path) unix)
+        × IfOk made (λ p. p ≡ typed_owned path)
+        × IfErr made (λ back. back ≡ path) };
+
+    fn try_from(path: Utf8TypedPathBuf) -> Result<Utf8UnixPathBuf, Utf8TypedPathBuf> {
+        match path {
+            Typed::Unix(path) => Ok(path),
+            Typed::Windows(path) => Err(Typed::Windows(path)),
+        }
+    }
+}
+
+/// The path that is held, where it is one of Windows; one of Unix is given back.
+impl TryFrom<Utf8TypedPathBuf> for Utf8WindowsPathBuf {
+    type Error = Utf8TypedPathBuf;
+
+    ghost try_from_gives = { λ path made. (is_ok made ≡ same_dialect (typed_dialect path) windows)
+        × IfOk made (λ p. p ≡ typed_owned path)
+        × IfErr made (λ back. back ≡ path) };
+
+    fn try_from(path: Utf8TypedPathBuf) -> Result<Utf8WindowsPathBuf, Utf8TypedPathBuf> {
+        match path {
+            Typed::Unix(path) => Err(Typed::Unix(path)),
+            Typed::Windows(path) => Ok(path),
+        }
     }
 }

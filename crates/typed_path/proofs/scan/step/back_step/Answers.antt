@@ -3,7 +3,7 @@ use Rattle.std.proofs.lemmas.List.{take_rest, take-take, length-take, length-tak
 use Rattle.typed_path.specs.components.Dialect.{is_separator}
 use Rattle.typed_path.specs.components.Comps.{component}
 use Rattle.typed_path.specs.views.PieceViews.{step_part}
-use Rattle.typed_path.specs.declared.scan.body.Begin.{Begin}
+use Rattle.typed_path.specs.declared.scan.cursor.Begin.{Begin}
 use Rattle.typed_path.specs.scan.Steps.{body_from, is_clean, end_from}
 use Rattle.typed_path.proofs.lemmas.lists.Lists.{IsLastPlace}
 use Rattle.typed_path.proofs.lemmas.scan.TextEnds.{IsLast, last-at_end, last-before_end, is_clean-kept, end_from-trimmed}

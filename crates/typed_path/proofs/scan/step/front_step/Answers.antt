@@ -2,7 +2,7 @@ use Rattle.std.proofs.Common.{◌≡◌, ℕ, ◌+◌, ◌<◌, ◌++◌, List, 
 use Rattle.std.specs.List.{position_or_len}
 use Rattle.std.proofs.lemmas.List.{take_rest, drop-drop, length-take-le}
 use Rattle.typed_path.specs.declared.scan.separators.Separators.{Separators}
-use Rattle.typed_path.specs.declared.scan.body.Begin.{Begin}
+use Rattle.typed_path.specs.declared.scan.cursor.Begin.{Begin}
 use Rattle.typed_path.specs.components.Dialect.{is_separator, root_text}
 use Rattle.typed_path.specs.components.Part.{normal, root, current, parent, Part, Placed, root_part, current_part, parent_part, name_part}
 use Rattle.typed_path.specs.components.Comps.{component, first, later_body, is_dot, is_dot_dot}

@@ -1,9 +1,9 @@
 use Rattle.std.proofs.Common.{◌≡◌, ◌⊎◌, inl, inr, ℕ, ◌<◌, arith, length, List, [], ◌∷◌, ◌++◌, map, drop, Bor, true, refl, sym, ap, subst, append-nil, ◌∙◌}
 use Rattle.std.specs.Prelude.{Option, Some, None, option_to_list, IsSome}
 use Rattle.std.proofs.lemmas.List.{map-append, drop_all}
-use Rattle.typed_path.specs.declared.scan.piece.Piece.{Piece}
-use Rattle.typed_path.specs.declared.scan.piece.PieceKind.{PieceKind}
-use Rattle.typed_path.specs.declared.scan.piece.PieceKind.TheVariants.{Prefix, CurDir, ParentDir, RootDir, Normal}
+use Rattle.typed_path.specs.declared.scan.step.Piece.{Piece}
+use Rattle.typed_path.specs.declared.scan.step.PieceKind.{PieceKind}
+use Rattle.typed_path.specs.declared.scan.step.PieceKind.TheVariants.{Prefix, CurDir, ParentDir, RootDir, Normal}
 use Rattle.typed_path.specs.declared.scan.prefix.WindowsPrefix.{WindowsPrefix}
 use Rattle.typed_path.specs.components.Dialect.{windows}
 use Rattle.typed_path.specs.components.Part.{Part, parts, parent}

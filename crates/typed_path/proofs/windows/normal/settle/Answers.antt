@@ -1,7 +1,7 @@
 use Rattle.std.proofs.Common.{◌≡◌, List, [], ◌∷◌, ℕ, ◌++◌, ◌⊎◌, inl, inr, Option, Some, None, is_some, false, refl, ap, sym, ◌∙◌, arith}
 use Rattle.typed_path.specs.declared.scan.separators.Separators.TheVariants.{Either}
-use Rattle.typed_path.specs.declared.scan.piece.StepKind.{StepKind}
-use Rattle.typed_path.specs.declared.scan.piece.StepKind.TheVariants.{RootDir, CurDir}
+use Rattle.typed_path.specs.declared.scan.step.StepKind.{StepKind}
+use Rattle.typed_path.specs.declared.scan.step.StepKind.TheVariants.{RootDir, CurDir}
 use Rattle.typed_path.specs.components.Dialect.{backslash}
 use Rattle.typed_path.specs.views.PieceViews.{step_part, step_view}
 use Rattle.typed_path.specs.places.Rows.{rows_of}

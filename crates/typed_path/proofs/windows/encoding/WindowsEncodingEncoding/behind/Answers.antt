@@ -1,6 +1,6 @@
 use Rattle.std.proofs.Common.{rules, ◌≡◌, ◌<◌, ◌+◌, ◌++◌, ℕ, Some, true, length, take, drop, refl, ap, sym, subst, ◌∙◌}
 use Rattle.std.proofs.lemmas.List.{take_rest}
-use Rattle.typed_path.specs.declared.scan.body.Begin.TheVariants.{Inside}
+use Rattle.typed_path.specs.declared.scan.cursor.Begin.TheVariants.{Inside}
 use Rattle.typed_path.specs.changes.Push.{raw_length}
 use Rattle.typed_path.specs.components.Comps.{body, later_body}
 use Rattle.typed_path.specs.components.Dialect.{windows, separators, is_verbatim}

@@ -1,0 +1,46 @@
+use Rattle.std.proofs.Common.{◌≡◌, ℕ, List, ◌∷◌, ◌++◌, ap, sym, ◌∙◌}
+use Rattle.std.specs.Prelude.{Option, Result, IfOk, codes}
+use Rattle.typed_path.specs.components.Dialect.{Dialect, unix, windows}
+use Rattle.typed_path.specs.script.Lines.{tab, fields_of, reply, reply_line, reply_fields, dialect_name, AnswersFirst}
+use Rattle.typed_path.specs.script.Commands.{command_name, texts_reply}
+use Rattle.typed_path.specs.declared.script.lines.Command.{Command}
+use Rattle.typed_path.proofs.lemmas.script.LineLemmas.{named_reply, no_command, no_encoding, command_is_field, dialect_is_field, fields-behind, lacks-first, put_alike, put_behind}
+use Rattle.typed_path.proofs.script.lines.answer_line.Goals as goal
+
+pub returns-in_default : goal.returns-in_default
+returns-in_default c =
+    put_alike c.answer_bare_line.result _ reply _ _ _ c.args.input.now
+    (λ line lines e. sym (ap reply_line (no_command line (λ command. lacks-first (command_name command) c.args.input.now line lines e (c.in_default.ensures command)))))
+    c.answer_bare_line.ensures
+
+-- what is given for the texts behind a command and a dialect is given for the line
+named : {A E : Type 0} (r : Result A E) (left : A → Option (List ℕ)) (command : Command) (d : Dialect) (input rest texts old new : List ℕ)
+    → input ≡ command_name command ++ tab ∷ rest → rest ≡ dialect_name d ++ tab ∷ texts
+    → IfOk r (λ a. AnswersFirst (λ line. reply_line (texts_reply d (command_name command) (fields_of line))) texts (left a) old new) → IfOk r (λ a. AnswersFirst reply input (left a) old new)
+named r left command d input rest texts old new begins behind answered =
+    let name = command_name command in
+    put_behind r left reply _ old new input name rest begins (command_is_field command).0
+    (λ line lines e. sym (ap (λ fields. reply_line (reply_fields fields)) (fields-behind name line (command_is_field command).1)))
+    (put_behind r left (λ texts. reply_line (reply_fields (name ∷ fields_of texts))) _ old new rest (dialect_name d) texts behind (dialect_is_field d).0
+    (λ line lines e. sym (ap (λ fields. reply_line (reply_fields (name ∷ fields))) (fields-behind (dialect_name d) line (dialect_is_field d).1) ∙ ap reply_line (named_reply command d (fields_of line))))
+    answered)
+
+pub returns-in-Some-text_behind : goal.returns-in-Some-text_behind
+returns-in-Some-text_behind c =
+    named c.answer_texts.result _ c.in-Some.command unix c.args.input.now c.in-Some.rest.now c.in-Some-text_behind.texts.now _ _ c.in-Some.ensures c.in-Some-text_behind.ensures
+    c.answer_texts.ensures
+
+pub returns-in-Some-text_behind-2 : goal.returns-in-Some-text_behind-2
+returns-in-Some-text_behind-2 c =
+    named c.answer_texts-in-Some-text_behind-2.result _ c.in-Some.command windows c.args.input.now c.in-Some.rest.now c.in-Some-text_behind-2.texts.now _ _ c.in-Some.ensures c.in-Some-text_behind-2.ensures
+    c.answer_texts-in-Some-text_behind-2.ensures
+
+pub returns : goal.returns
+returns c =
+    let name = command_name c.in-Some.command in
+    let input = c.args.input.now in
+    let rest = c.in-Some.rest.now in
+    put_behind c.answer_bad_line.result _ reply _ _ _ input name rest c.in-Some.ensures (command_is_field c.in-Some.command).0
+    (λ line lines e. sym (ap (λ fields. reply_line (reply_fields fields)) (fields-behind name line (command_is_field c.in-Some.command).1)
+    ∙ ap reply_line (no_encoding c.in-Some.command line (lacks-first (codes "unix") rest line lines e c.in_default-text_behind.ensures) (lacks-first (codes "windows") rest line lines e c.in_default-text_behind-2.ensures))))
+    c.answer_bad_line.ensures

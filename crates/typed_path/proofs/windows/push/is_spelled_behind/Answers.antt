@@ -1,0 +1,31 @@
+use Rattle.std.proofs.Common.{◌≡◌, Bool, true, false, [], ◌∷◌, List, drop, sym, ap, ◌∙◌}
+use Rattle.std.specs.Prelude.{ℕ, Some}
+use Rattle.std.proofs.lemmas.Bool.{eqb-true}
+use Rattle.std.proofs.lemmas.List.{nil_from_length}
+use Rattle.typed_path.specs.components.Dialect.{windows, backslash, separators}
+use Rattle.typed_path.specs.components.Prefix.{Found, prefix_of, is_empty}
+use Rattle.typed_path.specs.queries.Queries.{is_verbatim_prefix}
+use Rattle.typed_path.specs.changes.Spelled.{is_row, TellsSpelled}
+use Rattle.typed_path.proofs.lemmas.changes.Spellings.{root-spelled, row-spelled_text, other-unspelled, row-unspelled}
+use Rattle.typed_path.proofs.windows.push.is_spelled_behind.Goals as goal
+
+pub returns-then-first-ne92 : goal.returns-then-first-ne92
+returns-then-first-ne92 c = λ f is marked behind.
+    other-unspelled c.args.text.now f is marked c.in-Some.first.now c.in-Some.names.now (behind ∙ c.in-Some.ensures.cases.0) c.if-first-ne92.true
+
+pub returns-then-is_empty : goal.returns-then-is_empty
+returns-then-is_empty c = λ f is marked behind.
+    let none : c.in-Some.names.now ≡ [] = nil_from_length c.in-Some.names.now (eqb-true _ 0 (sym c.is_empty.ensures ∙ c.if-is_empty.true)) in
+    root-spelled c.args.text.now f is marked (behind ∙ c.in-Some.ensures.cases.0 ∙ (λ i. c.if-first-ne92.false i ∷ none i))
+
+-- a row tells
+row-told : (t names : List ℕ) (f : Found) → prefix_of windows t ≡ Some f → is_verbatim_prefix f.prefix ≡ true → drop f.length t ≡ backslash ∷ names → is_empty names ≡ false
+    → (b : Bool) → is_row (separators windows t) names ≡ b → TellsSpelled b t
+row-told t names f is marked behind filled true e = row-spelled_text t f is marked names behind e
+row-told t names f is marked behind filled false e = row-unspelled t f is marked names behind filled e
+
+pub returns : goal.returns
+returns c = λ f is marked behind.
+    let names = c.in-Some.names.now in
+    row-told c.args.text.now names f is marked (behind ∙ c.in-Some.ensures.cases.0 ∙ ap (λ b. b ∷ names) c.if-first-ne92.false) (sym c.is_empty.ensures ∙ c.if-is_empty.false) c.is_row.result
+    (ap (λ s. is_row s names) (sym c.of_windows.ensures) ∙ sym c.is_row.ensures)
