@@ -6,10 +6,14 @@ repository at once, in each copy one after the other, over what earlier checks k
 modules that an edit changes are checked first, and the whole crate only where these do not refuse it.
 The repository itself is not changed.
 
+In a file of edits, each begins with a line `edit: NAME`, and what stands before the first is for
+readers. A file with no such line holds one edit, which is called by the file.
+
 Exit status: 0 where all were refused, 1 where one was not, 2 where not all could be tried.
 """
 
 import argparse
+import collections
 import pathlib
 import queue
 import re
@@ -24,19 +28,31 @@ HERE = pathlib.Path(__file__).resolve().parent
 CRATE = HERE.parent
 TOP = CRATE.parent.parent
 
-REFUSED = "refused"
+REFUSED, NOT_APPLIED = "refused", "NOT APPLIED"
 OUTCOMES = {
     REFUSED: "",
     "PROVED": "a contract to strengthen",
     "NOT READ": "it did not reach the prover",
-    "NOT APPLIED": "an old text does not stand once in its file",
+    NOT_APPLIED: "an old text does not stand once in its file",
 }
+
+Edit = collections.namedtuple("Edit", "name text")
+
+
+def edits_in(path):
+    """The edits of a file, or of all files of a folder."""
+    if path.is_dir():
+        return [edit for file in sorted(path.glob("*.edit")) for edit in edits_in(file)]
+    text = path.read_text()
+    _, *parts = re.split(r"^edit:", text, flags=re.MULTILINE)
+    named = [part.partition("\n") for part in parts]
+    return [Edit(name.strip(), rest) for name, _, rest in named] or [Edit(path.stem, text)]
 
 
 def edited(edit, crate):
     """The texts that an edit makes of the crate's files, by their paths, or what hinders it."""
     path, old, texts = None, None, {}
-    for line in edit.read_text().split("\n"):
+    for line in edit.text.split("\n"):
         word, _, text = line.partition(":")
         text = text.removeprefix(" ")
         if word == "file":
@@ -84,7 +100,7 @@ def judged(edit, crate, logs):
     """What a check says of a copy of the crate with the edit, and why. The copy is as before then."""
     texts, hindrance = edited(edit, crate)
     if hindrance:
-        return "NOT APPLIED", hindrance
+        return NOT_APPLIED, hindrance
     kept = {path: path.read_text() for path in texts}
     for path, text in texts.items():
         path.write_text(text)
@@ -92,7 +108,7 @@ def judged(edit, crate, logs):
     for path, text in kept.items():
         path.write_text(text)
     if logs:
-        (logs / f"{edit.stem}.txt").write_text(said)
+        (logs / f"{edit.name}.txt").write_text(said)
     return outcome, why
 
 
@@ -109,20 +125,35 @@ def work(copy, edits, outcomes, logs):
         except queue.Empty:
             return
         outcomes[edit], why = judged(edit, crate, logs)
-        print(f"{edit.stem}: {outcomes[edit]}{', ' if why else ''}{why}", flush=True)
+        print(f"{edit.name}: {outcomes[edit]}{', ' if why else ''}{why}", flush=True)
+
+
+def listed(edits):
+    """Names the edits, and what hinders each that cannot be applied; 2 where there is such a one."""
+    whys = [edited(edit, CRATE)[1] for edit in edits]
+    for edit, why in zip(edits, whys):
+        print(f"{edit.name}: {NOT_APPLIED}, {why}" if why else edit.name)
+    return 2 if any(whys) else 0
 
 
 def main():
     words = argparse.ArgumentParser(description=__doc__, formatter_class=argparse.RawDescriptionHelpFormatter)
     words.add_argument("--jobs", type=int, default=2, metavar="N", help="how many copies: 2 where it is left out")
     words.add_argument("--logs", type=pathlib.Path, metavar="FOLDER", help="keep what each check said in FOLDER/NAME.txt")
-    words.add_argument("names", type=pathlib.Path, nargs="*", default=[HERE], help="edits, or folders of edits")
+    words.add_argument("--list", action="store_true", help="name the edits, and those that cannot be applied, and try none")
+    words.add_argument("names", nargs="*", default=[HERE], help="edits beside this file, files of edits, or folders of such files")
     given = words.parse_args()
     if given.logs:
         given.logs.mkdir(parents=True, exist_ok=True)
-    named = [edit for name in given.names for edit in (sorted(name.glob("*.edit")) if name.is_dir() else [name])]
-    if lost := [str(edit) for edit in named if not edit.is_file()]:
+    beside = {edit.name: [edit] for edit in edits_in(HERE)}
+    found = {name: beside.get(name) or (edits_in(pathlib.Path(name)) if pathlib.Path(name).exists() else []) for name in given.names}
+    if lost := [str(name) for name in found if not found[name]]:
         words.error(f"no such edit: {', '.join(lost)}")
+    named = list(dict.fromkeys(edit for name in found for edit in found[name]))
+    if twice := sorted(name for name, times in collections.Counter(edit.name for edit in named).items() if times > 1):
+        words.error(f"several edits of one name: {', '.join(twice)}")
+    if given.list:
+        return listed(named)
     edits, outcomes, begun = queue.Queue(), {}, time.time()
     for edit in named:
         edits.put(edit)
@@ -135,7 +166,7 @@ def main():
             thread.join()
     print(f"{len(outcomes)} of {len(named)} edits tried in {time.time() - begun:.0f} s")
     for outcome, meaning in OUTCOMES.items():
-        found = sorted(edit.stem for edit, it in outcomes.items() if it == outcome)
+        found = sorted(edit.name for edit, it in outcomes.items() if it == outcome)
         print(f"{len(found)} {outcome}{': ' if meaning else ''}{meaning}")
         if outcome != REFUSED:
             print("".join(f"  {name}\n" for name in found), end="")
