@@ -1,14 +1,9 @@
 #!/usr/bin/env bash
 # The gate: `rt ci` proves every crate and its tests from nothing, tries each must-fail edit, and runs the
 # tests and the programs; then the programs that it built are refused memory, and their transfers fail.
+# What shows in a second is looked at first, and progress.py says how far the rest is.
 set -uo pipefail
 cd "$(dirname "$0")" || exit 2
-
-if ! command -v cc > /dev/null; then
-    echo "gate.sh: there is no cc, which refusals/run.sh needs at the end: install a C compiler"
-    echo "0 passed, 1 failed"
-    exit 1
-fi
 
 # Without a number, nothing runs beside a check of the library, which rt reckons to need all memory. It
 # takes 4 GB of it, so four checks fit where that is the most that there is.
@@ -17,12 +12,31 @@ export RT_JOBS="${RT_JOBS:-$((processors < 4 ? processors : 4))}"
 
 passed=0 failed=0
 room=$(mktemp -d)
-trap 'rm -rf "$room"' EXIT
+# Each part is a group of processes, which ends where the gate does.
+set -m
+trap 'kill -- $(jobs -p | sed "s/^/-/") 2> /dev/null; rm -rf "$room"' EXIT
+./progress.py "$room" &
+progress=$!
+
+# Says what is wrong, of that which would fail the gate in the end and shows at once.
+look() {
+    local rattle files said
+    command -v cc > /dev/null || echo "there is no cc, which refusals/run.sh needs: install a C compiler"
+    command -v rt > /dev/null || echo "there is no rt"
+    rattle=$(dirname "$(rt doc)")/bin/rattle
+    shopt -s globstar nullglob
+    files=(crates/*/{src,specs,proofs}/**/*.{rt,antt})
+    said=$("$rattle" fmt --check "${files[@]}" 2>&1)
+    [[ $? -eq 1 ]] && echo "$said" && echo "run rt fmt in the folder of that crate"
+    crates/typed_path/mutants/try.py --list crates/typed_path/must-fail | grep ': NOT APPLIED, '
+}
 
 # Runs one part, shows what it says but for its last line, and adds up what that counts.
 part() {
-    "$@" 2>&1 | tee "$room/log" | sed -u -E '/^[0-9]+ passed, [0-9]+ failed$/d'
-    if [[ $(tail -n 1 "$room/log") =~ ^([0-9]+)\ passed,\ ([0-9]+)\ failed$ ]]; then
+    local log=$room/${1##*/}
+    "$@" 2>&1 | tee "$log" | sed -u -E '/^[0-9]+ passed, [0-9]+ failed$/d' &
+    wait $!
+    if [[ $(tail -n 1 "$log") =~ ^([0-9]+)\ passed,\ ([0-9]+)\ failed$ ]]; then
         passed=$((passed + BASH_REMATCH[1]))
         failed=$((failed + BASH_REMATCH[2]))
     else
@@ -31,7 +45,15 @@ part() {
     fi
 }
 
-part rt ci
-part refusals/run.sh
+wrong=$(look 2> /dev/null)
+if [[ -n $wrong ]]; then
+    echo "$wrong"
+    failed=1
+else
+    part rt ci
+    part refusals/run.sh
+fi
+kill "$progress" 2> /dev/null
+wait "$progress" 2> /dev/null
 echo "$passed passed, $failed failed"
 [[ $failed -eq 0 ]]
