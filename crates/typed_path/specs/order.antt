@@ -4,3 +4,6 @@ pub mod Words
 pub mod TextWords
 pub mod Laws
 pub mod Keyed
+pub use Rattle.typed_path.specs.order.Laws.{exact_kinds, exact_lists, kind_cmp_total, kinds_cmp_total, path_cmp_total, same-kinds}
+pub use Rattle.typed_path.specs.order.Same.{IsSame, are_same_prefixes, bytes_cmp, is_same, kind_cmp, kinds_cmp, left_cmp, left_same, path_cmp}
+pub use Rattle.typed_path.specs.order.TextWords.{text_kind_words, text_piece_words, text_prefix_words, text_unix_words, text_windows_words}

@@ -1,12 +1,12 @@
 -- The crate's values as data of the definitions.
 pub mod PieceViews
-pub mod FrontViews
+pub mod SpanViews
 pub mod BodyViews
 pub mod CursorViews
 pub mod PathViews
+pub mod Shown
 pub mod ReversedViews
 pub mod UnixViews
-pub mod ConcreteViews
 pub mod WindowsViews
 pub mod OwnedViews
 pub mod RunViews

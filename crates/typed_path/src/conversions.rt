@@ -1,33 +1,26 @@
-//! Paths in other encodings, and made absolute.
+//! Paths in another encoding, with and without checks, and paths made absolute.
 
 ghost use Rattle.std.specs.Prelude.{◌≡◌, ◌≤◌, ◌+◌, ◌++◌, ℕ, [], ◌∷◌, map, option_map, take, drop, length, IsTrue, IsOk, IfOk, OnOk, OnErr, Result, Ok, Err, Some, None};
 ghost use Rattle.std.specs.Option.{option_to_list};
 ghost use Rattle.std.specs.Vec.{vec_capacity};
 ghost use Rattle.typed_path.specs.declared.errors.CheckedPathError.{CheckedPathError};
-ghost use Rattle.typed_path.specs.components.Comps.{parts_of};
-ghost use Rattle.typed_path.specs.conversions.Convert.{same_dialect, converted, converted_checked, FitsConverted, crossed, crossed_all, passes, crossing_fault, push_checked_each};
-ghost use Rattle.typed_path.specs.changes.Checked.{refusal, error_of};
-ghost use Rattle.typed_path.specs.changes.Fault.{fault};
-ghost use Rattle.typed_path.specs.changes.Run.{FitsEach};
-ghost use Rattle.typed_path.specs.changes.Spelled.{IsKnown};
-ghost use Rattle.typed_path.specs.views.FrontViews.{front_bytes};
+ghost use Rattle.typed_path.specs.components.{parts_of, unix, windows};
+ghost use Rattle.typed_path.specs.conversions.{same_dialect, converted, converted_checked, FitsConverted, crossed, crossed_all, is_never_refused, crossing_fault, push_checked_each, platform, absolute_from};
+ghost use Rattle.typed_path.specs.changes.{refusal, error_of, fault, FitsEach, IsKnown};
+ghost use Rattle.typed_path.specs.views.SpanViews.{span_bytes};
 ghost use Rattle.typed_path.specs.views.PieceViews.{part_of};
 
 use crate::common::{Encoding, Path, PathBuf, cut_back};
 use crate::errors::{AbsolutizeError, CheckedPathError, PathError};
 use crate::platform::{PlatformEncoding, PlatformPath, PlatformPathBuf};
-use crate::scan::{Front, Piece, PieceKind, is_dots};
+use crate::scan::{Piece, PieceKind, Span, is_dots};
 use crate::unix::{UnixEncoding, UnixPathBuf};
 use crate::windows::{WindowsEncoding, WindowsPathBuf};
 use std::alloc::{AllocError, Global};
 
 impl<'a, T: Encoding> Path<'a, T> {
-    ghost use Rattle.std.specs.Prelude.{◌≡◌, IfOk, [], Ok, Err, Some, None};
     ghost use Rattle.typed_path.specs.declared.errors.CheckedPathError.{CheckedPathError};
     ghost use Rattle.typed_path.specs.views.PathViews.{path_bytes};
-    ghost use Rattle.typed_path.specs.changes.Checked.{refusal};
-    ghost use Rattle.typed_path.specs.conversions.Convert.{converted, converted_checked, platform, same_dialect, absolute_from};
-    ghost use Rattle.typed_path.specs.components.Dialect.{unix, windows};
     ghost use Rattle.typed_path.specs.declared.errors.AbsolutizeError.TheVariants.{Ambiguous};
     ghost use Rattle.typed_path.specs.changes.Push as push_spec;
 
@@ -42,7 +35,7 @@ impl<'a, T: Encoding> Path<'a, T> {
     {
         let path = self.as_bytes();
         let mut text = Vec::with_capacity(alloc, path.len() + 1)?;
-        put_converted::<T, U>(&mut text, Front::whole(path))?;
+        put_converted::<T, U>(&mut text, Span::whole(path))?;
         Ok(PathBuf::from_vec(text))
     }
 
@@ -61,7 +54,7 @@ impl<'a, T: Encoding> Path<'a, T> {
     {
         let path = self.as_bytes();
         let mut text = Vec::with_capacity(alloc, path.len() + 1)?;
-        convert_checked::<T, U>(&mut text, 0, Front::whole(path))?;
+        convert_checked::<T, U>(&mut text, 0, Span::whole(path))?;
         Ok(PathBuf::from_vec(text))
     }
 
@@ -122,7 +115,8 @@ impl<'a, T: Encoding> Path<'a, T> {
 
     /// The path as on the machine, as [`Path::with_encoding`] writes it.
     pub fn with_platform_encoding(self, alloc: Global) -> Result<PlatformPathBuf, AllocError>
-        ensures { IfOk result (λ p. p.bytes ≡ converted T.dialect platform (path_bytes self.entry)) }
+        ensures { IfOk result (λ p. p.bytes
+            ≡ converted T.dialect platform (path_bytes self.entry)) }
     {
         self.with_encoding::<PlatformEncoding>(alloc)
     }
@@ -180,7 +174,7 @@ impl<'a, T: Encoding> Path<'a, T> {
         let base = directory.as_bytes();
         let path = self.as_bytes();
         let mut joined = Vec::with_capacity(alloc, base.len() + path.len() + 1)?;
-        put_converted::<PlatformEncoding, T>(&mut joined, Front::whole(base))?;
+        put_converted::<PlatformEncoding, T>(&mut joined, Span::whole(base))?;
         T::push(&mut joined, path)?;
         Ok(PathBuf::from_vec(joined))
     }
@@ -197,13 +191,13 @@ pub fn have_one_label<T: Encoding, U: Encoding>() -> bool
 /// it was.
 pub fn put_converted<T: Encoding, U: Encoding>(
     text: &mut Vec<u8>,
-    path: Front<'_>,
+    path: Span<'_>,
 ) -> Result<(), AllocError>
     ensures ok { OnOk result (text.new.items
-        ≡ text.old.items ++ converted T.dialect U.dialect (front_bytes path.entry)) }
+        ≡ text.old.items ++ converted T.dialect U.dialect (span_bytes path.entry)) }
     ensures err { OnErr result (text.new.items ≡ text.old.items) }
     ensures succeeds { (room : ℕ) → length text.old.items + room ≤ vec_capacity text.old
-        → FitsConverted T.dialect U.dialect room (front_bytes path.entry) → IsOk result }
+        → FitsConverted T.dialect U.dialect room (span_bytes path.entry) → IsOk result }
 {
     if have_one_label::<T, U>() {
         return text.extend_from_slice(path.as_bytes());
@@ -218,21 +212,20 @@ pub fn put_converted<T: Encoding, U: Encoding>(
 fn push_each<T: Encoding, U: Encoding>(
     text: &mut Vec<u8>,
     start: usize,
-    path: Front<'_>,
+    path: Span<'_>,
 ) -> Result<(), AllocError>
     requires { length text.old.items ≡ start }
     ensures ok { OnOk result (drop start text.new.items
-        ≡ crossed_all U.dialect (parts_of T.dialect (front_bytes path.entry))) }
+        ≡ crossed_all U.dialect (parts_of T.dialect (span_bytes path.entry))) }
     ensures kept { take start text.new.items ≡ take start text.old.items }
     ensures long { start ≤ length text.new.items }
     ensures succeeds { (room : ℕ) → start + room ≤ vec_capacity text.old
         → FitsEach U.dialect room []
-        (map (crossed U.dialect) (parts_of T.dialect (front_bytes path.entry)))
-        → IsOk result }
+        (map (crossed U.dialect) (parts_of T.dialect (span_bytes path.entry))) → IsOk result }
 {
-    let cursor = T::cursor(path.as_bytes());
+    let cursor = T::cursor(path.as_bytes()).within(path);
     let mut known = put_prefix::<U>(text, cursor.prefix_piece())?;
-    let mut body = cursor.body().within(path);
+    let mut body = cursor.body();
     'steps: while let Some(step) = body.front() {
         known = U::push_next(text, start, step.piece().crossed(U::root_text()), known)?;
     }
@@ -269,20 +262,20 @@ fn put_prefix<U: Encoding>(
 pub fn convert_checked<T: Encoding, U: Encoding>(
     text: &mut Vec<u8>,
     start: usize,
-    path: Front<'_>,
+    path: Span<'_>,
 ) -> Result<(), PathError>
     requires { length text.old.items ≡ start }
     ensures ok { OnOk result
-        (converted_checked T.dialect U.dialect (front_bytes path.entry)
+        (converted_checked T.dialect U.dialect (span_bytes path.entry)
         ≡ Ok (drop start text.new.items)) }
     ensures refused { (e : CheckedPathError) → refusal result ≡ Some e
-        → converted_checked T.dialect U.dialect (front_bytes path.entry) ≡ Err e }
+        → converted_checked T.dialect U.dialect (span_bytes path.entry) ≡ Err e }
     ensures kept { take start text.new.items ≡ take start text.old.items }
     ensures long { start ≤ length text.new.items }
 {
-    let cursor = T::cursor(path.as_bytes());
+    let cursor = T::cursor(path.as_bytes()).within(path);
     let mut known = push_prefix_checked::<U>(text, start, cursor.prefix_piece())?;
-    let mut body = cursor.body().within(path);
+    let mut body = cursor.body();
     'steps: while let Some(step) = body.front() {
         known = push_piece_checked::<U>(text, start, step.piece(), known)?;
     }
@@ -337,17 +330,17 @@ fn push_piece_checked<U: Encoding>(
     ensures long { IsKnown U.dialect known (drop start text.old.items)
         → start ≤ length text.new.items }
 {
-    judge::<U>(piece)?;
+    check_component::<U>(piece)?;
     Ok(U::push_next(text, start, piece.crossed(U::root_text()), known)?)
 }
 
 /// Judges a component that is to be pushed onto a path of another encoding. A root, `.` or `..` is
 /// never refused, and most others are names that the encoding allows, which need no reading.
 #[inline(always)]
-fn judge<U: Encoding>(piece: Piece<'_>) -> Result<(), CheckedPathError>
+fn check_component<U: Encoding>(piece: Piece<'_>) -> Result<(), CheckedPathError>
     ensures { error_of result ≡ crossing_fault U.dialect (part_of piece.entry) }
 {
-    if passes(piece) || is_name::<U>(piece.text) {
+    if is_never_refused(piece) || is_name::<U>(piece.text) {
         Ok(())
     } else {
         U::check(piece.text)
@@ -364,8 +357,8 @@ fn is_name<U: Encoding>(text: &[u8]) -> bool
 
 /// Whether a component is never refused: a root, and every prefix that becomes one, `.` or `..`.
 #[inline(always)]
-fn passes(piece: Piece<'_>) -> bool
-    ensures { result ≡ passes (part_of piece.entry).kind }
+fn is_never_refused(piece: Piece<'_>) -> bool
+    ensures { result ≡ is_never_refused (part_of piece.entry).kind }
 {
     match piece.kind {
         PieceKind::CurDir | PieceKind::ParentDir => true,

@@ -6,33 +6,23 @@ ghost use Rattle.std.specs.Cmp.{IsTotalOrder};
 ghost use Rattle.std.specs.declared.cmp.Ordering.{Ordering};
 ghost use Rattle.std.specs.Ordering.{ordering_then, nat_cmp};
 ghost use Rattle.std.specs.Hash.{isize};
-ghost use Rattle.typed_path.specs.components.Dialect.{Dialect, dot, slash};
-ghost use Rattle.typed_path.specs.components.Part.{Kind, Placed, kinds, prefix};
-ghost use Rattle.typed_path.specs.components.Prefix.{Found, prefix_of};
-ghost use Rattle.typed_path.specs.components.Comps.{comps, parts_of};
-ghost use Rattle.typed_path.specs.scan.Left.{Side, reads, left, items_between, but_last};
-ghost use Rattle.typed_path.specs.scan.Reading.{answers_after, items_after, slice_after, fronts, backs, IsWhole, IsLaidOut};
-ghost use Rattle.typed_path.specs.queries.Ancestry.{is_child_of, IsOneBelow};
-ghost use Rattle.typed_path.specs.queries.Queries.{parent_of, prefix_in};
-ghost use Rattle.typed_path.specs.promises.Joins.{JoinAppends, StripJoins};
-ghost use Rattle.typed_path.specs.queries.Names.{is_a_dot, stem_of, extension_of};
-ghost use Rattle.typed_path.specs.order.Same.{IsSame, is_same, path_cmp, kind_cmp, bytes_cmp};
+ghost use Rattle.typed_path.specs.components.{Dialect, dot, slash, Kind, Placed, kinds, prefix, Found, prefix_of, comps, parts_of};
+ghost use Rattle.typed_path.specs.scan.{Side, reads, left, items_between, but_last, answers_after, items_after, slice_after, fronts, backs, IsWhole, IsLaidOut};
+ghost use Rattle.typed_path.specs.queries.{is_child_of, IsOneBelow, parent_of, prefix_in, is_a_dot, stem_of, extension_of};
+ghost use Rattle.typed_path.specs.promises.{JoinAppends, StripJoins, ReadsAsResolved, StaysNormal, IsCanonical, HashAlike, CrossesWhereAllowed, CrossesAsItIs, CrossesBack, CrossesToUnix};
+ghost use Rattle.typed_path.specs.order.{IsSame, is_same, path_cmp, kind_cmp, bytes_cmp, text_unix_words, text_prefix_words, text_kind_words, text_windows_words, text_piece_words};
 ghost use Rattle.typed_path.specs.views.UnixViews.{unix_part};
-ghost use Rattle.typed_path.specs.views.ConcreteViews.{concrete_slice};
 ghost use Rattle.typed_path.specs.order.Words.{path_words, unix_words};
-ghost use Rattle.typed_path.specs.views.PathViews.{path_bytes, iter_slice};
-ghost use Rattle.typed_path.specs.promises.Promises.{ReadsAsResolved, StaysNormal, IsCanonical, HashAlike};
-ghost use Rattle.typed_path.specs.promises.Crossings.{CrossesWhereAllowed, CrossesAsItIs, CrossesBack, CrossesToUnix};
-ghost use Rattle.typed_path.specs.order.TextWords.{text_unix_words, text_prefix_words, text_kind_words, text_windows_words, text_piece_words};
+ghost use Rattle.typed_path.specs.views.PathViews.{path_bytes, components_slice};
 ghost use Rattle.typed_path.specs.views.TextViews.{utf8_bytes};
 ghost use Rattle.typed_path.specs.views.ReadingViews.{reading_slice};
 ghost use Rattle.typed_path.specs.views.TextPieceViews.{text_prefix, text_kind, text_part};
 ghost use Rattle.typed_path.specs.views.TextComponentViews.{text_unix_part, text_prefix_part, text_windows_part};
-ghost use Rattle.typed_path.specs.typed.Orders.{typed_eq, typed_cmp, typed_words, reading_eq, reading_partial_cmp, kind_place};
+ghost use Rattle.typed_path.specs.typed.{typed_eq, typed_cmp, typed_words, reading_eq, reading_partial_cmp, kind_place};
 
 mod windows;
 
-use crate::common::{Ancestors, Components, ConcreteComponents, Encoding, Iter, Path};
+use crate::common::{Ancestors, Components, Encoding, Iter, Path, Reading};
 use crate::constants::unix::{
     CURRENT_DIR, CURRENT_DIR_STR, DISALLOWED_FILENAME_BYTES, DISALLOWED_FILENAME_CHARS, PARENT_DIR,
     PARENT_DIR_STR, SEPARATOR, SEPARATOR_STR,
@@ -95,7 +85,7 @@ pub fn order_agrees_with_equality(path: &[u8], other: &[u8])
 {}
 
 /// Equal paths feed the same to a hasher.
-#[tactic(auto, using(crate::proofs::lemmas::order::OrderLemmas::hash_alike))]
+#[tactic(auto, using(crate::proofs::lemmas::order::Comparisons::hash_alike))]
 pub fn equal_paths_hash_alike(path: &[u8], other: &[u8])
     ghost d: { Dialect }
     ensures { HashAlike d path.now other.now }
@@ -114,44 +104,44 @@ pub fn paths_compare_by_components<'a, T: Encoding>(one: Path<'a, T>, other: Pat
 /// What an iterator has left is equal and in order as the path of its slice left, read anew.
 pub fn iterators_compare_by_what_is_left<'a, T: Encoding>(one: Iter<'a, T>, other: Iter<'a, T>)
     ensures equality { ⟦<Iter<'a, T> as PartialEq>⟧.eq one.entry other.entry
-        ≡ is_same T.dialect (iter_slice one.entry) (iter_slice other.entry) }
+        ≡ is_same T.dialect (components_slice one.entry) (components_slice other.entry) }
     ensures partial_order { ⟦<Iter<'a, T> as PartialOrd>⟧.partial_cmp one.entry other.entry
-        ≡ Some (path_cmp T.dialect (iter_slice one.entry) (iter_slice other.entry)) }
+        ≡ Some (path_cmp T.dialect (components_slice one.entry) (components_slice other.entry)) }
     ensures order { ⟦<Iter<'a, T> as Ord>⟧.cmp one.entry other.entry
-        ≡ path_cmp T.dialect (iter_slice one.entry) (iter_slice other.entry) }
+        ≡ path_cmp T.dialect (components_slice one.entry) (components_slice other.entry) }
 {}
 
 /// The same of the iterators over the values of an encoding's own type.
-pub fn concrete_iterators_compare_by_what_is_left<'a, T: Encoding>(
-    one: ConcreteComponents<'a, T>,
-    other: ConcreteComponents<'a, T>,
+pub fn concrete_iterators_compare_by_what_is_left<'a, T: Encoding, I>(
+    one: Reading<'a, T, I>,
+    other: Reading<'a, T, I>,
 )
-    ensures equality { ⟦<ConcreteComponents<'a, T> as PartialEq>⟧.eq one.entry other.entry
-        ≡ is_same T.dialect (concrete_slice one.entry) (concrete_slice other.entry) }
-    ensures partial_order { ⟦<ConcreteComponents<'a, T> as PartialOrd>⟧.partial_cmp one.entry other.entry
-        ≡ Some (path_cmp T.dialect (concrete_slice one.entry) (concrete_slice other.entry)) }
-    ensures order { ⟦<ConcreteComponents<'a, T> as Ord>⟧.cmp one.entry other.entry
-        ≡ path_cmp T.dialect (concrete_slice one.entry) (concrete_slice other.entry) }
+    ensures equality { ⟦<Reading<'a, T, I> as PartialEq>⟧.eq one.entry other.entry
+        ≡ is_same T.dialect (components_slice one.entry) (components_slice other.entry) }
+    ensures partial_order { ⟦<Reading<'a, T, I> as PartialOrd>⟧.partial_cmp one.entry other.entry
+        ≡ Some (path_cmp T.dialect (components_slice one.entry) (components_slice other.entry)) }
+    ensures order { ⟦<Reading<'a, T, I> as Ord>⟧.cmp one.entry other.entry
+        ≡ path_cmp T.dialect (components_slice one.entry) (components_slice other.entry) }
 {}
 
 /// The clone of an iterator is never refused, and is that iterator.
-pub fn iterators_are_cloned<'a, T: Encoding>(
+pub fn iterators_are_cloned<'a, T: Encoding, I>(
     components: Components<'a, T>,
     texts: Iter<'a, T>,
     ancestors: Ancestors<'a, T>,
-    values: ConcreteComponents<'a, T>,
+    values: Reading<'a, T, I>,
 )
     ensures components { ⟦<Components<'a, T> as Clone>⟧.is_infallible components.entry }
     ensures texts { ⟦<Iter<'a, T> as Clone>⟧.is_infallible texts.entry }
     ensures ancestors { ⟦<Ancestors<'a, T> as Clone>⟧.is_infallible ancestors.entry }
-    ensures values { ⟦<ConcreteComponents<'a, T> as Clone>⟧.is_infallible values.entry }
+    ensures values { ⟦<Reading<'a, T, I> as Clone>⟧.is_infallible values.entry }
     ensures same_components { (copy : _) → ⟦<Components<'a, T> as Clone>⟧.is_clone components.entry copy
         → copy ≡ components.entry }
     ensures same_texts { (copy : _) → ⟦<Iter<'a, T> as Clone>⟧.is_clone texts.entry copy
         → copy ≡ texts.entry }
     ensures same_ancestors { (copy : _) → ⟦<Ancestors<'a, T> as Clone>⟧.is_clone ancestors.entry copy
         → copy ≡ ancestors.entry }
-    ensures same_values { (copy : _) → ⟦<ConcreteComponents<'a, T> as Clone>⟧.is_clone values.entry copy
+    ensures same_values { (copy : _) → ⟦<Reading<'a, T, I> as Clone>⟧.is_clone values.entry copy
         → copy ≡ values.entry }
 {}
 
@@ -281,7 +271,7 @@ pub fn platform_is_unix()
 /// Windows allows each name: none has a byte that Windows allows in no name, and none stands for a
 /// device. Then the answer is read as the same components, and its conversion to Unix equals the
 /// path.
-#[tactic(auto, using(crate::proofs::lemmas::conversions::CrossedLemmas::crosses_where_allowed, crate::proofs::lemmas::conversions::CrossedPaths::crosses_as_it_is, crate::proofs::lemmas::conversions::CrossedPaths::crosses_back))]
+#[tactic(auto, using(crate::proofs::lemmas::conversions::Crossings::crosses_where_allowed, crate::proofs::lemmas::conversions::CrossedPaths::crosses_as_it_is, crate::proofs::lemmas::conversions::CrossedPaths::crosses_back))]
 pub fn unix_paths_cross_to_windows(path: &[u8])
     ensures accepted { CrossesWhereAllowed path.now }
     ensures kept { CrossesAsItIs path.now }
@@ -316,7 +306,8 @@ pub fn text_readings_compare_by_what_is_left<'a, T: Utf8Encoding, I>(
 )
     ensures equality { ⟦<Utf8Reading<'a, T, I> as PartialEq>⟧.eq one.entry other.entry
         ≡ is_same T.Bytes.dialect (reading_slice one.entry) (reading_slice other.entry) }
-    ensures partial_order { ⟦<Utf8Reading<'a, T, I> as PartialOrd>⟧.partial_cmp one.entry other.entry
+    ensures partial_order { ⟦<Utf8Reading<'a, T, I> as PartialOrd>⟧.partial_cmp one.entry
+        other.entry
         ≡ Some (path_cmp T.Bytes.dialect (reading_slice one.entry) (reading_slice other.entry)) }
     ensures order { ⟦<Utf8Reading<'a, T, I> as Ord>⟧.cmp one.entry other.entry
         ≡ path_cmp T.Bytes.dialect (reading_slice one.entry) (reading_slice other.entry) }
@@ -329,10 +320,10 @@ pub fn text_iterators_are_cloned<'a, T: Utf8Encoding, I>(
 )
     ensures reading { ⟦<Utf8Reading<'a, T, I> as Clone>⟧.is_infallible reading.entry }
     ensures ancestors { ⟦<Utf8Ancestors<'a, T> as Clone>⟧.is_infallible ancestors.entry }
-    ensures same_reading { (copy : _) → ⟦<Utf8Reading<'a, T, I> as Clone>⟧.is_clone reading.entry copy
-        → copy ≡ reading.entry }
-    ensures same_ancestors { (copy : _) → ⟦<Utf8Ancestors<'a, T> as Clone>⟧.is_clone ancestors.entry copy
-        → copy ≡ ancestors.entry }
+    ensures same_reading { (copy : _) → ⟦<Utf8Reading<'a, T, I> as Clone>⟧.is_clone reading.entry
+        copy → copy ≡ reading.entry }
+    ensures same_ancestors { (copy : _) → ⟦<Utf8Ancestors<'a, T> as Clone>⟧.is_clone ancestors.entry
+        copy → copy ≡ ancestors.entry }
 {}
 
 /// Single components of Unix texts are equal, compare and hash as their kinds say.
@@ -364,8 +355,8 @@ pub fn text_prefix_components_compare_by_kind<'a>(
     one: Utf8WindowsPrefixComponent<'a>,
     other: Utf8WindowsPrefixComponent<'a>,
 )
-    ensures equality { (⟦<Utf8WindowsPrefixComponent<'a> as PartialEq>⟧.eq one.entry other.entry ≡ true)
-        ↔ ((text_prefix_part one.entry).kind ≡ (text_prefix_part other.entry).kind) }
+    ensures equality { (⟦<Utf8WindowsPrefixComponent<'a> as PartialEq>⟧.eq one.entry other.entry
+        ≡ true) ↔ ((text_prefix_part one.entry).kind ≡ (text_prefix_part other.entry).kind) }
     ensures order { ⟦<Utf8WindowsPrefixComponent<'a> as Ord>⟧.cmp one.entry other.entry
         ≡ kind_cmp (text_prefix_part one.entry).kind (text_prefix_part other.entry).kind }
     ensures hash { IfSome (prefix_in (text_prefix_part one.entry).kind) (λ p.
@@ -435,7 +426,8 @@ pub fn typed_readings_compare_by_kind<U: PartialOrd, W: PartialOrd>(
 
 /// Kinds of paths compare by their place, Unix first, and feed a hasher that place.
 pub fn path_types_compare_by_place(one: PathType, other: PathType)
-    ensures order { ⟦<PathType as Ord>⟧.cmp one other ≡ nat_cmp (kind_place one) (kind_place other) }
+    ensures order { ⟦<PathType as Ord>⟧.cmp one other
+        ≡ nat_cmp (kind_place one) (kind_place other) }
     ensures hash { ⟦<PathType as Hash>⟧.hash_input one ≡ isize (pos (kind_place one)) }
 {}
 
@@ -451,7 +443,9 @@ pub fn typed_iterators_are_cloned<'a>(
     ensures components { ⟦<TypedComponents<'a> as Clone>⟧.is_infallible components.entry }
     ensures texts { ⟦<TypedIter<'a> as Clone>⟧.is_infallible texts.entry }
     ensures ancestors { ⟦<TypedAncestors<'a> as Clone>⟧.is_infallible ancestors.entry }
-    ensures text_components { ⟦<Utf8TypedComponents<'a> as Clone>⟧.is_infallible text_components.entry }
+    ensures text_components { ⟦<Utf8TypedComponents<'a> as Clone>⟧.is_infallible
+        text_components.entry }
     ensures text_texts { ⟦<Utf8TypedIter<'a> as Clone>⟧.is_infallible text_texts.entry }
-    ensures text_ancestors { ⟦<Utf8TypedAncestors<'a> as Clone>⟧.is_infallible text_ancestors.entry }
+    ensures text_ancestors { ⟦<Utf8TypedAncestors<'a> as Clone>⟧.is_infallible
+        text_ancestors.entry }
 {}

@@ -1,7 +1,7 @@
-//! The encoding of the machine's own paths, which is that of Unix on every machine.
+//! The encoding of the machine's own paths, which is that of Unix on every machine, and native names.
 
-ghost use Rattle.std.specs.Prelude.{true};
-ghost use Rattle.typed_path.specs.conversions.Convert.{platform};
+ghost use Rattle.std.specs.Prelude.{true, codes, Some};
+ghost use Rattle.typed_path.specs.conversions.{platform};
 
 use crate::common::{Encoding, Path, PathBuf};
 use crate::errors::CheckedPathError;
@@ -22,8 +22,6 @@ pub type PlatformPathBuf = PathBuf<PlatformEncoding>;
 
 /// Prints the name of the type.
 impl fmt::Display for PlatformEncoding {
-    ghost use Rattle.std.specs.Prelude.{codes, Some};
-
     ghost output = { λ _. Some (codes "PlatformEncoding") };
 
     fn fmt<W: fmt::Write>(&self, f: &mut fmt::Formatter<W>) -> fmt::Result {

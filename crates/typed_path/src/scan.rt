@@ -7,7 +7,7 @@ mod prefix;
 mod separators;
 mod step;
 
-pub use cursor::{Begin, Body, Cursor, Front};
+pub use cursor::{Begin, Body, Cursor, Span};
 pub use cut::{base_end, bodies_behind_shared, cut_at, cut_at_separator, text_behind};
 pub use lanes::first_between;
 pub use prefix::{Found, WindowsPrefix, after_mark, drive, find_prefix};

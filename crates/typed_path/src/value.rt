@@ -3,7 +3,9 @@
 ghost use Rattle.std.specs.Prelude.{◌≡◌, true, false, IfOk, IfErr};
 ghost use Rattle.serde_json.specs.View.{view};
 ghost use Rattle.typed_path.specs.declared.errors.ValueError.TheVariants.{NotUtf8, NotText, OutOfMemory};
-ghost use Rattle.typed_path.specs.values.Values.{IsValueOf, is_json_text, FailsBy};
+ghost use Rattle.typed_path.specs.values.{IsValueOf, is_json_text, FailsBy};
+ghost use Rattle.std.specs.Str.{is_utf8};
+ghost use Rattle.typed_path.specs.typed.{typed_dialect, derived_dialect};
 
 use crate::common::{Encoding, Path, PathBuf};
 use crate::errors::ValueError;
@@ -34,7 +36,6 @@ macro_rules! of_text {
 }
 
 impl<'a, T: Encoding> Path<'a, T> {
-    ghost use Rattle.std.specs.Str.{is_utf8};
     ghost use Rattle.typed_path.specs.views.PathViews.{path_bytes};
 
     /// The path as a JSON text.
@@ -45,7 +46,8 @@ impl<'a, T: Encoding> Path<'a, T> {
     pub fn to_value(self, alloc: Global) -> Result<Value, ValueError>
         ensures ok { IfOk result (λ v. IsValueOf (path_bytes self.entry) (view v)) }
         ensures not_utf8 { is_utf8 (path_bytes self.entry) ≡ false → FailsBy NotUtf8 result }
-        ensures memory { is_utf8 (path_bytes self.entry) ≡ true → IfErr result (λ e. e ≡ OutOfMemory) }
+        ensures memory { is_utf8 (path_bytes self.entry) ≡ true
+            → IfErr result (λ e. e ≡ OutOfMemory) }
     {
         match self.to_str() {
             Some(text) => value_of(alloc, text),
@@ -63,7 +65,8 @@ impl<T: Encoding> PathBuf<T> {
     pub fn from_value(alloc: Global, value: &Value) -> Result<PathBuf<T>, ValueError>
         ensures ok { IfOk result (λ p. IsValueOf p.bytes (view value.now)) }
         ensures not_text { is_json_text (view value.now) ≡ false → FailsBy NotText result }
-        ensures memory { is_json_text (view value.now) ≡ true → IfErr result (λ e. e ≡ OutOfMemory) }
+        ensures memory { is_json_text (view value.now) ≡ true
+            → IfErr result (λ e. e ≡ OutOfMemory) }
     {
         of_text!(value, text => PathBuf::from_str(alloc, text))
     }
@@ -94,14 +97,14 @@ impl<T: Utf8Encoding> Utf8PathBuf<T> {
     pub fn from_value(alloc: Global, value: &Value) -> Result<Utf8PathBuf<T>, ValueError>
         ensures ok { IfOk result (λ p. IsValueOf p.bytes (view value.now)) }
         ensures not_text { is_json_text (view value.now) ≡ false → FailsBy NotText result }
-        ensures memory { is_json_text (view value.now) ≡ true → IfErr result (λ e. e ≡ OutOfMemory) }
+        ensures memory { is_json_text (view value.now) ≡ true
+            → IfErr result (λ e. e ≡ OutOfMemory) }
     {
         of_text!(value, text => Utf8PathBuf::from_str(alloc, text))
     }
 }
 
 impl<'a> TypedPath<'a> {
-    ghost use Rattle.std.specs.Str.{is_utf8};
     ghost use Rattle.typed_path.specs.views.TypedViews.{typed_bytes};
 
     /// The path as a JSON text. The value does not tell its kind.
@@ -112,7 +115,8 @@ impl<'a> TypedPath<'a> {
     pub fn to_value(self, alloc: Global) -> Result<Value, ValueError>
         ensures ok { IfOk result (λ v. IsValueOf (typed_bytes self.entry) (view v)) }
         ensures not_utf8 { is_utf8 (typed_bytes self.entry) ≡ false → FailsBy NotUtf8 result }
-        ensures memory { is_utf8 (typed_bytes self.entry) ≡ true → IfErr result (λ e. e ≡ OutOfMemory) }
+        ensures memory { is_utf8 (typed_bytes self.entry) ≡ true
+            → IfErr result (λ e. e ≡ OutOfMemory) }
     {
         UnixPath::new(self.as_bytes()).to_value(alloc)
     }
@@ -135,7 +139,6 @@ impl<'a> Utf8TypedPath<'a> {
 }
 
 impl TypedPathBuf {
-    ghost use Rattle.typed_path.specs.typed.Kind.{typed_dialect, derived_dialect};
     ghost use Rattle.typed_path.specs.views.TypedViews.{owned_bytes};
 
     /// The path of a JSON text, of the kind that the text looks like.
@@ -147,14 +150,14 @@ impl TypedPathBuf {
         ensures dialect { IfOk result (λ p. typed_dialect p ≡ derived_dialect (owned_bytes p)) }
         ensures ok { IfOk result (λ p. IsValueOf (owned_bytes p) (view value.now)) }
         ensures not_text { is_json_text (view value.now) ≡ false → FailsBy NotText result }
-        ensures memory { is_json_text (view value.now) ≡ true → IfErr result (λ e. e ≡ OutOfMemory) }
+        ensures memory { is_json_text (view value.now) ≡ true
+            → IfErr result (λ e. e ≡ OutOfMemory) }
     {
         of_text!(value, text => TypedPathBuf::from_str(alloc, text))
     }
 }
 
 impl Utf8TypedPathBuf {
-    ghost use Rattle.typed_path.specs.typed.Kind.{typed_dialect, derived_dialect};
     ghost use Rattle.typed_path.specs.views.TypedViews.{owned_bytes};
 
     /// The path of a JSON text, of the kind that the text looks like.
@@ -166,7 +169,8 @@ impl Utf8TypedPathBuf {
         ensures dialect { IfOk result (λ p. typed_dialect p ≡ derived_dialect (owned_bytes p)) }
         ensures ok { IfOk result (λ p. IsValueOf (owned_bytes p) (view value.now)) }
         ensures not_text { is_json_text (view value.now) ≡ false → FailsBy NotText result }
-        ensures memory { is_json_text (view value.now) ≡ true → IfErr result (λ e. e ≡ OutOfMemory) }
+        ensures memory { is_json_text (view value.now) ≡ true
+            → IfErr result (λ e. e ≡ OutOfMemory) }
     {
         of_text!(value, text => Utf8TypedPathBuf::from_str(alloc, text))
     }

@@ -3,9 +3,8 @@ use Rattle.std.proofs.Common.{◌≡◌, List, Bool, true, false, not, refl, sym
 use Rattle.std.proofs.lemmas.Bool.{not-true, not-false}
 use Rattle.std.specs.Cmp.{Equal-is, eq_by_cmp_equiv}
 use Rattle.std.specs.Ordering.{is_eq}
-use Rattle.typed_path.specs.components.Part.{Kind}
-use Rattle.typed_path.specs.order.Same.{kinds_cmp}
-use Rattle.typed_path.specs.order.Laws.{kinds_cmp_total, exact_lists, exact_kinds}
+use Rattle.typed_path.specs.components.{Kind}
+use Rattle.typed_path.specs.order.{kinds_cmp, kinds_cmp_total, exact_lists, exact_kinds}
 
 module _ (ks ls ms ns : List Kind) (k : ks ≡ ms) (l : ls ≡ ns) (b : Bool) (is : b ≡ not (is_eq (kinds_cmp ks ls))) where
   pub keys_apart : b ≡ true → ms ≡ ns → ⊥

@@ -1,10 +1,9 @@
 -- The refusal that a list of crossings meets first.
-use Rattle.std.proofs.Common.{◌≡◌, ◌<◌, ℕ, List, [], ◌∷◌, ◌++◌, map, length, drop, get_or, suc, Bor, Some, refl, ap}
-use Rattle.std.specs.Prelude.{Result, Ok, Err}
+use Rattle.std.proofs.Common.{◌≡◌, ◌<◌, ℕ, List, [], ◌∷◌, ◌++◌, map, length, drop, get_or, suc, Bor, Some, refl, ap, Result, Ok, Err}
 use Rattle.std.proofs.Math.Seq.{drop-cons}
 use Rattle.typed_path.specs.declared.errors.CheckedPathError.{CheckedPathError}
-use Rattle.typed_path.specs.components.Dialect.{Dialect}
-use Rattle.typed_path.specs.conversions.Convert.{converted_checked}
+use Rattle.typed_path.specs.components.{Dialect}
+use Rattle.typed_path.specs.conversions.{converted_checked}
 use Rattle.typed_path_uses.specs.Uses.{crossings, first_refusal}
 
 -- the first refusal stands behind paths that are not refused

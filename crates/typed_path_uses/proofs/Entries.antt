@@ -2,10 +2,9 @@
 use Rattle.std.proofs.Common.{◌≡◌, ◌<◌, ◌+◌, ℕ, List, [], ◌∷◌, ◌++◌, map, length, drop, get_or, append_assoc, Bor, sym, ap, ◌∙◌}
 use Rattle.std.proofs.lemmas.List.{map-append, drop_more}
 use Rattle.std.proofs.lemmas.List.Elements.{filter-append}
-use Rattle.typed_path.specs.components.Dialect.{Dialect}
+use Rattle.typed_path.specs.components.{Dialect}
 use Rattle.std.specs.Option.{is_none, is_some}
-use Rattle.typed_path.specs.changes.Push.{push}
-use Rattle.typed_path.specs.changes.Fault.{fault}
+use Rattle.typed_path.specs.changes.{push, fault}
 use Rattle.typed_path_uses.specs.Uses.{fine, faulty, joined_entries}
 
 pub faulty-cons : (d : Dialect) (name : Bor (List ℕ)) (names : List (Bor (List ℕ))) → faulty d (name ∷ names) ≡ faulty d (name ∷ []) ++ faulty d names

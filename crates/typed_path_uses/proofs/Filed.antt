@@ -1,9 +1,7 @@
 -- What paths find among files, by the keys of these.
 use Rattle.std.proofs.Common.{◌≡◌, ℕ, List, Option, Some, option_map, Vec, sym, ap, ◌∙◌}
 use Rattle.std.specs.BTreeMap.{BTreeMap}
-use Rattle.typed_path.specs.components.Dialect.{Dialect}
-use Rattle.typed_path.specs.components.Part.{kinds}
-use Rattle.typed_path.specs.components.Comps.{parts_of}
+use Rattle.typed_path.specs.components.{Dialect, kinds, parts_of}
 use Rattle.typed_path.specs.order.Keyed.{value_at, PutsAt}
 use Rattle.typed_path.specs.views.OwnedViews.{Owned}
 use Rattle.typed_path_uses.specs.Tree.{filed, found, IsKeyOf, Puts}

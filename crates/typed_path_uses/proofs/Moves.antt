@@ -1,7 +1,7 @@
 -- A file that is put at one path and taken away at another has moved there.
 use Rattle.std.proofs.Common.{◌≡◌, ℕ, List, Some, None, option_map, Vec, refl, sym, ap, ◌∙◌}
 use Rattle.std.specs.BTreeMap.{BTreeMap}
-use Rattle.typed_path.specs.components.Dialect.{Dialect}
+use Rattle.typed_path.specs.components.{Dialect}
 use Rattle.typed_path.specs.order.Keyed.{value_at}
 use Rattle.typed_path.specs.views.OwnedViews.{Owned}
 use Rattle.typed_path_uses.specs.Tree.{AreOne, found, Puts, Moves}

@@ -3,8 +3,8 @@ use Rattle.std.proofs.Common.{◌≡◌, ℕ, List, Ordering, Less, Equal, Great
 use Rattle.std.specs.Ordering.{ordering_then}
 use Rattle.std.specs.Str.{bytes_eq}
 use Rattle.std.specs.Cmp.Lexicographic.{texts_ties}
-use Rattle.typed_path.specs.components.Part.{normal}
-use Rattle.typed_path.specs.order.Same.{bytes_cmp, kind_cmp}
+use Rattle.typed_path.specs.components.{normal}
+use Rattle.typed_path.specs.order.{bytes_cmp, kind_cmp}
 
 then-equal : (o : Ordering) → is_eq (ordering_then o Equal) ≡ is_eq o
 then-equal Less = refl

@@ -1,9 +1,8 @@
 -- A component of a rule beside the first that a path has left.
-use Rattle.std.proofs.Common.{◌≡◌, List, [], ◌∷◌, Bool, false, ◌&&◌, drop, refl, sym, ap, ap₂, ◌∙◌}
-use Rattle.std.specs.Prelude.{Some, None}
+use Rattle.std.proofs.Common.{◌≡◌, List, [], ◌∷◌, Bool, false, ◌&&◌, drop, refl, sym, ap, ap₂, ◌∙◌, Some, None}
 use Rattle.std.proofs.lemmas.Option.{same_Some}
-use Rattle.typed_path.specs.components.Part.{Kind, Part, Placed, parts, kinds}
-use Rattle.typed_path.specs.scan.Steps.{first_part}
+use Rattle.typed_path.specs.components.{Kind, Part, Placed, parts, kinds}
+use Rattle.typed_path.specs.scan.{first_part}
 use Rattle.typed_path_uses.specs.Ignore.{fits_kind, fits}
 
 pub fits-some : (k : Kind) (ks : List Kind) (before after : List Placed) (p : Part) (r : Bool) → Some p ≡ first_part before → after ≡ drop 1 before → r ≡ fits_kind k p.kind → fits (k ∷ ks) (kinds (parts before)) ≡ (r && fits ks (kinds (parts after)))

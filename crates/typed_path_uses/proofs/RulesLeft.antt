@@ -1,9 +1,8 @@
 -- What is left of a rule and of a path gives the whole answer.
-use Rattle.std.proofs.Common.{◌≡◌, List, [], ◌∷◌, Bool, true, false, not, refl, sym, ap, ◌∙◌}
-use Rattle.std.specs.Prelude.{Option, Some, None, option_map, is_some}
+use Rattle.std.proofs.Common.{◌≡◌, List, [], ◌∷◌, Bool, true, false, not, refl, sym, ap, ◌∙◌, Option, Some, None, option_map, is_some}
 use Rattle.typed_path.specs.declared.scan.step.Piece.{Piece}
-use Rattle.typed_path.specs.components.Part.{Part, Placed, parts, kinds}
-use Rattle.typed_path.specs.scan.Steps.{first_part}
+use Rattle.typed_path.specs.components.{Part, Placed, parts, kinds}
+use Rattle.typed_path.specs.scan.{first_part}
 use Rattle.typed_path.specs.views.PieceViews.{part_of}
 use Rattle.typed_path_uses.specs.Ignore.{fits}
 

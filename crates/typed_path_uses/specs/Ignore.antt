@@ -3,8 +3,8 @@ use Rattle.std.specs.Prelude.{◌≡◌, ℕ, List, [], ◌∷◌, ◌++◌, Boo
 use Rattle.std.specs.List.{filter, list_any, starts_with, ends_with}
 use Rattle.std.specs.Cmp.Lexicographic.{pointwise}
 use Rattle.std.specs.Ordering.{is_eq}
-use Rattle.typed_path.specs.components.Dialect.{Dialect, slash}
-use Rattle.typed_path.specs.components.Part.{Kind, normal, kinds, is_name}
+use Rattle.typed_path.specs.components.Dialects.{Dialect, slash}
+use Rattle.typed_path.specs.components.Parts.{Kind, normal, kinds, is_name}
 use Rattle.typed_path.specs.components.Comps.{parts_of}
 use Rattle.typed_path.specs.order.Same.{kind_cmp}
 use Rattle.typed_path_uses.specs.declared.ignore.Rule.{Rule}

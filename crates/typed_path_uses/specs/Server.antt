@@ -6,7 +6,7 @@ use Rattle.percent_encoding.specs.Percent.{percent_decode}
 use Rattle.typed_path.specs.declared.errors.CheckedPathError.{CheckedPathError}
 use Rattle.typed_path.specs.declared.errors.CheckedPathError.TheVariants.{InvalidFilename, PathTraversalAttack, UnexpectedPrefix, UnexpectedRoot}
 use Rattle.typed_path.specs.declared.scan.separators.Separators.TheVariants.{Either}
-use Rattle.typed_path.specs.components.Dialect.{windows, slash, is_separator}
+use Rattle.typed_path.specs.components.Dialects.{windows, slash, is_separator}
 use Rattle.typed_path.specs.queries.Queries.{is_disallowed}
 use Rattle.typed_path_uses.specs.declared.server.Unserved.{Unserved}
 use Rattle.typed_path_uses.specs.declared.server.Unserved.TheVariants.{Traversal, Absolute, ZeroByte, BadName, Device, OutOfMemory}

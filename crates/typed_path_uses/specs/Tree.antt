@@ -1,8 +1,8 @@
 -- What a tree of files promises.
 use Rattle.std.specs.Prelude.{◌≡◌, ℕ, List, map, filter, Option, None, option_map, Vec}
 use Rattle.std.specs.BTreeMap.{BTreeMap, keys}
-use Rattle.typed_path.specs.components.Dialect.{Dialect, unix, windows}
-use Rattle.typed_path.specs.components.Part.{Kind, kinds}
+use Rattle.typed_path.specs.components.Dialects.{Dialect, unix, windows}
+use Rattle.typed_path.specs.components.Parts.{Kind, kinds}
 use Rattle.typed_path.specs.components.Comps.{parts_of}
 use Rattle.typed_path.specs.order.Keyed.{value_at}
 use Rattle.typed_path.specs.places.Places.{resolve, normal_text}

@@ -3,8 +3,8 @@ use Rattle.std.specs.Prelude.{◌≡◌, ℕ, List, [], ◌∷◌, ◌++◌, map
 use Rattle.std.specs.Borrow.{Bor}
 use Rattle.std.specs.List.{flat_map, filter}
 use Rattle.std.specs.Option.{is_none, is_some, option_or}
-use Rattle.typed_path.specs.components.Dialect.{Dialect, unix}
-use Rattle.typed_path.specs.components.Part.{Kind, Part, kinds}
+use Rattle.typed_path.specs.components.Dialects.{Dialect, unix}
+use Rattle.typed_path.specs.components.Parts.{Kind, Part, kinds}
 use Rattle.typed_path.specs.components.Comps.{parts_of}
 use Rattle.typed_path.specs.declared.errors.CheckedPathError.{CheckedPathError}
 use Rattle.typed_path.specs.changes.Push.{push}

@@ -4,12 +4,10 @@ ghost use Rattle.std.specs.Prelude.{◌≡◌, ◌+◌, ◌++◌, ◌∷◌, [],
 ghost use Rattle.std.specs.Vec.{vec_len};
 ghost use Rattle.std.specs.List.{All};
 ghost use Rattle.typed_path.specs.changes.Push as push_spec;
-ghost use Rattle.typed_path.specs.changes.Checked.{refusal};
-ghost use Rattle.typed_path.specs.changes.Fault.{fault};
+ghost use Rattle.typed_path.specs.changes.{refusal, fault};
 ghost use Rattle.typed_path.specs.views.PathViews.{path_bytes};
-ghost use Rattle.typed_path.specs.places.Places.{place};
-ghost use Rattle.typed_path.specs.promises.Promises.{keeps_prefix};
-ghost use Rattle.typed_path.specs.promises.Below.{IsBelow, LiesBelow};
+ghost use Rattle.typed_path.specs.places.{place};
+ghost use Rattle.typed_path.specs.promises.{keeps_prefix, IsBelow, LiesBelow};
 ghost use Rattle.typed_path_uses.specs.Uses.{place_within, places, places_within, joined_entries, faulty, first_fault};
 
 use std::alloc::{AllocError, Global};
@@ -85,7 +83,8 @@ impl<'a, T: Encoding> Unpacking<'a, T> {
             ++ joined_entries T.dialect (path_bytes base.entry) (name.entry ∷ [])) }
         ensures names { OnOk result (map (λ r. r.name) self.new.refused.items
             ≡ map (λ r. r.name) self.old.refused.items ++ faulty T.dialect (name.entry ∷ [])) }
-        ensures refused { All (λ r. fault T.dialect r.name.now ≡ Some r.fault) self.old.refused.items
+        ensures refused { All (λ r. fault T.dialect r.name.now ≡ Some r.fault)
+            self.old.refused.items
             → All (λ r. fault T.dialect r.name.now ≡ Some r.fault) self.new.refused.items }
         ensures all { OnOk result (vec_len self.new.targets + vec_len self.new.refused
             ≡ vec_len self.old.targets + vec_len self.old.refused + 1) }

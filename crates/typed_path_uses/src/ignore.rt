@@ -1,8 +1,7 @@
 //! Which paths of a tree are ignored, by rules that are read from lines.
 
 ghost use Rattle.std.specs.Prelude.{◌≡◌, ◌&&◌, not, List, ◌∷◌};
-ghost use Rattle.typed_path.specs.components.Part.{Kind, normal, kinds};
-ghost use Rattle.typed_path.specs.components.Comps.{parts_of};
+ghost use Rattle.typed_path.specs.components.{Kind, normal, kinds, parts_of};
 ghost use Rattle.typed_path.specs.views.PathViews.{path_bytes, components_parts};
 ghost use Rattle.typed_path.specs.views.PieceViews.{part_of};
 ghost use Rattle.typed_path_uses.specs.declared.ignore.Rule.{Rule};
@@ -73,7 +72,8 @@ fn fits_piece(wanted: Piece<'_>, piece: Piece<'_>) -> bool
 /// Takes the next component of a path, and tells whether one of a rule fits it.
 fn fits_next<T: Encoding>(wanted: Piece<'_>, rest: &mut Components<'_, T>) -> bool
     ensures { (others : List Kind)
-        → ignore_spec.fits ((part_of wanted.entry).kind ∷ others) (kinds (components_parts rest.old))
+        → ignore_spec.fits ((part_of wanted.entry).kind ∷ others)
+        (kinds (components_parts rest.old))
         ≡ (result && ignore_spec.fits others (kinds (components_parts rest.new))) }
 {
     match rest.next() {
@@ -110,9 +110,8 @@ pub fn is_ignored<T: Encoding>(rules: &[Rule<'_>], path: Path<'_, T>, is_folder:
         ≡ ignore_spec.is_ignored T.dialect (kinds (parts_of T.dialect (path_bytes path.entry)))
         is_folder rules.now }
     ensures last { (rule : Rule)
-        → IsLastThatFits (rule_fits T.dialect (kinds (parts_of T.dialect (path_bytes path.entry))) is_folder)
-        rules.now rule
-        → result ≡ not rule.is_back }
+        → IsLastThatFits (rule_fits T.dialect (kinds (parts_of T.dialect (path_bytes path.entry)))
+        is_folder) rules.now rule → result ≡ not rule.is_back }
 {
     let mut ignored = false;
     'rules: for rule in rules {

@@ -2,12 +2,10 @@
 
 ghost use Rattle.std.specs.Prelude.{◌≡◌, true, map, IfOk, Some, Ok, Err};
 ghost use Rattle.typed_path.specs.declared.errors.CheckedPathError.{CheckedPathError};
-ghost use Rattle.typed_path.specs.components.Dialect.{unix, windows};
-ghost use Rattle.typed_path.specs.components.Part.{kinds};
-ghost use Rattle.typed_path.specs.components.Comps.{parts_of};
-ghost use Rattle.typed_path.specs.changes.Checked.{refusal};
-ghost use Rattle.typed_path.specs.conversions.Convert.{converted_checked};
-ghost use Rattle.typed_path.specs.promises.Crossings.{lack_backslash};
+ghost use Rattle.typed_path.specs.components.{unix, windows, kinds, parts_of};
+ghost use Rattle.typed_path.specs.changes.{refusal};
+ghost use Rattle.typed_path.specs.conversions.{converted_checked};
+ghost use Rattle.typed_path.specs.promises.{lack_backslash};
 ghost use Rattle.typed_path.specs.views.PathViews.{path_bytes};
 ghost use Rattle.typed_path_uses.specs.Uses.{crossings, first_refusal};
 
@@ -56,7 +54,8 @@ pub fn rewritten_texts<T: Utf8Encoding, U: Utf8Encoding>(
 /// A path of Unix for a manifest of Windows. Where no name of it holds a `\`, it is read there as
 /// the same components.
 pub fn entry_on_windows(alloc: Global, entry: UnixPath<'_>) -> Result<WindowsPathBuf, PathError>
-    ensures alike { lack_backslash (kinds (parts_of unix (path_bytes entry.entry))) ≡ true → IfOk result
+    ensures alike { lack_backslash (kinds (parts_of unix (path_bytes entry.entry))) ≡ true
+        → IfOk result
         (λ p. kinds (parts_of windows p.bytes) ≡ kinds (parts_of unix (path_bytes entry.entry))) }
     ensures ok { IfOk result
         (λ p. converted_checked unix windows (path_bytes entry.entry) ≡ Ok p.bytes) }

@@ -2,10 +2,9 @@
 
 ghost use Rattle.std.specs.Prelude.{◌≡◌, ◌↔◌, ℕ, List, OnOk, OnErr, IsTrue, Some};
 ghost use Rattle.std.specs.BTreeMap.{IsUnchanged};
-ghost use Rattle.typed_path.specs.components.Comps.{parts_of};
-ghost use Rattle.typed_path.specs.components.Part.{kinds};
+ghost use Rattle.typed_path.specs.components.{parts_of, kinds};
 ghost use Rattle.typed_path.specs.order.Keyed.{value_at, PutsAt};
-ghost use Rattle.typed_path.specs.order.Same.{IsSame};
+ghost use Rattle.typed_path.specs.order.{IsSame};
 ghost use Rattle.typed_path.specs.views.PathViews.{path_bytes};
 
 use std::alloc::AllocFailed;
@@ -27,7 +26,8 @@ pub fn note<T: Encoding>(
     ensures found { OnOk result ((other : List ℕ) → IsSame T.dialect other path.bytes
         → value_at T.dialect (kinds (parts_of T.dialect other)) notes.new ≡ Some number) }
     ensures puts { OnOk result
-        (PutsAt T.dialect (kinds (parts_of T.dialect path.bytes)) (Some number) notes.old notes.new) }
+        (PutsAt T.dialect (kinds (parts_of T.dialect path.bytes)) (Some number) notes.old
+        notes.new) }
     ensures refused { OnErr result (IsUnchanged notes.old notes.new) }
 {
     let before = notes.insert(path, number)?;

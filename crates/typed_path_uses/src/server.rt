@@ -2,10 +2,10 @@
 
 ghost use Rattle.std.specs.Prelude.{◌≡◌, IfOk, IfErr, None};
 ghost use Rattle.std.specs.List.{list_any};
-ghost use Rattle.typed_path.specs.components.Dialect.{unix, windows};
+ghost use Rattle.typed_path.specs.components.{unix, windows};
 ghost use Rattle.typed_path.specs.changes.Push as push_spec;
-ghost use Rattle.typed_path.specs.changes.Fault.{fault};
-ghost use Rattle.typed_path.specs.promises.Below.{IsBelow, LiesBelow};
+ghost use Rattle.typed_path.specs.changes.{fault};
+ghost use Rattle.typed_path.specs.promises.{IsBelow, LiesBelow};
 ghost use Rattle.typed_path.specs.views.PathViews.{path_bytes};
 ghost use Rattle.typed_path_uses.specs.Server as named;
 ghost use Rattle.typed_path_uses.specs.Server.{decoded, reason_of, IsReason};

@@ -2,10 +2,9 @@
 
 ghost use Rattle.std.specs.Prelude.{◌≡◌, true, IfOk};
 ghost use Rattle.std.specs.String.{string_bytes};
-ghost use Rattle.typed_path.specs.changes.Checked.{refusal};
-ghost use Rattle.typed_path.specs.changes.Fault.{fault};
-ghost use Rattle.typed_path.specs.places.Places.{normal_text, place};
-ghost use Rattle.typed_path.specs.promises.Promises.{keeps_prefix};
+ghost use Rattle.typed_path.specs.changes.{refusal, fault};
+ghost use Rattle.typed_path.specs.places.{normal_text, place};
+ghost use Rattle.typed_path.specs.promises.{keeps_prefix};
 ghost use Rattle.typed_path.specs.views.TextViews.{utf8_bytes};
 ghost use Rattle.typed_path_uses.specs.Uses.{place_within};
 

@@ -2,8 +2,8 @@
 
 ghost use Rattle.std.specs.Prelude.{◌≡◌, ◌↔◌, true, IfOk};
 ghost use Rattle.typed_path.specs.views.PathViews.{path_bytes};
-ghost use Rattle.typed_path.specs.components.Dialect.{unix};
-ghost use Rattle.typed_path.specs.places.Places.{normal_text};
+ghost use Rattle.typed_path.specs.components.{unix};
+ghost use Rattle.typed_path.specs.places.{normal_text};
 ghost use Rattle.typed_path_uses.specs.Uses.{LeadAlike};
 
 use std::alloc::{AllocError, Global};

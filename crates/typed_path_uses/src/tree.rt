@@ -3,14 +3,11 @@
 ghost use Rattle.std.specs.Prelude.{◌≡◌, ◌↔◌, ◌++◌, ◌∷◌, [], ℕ, List, true, false, map, filter, IfOk, OnOk, OnErr, Some, None, is_some, option_map, option_copied};
 ghost use Rattle.std.specs.List.{IsDistinct};
 ghost use Rattle.std.specs.BTreeMap.{btree_map_len, keys, IsUnchanged};
-ghost use Rattle.typed_path.specs.components.Dialect.{unix, windows};
-ghost use Rattle.typed_path.specs.components.Part.{kinds};
-ghost use Rattle.typed_path.specs.components.Comps.{parts_of};
-ghost use Rattle.typed_path.specs.order.Same.{is_same};
-ghost use Rattle.typed_path.specs.places.Places.{resolve};
-ghost use Rattle.typed_path.specs.promises.Promises.{is_verbatim_unc_name, prefix_kind, with_drive_root};
-ghost use Rattle.typed_path.specs.queries.Ancestry.{is_child_of};
-ghost use Rattle.typed_path.specs.queries.Queries.{have_allowed_bytes};
+ghost use Rattle.typed_path.specs.components.{unix, windows, kinds, parts_of};
+ghost use Rattle.typed_path.specs.order.{is_same};
+ghost use Rattle.typed_path.specs.places.{resolve};
+ghost use Rattle.typed_path.specs.promises.{is_verbatim_unc_name, prefix_kind, with_drive_root};
+ghost use Rattle.typed_path.specs.queries.{is_child_of, have_allowed_bytes};
 ghost use Rattle.typed_path.specs.views.PathViews.{path_bytes};
 ghost use Rattle.typed_path_uses.specs.Tree.{filed, found, AreOne, IsKeyOf, Puts, Moves, children_of};
 ghost use Rattle.typed_path_uses.specs.Uses.{LeadAlike};
@@ -43,7 +40,8 @@ impl<T: Encoding> Tree<T> {
     /// How many files there are. No two keys are of one file.
     pub fn len(&self) -> usize
         ensures number { result ≡ btree_map_len self.now.files }
-        ensures alone { IsDistinct (λ k l. is_same T.dialect k.bytes l.bytes) (keys self.now.files) }
+        ensures alone { IsDistinct (λ k l. is_same T.dialect k.bytes l.bytes)
+            (keys self.now.files) }
     {
         self.files.len()
     }
@@ -68,7 +66,8 @@ impl<T: Encoding> Tree<T> {
     /// Where memory is refused, and then the files are as they were.
     pub fn write(&mut self, path: Path<'_, T>, bytes: &[u8]) -> Result<(), AllocError>
         ensures written { OnOk result
-            (Puts T.dialect (path_bytes path.entry) (Some bytes.now) self.old.files self.new.files) }
+            (Puts T.dialect (path_bytes path.entry) (Some bytes.now) self.old.files
+            self.new.files) }
         ensures refused { OnErr result (IsUnchanged self.old.files self.new.files) }
     {
         let key = key_of(self.alloc, path)?;
@@ -103,7 +102,8 @@ impl<T: Encoding> Tree<T> {
         ensures told { IfOk result (λ moved. moved
             ≡ is_some (found T.dialect self.old.files (path_bytes from.entry))) }
         ensures moved { IfOk result (λ moved. moved ≡ true
-            → Moves T.dialect (path_bytes from.entry) (path_bytes to.entry) self.old.files self.new.files) }
+            → Moves T.dialect (path_bytes from.entry) (path_bytes to.entry) self.old.files
+            self.new.files) }
         ensures absent { IfOk result (λ moved. moved ≡ false
             → IsUnchanged self.old.files self.new.files) }
         ensures refused { OnErr result (IsUnchanged self.old.files self.new.files) }

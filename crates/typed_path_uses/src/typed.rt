@@ -1,13 +1,12 @@
 //! Names from archives and manifests of either dialect, which is known when the program runs.
 
 ghost use Rattle.std.specs.Prelude.{◌≡◌, true, IfOk};
-ghost use Rattle.typed_path.specs.components.Dialect.{unix};
-ghost use Rattle.typed_path.specs.changes.Checked.{refusal};
-ghost use Rattle.typed_path.specs.changes.Fault.{fault};
-ghost use Rattle.typed_path.specs.conversions.Convert.{converted};
-ghost use Rattle.typed_path.specs.places.Places.{place};
-ghost use Rattle.typed_path.specs.promises.Promises.{keeps_prefix};
-ghost use Rattle.typed_path.specs.typed.Kind.{derived_dialect, typed_dialect};
+ghost use Rattle.typed_path.specs.components.{unix};
+ghost use Rattle.typed_path.specs.changes.{refusal, fault};
+ghost use Rattle.typed_path.specs.conversions.{converted};
+ghost use Rattle.typed_path.specs.places.{place};
+ghost use Rattle.typed_path.specs.promises.{keeps_prefix};
+ghost use Rattle.typed_path.specs.typed.{derived_dialect, typed_dialect};
 ghost use Rattle.typed_path.specs.views.TypedViews.{typed_bytes, owned_bytes};
 ghost use Rattle.typed_path_uses.specs.Uses.{place_within};
 
@@ -21,8 +20,8 @@ pub fn typed_target(
     base: TypedPath<'_>,
     name: &[u8],
 ) -> Result<TypedPathBuf, PathError>
-    ensures place { keeps_prefix (typed_dialect base.entry) (typed_bytes base.entry) ≡ true → IfOk result
-        (λ p. place (typed_dialect base.entry) (owned_bytes p)
+    ensures place { keeps_prefix (typed_dialect base.entry) (typed_bytes base.entry) ≡ true
+        → IfOk result (λ p. place (typed_dialect base.entry) (owned_bytes p)
         ≡ place_within (typed_dialect base.entry) (typed_bytes base.entry) name.now) }
     ensures refused { refusal result ≡ fault (typed_dialect base.entry) name.now }
 {

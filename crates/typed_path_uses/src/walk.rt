@@ -2,8 +2,7 @@
 
 ghost use Rattle.std.specs.Prelude.{◌≡◌, IfOk};
 ghost use Rattle.typed_path.specs.views.PathViews.{path_bytes};
-ghost use Rattle.typed_path.specs.components.Dialect.{unix};
-ghost use Rattle.typed_path.specs.components.Comps.{parts_of};
+ghost use Rattle.typed_path.specs.components.{unix, parts_of};
 ghost use Rattle.typed_path_uses.specs.Uses.{lines_of};
 
 use std::alloc::{AllocError, Global};

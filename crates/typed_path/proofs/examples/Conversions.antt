@@ -1,10 +1,9 @@
 -- Paths in the other dialect, told apart, and made absolute.
-use Rattle.std.specs.Prelude.{◌≡◌, codes, [], ◌∷◌, refl, Some, None, Ok, Err}
+use Rattle.std.proofs.Common.{◌≡◌, codes, [], ◌∷◌, refl, Some, None, Ok, Err}
 use Rattle.typed_path.specs.declared.errors.CheckedPathError.TheVariants.{InvalidFilename, UnexpectedPrefix, UnexpectedRoot}
-use Rattle.typed_path.specs.components.Dialect.{unix, windows}
-use Rattle.typed_path.specs.conversions.Convert.{converted, converted_checked, absolute_from}
-use Rattle.typed_path.specs.typed.Kind.{derived_dialect}
-use Rattle.typed_path.specs.components.Comps.{parts_of}
+use Rattle.typed_path.specs.components.{unix, windows, parts_of}
+use Rattle.typed_path.specs.conversions.{converted, converted_checked, absolute_from}
+use Rattle.typed_path.specs.typed.{derived_dialect}
 use Rattle.typed_path.proofs.examples.Words.{named}
 
 -- Windows to Unix

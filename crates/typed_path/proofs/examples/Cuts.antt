@@ -1,8 +1,6 @@
 -- `\\?\UNC\srv\share\x`, cut after each of its bytes.
-use Rattle.std.specs.Prelude.{◌≡◌, ℕ, codes, List, [], ◌∷◌, take, refl}
-use Rattle.typed_path.specs.components.Dialect.{windows}
-use Rattle.typed_path.specs.components.Part.{Part, verbatim, verbatim_unc, unc}
-use Rattle.typed_path.specs.components.Comps.{parts_of}
+use Rattle.std.proofs.Common.{◌≡◌, ℕ, codes, List, [], ◌∷◌, take, refl}
+use Rattle.typed_path.specs.components.{windows, Part, verbatim, verbatim_unc, unc, parts_of}
 use Rattle.typed_path.proofs.examples.Words.{windows_root, named, written}
 
 abbrev cut : ℕ → List Part

@@ -1,9 +1,9 @@
 -- When two texts are the same path, and which is less.
-use Rattle.std.specs.Prelude.{codes, [], ◌≡◌, refl, true, false}
+use Rattle.std.proofs.Common.{codes, [], ◌≡◌, refl, true, false}
 use Rattle.std.specs.declared.cmp.Ordering.TheVariants.{Less, Equal, Greater}
-use Rattle.typed_path.specs.components.Dialect.{unix, windows}
-use Rattle.typed_path.specs.order.Same.{IsSame, path_cmp}
-use Rattle.typed_path.specs.queries.Queries.{path_starts_with, path_ends_with}
+use Rattle.typed_path.specs.components.{unix, windows}
+use Rattle.typed_path.specs.order.{IsSame, path_cmp}
+use Rattle.typed_path.specs.queries.{path_starts_with, path_ends_with}
 
 -- the same by components
 marks_with_slashes : IsSame windows (codes "//?/x/a") (codes "\\\\?\\x\\a")

@@ -1,6 +1,6 @@
 -- What the program answers to a line, and to a whole input.
-use Rattle.std.specs.Prelude.{◌≡◌, codes, [], ◌∷◌, ◌++◌, refl}
-use Rattle.typed_path.specs.script.Lines.{reply, answers, complete_lines, replies_to}
+use Rattle.std.proofs.Common.{◌≡◌, codes, [], ◌∷◌, ◌++◌, refl}
+use Rattle.typed_path.specs.script.{reply, answers, complete_lines, replies_to}
 
 -- normal texts
 normal_of_all_at_once : reply (codes "normalize\tunix\tfoo/bar//baz/./asdf/quux/..") ≡ codes "ok\tfoo/bar/baz/asdf\n"

@@ -1,10 +1,10 @@
 -- Names that stand for devices on Windows.
-use Rattle.std.specs.Prelude.{◌≡◌, codes, refl, true, false, Ok, Err}
+use Rattle.std.proofs.Common.{◌≡◌, codes, refl, true, false, Ok, Err}
 use Rattle.typed_path.specs.declared.errors.CheckedPathError.TheVariants.{InvalidFilename, PathTraversalAttack}
-use Rattle.typed_path.specs.components.Dialect.{unix, windows}
-use Rattle.typed_path.specs.conversions.Convert.{converted, converted_checked}
-use Rattle.typed_path.specs.script.Lines.{reply}
-use Rattle.typed_path.specs.changes.Run.{refused}
+use Rattle.typed_path.specs.components.{unix, windows}
+use Rattle.typed_path.specs.conversions.{converted, converted_checked}
+use Rattle.typed_path.specs.script.{reply}
+use Rattle.typed_path.specs.changes.{refused}
 use Rattle.typed_path.proofs.examples.Words.{valid, pushed, checked, normalized}
 
 -- which names are valid

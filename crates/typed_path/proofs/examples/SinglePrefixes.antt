@@ -1,13 +1,11 @@
 -- Single prefixes of Windows: which texts are one, their kinds, their lengths, how they compare.
-use Rattle.std.specs.Prelude.{ℕ, codes, List, [], ◌∷◌, ◌≡◌, Bool, length, refl, true, false, Option, Some, None}
+use Rattle.std.proofs.Common.{ℕ, codes, List, [], ◌∷◌, ◌≡◌, Bool, length, refl, true, false, Option, Some, None}
 use Rattle.std.specs.Option.{option_map}
 use Rattle.std.specs.declared.cmp.Ordering.TheVariants.{Less, Equal}
 use Prim.Native.String.{String}
-use Rattle.typed_path.specs.components.Dialect.{windows}
-use Rattle.typed_path.specs.components.Part.{Kind, verbatim, verbatim_unc, verbatim_disk, device_ns, unc, disk, prefix, root, normal}
-use Rattle.typed_path.specs.components.Prefix.{prefix_of}
-use Rattle.typed_path.specs.order.Same.{path_cmp, kind_cmp}
-use Rattle.typed_path.specs.queries.Queries.{prefix_length, first_prefix, has_verbatim_prefix, has_verbatim_unc_prefix, has_verbatim_disk_prefix, has_device_ns_prefix, has_unc_prefix, has_disk_prefix}
+use Rattle.typed_path.specs.components.{windows, Kind, verbatim, verbatim_unc, verbatim_disk, device_ns, unc, disk, prefix, root, normal, prefix_of}
+use Rattle.typed_path.specs.order.{path_cmp, kind_cmp}
+use Rattle.typed_path.specs.queries.{prefix_length, first_prefix, has_verbatim_prefix, has_verbatim_unc_prefix, has_verbatim_disk_prefix, has_device_ns_prefix, has_unc_prefix, has_disk_prefix}
 use Rattle.typed_path.proofs.examples.Words.{windows_parts, written, rest, kinds_in, kinds_left}
 
 -- how many bytes the prefix of a text has, by its kind and in the text

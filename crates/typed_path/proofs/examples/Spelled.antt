@@ -1,7 +1,6 @@
 -- Texts of Windows that a push spells anew as they stand.
-use Rattle.std.specs.Prelude.{codes}
-use Rattle.std.proofs.Common.{refl}
-use Rattle.typed_path.specs.changes.Spelled.{IsSpelled}
+use Rattle.std.proofs.Common.{refl, codes}
+use Rattle.typed_path.specs.changes.{IsSpelled}
 
 drive : IsSpelled (codes "\\\\?\\C:")
 drive = (refl, refl)

@@ -1,12 +1,9 @@
 -- Which components and prefixes are texts in UTF-8, computed by every check.
-use Rattle.std.proofs.Common.{◌≡◌, true, false, [], ◌∷◌, None, refl}
-use Rattle.std.specs.Prelude.{codes}
+use Rattle.std.proofs.Common.{◌≡◌, true, false, [], ◌∷◌, None, refl, codes}
 use Rattle.std.specs.Str.{is_utf8, chars}
 use Rattle.std.proofs.Math.Utf8.{encode}
-use Rattle.typed_path.specs.components.Dialect.{unix}
-use Rattle.typed_path.specs.components.Part.{verbatim_unc, disk, name_part, prefix_part}
-use Rattle.typed_path.specs.components.Comps.{parts_of}
-use Rattle.typed_path.specs.texts.Texts.{is_text_option, is_text_prefix, is_text_part, are_text_parts}
+use Rattle.typed_path.specs.components.{unix, verbatim_unc, disk, name_part, prefix_part, parts_of}
+use Rattle.typed_path.specs.texts.{is_text_option, is_text_prefix, is_text_part, are_text_parts}
 
 -- a name in UTF-8, and a name that ends within a character
 name_is_text : is_text_part (name_part (195 ∷ 169 ∷ [])) ≡ true

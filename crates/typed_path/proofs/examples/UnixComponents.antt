@@ -1,10 +1,8 @@
 -- Unix texts read from both ends, and what they answer.
-use Rattle.std.specs.Prelude.{◌≡◌, codes, [], ◌∷◌, refl, true, false, Some, None}
-use Rattle.typed_path.specs.components.Dialect.{unix}
-use Rattle.typed_path.specs.components.Part.{current_part, parent_part}
-use Rattle.typed_path.specs.scan.Left.{front, back}
-use Rattle.typed_path.specs.queries.Names.{stem_of, extension_of}
-use Rattle.typed_path.specs.queries.Queries.{parent_of, file_name_of, file_stem_of, extension, path_starts_with, path_ends_with, stripped}
+use Rattle.std.proofs.Common.{◌≡◌, codes, [], ◌∷◌, refl, true, false, Some, None}
+use Rattle.typed_path.specs.components.{unix, current_part, parent_part}
+use Rattle.typed_path.specs.scan.{front, back}
+use Rattle.typed_path.specs.queries.{stem_of, extension_of, parent_of, file_name_of, file_stem_of, extension, path_starts_with, path_ends_with, stripped}
 use Rattle.typed_path.proofs.examples.Words.{unix_parts, unix_root, named, read, rest, absolute, rooted, valid}
 
 -- component lists

@@ -1,11 +1,9 @@
 -- Unix paths pushed, checked, made normal and changed in place.
-use Rattle.std.specs.Prelude.{◌≡◌, ℕ, codes, List, [], ◌∷◌, ◌++◌, refl, true, false, Some}
+use Rattle.std.proofs.Common.{◌≡◌, ℕ, codes, List, [], ◌∷◌, ◌++◌, refl, true, false, Some}
 use Rattle.typed_path.specs.declared.errors.CheckedPathError.TheVariants.{InvalidFilename, PathTraversalAttack, UnexpectedRoot}
-use Rattle.typed_path.specs.components.Dialect.{unix}
-use Rattle.typed_path.specs.components.Part.{normal}
-use Rattle.typed_path.specs.changes.Fault.{fault}
-use Rattle.typed_path.specs.places.Places.{place}
-use Rattle.typed_path.specs.changes.Run.{Operation, push_op, push_checked_op, pop_op, set_file_name_op, set_extension_op, clear_op, extend_op, done, flag, refused, step, text_after, replies}
+use Rattle.typed_path.specs.components.{unix, normal}
+use Rattle.typed_path.specs.changes.{fault, Operation, push_op, push_checked_op, pop_op, set_file_name_op, set_extension_op, clear_op, extend_op, done, flag, refused, step, text_after, replies}
+use Rattle.typed_path.specs.places.{place}
 use Rattle.typed_path.proofs.examples.Words.{pushed, checked, normalized}
 
 -- pushes

@@ -1,12 +1,9 @@
 -- Windows texts read from both ends, and what they answer.
-use Rattle.std.specs.Prelude.{◌≡◌, codes, [], ◌∷◌, refl, true, false, Some, None}
-use Rattle.typed_path.specs.components.Dialect.{windows}
-use Rattle.typed_path.specs.components.Part.{unc, disk, verbatim_disk, current_part, root, current, normal}
-use Rattle.typed_path.specs.components.Comps.{parts_of}
-use Rattle.typed_path.specs.order.Same.{IsSame}
-use Rattle.typed_path.specs.scan.Left.{front, back}
-use Rattle.typed_path.specs.components.Prefix.{prefix_of, found}
-use Rattle.typed_path.specs.queries.Queries.{has_prefix, has_any_verbatim_prefix, has_implicit_root, has_physical_root, parent_of, file_name_of, file_stem_of, extension, stripped}
+use Rattle.std.proofs.Common.{◌≡◌, codes, [], ◌∷◌, refl, true, false, Some, None}
+use Rattle.typed_path.specs.components.{windows, unc, disk, verbatim_disk, current_part, root, current, normal, parts_of, prefix_of, found}
+use Rattle.typed_path.specs.order.{IsSame}
+use Rattle.typed_path.specs.scan.{front, back}
+use Rattle.typed_path.specs.queries.{has_prefix, has_any_verbatim_prefix, has_implicit_root, has_physical_root, parent_of, file_name_of, file_stem_of, extension, stripped}
 use Rattle.typed_path.proofs.examples.Words.{windows_parts, windows_root, named, written, read, rest, kinds_left, kinds_in, absolute, rooted, valid}
 
 -- `\\?\C:\a\.\b` from the back

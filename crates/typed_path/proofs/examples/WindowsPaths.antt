@@ -1,12 +1,10 @@
 -- Windows paths pushed, checked, made normal and changed in place.
-use Rattle.std.specs.Prelude.{◌≡◌, codes, [], ◌∷◌, refl, true, false, Some}
+use Rattle.std.proofs.Common.{◌≡◌, codes, [], ◌∷◌, refl, true, false, Some}
 use Rattle.typed_path.specs.declared.errors.CheckedPathError.TheVariants.{InvalidFilename, PathTraversalAttack, UnexpectedPrefix, UnexpectedRoot}
-use Rattle.typed_path.specs.components.Dialect.{windows}
-use Rattle.typed_path.specs.components.Part.{verbatim, verbatim_disk, unc, disk, prefix, root, normal}
-use Rattle.typed_path.specs.changes.Fault.{fault}
-use Rattle.typed_path.specs.places.Places.{place}
-use Rattle.typed_path.specs.promises.Promises.{keeps_prefix}
-use Rattle.typed_path.specs.changes.Run.{pop_op, set_file_name_op, set_extension_op, done, flag, refused, step}
+use Rattle.typed_path.specs.components.{windows, verbatim, verbatim_disk, unc, disk, prefix, root, normal}
+use Rattle.typed_path.specs.changes.{fault, pop_op, set_file_name_op, set_extension_op, done, flag, refused, step}
+use Rattle.typed_path.specs.places.{place}
+use Rattle.typed_path.specs.promises.{keeps_prefix}
 use Rattle.typed_path.proofs.examples.Words.{windows_parts, windows_root, named, written, valid, pushed, checked, normalized}
 
 -- pushes

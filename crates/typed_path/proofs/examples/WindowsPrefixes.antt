@@ -1,9 +1,7 @@
 -- Windows texts, and what is read of the prefixes that they begin with.
-use Rattle.std.specs.Prelude.{◌≡◌, codes, [], ◌∷◌, refl, true, false, Some, None}
-use Rattle.typed_path.specs.components.Dialect.{windows}
-use Rattle.typed_path.specs.components.Part.{verbatim, verbatim_unc, verbatim_disk, device_ns, unc, disk, current_part, name_part, prefix_part, kinds}
-use Rattle.typed_path.specs.components.Comps.{parts_of}
-use Rattle.typed_path.specs.queries.Queries.{parent_of, is_valid, has_implicit_root, has_physical_root}
+use Rattle.std.proofs.Common.{◌≡◌, codes, [], ◌∷◌, refl, true, false, Some, None}
+use Rattle.typed_path.specs.components.{windows, verbatim, verbatim_unc, verbatim_disk, device_ns, unc, disk, current_part, name_part, prefix_part, kinds, parts_of}
+use Rattle.typed_path.specs.queries.{parent_of, is_valid, has_implicit_root, has_physical_root}
 use Rattle.typed_path.proofs.examples.Words.{windows_parts, windows_root, named, written, kinds_in, absolute, rooted, valid}
 
 -- texts without a prefix

@@ -1,15 +1,12 @@
 -- Short words for the examples; a quoted text stands for its ASCII bytes.
 use Prim.Native.String.{String}
-use Rattle.std.specs.Prelude.{ℕ, codes, List, [], ◌∷◌, map, Bool, Option}
+use Rattle.std.proofs.Common.{ℕ, codes, List, [], ◌∷◌, map, Bool, Option}
 use Rattle.std.specs.Option.{option_map}
-use Rattle.typed_path.specs.components.Dialect.{Dialect, unix, windows, slash, backslash}
-use Rattle.typed_path.specs.components.Part.{Prefix, Kind, Part, kinds, parts, prefix_part, root_part, name_part}
-use Rattle.typed_path.specs.components.Comps.{comps, parts_of}
-use Rattle.typed_path.specs.scan.Left.{left, items_between, Side, reads}
-use Rattle.typed_path.specs.queries.Queries.{is_absolute, has_root, is_valid}
-use Rattle.typed_path.specs.changes.Push.{push}
-use Rattle.typed_path.specs.places.Places.{normal_text}
-use Rattle.typed_path.specs.changes.Run.{Response, step, push_checked_op}
+use Rattle.typed_path.specs.components.{Dialect, unix, windows, slash, backslash, Prefix, Kind, Part, kinds, parts, prefix_part, root_part, name_part, comps, parts_of}
+use Rattle.typed_path.specs.scan.{left, items_between, Side, reads}
+use Rattle.typed_path.specs.queries.{is_absolute, has_root, is_valid}
+use Rattle.typed_path.specs.changes.{push, Response, step, push_checked_op}
+use Rattle.typed_path.specs.places.{normal_text}
 
 -- components, as they are written
 abbrev pub named : String → Part

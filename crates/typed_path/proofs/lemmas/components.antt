@@ -1,17 +1,17 @@
 -- What a text is made of.
--- Segments: segments, a body taken apart at a separator, and the components read off its pieces
+-- Segments: segments, a body taken apart at a separator, the components read off its pieces, and what a clean text begins with
 -- Prefixes: the prefix of a Windows text: its separators, how many bytes it takes, its marks and what it was read from
 -- Cuts: where the components of a text begin and end, how many they are, and what is read before and behind such a place
--- PrefixCuts: a Windows text that is cut behind its prefix, and how many bytes a prefix takes of it
+-- PrefixCuts: the names of a prefix, a Windows text that is cut behind its prefix, and how many bytes a prefix takes of it
 -- FirmPrefixes: a prefix stays where its text is cut behind it and something put apart behind that
 -- PartedPrefixes: a prefix with more of its text behind it: where it ends, and what stands right behind it
--- WrittenLemmas: components are written as their kinds tell, and where prefixes and roots stand in a list
--- PlainNames: names that are read as names in each Windows text, alone and pushed one by one
+-- WrittenForms: components are written as their kinds tell, and where prefixes and roots stand in a list
+-- WindowsNames: names that are read as names in each Windows text, alone and pushed one by one
 pub mod Segments
 pub mod Prefixes
 pub mod Cuts
 pub mod PrefixCuts
 pub mod FirmPrefixes
 pub mod PartedPrefixes
-pub mod WrittenLemmas
-pub mod PlainNames
+pub mod WrittenForms
+pub mod WindowsNames

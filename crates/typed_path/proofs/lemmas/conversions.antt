@@ -1,5 +1,5 @@
 -- Conversions between the dialects.
--- CrossedLemmas: components of another dialect pushed one by one, and names of Unix that are names of Windows too
+-- Crossings: components of another dialect pushed one by one, and names of Unix that are names of Windows too
 -- CrossedPaths: what a path is read as once it is converted, and what comes back
-pub mod CrossedLemmas
+pub mod Crossings
 pub mod CrossedPaths

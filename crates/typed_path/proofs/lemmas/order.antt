@@ -1,5 +1,5 @@
 -- Equality and order.
--- OrderLemmas: paths compared and fed to a hasher, component by component, with their prefixes first
--- KeyedLemmas: what a map whose keys are paths has once one is put in or taken out
-pub mod OrderLemmas
-pub mod KeyedLemmas
+-- Comparisons: paths compared and fed to a hasher, component by component, with their prefixes first
+-- Maps: what a map whose keys are paths has once one is put in or taken out
+pub mod Comparisons
+pub mod Maps

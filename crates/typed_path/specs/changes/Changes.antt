@@ -1,7 +1,7 @@
 -- A path cut to its parent, renamed, or given another extension.
 use Rattle.std.specs.Prelude.{ℕ, ◌+◌, List, [], ◌∷◌, ◌++◌, length, take, is_some, unwrap_or, if◌then◌else◌, Option, Some, None, option_map}
-use Rattle.typed_path.specs.components.Dialect.{Dialect, dot}
-use Rattle.typed_path.specs.components.Part.{Placed}
+use Rattle.typed_path.specs.components.Dialects.{Dialect, dot}
+use Rattle.typed_path.specs.components.Parts.{Placed}
 use Rattle.typed_path.specs.components.Comps.{comps}
 use Rattle.typed_path.specs.scan.Left.{last_of}
 use Rattle.typed_path.specs.queries.Names.{stem_of}

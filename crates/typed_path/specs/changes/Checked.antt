@@ -5,7 +5,7 @@ use Rattle.typed_path.specs.declared.scan.separators.Separators.{Separators}
 use Rattle.typed_path.specs.declared.errors.CheckedPathError.{CheckedPathError}
 use Rattle.typed_path.specs.declared.errors.PathError.{PathError}
 use Rattle.typed_path.specs.declared.errors.PathError.TheVariants.{Checked, OutOfMemory}
-use Rattle.typed_path.specs.components.Dialect.{dot, colon, question, dialect_of, is_separator}
+use Rattle.typed_path.specs.components.Dialects.{dot, colon, question, dialect_of, is_separator}
 use Rattle.typed_path.specs.scan.Masks.{is_one_of}
 use Rattle.typed_path.specs.queries.Queries.{is_disallowed}
 
@@ -41,12 +41,12 @@ abbrev pub SeparatesDisallowed : Separators → List ℕ → Type 0
 SeparatesDisallowed s text = All (λ b. is_disallowed (dialect_of s) b ≡ true → is_separator s b ≡ true) text
 
 -- a text begins with NUL, or with two dots
-abbrev pub begins_with_harm : List ℕ → Bool
-begins_with_harm [] = false
-begins_with_harm (a ∷ []) = a == 0
-begins_with_harm (a ∷ b ∷ bytes) = a == 0 || a == dot && b == dot
+abbrev pub begins_with_nul_or_dot_pair : List ℕ → Bool
+begins_with_nul_or_dot_pair [] = false
+begins_with_nul_or_dot_pair (a ∷ []) = a == 0
+begins_with_nul_or_dot_pair (a ∷ b ∷ bytes) = a == 0 || a == dot && b == dot
 
 -- neither NUL nor two dots side by side stand in a text
-abbrev pub is_harmless : List ℕ → Bool
-is_harmless [] = true
-is_harmless (a ∷ bytes) = not (begins_with_harm (a ∷ bytes)) && is_harmless bytes
+abbrev pub has_no_nul_or_dot_pair : List ℕ → Bool
+has_no_nul_or_dot_pair [] = true
+has_no_nul_or_dot_pair (a ∷ bytes) = not (begins_with_nul_or_dot_pair (a ∷ bytes)) && has_no_nul_or_dot_pair bytes

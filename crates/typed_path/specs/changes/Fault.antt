@@ -4,8 +4,8 @@ use Rattle.std.specs.List.{count_by}
 use Rattle.std.specs.Option.{option_or}
 use Rattle.typed_path.specs.declared.errors.CheckedPathError.{CheckedPathError}
 use Rattle.typed_path.specs.declared.errors.CheckedPathError.TheVariants.{InvalidFilename, PathTraversalAttack, UnexpectedPrefix, UnexpectedRoot}
-use Rattle.typed_path.specs.components.Dialect.{Dialect}
-use Rattle.typed_path.specs.components.Part.{Kind, prefix, root, current, parent, normal, kinds, is_name, is_parent}
+use Rattle.typed_path.specs.components.Dialects.{Dialect}
+use Rattle.typed_path.specs.components.Parts.{Kind, prefix, root, current, parent, normal, kinds, is_name, is_parent}
 use Rattle.typed_path.specs.components.Comps.{parts_of}
 use Rattle.typed_path.specs.queries.Queries.{is_valid_name}
 

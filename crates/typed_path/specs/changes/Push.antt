@@ -1,9 +1,9 @@
 -- A path with another pushed onto it.
 use Rattle.std.specs.Prelude.{◌≡◌, ◌≤◌, ◌<◌, ℕ, ◌+◌, ◌-◌, List, [], ◌∷◌, ◌++◌, Bool, true, false, not, ◌&&◌, ◌||◌, ◌==◌, length, take, slice_index, if◌then◌else◌, Option, Some, None}
 use Rattle.std.specs.List.{fold}
-use Rattle.typed_path.specs.components.Dialect.{Dialect, unix, windows, slash, backslash}
-use Rattle.typed_path.specs.components.Part.{disk, Kind, prefix, root, current, parent, Part, kinds, is_name}
-use Rattle.typed_path.specs.components.Prefix.{Found, is_empty, prefix_of}
+use Rattle.typed_path.specs.components.Dialects.{Dialect, unix, windows, slash, backslash}
+use Rattle.typed_path.specs.components.Parts.{disk, Kind, prefix, root, current, parent, Part, kinds, is_name}
+use Rattle.typed_path.specs.components.Prefixes.{Found, is_empty, prefix_of}
 use Rattle.typed_path.specs.components.Comps.{parts_of}
 use Rattle.typed_path.specs.queries.Queries.{begins_with_root, begins_with_prefix, has_prefix, has_any_verbatim_prefix}
 
@@ -42,11 +42,6 @@ abbrev pub joint : Kind → Kind → List ℕ
 joint root l = []
 joint k root = []
 joint k l = backslash ∷ []
-
--- what stands before a component, by the kind of the one before it, where there is one
-abbrev pub joint_behind : Option Kind → Kind → List ℕ
-joint_behind None l = []
-joint_behind (Some k) l = joint k l
 
 -- a list written anew
 abbrev pub spelled : List Part → List ℕ

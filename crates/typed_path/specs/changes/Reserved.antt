@@ -1,7 +1,7 @@
 -- What is looked at before a name is compared with those of devices.
 use Rattle.std.specs.Prelude.{ℕ, List, ◌∷◌, Bool, false, ◌||◌, ◌&&◌, ◌==◌}
 use Rattle.std.specs.Char.{to_ascii_lowercase}
-use Rattle.typed_path.specs.components.Dialect.{dot}
+use Rattle.typed_path.specs.components.Dialects.{dot}
 
 -- the name of a device begins with these two letters, small ones
 abbrev pub begins_device : ℕ → ℕ → Bool

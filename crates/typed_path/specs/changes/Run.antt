@@ -1,7 +1,7 @@
 -- What a list of operations makes of a path.
 use Rattle.std.specs.Prelude.{◌≡◌, ◌≤◌, ℕ, List, [], ◌∷◌, Bool, length, is_some, Option, Some, None, ⊤}
 use Rattle.typed_path.specs.declared.errors.CheckedPathError.{CheckedPathError}
-use Rattle.typed_path.specs.components.Dialect.{Dialect}
+use Rattle.typed_path.specs.components.Dialects.{Dialect}
 use Rattle.typed_path.specs.queries.Queries.{parent_of, file_name_of}
 use Rattle.typed_path.specs.changes.Push.{push, push_all, FitsPush}
 use Rattle.typed_path.specs.changes.Fault.{fault}

@@ -3,9 +3,9 @@ use Rattle.std.specs.Prelude.{◌≡◌, ℕ, ◌+◌, List, [], ◌∷◌, ◌+
 use Rattle.std.specs.List.{list_any, list_all, slice_split, All, AllByRecursion}
 use Rattle.typed_path.specs.declared.scan.separators.Separators.{Separators}
 use Rattle.typed_path.specs.declared.scan.separators.Separators.TheVariants.{Slash, Backslash}
-use Rattle.typed_path.specs.components.Dialect.{Dialect, unix, windows, backslash, is_separator, is_verbatim}
-use Rattle.typed_path.specs.components.Part.{Kind, prefix, root, current, parent, normal, Part, is_name, root_part}
-use Rattle.typed_path.specs.components.Prefix.{is_empty, prefix_of}
+use Rattle.typed_path.specs.components.Dialects.{Dialect, unix, windows, backslash, is_separator, is_verbatim}
+use Rattle.typed_path.specs.components.Parts.{Kind, prefix, root, current, parent, normal, Part, is_name, root_part}
+use Rattle.typed_path.specs.components.Prefixes.{is_empty, prefix_of}
 use Rattle.typed_path.specs.components.Comps.{is_dot, is_dot_dot, parts_of}
 use Rattle.typed_path.specs.queries.Queries.{begins_with_root, has_prefix}
 use Rattle.typed_path.specs.changes.Push.{spelled, spells_anew, raw_length}

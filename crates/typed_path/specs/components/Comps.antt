@@ -2,9 +2,9 @@
 use Rattle.std.specs.Prelude.{ℕ, ◌+◌, List, [], ◌∷◌, ◌++◌, Bool, false, ◌&&◌, ◌==◌, length, drop, take, if◌then◌else◌, Option, Some, None}
 use Rattle.std.specs.List.{slice_split, flat_map}
 use Rattle.typed_path.specs.declared.scan.separators.Separators.{Separators}
-use Rattle.typed_path.specs.components.Dialect.{Dialect, dot, separators, is_separator, is_verbatim, root_text}
-use Rattle.typed_path.specs.components.Part.{Part, Placed, parts, current_part, parent_part, name_part, root_part, prefix_part}
-use Rattle.typed_path.specs.components.Prefix.{Found, prefix_of}
+use Rattle.typed_path.specs.components.Dialects.{Dialect, dot, separators, is_separator, is_verbatim, root_text}
+use Rattle.typed_path.specs.components.Parts.{Part, Placed, parts, current_part, parent_part, name_part, root_part, prefix_part}
+use Rattle.typed_path.specs.components.Prefixes.{Found, prefix_of}
 
 abbrev pub is_dot : List ℕ → Bool
 is_dot (a ∷ []) = a == dot

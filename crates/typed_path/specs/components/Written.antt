@@ -1,7 +1,7 @@
 -- How each dialect writes the components that it reads.
 use Rattle.std.specs.Prelude.{ℕ, List, [], ◌∷◌, map}
-use Rattle.typed_path.specs.components.Dialect.{Dialect, unix, windows, slash, backslash}
-use Rattle.typed_path.specs.components.Part.{Part, Kind, prefix, root, current, parent, normal, prefix_part, root_part, current_part, parent_part, name_part}
+use Rattle.typed_path.specs.components.Dialects.{Dialect, unix, windows, slash, backslash}
+use Rattle.typed_path.specs.components.Parts.{Part, Kind, prefix, root, current, parent, normal, prefix_part, root_part, current_part, parent_part, name_part}
 
 -- a kind, as Unix writes it; a prefix is never read there
 abbrev pub written_unix : Kind → Part

@@ -2,8 +2,8 @@
 use Rattle.std.specs.Prelude.{ℕ, List, [], ◌∷◌, Bool, true, false, ◌≤◌, map, length, if◌then◌else◌, Option, Some, None, Ok, Err}
 use Rattle.std.specs.declared.result.Result.{Result}
 use Rattle.typed_path.specs.declared.errors.CheckedPathError.{CheckedPathError}
-use Rattle.typed_path.specs.components.Dialect.{Dialect, unix, windows, root_of}
-use Rattle.typed_path.specs.components.Part.{Kind, current, parent, Part, kinds}
+use Rattle.typed_path.specs.components.Dialects.{Dialect, unix, windows, root_of}
+use Rattle.typed_path.specs.components.Parts.{Kind, current, parent, Part, kinds}
 use Rattle.typed_path.specs.components.Comps.{parts_of}
 use Rattle.typed_path.specs.queries.Queries.{is_root, is_absolute}
 use Rattle.typed_path.specs.changes.Push.{push, push_all}
@@ -37,13 +37,13 @@ abbrev pub FitsConverted : Dialect → Dialect → ℕ → List ℕ → Type 0
 FitsConverted d e room t = FitsConvertedBy d e room t (same_dialect d e)
 
 -- roots, `.` and `..` are never refused
-abbrev pub passes : Kind → Bool
-passes current = true
-passes parent = true
-passes k = is_root k
+abbrev pub is_never_refused : Kind → Bool
+is_never_refused current = true
+is_never_refused parent = true
+is_never_refused k = is_root k
 
 abbrev pub crossing_fault : Dialect → Part → Option CheckedPathError
-crossing_fault e p = if passes p.kind then None else fault e p.text
+crossing_fault e p = if is_never_refused p.kind then None else fault e p.text
 
 abbrev pub push_unless : Dialect → List ℕ → Option CheckedPathError → List ℕ → Result (List ℕ) CheckedPathError
 push_unless e base None path = Ok (push e base path)

@@ -2,8 +2,8 @@
 use Rattle.std.specs.Prelude.{◌≡◌, ◌≢◌, List, Option}
 use Rattle.std.specs.declared.cmp.Ordering.{Ordering}
 use Rattle.std.specs.BTreeMap.{BTreeMap, get_by}
-use Rattle.typed_path.specs.components.Dialect.{Dialect}
-use Rattle.typed_path.specs.components.Part.{Kind, kinds}
+use Rattle.typed_path.specs.components.Dialects.{Dialect}
+use Rattle.typed_path.specs.components.Parts.{Kind, kinds}
 use Rattle.typed_path.specs.components.Comps.{parts_of}
 use Rattle.typed_path.specs.order.Same.{kinds_cmp}
 use Rattle.typed_path.specs.views.OwnedViews.{Owned}

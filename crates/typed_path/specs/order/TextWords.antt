@@ -1,7 +1,7 @@
 -- What single components of texts feed to a hasher: a name as a text, and the letter of a drive as a character.
 use Rattle.std.specs.Prelude.{◌++◌, [], pos}
 use Rattle.std.specs.Hash.{HashWrites, isize, str, char}
-use Rattle.typed_path.specs.components.Part.{Prefix, verbatim, verbatim_unc, verbatim_disk, device_ns, unc, disk, Kind, prefix, root, current, parent, normal, Part}
+use Rattle.typed_path.specs.components.Parts.{Prefix, verbatim, verbatim_unc, verbatim_disk, device_ns, unc, disk, Kind, prefix, root, current, parent, normal, Part}
 
 -- a component of Unix: the place of its kind among those of Unix, and the name
 abbrev pub text_unix_words : Kind → HashWrites

@@ -3,9 +3,9 @@ use Rattle.std.specs.Prelude.{◌≡◌, ◌⊎◌, ◌<◌, ◌≤◌, ℕ, ◌
 use Rattle.std.specs.List.{list_any, flat_map, fold, slice_split, All, AllByRecursion}
 use Rattle.typed_path.specs.declared.scan.separators.Separators.{Separators}
 use Rattle.typed_path.specs.declared.scan.separators.Separators.TheVariants.{Slash, Backslash, Either}
-use Rattle.typed_path.specs.components.Dialect.{Dialect, unix, windows, slash, backslash, separators, is_separator, is_verbatim}
+use Rattle.typed_path.specs.components.Dialects.{Dialect, unix, windows, slash, backslash, separators, is_separator, is_verbatim}
 use Rattle.typed_path.specs.components.Comps.{is_dot, is_dot_dot}
-use Rattle.typed_path.specs.components.Prefix.{Found, drive, prefix_of}
+use Rattle.typed_path.specs.components.Prefixes.{Found, drive, prefix_of}
 use Rattle.typed_path.specs.changes.Push.{raw_length, raw_prefix, spells_anew}
 use Rattle.typed_path.specs.places.Places.{normal_text}
 use Rattle.typed_path.specs.promises.Promises.{is_verbatim_unc_name}
@@ -54,12 +54,12 @@ pub record IsNormal (goal head text : List ℕ) : Type 0 where
   pub alone : length text ≤ length head → goal ≡ text
 
 -- no name begins with a drive
-abbrev pub HaveNoDrives : List (List ℕ) → Type 0
-HaveNoDrives names = AllByRecursion (λ name. drive name ≡ None) names
+abbrev pub HaveNoDisks : List (List ℕ) → Type 0
+HaveNoDisks names = AllByRecursion (λ name. drive name ≡ None) names
 
 -- a text of rows behind a head: the names that are left of a Windows text, of which none begins with a drive
 pub record ArePlainRows (text head rest : List ℕ) : Type 0 where
-  pub drives : HaveNoDrives (names_left_of Either rest)
+  pub drives : HaveNoDisks (names_left_of Either rest)
   pub is : text ≡ head ++ rows_of Either (names_left_of Either rest)
 
 -- where the names that are left of the rest stand so behind the head, they are the normal text of the path
@@ -82,7 +82,7 @@ pub record TakesRows (path : List ℕ) (f : Found) (root rest : List ℕ) : Type
 abbrev pub HasPlainNames : Dialect → List ℕ → Type 0
 HasPlainNames unix path = ⊤
 HasPlainNames windows path =
-    (spells_anew windows path ≡ false) × HaveNoDrives (slice_split (is_separator Either) (drop (raw_length (prefix_of windows path)) path))
+    (spells_anew windows path ≡ false) × HaveNoDisks (slice_split (is_separator Either) (drop (raw_length (prefix_of windows path)) path))
 
 -- a path of Windows is its prefix, a root or none, and the rest
 abbrev pub IsHeadOf : List ℕ → List ℕ → List ℕ → List ℕ → Type 0

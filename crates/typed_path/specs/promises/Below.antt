@@ -1,7 +1,7 @@
 -- Where a path lies below another.
 use Rattle.std.specs.Prelude.{◌≡◌, ℕ, List, ◌++◌, true, map}
-use Rattle.typed_path.specs.components.Dialect.{Dialect}
-use Rattle.typed_path.specs.components.Part.{normal}
+use Rattle.typed_path.specs.components.Dialects.{Dialect}
+use Rattle.typed_path.specs.components.Parts.{normal}
 use Rattle.typed_path.specs.places.Places.{place}
 use Rattle.typed_path.specs.promises.Promises.{keeps_prefix}
 

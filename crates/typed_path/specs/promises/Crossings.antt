@@ -1,8 +1,8 @@
 -- What becomes of a path that is converted to the other dialect.
 use Rattle.std.specs.Prelude.{◌≡◌, ◌↔◌, ℕ, List, [], ◌∷◌, ◌++◌, Bool, true, not, ◌||◌, ◌==◌, if◌then◌else◌, Ok, IsOk}
 use Rattle.std.specs.List.{list_any, list_all, filter}
-use Rattle.typed_path.specs.components.Dialect.{unix, windows, backslash, root_of}
-use Rattle.typed_path.specs.components.Part.{disk, Kind, prefix, current, normal, Part, kinds, name_part, root_part, is_name, is_parent}
+use Rattle.typed_path.specs.components.Dialects.{unix, windows, backslash, root_of}
+use Rattle.typed_path.specs.components.Parts.{disk, Kind, prefix, current, normal, Part, kinds, name_part, root_part, is_name, is_parent}
 use Rattle.typed_path.specs.components.Comps.{parts_of}
 use Rattle.typed_path.specs.order.Same.{IsSame}
 use Rattle.typed_path.specs.queries.Queries.{is_root, is_valid, have_allowed_bytes}

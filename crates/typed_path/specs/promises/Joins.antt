@@ -1,7 +1,7 @@
 -- What a path joined to another is read as.
 use Rattle.std.specs.Prelude.{◌≡◌, ℕ, ◌<◌, List, [], ◌∷◌, ◌++◌, false, length, if◌then◌else◌, Some}
-use Rattle.typed_path.specs.components.Dialect.{unix}
-use Rattle.typed_path.specs.components.Part.{Part, kinds, is_current}
+use Rattle.typed_path.specs.components.Dialects.{unix}
+use Rattle.typed_path.specs.components.Parts.{Part, kinds, is_current}
 use Rattle.typed_path.specs.components.Comps.{parts_of}
 use Rattle.typed_path.specs.queries.Queries.{is_absolute, stripped}
 use Rattle.typed_path.specs.changes.Push.{push}

@@ -1,9 +1,9 @@
 -- The promises that rest on reading a written text again.
 use Rattle.std.specs.Prelude.{◌≡◌, ◌↔◌, ℕ, List, [], ◌∷◌, ◌++◌, Bool, true, false, not, ◌&&◌, ◌||◌, length, codes, bytes_eq, if◌then◌else◌, Option, Some, None, option_map, sum_by}
 use Rattle.std.specs.List.{flat_map}
-use Rattle.typed_path.specs.components.Dialect.{Dialect, unix, windows, slash, backslash}
-use Rattle.typed_path.specs.components.Part.{Prefix, verbatim, verbatim_unc, verbatim_disk, device_ns, unc, disk, Kind, prefix, root, Part, kinds, root_part, is_name}
-use Rattle.typed_path.specs.components.Prefix.{prefix_of, is_empty}
+use Rattle.typed_path.specs.components.Dialects.{Dialect, unix, windows, slash, backslash}
+use Rattle.typed_path.specs.components.Parts.{Prefix, verbatim, verbatim_unc, verbatim_disk, device_ns, unc, disk, Kind, prefix, root, Part, kinds, root_part, is_name}
+use Rattle.typed_path.specs.components.Prefixes.{prefix_of, is_empty}
 use Rattle.typed_path.specs.components.Comps.{parts_of}
 use Rattle.typed_path.specs.order.Same.{IsSame}
 use Rattle.typed_path.specs.queries.Queries.{have_allowed_bytes}

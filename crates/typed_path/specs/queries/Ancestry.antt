@@ -1,8 +1,8 @@
 -- A path and those above it.
 use Rattle.std.specs.Prelude.{◌≡◌, ℕ, zero, suc, List, [], ◌∷◌, ◌++◌, length, Bool, true, false, ◌&&◌, if◌then◌else◌, Option, Some, None, is_some}
 use Rattle.std.specs.Ordering.{is_eq}
-use Rattle.typed_path.specs.components.Dialect.{Dialect}
-use Rattle.typed_path.specs.components.Part.{Kind, normal, Placed, kinds}
+use Rattle.typed_path.specs.components.Dialects.{Dialect}
+use Rattle.typed_path.specs.components.Parts.{Kind, normal, Placed, kinds}
 use Rattle.typed_path.specs.components.Comps.{comps, parts_of}
 use Rattle.typed_path.specs.scan.Left.{last_of, but_last, slice_after_back}
 use Rattle.typed_path.specs.order.Same.{kinds_cmp}

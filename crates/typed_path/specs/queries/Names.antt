@@ -1,7 +1,7 @@
 -- A file name, and its split at the last dot.
 use Rattle.std.specs.Prelude.{ℕ, List, Bool, ◌==◌, drop, if◌then◌else◌, Option, Some, None}
 use Rattle.std.specs.List.{list_any, before_last, after_last}
-use Rattle.typed_path.specs.components.Dialect.{dot}
+use Rattle.typed_path.specs.components.Dialects.{dot}
 
 abbrev pub is_a_dot : ℕ → Bool
 is_a_dot b = b == dot

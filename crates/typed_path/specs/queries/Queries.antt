@@ -3,9 +3,9 @@ use Rattle.std.specs.Prelude.{ℕ, ◌+◌, ◌==◌, List, [], ◌∷◌, codes
 use Rattle.std.specs.List.{list_any, list_all, starts_with, ends_with, before_first}
 use Rattle.std.specs.Option.{option_map}
 use Rattle.std.specs.Str.{bytes_eq, str_eq_ignore_ascii_case}
-use Rattle.typed_path.specs.components.Dialect.{Dialect, unix, windows, slash, backslash, colon, question}
-use Rattle.typed_path.specs.components.Part.{Prefix, verbatim, verbatim_unc, verbatim_disk, device_ns, unc, disk, Kind, prefix, root, normal, Part, Placed, texts}
-use Rattle.typed_path.specs.components.Prefix.{is_empty}
+use Rattle.typed_path.specs.components.Dialects.{Dialect, unix, windows, slash, backslash, colon, question}
+use Rattle.typed_path.specs.components.Parts.{Prefix, verbatim, verbatim_unc, verbatim_disk, device_ns, unc, disk, Kind, prefix, root, normal, Part, Placed, texts}
+use Rattle.typed_path.specs.components.Prefixes.{is_empty}
 use Rattle.typed_path.specs.components.Comps.{comps, parts_of}
 use Rattle.typed_path.specs.scan.Left.{left, last_of}
 use Rattle.typed_path.specs.queries.Names.{is_a_dot, stem_of, extension_of}

@@ -2,7 +2,7 @@
 use Rattle.std.specs.Prelude.{List, map, Option, option_map}
 use Rattle.typed_path.specs.declared.script.run.End.{End}
 use Rattle.typed_path.specs.declared.script.run.End.TheVariants.{Front, Back}
-use Rattle.typed_path.specs.components.Part.{Part, Placed}
+use Rattle.typed_path.specs.components.Parts.{Part, Placed}
 use Rattle.typed_path.specs.scan.Left.{Side, front, back}
 
 abbrev pub side_of : End → Side

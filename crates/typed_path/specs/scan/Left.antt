@@ -1,7 +1,7 @@
 -- What is left of a reading from both ends, and what each end gives.
 use Rattle.std.specs.Prelude.{ℕ, ◌+◌, ◌-◌, List, [], ◌∷◌, ◌&&◌, ◌==◌, nat_lt, length, drop, take, reverse, slice_get, slice_range, if◌then◌else◌, Option, Some, None}
 use Rattle.std.specs.Option.{option_map, unwrap_or}
-use Rattle.typed_path.specs.components.Part.{Placed, end_of}
+use Rattle.typed_path.specs.components.Parts.{Placed, end_of}
 
 -- where component `i` begins, and where it ends
 abbrev pub start_at : List Placed → ℕ → ℕ

@@ -1,6 +1,6 @@
 -- A reading from both ends, step by step.
 use Rattle.std.specs.Prelude.{◌≡◌, ℕ, ◌+◌, ◌≤◌, List, [], ◌∷◌, ◌++◌, length, drop, take, reverse, Option}
-use Rattle.typed_path.specs.components.Part.{Placed, end_of}
+use Rattle.typed_path.specs.components.Parts.{Placed, end_of}
 use Rattle.typed_path.specs.scan.Left.{Side, front, back, first_of, last_of, but_last, slice_after_front, slice_after_back, items_between, start_at}
 
 -- what one step answers

@@ -5,8 +5,8 @@ use Rattle.std.specs.List.{before_first, after_last}
 use Rattle.typed_path.specs.declared.scan.separators.Separators.{Separators}
 use Rattle.typed_path.specs.declared.scan.cursor.Begin.{Begin}
 use Rattle.typed_path.specs.declared.scan.cursor.Begin.TheVariants.{Body, Inside}
-use Rattle.typed_path.specs.components.Dialect.{is_separator, is_verbatim}
-use Rattle.typed_path.specs.components.Part.{Part, Placed, end_of}
+use Rattle.typed_path.specs.components.Dialects.{is_separator, is_verbatim}
+use Rattle.typed_path.specs.components.Parts.{Part, Placed, end_of}
 use Rattle.typed_path.specs.components.Comps.{body, later_body, is_dot}
 use Rattle.typed_path.specs.scan.Left.{first_of, last_of, but_last, slice_after_front, slice_after_back}
 

@@ -1,6 +1,6 @@
 -- The commands as the code tells them, and what each is called.
 use Rattle.std.specs.Prelude.{ℕ, List, [], ◌∷◌, codes}
-use Rattle.typed_path.specs.components.Dialect.{Dialect}
+use Rattle.typed_path.specs.components.Dialects.{Dialect}
 use Rattle.typed_path.specs.script.Lines.{tab, line_feed, reply_in, pair_reply_in, bad_line}
 use Rattle.typed_path.specs.declared.script.lines.Command.{Command}
 use Rattle.typed_path.specs.declared.script.lines.Command.TheVariants.{Normalize, Components, Join, JoinChecked, Convert, ConvertChecked}

@@ -1,8 +1,8 @@
 -- What the program answers to its input.
 use Rattle.std.specs.Prelude.{◌≡◌, ℕ, List, [], ◌∷◌, ◌++◌, ◌==◌, if◌then◌else◌, codes, length, map, bytes_eq, Option, Some, None, Result, Ok, Err}
 use Rattle.std.specs.List.{slice_split, flat_map, join_with_byte}
-use Rattle.typed_path.specs.components.Dialect.{Dialect, unix, windows}
-use Rattle.typed_path.specs.components.Part.{Prefix, verbatim, verbatim_unc, verbatim_disk, device_ns, unc, disk, Kind, prefix, root, current, parent, normal, Part}
+use Rattle.typed_path.specs.components.Dialects.{Dialect, unix, windows}
+use Rattle.typed_path.specs.components.Parts.{Prefix, verbatim, verbatim_unc, verbatim_disk, device_ns, unc, disk, Kind, prefix, root, current, parent, normal, Part}
 use Rattle.typed_path.specs.components.Comps.{parts_of}
 use Rattle.typed_path.specs.places.Places.{normal_text}
 use Rattle.typed_path.specs.changes.Push.{push}

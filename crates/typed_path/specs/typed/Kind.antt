@@ -4,8 +4,8 @@ use Rattle.typed_path.specs.declared.typed.variant.PathType.{PathType}
 use Rattle.typed_path.specs.declared.typed.variant.PathType.TheVariants as kind
 use Rattle.typed_path.specs.declared.typed.variant.Typed.{Typed}
 use Rattle.typed_path.specs.declared.typed.variant.Typed.TheVariants.{Unix, Windows}
-use Rattle.typed_path.specs.components.Dialect.{Dialect, unix, windows, backslash}
-use Rattle.typed_path.specs.components.Prefix.{prefix_of}
+use Rattle.typed_path.specs.components.Dialects.{Dialect, unix, windows, backslash}
+use Rattle.typed_path.specs.components.Prefixes.{prefix_of}
 
 -- the dialect that a kind of path names
 abbrev pub kind_dialect : PathType → Dialect

@@ -1,13 +1,19 @@
--- What the calls that change an owned path do to it, and what they answer.
-use Rattle.std.specs.Prelude.{◌≡◌, ◌≤◌, ◌+◌, ℕ, List, [], length, max, min, is_some, Bool, None, IsSome, Result, IfOk, OnOk, OnErr, IsOk}
+-- What calls of several families do to an owned path, and what they answer.
+use Rattle.std.specs.Prelude.{◌≡◌, ◌≤◌, ◌+◌, ℕ, List, [], length, max, min, is_some, Bool, None, IsSome, Result, IfOk, OnOk, OnErr, IsOk, Ok, Err, Some}
 use Rattle.typed_path.specs.declared.errors.PathError.{PathError}
-use Rattle.typed_path.specs.components.Dialect.{Dialect}
+use Rattle.typed_path.specs.declared.errors.CheckedPathError.{CheckedPathError}
+use Rattle.typed_path.specs.declared.errors.AbsolutizeError.{AbsolutizeError}
+use Rattle.typed_path.specs.declared.errors.AbsolutizeError.TheVariants.{Ambiguous}
+use Rattle.typed_path.specs.components.Dialects.{Dialect}
 use Rattle.typed_path.specs.queries.Queries.{parent_of, file_name_of}
 use Rattle.typed_path.specs.changes.Push.{push, FitsPush}
 use Rattle.typed_path.specs.changes.Fault.{fault}
 use Rattle.typed_path.specs.changes.Changes.{popped, without_file_name, with_file_name, with_extension}
 use Rattle.typed_path.specs.changes.Checked.{refusal}
-use Rattle.typed_path.specs.promises.Promises.{HasPrefixOf, LiesWithin}
+use Rattle.typed_path.specs.places.Places.{normal_text}
+use Rattle.typed_path.specs.conversions.Convert.{converted_checked, absolute_from}
+use Rattle.typed_path.specs.promises.Promises.{HasPrefixOf, LiesWithin, HasNormalForm}
+use Rattle.typed_path.specs.promises.Below.{LiesBelow}
 use Rattle.typed_path.specs.views.OwnedViews.{Owned}
 
 -- the text stands there, or the call was refused and the path is as it was; it has no less room
@@ -79,3 +85,29 @@ ShrinksTo old least done new =
     × (new.capacity ≤ old.capacity)
     × (min least old.capacity ≤ new.capacity)
     × (old.bytes ≡ [] → least ≡ 0 → new.capacity ≡ 0)
+
+-- a path with another pushed onto it, which is refused for its fault and else lies within the base
+abbrev pub JoinsChecked : {P : Type 0} → Dialect → (P → List ℕ) → List ℕ → List ℕ → Result P PathError → Type 0
+JoinsChecked d bytes base path done =
+    (refusal done ≡ fault d path)
+    × IfOk done (λ p. bytes p ≡ push d base path)
+    × IfOk done (λ p. HasPrefixOf d base (bytes p))
+    × IfOk done (λ p. LiesWithin d base path (bytes p))
+    × IfOk done (λ p. LiesBelow d base (bytes p))
+
+abbrev pub Normalizes : {P E : Type 0} → Dialect → (P → List ℕ) → List ℕ → Result P E → Type 0
+Normalizes d bytes path done =
+    IfOk done (λ p. bytes p ≡ normal_text d path)
+    × IfOk done (λ p. HasNormalForm d path (bytes p))
+
+-- a path in another dialect, or what its first component that is refused there is refused for
+abbrev pub ConvertsChecked : {P : Type 0} → Dialect → Dialect → (P → List ℕ) → List ℕ → Result P PathError → Type 0
+ConvertsChecked d e bytes path done =
+    IfOk done (λ p. converted_checked d e path ≡ Ok (bytes p))
+    × ((why : CheckedPathError) → refusal done ≡ Some why → converted_checked d e path ≡ Err why)
+
+-- a path made absolute from a directory, or refused where it is absolute neither alone nor there
+abbrev pub Absolutizes : {P : Type 0} → Dialect → (P → List ℕ) → List ℕ → List ℕ → Result P AbsolutizeError → Type 0
+Absolutizes d bytes directory path done =
+    IfOk done (λ p. absolute_from d directory path ≡ Some (bytes p))
+    × (done ≡ Err Ambiguous → absolute_from d directory path ≡ None)

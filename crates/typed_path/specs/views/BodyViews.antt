@@ -1,7 +1,7 @@
 -- What is left of a body: its slice and its components.
 use Rattle.std.specs.Prelude.{ℕ, List, slice_range}
 use Rattle.typed_path.specs.declared.scan.cursor.Body.{Body}
-use Rattle.typed_path.specs.components.Part.{Placed}
+use Rattle.typed_path.specs.components.Parts.{Placed}
 use Rattle.typed_path.specs.scan.Steps.{body_from}
 
 abbrev pub body_slice : Body → List ℕ

@@ -9,9 +9,9 @@ use Rattle.typed_path.specs.declared.scan.step.PieceKind.TheVariants.{Prefix, Ro
 use Rattle.typed_path.specs.declared.scan.step.Step.{Step}
 use Rattle.typed_path.specs.declared.scan.step.StepKind.{StepKind}
 use Rattle.typed_path.specs.declared.scan.step.StepKind.TheVariants as step
-use Rattle.typed_path.specs.components.Part.{verbatim, verbatim_unc, verbatim_disk, device_ns, unc, disk, Kind, prefix, root, current, parent, normal, Part}
-use Rattle.typed_path.specs.components.Part as part
-use Rattle.typed_path.specs.components.Prefix as definitions
+use Rattle.typed_path.specs.components.Parts.{verbatim, verbatim_unc, verbatim_disk, device_ns, unc, disk, Kind, prefix, root, current, parent, normal, Part}
+use Rattle.typed_path.specs.components.Parts as part
+use Rattle.typed_path.specs.components.Prefixes as definitions
 
 abbrev pub prefix_view : WindowsPrefix → part.Prefix
 prefix_view (Verbatim name) = verbatim name.now
@@ -44,11 +44,11 @@ step_view step.ParentDir text = parent
 step_view step.Normal text = normal text
 
 -- the place of its kind among those that stand behind the prefix
-abbrev pub step_place : StepKind → ℕ
-step_place step.RootDir = 0
-step_place step.CurDir = 1
-step_place step.ParentDir = 2
-step_place step.Normal = 3
+abbrev pub step_rank : StepKind → ℕ
+step_rank step.RootDir = 0
+step_rank step.CurDir = 1
+step_rank step.ParentDir = 2
+step_rank step.Normal = 3
 
 -- the component that it is
 abbrev pub step_part : Step → Part

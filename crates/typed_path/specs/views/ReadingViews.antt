@@ -3,7 +3,7 @@ use Rattle.std.specs.Prelude.{ℕ, List}
 use Rattle.typed_path.specs.declared.common.encoding.Encoding as bytes
 use Rattle.typed_path.specs.declared.utf8.encoding.Utf8Encoding.{Ghosts}
 use Rattle.typed_path.specs.declared.utf8.reading.Utf8Reading.{Utf8Reading}
-use Rattle.typed_path.specs.components.Part.{Part, Placed, parts}
+use Rattle.typed_path.specs.components.Parts.{Part, Placed, parts}
 use Rattle.typed_path.specs.views.PathViews.{components_items, components_slice}
 
 -- the components left, each with its place, and the slice left

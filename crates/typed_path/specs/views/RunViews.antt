@@ -4,7 +4,7 @@ use Rattle.typed_path.specs.declared.script.run.PathOp.{PathOp}
 use Rattle.typed_path.specs.declared.script.run.PathOp.TheVariants.{Push, PushChecked, Pop, SetFileName, SetExtension, Clear, Extend}
 use Rattle.typed_path.specs.declared.script.run.Reply.{Reply}
 use Rattle.typed_path.specs.declared.script.run.Reply.TheVariants.{Done, Flag, Refused}
-use Rattle.typed_path.specs.components.Dialect.{Dialect}
+use Rattle.typed_path.specs.components.Dialects.{Dialect}
 use Rattle.typed_path.specs.changes.Push.{push_all}
 use Rattle.typed_path.specs.changes.Run.{Operation, push_op, push_checked_op, pop_op, set_file_name_op, set_extension_op, clear_op, extend_op, Response, done, flag, refused, text_after, replies}
 

@@ -9,9 +9,9 @@ use Rattle.typed_path.specs.declared.utf8.unix.Utf8UnixComponent.{Utf8UnixCompon
 use Rattle.typed_path.specs.declared.utf8.unix.Utf8UnixComponent.TheVariants as unix
 use Rattle.typed_path.specs.declared.utf8.windows.Utf8WindowsComponent.{Utf8WindowsComponent}
 use Rattle.typed_path.specs.declared.utf8.windows.Utf8WindowsComponent.TheVariants as windows
-use Rattle.typed_path.specs.components.Dialect.{slash, backslash}
-use Rattle.typed_path.specs.components.Dialect as dialect
-use Rattle.typed_path.specs.components.Part.{Part, prefix_part, root_part, current_part, parent_part, name_part}
+use Rattle.typed_path.specs.components.Dialects.{slash, backslash}
+use Rattle.typed_path.specs.components.Dialects as dialect
+use Rattle.typed_path.specs.components.Parts.{Part, prefix_part, root_part, current_part, parent_part, name_part}
 use Rattle.typed_path.specs.components.Comps.{parts_of}
 use Rattle.typed_path.specs.views.TextPieceViews.{text_prefix}
 use Rattle.typed_path.specs.texts.Texts.{is_text_part}

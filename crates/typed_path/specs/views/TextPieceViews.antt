@@ -5,8 +5,8 @@ use Rattle.typed_path.specs.declared.utf8.windows.Utf8WindowsPrefix.TheVariants.
 use Rattle.typed_path.specs.declared.utf8.reading.Utf8Piece.{Utf8Piece}
 use Rattle.typed_path.specs.declared.utf8.reading.Utf8PieceKind.{Utf8PieceKind}
 use Rattle.typed_path.specs.declared.utf8.reading.Utf8PieceKind.TheVariants.{Prefix, RootDir, CurDir, ParentDir, Normal}
-use Rattle.typed_path.specs.components.Part.{verbatim, verbatim_unc, verbatim_disk, device_ns, unc, disk, Kind, prefix, root, current, parent, normal, Part}
-use Rattle.typed_path.specs.components.Part as part
+use Rattle.typed_path.specs.components.Parts.{verbatim, verbatim_unc, verbatim_disk, device_ns, unc, disk, Kind, prefix, root, current, parent, normal, Part}
+use Rattle.typed_path.specs.components.Parts as part
 
 -- a letter is the number of its character
 abbrev pub text_prefix : Utf8WindowsPrefix → part.Prefix

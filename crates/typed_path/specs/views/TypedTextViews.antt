@@ -11,7 +11,7 @@ use Rattle.typed_path.specs.declared.typed.variant.Typed.{Typed}
 use Rattle.typed_path.specs.declared.typed.variant.Typed.TheVariants.{Unix, Windows}
 use Rattle.typed_path.specs.declared.typed.reading.TypedReading.{TypedReading}
 use Rattle.typed_path.specs.declared.typed.reading.TypedReading.TheVariants as reading
-use Rattle.typed_path.specs.components.Part.{Part, Placed, parts, texts}
+use Rattle.typed_path.specs.components.Parts.{Part, Placed, parts, texts}
 use Rattle.typed_path.specs.views.TextViews.{utf8_bytes}
 use Rattle.typed_path.specs.views.ReadingViews.{reading_items, reading_slice, reading_parts}
 use Rattle.typed_path.specs.views.TextAncestorViews.{utf8_ancestors_left}

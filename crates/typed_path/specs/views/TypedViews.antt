@@ -2,21 +2,19 @@
 use Rattle.std.specs.Prelude.{ℕ, List}
 use Rattle.typed_path.specs.declared.common.encoding.Encoding.{Ghosts}
 use Rattle.typed_path.specs.declared.common.path.Path.{Path}
-use Rattle.typed_path.specs.declared.common.components.Iter.{Iter}
+use Rattle.typed_path.specs.declared.common.components.Reading.{Reading}
 use Rattle.typed_path.specs.declared.common.components.Ancestors.{Ancestors}
 use Rattle.typed_path.specs.declared.common.texts.Display.{Display}
-use Rattle.typed_path.specs.declared.common.component.ConcreteComponents.{ConcreteComponents}
 use Rattle.typed_path.specs.declared.unix.component.UnixComponent.{UnixComponent}
 use Rattle.typed_path.specs.declared.windows.component.WindowsComponent.{WindowsComponent}
 use Rattle.typed_path.specs.declared.typed.variant.Typed.{Typed}
 use Rattle.typed_path.specs.declared.typed.variant.Typed.TheVariants.{Unix, Windows}
 use Rattle.typed_path.specs.declared.typed.reading.TypedReading.{TypedReading}
 use Rattle.typed_path.specs.declared.typed.reading.TypedReading.TheVariants as reading
-use Rattle.typed_path.specs.components.Dialect.{Dialect, unix, windows}
-use Rattle.typed_path.specs.components.Part.{Part, Placed, parts}
+use Rattle.typed_path.specs.components.Dialects.{Dialect, unix, windows}
+use Rattle.typed_path.specs.components.Parts.{Part, Placed, parts}
 use Rattle.typed_path.specs.views.OwnedViews.{Owned}
-use Rattle.typed_path.specs.views.PathViews.{path_bytes, iter_items, iter_slice, iter_texts, ancestors_left, displayed}
-use Rattle.typed_path.specs.views.ConcreteViews.{concrete_items, concrete_slice}
+use Rattle.typed_path.specs.views.PathViews.{path_bytes, components_items, components_slice, iter_texts, ancestors_left, displayed}
 use Rattle.typed_path.specs.views.UnixViews.{unix_part}
 use Rattle.typed_path.specs.views.WindowsViews.{windows_part}
 
@@ -39,20 +37,20 @@ typed_part (Unix c) = unix_part c
 typed_part (Windows c) = windows_part c
 
 -- the components whose texts are left, each with its place, the slice left, and the texts
-abbrev pub typed_iter_items : {T V : Type 0} → Typed (Iter T) (Iter V) → List Placed
-typed_iter_items (Unix i) = iter_items i
-typed_iter_items (Windows i) = iter_items i
+abbrev pub typed_iter_items : {T V I J : Type 0} {e : Ghosts T} {f : Ghosts V} → Typed (Reading T I e) (Reading V J f) → List Placed
+typed_iter_items (Unix i) = components_items i
+typed_iter_items (Windows i) = components_items i
 
-abbrev pub typed_iter_slice : {T V : Type 0} → Typed (Iter T) (Iter V) → List ℕ
-typed_iter_slice (Unix i) = iter_slice i
-typed_iter_slice (Windows i) = iter_slice i
+abbrev pub typed_iter_slice : {T V I J : Type 0} {e : Ghosts T} {f : Ghosts V} → Typed (Reading T I e) (Reading V J f) → List ℕ
+typed_iter_slice (Unix i) = components_slice i
+typed_iter_slice (Windows i) = components_slice i
 
-abbrev pub typed_iter_texts : {T V : Type 0} → Typed (Iter T) (Iter V) → List (List ℕ)
+abbrev pub typed_iter_texts : {T V I J : Type 0} {e : Ghosts T} {f : Ghosts V} → Typed (Reading T I e) (Reading V J f) → List (List ℕ)
 typed_iter_texts (Unix i) = iter_texts i
 typed_iter_texts (Windows i) = iter_texts i
 
 -- the texts that are still to come
-abbrev pub typed_ancestors_left : {T V : Type 0} → Typed (Ancestors T) (Ancestors V) → List (List ℕ)
+abbrev pub typed_ancestors_left : {T V : Type 0} {e : Ghosts T} {f : Ghosts V} → Typed (Ancestors T e) (Ancestors V f) → List (List ℕ)
 typed_ancestors_left (Unix a) = ancestors_left a
 typed_ancestors_left (Windows a) = ancestors_left a
 
@@ -66,13 +64,13 @@ reading_dialect (reading.Unix u) = unix
 reading_dialect (reading.Windows w) = windows
 
 -- the components left, each with its place, and the slice left
-abbrev pub typed_items : {T V : Type 0} {e : Ghosts T} {f : Ghosts V} → TypedReading (ConcreteComponents T e) (ConcreteComponents V f) → List Placed
-typed_items (reading.Unix r) = concrete_items r
-typed_items (reading.Windows r) = concrete_items r
+abbrev pub typed_items : {T V I J : Type 0} {e : Ghosts T} {f : Ghosts V} → TypedReading (Reading T I e) (Reading V J f) → List Placed
+typed_items (reading.Unix r) = components_items r
+typed_items (reading.Windows r) = components_items r
 
-abbrev pub typed_slice : {T V : Type 0} {e : Ghosts T} {f : Ghosts V} → TypedReading (ConcreteComponents T e) (ConcreteComponents V f) → List ℕ
-typed_slice (reading.Unix r) = concrete_slice r
-typed_slice (reading.Windows r) = concrete_slice r
+abbrev pub typed_slice : {T V I J : Type 0} {e : Ghosts T} {f : Ghosts V} → TypedReading (Reading T I e) (Reading V J f) → List ℕ
+typed_slice (reading.Unix r) = components_slice r
+typed_slice (reading.Windows r) = components_slice r
 
-abbrev pub typed_parts : {T V : Type 0} {e : Ghosts T} {f : Ghosts V} → TypedReading (ConcreteComponents T e) (ConcreteComponents V f) → List Part
+abbrev pub typed_parts : {T V I J : Type 0} {e : Ghosts T} {f : Ghosts V} → TypedReading (Reading T I e) (Reading V J f) → List Part
 typed_parts r = parts (typed_items r)

@@ -3,8 +3,8 @@ use Rattle.std.specs.Prelude.{◌≡◌, ◌⊎◌, ◌<◌, List, [], ◌∷◌
 use Rattle.std.specs.Borrow.{Bor}
 use Rattle.typed_path.specs.declared.unix.component.UnixComponent.{UnixComponent}
 use Rattle.typed_path.specs.declared.unix.component.UnixComponent.TheVariants.{RootDir, CurDir, ParentDir, Normal}
-use Rattle.typed_path.specs.components.Dialect.{unix, slash}
-use Rattle.typed_path.specs.components.Part.{Part, root_part, current_part, parent_part, name_part}
+use Rattle.typed_path.specs.components.Dialects.{unix, slash}
+use Rattle.typed_path.specs.components.Parts.{Part, root_part, current_part, parent_part, name_part}
 use Rattle.typed_path.specs.components.Comps.{parts_of}
 
 abbrev pub unix_part : UnixComponent → Part

@@ -5,9 +5,9 @@ use Rattle.typed_path.specs.declared.scan.prefix.WindowsPrefix.{WindowsPrefix}
 use Rattle.typed_path.specs.declared.windows.component.WindowsPrefixComponent.{WindowsPrefixComponent}
 use Rattle.typed_path.specs.declared.windows.component.WindowsComponent.{WindowsComponent}
 use Rattle.typed_path.specs.declared.windows.component.WindowsComponent.TheVariants.{Prefix, RootDir, CurDir, ParentDir, Normal}
-use Rattle.typed_path.specs.components.Dialect.{windows, backslash}
-use Rattle.typed_path.specs.components.Part.{Part, prefix_part, root_part, current_part, parent_part, name_part}
-use Rattle.typed_path.specs.components.Prefix.{prefix_of}
+use Rattle.typed_path.specs.components.Dialects.{windows, backslash}
+use Rattle.typed_path.specs.components.Parts.{Part, prefix_part, root_part, current_part, parent_part, name_part}
+use Rattle.typed_path.specs.components.Prefixes.{prefix_of}
 use Rattle.typed_path.specs.components.Comps.{parts_of}
 use Rattle.typed_path.specs.views.PieceViews.{prefix_view}
 

@@ -1,42 +1,79 @@
-//! The components of a path.
+//! What is read of a path: its components from either end, as pieces, texts or values of their own, and
+//! the paths above it.
+//!
+//! `Reading` is the one struct for all of them, and `ReadAs` says what it gives for each component.
 
-ghost use Rattle.std.specs.Prelude.{◌≡◌};
-ghost use Rattle.typed_path.specs.views.PathViews.{ancestors_from, components_items, components_slice};
-ghost use Rattle.typed_path.specs.queries.Ancestry.{readings_behind};
+ghost use Rattle.std.specs.Prelude.{◌≡◌, ℕ, List, option_map, codes, ⊤, Some, drop, slice_get};
+ghost use Rattle.typed_path.specs.components.{Part, parts, Placed, end_of, kinds, written, as_written, comps};
+ghost use Rattle.typed_path.specs.views.CursorViews.{items_left};
+ghost use Rattle.typed_path.specs.views.PieceViews.{part_of};
+ghost use Rattle.typed_path.specs.views.Shown.{Shown, whole, text_alone};
+ghost use Rattle.typed_path.specs.scan.{last_of, but_last, slice_after_front, slice_after_back, first_part, last_part, LeavesFront, LeavesBack};
+ghost use Rattle.typed_path.specs.queries.{is_absolute, has_root, ancestors_of, readings_behind};
+ghost use Rattle.std.specs.Iterator.{YieldsFirstBy, item_count, YieldsLastBy};
 
 use crate::common::encoding::Encoding;
 use crate::common::path::Path;
 use crate::scan::{Cursor, Piece};
+use std::alloc::AllocError;
+use std::fmt;
 use std::iter::FusedIterator;
 use std::marker::PhantomData;
 
-/// The components of a path that are left to be read.
-#[derive_where(Clone, Copy)]
-pub struct Components<'a, T> {
+/// The components of a path that are left to be read, as what is to be given for each.
+pub struct Reading<'a, T: Encoding, I> {
     cursor: Cursor<'a>,
     encoding: PhantomData<T>,
+    item: PhantomData<I>,
+    ghost written: { parts (items_left cursor) ≡ as_written T.dialect (parts (items_left cursor)) },
 }
 
-impl<'a, T: Encoding> Components<'a, T> {
-    ghost use Rattle.std.specs.Prelude.{◌≡◌, drop, option_map, Some};
-    ghost use Rattle.typed_path.specs.scan.Left.{but_last, last_of, slice_after_front, slice_after_back};
-    ghost use Rattle.typed_path.specs.scan.Steps.{first_part, last_part};
-    ghost use Rattle.typed_path.specs.views.PieceViews.{part_of};
-    ghost use Rattle.typed_path.specs.views.CursorViews.{slice_left, items_left};
-    ghost use Rattle.typed_path.specs.components.Part.{Placed, end_of, kinds};
-    ghost use Rattle.typed_path.specs.queries.Queries.{is_absolute, has_root};
-    ghost use Rattle.typed_path.specs.views.PathViews.{components_items, components_slice, components_parts};
-    ghost use Rattle.typed_path.specs.views.ReversedViews.{reversed_source};
+/// The components of a path that are left to be read.
+pub type Components<'a, T> = Reading<'a, T, Pieces>;
 
-    /// The components that a reading has left.
+/// The texts of the components that are left to be read.
+pub type Iter<'a, T> = Reading<'a, T, Texts>;
+
+impl<'a, T: Encoding, I> Clone for Reading<'a, T, I> {
+    ghost is_clone = { λ reading copy. copy ≡ reading };
+
+    ghost is_infallible = { λ reading. ⊤ };
+
     #[inline(always)]
-    pub(crate) fn new(cursor: Cursor<'a>) -> Components<'a, T>
-        ensures items { components_items result ≡ items_left cursor.entry }
-        ensures slice { components_slice result ≡ slice_left cursor.entry }
+    fn clone(&self) -> Result<Reading<'a, T, I>, AllocError> {
+        Ok(*self)
+    }
+}
+
+impl<'a, T: Encoding, I> Copy for Reading<'a, T, I> {}
+
+impl<'a, T: Encoding, I> Reading<'a, T, I> {
+    ghost use Rattle.typed_path.specs.views.CursorViews.{slice_left};
+    ghost use Rattle.typed_path.specs.views.PathViews.{path_bytes, components_items, components_slice, components_parts};
+
+    /// The components of a path, from either end.
+    #[inline(always)]
+    pub fn new(path: Path<'a, T>) -> Reading<'a, T, I>
+        ensures items { components_items result ≡ comps T.dialect (path_bytes path.entry) }
+        ensures slice { components_slice result ≡ path_bytes path.entry }
     {
-        Components {
-            cursor,
+        Reading {
+            cursor: T::cursor(path.as_bytes()),
             encoding: PhantomData,
+            item: PhantomData,
+        }
+    }
+
+    /// The same components, as what else is to be given for each.
+    #[inline(always)]
+    pub(crate) fn read_as<J>(self) -> Reading<'a, T, J>
+        ensures items { components_items result ≡ components_items self.entry }
+        ensures slice { components_slice result ≡ components_slice self.entry }
+    {
+        Reading {
+            cursor: self.cursor,
+            encoding: PhantomData,
+            item: PhantomData,
         }
     }
 
@@ -47,36 +84,6 @@ impl<'a, T: Encoding> Components<'a, T> {
         ensures slice { slice_left result ≡ components_slice self.entry }
     {
         self.cursor
-    }
-
-    /// Takes the first component that is left. It answers none for good once all are taken.
-    #[inline(always)]
-    pub fn next(&mut self) -> Option<Piece<'a>>
-        ensures taken { option_map part_of result ≡ first_part (components_items self.old) }
-        ensures items { components_items self.new ≡ drop 1 (components_items self.old) }
-        ensures slice { components_slice self.new
-            ≡ slice_after_front (components_items self.old) (components_slice self.old) }
-    {
-        T::front(&mut self.cursor)
-    }
-
-    /// Takes the last component that is left. It answers none for good once all are taken.
-    #[inline(always)]
-    pub fn next_back(&mut self) -> Option<Piece<'a>>
-        ensures taken { option_map part_of result ≡ last_part (components_items self.old) }
-        ensures items { components_items self.new ≡ but_last (components_items self.old) }
-        ensures slice { components_slice self.new
-            ≡ slice_after_back (components_items self.old) (components_slice self.old) }
-    {
-        T::back(&mut self.cursor)
-    }
-
-    /// The components that are left, from the last to the first.
-    #[inline(always)]
-    pub fn rev(self) -> Reversed<Components<'a, T>>
-        ensures { reversed_source result ≡ self.entry }
-    {
-        Reversed::new(self)
     }
 
     /// The slice left: from the first component that is left to the end of the last.
@@ -115,157 +122,188 @@ impl<'a, T: Encoding> Components<'a, T> {
     }
 }
 
-impl<'a, T: Encoding> Iterator for Components<'a, T> {
-    ghost use Rattle.std.specs.Iterator.{YieldsFirstBy, item_count};
-    ghost use Rattle.typed_path.specs.scan.Steps.{LeavesFront};
-    ghost use Rattle.typed_path.specs.views.PathViews.{components_items, components_slice, components_parts};
-    ghost use Rattle.typed_path.specs.views.PieceViews.{part_of};
-
-    type Item = Piece<'a>;
-
-    ghost next_gives = { λ s piece t. YieldsFirstBy part_of components_parts s piece t
-        × LeavesFront components_items components_slice s t };
-
-    ghost remaining = { item_count components_parts };
-
-    #[inline(always)]
-    fn next(&mut self) -> Option<Piece<'a>> {
-        Components::next(self)
-    }
-}
-
-impl<'a, T: Encoding> DoubleEndedIterator for Components<'a, T> {
-    ghost use Rattle.std.specs.Iterator.{YieldsLastBy};
-    ghost use Rattle.typed_path.specs.scan.Steps.{LeavesBack};
-    ghost use Rattle.typed_path.specs.views.PathViews.{components_items, components_slice, components_parts};
-    ghost use Rattle.typed_path.specs.views.PieceViews.{part_of};
-
-    ghost next_back_gives = { λ s piece t. YieldsLastBy part_of components_parts s piece t
-        × LeavesBack components_items components_slice s t };
-
-    #[inline(always)]
-    fn next_back(&mut self) -> Option<Piece<'a>> {
-        Components::next_back(self)
-    }
-}
-
-impl<'a, T: Encoding> FusedIterator for Components<'a, T> {}
-
-/// The texts of the components that are left to be read.
-#[derive_where(Clone, Copy)]
-#[derive_where(PartialEq, Eq, PartialOrd, Ord; T: Encoding)]
-pub struct Iter<'a, T> {
-    components: Components<'a, T>,
-}
-
-impl<'a, T: Encoding> Iter<'a, T> {
-    ghost use Rattle.std.specs.Prelude.{◌≡◌, drop, option_map, option_copied};
-    ghost use Rattle.typed_path.specs.scan.Left.{but_last, slice_after_front, slice_after_back};
-    ghost use Rattle.typed_path.specs.views.PathViews.{path_bytes, iter_components, iter_items, iter_slice};
+impl<'a, T: Encoding, I: ReadAs<'a, T>> Reading<'a, T, I> {
+    ghost use Rattle.typed_path.specs.views.PathViews.{components_items, components_slice};
     ghost use Rattle.typed_path.specs.views.ReversedViews.{reversed_source};
-    ghost use Rattle.typed_path.specs.scan.Steps.{first_part, last_part};
 
-    /// The texts of the components that are left.
+    /// Takes the first component that is left. It answers none for good once all are taken.
     #[inline(always)]
-    pub(crate) fn new(components: Components<'a, T>) -> Iter<'a, T>
-        ensures { iter_components result ≡ components.entry }
+    pub fn next(&mut self) -> Option<I::Item>
+        ensures taken { option_map I.seen result
+            ≡ I.shown.of_option (first_part (components_items self.old)) }
+        ensures items { components_items self.new ≡ drop 1 (components_items self.old) }
+        ensures slice { components_slice self.new
+            ≡ slice_after_front (components_items self.old) (components_slice self.old) }
     {
-        Iter { components }
+        let piece = T::front(&mut self.cursor)?;
+        Some(I::from_piece(piece))
     }
 
-    /// Takes the text of the first component that is left.
+    /// Takes the last component that is left. It answers none for good once all are taken.
     #[inline(always)]
-    pub fn next(&mut self) -> Option<&'a [u8]>
-        ensures taken { option_copied result
-            ≡ option_map (λ p. p.text) (first_part (iter_items self.old)) }
-        ensures items { iter_items self.new ≡ drop 1 (iter_items self.old) }
-        ensures slice { iter_slice self.new
-            ≡ slice_after_front (iter_items self.old) (iter_slice self.old) }
+    pub fn next_back(&mut self) -> Option<I::Item>
+        ensures taken { option_map I.seen result
+            ≡ I.shown.of_option (last_part (components_items self.old)) }
+        ensures items { components_items self.new ≡ but_last (components_items self.old) }
+        ensures slice { components_slice self.new
+            ≡ slice_after_back (components_items self.old) (components_slice self.old) }
     {
-        let piece = self.components.next()?;
-        Some(piece.text)
+        let piece = T::back(&mut self.cursor)?;
+        Some(I::from_piece(piece))
     }
 
-    /// Takes the text of the last component that is left.
+    /// What is left, from the last to the first.
     #[inline(always)]
-    pub fn next_back(&mut self) -> Option<&'a [u8]>
-        ensures taken { option_copied result
-            ≡ option_map (λ p. p.text) (last_part (iter_items self.old)) }
-        ensures items { iter_items self.new ≡ but_last (iter_items self.old) }
-        ensures slice { iter_slice self.new
-            ≡ slice_after_back (iter_items self.old) (iter_slice self.old) }
-    {
-        let piece = self.components.next_back()?;
-        Some(piece.text)
-    }
-
-    /// The texts that are left, from the last to the first.
-    #[inline(always)]
-    pub fn rev(self) -> Reversed<Iter<'a, T>>
+    pub fn rev(self) -> Reversed<Reading<'a, T, I>>
         ensures { reversed_source result ≡ self.entry }
     {
         Reversed::new(self)
     }
+}
+
+impl<'a, T: Encoding, I: ReadAs<'a, T>> Iterator for Reading<'a, T, I> {
+    ghost use Rattle.typed_path.specs.views.PathViews.{components_items, components_slice, components_parts};
+
+    type Item = I::Item;
+
+    ghost next_gives = { λ s item t. YieldsFirstBy I.seen (λ r. I.shown.of_list (components_parts r)) s item t
+        × LeavesFront components_items components_slice s t };
+
+    ghost remaining = { item_count (λ r. I.shown.of_list (components_parts r)) };
+
+    #[inline(always)]
+    fn next(&mut self) -> Option<I::Item> {
+        Reading::next(self)
+    }
+}
+
+impl<'a, T: Encoding, I: ReadAs<'a, T>> DoubleEndedIterator for Reading<'a, T, I> {
+    ghost use Rattle.typed_path.specs.views.PathViews.{components_items, components_slice, components_parts};
+
+    ghost next_back_gives = { λ s item t. YieldsLastBy I.seen (λ r. I.shown.of_list (components_parts r)) s item t
+        × LeavesBack components_items components_slice s t };
+
+    #[inline(always)]
+    fn next_back(&mut self) -> Option<I::Item> {
+        Reading::next_back(self)
+    }
+}
+
+impl<'a, T: Encoding, I: ReadAs<'a, T>> FusedIterator for Reading<'a, T, I> {}
+
+impl<'a, T: Encoding> Reading<'a, T, Texts> {
+    ghost use Rattle.typed_path.specs.views.PathViews.{path_bytes, components_slice};
 
     /// The slice left, as a path.
     ///
     /// Of the Unix path `/a/b` it is `a/b` after one step from the front.
     pub fn as_path(self) -> Path<'a, T>
-        ensures { path_bytes result ≡ iter_slice self.entry }
+        ensures { path_bytes result ≡ components_slice self.entry }
     {
-        Path::new(self.components.as_bytes())
+        Path::new(self.as_bytes())
     }
 }
 
-impl<'a, T: Encoding> Iterator for Iter<'a, T> {
-    ghost use Rattle.std.specs.Iterator.{YieldsFirstRef, item_count};
-    ghost use Rattle.typed_path.specs.scan.Steps.{LeavesFront};
-    ghost use Rattle.typed_path.specs.views.PathViews.{iter_items, iter_slice, iter_texts};
+impl<'a, T: Encoding> Reading<'a, T, Values> {
+    ghost use Rattle.typed_path.specs.views.PathViews.{path_bytes, components_slice};
+
+    /// The slice left, as a path in the encoding that the caller names.
+    pub fn as_path<U: Encoding>(self) -> Path<'a, U>
+        ensures { path_bytes result ≡ components_slice self.entry }
+    {
+        Path::new(self.cursor.as_bytes())
+    }
+}
+
+/// What a reading gives for each component of a path.
+pub trait ReadAs<'a, T: Encoding> {
+    ghost Seen: { Type 0 };
+
+    ghost seen: { Self.Item → Seen };
+
+    ghost shown: { Shown Seen };
+
+    ghost named: { List ℕ };
+
+    /// The type of what is given.
+    type Item: Copy + fmt::Debug;
+
+    /// The name of the iterator.
+    fn iterator_name() -> &'static str
+        ensures { result.now ≡ named };
+
+    /// What is given for a piece.
+    fn from_piece(piece: Piece<'a>) -> Self::Item
+        requires { part_of piece ≡ written T.dialect (part_of piece) }
+        ensures { seen result ≡ shown.of (part_of piece.entry) };
+}
+
+/// Gives each component as a piece of the text.
+pub struct Pieces;
+
+impl<'a, T: Encoding> ReadAs<'a, T> for Pieces {
+    ghost Seen = { Part };
+
+    ghost seen = { part_of };
+
+    ghost shown = { whole };
+
+    ghost named = { codes "Components" };
+
+    type Item = Piece<'a>;
+
+    fn iterator_name() -> &'static str
+        ensures { result.now ≡ codes "Components" }
+    {
+        "Components"
+    }
+
+    #[inline(always)]
+    fn from_piece(piece: Piece<'a>) -> Piece<'a> {
+        piece
+    }
+}
+
+/// Gives the text of each component.
+pub struct Texts;
+
+impl<'a, T: Encoding> ReadAs<'a, T> for Texts {
+    ghost Seen = { List ℕ };
+
+    ghost seen = { λ text. text.now };
+
+    ghost shown = { text_alone };
+
+    ghost named = { codes "Iter" };
 
     type Item = &'a [u8];
 
-    ghost next_gives = { λ s text t. YieldsFirstRef iter_texts s text t
-        × LeavesFront iter_items iter_slice s t };
-
-    ghost remaining = { item_count iter_texts };
+    fn iterator_name() -> &'static str
+        ensures { result.now ≡ codes "Iter" }
+    {
+        "Iter"
+    }
 
     #[inline(always)]
-    fn next(&mut self) -> Option<&'a [u8]> {
-        let piece = Iterator::next(&mut self.components)?;
-        Some(piece.text)
+    fn from_piece(piece: Piece<'a>) -> &'a [u8] {
+        piece.text
     }
 }
 
-impl<'a, T: Encoding> DoubleEndedIterator for Iter<'a, T> {
-    ghost use Rattle.std.specs.Iterator.{YieldsLastRef};
-    ghost use Rattle.typed_path.specs.scan.Steps.{LeavesBack};
-    ghost use Rattle.typed_path.specs.views.PathViews.{iter_items, iter_slice, iter_texts};
-
-    ghost next_back_gives = { λ s text t. YieldsLastRef iter_texts s text t
-        × LeavesBack iter_items iter_slice s t };
-
-    #[inline(always)]
-    fn next_back(&mut self) -> Option<&'a [u8]> {
-        let piece = DoubleEndedIterator::next_back(&mut self.components)?;
-        Some(piece.text)
-    }
-}
-
-impl<'a, T: Encoding> FusedIterator for Iter<'a, T> {}
+/// Gives each component as a value of its encoding's own type.
+pub struct Values;
 
 /// A path, and then each parent of the one before.
 ///
 /// They are what is left of one reading from the back, so the prefix is read once.
 #[derive_where(Clone, Copy)]
-pub struct Ancestors<'a, T> {
+pub struct Ancestors<'a, T: Encoding> {
     rest: Components<'a, T>,
     done: bool,
 }
 
 impl<'a, T: Encoding> Ancestors<'a, T> {
-    ghost use Rattle.std.specs.Prelude.{◌≡◌, option_map, slice_get};
-    ghost use Rattle.typed_path.specs.views.PathViews.{path_bytes, ancestors_left};
-    ghost use Rattle.typed_path.specs.queries.Ancestry.{ancestors_of};
+    ghost use Rattle.typed_path.specs.views.PathViews.{path_bytes, components_items, components_slice, ancestors_from, ancestors_left};
 
     /// The path and those above it.
     #[inline(always)]
@@ -287,22 +325,21 @@ impl<'a, T: Encoding> Ancestors<'a, T> {
         }
         Some(Path::new(self.rest.as_bytes()))
     }
-}
 
-/// Takes the last component of a reading, and answers whether nothing is above it.
-#[inline(always)]
-fn take_last<T: Encoding>(rest: &mut Components<'_, T>) -> bool
-    ensures { ancestors_from result rest.new
-        ≡ readings_behind (components_items rest.old) (components_slice rest.old) }
-{
-    match rest.next_back() {
-        Some(last) => last.is_root(),
-        None => true,
+    /// Takes the last component of a reading, and answers whether nothing is above it.
+    #[inline(always)]
+    fn take_last(rest: &mut Components<'a, T>) -> bool
+        ensures { ancestors_from result rest.new
+            ≡ readings_behind (components_items rest.old) (components_slice rest.old) }
+    {
+        match rest.next_back() {
+            Some(last) => last.is_root(),
+            None => true,
+        }
     }
 }
 
 impl<'a, T: Encoding> Iterator for Ancestors<'a, T> {
-    ghost use Rattle.std.specs.Iterator.{YieldsFirstBy, item_count};
     ghost use Rattle.typed_path.specs.views.PathViews.{path_bytes, ancestors_left};
 
     type Item = Path<'a, T>;
@@ -317,7 +354,7 @@ impl<'a, T: Encoding> Iterator for Ancestors<'a, T> {
             return None;
         }
         let path = Path::new(self.rest.as_bytes());
-        self.done = take_last(&mut self.rest);
+        self.done = Ancestors::take_last(&mut self.rest);
         Some(path)
     }
 }
@@ -331,7 +368,6 @@ pub struct Reversed<I> {
 }
 
 impl<I: DoubleEndedIterator> Reversed<I> {
-    ghost use Rattle.std.specs.Prelude.{◌≡◌};
     ghost use Rattle.typed_path.specs.views.ReversedViews.{reversed_source};
 
     /// What an iterator has left, from its end.

@@ -1,29 +1,22 @@
 //! What every encoding of paths can do.
 
-ghost use Rattle.std.specs.Prelude.{◌≡◌, ◌≤◌, ◌<◌, Bool, ◌+◌, ◌++◌, length, fold, ℕ, List, drop, take, option_map, IsSome, Some, None, true, IsOk, IfOk, IfSome, OnOk, OnErr};
+ghost use Rattle.std.specs.Prelude.{◌≡◌, ◌≤◌, ◌<◌, Bool, ◌+◌, ◌++◌, length, fold, ℕ, List, drop, take, option_map, IsSome, Some, None, IsOk, IfOk, IfSome, OnOk, OnErr};
 ghost use Rattle.std.specs.Vec.{vec_len, vec_capacity};
-ghost use Rattle.typed_path.specs.changes.Checked.{refusal, error_of};
-ghost use Rattle.typed_path.specs.promises.Promises.{HasPrefixOf, LiesWithin};
-ghost use Rattle.typed_path.specs.components.Dialect.{Dialect, root_of, label_of};
-ghost use Rattle.typed_path.specs.components.Comps.{comps, parts_of};
-ghost use Rattle.typed_path.specs.scan.Left.{but_last, slice_after_front, slice_after_back};
-ghost use Rattle.typed_path.specs.scan.Steps.{first_part, last_part};
+ghost use Rattle.typed_path.specs.changes.{refusal, error_of, FitsPush, IsKnown, fault};
+ghost use Rattle.typed_path.specs.promises.{HasPrefixOf, LiesWithin};
+ghost use Rattle.typed_path.specs.components.{Dialect, root_of, label_of, comps, parts_of, kinds, parts};
+ghost use Rattle.typed_path.specs.scan.{but_last, slice_after_front, slice_after_back, first_part, last_part};
 ghost use Rattle.typed_path.specs.views.PieceViews.{part_of};
-ghost use Rattle.typed_path.specs.views.CursorViews.{slice_left, items_left, cursor_text};
-ghost use Rattle.typed_path.specs.components.Part.{kinds, parts};
-ghost use Rattle.typed_path.specs.queries.Queries.{is_absolute, has_root, is_valid_name, is_valid, stripped};
-ghost use Rattle.typed_path.specs.places.Places.{normal_text};
-ghost use Rattle.typed_path.specs.places.Rows.{HasPlainNames};
+ghost use Rattle.typed_path.specs.views.CursorViews.{slice_left, items_left};
+ghost use Rattle.typed_path.specs.queries.{is_absolute, has_root, is_valid_name, is_valid, stripped};
+ghost use Rattle.typed_path.specs.places.{normal_text, HasPlainNames};
 ghost use Rattle.typed_path.specs.changes.Push as push_spec;
-ghost use Rattle.typed_path.specs.changes.Push.{FitsPush};
-ghost use Rattle.typed_path.specs.changes.Spelled.{IsKnown};
-ghost use Rattle.typed_path.specs.changes.Fault.{fault};
 ghost use Rattle.typed_path.specs.order.Words.{path_words};
 
 use crate::common::order::{feed, feed_prefix};
 use crate::errors::{CheckedPathError, PathError};
 use crate::scan::{Cursor, Piece};
-use std::alloc::{AllocError, Global};
+use std::alloc::AllocError;
 use std::hash::Hasher;
 
 /// A way of writing paths.
@@ -44,42 +37,6 @@ pub trait Encoding: Sized {
     /// How the root is written where a path is put together.
     fn root_text() -> &'static [u8]
         ensures { result.now ≡ root_of dialect };
-
-    /// A reading of the components of a text.
-    fn cursor(path: &[u8]) -> Cursor<'_>
-        ensures items { items_left result ≡ comps dialect path.now }
-        ensures slice { slice_left result ≡ path.now }
-        ensures text { cursor_text result ≡ path.now };
-
-    /// Takes the first component that is left, with the separators behind it.
-    fn front<'a>(cursor: &mut Cursor<'a>) -> Option<Piece<'a>>
-        ensures taken { option_map part_of result ≡ first_part (items_left cursor.old) }
-        ensures items { items_left cursor.new ≡ drop 1 (items_left cursor.old) }
-        ensures slice { slice_left cursor.new
-            ≡ slice_after_front (items_left cursor.old) (slice_left cursor.old) };
-
-    /// Takes the last component that is left, with the separators before it.
-    fn back<'a>(cursor: &mut Cursor<'a>) -> Option<Piece<'a>>
-        ensures taken { option_map part_of result ≡ last_part (items_left cursor.old) }
-        ensures items { items_left cursor.new ≡ but_last (items_left cursor.old) }
-        ensures slice { slice_left cursor.new
-            ≡ slice_after_back (items_left cursor.old) (slice_left cursor.old) };
-
-    /// Whether the components that are left begin an absolute path.
-    fn absolute(cursor: &Cursor<'_>) -> bool
-        ensures { result ≡ is_absolute dialect (kinds (parts (items_left cursor.now))) };
-
-    /// Whether the components that are left begin with a root, written or implied by a prefix.
-    fn rooted(cursor: &Cursor<'_>) -> bool
-        ensures { result ≡ has_root dialect (kinds (parts (items_left cursor.now))) };
-
-    /// What is left of a path behind a base, where the bytes of the two tell, with no reading of
-    /// either. None says nothing.
-    fn behind<'a>(path: &'a [u8], base: &[u8]) -> Option<&'a [u8]>
-        ensures { IfSome result (λ rest. stripped dialect path.now base.now ≡ Some rest.now) }
-    {
-        None
-    }
 
     /// Whether the encoding allows a name.
     fn valid(name: &[u8]) -> bool
@@ -104,16 +61,21 @@ pub trait Encoding: Sized {
         state.write_usize(len);
     }
 
-    /// Cuts a path to its first bytes, and pushes another onto what is left. Where memory is
-    /// refused, the path is as it was.
-    fn push_over(path: &mut Vec<u8>, kept: usize, other: &[u8]) -> Result<(), AllocError>
-        ensures ok { OnOk result
-            (path.new.items ≡ push_spec.push dialect (take kept path.old.items) other.now) }
-        ensures err { OnErr result (path.new.items ≡ path.old.items) }
-        ensures capacity { vec_capacity path.old ≤ vec_capacity path.new }
-        ensures succeeds { FitsPush dialect (vec_capacity path.old)
-            (take kept path.old.items) other.now
-            → IsOk result };
+    /// Judges a path that is to be pushed, on its own: it is refused for its first component that
+    /// offends. A path that is not refused lies within each base that it is pushed onto, where the
+    /// result has the prefix of that base. It always has for the bases that `keeps_prefix` lists.
+    ///
+    /// # Errors
+    ///
+    /// The first component that offends says which: `UnexpectedPrefix`, `UnexpectedRoot`,
+    /// `PathTraversalAttack` for a `..` that no earlier name makes up for, as in `a/../..`, or
+    /// `InvalidFilename`.
+    fn check(path: &[u8]) -> Result<(), CheckedPathError>
+        ensures refused { error_of result ≡ fault dialect path.now }
+        ensures prefix { OnOk result
+            ((base : List ℕ) → HasPrefixOf dialect base (push_spec.push dialect base path.now)) }
+        ensures contained { OnOk result ((base : List ℕ)
+            → LiesWithin dialect base path.now (push_spec.push dialect base path.now)) };
 
     /// Pushes a path onto another. Where memory is refused, the other is as it was.
     fn push(path: &mut Vec<u8>, other: &[u8]) -> Result<(), AllocError>
@@ -127,8 +89,74 @@ pub trait Encoding: Sized {
         Self::push_over(path, path.len(), other)
     }
 
-    /// Pushes a path onto the one that stands behind the first bytes of a text. Where memory is
-    /// refused, the text is as it was.
+    /// Pushes a path onto another, unless the path has a component that offends. Then, and where
+    /// memory is refused, the other is as it was.
+    fn push_checked(path: &mut Vec<u8>, other: &[u8]) -> Result<(), PathError>
+        ensures refused { refusal result ≡ fault dialect other.now }
+        ensures ok { OnOk result
+            (path.new.items ≡ push_spec.push dialect path.old.items other.now) }
+        ensures err { OnErr result (path.new.items ≡ path.old.items) }
+        ensures unchanged { IsSome (refusal result) → path.new ≡ path.old }
+        ensures capacity { vec_capacity path.old ≤ vec_capacity path.new }
+        ensures succeeds { fault dialect other.now ≡ None
+            → FitsPush dialect (vec_capacity path.old) path.old.items other.now → IsOk result }
+        ensures prefix { OnOk result (HasPrefixOf dialect path.old.items path.new.items) }
+        ensures contained { OnOk result
+            (LiesWithin dialect path.old.items other.now path.new.items) }
+    {
+        Self::check(other)?;
+        Ok(Self::push(path, other)?)
+    }
+
+    /// For encodings alone. A reading of the components of a text.
+    fn cursor(path: &[u8]) -> Cursor<'_>
+        ensures items { items_left result ≡ comps dialect path.now }
+        ensures slice { slice_left result ≡ path.now };
+
+    /// For encodings alone. Takes the first component that is left, with the separators behind it.
+    fn front<'a>(cursor: &mut Cursor<'a>) -> Option<Piece<'a>>
+        ensures taken { option_map part_of result ≡ first_part (items_left cursor.old) }
+        ensures items { items_left cursor.new ≡ drop 1 (items_left cursor.old) }
+        ensures slice { slice_left cursor.new
+            ≡ slice_after_front (items_left cursor.old) (slice_left cursor.old) };
+
+    /// For encodings alone. Takes the last component that is left, with the separators before it.
+    fn back<'a>(cursor: &mut Cursor<'a>) -> Option<Piece<'a>>
+        ensures taken { option_map part_of result ≡ last_part (items_left cursor.old) }
+        ensures items { items_left cursor.new ≡ but_last (items_left cursor.old) }
+        ensures slice { slice_left cursor.new
+            ≡ slice_after_back (items_left cursor.old) (slice_left cursor.old) };
+
+    /// For encodings alone. Whether the components that are left begin an absolute path.
+    fn absolute(cursor: &Cursor<'_>) -> bool
+        ensures { result ≡ is_absolute dialect (kinds (parts (items_left cursor.now))) };
+
+    /// For encodings alone. Whether the components that are left begin with a root, written or implied
+    /// by a prefix.
+    fn rooted(cursor: &Cursor<'_>) -> bool
+        ensures { result ≡ has_root dialect (kinds (parts (items_left cursor.now))) };
+
+    /// For encodings alone. What is left of a path behind a base, where the bytes of the two tell,
+    /// with no reading of either. None says nothing.
+    fn behind<'a>(path: &'a [u8], base: &[u8]) -> Option<&'a [u8]>
+        ensures { IfSome result (λ rest. stripped dialect path.now base.now ≡ Some rest.now) }
+    {
+        None
+    }
+
+    /// For encodings alone. Cuts a path to its first bytes, and pushes another onto what is left.
+    /// Where memory is refused, the path is as it was.
+    fn push_over(path: &mut Vec<u8>, kept: usize, other: &[u8]) -> Result<(), AllocError>
+        ensures ok { OnOk result
+            (path.new.items ≡ push_spec.push dialect (take kept path.old.items) other.now) }
+        ensures err { OnErr result (path.new.items ≡ path.old.items) }
+        ensures capacity { vec_capacity path.old ≤ vec_capacity path.new }
+        ensures succeeds { FitsPush dialect (vec_capacity path.old)
+            (take kept path.old.items) other.now
+            → IsOk result };
+
+    /// For encodings alone. Pushes a path onto the one that stands behind the first bytes of a text.
+    /// Where memory is refused, the text is as it was.
     fn push_behind(text: &mut Vec<u8>, start: usize, other: &[u8]) -> Result<(), AllocError>
         ensures ok { OnOk result (text.new.items ≡ take start text.old.items
             ++ push_spec.push dialect (drop start text.old.items) other.now) }
@@ -141,9 +169,9 @@ pub trait Encoding: Sized {
         Ok(())
     }
 
-    /// Pushes a path onto the one that stands behind the first bytes of a text, of which something may
-    /// be known, and answers what is known of what stands there then. Where memory is refused, the text
-    /// is as it was.
+    /// For encodings alone. Pushes a path onto the one that stands behind the first bytes of a text,
+    /// of which something may be known, and answers what is known of what stands there then. Where
+    /// memory is refused, the text is as it was.
     ///
     /// What may be known is how many bytes the prefix takes of a Windows path that a push spells as it
     /// stands; nothing is known of another. So paths that are pushed one by one need not read what stands
@@ -166,10 +194,10 @@ pub trait Encoding: Sized {
             → IsKnown dialect known (drop start text.old.items)
             → FitsPush dialect room (drop start text.old.items) other.now → IsOk result };
 
-    /// Puts the normal text of a path behind a text: what its list resolves to, pushed one by one
-    /// onto the empty path. Where memory is refused, the text is as it was. Where there is room for
-    /// the whole path and a byte more behind the text, it succeeds for each path whose names are put
-    /// one behind the other.
+    /// For encodings alone. Puts the normal text of a path behind a text: what its list resolves to,
+    /// pushed one by one onto the empty path. Where memory is refused, the text is as it was. Where
+    /// there is room for the whole path and a byte more behind the text, it succeeds for each path
+    /// whose names are put one behind the other.
     fn put_normal(text: &mut Vec<u8>, path: &[u8]) -> Result<(), AllocError>
         ensures ok { OnOk result (text.new.items ≡ text.old.items ++ normal_text dialect path.now) }
         ensures err { OnErr result (text.new.items ≡ text.old.items) }
@@ -177,48 +205,4 @@ pub trait Encoding: Sized {
         ensures succeeds { HasPlainNames dialect path.now
             → vec_len text.old + length path.now < vec_capacity text.old
             → IsOk result };
-
-    /// The normal text of a path, in room for one byte more than the path has.
-    fn normal(alloc: Global, path: &[u8]) -> Result<Vec<u8>, AllocError>
-        ensures { IfOk result (λ text. text.items ≡ normal_text dialect path.now) }
-    {
-        let mut text = Vec::with_capacity(alloc, path.len() + 1)?;
-        Self::put_normal(&mut text, path)?;
-        Ok(text)
-    }
-
-    /// Judges a path that is to be pushed, on its own: it is refused for its first component that
-    /// offends. A path that is not refused lies within each base that it is pushed onto, where the
-    /// result has the prefix of that base. It always has for the bases that `keeps_prefix` lists.
-    ///
-    /// # Errors
-    ///
-    /// The first component that offends says which: `UnexpectedPrefix`, `UnexpectedRoot`,
-    /// `PathTraversalAttack` for a `..` that no earlier name makes up for, as in `a/../..`, or
-    /// `InvalidFilename`.
-    fn check(path: &[u8]) -> Result<(), CheckedPathError>
-        ensures refused { error_of result ≡ fault dialect path.now }
-        ensures prefix { OnOk result
-            ((base : List ℕ) → HasPrefixOf dialect base (push_spec.push dialect base path.now)) }
-        ensures contained { OnOk result ((base : List ℕ)
-            → LiesWithin dialect base path.now (push_spec.push dialect base path.now)) };
-
-    /// Pushes a path onto another, unless the path has a component that offends. Then, and where
-    /// memory is refused, the other is as it was.
-    fn push_checked(path: &mut Vec<u8>, other: &[u8]) -> Result<(), PathError>
-        ensures refused { refusal result ≡ fault dialect other.now }
-        ensures ok { OnOk result
-            (path.new.items ≡ push_spec.push dialect path.old.items other.now) }
-        ensures err { OnErr result (path.new.items ≡ path.old.items) }
-        ensures unchanged { IsSome (refusal result) → path.new ≡ path.old }
-        ensures capacity { vec_capacity path.old ≤ vec_capacity path.new }
-        ensures succeeds { fault dialect other.now ≡ None
-            → FitsPush dialect (vec_capacity path.old) path.old.items other.now → IsOk result }
-        ensures prefix { OnOk result (HasPrefixOf dialect path.old.items path.new.items) }
-        ensures contained { OnOk result
-            (LiesWithin dialect path.old.items other.now path.new.items) }
-    {
-        Self::check(other)?;
-        Ok(Self::push(path, other)?)
-    }
 }

@@ -9,18 +9,16 @@ ghost use Rattle.std.specs.List.{flat_map};
 ghost use Rattle.std.specs.Ordering.{is_eq, on, as_partial_cmp};
 ghost use Rattle.std.specs.Cmp.{eq_by_cmp_equiv, on_total, partial_equiv_from_equiv, partial_order_from_total};
 ghost use Rattle.std.proofs.Common.{ap};
-ghost use Rattle.typed_path.specs.components.Part.{Prefix, Kind, prefix, kinds, parts};
-ghost use Rattle.typed_path.specs.components.Comps.{parts_of};
-ghost use Rattle.typed_path.specs.queries.Queries.{first_prefix};
-ghost use Rattle.typed_path.specs.order.Same.{kind_cmp, are_same_prefixes, kinds_cmp, is_same, left_same, path_cmp};
+ghost use Rattle.typed_path.specs.components.{Prefix, Kind, prefix, kinds, parts, parts_of};
+ghost use Rattle.typed_path.specs.queries.{first_prefix};
+ghost use Rattle.typed_path.specs.order.{kind_cmp, are_same_prefixes, kinds_cmp, is_same, left_same, path_cmp, path_cmp_total, same-kinds};
 ghost use Rattle.typed_path.specs.order.Words.{writes_of, words_before, kinds_words};
-ghost use Rattle.typed_path.specs.order.Laws.{path_cmp_total, same-kinds};
-ghost use Rattle.typed_path.specs.promises.Promises.{words_by_kind, fed_length};
+ghost use Rattle.typed_path.specs.promises.{words_by_kind, fed_length};
 ghost use Rattle.typed_path.specs.views.BodyViews.{body_items};
-ghost use Rattle.typed_path.specs.views.PieceViews.{prefix_view, step_part, step_place};
+ghost use Rattle.typed_path.specs.views.PieceViews.{prefix_view, step_part, step_rank};
 ghost use Rattle.typed_path.specs.views.PathViews.{path_bytes, components_slice};
 
-use crate::common::components::Components;
+use crate::common::components::Reading;
 use crate::common::encoding::Encoding;
 use crate::common::path::Path;
 use crate::common::path_buf::PathBuf;
@@ -28,90 +26,23 @@ use crate::scan::{Body, Step, StepKind, WindowsPrefix, bodies_behind_shared};
 use std::cmp::Ordering;
 use std::hash::{Hash, Hasher};
 
-/// The place of a kind among those that stand behind the prefix.
-#[inline(always)]
-fn place(kind: StepKind) -> u8
-    ensures { result ≡ step_place kind }
+/// Whether two texts have the same components. Where their bytes are equal, neither is read.
+#[inline]
+pub(crate) fn is_same<T: Encoding>(path: &[u8], other: &[u8]) -> bool
+    ensures { result ≡ is_same T.dialect path.now other.now }
 {
-    match kind {
-        StepKind::RootDir => 0,
-        StepKind::CurDir => 1,
-        StepKind::ParentDir => 2,
-        StepKind::Normal => 3,
-    }
+    path == other || have_same_components::<T>(path, other)
 }
 
-/// Whether two components are of one kind, with one name.
-#[inline(always)]
-fn is_same_step(step: Step<'_>, other: Step<'_>) -> bool
-    ensures { result ≡ is_eq (kind_cmp (step_part step.entry).kind (step_part other.entry).kind) }
+/// The order of two texts, by their components. Where their bytes are equal, neither is read.
+#[inline]
+pub(crate) fn compare<T: Encoding>(path: &[u8], other: &[u8]) -> Ordering
+    ensures { result ≡ path_cmp T.dialect path.now other.now }
 {
-    match (step.kind, other.kind) {
-        (StepKind::Normal, StepKind::Normal) => step.text == other.text,
-        (StepKind::RootDir, StepKind::RootDir)
-        | (StepKind::CurDir, StepKind::CurDir)
-        | (StepKind::ParentDir, StepKind::ParentDir) => true,
-        _ => false,
+    if path == other {
+        return Ordering::Equal;
     }
-}
-
-/// The order of two components: by kind, and then by name.
-#[inline(always)]
-fn compare_steps(step: Step<'_>, other: Step<'_>) -> Ordering
-    ensures { result ≡ kind_cmp (step_part step.entry).kind (step_part other.entry).kind }
-{
-    if let (StepKind::Normal, StepKind::Normal) = (step.kind, other.kind) {
-        return step.text.cmp(other.text);
-    }
-    place(step.kind).cmp(&place(other.kind))
-}
-
-/// The order of two prefixes: by kind, and then by names. How they are written is no part of it.
-#[inline(always)]
-fn compare_prefixes(own: WindowsPrefix<'_>, other: WindowsPrefix<'_>) -> Ordering
-    ensures { result
-        ≡ kind_cmp (prefix (prefix_view own.entry)) (prefix (prefix_view other.entry)) }
-{
-    own.cmp(&other)
-}
-
-/// Whether two paths have the same prefix, or both none.
-#[inline(always)]
-fn have_same_prefixes(own: Option<WindowsPrefix<'_>>, other: Option<WindowsPrefix<'_>>) -> bool
-    ensures { result ≡ are_same_prefixes (option_map prefix_view own.entry)
-        (option_map prefix_view other.entry) }
-{
-    match (own, other) {
-        (Some(own), Some(other)) => compare_prefixes(own, other).is_eq(),
-        (None, None) => true,
-        _ => false,
-    }
-}
-
-/// The order of a list that begins with a prefix and one that has none: it comes first, but for the
-/// empty list.
-fn order_of_prefixed(mut bare: Body<'_>) -> Ordering
-    ensures { (p : Prefix) (ks : List Kind)
-        → None ≡ first_prefix (kinds (parts (body_items bare.entry)))
-        → result ≡ kinds_cmp (prefix p ∷ ks) (kinds (parts (body_items bare.entry))) }
-{
-    match bare.front() {
-        Some(_) => Ordering::Less,
-        None => Ordering::Greater,
-    }
-}
-
-/// Whether two readings end alike: with the same component, which is taken, or with none.
-#[inline(always)]
-fn take_same_last(rest: &mut Body<'_>, wanted: &mut Body<'_>) -> bool
-    ensures { left_same (body_items rest.old) (body_items wanted.old)
-        ≡ (result && left_same (body_items rest.new) (body_items wanted.new)) }
-{
-    match (rest.back(), wanted.back()) {
-        (Some(own), Some(step)) => is_same_step(own, step),
-        (None, None) => true,
-        _ => false,
-    }
+    compare_components::<T>(path, other)
 }
 
 /// Whether two texts have the same components: the prefix first, then the last component, in which
@@ -176,23 +107,90 @@ fn compare_components<T: Encoding>(path: &[u8], other: &[u8]) -> Ordering
     }
 }
 
-/// Whether two texts have the same components. Where their bytes are equal, neither is read.
-#[inline]
-pub(crate) fn is_same<T: Encoding>(path: &[u8], other: &[u8]) -> bool
-    ensures { result ≡ is_same T.dialect path.now other.now }
+/// Whether two readings end alike: with the same component, which is taken, or with none.
+#[inline(always)]
+fn take_same_last(rest: &mut Body<'_>, wanted: &mut Body<'_>) -> bool
+    ensures { left_same (body_items rest.old) (body_items wanted.old)
+        ≡ (result && left_same (body_items rest.new) (body_items wanted.new)) }
 {
-    path == other || have_same_components::<T>(path, other)
+    match (rest.back(), wanted.back()) {
+        (Some(own), Some(step)) => is_same_step(own, step),
+        (None, None) => true,
+        _ => false,
+    }
 }
 
-/// The order of two texts, by their components. Where their bytes are equal, neither is read.
-#[inline]
-pub(crate) fn compare<T: Encoding>(path: &[u8], other: &[u8]) -> Ordering
-    ensures { result ≡ path_cmp T.dialect path.now other.now }
+/// The order of a list that begins with a prefix and one that has none: it comes first, but for the
+/// empty list.
+fn order_of_prefixed(mut bare: Body<'_>) -> Ordering
+    ensures { (p : Prefix) (ks : List Kind)
+        → None ≡ first_prefix (kinds (parts (body_items bare.entry)))
+        → result ≡ kinds_cmp (prefix p ∷ ks) (kinds (parts (body_items bare.entry))) }
 {
-    if path == other {
-        return Ordering::Equal;
+    match bare.front() {
+        Some(_) => Ordering::Less,
+        None => Ordering::Greater,
     }
-    compare_components::<T>(path, other)
+}
+
+/// Whether two paths have the same prefix, or both none.
+#[inline(always)]
+fn have_same_prefixes(own: Option<WindowsPrefix<'_>>, other: Option<WindowsPrefix<'_>>) -> bool
+    ensures { result ≡ are_same_prefixes (option_map prefix_view own.entry)
+        (option_map prefix_view other.entry) }
+{
+    match (own, other) {
+        (Some(own), Some(other)) => compare_prefixes(own, other).is_eq(),
+        (None, None) => true,
+        _ => false,
+    }
+}
+
+/// The order of two prefixes: by kind, and then by names. How they are written is no part of it.
+#[inline(always)]
+fn compare_prefixes(own: WindowsPrefix<'_>, other: WindowsPrefix<'_>) -> Ordering
+    ensures { result
+        ≡ kind_cmp (prefix (prefix_view own.entry)) (prefix (prefix_view other.entry)) }
+{
+    own.cmp(&other)
+}
+
+/// The order of two components: by kind, and then by name.
+#[inline(always)]
+fn compare_steps(step: Step<'_>, other: Step<'_>) -> Ordering
+    ensures { result ≡ kind_cmp (step_part step.entry).kind (step_part other.entry).kind }
+{
+    if let (StepKind::Normal, StepKind::Normal) = (step.kind, other.kind) {
+        return step.text.cmp(other.text);
+    }
+    kind_rank(step.kind).cmp(&kind_rank(other.kind))
+}
+
+/// Whether two components are of one kind, with one name.
+#[inline(always)]
+fn is_same_step(step: Step<'_>, other: Step<'_>) -> bool
+    ensures { result ≡ is_eq (kind_cmp (step_part step.entry).kind (step_part other.entry).kind) }
+{
+    match (step.kind, other.kind) {
+        (StepKind::Normal, StepKind::Normal) => step.text == other.text,
+        (StepKind::RootDir, StepKind::RootDir)
+        | (StepKind::CurDir, StepKind::CurDir)
+        | (StepKind::ParentDir, StepKind::ParentDir) => true,
+        _ => false,
+    }
+}
+
+/// The rank of a kind among those that stand behind the prefix.
+#[inline(always)]
+fn kind_rank(kind: StepKind) -> u8
+    ensures { result ≡ step_rank kind }
+{
+    match kind {
+        StepKind::RootDir => 0,
+        StepKind::CurDir => 1,
+        StepKind::ParentDir => 2,
+        StepKind::Normal => 3,
+    }
 }
 
 /// Feeds the prefix of a path to a hasher, where it has one: its kind and names.
@@ -211,7 +209,8 @@ pub(crate) fn feed_prefix<H: Hasher>(prefix: Option<WindowsPrefix<'_>>, state: &
 #[inline(always)]
 pub(crate) fn feed<H: Hasher>(step: Step<'_>, state: &mut H) -> usize
     ensures words { state.new ≡ fold H.write state.old
-        (flat_map writes_of (words_by_kind (step_part step.entry).text (step_part step.entry).kind)) }
+        (flat_map writes_of (words_by_kind (step_part step.entry).text
+        (step_part step.entry).kind)) }
     ensures counted { result ≡ fed_length (step_part step.entry).text (step_part step.entry).kind }
 {
     match step.kind {
@@ -249,7 +248,8 @@ impl<'a, T: Encoding> Path<'a, T> {
 impl<'a, T: Encoding> PartialEq for Path<'a, T> {
     ghost eq = { on path_bytes (is_same T.dialect) };
 
-    ghost laws = { partial_equiv_from_equiv (eq_by_cmp_equiv (on_total path_bytes (path_cmp_total T.dialect))) };
+    ghost laws = { partial_equiv_from_equiv
+        (eq_by_cmp_equiv (on_total path_bytes (path_cmp_total T.dialect))) };
 
     #[inline]
     fn eq(&self, other: &Path<'a, T>) -> bool {
@@ -291,7 +291,8 @@ impl<'a, T: Encoding> Ord for Path<'a, T> {
 impl<'a, T: Encoding> Hash for Path<'a, T> {
     ghost hash_input = { λ p. kinds_words (kinds (parts_of T.dialect (path_bytes p))) };
 
-    ghost respects_eq = { λ p q same. ap kinds_words (same-kinds T.dialect (path_bytes p) (path_bytes q) same) };
+    ghost respects_eq = { λ p q same. ap kinds_words
+        (same-kinds T.dialect (path_bytes p) (path_bytes q) same) };
 
     fn hash<H: Hasher>(&self, state: &mut H) {
         T::hash(self.as_bytes(), state);
@@ -302,7 +303,8 @@ impl<'a, T: Encoding> Hash for Path<'a, T> {
 impl<T: Encoding> PartialEq for PathBuf<T> {
     ghost eq = { on (λ p. p.bytes) (is_same T.dialect) };
 
-    ghost laws = { partial_equiv_from_equiv (eq_by_cmp_equiv (on_total (λ p. p.bytes) (path_cmp_total T.dialect))) };
+    ghost laws = { partial_equiv_from_equiv
+        (eq_by_cmp_equiv (on_total (λ p. p.bytes) (path_cmp_total T.dialect))) };
 
     #[inline]
     fn eq(&self, other: &PathBuf<T>) -> bool {
@@ -352,33 +354,35 @@ impl<T: Encoding> Hash for PathBuf<T> {
 }
 
 /// As the paths of the slices left, read anew: a half-read reading counts for what it has left.
-impl<'a, T: Encoding> PartialEq for Components<'a, T> {
+impl<'a, T: Encoding, I> PartialEq for Reading<'a, T, I> {
     ghost eq = { on components_slice (is_same T.dialect) };
 
-    ghost laws = { partial_equiv_from_equiv (eq_by_cmp_equiv (on_total components_slice (path_cmp_total T.dialect))) };
+    ghost laws = { partial_equiv_from_equiv
+        (eq_by_cmp_equiv (on_total components_slice (path_cmp_total T.dialect))) };
 
     #[inline]
-    fn eq(&self, other: &Components<'a, T>) -> bool {
+    fn eq(&self, other: &Reading<'a, T, I>) -> bool {
         is_same::<T>(self.as_bytes(), other.as_bytes())
     }
 }
 
-impl<'a, T: Encoding> Eq for Components<'a, T> {
+impl<'a, T: Encoding, I> Eq for Reading<'a, T, I> {
     ghost laws = { eq_by_cmp_equiv (on_total components_slice (path_cmp_total T.dialect)) };
 }
 
-impl<'a, T: Encoding> PartialOrd for Components<'a, T> {
+impl<'a, T: Encoding, I> PartialOrd for Reading<'a, T, I> {
     ghost partial_cmp = { as_partial_cmp (on components_slice (path_cmp T.dialect)) };
 
-    ghost laws = { partial_order_from_total (on_total components_slice (path_cmp_total T.dialect)) };
+    ghost laws = { partial_order_from_total
+        (on_total components_slice (path_cmp_total T.dialect)) };
 
     #[inline]
-    fn partial_cmp(&self, other: &Components<'a, T>) -> Option<Ordering> {
+    fn partial_cmp(&self, other: &Reading<'a, T, I>) -> Option<Ordering> {
         Some(self.cmp(other))
     }
 }
 
-impl<'a, T: Encoding> Ord for Components<'a, T> {
+impl<'a, T: Encoding, I> Ord for Reading<'a, T, I> {
     ghost cmp = { on components_slice (path_cmp T.dialect) };
 
     ghost total = { on_total components_slice (path_cmp_total T.dialect) };
@@ -388,7 +392,7 @@ impl<'a, T: Encoding> Ord for Components<'a, T> {
     ghost matches_eq = { λ p q. refl };
 
     #[inline]
-    fn cmp(&self, other: &Components<'a, T>) -> Ordering {
+    fn cmp(&self, other: &Reading<'a, T, I>) -> Ordering {
         compare::<T>(self.as_bytes(), other.as_bytes())
     }
 }

@@ -1,9 +1,17 @@
-//! A path that is lent.
+//! A path that is lent: what makes one, what it answers, and the owned paths that are made of it.
 
-use crate::common::components::{Ancestors, Components, Iter};
+ghost use Rattle.std.specs.Prelude.{◌≡◌, IfOk, not, ◌≤◌, length, option_map, option_copied, IfSome, [], IsOk};
+ghost use Rattle.typed_path.specs.places.{normal_text};
+ghost use Rattle.typed_path.specs.components.{kinds, comps, parts_of};
+ghost use Rattle.typed_path.specs.queries.{is_absolute, has_root, is_valid, parent_of, file_name_of, file_stem_of, stripped, path_starts_with, path_ends_with, ancestors_of, stripped_to};
+ghost use Rattle.typed_path.specs.scan.{last_part};
+ghost use Rattle.typed_path.specs.changes.{without_file_name, stem_end, with_file_name, with_extension, refusal, fault};
+ghost use Rattle.typed_path.specs.promises.{HasNormalForm, HasPrefixOf, LiesWithin, LiesBelow};
+
+use crate::common::components::{Ancestors, Components, Iter, Reading};
 use crate::common::encoding::Encoding;
-use crate::common::names::{dotted_len, put_extension, split_name};
 use crate::common::path_buf::PathBuf;
+use crate::common::writing::{dotted_len, put_extension, split_name};
 use crate::errors::{PathError, StripPrefixError};
 use crate::scan::Piece;
 use std::alloc::{AllocError, Global};
@@ -17,7 +25,6 @@ pub struct Path<'a, T> {
 }
 
 impl<'a, T> Path<'a, T> {
-    ghost use Rattle.std.specs.Prelude.{◌≡◌};
     ghost use Rattle.typed_path.specs.views.PathViews.{path_bytes};
 
     /// The path of these bytes, whatever they are.
@@ -41,33 +48,10 @@ impl<'a, T> Path<'a, T> {
 }
 
 impl<'a, T: Encoding> Path<'a, T> {
-    ghost use Rattle.std.specs.Prelude.{◌≡◌, not, ◌≤◌, length, option_map, option_copied, IfSome, IfOk, [], IsOk};
-    ghost use Rattle.typed_path.specs.components.Part.{kinds};
-    ghost use Rattle.typed_path.specs.components.Comps.{comps, parts_of};
-    ghost use Rattle.typed_path.specs.queries.Queries.{is_absolute, has_root, is_valid, parent_of, file_name_of, file_stem_of, extension, stripped, path_starts_with, path_ends_with};
-    ghost use Rattle.typed_path.specs.views.PathViews.{path_bytes, components_items, components_slice, iter_items, iter_slice, ancestors_left};
-    ghost use Rattle.typed_path.specs.scan.Steps.{last_part};
+    ghost use Rattle.typed_path.specs.queries.{extension};
+    ghost use Rattle.typed_path.specs.views.PathViews.{path_bytes, components_items, components_slice, ancestors_left};
     ghost use Rattle.typed_path.specs.views.PieceViews.{part_of};
-    ghost use Rattle.typed_path.specs.changes.Changes.{without_file_name, stem_end, with_file_name, with_extension};
-    ghost use Rattle.typed_path.specs.queries.Ancestry.{ancestors_of};
-    ghost use Rattle.typed_path.specs.queries.Strip.{stripped_to};
-    ghost use Rattle.typed_path.specs.places.Places.{normal_text};
-    ghost use Rattle.typed_path.specs.promises.Promises.{HasNormalForm, HasPrefixOf, LiesWithin};
-    ghost use Rattle.typed_path.specs.changes.Checked.{refusal};
-    ghost use Rattle.typed_path.specs.promises.Below.{LiesBelow};
-    ghost use Rattle.typed_path.specs.changes.Fault.{fault};
     ghost use Rattle.typed_path.specs.changes.Push as push_spec;
-
-    /// The components of the path, from either end.
-    ///
-    /// The Unix path `/a/./b//` has the root, `a` and `b`.
-    #[inline(always)]
-    pub fn components(self) -> Components<'a, T>
-        ensures items { components_items result ≡ comps T.dialect (path_bytes self.entry) }
-        ensures slice { components_slice result ≡ path_bytes self.entry }
-    {
-        Components::new(T::cursor(self.bytes))
-    }
 
     /// Whether the path leads to one place, whatever the current directory is.
     ///
@@ -105,12 +89,36 @@ impl<'a, T: Encoding> Path<'a, T> {
         T::valid_names(self.bytes)
     }
 
-    /// The last component.
+    /// The components of the path, from either end.
+    ///
+    /// The Unix path `/a/./b//` has the root, `a` and `b`.
     #[inline(always)]
-    fn last(self) -> Option<Piece<'a>>
-        ensures { option_map part_of result ≡ last_part (comps T.dialect (path_bytes self.entry)) }
+    pub fn components(self) -> Components<'a, T>
+        ensures items { components_items result ≡ comps T.dialect (path_bytes self.entry) }
+        ensures slice { components_slice result ≡ path_bytes self.entry }
     {
-        self.components().next_back()
+        Reading::new(self)
+    }
+
+    /// The texts of the components, from either end.
+    ///
+    /// Those of the Unix path `/a/./b` are `/`, `a` and `b`.
+    #[inline(always)]
+    pub fn iter(self) -> Iter<'a, T>
+        ensures items { components_items result ≡ comps T.dialect (path_bytes self.entry) }
+        ensures slice { components_slice result ≡ path_bytes self.entry }
+    {
+        Reading::new(self)
+    }
+
+    /// The path, and then each parent of the one before.
+    ///
+    /// Those of the Unix path `/a/b/.` are `/a/b/.`, `/a` and `/`.
+    #[inline(always)]
+    pub fn ancestors(self) -> Ancestors<'a, T>
+        ensures { ancestors_left result ≡ ancestors_of T.dialect (path_bytes self.entry) }
+    {
+        Ancestors::new(self)
     }
 
     /// The path without its last component, or none where there is no component or nothing is above
@@ -126,16 +134,6 @@ impl<'a, T: Encoding> Path<'a, T> {
             return None;
         }
         Some(Path::new(components.as_bytes()))
-    }
-
-    /// The path, and then each parent of the one before.
-    ///
-    /// Those of the Unix path `/a/b/.` are `/a/b/.`, `/a` and `/`.
-    #[inline(always)]
-    pub fn ancestors(self) -> Ancestors<'a, T>
-        ensures { ancestors_left result ≡ ancestors_of T.dialect (path_bytes self.entry) }
-    {
-        Ancestors::new(self)
     }
 
     /// The last component, where it is a name.
@@ -171,6 +169,14 @@ impl<'a, T: Encoding> Path<'a, T> {
         split_name(self.file_name()?).1
     }
 
+    /// The last component.
+    #[inline(always)]
+    fn last(self) -> Option<Piece<'a>>
+        ensures { option_map part_of result ≡ last_part (comps T.dialect (path_bytes self.entry)) }
+    {
+        self.components().next_back()
+    }
+
     /// The path without its file name, where it has one.
     pub(crate) fn without_file_name(self) -> Path<'a, T>
         ensures { path_bytes result ≡ without_file_name T.dialect (path_bytes self.entry) }
@@ -193,45 +199,6 @@ impl<'a, T: Encoding> Path<'a, T> {
         }
         let extension = last.text.len() - split_name(last.text).0.len();
         Some(self.components().last_end() - extension)
-    }
-
-    /// The texts of the components, from either end.
-    ///
-    /// Those of the Unix path `/a/./b` are `/`, `a` and `b`.
-    #[inline(always)]
-    pub fn iter(self) -> Iter<'a, T>
-        ensures items { iter_items result ≡ comps T.dialect (path_bytes self.entry) }
-        ensures slice { iter_slice result ≡ path_bytes self.entry }
-    {
-        Iter::new(self.components())
-    }
-
-    /// What is left of the path behind a base, where it begins with the base's components as they
-    /// are written. The bytes are asked first.
-    fn behind(self, base: Path<'_, T>) -> Option<Path<'a, T>>
-        ensures { option_map path_bytes result
-            ≡ stripped T.dialect (path_bytes self.entry) (path_bytes base.entry) }
-    {
-        match T::behind(self.as_bytes(), base.as_bytes()) {
-            Some(rest) => Some(Path::new(rest)),
-            None => self.behind_by_components(base),
-        }
-    }
-
-    /// The same, component by component.
-    fn behind_by_components(self, base: Path<'_, T>) -> Option<Path<'a, T>>
-        ensures { option_map path_bytes result
-            ≡ stripped T.dialect (path_bytes self.entry) (path_bytes base.entry) }
-    {
-        let mut rest = self.components();
-        let mut wanted = base.components();
-        'pieces: while let Some(piece) = wanted.next() {
-            let own = rest.next()?;
-            if piece.text != own.text {
-                return None;
-            }
-        }
-        Some(Path::new(rest.as_bytes()))
     }
 
     /// What is left of the path behind a base.
@@ -278,21 +245,32 @@ impl<'a, T: Encoding> Path<'a, T> {
         true
     }
 
-    /// The path without `.`, and without `..` and the names that these take away.
-    ///
-    /// That of the Unix path `foo/bar//baz/./asdf/quux/..` is `foo/bar/baz/asdf`.
-    ///
-    /// The components that are left are pushed one by one onto the empty path. A `..` that finds no
-    /// name to take away vanishes. On Unix the answer is read as just these components, is its own
-    /// normal text, and is the same, byte for byte, for all paths that lead to the same. On Windows,
-    /// where no name has a byte that no name may have and the prefix is not the verbatim one named
-    /// `UNC`, the answer is read as these components with a root put in behind a verbatim drive, leads
-    /// where the path does, and is its own normal text.
-    pub fn normalize(self, alloc: Global) -> Result<PathBuf<T>, AllocError>
-        ensures text { IfOk result (λ p. p.bytes ≡ normal_text T.dialect (path_bytes self.entry)) }
-        ensures form { IfOk result (λ p. HasNormalForm T.dialect (path_bytes self.entry) p.bytes) }
+    /// What is left of the path behind a base, where it begins with the base's components as they
+    /// are written. The bytes are asked first.
+    fn behind(self, base: Path<'_, T>) -> Option<Path<'a, T>>
+        ensures { option_map path_bytes result
+            ≡ stripped T.dialect (path_bytes self.entry) (path_bytes base.entry) }
     {
-        Ok(PathBuf::from_vec(T::normal(alloc, self.as_bytes())?))
+        match T::behind(self.as_bytes(), base.as_bytes()) {
+            Some(rest) => Some(Path::new(rest)),
+            None => self.behind_by_components(base),
+        }
+    }
+
+    /// The same, component by component.
+    fn behind_by_components(self, base: Path<'_, T>) -> Option<Path<'a, T>>
+        ensures { option_map path_bytes result
+            ≡ stripped T.dialect (path_bytes self.entry) (path_bytes base.entry) }
+    {
+        let mut rest = self.components();
+        let mut wanted = base.components();
+        'pieces: while let Some(piece) = wanted.next() {
+            let own = rest.next()?;
+            if piece.text != own.text {
+                return None;
+            }
+        }
+        Some(Path::new(rest.as_bytes()))
     }
 
     /// A copy that owns its bytes.
@@ -370,21 +348,45 @@ impl<'a, T: Encoding> Path<'a, T> {
         put_extension(&mut renamed, extension)?;
         Ok(PathBuf::from_vec(renamed))
     }
+
+    /// The path without `.`, and without `..` and the names that these take away.
+    ///
+    /// That of the Unix path `foo/bar//baz/./asdf/quux/..` is `foo/bar/baz/asdf`.
+    ///
+    /// The components that are left are pushed one by one onto the empty path. A `..` that finds no
+    /// name to take away vanishes. On Unix the answer is read as just these components, is its own
+    /// normal text, and is the same, byte for byte, for all paths that lead to the same. On Windows,
+    /// where no name has a byte that no name may have and the prefix is not the verbatim one named
+    /// `UNC`, the answer is read as these components with a root put in behind a verbatim drive, leads
+    /// where the path does, and is its own normal text.
+    pub fn normalize(self, alloc: Global) -> Result<PathBuf<T>, AllocError>
+        ensures text { IfOk result (λ p. p.bytes ≡ normal_text T.dialect (path_bytes self.entry)) }
+        ensures form { IfOk result (λ p. HasNormalForm T.dialect (path_bytes self.entry) p.bytes) }
+    {
+        Ok(PathBuf::from_vec(normal::<T>(alloc, self.as_bytes())?))
+    }
 }
 
 impl<'a, T: Encoding> IntoIterator for Path<'a, T> {
-    ghost use Rattle.std.specs.Prelude.{◌≡◌};
-    ghost use Rattle.typed_path.specs.components.Comps.{comps};
-    ghost use Rattle.typed_path.specs.views.PathViews.{path_bytes, iter_items, iter_slice};
+    ghost use Rattle.typed_path.specs.views.PathViews.{path_bytes, components_items, components_slice};
 
     type Item = &'a [u8];
 
     type IntoIter = Iter<'a, T>;
 
-    ghost into_iter_gives = { λ path iter. iter_items iter ≡ comps T.dialect (path_bytes path)
-        × iter_slice iter ≡ path_bytes path };
+    ghost into_iter_gives = { λ path iter. components_items iter ≡ comps T.dialect (path_bytes path)
+        × components_slice iter ≡ path_bytes path };
 
     fn into_iter(self) -> Iter<'a, T> {
         self.iter()
     }
+}
+
+/// The normal text of a path, in room for one byte more than the path has.
+fn normal<T: Encoding>(alloc: Global, path: &[u8]) -> Result<Vec<u8>, AllocError>
+    ensures { IfOk result (λ text. text.items ≡ normal_text T.dialect path.now) }
+{
+    let mut text = Vec::with_capacity(alloc, path.len() + 1)?;
+    T::put_normal(&mut text, path)?;
+    Ok(text)
 }

@@ -1,8 +1,15 @@
-//! A path that owns its bytes.
+//! A path that owns its bytes: what makes one, what changes it, and what it is turned into.
+
+ghost use Rattle.std.specs.Prelude.{◌≡◌, ◌≤◌, ◌+◌, [], length, is_some, max, min, IsSome, None, IfOk, OnOk, OnErr, IsOk, map};
+ghost use Rattle.std.specs.Vec.{vec_capacity};
+ghost use Rattle.typed_path.specs.changes.{refusal, FitsPush, push_all, IsKnown, fault, popped, without_file_name, with_file_name, with_extension};
+ghost use Rattle.typed_path.specs.promises.{HasPrefixOf, LiesWithin};
+ghost use Rattle.typed_path.specs.queries.{parent_of, file_name_of};
+ghost use Rattle.std.specs.String.{string_bytes};
 
 use crate::common::encoding::Encoding;
-use crate::common::names::{dotted_len, put_extension};
 use crate::common::path::Path;
+use crate::common::writing::{dotted_len, put_extension};
 use crate::errors::PathError;
 use std::alloc::{AllocError, Global};
 use std::marker::{Model, PhantomData};
@@ -24,16 +31,7 @@ impl<T> Model for PathBuf<T> {
 }
 
 impl<T: Encoding> PathBuf<T> {
-    ghost use Rattle.std.specs.Prelude.{◌≡◌, ◌≤◌, ◌+◌, [], length, is_some, max, min, IsSome, None, IfOk, OnOk, OnErr, IsOk};
-    ghost use Rattle.std.specs.Vec.{vec_capacity};
-    ghost use Rattle.typed_path.specs.changes.Checked.{refusal};
     ghost use Rattle.typed_path.specs.views.PathViews.{path_bytes};
-    ghost use Rattle.typed_path.specs.promises.Promises.{HasPrefixOf, LiesWithin};
-    ghost use Rattle.typed_path.specs.changes.Push.{FitsPush};
-    ghost use Rattle.typed_path.specs.changes.Spelled.{IsKnown};
-    ghost use Rattle.typed_path.specs.changes.Fault.{fault};
-    ghost use Rattle.typed_path.specs.queries.Queries.{parent_of, file_name_of};
-    ghost use Rattle.typed_path.specs.changes.Changes.{popped, without_file_name, with_file_name, with_extension};
     ghost use Rattle.typed_path.specs.changes.Push as push_spec;
 
     /// The empty path.
@@ -89,6 +87,13 @@ impl<T: Encoding> PathBuf<T> {
         Path::new(self.inner.as_slice())
     }
 
+    /// How many bytes the path has room for, its own among them.
+    pub fn capacity(&self) -> usize
+        ensures { result ≡ self.now.capacity }
+    {
+        self.inner.capacity()
+    }
+
     /// Pushes a path onto this one: an absolute one replaces it, an empty one changes nothing.
     ///
     /// On Unix `b` makes `a` into `a/b`; on Windows `..` makes `\\?\C:\a` into `\\?\C:\`.
@@ -106,26 +111,6 @@ impl<T: Encoding> PathBuf<T> {
             → IsOk result }
     {
         T::push(&mut self.inner, path.as_bytes())
-    }
-
-    /// Pushes a path onto this one, of which something may be known, and answers what is known of it
-    /// then: so paths that are pushed one by one need not read this one anew for each.
-    pub(crate) fn push_next(
-        &mut self,
-        path: Path<'_, T>,
-        known: Option<usize>,
-    ) -> Result<Option<usize>, AllocError>
-        ensures ok { IsKnown T.dialect known self.old.bytes → OnOk result
-            (self.new.bytes ≡ push_spec.push T.dialect self.old.bytes (path_bytes path.entry)) }
-        ensures known { IsKnown T.dialect known self.old.bytes
-            → IfOk result (λ next. IsKnown T.dialect next self.new.bytes) }
-        ensures err { OnErr result (self.new.bytes ≡ self.old.bytes) }
-        ensures capacity { self.old.capacity ≤ self.new.capacity }
-        ensures succeeds { IsKnown T.dialect known self.old.bytes
-            → FitsPush T.dialect self.old.capacity self.old.bytes (path_bytes path.entry)
-            → IsOk result }
-    {
-        T::push_next(&mut self.inner, 0, path.as_bytes(), known)
     }
 
     /// Pushes a path onto this one, unless it has a component that offends.
@@ -154,6 +139,26 @@ impl<T: Encoding> PathBuf<T> {
             (LiesWithin T.dialect self.old.bytes (path_bytes path.entry) self.new.bytes) }
     {
         T::push_checked(&mut self.inner, path.as_bytes())
+    }
+
+    /// Pushes a path onto this one, of which something may be known, and answers what is known of it
+    /// then: so paths that are pushed one by one need not read this one anew for each.
+    pub(crate) fn push_next(
+        &mut self,
+        path: Path<'_, T>,
+        known: Option<usize>,
+    ) -> Result<Option<usize>, AllocError>
+        ensures ok { IsKnown T.dialect known self.old.bytes → OnOk result
+            (self.new.bytes ≡ push_spec.push T.dialect self.old.bytes (path_bytes path.entry)) }
+        ensures known { IsKnown T.dialect known self.old.bytes
+            → IfOk result (λ next. IsKnown T.dialect next self.new.bytes) }
+        ensures err { OnErr result (self.new.bytes ≡ self.old.bytes) }
+        ensures capacity { self.old.capacity ≤ self.new.capacity }
+        ensures succeeds { IsKnown T.dialect known self.old.bytes
+            → FitsPush T.dialect self.old.capacity self.old.bytes (path_bytes path.entry)
+            → IsOk result }
+    {
+        T::push_next(&mut self.inner, 0, path.as_bytes(), known)
     }
 
     /// Cuts the path to its parent, where it has one, and answers whether it has.
@@ -224,13 +229,6 @@ impl<T: Encoding> PathBuf<T> {
         ensures capacity { self.new.capacity ≡ self.old.capacity }
     {
         self.inner.clear();
-    }
-
-    /// How many bytes the path has room for, its own among them.
-    pub fn capacity(&self) -> usize
-        ensures { result ≡ self.now.capacity }
-    {
-        self.inner.capacity()
     }
 
     /// Finds room for so many bytes more, and perhaps for others behind these.
@@ -313,8 +311,6 @@ impl<T: Encoding> PathBuf<T> {
 
 /// A copy of the bytes, all at once, in the memory of the same allocator.
 impl<T: Encoding> Clone for PathBuf<T> {
-    ghost use Rattle.std.specs.Prelude.{◌≡◌};
-
     ghost is_clone = { λ path copy. copy.bytes ≡ path.bytes };
 
     fn clone(&self) -> Result<PathBuf<T>, AllocError> {
@@ -324,8 +320,6 @@ impl<T: Encoding> Clone for PathBuf<T> {
 
 /// The path of the bytes of a vector, with no copy.
 impl<T: Encoding> From<Vec<u8>> for PathBuf<T> {
-    ghost use Rattle.std.specs.Prelude.{◌≡◌};
-
     ghost from_gives = { λ bytes path. path.bytes ≡ bytes.items };
 
     fn from(bytes: Vec<u8>) -> PathBuf<T> {
@@ -335,9 +329,6 @@ impl<T: Encoding> From<Vec<u8>> for PathBuf<T> {
 
 /// The path of the bytes of a text, with no copy.
 impl<T: Encoding> From<String> for PathBuf<T> {
-    ghost use Rattle.std.specs.Prelude.{◌≡◌};
-    ghost use Rattle.std.specs.String.{string_bytes};
-
     ghost from_gives = { λ text path. path.bytes ≡ string_bytes text };
 
     fn from(text: String) -> PathBuf<T> {
@@ -347,8 +338,6 @@ impl<T: Encoding> From<String> for PathBuf<T> {
 
 /// The bytes of a path, with no copy.
 impl<T: Encoding> From<PathBuf<T>> for Vec<u8> {
-    ghost use Rattle.std.specs.Prelude.{◌≡◌};
-
     ghost from_gives = { λ path bytes. bytes.items ≡ path.bytes };
 
     fn from(path: PathBuf<T>) -> Vec<u8> {
@@ -358,9 +347,7 @@ impl<T: Encoding> From<PathBuf<T>> for Vec<u8> {
 
 /// Pushes paths one by one. Where memory is refused, those before it stay pushed.
 impl<'p, T: Encoding> Extend<Path<'p, T>> for PathBuf<T> {
-    ghost use Rattle.std.specs.Prelude.{◌≡◌, map};
     ghost use Rattle.typed_path.specs.views.PathViews.{path_bytes};
-    ghost use Rattle.typed_path.specs.changes.Push.{push_all};
 
     ghost extend_gives = { λ old paths new. new.bytes
         ≡ push_all T.dialect old.bytes (map path_bytes paths) };
@@ -377,9 +364,7 @@ impl<'p, T: Encoding> Extend<Path<'p, T>> for PathBuf<T> {
 
 /// The paths pushed one by one onto the empty path.
 impl<'p, T: Encoding> FromIterator<Path<'p, T>> for PathBuf<T> {
-    ghost use Rattle.std.specs.Prelude.{◌≡◌, [], map};
     ghost use Rattle.typed_path.specs.views.PathViews.{path_bytes};
-    ghost use Rattle.typed_path.specs.changes.Push.{push_all};
 
     type Alloc = Global;
 

@@ -1,10 +1,13 @@
-//! Paths as texts.
+//! Paths as texts, and what prints them and what is read of them.
 
-ghost use Rattle.std.specs.Prelude.{◌≡◌, IfOk};
+ghost use Rattle.std.specs.Prelude.{◌≡◌, IfOk, IsOk, option_copied};
 ghost use Rattle.std.specs.Str.Lossy.{utf8_lossy};
 ghost use Rattle.std.specs.String.{string_bytes};
+ghost use Rattle.std.specs.Str.{IsUtf8};
+ghost use Rattle.std.specs.Cow.{cow_str_bytes, IsBorrowedStr};
+ghost use Rattle.typed_path.specs.queries.{text_of_bytes};
 
-use crate::common::components::{Ancestors, Components, Iter};
+use crate::common::components::{Ancestors, ReadAs, Reading};
 use crate::common::encoding::Encoding;
 use crate::common::path::Path;
 use crate::common::path_buf::PathBuf;
@@ -19,12 +22,7 @@ pub struct Display<'a, T> {
 }
 
 impl<'a, T: Encoding> Path<'a, T> {
-    ghost use Rattle.std.specs.Prelude.{◌≡◌, IfOk, IsOk, option_copied};
-    ghost use Rattle.std.specs.Str.{IsUtf8};
-    ghost use Rattle.std.specs.Str.Lossy.{utf8_lossy};
-    ghost use Rattle.std.specs.Cow.{cow_str_bytes, IsBorrowedStr};
     ghost use Rattle.typed_path.specs.views.PathViews.{path_bytes, displayed};
-    ghost use Rattle.typed_path.specs.queries.Texts.{text_of_bytes};
 
     /// The path as a text, where its bytes are UTF-8.
     pub fn to_str(self) -> Option<&'a str>
@@ -85,7 +83,6 @@ fn write_lossy<W: fmt::Write>(bytes: &[u8], f: &mut fmt::Formatter<W>) -> fmt::R
 /// Writes the path's text, with U+FFFD where its bytes are none.
 impl<'a, T: Encoding> fmt::Display for Path<'a, T> {
     ghost use Rattle.typed_path.specs.views.PathViews.{path_bytes};
-    ghost use Rattle.typed_path.specs.queries.Texts.{text_of_bytes};
 
     ghost output = { λ path. text_of_bytes (path_bytes path) };
 
@@ -98,7 +95,6 @@ impl<'a, T: Encoding> fmt::Display for Path<'a, T> {
 }
 
 impl<'a, T: Encoding> Display<'a, T> {
-    ghost use Rattle.std.specs.Prelude.{◌≡◌};
     ghost use Rattle.typed_path.specs.views.PathViews.{path_bytes, displayed};
 
     /// The path that is to be printed.
@@ -111,7 +107,6 @@ impl<'a, T: Encoding> Display<'a, T> {
 
 impl<'a, T: Encoding> fmt::Display for Display<'a, T> {
     ghost use Rattle.typed_path.specs.views.PathViews.{displayed};
-    ghost use Rattle.typed_path.specs.queries.Texts.{text_of_bytes};
 
     ghost output = { λ d. text_of_bytes (displayed d) };
 
@@ -144,43 +139,24 @@ impl<'a, T: Encoding> fmt::Debug for Display<'a, T> {
     }
 }
 
-/// The components that are left, as a list.
+/// What is left of a reading, as a list.
 #[derive_where(Clone, Copy)]
-struct Listed<'a, T> {
-    components: Components<'a, T>,
+struct Listed<'a, T: Encoding, I> {
+    reading: Reading<'a, T, I>,
 }
 
-impl<'a, T: Encoding> fmt::Debug for Listed<'a, T> {
+impl<'a, T: Encoding, I: ReadAs<'a, T>> fmt::Debug for Listed<'a, T, I> {
     fn fmt<W: fmt::Write>(&self, f: &mut fmt::Formatter<W>) -> fmt::Result {
-        f.debug_list().entries(self.components).finish()
+        f.debug_list().entries(self.reading).finish()
     }
 }
 
-impl<'a, T: Encoding> fmt::Debug for Components<'a, T> {
+impl<'a, T: Encoding, I: ReadAs<'a, T>> fmt::Debug for Reading<'a, T, I> {
     fn fmt<W: fmt::Write>(&self, f: &mut fmt::Formatter<W>) -> fmt::Result {
-        let components = *self;
-        f.debug_tuple("Components")
-            .field(&Listed { components })
+        let reading = *self;
+        f.debug_tuple(I::iterator_name())
+            .field(&Listed { reading })
             .finish()
-    }
-}
-
-/// The texts that are left, as a list.
-#[derive_where(Clone, Copy)]
-struct ListedTexts<'a, T> {
-    texts: Iter<'a, T>,
-}
-
-impl<'a, T: Encoding> fmt::Debug for ListedTexts<'a, T> {
-    fn fmt<W: fmt::Write>(&self, f: &mut fmt::Formatter<W>) -> fmt::Result {
-        f.debug_list().entries(self.texts).finish()
-    }
-}
-
-impl<'a, T: Encoding> fmt::Debug for Iter<'a, T> {
-    fn fmt<W: fmt::Write>(&self, f: &mut fmt::Formatter<W>) -> fmt::Result {
-        let texts = *self;
-        f.debug_tuple("Iter").field(&ListedTexts { texts }).finish()
     }
 }
 

@@ -1,11 +1,10 @@
 //! The laws of Windows: of normal texts, and of single values.
 
 ghost use Rattle.std.specs.Prelude.{◌≡◌, ◌↔◌, true, IfSome, [], ◌∷◌, ◌++◌, codes, map};
-ghost use Rattle.typed_path.specs.components.Dialect.{dot, slash, backslash};
-ghost use Rattle.typed_path.specs.promises.Promises.{StaysStable};
-ghost use Rattle.typed_path.specs.components.Part.{prefix};
-ghost use Rattle.typed_path.specs.queries.Queries.{prefix_in, reserved_names};
-ghost use Rattle.typed_path.specs.order.Same.{kind_cmp};
+ghost use Rattle.typed_path.specs.components.{dot, slash, backslash, prefix};
+ghost use Rattle.typed_path.specs.promises.{StaysStable};
+ghost use Rattle.typed_path.specs.queries.{prefix_in, reserved_names};
+ghost use Rattle.typed_path.specs.order.{kind_cmp};
 ghost use Rattle.typed_path.specs.order.Words.{prefix_words, windows_words};
 ghost use Rattle.typed_path.specs.views.PieceViews.{prefix_view};
 ghost use Rattle.typed_path.specs.views.WindowsViews.{prefix_component_part, windows_part};

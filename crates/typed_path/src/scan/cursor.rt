@@ -1,50 +1,73 @@
-//! The place of a reading from both ends.
+//! A reading of a text from both ends.
+//!
+//! `Cursor` reads a whole text, and knows of its prefix. `Body` is what is left behind the prefix, for
+//! loops that have taken it. `Span` is the first bytes of a text that goes on, which either may be
+//! read off.
 
-ghost use Rattle.std.specs.Prelude.{◌≡◌, ◌≤◌, ◌-◌, length, slice_range, true};
-ghost use Rattle.typed_path.specs.components.Part.{prefix_part};
+ghost use Rattle.std.specs.Prelude.{◌≡◌, ◌≤◌, ◌-◌, length, slice_range, true, [], ◌++◌, take, drop, option_map, Some, None, IfSome, IfNone, IsTrue};
+ghost use Rattle.typed_path.specs.components.{prefix_part};
 ghost use Rattle.typed_path.specs.views.PieceViews.{part_of, prefix_view};
-ghost use Rattle.typed_path.specs.scan.Pending.{pending};
-ghost use Rattle.typed_path.specs.scan.Steps.{is_clean};
+ghost use Rattle.typed_path.specs.scan.{pending, is_clean};
 
 use crate::errors::CheckedPathError;
 use crate::scan::prefix::{Found, WindowsPrefix, find_prefix};
 use crate::scan::separators::Separators;
 use crate::scan::step::{Piece, PieceKind, Step, back_step, depth_behind, front_step, trim_blanks};
 
-/// The place of a reading of a text: what is still to be taken of its prefix, and of its body.
+/// The place of a reading of a text: the range of its body that is left, and its prefix while that is
+/// still to be taken.
 #[derive(Clone, Copy, Debug)]
 pub struct Cursor<'a> {
+    text: &'a [u8],
+    from: usize,
+    to: usize,
     prefix: Option<Found<'a>>,
-    body: Body<'a>,
-    ghost fits: { pending prefix ≤ body.from },
+    begin: Begin,
+    separators: Separators,
+    ghost ordered: { from ≤ to },
+    ghost in_range: { to ≤ length text.now },
+    ghost starts_clean: { is_clean begin separators (slice_range text.now from to) ≡ true },
+    ghost fits: { pending prefix ≤ from },
+}
+
+/// What a cursor has left behind its prefix.
+macro_rules! rest {
+    ($cursor:expr) => {
+        Body {
+            text: $cursor.text,
+            from: $cursor.from,
+            to: $cursor.to,
+            begin: $cursor.begin,
+            separators: $cursor.separators,
+        }
+    };
 }
 
 impl<'a> Cursor<'a> {
-    ghost use Rattle.std.specs.Prelude.{◌≡◌, ◌≤◌, [], ◌++◌, true, length, take, drop, option_map, Some, None};
-    ghost use Rattle.typed_path.specs.components.Comps.{body, comps, later_body, component};
+    ghost use Rattle.typed_path.specs.components.{body, comps, component, Placed, end_of, kinds, parts, prefix_part, windows, dialect_of};
     ghost use Rattle.typed_path.specs.declared.scan.cursor.Begin.{Begin};
-    ghost use Rattle.typed_path.specs.scan.Left.{but_last, last_of, slice_after_front, slice_after_back};
-    ghost use Rattle.typed_path.specs.components.Part.{Placed, end_of, kinds, parts, prefix_part};
-    ghost use Rattle.typed_path.specs.queries.Queries.{begins_with_root, first_prefix, prefix_among, behind_prefix, has_prefix, has_physical_root};
-    ghost use Rattle.typed_path.specs.scan.Steps.{first_part, last_part, is_clean};
+    ghost use Rattle.typed_path.specs.scan.{but_last, last_of, slice_after_front, slice_after_back, first_part, last_part};
+    ghost use Rattle.typed_path.specs.queries.{begins_with_root, first_prefix, prefix_among, behind_prefix, has_prefix, has_physical_root};
     ghost use Rattle.typed_path.specs.views.PieceViews.{part_of, prefix_view};
     ghost use Rattle.typed_path.specs.views.BodyViews.{body_items};
-    ghost use Rattle.typed_path.specs.views.CursorViews.{slice_left, items_left, cursor_text, cursor_separators};
-    ghost use Rattle.typed_path.specs.changes.Checked.{error_of};
-    ghost use Rattle.typed_path.specs.components.Dialect.{windows, dialect_of};
-    ghost use Rattle.typed_path.specs.changes.Fault.{fault_behind};
+    ghost use Rattle.typed_path.specs.views.SpanViews.{span_bytes};
+    ghost use Rattle.typed_path.specs.views.CursorViews.{slice_left, items_left, cursor_separators};
+    ghost use Rattle.typed_path.specs.changes.{error_of, fault_behind};
 
     /// A reading of a whole text that has no prefix.
     #[inline(always)]
     pub(crate) fn new(text: &'a [u8], separators: Separators) -> Cursor<'a>
         ensures slice { slice_left result ≡ text.now }
         ensures items { items_left result ≡ body separators 0 text.now }
-        ensures text { cursor_text result ≡ text.now }
         ensures separators { cursor_separators result ≡ separators }
     {
         Cursor {
+            text,
+            from: 0,
+            to: text.len(),
             prefix: None,
-            body: Body::new(text, 0, separators),
+            begin: Begin::Body,
+            separators,
         }
     }
 
@@ -61,12 +84,15 @@ impl<'a> Cursor<'a> {
             ≡ component (prefix_part (prefix_view prefix.entry.kind)
             (take prefix.entry.length text.now)) 0
             ++ body separators prefix.entry.length (drop prefix.entry.length text.now) }
-        ensures text { cursor_text result ≡ text.now }
         ensures separators { cursor_separators result ≡ separators }
     {
         Cursor {
+            text,
+            from: prefix.length,
+            to: text.len(),
             prefix: Some(prefix),
-            body: Body::new(text, prefix.length, separators),
+            begin: Begin::Body,
+            separators,
         }
     }
 
@@ -75,7 +101,6 @@ impl<'a> Cursor<'a> {
     pub(crate) fn of_windows(text: &'a [u8]) -> Cursor<'a>
         ensures items { items_left result ≡ comps windows text.now }
         ensures slice { slice_left result ≡ text.now }
-        ensures text { cursor_text result ≡ text.now }
         ensures dialect { dialect_of (cursor_separators result) ≡ windows }
     {
         let separators = Separators::of_windows(text);
@@ -91,8 +116,8 @@ impl<'a> Cursor<'a> {
         ensures { result.now ≡ slice_left self.now }
     {
         match self.prefix {
-            Some(found) => &self.body.text[self.body.from - found.length..self.body.to],
-            None => self.body.as_bytes(),
+            Some(found) => &self.text[self.from - found.length..self.to],
+            None => &self.text[self.from..self.to],
         }
     }
 
@@ -122,16 +147,32 @@ impl<'a> Cursor<'a> {
         ensures { option_map part_of result ≡ prefix_among (parts (items_left self.now)) }
     {
         let found = self.prefix?;
-        Some(prefix_piece(self.body.text, self.body.from, found))
+        Some(prefix_piece(self.text, self.from, found))
     }
 
     /// What is left behind the prefix.
     #[inline(always)]
     pub(crate) fn body(&self) -> Body<'a>
-        ensures items { body_items result ≡ behind_prefix (items_left self.now) }
-        ensures text { result.text.now ≡ cursor_text self.now }
+        ensures { body_items result ≡ behind_prefix (items_left self.now) }
     {
-        self.body
+        rest!(self)
+    }
+
+    /// The same components, read off a text of which the slice left is the first bytes: searches may
+    /// look at what stands behind.
+    #[inline(always)]
+    pub(crate) fn within(self, span: Span<'a>) -> Cursor<'a>
+        requires { slice_left self ≡ span_bytes span }
+        ensures { parts (items_left result) ≡ parts (items_left self.entry) }
+    {
+        Cursor {
+            text: span.text,
+            from: pending(self.prefix),
+            to: span.len,
+            prefix: self.prefix,
+            begin: self.begin,
+            separators: self.separators,
+        }
     }
 
     /// Whether the first component that is left, the prefix aside, is the root.
@@ -139,7 +180,7 @@ impl<'a> Cursor<'a> {
     pub(crate) fn has_physical_root(&self) -> bool
         ensures { result ≡ has_physical_root (kinds (parts (items_left self.now))) }
     {
-        self.body.begins_with_root()
+        rest!(self).has_physical_root()
     }
 
     /// Whether the first component that is left is the root.
@@ -147,7 +188,7 @@ impl<'a> Cursor<'a> {
     pub(crate) fn begins_with_root(&self) -> bool
         ensures { result ≡ begins_with_root (kinds (parts (items_left self.now))) }
     {
-        self.prefix.is_none() && self.body.begins_with_root()
+        self.prefix.is_none() && self.has_physical_root()
     }
 
     /// Where the last component that is left ends in the text.
@@ -156,7 +197,7 @@ impl<'a> Cursor<'a> {
         ensures { (last : Placed) → last_of (items_left self.now) ≡ Some last → result
             ≡ end_of last }
     {
-        self.body.last_end()
+        rest!(self).last_end()
     }
 
     /// Judges the components that are left, from the front: the first one that offends is what a
@@ -168,7 +209,7 @@ impl<'a> Cursor<'a> {
     {
         match self.prefix {
             Some(_) => Err(CheckedPathError::UnexpectedPrefix),
-            None => self.body.check(),
+            None => rest!(self).check(),
         }
     }
 
@@ -182,7 +223,19 @@ impl<'a> Cursor<'a> {
     {
         match self.prefix {
             Some(found) => Some(self.take_prefix(found)),
-            None => Some(self.body.front()?.piece()),
+            None => {
+                let mut body = rest!(self);
+                let step = body.front();
+                *self = Cursor {
+                    text: body.text,
+                    from: body.from,
+                    to: body.to,
+                    prefix: None,
+                    begin: body.begin,
+                    separators: body.separators,
+                };
+                Some(step?.piece())
+            }
         }
     }
 
@@ -195,7 +248,7 @@ impl<'a> Cursor<'a> {
         ensures slice { slice_left self.new
             ≡ slice_after_front (items_left self.old) (slice_left self.old) }
     {
-        let piece = prefix_piece(self.body.text, self.body.from, found);
+        let piece = prefix_piece(self.text, self.from, found);
         self.prefix = None;
         piece
     }
@@ -208,11 +261,31 @@ impl<'a> Cursor<'a> {
         ensures slice { slice_left self.new
             ≡ slice_after_back (items_left self.old) (slice_left self.old) }
     {
-        if let Some(step) = self.body.back() {
+        let mut body = rest!(self);
+        if let Some(step) = body.back() {
+            *self = Cursor {
+                text: body.text,
+                from: body.from,
+                to: body.to,
+                prefix: self.prefix,
+                begin: body.begin,
+                separators: body.separators,
+            };
             return Some(step.piece());
         }
         let found = self.prefix?;
         Some(self.take_prefix(found))
+    }
+}
+
+/// How many bytes the prefix takes that is still to be taken.
+#[inline(always)]
+fn pending(prefix: Option<Found<'_>>) -> usize
+    ensures { result ≡ pending prefix.entry }
+{
+    match prefix {
+        Some(found) => found.length,
+        None => 0,
     }
 }
 
@@ -259,20 +332,14 @@ pub struct Body<'a> {
 }
 
 impl<'a> Body<'a> {
-    ghost use Rattle.std.specs.Prelude.{◌≡◌, ◌≤◌, [], true, take, drop, length, option_map, IfSome, IfNone, IsTrue};
-    ghost use Rattle.typed_path.specs.components.Comps.{body, later_body};
+    ghost use Rattle.typed_path.specs.components.{body, later_body, kinds, parts, dialect_of};
     ghost use Rattle.typed_path.specs.declared.scan.cursor.Begin.{Begin};
     ghost use Rattle.typed_path.specs.declared.scan.step.StepKind.{StepKind};
-    ghost use Rattle.typed_path.specs.scan.Left.{but_last, last_of, slice_after_front, slice_after_back};
-    ghost use Rattle.typed_path.specs.components.Part.{Placed, end_of, kinds, parts};
-    ghost use Rattle.typed_path.specs.queries.Queries.{begins_with_root};
-    ghost use Rattle.typed_path.specs.scan.Steps.{first_part, last_part, end_from};
-    ghost use Rattle.typed_path.specs.views.FrontViews.{front_bytes};
+    ghost use Rattle.typed_path.specs.scan.{but_last, slice_after_front, slice_after_back, first_part, last_part, end_from};
+    ghost use Rattle.typed_path.specs.queries.{begins_with_root};
     ghost use Rattle.typed_path.specs.views.PieceViews.{step_part};
     ghost use Rattle.typed_path.specs.views.BodyViews.{body_slice, body_items};
-    ghost use Rattle.typed_path.specs.changes.Checked.{error_of};
-    ghost use Rattle.typed_path.specs.components.Dialect.{dialect_of};
-    ghost use Rattle.typed_path.specs.changes.Fault.{fault_behind};
+    ghost use Rattle.typed_path.specs.changes.{error_of, fault_behind};
 
     /// A reading of what stands in a text from a place on.
     #[inline(always)]
@@ -310,21 +377,6 @@ impl<'a> Body<'a> {
         }
     }
 
-    /// The same reading, where the text is the front of another.
-    #[inline(always)]
-    pub fn within(self, front: Front<'a>) -> Body<'a>
-        requires { self.text.now ≡ front_bytes front }
-        ensures { body_items result ≡ body_items self.entry }
-    {
-        Body {
-            text: front.text,
-            from: self.from,
-            to: self.to,
-            begin: self.begin,
-            separators: self.separators,
-        }
-    }
-
     /// What stands in the text from the slice left on.
     #[inline(always)]
     pub fn onward(&self) -> &'a [u8]
@@ -351,7 +403,7 @@ impl<'a> Body<'a> {
 
     /// Whether the first component that is left is the root.
     #[inline(always)]
-    pub fn begins_with_root(&self) -> bool
+    pub fn has_physical_root(&self) -> bool
         ensures { result ≡ begins_with_root (kinds (parts (body_items self.now))) }
     {
         match self.begin {
@@ -435,7 +487,7 @@ impl<'a> Body<'a> {
 /// The first bytes of a text. What stands behind them is none of them, but a search in them may look at
 /// it, and so may a copy of them: a block of a fixed size takes no branch by theirs.
 #[derive(Clone, Copy, Debug)]
-pub struct Front<'a> {
+pub struct Span<'a> {
     /// The whole text.
     pub text: &'a [u8],
     /// How many of its bytes are meant.
@@ -443,16 +495,15 @@ pub struct Front<'a> {
     ghost within: { len ≤ length text.now },
 }
 
-impl<'a> Front<'a> {
-    ghost use Rattle.std.specs.Prelude.{◌≡◌};
-    ghost use Rattle.typed_path.specs.views.FrontViews.{front_bytes};
+impl<'a> Span<'a> {
+    ghost use Rattle.typed_path.specs.views.SpanViews.{span_bytes};
 
     /// All bytes of a text.
     #[inline(always)]
-    pub fn whole(text: &'a [u8]) -> Front<'a>
-        ensures { front_bytes result ≡ text.now }
+    pub fn whole(text: &'a [u8]) -> Span<'a>
+        ensures { span_bytes result ≡ text.now }
     {
-        Front {
+        Span {
             text,
             len: text.len(),
         }
@@ -461,7 +512,7 @@ impl<'a> Front<'a> {
     /// The bytes that are meant.
     #[inline(always)]
     pub fn as_bytes(self) -> &'a [u8]
-        ensures { result.now ≡ front_bytes self.entry }
+        ensures { result.now ≡ span_bytes self.entry }
     {
         &self.text[..self.len]
     }

@@ -1,12 +1,12 @@
-//! Texts cut at single bytes, at separators, and behind a beginning.
+//! Texts cut at a byte, at a separator, behind a beginning, behind a base, and behind what two of them
+//! share.
 
 ghost use Rattle.std.specs.Prelude.{◌≡◌, ◌≢◌, ◌≤◌, ◌<◌, ◌+◌, ◌==◌, List, ℕ, [], ◌∷◌, ◌++◌, take, length, MatchOption, IfSome, true, drop, IsTrue};
 ghost use Rattle.std.specs.List.{slice_split, position_or_len};
-ghost use Rattle.typed_path.specs.components.Dialect.{is_separator};
-ghost use Rattle.typed_path.specs.components.Comps.{body, later_body};
-ghost use Rattle.typed_path.specs.scan.Steps.{is_clean};
+ghost use Rattle.typed_path.specs.components.{is_separator, body, later_body};
+ghost use Rattle.typed_path.specs.scan.{is_clean};
 ghost use Rattle.typed_path.specs.declared.scan.cursor.Begin.{Begin};
-ghost use Rattle.typed_path.specs.order.Same.{left_cmp};
+ghost use Rattle.typed_path.specs.order.{left_cmp};
 ghost use Rattle.typed_path.specs.views.BodyViews.{body_items};
 
 use crate::scan::cursor::Body;
@@ -84,23 +84,6 @@ pub fn text_behind<'a>(beginning: &[u8], text: &'a [u8]) -> Option<&'a [u8]>
     if differs { None } else { Some(&text[len..]) }
 }
 
-/// Whether no component reaches over the border between two texts: one of them has a separator
-/// there, or one is empty.
-#[inline(always)]
-fn is_border(front: &[u8], rest: &[u8], separators: Separators) -> bool
-    ensures { IsTrue result → 0 < length front.now → (at : ℕ)
-        → body separators at (front.now ++ rest.now)
-        ≡ body separators at front.now ++ later_body separators (at + length front.now) rest.now }
-{
-    let Some((last, _)) = front.split_last() else {
-        return true;
-    };
-    let Some((first, _)) = rest.split_first() else {
-        return true;
-    };
-    separators.contains(*last) || separators.contains(*first)
-}
-
 /// How many bytes of a text stand before the component behind a base, where the bytes tell: the
 /// text begins with those of the base, and no component reaches over its end.
 #[inline(always)]
@@ -122,31 +105,21 @@ pub fn base_end(text: &[u8], base: &[u8], separators: Separators) -> Option<usiz
     Some(base.len() + skip_blanks(rest, separators))
 }
 
-/// How many bytes are compared at once.
-const BLOCK: usize = 32;
-
-/// How many bytes two texts begin with alike. Only that the first has so many is relied on.
+/// Whether no component reaches over the border between two texts: one of them has a separator
+/// there, or one is empty.
 #[inline(always)]
-fn shared_len(text: &[u8], other: &[u8]) -> usize
-    ensures { result ≤ length text.now }
+fn is_border(front: &[u8], rest: &[u8], separators: Separators) -> bool
+    ensures { IsTrue result → 0 < length front.now → (at : ℕ)
+        → body separators at (front.now ++ rest.now)
+        ≡ body separators at front.now ++ later_body separators (at + length front.now) rest.now }
 {
-    let len = text.len().min(other.len());
-    let mut at = 0;
-    'chunks: while len - at >= BLOCK && text[at..at + BLOCK] == other[at..at + BLOCK] {
-        at += BLOCK;
-    }
-    'bytes: while at < len && text[at] == other[at] {
-        at += 1;
-    }
-    at
-}
-
-/// The first bytes of a text that another begins with too, to behind the last separator among them.
-/// Nothing rests on this answer: whether both texts begin with it is looked at again.
-#[inline(always)]
-fn shared_front<'a>(text: &'a [u8], other: &[u8], separators: Separators) -> &'a [u8] {
-    let shared = &text[..shared_len(text, other)];
-    &shared[..separators.last_in(shared)]
+    let Some((last, _)) = front.split_last() else {
+        return true;
+    };
+    let Some((first, _)) = rest.split_first() else {
+        return true;
+    };
+    separators.contains(*last) || separators.contains(*first)
 }
 
 /// Two readings behind the components that the bytes of both begin with, which compare as the two do.
@@ -174,4 +147,31 @@ pub fn bodies_behind_shared<'a>(rest: Body<'a>, wanted: Body<'a>) -> (Body<'a>, 
         ),
         _ => (rest, wanted),
     }
+}
+
+/// The first bytes of a text that another begins with too, to behind the last separator among them.
+/// Nothing rests on this answer: whether both texts begin with it is looked at again.
+#[inline(always)]
+fn shared_front<'a>(text: &'a [u8], other: &[u8], separators: Separators) -> &'a [u8] {
+    let shared = &text[..shared_len(text, other)];
+    &shared[..separators.last_in(shared)]
+}
+
+/// How many bytes are compared at once.
+const BLOCK: usize = 32;
+
+/// How many bytes two texts begin with alike. Only that the first has so many is relied on.
+#[inline(always)]
+fn shared_len(text: &[u8], other: &[u8]) -> usize
+    ensures { result ≤ length text.now }
+{
+    let len = text.len().min(other.len());
+    let mut at = 0;
+    'chunks: while len - at >= BLOCK && text[at..at + BLOCK] == other[at..at + BLOCK] {
+        at += BLOCK;
+    }
+    'bytes: while at < len && text[at] == other[at] {
+        at += 1;
+    }
+    at
 }

@@ -6,8 +6,8 @@ ghost use Rattle.std.specs.Prelude.{◌≡◌, ◌≢◌, ◌≤◌, ◌<◌, �
 ghost use Rattle.std.specs.Int.{bit_at};
 ghost use Rattle.std.specs.List.{list_any};
 ghost use Rattle.std.specs.Slice.Scan.{IsFirstPlace};
-ghost use Rattle.typed_path.specs.changes.Checked.{is_forbidden, is_forbidden_or, forbidden_at};
-ghost use Rattle.typed_path.specs.scan.Masks.{IsMask, TellsWhether, is_one_of, stands_at, differs_at, IsFirstOf, IsBehindLastOf};
+ghost use Rattle.typed_path.specs.changes.{is_forbidden, is_forbidden_or, forbidden_at};
+ghost use Rattle.typed_path.specs.scan.{IsMask, TellsWhether, is_one_of, stands_at, differs_at, IsFirstOf, IsBehindLastOf};
 
 use std::simd::prelude::*;
 
@@ -54,7 +54,7 @@ fn lowest(mask: u64) -> usize
 
 /// The highest bit that is set.
 #[inline(always)]
-#[tactic(auto, using(crate::proofs::lemmas::scan::MaskLemmas::highest_is_set, crate::proofs::lemmas::scan::MaskLemmas::clear_above))]
+#[tactic(auto, using(crate::proofs::lemmas::scan::Searches::highest_is_set, crate::proofs::lemmas::scan::Searches::clear_above))]
 fn highest(mask: u64) -> usize
     requires { mask ≢ 0 }
     ensures within { result < 64 }

@@ -1,8 +1,7 @@
 //! The prefixes of Windows paths: which one a text begins with.
 
 ghost use Rattle.std.specs.Prelude.{◌≡◌, ◌≤◌, ◌+◌, true, false, length, is_some, None, option_map, option_copied, IfSome, MatchOption};
-ghost use Rattle.typed_path.specs.components.Dialect.{windows, is_separator};
-ghost use Rattle.typed_path.specs.components.Prefix.{is_drive_letter, drive, after_two, after_mark, after_unc, name, second_name, names_length, is_empty, verbatim_unc_case, verbatim_disk_case, verbatim_case, device_case, unc_case, disk_case, prefix_of};
+ghost use Rattle.typed_path.specs.components.{windows, is_separator, is_drive_letter, drive, after_two, after_mark, after_unc, name, second_name, names_length, is_empty, verbatim_unc_case, verbatim_disk_case, verbatim_case, device_case, unc_case, disk_case, prefix_of};
 ghost use Rattle.typed_path.specs.declared.scan.separators.Separators.{Separators};
 ghost use Rattle.typed_path.specs.views.PieceViews.{found_of};
 

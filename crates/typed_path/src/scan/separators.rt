@@ -1,16 +1,13 @@
-//! Which bytes separate the components of a text.
+//! Which bytes separate the components of a text, how such a byte is found, and which names stand
+//! between them.
 
-ghost use Rattle.std.specs.Prelude.{◌≡◌, ◌≤◌, ◌-◌, ◌==◌, ◌||◌, ℕ, not, length, slice_range, IsTrue};
+ghost use Rattle.std.specs.Prelude.{◌≡◌, ◌≤◌, ◌-◌, ◌==◌, ℕ, not, length, slice_range, IsTrue};
 ghost use Rattle.std.specs.List.{position_or_len, list_any, before_first, IsAfterLastMatch, slice_split};
 ghost use Rattle.std.specs.Str.{str_eq_ignore_ascii_case};
-ghost use Rattle.typed_path.specs.scan.Masks.{is_one_of};
-ghost use Rattle.typed_path.specs.components.Dialect.{windows, separators, is_separator, is_verbatim, root_text, dialect_of};
-ghost use Rattle.typed_path.specs.queries.Queries.{has_allowed_bytes, is_reserved, is_valid_name, is_valid};
-ghost use Rattle.typed_path.specs.queries.Names.{is_a_dot};
-ghost use Rattle.typed_path.specs.changes.Checked.{SeparatesDisallowed, is_stray};
-ghost use Rattle.typed_path.specs.changes.Reserved.{begins_device, may_be_reserved};
-ghost use Rattle.typed_path.specs.components.Comps.{body};
-ghost use Rattle.typed_path.specs.components.Part.{kinds, parts};
+ghost use Rattle.typed_path.specs.scan.{is_one_of};
+ghost use Rattle.typed_path.specs.components.{windows, separators, is_separator, is_verbatim, root_text, dialect_of, body, kinds, parts};
+ghost use Rattle.typed_path.specs.queries.{has_allowed_bytes, is_reserved, is_valid_name, is_valid, is_a_dot};
+ghost use Rattle.typed_path.specs.changes.{SeparatesDisallowed, is_stray, begins_device, may_be_reserved};
 
 use crate::constants::windows::RESERVED_DEVICE_NAMES;
 use crate::scan::cut::cut_at_separator;

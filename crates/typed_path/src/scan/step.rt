@@ -1,189 +1,20 @@
-//! One component at a time, off a plain slice.
+//! Components as a reading gives them, and one step of a reading off a plain slice.
+//!
+//! `Piece` and `Step` come first, then a step from either end, and then one step of judging a path.
 
-ghost use Rattle.std.specs.Prelude.{◌≡◌, ◌≤◌, ◌<◌, ◌+◌, ◌++◌, ◌||◌, ℕ, true, not, take, drop, length, IfSome, IfNone, ◌^◌, List, ◌∷◌, IfOk, IsTrue};
+ghost use Rattle.std.specs.Prelude.{◌≡◌, ◌≤◌, ◌<◌, ◌+◌, ◌++◌, ◌||◌, ℕ, true, not, take, drop, length, IfSome, IfNone, ◌^◌, List, ◌∷◌, IfOk, IsTrue, ◌==◌};
 ghost use Rattle.std.specs.List.{position_or_len};
-ghost use Rattle.typed_path.specs.components.Prefix.{is_empty};
-ghost use Rattle.typed_path.specs.components.Comps.{is_dot, is_dot_dot, component, first, later_body};
-ghost use Rattle.typed_path.specs.components.Dialect.{is_separator, dialect_of};
-ghost use Rattle.typed_path.specs.scan.Steps.{body_from, is_clean, is_trimmed, end_from};
+ghost use Rattle.typed_path.specs.components.{is_empty, is_dot, is_dot_dot, component, first, later_body, is_separator, dialect_of, Kind};
+ghost use Rattle.typed_path.specs.scan.{body_from, is_clean, is_trimmed, end_from};
 ghost use Rattle.typed_path.specs.views.PieceViews.{step_part};
 ghost use Rattle.typed_path.specs.declared.scan.cursor.Begin.{Begin};
 ghost use Rattle.typed_path.specs.declared.scan.step.StepKind.{StepKind};
-ghost use Rattle.typed_path.specs.components.Part.{Kind};
-ghost use Rattle.typed_path.specs.changes.Fault.{fault_at, judged};
-ghost use Rattle.typed_path.specs.queries.Queries.{kind_has_allowed_bytes};
+ghost use Rattle.typed_path.specs.changes.{fault_at, judged};
+ghost use Rattle.typed_path.specs.queries.{kind_has_allowed_bytes};
 
 use crate::errors::CheckedPathError;
 use crate::scan::prefix::WindowsPrefix;
 use crate::scan::separators::Separators;
-
-/// How many bytes at the front of what stands behind a component hold none: a separator, or a `.`
-/// with the separator behind it.
-#[inline(always)]
-fn blank(text: &[u8], separators: Separators) -> Option<usize>
-    ensures within { IfSome result (λ n. (0 < n) × (n ≤ length text.now)) }
-    ensures skipped { IfSome result (λ n. (at : ℕ) → later_body separators at text.now
-        ≡ later_body separators (at + n) (drop n text.now)) }
-    ensures clean { IfNone result (is_clean Begin.Inside separators text.now ≡ true) }
-{
-    let (first, rest) = text.split_first()?;
-    if separators.contains(*first) {
-        return Some(1);
-    }
-    if *first != b'.' || separators.is_verbatim() {
-        return None;
-    }
-    match rest.first() {
-        None => Some(1),
-        Some(second) if separators.contains(*second) => Some(2),
-        Some(_) => None,
-    }
-}
-
-/// How many bytes stand before the next component, or all where there is none.
-#[inline(always)]
-pub fn skip_blanks(text: &[u8], separators: Separators) -> usize
-    ensures within { result ≤ length text.now }
-    ensures same { (at : ℕ) → later_body separators at text.now
-        ≡ later_body separators (at + result) (drop result text.now) }
-    ensures clean { is_clean Begin.Inside separators (drop result text.now) ≡ true }
-{
-    let mut start = 0;
-    while let Some(skipped) = blank(&text[start..], separators) {
-        start += skipped;
-    }
-    start
-}
-
-/// The component that a segment is, where it is one.
-#[inline(always)]
-pub fn step_of(segment: &[u8], separators: Separators) -> Step<'_>
-    ensures { (at : ℕ) → first separators (record { text = segment.now; start = at })
-        ≡ component (step_part result) at }
-{
-    let (kind, text) = match segment {
-        [] => (StepKind::RootDir, separators.root_text()),
-        [b'.'] => (StepKind::CurDir, segment),
-        [b'.', b'.'] => (StepKind::ParentDir, segment),
-        name => (StepKind::Normal, name),
-    };
-    Step { kind, text }
-}
-
-/// The first component of a text that is not empty, which ends at the first separator, and how many
-/// bytes stand before the next one.
-#[inline(always)]
-pub fn front_step(text: &[u8], end: usize, separators: Separators) -> (Step<'_>, usize)
-    requires some { 0 < length text.now }
-    requires within { end ≤ length text.now }
-    requires ends { end ≡ position_or_len (is_separator separators) text.now }
-    ensures within { result.1 ≤ length text.now }
-    ensures first { (begin : Begin) (at : ℕ) → is_clean begin separators text.now ≡ true
-        → body_from begin separators at text.now
-        ≡ component (step_part result.0) at
-        ++ later_body separators (at + result.1) (drop result.1 text.now) }
-    ensures clean { is_clean Begin.Inside separators (drop result.1 text.now) ≡ true }
-    ensures named { result.0.kind ≡ StepKind.Normal
-        → take (length result.0.text.now) text.now ≡ result.0.text.now }
-{
-    let behind = skip_blanks(&text[end..], separators);
-    (step_of(&text[..end], separators), end + behind)
-}
-
-/// Whether the last byte of a text belongs to no component: it is a separator, or a `.` behind one. A byte that stands
-/// alone belongs to one.
-#[inline(always)]
-fn ends_blank(text: &[u8], separators: Separators) -> bool
-    ensures { result ≡ not (is_trimmed separators text.now) }
-{
-    let Some((last, front)) = text.split_last() else {
-        return false;
-    };
-    let Some(before) = front.last() else {
-        return false;
-    };
-    separators.contains(*last)
-        || (*last == b'.' && !separators.is_verbatim() && separators.contains(*before))
-}
-
-/// How many bytes of a text stand up to the end of its last component.
-#[inline(always)]
-pub fn trim_blanks(text: &[u8], separators: Separators) -> usize
-    ensures within { result ≤ length text.now }
-    ensures some { 0 < length text.now → 0 < result }
-    ensures same { (begin : Begin) (at : ℕ) → body_from begin separators at (take result text.now)
-        ≡ body_from begin separators at text.now }
-    ensures clean { (begin : Begin) → is_clean begin separators (take result text.now)
-        ≡ is_clean begin separators text.now }
-    ensures trimmed { is_trimmed separators (take result text.now) ≡ true }
-{
-    let mut end = text.len();
-    'blanks: while ends_blank(&text[..end], separators) {
-        end -= 1;
-    }
-    end
-}
-
-/// The last component of a text that is not empty, and how many bytes stand up to the end of the one before it.
-#[inline(always)]
-pub fn back_step(text: &[u8], separators: Separators) -> (Step<'_>, usize)
-    requires { 0 < length text.now }
-    ensures within { result.1 ≤ length text.now }
-    ensures last { (begin : Begin) (at : ℕ) → is_clean begin separators text.now ≡ true
-        → (place : ℕ) × (body_from begin separators at text.now
-        ≡ body_from begin separators at (take result.1 text.now)
-        ++ component (step_part result.0) place) }
-    ensures ends { (begin : Begin) (at : ℕ) → is_clean begin separators text.now ≡ true
-        → end_from at (body_from begin separators at (take result.1 text.now)) ≡ at + result.1 }
-    ensures clean { (begin : Begin) → is_clean begin separators text.now ≡ true
-        → is_clean begin separators (take result.1 text.now) ≡ true }
-{
-    let last = &text[..trim_blanks(text, separators)];
-    let start = separators.last_in(last);
-    let step = step_of(&last[start..], separators);
-    if start == last.len() {
-        return (step, 0);
-    }
-    (step, trim_blanks(&last[..start], separators))
-}
-
-/// Whether a name is empty, `.` or `..`.
-#[inline(always)]
-pub fn is_dots(name: &[u8]) -> bool
-    ensures { result ≡ (is_empty name.now || is_dot name.now || is_dot_dot name.now) }
-{
-    matches!(name, [] | [b'.'] | [b'.', b'.'])
-}
-
-/// How many names are left behind a component that no parent has taken, where so many were left
-/// before it; or what the component is refused for. Of a name that is known to have allowed bytes
-/// the bytes are not looked at.
-pub fn depth_behind(
-    step: Step<'_>,
-    depth: usize,
-    separators: Separators,
-    allowed: bool,
-) -> Result<usize, CheckedPathError>
-    requires fits { depth + 1 < 2 ^ 64 }
-    requires allowed { IsTrue allowed
-        → kind_has_allowed_bytes (dialect_of separators) (step_part step).kind ≡ true }
-    ensures within { IfOk result (λ deeper. deeper ≤ depth + 1) }
-    ensures judged { (ks : List Kind)
-        → fault_at (dialect_of separators) depth ((step_part step.entry).kind ∷ ks)
-        ≡ judged (λ deeper. fault_at (dialect_of separators) deeper ks) result }
-{
-    match step.kind {
-        StepKind::RootDir => Err(CheckedPathError::UnexpectedRoot),
-        StepKind::CurDir => Ok(depth),
-        StepKind::ParentDir => depth
-            .checked_sub(1)
-            .ok_or(CheckedPathError::PathTraversalAttack),
-        StepKind::Normal
-            if (allowed || separators.has_allowed_bytes(step.text))
-                && !separators.is_reserved(step.text) => { Ok(depth + 1) }
-        StepKind::Normal => Err(CheckedPathError::InvalidFilename),
-    }
-}
 
 /// What a component is.
 #[derive(Clone, Copy, Debug, PartialEq, Eq, PartialOrd, Ord, Hash)]
@@ -209,55 +40,9 @@ pub struct Piece<'a> {
     pub text: &'a [u8],
 }
 
-/// What a component behind the prefix is.
-#[derive(Clone, Copy, Debug)]
-pub enum StepKind {
-    /// The root directory.
-    RootDir,
-    /// The current directory, `.`.
-    CurDir,
-    /// The parent directory, `..`.
-    ParentDir,
-    /// A name.
-    Normal,
-}
-
-/// One component behind the prefix. A `Piece` has room for a prefix, which a walk would copy at each
-/// step; this has none.
-#[derive(Clone, Copy, Debug)]
-pub struct Step<'a> {
-    /// What the component is.
-    pub kind: StepKind,
-    /// How it is written.
-    pub text: &'a [u8],
-}
-
-impl<'a> Step<'a> {
-    ghost use Rattle.std.specs.Prelude.{◌≡◌};
-    ghost use Rattle.typed_path.specs.views.PieceViews.{part_of, step_part};
-
-    /// The same component as one of a whole path.
-    #[inline(always)]
-    pub fn piece(self) -> Piece<'a>
-        ensures { part_of result ≡ step_part self.entry }
-    {
-        let kind = match self.kind {
-            StepKind::RootDir => PieceKind::RootDir,
-            StepKind::CurDir => PieceKind::CurDir,
-            StepKind::ParentDir => PieceKind::ParentDir,
-            StepKind::Normal => PieceKind::Normal,
-        };
-        Piece {
-            kind,
-            text: self.text,
-        }
-    }
-}
-
 impl<'a> Piece<'a> {
-    ghost use Rattle.std.specs.Prelude.{◌≡◌, ◌==◌, length};
-    ghost use Rattle.typed_path.specs.queries.Queries.{is_root};
-    ghost use Rattle.typed_path.specs.components.Part.{is_name, is_parent, is_current};
+    ghost use Rattle.typed_path.specs.queries.{is_root};
+    ghost use Rattle.typed_path.specs.components.{is_name, is_parent, is_current};
     ghost use Rattle.typed_path.specs.views.PieceViews.{part_of};
 
     /// The text of the component.
@@ -314,4 +99,216 @@ impl<'a> Piece<'a> {
     {
         self.text.is_empty()
     }
+}
+
+/// What a component behind the prefix is.
+#[derive(Clone, Copy, Debug)]
+pub enum StepKind {
+    /// The root directory.
+    RootDir,
+    /// The current directory, `.`.
+    CurDir,
+    /// The parent directory, `..`.
+    ParentDir,
+    /// A name.
+    Normal,
+}
+
+/// One component behind the prefix. A `Piece` has room for a prefix, which a walk would copy at each
+/// step; this has none.
+#[derive(Clone, Copy, Debug)]
+pub struct Step<'a> {
+    /// What the component is.
+    pub kind: StepKind,
+    /// How it is written.
+    pub text: &'a [u8],
+}
+
+impl<'a> Step<'a> {
+    ghost use Rattle.typed_path.specs.views.PieceViews.{part_of, step_part};
+
+    /// The same component as one of a whole path.
+    #[inline(always)]
+    pub fn piece(self) -> Piece<'a>
+        ensures { part_of result ≡ step_part self.entry }
+    {
+        let kind = match self.kind {
+            StepKind::RootDir => PieceKind::RootDir,
+            StepKind::CurDir => PieceKind::CurDir,
+            StepKind::ParentDir => PieceKind::ParentDir,
+            StepKind::Normal => PieceKind::Normal,
+        };
+        Piece {
+            kind,
+            text: self.text,
+        }
+    }
+}
+
+/// The component that a segment is, where it is one.
+#[inline(always)]
+pub fn step_of(segment: &[u8], separators: Separators) -> Step<'_>
+    ensures { (at : ℕ) → first separators (record { text = segment.now; start = at })
+        ≡ component (step_part result) at }
+{
+    let (kind, text) = match segment {
+        [] => (StepKind::RootDir, separators.root_text()),
+        [b'.'] => (StepKind::CurDir, segment),
+        [b'.', b'.'] => (StepKind::ParentDir, segment),
+        name => (StepKind::Normal, name),
+    };
+    Step { kind, text }
+}
+
+/// The first component of a text that is not empty, which ends at the first separator, and how many
+/// bytes stand before the next one.
+#[inline(always)]
+pub fn front_step(text: &[u8], end: usize, separators: Separators) -> (Step<'_>, usize)
+    requires some { 0 < length text.now }
+    requires within { end ≤ length text.now }
+    requires ends { end ≡ position_or_len (is_separator separators) text.now }
+    ensures within { result.1 ≤ length text.now }
+    ensures first { (begin : Begin) (at : ℕ) → is_clean begin separators text.now ≡ true
+        → body_from begin separators at text.now
+        ≡ component (step_part result.0) at
+        ++ later_body separators (at + result.1) (drop result.1 text.now) }
+    ensures clean { is_clean Begin.Inside separators (drop result.1 text.now) ≡ true }
+    ensures named { result.0.kind ≡ StepKind.Normal
+        → take (length result.0.text.now) text.now ≡ result.0.text.now }
+{
+    let behind = skip_blanks(&text[end..], separators);
+    (step_of(&text[..end], separators), end + behind)
+}
+
+/// How many bytes stand before the next component, or all where there is none.
+#[inline(always)]
+pub fn skip_blanks(text: &[u8], separators: Separators) -> usize
+    ensures within { result ≤ length text.now }
+    ensures same { (at : ℕ) → later_body separators at text.now
+        ≡ later_body separators (at + result) (drop result text.now) }
+    ensures clean { is_clean Begin.Inside separators (drop result text.now) ≡ true }
+{
+    let mut start = 0;
+    while let Some(skipped) = blank(&text[start..], separators) {
+        start += skipped;
+    }
+    start
+}
+
+/// How many bytes at the front of what stands behind a component hold none: a separator, or a `.`
+/// with the separator behind it.
+#[inline(always)]
+fn blank(text: &[u8], separators: Separators) -> Option<usize>
+    ensures within { IfSome result (λ n. (0 < n) × (n ≤ length text.now)) }
+    ensures skipped { IfSome result (λ n. (at : ℕ) → later_body separators at text.now
+        ≡ later_body separators (at + n) (drop n text.now)) }
+    ensures clean { IfNone result (is_clean Begin.Inside separators text.now ≡ true) }
+{
+    let (first, rest) = text.split_first()?;
+    if separators.contains(*first) {
+        return Some(1);
+    }
+    if *first != b'.' || separators.is_verbatim() {
+        return None;
+    }
+    match rest.first() {
+        None => Some(1),
+        Some(second) if separators.contains(*second) => Some(2),
+        Some(_) => None,
+    }
+}
+
+/// The last component of a text that is not empty, and how many bytes stand up to the end of the one before it.
+#[inline(always)]
+pub fn back_step(text: &[u8], separators: Separators) -> (Step<'_>, usize)
+    requires { 0 < length text.now }
+    ensures within { result.1 ≤ length text.now }
+    ensures last { (begin : Begin) (at : ℕ) → is_clean begin separators text.now ≡ true
+        → (place : ℕ) × (body_from begin separators at text.now
+        ≡ body_from begin separators at (take result.1 text.now)
+        ++ component (step_part result.0) place) }
+    ensures ends { (begin : Begin) (at : ℕ) → is_clean begin separators text.now ≡ true
+        → end_from at (body_from begin separators at (take result.1 text.now)) ≡ at + result.1 }
+    ensures clean { (begin : Begin) → is_clean begin separators text.now ≡ true
+        → is_clean begin separators (take result.1 text.now) ≡ true }
+{
+    let last = &text[..trim_blanks(text, separators)];
+    let start = separators.last_in(last);
+    let step = step_of(&last[start..], separators);
+    if start == last.len() {
+        return (step, 0);
+    }
+    (step, trim_blanks(&last[..start], separators))
+}
+
+/// How many bytes of a text stand up to the end of its last component.
+#[inline(always)]
+pub fn trim_blanks(text: &[u8], separators: Separators) -> usize
+    ensures within { result ≤ length text.now }
+    ensures some { 0 < length text.now → 0 < result }
+    ensures same { (begin : Begin) (at : ℕ) → body_from begin separators at (take result text.now)
+        ≡ body_from begin separators at text.now }
+    ensures clean { (begin : Begin) → is_clean begin separators (take result text.now)
+        ≡ is_clean begin separators text.now }
+    ensures trimmed { is_trimmed separators (take result text.now) ≡ true }
+{
+    let mut end = text.len();
+    'blanks: while ends_blank(&text[..end], separators) {
+        end -= 1;
+    }
+    end
+}
+
+/// Whether the last byte of a text belongs to no component: it is a separator, or a `.` behind one. A byte that stands
+/// alone belongs to one.
+#[inline(always)]
+fn ends_blank(text: &[u8], separators: Separators) -> bool
+    ensures { result ≡ not (is_trimmed separators text.now) }
+{
+    let Some((last, front)) = text.split_last() else {
+        return false;
+    };
+    let Some(before) = front.last() else {
+        return false;
+    };
+    separators.contains(*last)
+        || (*last == b'.' && !separators.is_verbatim() && separators.contains(*before))
+}
+
+/// How many names are left behind a component that no parent has taken, where so many were left
+/// before it; or what the component is refused for. Of a name that is known to have allowed bytes
+/// the bytes are not looked at.
+pub fn depth_behind(
+    step: Step<'_>,
+    depth: usize,
+    separators: Separators,
+    allowed: bool,
+) -> Result<usize, CheckedPathError>
+    requires fits { depth + 1 < 2 ^ 64 }
+    requires allowed { IsTrue allowed
+        → kind_has_allowed_bytes (dialect_of separators) (step_part step).kind ≡ true }
+    ensures within { IfOk result (λ deeper. deeper ≤ depth + 1) }
+    ensures judged { (ks : List Kind)
+        → fault_at (dialect_of separators) depth ((step_part step.entry).kind ∷ ks)
+        ≡ judged (λ deeper. fault_at (dialect_of separators) deeper ks) result }
+{
+    match step.kind {
+        StepKind::RootDir => Err(CheckedPathError::UnexpectedRoot),
+        StepKind::CurDir => Ok(depth),
+        StepKind::ParentDir => depth
+            .checked_sub(1)
+            .ok_or(CheckedPathError::PathTraversalAttack),
+        StepKind::Normal
+            if (allowed || separators.has_allowed_bytes(step.text))
+                && !separators.is_reserved(step.text) => { Ok(depth + 1) }
+        StepKind::Normal => Err(CheckedPathError::InvalidFilename),
+    }
+}
+
+/// Whether a name is empty, `.` or `..`.
+#[inline(always)]
+pub fn is_dots(name: &[u8]) -> bool
+    ensures { result ≡ (is_empty name.now || is_dot name.now || is_dot_dot name.now) }
+{
+    matches!(name, [] | [b'.'] | [b'.', b'.'])
 }

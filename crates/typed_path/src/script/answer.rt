@@ -1,10 +1,9 @@
-//! A dialogue of lines between a source and a sink.
+//! A dialogue of lines between a source and a sink: the streams, the run, and what it keeps between
+//! reads.
 
-ghost use Rattle.std.specs.Prelude.{◌≡◌, ◌<◌, [], length, true, OnOk, OnErr, IfErr, IsErrOf, ◌∷◌, ◌≤◌, ℕ, List, Bool, Option, take, IfOk, ◌-◌, ◌^◌, false, None, if◌then◌else◌};
+ghost use Rattle.std.specs.Prelude.{◌≡◌, ◌<◌, [], length, true, OnOk, OnErr, IfErr, IsErrOf, ◌∷◌, ◌≤◌, ℕ, List, Bool, Option, take, IfOk, ◌-◌, ◌^◌, false, None, if◌then◌else◌, ◌++◌};
 ghost use Rattle.std.specs.Io.KnownBytes.{Appends, Consumes, IsAtEnd};
-ghost use Rattle.typed_path.specs.script.Streams.{streams, AnswersAll, StopsReading, StopsWriting, RunsOut, Ends, WritesPart, KeepsIfTold};
-ghost use Rattle.typed_path.specs.script.Lines.{split_lines};
-ghost use Rattle.typed_path.specs.script.Status.{status_of};
+ghost use Rattle.typed_path.specs.script.{streams, AnswersAll, StopsReading, StopsWriting, RunsOut, Ends, WritesPart, KeepsIfTold, split_lines, reply, replies_to, complete_lines, open_line, all_lines, status_of};
 
 use crate::errors::LineError;
 use crate::scan::cut_at;
@@ -13,24 +12,54 @@ use std::alloc::{AllocError, Global};
 use std::io::{Read, Write};
 use thiserror::Error;
 
-/// How many bytes are asked for in one read.
-const CHUNK: usize = 65_536;
+/// A reader or a writer failed.
+#[derive(Clone, Copy, Debug, PartialEq, Eq, Error)]
+#[error("a stream failed")]
+pub struct Failed;
 
-/// Writes all the bytes.
-fn write_all<W: Sink>(writer: &mut W, bytes: &[u8]) -> Result<(), Failed>
-    ensures written { OnOk result
-        (Appends (W.contents writer.old) (W.contents writer.new) bytes.now) }
-    ensures unfailed { OnOk result (W.has_failed writer.new ≡ W.has_failed writer.old) }
-    ensures part { OnErr result
-        (WritesPart (W.contents writer.old) (W.contents writer.new) bytes.now) }
-    ensures failed { OnErr result (W.has_failed writer.new ≡ true) }
-{
-    let mut rest = bytes;
-    'writes: while !rest.is_empty() {
-        let count = writer.write(rest)?;
-        rest = &rest[count..];
-    }
-    Ok(())
+/// Where bytes come from.
+///
+/// It tells the bytes that are left where it can, whether it has failed, and a bound on how many
+/// reads may still give bytes.
+pub trait Source {
+    ghost remaining: { Self → Option (List ℕ) };
+
+    ghost has_failed: { Self → Bool };
+
+    ghost bound: { Self → ℕ };
+
+    /// Reads into the buffer, and answers how many bytes came. Into a buffer that is not empty, none
+    /// come only at the end. A failure moves no byte.
+    fn read(&mut self, buffer: &mut [u8]) -> Result<usize, Failed>
+        ensures count { IfOk result (λ n. n ≤ length buffer.new) }
+        ensures bytes { IfOk result
+            (λ n. Consumes (remaining self.old) (remaining self.new) (take n buffer.new)) }
+        ensures end { IfOk result
+            (λ n. n ≡ 0 → 0 < length buffer.new → IsAtEnd (remaining self.new)) }
+        ensures nearer { IfOk result (λ n. 0 < n → bound self.new < bound self.old) }
+        ensures unfailed { OnOk result (has_failed self.new ≡ has_failed self.old) }
+        ensures failed { OnErr result (has_failed self.new ≡ true) }
+        ensures kept { OnErr result (KeepsIfTold (remaining self.old) (remaining self.new)) };
+}
+
+/// Where bytes go to.
+///
+/// It tells the bytes that were written where it can, and whether it has failed.
+pub trait Sink {
+    ghost contents: { Self → Option (List ℕ) };
+
+    ghost has_failed: { Self → Bool };
+
+    /// Writes bytes from the front of the slice, and answers how many: at least one of a slice that
+    /// is not empty. A failure moves no byte.
+    fn write(&mut self, bytes: &[u8]) -> Result<usize, Failed>
+        ensures count { IfOk result (λ n. n ≤ length bytes.now) }
+        ensures some { IfOk result (λ n. 0 < length bytes.now → 0 < n) }
+        ensures bytes { IfOk result
+            (λ n. Appends (contents self.old) (contents self.new) (take n bytes.now)) }
+        ensures unfailed { OnOk result (has_failed self.new ≡ has_failed self.old) }
+        ensures failed { OnErr result (has_failed self.new ≡ true) }
+        ensures kept { OnErr result (KeepsIfTold (contents self.old) (contents self.new)) };
 }
 
 /// Reads lines of commands to the end of the input, and writes a reply to each.
@@ -73,6 +102,9 @@ pub fn answer_lines<R: Source, W: Sink>(
     let mut dialogue = Dialogue::new(alloc);
     converse(&mut dialogue, reader, writer, chunk.as_mut_slice())
 }
+
+/// How many bytes are asked for in one read.
+const CHUNK: usize = 65_536;
 
 /// Reads into a buffer again and again, and answers the lines that come.
 fn converse<R: Source, W: Sink>(
@@ -121,6 +153,23 @@ fn send<W: Sink>(dialogue: &mut Dialogue, writer: &mut W) -> Result<(), LineErro
     Ok(())
 }
 
+/// Writes all the bytes.
+fn write_all<W: Sink>(writer: &mut W, bytes: &[u8]) -> Result<(), Failed>
+    ensures written { OnOk result
+        (Appends (W.contents writer.old) (W.contents writer.new) bytes.now) }
+    ensures unfailed { OnOk result (W.has_failed writer.new ≡ W.has_failed writer.old) }
+    ensures part { OnErr result
+        (WritesPart (W.contents writer.old) (W.contents writer.new) bytes.now) }
+    ensures failed { OnErr result (W.has_failed writer.new ≡ true) }
+{
+    let mut rest = bytes;
+    'writes: while !rest.is_empty() {
+        let count = writer.write(rest)?;
+        rest = &rest[count..];
+    }
+    Ok(())
+}
+
 /// The replies to the lines that were completed, and the line that was begun.
 #[derive(Drop)]
 pub struct Dialogue {
@@ -132,9 +181,6 @@ pub struct Dialogue {
 }
 
 impl Dialogue {
-    ghost use Rattle.std.specs.Prelude.{◌≡◌, [], ◌∷◌, ◌++◌, OnOk};
-    ghost use Rattle.typed_path.specs.script.Lines.{split_lines, reply, replies_to, complete_lines, open_line, all_lines};
-
     /// A dialogue with no open line and no replies.
     pub fn new(alloc: Global) -> Dialogue
         ensures line { result.line.items ≡ [] }
@@ -192,56 +238,6 @@ impl Dialogue {
         }
         self.complete(b"")
     }
-}
-
-/// A reader or a writer failed.
-#[derive(Clone, Copy, Debug, PartialEq, Eq, Error)]
-#[error("a stream failed")]
-pub struct Failed;
-
-/// Where bytes come from.
-///
-/// It tells the bytes that are left where it can, whether it has failed, and a bound on how many
-/// reads may still give bytes.
-pub trait Source {
-    ghost remaining: { Self → Option (List ℕ) };
-
-    ghost has_failed: { Self → Bool };
-
-    ghost bound: { Self → ℕ };
-
-    /// Reads into the buffer, and answers how many bytes came. Into a buffer that is not empty, none
-    /// come only at the end. A failure moves no byte.
-    fn read(&mut self, buffer: &mut [u8]) -> Result<usize, Failed>
-        ensures count { IfOk result (λ n. n ≤ length buffer.new) }
-        ensures bytes { IfOk result
-            (λ n. Consumes (remaining self.old) (remaining self.new) (take n buffer.new)) }
-        ensures end { IfOk result
-            (λ n. n ≡ 0 → 0 < length buffer.new → IsAtEnd (remaining self.new)) }
-        ensures nearer { IfOk result (λ n. 0 < n → bound self.new < bound self.old) }
-        ensures unfailed { OnOk result (has_failed self.new ≡ has_failed self.old) }
-        ensures failed { OnErr result (has_failed self.new ≡ true) }
-        ensures kept { OnErr result (KeepsIfTold (remaining self.old) (remaining self.new)) };
-}
-
-/// Where bytes go to.
-///
-/// It tells the bytes that were written where it can, and whether it has failed.
-pub trait Sink {
-    ghost contents: { Self → Option (List ℕ) };
-
-    ghost has_failed: { Self → Bool };
-
-    /// Writes bytes from the front of the slice, and answers how many: at least one of a slice that
-    /// is not empty. A failure moves no byte.
-    fn write(&mut self, bytes: &[u8]) -> Result<usize, Failed>
-        ensures count { IfOk result (λ n. n ≤ length bytes.now) }
-        ensures some { IfOk result (λ n. 0 < length bytes.now → 0 < n) }
-        ensures bytes { IfOk result
-            (λ n. Appends (contents self.old) (contents self.new) (take n bytes.now)) }
-        ensures unfailed { OnOk result (has_failed self.new ≡ has_failed self.old) }
-        ensures failed { OnErr result (has_failed self.new ≡ true) }
-        ensures kept { OnErr result (KeepsIfTold (contents self.old) (contents self.new)) };
 }
 
 /// A source over a reader of std. It tells no bytes once it has failed.

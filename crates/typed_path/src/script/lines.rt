@@ -1,367 +1,27 @@
-//! The replies to lines of commands.
+//! A line of commands, taken off the front of an input, and its reply.
+//!
+//! `answer_line` and what it calls take the line apart; behind them stands what puts each reply.
 
 ghost use Rattle.std.specs.Prelude.{◌≡◌, [], ◌∷◌, ◌++◌, Some, take, length, OnOk, option_map, ◌≢◌, ℕ, List, codes, MatchOption, IfOk, IfSome, IfNone};
 ghost use Rattle.std.specs.Option.{option_to_list};
-ghost use Rattle.typed_path.specs.components.Comps.{parts_of};
-ghost use Rattle.typed_path.specs.changes.Push.{push};
+ghost use Rattle.typed_path.specs.components.{parts_of};
+ghost use Rattle.typed_path.specs.changes.{push};
 ghost use Rattle.typed_path.specs.views.PieceViews.{part_of, prefix_view, step_part};
 ghost use Rattle.typed_path.specs.declared.scan.step.StepKind.{StepKind};
-ghost use Rattle.typed_path.specs.views.FrontViews.{front_bytes};
-ghost use Rattle.typed_path.specs.conversions.Convert.{converted, converted_checked};
-ghost use Rattle.typed_path.specs.script.Lines.{tab, equals_sign, reply_line, text_reply, components_reply, reply_in, pair_reply_in, convert_reply_in, joined_reply, converted_reply, in_named, dialect_named, derived_reply, refusal_name, bad_line, component_field, fields_behind, kind_name, prefix_name, split_lines, fields_of, reply, bare_reply, AnswersFirst};
-ghost use Rattle.typed_path.specs.script.Commands.{command_name, end_byte, texts_reply};
+ghost use Rattle.typed_path.specs.views.SpanViews.{span_bytes};
+ghost use Rattle.typed_path.specs.conversions.{converted, converted_checked};
+ghost use Rattle.typed_path.specs.script.{tab, equals_sign, reply_line, text_reply, components_reply, reply_in, pair_reply_in, convert_reply_in, joined_reply, converted_reply, in_named, dialect_named, derived_reply, refusal_name, bad_line, component_field, fields_behind, kind_name, prefix_name, split_lines, fields_of, reply, bare_reply, AnswersFirst, command_name, end_byte, texts_reply};
 
-use crate::common::{Encoding, put_front};
+use crate::common::{Encoding, append_first};
 use crate::conversions::{convert_checked, put_converted};
 use crate::errors::{CheckedPathError, PathError};
 use crate::scan::{
-    Front, Piece, PieceKind, Step, StepKind, WindowsPrefix, cut_at, first_between, text_behind,
+    Piece, PieceKind, Span, Step, StepKind, WindowsPrefix, cut_at, first_between, text_behind,
 };
 use crate::typed::PathType;
 use crate::unix::UnixEncoding;
 use crate::windows::WindowsEncoding;
 use std::alloc::AllocError;
-
-/// What a line that names an encoding asks for.
-#[derive(Clone, Copy)]
-pub enum Command {
-    Normalize,
-    Components,
-    Join,
-    JoinChecked,
-    Convert,
-    ConvertChecked,
-}
-
-/// Puts the reply that names the encoding that a path looks like behind others.
-pub fn put_derived(path: &[u8], replies: &mut Vec<u8>) -> Result<(), AllocError>
-    ensures { OnOk result
-        (replies.new.items ≡ replies.old.items ++ reply_line (derived_reply path.now)) }
-{
-    match PathType::derive(path) {
-        PathType::Unix => replies.extend_from_slice(b"ok\tunix\n"),
-        PathType::Windows => replies.extend_from_slice(b"ok\twindows\n"),
-    }
-}
-
-/// Puts the reply to a command on a path behind others.
-pub fn put_path_reply<T: Encoding>(
-    command: Command,
-    path: Front<'_>,
-    replies: &mut Vec<u8>,
-) -> Result<(), AllocError>
-    ensures { OnOk result (replies.new.items ≡ replies.old.items
-        ++ reply_line (reply_in T.dialect (command_name command) (front_bytes path.entry))) }
-{
-    match command {
-        Command::Normalize => {
-            replies.extend_from_slice(b"ok\t")?;
-            T::put_normal(replies, path.as_bytes())?;
-            replies.push(b'\n')?;
-            Ok(())
-        }
-        Command::Components => put_components::<T>(path, replies),
-        Command::Join | Command::JoinChecked | Command::Convert | Command::ConvertChecked => {
-            put_bad_line(replies)
-        }
-    }
-}
-
-/// Puts the reply to a command on two texts behind others: a base and a path, or the name of an
-/// encoding and a path.
-pub fn put_pair_reply<T: Encoding>(
-    command: Command,
-    first: &[u8],
-    path: Front<'_>,
-    replies: &mut Vec<u8>,
-) -> Result<(), AllocError>
-    ensures { OnOk result (replies.new.items ≡ replies.old.items ++ reply_line
-        (pair_reply_in T.dialect (command_name command) first.now (front_bytes path.entry))) }
-{
-    match command {
-        Command::Join => put_joined::<T>(first, path.as_bytes(), replies),
-        Command::JoinChecked => match T::check(path.as_bytes()) {
-            Ok(()) => put_joined::<T>(first, path.as_bytes(), replies),
-            Err(refusal) => put_refusal(refusal, replies),
-        },
-        Command::Convert | Command::ConvertChecked => {
-            put_convert_reply::<T>(command, first, path, replies)
-        }
-        Command::Normalize | Command::Components => put_bad_line(replies),
-    }
-}
-
-/// Puts the reply to a conversion behind others, by the name of the encoding.
-fn put_convert_reply<T: Encoding>(
-    command: Command,
-    target: &[u8],
-    path: Front<'_>,
-    replies: &mut Vec<u8>,
-) -> Result<(), AllocError>
-    ensures { OnOk result (replies.new.items ≡ replies.old.items ++ reply_line (in_named
-        (convert_reply_in T.dialect (command_name command) (front_bytes path.entry))
-        (dialect_named target.now))) }
-{
-    if target == b"unix".as_slice() {
-        return put_conversion::<T, UnixEncoding>(command, path, replies);
-    }
-    if target == b"windows".as_slice() {
-        return put_conversion::<T, WindowsEncoding>(command, path, replies);
-    }
-    put_bad_line(replies)
-}
-
-/// Puts the reply to a conversion into an encoding behind others.
-fn put_conversion<T: Encoding, U: Encoding>(
-    command: Command,
-    path: Front<'_>,
-    replies: &mut Vec<u8>,
-) -> Result<(), AllocError>
-    ensures { OnOk result (replies.new.items ≡ replies.old.items ++ reply_line
-        (convert_reply_in T.dialect (command_name command) (front_bytes path.entry) U.dialect)) }
-{
-    match command {
-        Command::Convert => put_converted_text::<T, U>(path, replies),
-        Command::ConvertChecked => put_converted_checked::<T, U>(path, replies),
-        Command::Normalize | Command::Components | Command::Join | Command::JoinChecked => {
-            put_bad_line(replies)
-        }
-    }
-}
-
-/// Puts the reply that is a path in another encoding behind others.
-fn put_converted_text<T: Encoding, U: Encoding>(
-    path: Front<'_>,
-    replies: &mut Vec<u8>,
-) -> Result<(), AllocError>
-    ensures { OnOk result (replies.new.items
-        ≡ replies.old.items ++ text_reply (converted T.dialect U.dialect (front_bytes path.entry))) }
-{
-    replies.extend_from_slice(b"ok\t")?;
-    put_converted::<T, U>(replies, path)?;
-    replies.push(b'\n')?;
-    Ok(())
-}
-
-/// Puts the reply that is a path in another encoding, or the name of its refusal, behind others.
-fn put_converted_checked<T: Encoding, U: Encoding>(
-    path: Front<'_>,
-    replies: &mut Vec<u8>,
-) -> Result<(), AllocError>
-    ensures { OnOk result (replies.new.items ≡ replies.old.items
-        ++ reply_line (converted_reply
-        (converted_checked T.dialect U.dialect (front_bytes path.entry)))) }
-{
-    let len = replies.len();
-    replies.extend_from_slice(b"ok\t")?;
-    let start = replies.len();
-    match convert_checked::<T, U>(replies, start, path) {
-        Ok(()) => {
-            replies.push(b'\n')?;
-            Ok(())
-        }
-        Err(PathError::Checked(refusal)) => {
-            replies.truncate(len);
-            put_refusal(refusal, replies)
-        }
-        Err(PathError::OutOfMemory) => Err(AllocError),
-    }
-}
-
-/// Puts the reply that is a path pushed onto a base behind others.
-fn put_joined<T: Encoding>(
-    base: &[u8],
-    path: &[u8],
-    replies: &mut Vec<u8>,
-) -> Result<(), AllocError>
-    ensures { OnOk result
-        (replies.new.items ≡ replies.old.items ++ text_reply (push T.dialect base.now path.now)) }
-{
-    replies.extend_from_slice(b"ok\t")?;
-    let start = replies.len();
-    replies.extend_from_slice(base)?;
-    T::push_behind(replies, start, path)?;
-    replies.push(b'\n')?;
-    Ok(())
-}
-
-/// Puts the reply that is the name of a refusal behind others.
-fn put_refusal(refusal: CheckedPathError, replies: &mut Vec<u8>) -> Result<(), AllocError>
-    ensures { OnOk result
-        (replies.new.items ≡ replies.old.items ++ reply_line (joined_reply [] (Some refusal))) }
-{
-    replies.extend_from_slice(b"err\t")?;
-    replies.extend_from_slice(refusal_name(refusal))?;
-    replies.push(b'\n')?;
-    Ok(())
-}
-
-/// What a reply calls a refusal.
-fn refusal_name(refusal: CheckedPathError) -> &'static [u8]
-    ensures { result.now ≡ refusal_name refusal }
-{
-    match refusal {
-        CheckedPathError::InvalidFilename => b"InvalidFilename",
-        CheckedPathError::PathTraversalAttack => b"PathTraversalAttack",
-        CheckedPathError::UnexpectedPrefix => b"UnexpectedPrefix",
-        CheckedPathError::UnexpectedRoot => b"UnexpectedRoot",
-    }
-}
-
-/// Puts the reply to a line that is no command behind others.
-pub fn put_bad_line(replies: &mut Vec<u8>) -> Result<(), AllocError>
-    ensures { OnOk result (replies.new.items ≡ replies.old.items ++ reply_line bad_line) }
-{
-    replies.extend_from_slice(b"err\tBadLine\n")
-}
-
-/// Puts the reply that shows the components of a path behind others: the prefix first, so that the
-/// loop over the other components holds none.
-fn put_components<T: Encoding>(path: Front<'_>, replies: &mut Vec<u8>) -> Result<(), AllocError>
-    ensures { OnOk result (replies.new.items ≡ replies.old.items
-        ++ reply_line (components_reply (parts_of T.dialect (front_bytes path.entry)))) }
-{
-    let cursor = T::cursor(path.as_bytes());
-    replies.extend_from_slice(b"ok")?;
-    put_prefix(cursor.prefix_piece(), replies)?;
-    let mut body = cursor.body().within(path);
-    let mut left = body.onward();
-    'steps: while let Some(step) = body.front() {
-        put_step(step, left, replies)?;
-        left = body.onward();
-    }
-    replies.push(b'\n')?;
-    Ok(())
-}
-
-/// Puts a tab, and the field that shows the prefix, where there is one.
-#[inline(always)]
-fn put_prefix(prefix: Option<Piece<'_>>, replies: &mut Vec<u8>) -> Result<(), AllocError>
-    ensures { OnOk result (replies.new.items
-        ≡ replies.old.items ++ fields_behind (option_to_list (option_map part_of prefix.entry))) }
-{
-    match prefix {
-        Some(piece) => put_component(piece, replies),
-        None => Ok(()),
-    }
-}
-
-/// Puts a tab, and the field that shows a component behind the prefix, by what stood there before it
-/// was taken: a name is what that begins with.
-#[inline(always)]
-fn put_step(step: Step<'_>, left: &[u8], replies: &mut Vec<u8>) -> Result<(), AllocError>
-    requires { step.kind ≡ StepKind.Normal
-        → take (length step.text.now) left.now ≡ step.text.now }
-    ensures { OnOk result
-        (replies.new.items ≡ replies.old.items ++ tab ∷ component_field (step_part step.entry)) }
-{
-    put_label(step.piece(), replies)?;
-    match step.kind {
-        StepKind::Normal => put_front(replies, left, step.text.len()),
-        _ => replies.extend_from_slice(step.text),
-    }
-}
-
-/// Puts a tab, and the field that shows a component.
-#[inline(always)]
-fn put_component(piece: Piece<'_>, replies: &mut Vec<u8>) -> Result<(), AllocError>
-    ensures { OnOk result
-        (replies.new.items ≡ replies.old.items ++ tab ∷ component_field (part_of piece.entry)) }
-{
-    put_label(piece, replies)?;
-    replies.extend_from_slice(piece.text)
-}
-
-/// Puts a tab, what a field calls a component, and an equals sign. Each is put as a constant, which
-/// is a store where a slice that is chosen first would be a call.
-#[inline(always)]
-fn put_label(piece: Piece<'_>, replies: &mut Vec<u8>) -> Result<(), AllocError>
-    ensures { OnOk result (replies.new.items ≡ replies.old.items
-        ++ tab ∷ kind_name (part_of piece.entry).kind ++ equals_sign ∷ []) }
-{
-    match piece.kind {
-        PieceKind::Prefix(prefix) => replies.extend_from_slice(prefix_label(prefix)),
-        PieceKind::RootDir => replies.extend_from_slice(b"\troot="),
-        PieceKind::CurDir => replies.extend_from_slice(b"\tcurrent="),
-        PieceKind::ParentDir => replies.extend_from_slice(b"\tparent="),
-        PieceKind::Normal => replies.extend_from_slice(b"\tnormal="),
-    }
-}
-
-/// A tab, what a field calls a prefix, and an equals sign.
-fn prefix_label(prefix: WindowsPrefix<'_>) -> &'static [u8]
-    ensures { result.now ≡ tab ∷ prefix_name (prefix_view prefix.entry) ++ equals_sign ∷ [] }
-{
-    match prefix {
-        WindowsPrefix::Verbatim(_) => b"\tVerbatim=",
-        WindowsPrefix::VerbatimUNC(_, _) => b"\tVerbatimUNC=",
-        WindowsPrefix::VerbatimDisk(_) => b"\tVerbatimDisk=",
-        WindowsPrefix::DeviceNS(_) => b"\tDeviceNS=",
-        WindowsPrefix::UNC(_, _) => b"\tUNC=",
-        WindowsPrefix::Disk(_) => b"\tDisk=",
-    }
-}
-
-/// What stands behind a field.
-#[derive(Clone, Copy)]
-pub enum FieldEnd {
-    /// A tab: another field follows.
-    Tab,
-    /// A line feed: the line ends.
-    LineFeed,
-}
-
-/// The field at the front of an input, what it ends with, and what stands behind that.
-#[inline(always)]
-fn cut_field(input: &[u8]) -> Option<(Front<'_>, FieldEnd, &[u8])>
-    ensures none { IfNone result (split_lines input.now ≡ input.now ∷ []) }
-    ensures text { IfSome result
-        (λ cut. input.now ≡ front_bytes cut.0 ++ end_byte cut.1 ∷ cut.2.now) }
-    ensures field { IfSome result (λ cut. fields_of (front_bytes cut.0) ≡ front_bytes cut.0 ∷ []) }
-    ensures line { IfSome result (λ cut. split_lines (front_bytes cut.0) ≡ front_bytes cut.0 ∷ []) }
-{
-    let at = first_between(input, 0, input.len(), (b'\t', b'\n'));
-    if at == input.len() {
-        return None;
-    }
-    let end = if input[at] == b'\t' {
-        FieldEnd::Tab
-    } else {
-        FieldEnd::LineFeed
-    };
-    let field = Front {
-        text: input,
-        len: at,
-    };
-    Some((field, end, &input[at + 1..]))
-}
-
-/// The command that an input begins with, and what stands behind its tab.
-fn command_of(input: &[u8]) -> Option<(Command, &[u8])>
-    ensures { MatchOption result
-        ((c : Command) (rest : List ℕ) → input.now ≢ command_name c ++ tab ∷ rest)
-        (λ found. input.now ≡ command_name found.0 ++ tab ∷ found.1.now) }
-{
-    if let Some(rest) = text_behind(b"normalize\t", input) {
-        return Some((Command::Normalize, rest));
-    }
-    if let Some(rest) = text_behind(b"components\t", input) {
-        return Some((Command::Components, rest));
-    }
-    if let Some(rest) = text_behind(b"join\t", input) {
-        return Some((Command::Join, rest));
-    }
-    if let Some(rest) = text_behind(b"join_checked\t", input) {
-        return Some((Command::JoinChecked, rest));
-    }
-    if let Some(rest) = text_behind(b"convert\t", input) {
-        return Some((Command::Convert, rest));
-    }
-    if let Some(rest) = text_behind(b"convert_checked\t", input) {
-        return Some((Command::ConvertChecked, rest));
-    }
-    None
-}
 
 /// Puts the reply to the first line of an input behind others, and tells what stands behind the
 /// line. Where the input has no line feed, nothing is put.
@@ -479,4 +139,345 @@ fn answer_bad_line<'a>(
     };
     put_bad_line(replies)?;
     Ok(Some(left))
+}
+
+/// What a line that names an encoding asks for.
+#[derive(Clone, Copy)]
+pub enum Command {
+    Normalize,
+    Components,
+    Join,
+    JoinChecked,
+    Convert,
+    ConvertChecked,
+}
+
+/// The command that an input begins with, and what stands behind its tab.
+fn command_of(input: &[u8]) -> Option<(Command, &[u8])>
+    ensures { MatchOption result
+        ((c : Command) (rest : List ℕ) → input.now ≢ command_name c ++ tab ∷ rest)
+        (λ found. input.now ≡ command_name found.0 ++ tab ∷ found.1.now) }
+{
+    if let Some(rest) = text_behind(b"normalize\t", input) {
+        return Some((Command::Normalize, rest));
+    }
+    if let Some(rest) = text_behind(b"components\t", input) {
+        return Some((Command::Components, rest));
+    }
+    if let Some(rest) = text_behind(b"join\t", input) {
+        return Some((Command::Join, rest));
+    }
+    if let Some(rest) = text_behind(b"join_checked\t", input) {
+        return Some((Command::JoinChecked, rest));
+    }
+    if let Some(rest) = text_behind(b"convert\t", input) {
+        return Some((Command::Convert, rest));
+    }
+    if let Some(rest) = text_behind(b"convert_checked\t", input) {
+        return Some((Command::ConvertChecked, rest));
+    }
+    None
+}
+
+/// What stands behind a field.
+#[derive(Clone, Copy)]
+pub enum FieldEnd {
+    /// A tab: another field follows.
+    Tab,
+    /// A line feed: the line ends.
+    LineFeed,
+}
+
+/// The field at the front of an input, what it ends with, and what stands behind that.
+#[inline(always)]
+fn cut_field(input: &[u8]) -> Option<(Span<'_>, FieldEnd, &[u8])>
+    ensures none { IfNone result (split_lines input.now ≡ input.now ∷ []) }
+    ensures text { IfSome result
+        (λ cut. input.now ≡ span_bytes cut.0 ++ end_byte cut.1 ∷ cut.2.now) }
+    ensures field { IfSome result (λ cut. fields_of (span_bytes cut.0) ≡ span_bytes cut.0 ∷ []) }
+    ensures line { IfSome result (λ cut. split_lines (span_bytes cut.0) ≡ span_bytes cut.0 ∷ []) }
+{
+    let at = first_between(input, 0, input.len(), (b'\t', b'\n'));
+    if at == input.len() {
+        return None;
+    }
+    let end = if input[at] == b'\t' {
+        FieldEnd::Tab
+    } else {
+        FieldEnd::LineFeed
+    };
+    let field = Span {
+        text: input,
+        len: at,
+    };
+    Some((field, end, &input[at + 1..]))
+}
+
+/// Puts the reply that names the encoding that a path looks like behind others.
+pub fn put_derived(path: &[u8], replies: &mut Vec<u8>) -> Result<(), AllocError>
+    ensures { OnOk result
+        (replies.new.items ≡ replies.old.items ++ reply_line (derived_reply path.now)) }
+{
+    match PathType::derive(path) {
+        PathType::Unix => replies.extend_from_slice(b"ok\tunix\n"),
+        PathType::Windows => replies.extend_from_slice(b"ok\twindows\n"),
+    }
+}
+
+/// Puts the reply to a command on a path behind others.
+pub fn put_path_reply<T: Encoding>(
+    command: Command,
+    path: Span<'_>,
+    replies: &mut Vec<u8>,
+) -> Result<(), AllocError>
+    ensures { OnOk result (replies.new.items ≡ replies.old.items
+        ++ reply_line (reply_in T.dialect (command_name command) (span_bytes path.entry))) }
+{
+    match command {
+        Command::Normalize => {
+            replies.extend_from_slice(b"ok\t")?;
+            T::put_normal(replies, path.as_bytes())?;
+            replies.push(b'\n')?;
+            Ok(())
+        }
+        Command::Components => put_components::<T>(path, replies),
+        Command::Join | Command::JoinChecked | Command::Convert | Command::ConvertChecked => {
+            put_bad_line(replies)
+        }
+    }
+}
+
+/// Puts the reply to a command on two texts behind others: a base and a path, or the name of an
+/// encoding and a path.
+pub fn put_pair_reply<T: Encoding>(
+    command: Command,
+    first: &[u8],
+    path: Span<'_>,
+    replies: &mut Vec<u8>,
+) -> Result<(), AllocError>
+    ensures { OnOk result (replies.new.items ≡ replies.old.items ++ reply_line
+        (pair_reply_in T.dialect (command_name command) first.now (span_bytes path.entry))) }
+{
+    match command {
+        Command::Join => put_joined::<T>(first, path.as_bytes(), replies),
+        Command::JoinChecked => match T::check(path.as_bytes()) {
+            Ok(()) => put_joined::<T>(first, path.as_bytes(), replies),
+            Err(refusal) => put_refusal(refusal, replies),
+        },
+        Command::Convert | Command::ConvertChecked => {
+            put_convert_reply::<T>(command, first, path, replies)
+        }
+        Command::Normalize | Command::Components => put_bad_line(replies),
+    }
+}
+
+/// Puts the reply to a conversion behind others, by the name of the encoding.
+fn put_convert_reply<T: Encoding>(
+    command: Command,
+    target: &[u8],
+    path: Span<'_>,
+    replies: &mut Vec<u8>,
+) -> Result<(), AllocError>
+    ensures { OnOk result (replies.new.items ≡ replies.old.items ++ reply_line (in_named
+        (convert_reply_in T.dialect (command_name command) (span_bytes path.entry))
+        (dialect_named target.now))) }
+{
+    if target == b"unix".as_slice() {
+        return put_conversion::<T, UnixEncoding>(command, path, replies);
+    }
+    if target == b"windows".as_slice() {
+        return put_conversion::<T, WindowsEncoding>(command, path, replies);
+    }
+    put_bad_line(replies)
+}
+
+/// Puts the reply to a conversion into an encoding behind others.
+fn put_conversion<T: Encoding, U: Encoding>(
+    command: Command,
+    path: Span<'_>,
+    replies: &mut Vec<u8>,
+) -> Result<(), AllocError>
+    ensures { OnOk result (replies.new.items ≡ replies.old.items ++ reply_line
+        (convert_reply_in T.dialect (command_name command) (span_bytes path.entry) U.dialect)) }
+{
+    match command {
+        Command::Convert => put_converted_text::<T, U>(path, replies),
+        Command::ConvertChecked => put_converted_checked::<T, U>(path, replies),
+        Command::Normalize | Command::Components | Command::Join | Command::JoinChecked => {
+            put_bad_line(replies)
+        }
+    }
+}
+
+/// Puts the reply that is a path in another encoding behind others.
+fn put_converted_text<T: Encoding, U: Encoding>(
+    path: Span<'_>,
+    replies: &mut Vec<u8>,
+) -> Result<(), AllocError>
+    ensures { OnOk result (replies.new.items
+        ≡ replies.old.items ++ text_reply (converted T.dialect U.dialect (span_bytes path.entry))) }
+{
+    replies.extend_from_slice(b"ok\t")?;
+    put_converted::<T, U>(replies, path)?;
+    replies.push(b'\n')?;
+    Ok(())
+}
+
+/// Puts the reply that is a path in another encoding, or the name of its refusal, behind others.
+fn put_converted_checked<T: Encoding, U: Encoding>(
+    path: Span<'_>,
+    replies: &mut Vec<u8>,
+) -> Result<(), AllocError>
+    ensures { OnOk result (replies.new.items ≡ replies.old.items
+        ++ reply_line (converted_reply
+        (converted_checked T.dialect U.dialect (span_bytes path.entry)))) }
+{
+    let len = replies.len();
+    replies.extend_from_slice(b"ok\t")?;
+    let start = replies.len();
+    match convert_checked::<T, U>(replies, start, path) {
+        Ok(()) => {
+            replies.push(b'\n')?;
+            Ok(())
+        }
+        Err(PathError::Checked(refusal)) => {
+            replies.truncate(len);
+            put_refusal(refusal, replies)
+        }
+        Err(PathError::OutOfMemory) => Err(AllocError),
+    }
+}
+
+/// Puts the reply that is a path pushed onto a base behind others.
+fn put_joined<T: Encoding>(
+    base: &[u8],
+    path: &[u8],
+    replies: &mut Vec<u8>,
+) -> Result<(), AllocError>
+    ensures { OnOk result
+        (replies.new.items ≡ replies.old.items ++ text_reply (push T.dialect base.now path.now)) }
+{
+    replies.extend_from_slice(b"ok\t")?;
+    let start = replies.len();
+    replies.extend_from_slice(base)?;
+    T::push_behind(replies, start, path)?;
+    replies.push(b'\n')?;
+    Ok(())
+}
+
+/// Puts the reply that is the name of a refusal behind others.
+fn put_refusal(refusal: CheckedPathError, replies: &mut Vec<u8>) -> Result<(), AllocError>
+    ensures { OnOk result
+        (replies.new.items ≡ replies.old.items ++ reply_line (joined_reply [] (Some refusal))) }
+{
+    replies.extend_from_slice(b"err\t")?;
+    replies.extend_from_slice(refusal_name(refusal))?;
+    replies.push(b'\n')?;
+    Ok(())
+}
+
+/// What a reply calls a refusal.
+fn refusal_name(refusal: CheckedPathError) -> &'static [u8]
+    ensures { result.now ≡ refusal_name refusal }
+{
+    match refusal {
+        CheckedPathError::InvalidFilename => b"InvalidFilename",
+        CheckedPathError::PathTraversalAttack => b"PathTraversalAttack",
+        CheckedPathError::UnexpectedPrefix => b"UnexpectedPrefix",
+        CheckedPathError::UnexpectedRoot => b"UnexpectedRoot",
+    }
+}
+
+/// Puts the reply to a line that is no command behind others.
+pub fn put_bad_line(replies: &mut Vec<u8>) -> Result<(), AllocError>
+    ensures { OnOk result (replies.new.items ≡ replies.old.items ++ reply_line bad_line) }
+{
+    replies.extend_from_slice(b"err\tBadLine\n")
+}
+
+/// Puts the reply that shows the components of a path behind others: the prefix first, so that the
+/// loop over the other components holds none.
+fn put_components<T: Encoding>(path: Span<'_>, replies: &mut Vec<u8>) -> Result<(), AllocError>
+    ensures { OnOk result (replies.new.items ≡ replies.old.items
+        ++ reply_line (components_reply (parts_of T.dialect (span_bytes path.entry)))) }
+{
+    let cursor = T::cursor(path.as_bytes()).within(path);
+    replies.extend_from_slice(b"ok")?;
+    put_prefix(cursor.prefix_piece(), replies)?;
+    let mut body = cursor.body();
+    let mut left = body.onward();
+    'steps: while let Some(step) = body.front() {
+        put_step(step, left, replies)?;
+        left = body.onward();
+    }
+    replies.push(b'\n')?;
+    Ok(())
+}
+
+/// Puts a tab, and the field that shows the prefix, where there is one.
+#[inline(always)]
+fn put_prefix(prefix: Option<Piece<'_>>, replies: &mut Vec<u8>) -> Result<(), AllocError>
+    ensures { OnOk result (replies.new.items
+        ≡ replies.old.items ++ fields_behind (option_to_list (option_map part_of prefix.entry))) }
+{
+    match prefix {
+        Some(piece) => put_component(piece, replies),
+        None => Ok(()),
+    }
+}
+
+/// Puts a tab, and the field that shows a component behind the prefix, by what stood there before it
+/// was taken: a name is what that begins with.
+#[inline(always)]
+fn put_step(step: Step<'_>, left: &[u8], replies: &mut Vec<u8>) -> Result<(), AllocError>
+    requires { step.kind ≡ StepKind.Normal
+        → take (length step.text.now) left.now ≡ step.text.now }
+    ensures { OnOk result
+        (replies.new.items ≡ replies.old.items ++ tab ∷ component_field (step_part step.entry)) }
+{
+    put_label(step.piece(), replies)?;
+    match step.kind {
+        StepKind::Normal => append_first(replies, left, step.text.len()),
+        _ => replies.extend_from_slice(step.text),
+    }
+}
+
+/// Puts a tab, and the field that shows a component.
+#[inline(always)]
+fn put_component(piece: Piece<'_>, replies: &mut Vec<u8>) -> Result<(), AllocError>
+    ensures { OnOk result
+        (replies.new.items ≡ replies.old.items ++ tab ∷ component_field (part_of piece.entry)) }
+{
+    put_label(piece, replies)?;
+    replies.extend_from_slice(piece.text)
+}
+
+/// Puts a tab, what a field calls a component, and an equals sign. Each is put as a constant, which
+/// is a store where a slice that is chosen first would be a call.
+#[inline(always)]
+fn put_label(piece: Piece<'_>, replies: &mut Vec<u8>) -> Result<(), AllocError>
+    ensures { OnOk result (replies.new.items ≡ replies.old.items
+        ++ tab ∷ kind_name (part_of piece.entry).kind ++ equals_sign ∷ []) }
+{
+    match piece.kind {
+        PieceKind::Prefix(prefix) => replies.extend_from_slice(prefix_label(prefix)),
+        PieceKind::RootDir => replies.extend_from_slice(b"\troot="),
+        PieceKind::CurDir => replies.extend_from_slice(b"\tcurrent="),
+        PieceKind::ParentDir => replies.extend_from_slice(b"\tparent="),
+        PieceKind::Normal => replies.extend_from_slice(b"\tnormal="),
+    }
+}
+
+/// A tab, what a field calls a prefix, and an equals sign.
+fn prefix_label(prefix: WindowsPrefix<'_>) -> &'static [u8]
+    ensures { result.now ≡ tab ∷ prefix_name (prefix_view prefix.entry) ++ equals_sign ∷ [] }
+{
+    match prefix {
+        WindowsPrefix::Verbatim(_) => b"\tVerbatim=",
+        WindowsPrefix::VerbatimUNC(_, _) => b"\tVerbatimUNC=",
+        WindowsPrefix::VerbatimDisk(_) => b"\tVerbatimDisk=",
+        WindowsPrefix::DeviceNS(_) => b"\tDeviceNS=",
+        WindowsPrefix::UNC(_, _) => b"\tUNC=",
+        WindowsPrefix::Disk(_) => b"\tDisk=",
+    }
 }

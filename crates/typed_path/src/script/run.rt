@@ -1,13 +1,12 @@
-//! Lists of operations on an owned path.
+//! Lists of operations on an owned path, and lists of requests to a reading.
 
-ghost use Rattle.std.specs.Prelude.{◌≡◌, ◌≤◌, ◌+◌, ◌++◌, ℕ, map, take, length, OnOk, OnErr, IfOk, IsOk, option_map};
+ghost use Rattle.std.specs.Prelude.{◌≡◌, ◌≤◌, ◌+◌, ◌++◌, map, length, OnOk, OnErr, IfOk, IsOk, option_map};
 ghost use Rattle.std.specs.Vec.{vec_len, vec_capacity};
-ghost use Rattle.typed_path.specs.changes.Run.{step, text_after, push_checked_op, FitsEach, FitsStep, FitsAll};
+ghost use Rattle.typed_path.specs.changes.{step, text_after, push_checked_op, FitsEach, FitsStep, FitsAll};
 ghost use Rattle.typed_path.specs.views.RunViews.{operation_of, operations_of, response_of, responses_of, IsPartDone, AreTaken, StopsAt};
 ghost use Rattle.typed_path.specs.views.PieceViews.{part_of};
 ghost use Rattle.typed_path.specs.views.PathViews.{components_items, components_slice};
-ghost use Rattle.typed_path.specs.scan.Reading.{answers_after, items_after, slice_after};
-ghost use Rattle.typed_path.specs.scan.Ends.{sides, taken_parts};
+ghost use Rattle.typed_path.specs.scan.{answers_after, items_after, slice_after, sides, taken_parts};
 ghost use Rattle.typed_path.specs.changes.Push as push_spec;
 ghost use Rattle.typed_path.specs.changes.Run as run_spec;
 

@@ -1,20 +1,18 @@
 //! A lent path whose dialect is chosen when the program runs.
 
-ghost use Rattle.std.specs.Prelude.{◌≡◌, [], IfOk, IsOk, Ok, Err, Some, None};
-ghost use Rattle.typed_path.specs.typed.Kind.{kind_dialect, derived_dialect, typed_dialect};
+ghost use Rattle.std.specs.Prelude.{◌≡◌, [], IfOk, IsOk, Ok, not, IfSome, option_map, option_copied};
+ghost use Rattle.typed_path.specs.typed.{kind_dialect, derived_dialect, typed_dialect};
+ghost use Rattle.typed_path.specs.typed.Outcomes.{JoinsChecked, Normalizes, ConvertsChecked, Absolutizes};
 ghost use Rattle.typed_path.specs.views.TypedViews.{typed_bytes, owned_bytes};
-ghost use Rattle.typed_path.specs.declared.errors.CheckedPathError.{CheckedPathError};
-ghost use Rattle.typed_path.specs.declared.errors.AbsolutizeError.TheVariants.{Ambiguous};
-ghost use Rattle.typed_path.specs.components.Dialect.{unix, windows};
-ghost use Rattle.typed_path.specs.changes.Changes.{with_file_name, with_extension};
-ghost use Rattle.typed_path.specs.changes.Checked.{refusal};
-ghost use Rattle.typed_path.specs.changes.Fault.{fault};
-ghost use Rattle.typed_path.specs.conversions.Convert.{platform, converted, converted_checked, absolute_from};
-ghost use Rattle.typed_path.specs.places.Places.{normal_text};
-ghost use Rattle.typed_path.specs.promises.Promises.{HasPrefixOf, LiesWithin, HasNormalForm};
-ghost use Rattle.typed_path.specs.promises.Below.{LiesBelow};
+ghost use Rattle.typed_path.specs.components.{unix, windows, kinds, comps, parts_of};
+ghost use Rattle.typed_path.specs.changes.{with_file_name, with_extension};
+ghost use Rattle.typed_path.specs.conversions.{converted};
 ghost use Rattle.typed_path.specs.views.PathViews.{path_bytes};
 ghost use Rattle.typed_path.specs.changes.Push as push_spec;
+ghost use Rattle.std.specs.Str.{IsUtf8};
+ghost use Rattle.std.specs.Str.Lossy.{utf8_lossy};
+ghost use Rattle.std.specs.Cow.{cow_str_bytes, IsBorrowedStr};
+ghost use Rattle.typed_path.specs.queries.{is_absolute, has_root, parent_of, file_name_of, file_stem_of, stripped, path_starts_with, path_ends_with, ancestors_of, stripped_to, text_of_bytes};
 
 use crate::common::{Ancestors, Display, Iter, Path};
 use crate::errors::{AbsolutizeError, PathError, StripPrefixError};
@@ -40,17 +38,7 @@ pub type TypedAncestors<'a> = Typed<Ancestors<'a, UnixEncoding>, Ancestors<'a, W
 pub type TypedDisplay<'a> = Typed<Display<'a, UnixEncoding>, Display<'a, WindowsEncoding>>;
 
 impl<'a> TypedPath<'a> {
-    ghost use Rattle.std.specs.Prelude.{not, IfOk, IfSome, IsOk, option_map, option_copied};
-    ghost use Rattle.std.specs.Str.{IsUtf8};
-    ghost use Rattle.std.specs.Str.Lossy.{utf8_lossy};
-    ghost use Rattle.std.specs.Cow.{cow_str_bytes, IsBorrowedStr};
-    ghost use Rattle.typed_path.specs.components.Dialect.{unix, windows};
-    ghost use Rattle.typed_path.specs.components.Part.{kinds};
-    ghost use Rattle.typed_path.specs.components.Comps.{comps, parts_of};
-    ghost use Rattle.typed_path.specs.queries.Queries.{is_absolute, has_root, parent_of, file_name_of, file_stem_of, extension, stripped, path_starts_with, path_ends_with};
-    ghost use Rattle.typed_path.specs.queries.Ancestry.{ancestors_of};
-    ghost use Rattle.typed_path.specs.queries.Strip.{stripped_to};
-    ghost use Rattle.typed_path.specs.queries.Texts.{text_of_bytes};
+    ghost use Rattle.typed_path.specs.queries.{extension};
     ghost use Rattle.typed_path.specs.views.TypedViews.{typed_items, typed_slice, typed_iter_items, typed_iter_slice, typed_ancestors_left, typed_displayed, reading_dialect};
 
     /// The path of these bytes, of a kind.
@@ -270,15 +258,9 @@ impl<'a> TypedPath<'a> {
     ///
     /// Those of [`Path::join_checked`].
     pub fn join_checked(self, alloc: Global, path: &[u8]) -> Result<TypedPathBuf, PathError>
-        ensures refused { refusal result ≡ fault (typed_dialect self.entry) path.now }
         ensures dialect { IfOk result (λ p. typed_dialect p ≡ typed_dialect self.entry) }
-        ensures joined { IfOk result (λ p. owned_bytes p
-            ≡ push_spec.push (typed_dialect self.entry) (typed_bytes self.entry) path.now) }
-        ensures prefix { IfOk result
-            (λ p. HasPrefixOf (typed_dialect self.entry) (typed_bytes self.entry) (owned_bytes p)) }
-        ensures contained { IfOk result
-            (λ p. LiesWithin (typed_dialect self.entry) (typed_bytes self.entry) path.now (owned_bytes p)) }
-        ensures below { IfOk result (λ p. LiesBelow (typed_dialect self.entry) (typed_bytes self.entry) (owned_bytes p)) }
+        ensures joined { JoinsChecked (typed_dialect self.entry) owned_bytes
+            (typed_bytes self.entry) path.now result }
     {
         typed_result!(self, base => base.join_checked(alloc, Path::new(path)))
     }
@@ -306,10 +288,8 @@ impl<'a> TypedPath<'a> {
     /// [`Path::normalize`].
     pub fn normalize(self, alloc: Global) -> Result<TypedPathBuf, AllocError>
         ensures dialect { IfOk result (λ p. typed_dialect p ≡ typed_dialect self.entry) }
-        ensures text { IfOk result (λ p. owned_bytes p
-            ≡ normal_text (typed_dialect self.entry) (typed_bytes self.entry)) }
-        ensures form { IfOk result
-            (λ p. HasNormalForm (typed_dialect self.entry) (typed_bytes self.entry) (owned_bytes p)) }
+        ensures normal { Normalizes (typed_dialect self.entry) owned_bytes (typed_bytes self.entry)
+            result }
     {
         typed_result!(self, path => path.normalize(alloc))
     }
@@ -327,12 +307,8 @@ impl<'a> TypedPath<'a> {
         directory: PlatformPath<'_>,
     ) -> Result<TypedPathBuf, AbsolutizeError>
         ensures dialect { IfOk result (λ p. typed_dialect p ≡ typed_dialect self.entry) }
-        ensures ok { IfOk result (λ p.
-            absolute_from (typed_dialect self.entry) (path_bytes directory.entry) (typed_bytes self.entry)
-            ≡ Some (owned_bytes p)) }
-        ensures ambiguous { result ≡ Err Ambiguous
-            → absolute_from (typed_dialect self.entry) (path_bytes directory.entry) (typed_bytes self.entry)
-            ≡ None }
+        ensures absolute { Absolutizes (typed_dialect self.entry) owned_bytes
+            (path_bytes directory.entry) (typed_bytes self.entry) result }
     {
         typed_result!(self, path => path.absolutize(alloc, directory))
     }
@@ -350,11 +326,8 @@ impl<'a> TypedPath<'a> {
     /// The path as on Unix, refused as [`Path::with_encoding_checked`] does, also where it is of Unix.
     pub fn with_unix_encoding_checked(self, alloc: Global) -> Result<TypedPathBuf, PathError>
         ensures dialect { IfOk result (λ p. typed_dialect p ≡ unix) }
-        ensures ok { IfOk result (λ p.
-            converted_checked (typed_dialect self.entry) unix (typed_bytes self.entry)
-            ≡ Ok (owned_bytes p)) }
-        ensures refused { (e : CheckedPathError) → refusal result ≡ Some e
-            → converted_checked (typed_dialect self.entry) unix (typed_bytes self.entry) ≡ Err e }
+        ensures converted { ConvertsChecked (typed_dialect self.entry) unix owned_bytes
+            (typed_bytes self.entry) result }
     {
         Ok(Typed::Unix(each!(self, path => path.with_unix_encoding_checked(alloc))?))
     }
@@ -373,11 +346,8 @@ impl<'a> TypedPath<'a> {
     /// Windows.
     pub fn with_windows_encoding_checked(self, alloc: Global) -> Result<TypedPathBuf, PathError>
         ensures dialect { IfOk result (λ p. typed_dialect p ≡ windows) }
-        ensures ok { IfOk result (λ p.
-            converted_checked (typed_dialect self.entry) windows (typed_bytes self.entry)
-            ≡ Ok (owned_bytes p)) }
-        ensures refused { (e : CheckedPathError) → refusal result ≡ Some e
-            → converted_checked (typed_dialect self.entry) windows (typed_bytes self.entry) ≡ Err e }
+        ensures converted { ConvertsChecked (typed_dialect self.entry) windows owned_bytes
+            (typed_bytes self.entry) result }
     {
         Ok(Typed::Windows(each!(self, path => path.with_windows_encoding_checked(alloc))?))
     }

@@ -5,27 +5,16 @@ ghost use Rattle.std.specs.Vec.{vec_capacity};
 ghost use Rattle.std.specs.Str.{IsUtf8};
 ghost use Rattle.std.specs.Str.Lossy.{utf8_lossy};
 ghost use Rattle.std.specs.Cow.{cow_str_bytes, IsBorrowedStr};
-ghost use Rattle.typed_path.specs.components.Dialect.{unix, windows};
-ghost use Rattle.typed_path.specs.typed.Kind.{kind_dialect, derived_dialect, typed_dialect, KeepsDialect, held_unix, held_windows};
-ghost use Rattle.typed_path.specs.typed.Outcomes.{Pushes, PushesChecked, Pops, SetsFileName, SetsExtension, Clears, Reserves, ReservesExactly, ShrinksTo};
+ghost use Rattle.typed_path.specs.components.{unix, windows, kinds, comps, parts_of};
+ghost use Rattle.typed_path.specs.typed.{kind_dialect, derived_dialect, typed_dialect, KeepsDialect, held_unix, held_windows};
+ghost use Rattle.typed_path.specs.typed.Outcomes.{Pushes, PushesChecked, Pops, SetsFileName, SetsExtension, Clears, Reserves, ReservesExactly, ShrinksTo, JoinsChecked, Normalizes, ConvertsChecked, Absolutizes};
 ghost use Rattle.typed_path.specs.views.TypedViews.{typed_bytes, typed_owned, owned_bytes, typed_items, typed_slice, typed_iter_items, typed_iter_slice, typed_ancestors_left, reading_dialect};
-ghost use Rattle.typed_path.specs.declared.errors.CheckedPathError.{CheckedPathError};
-ghost use Rattle.typed_path.specs.declared.errors.AbsolutizeError.TheVariants.{Ambiguous};
-ghost use Rattle.typed_path.specs.components.Part.{kinds};
-ghost use Rattle.typed_path.specs.components.Comps.{comps, parts_of};
-ghost use Rattle.typed_path.specs.queries.Queries.{is_absolute, has_root, parent_of, file_name_of, file_stem_of, extension, stripped, path_starts_with, path_ends_with};
-ghost use Rattle.typed_path.specs.queries.Ancestry.{ancestors_of};
-ghost use Rattle.typed_path.specs.queries.Strip.{stripped_to};
-ghost use Rattle.typed_path.specs.queries.Texts.{text_of_bytes};
-ghost use Rattle.typed_path.specs.changes.Changes.{with_file_name, with_extension};
-ghost use Rattle.typed_path.specs.changes.Checked.{refusal};
-ghost use Rattle.typed_path.specs.changes.Fault.{fault};
-ghost use Rattle.typed_path.specs.conversions.Convert.{platform, converted, converted_checked, absolute_from, same_dialect};
-ghost use Rattle.typed_path.specs.places.Places.{normal_text};
-ghost use Rattle.typed_path.specs.promises.Promises.{HasPrefixOf, LiesWithin, HasNormalForm};
-ghost use Rattle.typed_path.specs.promises.Below.{LiesBelow};
+ghost use Rattle.typed_path.specs.queries.{is_absolute, has_root, parent_of, file_name_of, file_stem_of, extension, stripped, path_starts_with, path_ends_with, ancestors_of, stripped_to, text_of_bytes};
+ghost use Rattle.typed_path.specs.changes.{with_file_name, with_extension};
+ghost use Rattle.typed_path.specs.conversions.{converted, same_dialect};
 ghost use Rattle.typed_path.specs.views.PathViews.{path_bytes};
 ghost use Rattle.typed_path.specs.changes.Push as push_spec;
+ghost use Rattle.std.specs.String.{string_bytes};
 
 use crate::common::{Path, PathBuf};
 use crate::errors::{AbsolutizeError, PathError, StripPrefixError};
@@ -113,8 +102,7 @@ impl TypedPathBuf {
         typed!(self, own => own.as_path())
     }
 
-    /// Pushes a path of the same kind onto this one: an absolute one replaces it, an empty one changes
-    /// nothing. Where memory is refused the path is as it was, and has no less room.
+    /// As [`PathBuf::push`].
     pub fn push(&mut self, path: &[u8]) -> Result<(), AllocError>
         ensures dialect { KeepsDialect self.old self.new }
         ensures pushed { Pushes (typed_dialect self.old) (typed_owned self.old) path.now result
@@ -123,21 +111,16 @@ impl TypedPathBuf {
         each!(self, own => own.push(Path::new(path)))
     }
 
-    /// Pushes a path of the same kind onto this one, unless it has a component that offends. Pushed, it
-    /// lies within this path, where this one keeps its prefix.
-    ///
-    /// # Errors
-    ///
-    /// Those of [`PathBuf::push_checked`]. Then the path is as it was.
+    /// As [`PathBuf::push_checked`].
     pub fn push_checked(&mut self, path: &[u8]) -> Result<(), PathError>
         ensures dialect { KeepsDialect self.old self.new }
-        ensures pushed { PushesChecked (typed_dialect self.old) (typed_owned self.old) path.now result
-            (typed_owned self.new) }
+        ensures pushed { PushesChecked (typed_dialect self.old) (typed_owned self.old) path.now
+            result (typed_owned self.new) }
     {
         each!(self, own => own.push_checked(Path::new(path)))
     }
 
-    /// Cuts the path to its parent, where it has one, and answers whether it has.
+    /// As [`PathBuf::pop`].
     pub fn pop(&mut self) -> bool
         ensures dialect { KeepsDialect self.old self.new }
         ensures popped { Pops (typed_dialect self.old) (typed_owned self.old) result
@@ -146,8 +129,7 @@ impl TypedPathBuf {
         each!(self, own => own.pop())
     }
 
-    /// Gives the path another file name, or pushes the name where it has none. Where memory is refused
-    /// the path is as it was, and has no less room.
+    /// As [`PathBuf::set_file_name`].
     pub fn set_file_name(&mut self, name: &[u8]) -> Result<(), AllocError>
         ensures dialect { KeepsDialect self.old self.new }
         ensures named { SetsFileName (typed_dialect self.old) (typed_owned self.old) name.now result
@@ -156,18 +138,16 @@ impl TypedPathBuf {
         each!(self, own => own.set_file_name(name))
     }
 
-    /// Gives the file name another extension, or takes the extension away where the new one is empty,
-    /// and answers whether there is a file name. Without one nothing changes. Where memory is refused
-    /// the path is as it was, and has no less room.
+    /// As [`PathBuf::set_extension`].
     pub fn set_extension(&mut self, extension: &[u8]) -> Result<bool, AllocError>
         ensures dialect { KeepsDialect self.old self.new }
-        ensures extended { SetsExtension (typed_dialect self.old) (typed_owned self.old) extension.now
-            result (typed_owned self.new) }
+        ensures extended { SetsExtension (typed_dialect self.old) (typed_owned self.old)
+            extension.now result (typed_owned self.new) }
     {
         each!(self, own => own.set_extension(extension))
     }
 
-    /// Makes the path the empty one of its kind. It keeps its room.
+    /// As [`PathBuf::clear`].
     pub fn clear(&mut self)
         ensures dialect { KeepsDialect self.old self.new }
         ensures cleared { Clears (typed_owned self.old) (typed_owned self.new) }
@@ -175,30 +155,32 @@ impl TypedPathBuf {
         each!(self, own => own.clear())
     }
 
-    /// How many bytes the path has room for, its own among them.
+    /// As [`PathBuf::capacity`].
     pub fn capacity(&self) -> usize
         ensures { result ≡ (typed_owned self.now).capacity }
     {
         each!(self, own => own.capacity())
     }
 
-    /// Finds room for so many bytes more, and perhaps for others behind these.
+    /// As [`PathBuf::reserve`].
     pub fn reserve(&mut self, additional: usize) -> Result<(), AllocError>
         ensures dialect { KeepsDialect self.old self.new }
-        ensures reserved { Reserves (typed_owned self.old) additional result (typed_owned self.new) }
+        ensures reserved { Reserves (typed_owned self.old) additional result
+            (typed_owned self.new) }
     {
         each!(self, own => own.reserve(additional))
     }
 
-    /// The same as `reserve`, which answers want of memory too.
+    /// As [`PathBuf::try_reserve`].
     pub fn try_reserve(&mut self, additional: usize) -> Result<(), AllocError>
         ensures dialect { KeepsDialect self.old self.new }
-        ensures reserved { Reserves (typed_owned self.old) additional result (typed_owned self.new) }
+        ensures reserved { Reserves (typed_owned self.old) additional result
+            (typed_owned self.new) }
     {
         each!(self, own => own.try_reserve(additional))
     }
 
-    /// Finds room for so many bytes more, and for no others where room has to be found.
+    /// As [`PathBuf::reserve_exact`].
     pub fn reserve_exact(&mut self, additional: usize) -> Result<(), AllocError>
         ensures dialect { KeepsDialect self.old self.new }
         ensures reserved { ReservesExactly (typed_owned self.old) additional result
@@ -207,7 +189,7 @@ impl TypedPathBuf {
         each!(self, own => own.reserve_exact(additional))
     }
 
-    /// The same as `reserve_exact`, which answers want of memory too.
+    /// As [`PathBuf::try_reserve_exact`].
     pub fn try_reserve_exact(&mut self, additional: usize) -> Result<(), AllocError>
         ensures dialect { KeepsDialect self.old self.new }
         ensures reserved { ReservesExactly (typed_owned self.old) additional result
@@ -216,8 +198,7 @@ impl TypedPathBuf {
         each!(self, own => own.try_reserve_exact(additional))
     }
 
-    /// Gives room back that is not used, as far as memory for a smaller block is found. The empty path
-    /// keeps none.
+    /// As [`PathBuf::shrink_to_fit`].
     pub fn shrink_to_fit(&mut self) -> Result<(), AllocError>
         ensures dialect { KeepsDialect self.old self.new }
         ensures shrunk { ShrinksTo (typed_owned self.old) 0 result (typed_owned self.new) }
@@ -225,15 +206,16 @@ impl TypedPathBuf {
         each!(self, own => own.shrink_to_fit())
     }
 
-    /// Gives room back but for so many bytes, as far as memory for a smaller block is found.
+    /// As [`PathBuf::shrink_to`].
     pub fn shrink_to(&mut self, min_capacity: usize) -> Result<(), AllocError>
         ensures dialect { KeepsDialect self.old self.new }
-        ensures shrunk { ShrinksTo (typed_owned self.old) min_capacity result (typed_owned self.new) }
+        ensures shrunk { ShrinksTo (typed_owned self.old) min_capacity result
+            (typed_owned self.new) }
     {
         each!(self, own => own.shrink_to(min_capacity))
     }
 
-    /// The bytes of the path, with no copy.
+    /// As [`PathBuf::into_vec`].
     pub fn into_vec(self) -> Vec<u8>
         ensures bytes { result.items ≡ owned_bytes self }
         ensures capacity { vec_capacity result ≡ (typed_owned self).capacity }
@@ -241,22 +223,21 @@ impl TypedPathBuf {
         each!(self, own => own.into_vec())
     }
 
-    /// The bytes of the path.
+    /// As [`TypedPath::as_bytes`].
     pub fn as_bytes(&self) -> &[u8]
         ensures { result.now ≡ owned_bytes self.now }
     {
         self.to_path().as_bytes()
     }
 
-    /// The path as a text, where its bytes are UTF-8.
+    /// As [`TypedPath::to_str`].
     pub fn to_str(&self) -> Option<&str>
         ensures { option_copied result ≡ text_of_bytes (owned_bytes self.now) }
     {
         self.to_path().to_str()
     }
 
-    /// The path as a text, with U+FFFD where its bytes are none. Where they are UTF-8, the text is
-    /// lent and no memory is asked for.
+    /// As [`TypedPath::to_string_lossy`].
     pub fn to_string_lossy(&self, alloc: Global) -> Result<CowStr<'_>, AllocError>
         ensures text { IfOk result
             (λ text. cow_str_bytes text ≡ utf8_lossy (owned_bytes self.now)) }
@@ -266,7 +247,7 @@ impl TypedPathBuf {
         self.to_path().to_string_lossy(alloc)
     }
 
-    /// Whether the path leads to one place, whatever the current directory is.
+    /// As [`TypedPath::is_absolute`].
     pub fn is_absolute(&self) -> bool
         ensures { result ≡ is_absolute (typed_dialect self.now)
             (kinds (parts_of (typed_dialect self.now) (owned_bytes self.now))) }
@@ -274,7 +255,7 @@ impl TypedPathBuf {
         self.to_path().is_absolute()
     }
 
-    /// Whether the path is not absolute.
+    /// As [`TypedPath::is_relative`].
     pub fn is_relative(&self) -> bool
         ensures { result ≡ not (is_absolute (typed_dialect self.now)
             (kinds (parts_of (typed_dialect self.now) (owned_bytes self.now)))) }
@@ -282,7 +263,7 @@ impl TypedPathBuf {
         self.to_path().is_relative()
     }
 
-    /// Whether the path begins with a root, written or implied by a prefix.
+    /// As [`TypedPath::has_root`].
     pub fn has_root(&self) -> bool
         ensures { result ≡ has_root (typed_dialect self.now)
             (kinds (parts_of (typed_dialect self.now) (owned_bytes self.now))) }
@@ -290,8 +271,7 @@ impl TypedPathBuf {
         self.to_path().has_root()
     }
 
-    /// The path without its last component, or none where there is no component or nothing is above
-    /// the last one.
+    /// As [`TypedPath::parent`].
     pub fn parent(&self) -> Option<TypedPath<'_>>
         ensures dialect { IfSome result (λ p. typed_dialect p ≡ typed_dialect self.now) }
         ensures bytes { option_map typed_bytes result
@@ -300,7 +280,7 @@ impl TypedPathBuf {
         self.to_path().parent()
     }
 
-    /// The path, and then each parent of the one before.
+    /// As [`TypedPath::ancestors`].
     pub fn ancestors(&self) -> TypedAncestors<'_>
         ensures dialect { typed_dialect result ≡ typed_dialect self.now }
         ensures left { typed_ancestors_left result
@@ -309,7 +289,7 @@ impl TypedPathBuf {
         self.to_path().ancestors()
     }
 
-    /// The last component, where it is a name.
+    /// As [`TypedPath::file_name`].
     pub fn file_name(&self) -> Option<&[u8]>
         ensures { option_copied result
             ≡ file_name_of (typed_dialect self.now) (owned_bytes self.now) }
@@ -317,7 +297,7 @@ impl TypedPathBuf {
         self.to_path().file_name()
     }
 
-    /// The file name up to its last dot, or the whole of it where no dot but a first one is there.
+    /// As [`TypedPath::file_stem`].
     pub fn file_stem(&self) -> Option<&[u8]>
         ensures { option_copied result
             ≡ file_stem_of (typed_dialect self.now) (owned_bytes self.now) }
@@ -325,7 +305,7 @@ impl TypedPathBuf {
         self.to_path().file_stem()
     }
 
-    /// What stands in the file name behind its last dot, where that is not its first byte.
+    /// As [`TypedPath::extension`].
     pub fn extension(&self) -> Option<&[u8]>
         ensures { option_copied result
             ≡ extension (typed_dialect self.now) (owned_bytes self.now) }
@@ -333,12 +313,7 @@ impl TypedPathBuf {
         self.to_path().extension()
     }
 
-    /// What is left of the path behind a base of its kind.
-    ///
-    /// # Errors
-    ///
-    /// `StripPrefixError` exactly where the path does not begin with the base's components, compared
-    /// as they are written.
+    /// As [`TypedPath::strip_prefix`].
     pub fn strip_prefix(&self, base: &[u8]) -> Result<TypedPath<'_>, StripPrefixError>
         ensures dialect { IfOk result (λ p. typed_dialect p ≡ typed_dialect self.now) }
         ensures bytes { stripped_to typed_bytes result
@@ -347,7 +322,7 @@ impl TypedPathBuf {
         self.to_path().strip_prefix(base)
     }
 
-    /// Whether the path begins with the components of another of its kind, as they are written.
+    /// As [`TypedPath::starts_with`].
     pub fn starts_with(&self, base: &[u8]) -> bool
         ensures { result
             ≡ path_starts_with (typed_dialect self.now) (owned_bytes self.now) base.now }
@@ -355,7 +330,7 @@ impl TypedPathBuf {
         self.to_path().starts_with(base)
     }
 
-    /// Whether the path ends with the components of another of its kind, as they are written.
+    /// As [`TypedPath::ends_with`].
     pub fn ends_with(&self, end: &[u8]) -> bool
         ensures { result
             ≡ path_ends_with (typed_dialect self.now) (owned_bytes self.now) end.now }
@@ -363,7 +338,7 @@ impl TypedPathBuf {
         self.to_path().ends_with(end)
     }
 
-    /// The components of the path, from either end.
+    /// As [`TypedPath::components`].
     pub fn components(&self) -> TypedComponents<'_>
         ensures dialect { reading_dialect result ≡ typed_dialect self.now }
         ensures items { typed_items result
@@ -373,7 +348,7 @@ impl TypedPathBuf {
         self.to_path().components()
     }
 
-    /// The texts of the components, from either end.
+    /// As [`TypedPath::iter`].
     pub fn iter(&self) -> TypedIter<'_>
         ensures dialect { typed_dialect result ≡ typed_dialect self.now }
         ensures items { typed_iter_items result
@@ -383,8 +358,7 @@ impl TypedPathBuf {
         self.to_path().iter()
     }
 
-    /// The path with another of its kind pushed onto it: an absolute one stands in its place, and with
-    /// an empty one it is a copy.
+    /// As [`TypedPath::join`].
     pub fn join(&self, alloc: Global, path: &[u8]) -> Result<TypedPathBuf, AllocError>
         ensures dialect { IfOk result (λ p. typed_dialect p ≡ typed_dialect self.now) }
         ensures joined { IfOk result (λ p. owned_bytes p
@@ -393,29 +367,16 @@ impl TypedPathBuf {
         self.to_path().join(alloc, path)
     }
 
-    /// The path with another of its kind pushed onto it, unless that has a component that offends.
-    ///
-    /// The answer lies within this path, where it has the prefix of this one. A path that is refused
-    /// costs no memory.
-    ///
-    /// # Errors
-    ///
-    /// Those of [`Path::join_checked`].
+    /// As [`TypedPath::join_checked`].
     pub fn join_checked(&self, alloc: Global, path: &[u8]) -> Result<TypedPathBuf, PathError>
-        ensures refused { refusal result ≡ fault (typed_dialect self.now) path.now }
         ensures dialect { IfOk result (λ p. typed_dialect p ≡ typed_dialect self.now) }
-        ensures joined { IfOk result (λ p. owned_bytes p
-            ≡ push_spec.push (typed_dialect self.now) (owned_bytes self.now) path.now) }
-        ensures prefix { IfOk result
-            (λ p. HasPrefixOf (typed_dialect self.now) (owned_bytes self.now) (owned_bytes p)) }
-        ensures contained { IfOk result
-            (λ p. LiesWithin (typed_dialect self.now) (owned_bytes self.now) path.now (owned_bytes p)) }
-        ensures below { IfOk result (λ p. LiesBelow (typed_dialect self.now) (owned_bytes self.now) (owned_bytes p)) }
+        ensures joined { JoinsChecked (typed_dialect self.now) owned_bytes (owned_bytes self.now)
+            path.now result }
     {
         self.to_path().join_checked(alloc, path)
     }
 
-    /// A copy with another file name, or with the name pushed where there is none.
+    /// As [`TypedPath::with_file_name`].
     pub fn with_file_name(&self, alloc: Global, name: &[u8]) -> Result<TypedPathBuf, AllocError>
         ensures dialect { IfOk result (λ p. typed_dialect p ≡ typed_dialect self.now) }
         ensures bytes { IfOk result (λ p. owned_bytes p
@@ -424,8 +385,7 @@ impl TypedPathBuf {
         self.to_path().with_file_name(alloc, name)
     }
 
-    /// A copy whose file name has another extension, or none where the new one is empty. Without a
-    /// file name it is a mere copy.
+    /// As [`TypedPath::with_extension`].
     pub fn with_extension(
         &self,
         alloc: Global,
@@ -438,43 +398,29 @@ impl TypedPathBuf {
         self.to_path().with_extension(alloc, extension)
     }
 
-    /// The path without `.`, and without `..` and the names that these take away, in the form of
-    /// [`Path::normalize`].
+    /// As [`TypedPath::normalize`].
     pub fn normalize(&self, alloc: Global) -> Result<TypedPathBuf, AllocError>
         ensures dialect { IfOk result (λ p. typed_dialect p ≡ typed_dialect self.now) }
-        ensures text { IfOk result (λ p. owned_bytes p
-            ≡ normal_text (typed_dialect self.now) (owned_bytes self.now)) }
-        ensures form { IfOk result
-            (λ p. HasNormalForm (typed_dialect self.now) (owned_bytes self.now) (owned_bytes p)) }
+        ensures normal { Normalizes (typed_dialect self.now) owned_bytes (owned_bytes self.now)
+            result }
     {
         self.to_path().normalize(alloc)
     }
 
-    /// The normal text of the path where it is absolute, and else of the directory in this path's
-    /// dialect with the path pushed onto it.
-    ///
-    /// # Errors
-    ///
-    /// `Ambiguous` where the path is absolute neither alone nor behind the directory, as every Windows
-    /// path without a prefix is behind `/home/u`. `OutOfMemory` where memory is refused.
+    /// As [`TypedPath::absolutize`].
     pub fn absolutize(
         &self,
         alloc: Global,
         directory: PlatformPath<'_>,
     ) -> Result<TypedPathBuf, AbsolutizeError>
         ensures dialect { IfOk result (λ p. typed_dialect p ≡ typed_dialect self.now) }
-        ensures ok { IfOk result (λ p.
-            absolute_from (typed_dialect self.now) (path_bytes directory.entry) (owned_bytes self.now)
-            ≡ Some (owned_bytes p)) }
-        ensures ambiguous { result ≡ Err Ambiguous
-            → absolute_from (typed_dialect self.now) (path_bytes directory.entry) (owned_bytes self.now)
-            ≡ None }
+        ensures absolute { Absolutizes (typed_dialect self.now) owned_bytes
+            (path_bytes directory.entry) (owned_bytes self.now) result }
     {
         self.to_path().absolutize(alloc, directory)
     }
 
-    /// The path as on Unix: that of Unix is copied, and that of Windows written as
-    /// [`Path::with_encoding`] does.
+    /// As [`TypedPath::with_unix_encoding`].
     pub fn with_unix_encoding(&self, alloc: Global) -> Result<TypedPathBuf, AllocError>
         ensures dialect { IfOk result (λ p. typed_dialect p ≡ unix) }
         ensures bytes { IfOk result (λ p. owned_bytes p
@@ -483,20 +429,16 @@ impl TypedPathBuf {
         self.to_path().with_unix_encoding(alloc)
     }
 
-    /// The path as on Unix, refused as [`Path::with_encoding_checked`] does, also where it is of Unix.
+    /// As [`TypedPath::with_unix_encoding_checked`].
     pub fn with_unix_encoding_checked(&self, alloc: Global) -> Result<TypedPathBuf, PathError>
         ensures dialect { IfOk result (λ p. typed_dialect p ≡ unix) }
-        ensures ok { IfOk result (λ p.
-            converted_checked (typed_dialect self.now) unix (owned_bytes self.now)
-            ≡ Ok (owned_bytes p)) }
-        ensures refused { (e : CheckedPathError) → refusal result ≡ Some e
-            → converted_checked (typed_dialect self.now) unix (owned_bytes self.now) ≡ Err e }
+        ensures converted { ConvertsChecked (typed_dialect self.now) unix owned_bytes
+            (owned_bytes self.now) result }
     {
         self.to_path().with_unix_encoding_checked(alloc)
     }
 
-    /// The path as on Windows: that of Windows is copied, and that of Unix written as
-    /// [`Path::with_encoding`] does.
+    /// As [`TypedPath::with_windows_encoding`].
     pub fn with_windows_encoding(&self, alloc: Global) -> Result<TypedPathBuf, AllocError>
         ensures dialect { IfOk result (λ p. typed_dialect p ≡ windows) }
         ensures bytes { IfOk result (λ p. owned_bytes p
@@ -505,15 +447,11 @@ impl TypedPathBuf {
         self.to_path().with_windows_encoding(alloc)
     }
 
-    /// The path as on Windows, refused as [`Path::with_encoding_checked`] does, also where it is of
-    /// Windows.
+    /// As [`TypedPath::with_windows_encoding_checked`].
     pub fn with_windows_encoding_checked(&self, alloc: Global) -> Result<TypedPathBuf, PathError>
         ensures dialect { IfOk result (λ p. typed_dialect p ≡ windows) }
-        ensures ok { IfOk result (λ p.
-            converted_checked (typed_dialect self.now) windows (owned_bytes self.now)
-            ≡ Ok (owned_bytes p)) }
-        ensures refused { (e : CheckedPathError) → refusal result ≡ Some e
-            → converted_checked (typed_dialect self.now) windows (owned_bytes self.now) ≡ Err e }
+        ensures converted { ConvertsChecked (typed_dialect self.now) windows owned_bytes
+            (owned_bytes self.now) result }
     {
         self.to_path().with_windows_encoding_checked(alloc)
     }
@@ -602,8 +540,6 @@ impl From<Vec<u8>> for TypedPathBuf {
 
 /// The path of the bytes of a text, of the kind that it looks like, with no copy.
 impl From<String> for TypedPathBuf {
-    ghost use Rattle.std.specs.String.{string_bytes};
-
     ghost from_gives = { λ text path. (typed_dialect path ≡ derived_dialect (string_bytes text))
         × (owned_bytes path ≡ string_bytes text) };
 

@@ -1,10 +1,12 @@
 //! What is read of a path whose dialect is chosen when the program runs.
 
-ghost use Rattle.std.specs.Prelude.{◌≡◌, drop, option_map, option_copied};
-ghost use Rattle.typed_path.specs.scan.Left.{but_last, slice_after_front, slice_after_back};
-ghost use Rattle.typed_path.specs.scan.Steps.{first_part, last_part};
-ghost use Rattle.typed_path.specs.typed.Kind.{typed_dialect, KeepsDialect};
+ghost use Rattle.std.specs.Prelude.{◌≡◌, drop, option_map, option_copied, refl, IfSome, ◌==◌, length};
+ghost use Rattle.typed_path.specs.scan.{but_last, slice_after_front, slice_after_back, first_part, last_part, LeavesFront, LeavesBack};
+ghost use Rattle.typed_path.specs.typed.{typed_dialect, KeepsDialect};
 ghost use Rattle.typed_path.specs.views.TypedViews.{typed_bytes};
+ghost use Rattle.typed_path.specs.components.{kinds, is_name, is_parent, is_current, comps};
+ghost use Rattle.typed_path.specs.queries.{is_absolute, has_root, is_root, name_of};
+ghost use Rattle.std.specs.Iterator.{YieldsFirstBy, item_count, YieldsLastBy, YieldsFirstRef, YieldsLastRef};
 
 use crate::common::Component;
 use crate::typed::path::{TypedAncestors, TypedIter, TypedPath};
@@ -29,13 +31,17 @@ pub enum TypedReading<U, W> {
 /// What readings of one kind have left is in order as the paths of their slices left are. Readings of
 /// two kinds are in none.
 impl<U: PartialOrd, W: PartialOrd> PartialOrd for TypedReading<U, W> {
-    ghost use Rattle.std.specs.Prelude.{refl};
-    ghost use Rattle.typed_path.specs.typed.Orders.{reading_partial_cmp, reading_partial_order};
+    ghost use Rattle.typed_path.specs.typed.{reading_partial_cmp, reading_partial_order};
 
     ghost partial_cmp = { reading_partial_cmp U.partial_cmp W.partial_cmp };
 
     ghost laws = { reading_partial_order
-        (record { of_unix = λ x y. refl; of_windows = λ x y. refl; unix_first = λ x y. refl; windows_first = λ x y. refl })
+        (record {
+          of_unix = λ x y. refl;
+          of_windows = λ x y. refl;
+          unix_first = λ x y. refl;
+          windows_first = λ x y. refl;
+        })
         U.PartialOrd.laws W.PartialOrd.laws };
 
     #[inline]
@@ -52,10 +58,6 @@ impl<U: PartialOrd, W: PartialOrd> PartialOrd for TypedReading<U, W> {
 pub type TypedComponents<'a> = TypedReading<UnixComponents<'a>, WindowsComponents<'a>>;
 
 impl<'a> TypedComponents<'a> {
-    ghost use Rattle.std.specs.Prelude.{IfSome};
-    ghost use Rattle.typed_path.specs.components.Part.{kinds};
-    ghost use Rattle.typed_path.specs.components.Comps.{comps};
-    ghost use Rattle.typed_path.specs.queries.Queries.{is_absolute, has_root};
     ghost use Rattle.typed_path.specs.views.TypedViews.{reading_dialect, typed_items, typed_slice, typed_parts, typed_part};
 
     /// The components of a path, from either end.
@@ -89,7 +91,8 @@ impl<'a> TypedComponents<'a> {
 
     /// Whether the components that are left begin an absolute path.
     pub fn is_absolute(self) -> bool
-        ensures { result ≡ is_absolute (reading_dialect self.entry) (kinds (typed_parts self.entry)) }
+        ensures { result ≡ is_absolute (reading_dialect self.entry)
+            (kinds (typed_parts self.entry)) }
     {
         each!(self, reading => reading.is_absolute())
     }
@@ -129,8 +132,6 @@ impl<'a> TypedComponents<'a> {
 }
 
 impl<'a> Iterator for TypedComponents<'a> {
-    ghost use Rattle.std.specs.Iterator.{YieldsFirstBy, item_count};
-    ghost use Rattle.typed_path.specs.scan.Steps.{LeavesFront};
     ghost use Rattle.typed_path.specs.views.TypedViews.{reading_dialect, typed_items, typed_slice, typed_parts, typed_part};
 
     type Item = TypedComponent<'a>;
@@ -148,8 +149,6 @@ impl<'a> Iterator for TypedComponents<'a> {
 }
 
 impl<'a> DoubleEndedIterator for TypedComponents<'a> {
-    ghost use Rattle.std.specs.Iterator.{YieldsLastBy};
-    ghost use Rattle.typed_path.specs.scan.Steps.{LeavesBack};
     ghost use Rattle.typed_path.specs.views.TypedViews.{reading_dialect, typed_items, typed_slice, typed_parts, typed_part};
 
     ghost next_back_gives = { λ s component t. YieldsLastBy typed_part typed_parts s component t
@@ -210,8 +209,6 @@ impl<'a> TypedIter<'a> {
 }
 
 impl<'a> Iterator for TypedIter<'a> {
-    ghost use Rattle.std.specs.Iterator.{YieldsFirstRef, item_count};
-    ghost use Rattle.typed_path.specs.scan.Steps.{LeavesFront};
     ghost use Rattle.typed_path.specs.views.TypedViews.{typed_iter_items, typed_iter_slice, typed_iter_texts};
 
     type Item = &'a [u8];
@@ -229,8 +226,6 @@ impl<'a> Iterator for TypedIter<'a> {
 }
 
 impl<'a> DoubleEndedIterator for TypedIter<'a> {
-    ghost use Rattle.std.specs.Iterator.{YieldsLastRef};
-    ghost use Rattle.typed_path.specs.scan.Steps.{LeavesBack};
     ghost use Rattle.typed_path.specs.views.TypedViews.{typed_iter_items, typed_iter_slice, typed_iter_texts};
 
     ghost next_back_gives = { λ s text t. YieldsLastRef typed_iter_texts s text t
@@ -246,8 +241,6 @@ impl<'a> DoubleEndedIterator for TypedIter<'a> {
 impl<'a> FusedIterator for TypedIter<'a> {}
 
 impl<'a> Iterator for TypedAncestors<'a> {
-    ghost use Rattle.std.specs.Prelude.{IfSome};
-    ghost use Rattle.std.specs.Iterator.{YieldsFirstBy, item_count};
     ghost use Rattle.typed_path.specs.views.TypedViews.{typed_ancestors_left};
 
     type Item = TypedPath<'a>;
@@ -270,10 +263,7 @@ impl<'a> FusedIterator for TypedAncestors<'a> {}
 pub type TypedComponent<'a> = Typed<UnixComponent<'a>, WindowsComponent<'a>>;
 
 impl<'a> TypedComponent<'a> {
-    ghost use Rattle.std.specs.Prelude.{◌≡◌, ◌==◌, length, option_copied};
-    ghost use Rattle.typed_path.specs.components.Part.{is_name, is_parent, is_current};
-    ghost use Rattle.typed_path.specs.queries.Queries.{is_root, name_of};
-    ghost use Rattle.typed_path.specs.typed.Kind.{derived_dialect, typed_dialect};
+    ghost use Rattle.typed_path.specs.typed.{derived_dialect, typed_dialect};
     ghost use Rattle.typed_path.specs.views.TypedViews.{typed_bytes, typed_part};
 
     /// The path of this one component, of the kind that its text looks like.

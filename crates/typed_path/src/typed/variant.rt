@@ -1,9 +1,10 @@
-//! A value of Unix or one of Windows, and the bodies that answer by the value that is held.
+//! A value of Unix or one of Windows, the bodies that answer by the value that is held, and the dialect
+//! that a path looks like.
 
 ghost use Rattle.std.specs.Prelude.{◌≡◌};
-ghost use Rattle.typed_path.specs.components.Dialect.{unix, windows};
-ghost use Rattle.typed_path.specs.conversions.Convert.{same_dialect};
-ghost use Rattle.typed_path.specs.typed.Kind.{typed_dialect, of_held, kind_dialect, derived_dialect, looks_like_windows};
+ghost use Rattle.typed_path.specs.components.{unix, windows};
+ghost use Rattle.typed_path.specs.conversions.{same_dialect};
+ghost use Rattle.typed_path.specs.typed.{typed_dialect, of_held, kind_dialect, derived_dialect, looks_like_windows};
 
 use crate::scan::find_prefix;
 use std::fmt;

@@ -1,6 +1,9 @@
-//! One component of a Unix path.
+//! Components of a Unix path, alone, read of bytes, and one after the other.
 
-use crate::common::{Component, Concrete, ConcreteComponents, Encoding, Path};
+ghost use Rattle.std.specs.Prelude.{◌≡◌};
+ghost use Rattle.typed_path.specs.components.{unix, iterator_name, Part};
+
+use crate::common::{Component, Encoding, Path, ReadAs, Reading, Values};
 use crate::constants::unix::{CURRENT_DIR, PARENT_DIR};
 use crate::errors::ParseError;
 use crate::scan::{Piece, PieceKind};
@@ -22,7 +25,6 @@ pub enum UnixComponent<'a> {
 }
 
 impl<'a> UnixComponent<'a> {
-    ghost use Rattle.std.specs.Prelude.{◌≡◌};
     ghost use Rattle.typed_path.specs.views.UnixViews.{unix_part};
     ghost use Rattle.typed_path.specs.views.PathViews.{path_bytes};
 
@@ -35,7 +37,6 @@ impl<'a> UnixComponent<'a> {
 }
 
 impl<'a> Component<'a> for UnixComponent<'a> {
-    ghost use Rattle.typed_path.specs.components.Dialect.{unix};
     ghost use Rattle.typed_path.specs.views.UnixViews.{unix_part};
 
     ghost dialect = { unix };
@@ -96,18 +97,21 @@ impl<'a> Component<'a> for UnixComponent<'a> {
 }
 
 /// The components of a Unix path that are left to be read.
-pub type UnixComponents<'a> = ConcreteComponents<'a, UnixEncoding>;
+pub type UnixComponents<'a> = Reading<'a, UnixEncoding, Values>;
 
-impl<'a> Concrete<'a> for UnixEncoding {
-    ghost use Rattle.std.specs.Prelude.{◌≡◌};
-    ghost use Rattle.typed_path.specs.components.Dialect.{unix, iterator_name};
-    ghost use Rattle.typed_path.specs.components.Written.{written};
-    ghost use Rattle.typed_path.specs.views.PieceViews.{part_of};
+impl<'a> ReadAs<'a, UnixEncoding> for Values {
+    ghost use Rattle.typed_path.specs.views.Shown.{whole};
     ghost use Rattle.typed_path.specs.views.UnixViews.{unix_part};
 
-    type Component = UnixComponent<'a>;
+    ghost Seen = { Part };
 
-    ghost part = { unix_part };
+    ghost seen = { unix_part };
+
+    ghost shown = { whole };
+
+    ghost named = { iterator_name unix };
+
+    type Item = UnixComponent<'a>;
 
     fn iterator_name() -> &'static str
         ensures { result.now ≡ iterator_name unix }
@@ -116,10 +120,7 @@ impl<'a> Concrete<'a> for UnixEncoding {
     }
 
     #[inline(always)]
-    fn component(piece: Piece<'a>) -> UnixComponent<'a>
-        requires { part_of piece ≡ written unix (part_of piece) }
-        ensures { unix_part result ≡ part_of piece.entry }
-    {
+    fn from_piece(piece: Piece<'a>) -> UnixComponent<'a> {
         match piece.kind {
             PieceKind::RootDir => UnixComponent::RootDir,
             PieceKind::ParentDir => UnixComponent::ParentDir,

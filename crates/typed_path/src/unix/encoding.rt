@@ -1,15 +1,13 @@
-//! The encoding of Unix paths.
+//! The encoding of Unix paths: how one is pushed, judged and brought into its normal text.
 
-ghost use Rattle.std.specs.Prelude.{false, ◌≡◌, ◌≤◌, ◌+◌, ◌++◌, ℕ, take, slice_range, length, IfSome, IsNone, IsOk, OnOk, OnErr, ◌<◌, ◌-◌, List, []};
+ghost use Rattle.std.specs.Prelude.{false, ◌≡◌, ◌≤◌, ◌+◌, ◌++◌, ℕ, take, slice_range, length, IfSome, IsNone, IsOk, OnOk, OnErr, ◌<◌, ◌-◌, List, [], codes, Some};
 ghost use Rattle.std.specs.Vec.{vec_capacity, vec_len};
-ghost use Rattle.typed_path.specs.components.Dialect.{unix, slash};
-ghost use Rattle.typed_path.specs.changes.Push.{push_unix, ended_with, FitsPush};
-ghost use Rattle.typed_path.specs.changes.Checked.{begins_with_harm, is_harmless};
-ghost use Rattle.typed_path.specs.places.Places.{normal_text};
-ghost use Rattle.typed_path.specs.places.Rows.{rows, settled, names_left, AreRows, IsParted};
+ghost use Rattle.typed_path.specs.components.{unix, slash};
+ghost use Rattle.typed_path.specs.changes.{push_unix, ended_with, FitsPush, begins_with_nul_or_dot_pair, has_no_nul_or_dot_pair};
+ghost use Rattle.typed_path.specs.places.{normal_text, rows, settled, names_left, AreRows, IsParted};
 
 use crate::common::{
-    Encoding, behind_segment, cut_back, drop_name, drop_separator, put_front, put_over,
+    Encoding, append_first, behind_segment, cut_back, drop_name, drop_separator, put_over,
 };
 use crate::errors::CheckedPathError;
 use crate::scan::{
@@ -25,8 +23,6 @@ pub struct UnixEncoding;
 
 /// Prints the name of the type.
 impl fmt::Display for UnixEncoding {
-    ghost use Rattle.std.specs.Prelude.{codes, Some};
-
     ghost output = { λ _. Some (codes "UnixEncoding") };
 
     fn fmt<W: fmt::Write>(&self, f: &mut fmt::Formatter<W>) -> fmt::Result {
@@ -110,7 +106,7 @@ impl Encoding for UnixEncoding {
 
     // One search tells of most paths that none of their components offends.
     fn check(path: &[u8]) -> Result<(), CheckedPathError> {
-        if !path.starts_with(b"/") && is_harmless(path) {
+        if !path.starts_with(b"/") && has_no_nul_or_dot_pair(path) {
             return Ok(());
         }
         Cursor::new(path, Separators::Slash).check()
@@ -135,7 +131,7 @@ pub fn push_at(
     ensures succeeds { (room : ℕ) → start + room ≤ vec_capacity text.old
         → FitsPush unix room (slice_range text.old.items start kept) other.now → IsOk result }
 {
-    match joint(&text[start..kept], other) {
+    match separator_between(&text[start..kept], other) {
         Some(separator) => put_over(text, kept, separator, other),
         None => put_over(text, start, b"", other),
     }
@@ -143,7 +139,7 @@ pub fn push_at(
 
 /// What a push puts between a base and a path; none where the path replaces the base.
 #[inline(always)]
-fn joint(base: &[u8], other: &[u8]) -> Option<&'static [u8]>
+fn separator_between(base: &[u8], other: &[u8]) -> Option<&'static [u8]>
     ensures behind { IfSome result (λ separator. push_unix base.now other.now
         ≡ base.now ++ separator.now ++ other.now) }
     ensures replaced { IsNone result → push_unix base.now other.now ≡ other.now }
@@ -170,8 +166,8 @@ fn separator_behind(base: &[u8]) -> &'static [u8]
 
 /// Whether a path holds neither NUL nor two dots side by side. Without a root, such a path has no
 /// component that offends.
-pub fn is_harmless(path: &[u8]) -> bool
-    ensures { result ≡ is_harmless path.now }
+pub fn has_no_nul_or_dot_pair(path: &[u8]) -> bool
+    ensures { result ≡ has_no_nul_or_dot_pair path.now }
 {
     let mut at = 0;
     'dots: while at < path.len() {
@@ -179,7 +175,7 @@ pub fn is_harmless(path: &[u8]) -> bool
         if found == path.len() {
             return true;
         }
-        if begins_with_harm(&path[found..]) {
+        if begins_with_nul_or_dot_pair(&path[found..]) {
             return false;
         }
         at = found + 1;
@@ -188,8 +184,8 @@ pub fn is_harmless(path: &[u8]) -> bool
 }
 
 /// Whether a text begins with NUL, or with two dots.
-fn begins_with_harm(text: &[u8]) -> bool
-    ensures { result ≡ begins_with_harm text.now }
+fn begins_with_nul_or_dot_pair(text: &[u8]) -> bool
+    ensures { result ≡ begins_with_nul_or_dot_pair text.now }
 {
     matches!(text, [b'\0', ..] | [b'.', b'.', ..])
 }
@@ -220,7 +216,7 @@ fn put_rows(text: &mut Vec<u8>, path: &[u8]) -> Result<(), AllocError>
     let (root, rest) = split_root(path);
     text.extend_from_slice(root)?;
     let len = text.len();
-    settle_all(text, len, rest)?;
+    put_segments(text, len, rest)?;
     drop_separator(text, len);
     Ok(())
 }
@@ -236,7 +232,7 @@ fn split_root(path: &[u8]) -> (&[u8], &[u8])
 }
 
 /// Puts the names that are left of a path behind the first bytes of a text.
-fn settle_all(text: &mut Vec<u8>, len: usize, path: &[u8]) -> Result<(), AllocError>
+fn put_segments(text: &mut Vec<u8>, len: usize, path: &[u8]) -> Result<(), AllocError>
     requires { len ≤ length text.old.items }
     ensures ok { OnOk result ((head : List ℕ) → length head ≡ len → AreRows text.old.items head []
         → text.new.items ≡ head ++ rows (names_left path.now)) }
@@ -247,15 +243,20 @@ fn settle_all(text: &mut Vec<u8>, len: usize, path: &[u8]) -> Result<(), AllocEr
 {
     let mut rest = path;
     'segments: while let Some((segment, behind)) = cut_at_separator(Separators::Slash, rest) {
-        settle(text, len, segment, rest)?;
+        put_segment(text, len, segment, rest)?;
         rest = behind_segment(segment, behind, Separators::Slash);
     }
-    settle(text, len, rest, rest)
+    put_segment(text, len, rest, rest)
 }
 
 /// Settles one more segment, which is what the rest begins with, behind the names that stand.
 #[inline(always)]
-fn settle(text: &mut Vec<u8>, len: usize, segment: &[u8], rest: &[u8]) -> Result<(), AllocError>
+fn put_segment(
+    text: &mut Vec<u8>,
+    len: usize,
+    segment: &[u8],
+    rest: &[u8],
+) -> Result<(), AllocError>
     requires within { len ≤ length text.old.items }
     requires front { take (length segment.now) rest.now ≡ segment.now }
     ensures ok { OnOk result ((head : List ℕ) (names : List (List ℕ)) → length head ≡ len
@@ -270,7 +271,7 @@ fn settle(text: &mut Vec<u8>, len: usize, segment: &[u8], rest: &[u8]) -> Result
     match step_of(segment, Separators::Slash).kind {
         StepKind::ParentDir => drop_name(text, len, Separators::Slash),
         StepKind::Normal => {
-            put_front(text, rest, segment.len())?;
+            append_first(text, rest, segment.len())?;
             text.push(b'/')?;
         }
         StepKind::RootDir | StepKind::CurDir => {}

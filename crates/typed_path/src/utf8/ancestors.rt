@@ -1,9 +1,11 @@
 //! A path of text, its parent, the parent of that, and so on.
 #![tactic(auto, using(crate::proofs::lemmas::texts::TextChanges::text_laws))]
 
-ghost use Rattle.std.specs.Prelude.{◌≡◌, true};
-ghost use Rattle.typed_path.specs.texts.Texts.{are_texts};
+ghost use Rattle.std.specs.Prelude.{◌≡◌, true, ⊤};
+ghost use Rattle.typed_path.specs.texts.{are_texts};
 ghost use Rattle.typed_path.specs.views.PathViews.{ancestors_left};
+ghost use Rattle.typed_path.specs.queries.{ancestors_of};
+ghost use Rattle.std.specs.Iterator.{YieldsFirstBy, item_count};
 
 use crate::common::Ancestors;
 use crate::utf8::encoding::Utf8Encoding;
@@ -18,8 +20,6 @@ pub struct Utf8Ancestors<'a, T: Utf8Encoding> {
 }
 
 impl<'a, T: Utf8Encoding> Clone for Utf8Ancestors<'a, T> {
-    ghost use Rattle.std.specs.Prelude.{⊤};
-
     ghost is_clone = { λ ancestors copy. copy ≡ ancestors };
 
     ghost is_infallible = { λ ancestors. ⊤ };
@@ -33,14 +33,14 @@ impl<'a, T: Utf8Encoding> Clone for Utf8Ancestors<'a, T> {
 impl<'a, T: Utf8Encoding> Copy for Utf8Ancestors<'a, T> {}
 
 impl<'a, T: Utf8Encoding> Utf8Ancestors<'a, T> {
-    ghost use Rattle.typed_path.specs.queries.Ancestry.{ancestors_of};
     ghost use Rattle.typed_path.specs.views.TextViews.{utf8_bytes};
     ghost use Rattle.typed_path.specs.views.TextAncestorViews.{utf8_ancestors_left};
 
     /// The path and those above it.
     #[inline(always)]
     pub(super) fn new(path: Utf8Path<'a, T>) -> Utf8Ancestors<'a, T>
-        ensures { utf8_ancestors_left result ≡ ancestors_of T.Bytes.dialect (utf8_bytes path.entry) }
+        ensures { utf8_ancestors_left result
+            ≡ ancestors_of T.Bytes.dialect (utf8_bytes path.entry) }
     {
         Utf8Ancestors {
             inner: path.as_bytes_path().ancestors(),
@@ -49,7 +49,6 @@ impl<'a, T: Utf8Encoding> Utf8Ancestors<'a, T> {
 }
 
 impl<'a, T: Utf8Encoding> Iterator for Utf8Ancestors<'a, T> {
-    ghost use Rattle.std.specs.Iterator.{YieldsFirstBy, item_count};
     ghost use Rattle.typed_path.specs.views.TextViews.{utf8_bytes};
     ghost use Rattle.typed_path.specs.views.TextAncestorViews.{utf8_ancestors_left};
 

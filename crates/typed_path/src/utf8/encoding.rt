@@ -1,18 +1,16 @@
-//! What every encoding of paths of text can do.
+//! What every encoding of paths of text can do, and each of its components; and bytes that are known
+//! to be a text, taken as one.
 #![tactic(auto, using(crate::proofs::lemmas::texts::TextChanges::text_laws))]
 
 ghost use Rattle.std.specs.Prelude.{◌≡◌, ◌≤◌, Bool, fold, None, IsSome, IsOk, OnOk, OnErr, ◌==◌, [], ◌∷◌, length, option_copied, true};
 ghost use Rattle.std.specs.String.{string_bytes, string_capacity, string_vec};
 ghost use Rattle.std.specs.Str.{is_utf8};
-ghost use Rattle.typed_path.specs.components.Dialect.{label_of, Dialect, root_of, dot};
-ghost use Rattle.typed_path.specs.changes.Checked.{refusal};
-ghost use Rattle.typed_path.specs.changes.Push.{FitsPush};
-ghost use Rattle.typed_path.specs.changes.Fault.{fault};
+ghost use Rattle.typed_path.specs.components.{label_of, Dialect, root_of, dot, Part, root as root_kind, parent as parent_kind, current as current_kind, is_name, is_parent, is_current};
+ghost use Rattle.typed_path.specs.changes.{refusal, FitsPush, fault};
 ghost use Rattle.typed_path.specs.order.Words.{path_words};
-ghost use Rattle.typed_path.specs.promises.Promises.{HasPrefixOf, LiesWithin};
-ghost use Rattle.typed_path.specs.components.Part.{Part, root as root_kind, parent as parent_kind, current as current_kind, is_name, is_parent, is_current};
-ghost use Rattle.typed_path.specs.queries.Queries.{is_root as is_root_kind, is_valid_kind};
-ghost use Rattle.typed_path.specs.texts.Texts.{is_text_option};
+ghost use Rattle.typed_path.specs.promises.{HasPrefixOf, LiesWithin};
+ghost use Rattle.typed_path.specs.queries.{is_root as is_root_kind, is_valid_kind};
+ghost use Rattle.typed_path.specs.texts.{is_text_option};
 ghost use Rattle.typed_path.specs.changes.Push as push_spec;
 
 use crate::common::Encoding;
@@ -73,8 +71,8 @@ pub trait Utf8Encoding: Sized {
         ensures unchanged { IsSome (refusal result) → path.new ≡ path.old }
         ensures capacity { string_capacity path.old ≤ string_capacity path.new }
         ensures succeeds { fault Self.Bytes.dialect other.now ≡ None
-            → FitsPush Self.Bytes.dialect (string_capacity path.old) (string_bytes path.old) other.now
-            → IsOk result }
+            → FitsPush Self.Bytes.dialect (string_capacity path.old) (string_bytes path.old)
+            other.now → IsOk result }
         ensures prefix { OnOk result (HasPrefixOf Self.Bytes.dialect (string_bytes path.old)
             (string_bytes path.new)) }
         ensures contained { OnOk result (LiesWithin Self.Bytes.dialect (string_bytes path.old)

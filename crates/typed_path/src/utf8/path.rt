@@ -1,9 +1,16 @@
 //! A path that is a text, lent.
 #![tactic(auto, using(crate::proofs::lemmas::texts::TextChanges::text_laws))]
 
-ghost use Rattle.std.specs.Prelude.{◌≡◌, true};
+ghost use Rattle.std.specs.Prelude.{◌≡◌, true, ⊤, not, option_map, is_ok, IfOk, IfErr, option_copied, [], IsOk, Ok, Err, Some, None};
 ghost use Rattle.std.specs.Str.{is_utf8};
 ghost use Rattle.typed_path.specs.views.PathViews.{path_bytes};
+ghost use Rattle.typed_path.specs.typed.Outcomes.{JoinsChecked, Normalizes, ConvertsChecked, Absolutizes};
+ghost use Rattle.typed_path.specs.texts.{is_text_option, IsTextError};
+ghost use Rattle.typed_path.specs.components.{kinds, comps, parts_of, unix, windows};
+ghost use Rattle.typed_path.specs.queries.{is_absolute, has_root, is_valid, parent_of, file_name_of, file_stem_of, stripped, path_starts_with, path_ends_with, ancestors_of, stripped_to};
+ghost use Rattle.typed_path.specs.order.{is_same, path_cmp};
+ghost use Rattle.typed_path.specs.changes.{with_file_name, with_extension};
+ghost use Rattle.typed_path.specs.conversions.{platform, same_dialect, converted};
 
 use crate::common::Path;
 use crate::errors::{AbsolutizeError, PathError, StripPrefixError};
@@ -19,12 +26,6 @@ use std::cmp::Ordering;
 use std::str;
 use std::str::Utf8Error;
 
-/// The components of a path of text that are left to be read.
-pub type Utf8Components<'a, T> = Utf8Reading<'a, T, Utf8Piece<'a>>;
-
-/// The texts of the components that are left to be read.
-pub type Utf8Iter<'a, T> = Utf8Reading<'a, T, &'a str>;
-
 /// A path that is a text: a text, with the encoding by which it is read.
 ///
 /// Equality, order and hash are those of the path of its bytes.
@@ -35,8 +36,6 @@ pub struct Utf8Path<'a, T: Utf8Encoding> {
 }
 
 impl<'a, T: Utf8Encoding> Clone for Utf8Path<'a, T> {
-    ghost use Rattle.std.specs.Prelude.{⊤};
-
     ghost is_clone = { λ path copy. copy ≡ path };
 
     ghost is_infallible = { λ path. ⊤ };
@@ -49,29 +48,17 @@ impl<'a, T: Utf8Encoding> Clone for Utf8Path<'a, T> {
 
 impl<'a, T: Utf8Encoding> Copy for Utf8Path<'a, T> {}
 
+/// The components of a path of text that are left to be read.
+pub type Utf8Components<'a, T> = Utf8Reading<'a, T, Utf8Piece<'a>>;
+
+/// The texts of the components that are left to be read.
+pub type Utf8Iter<'a, T> = Utf8Reading<'a, T, &'a str>;
+
 impl<'a, T: Utf8Encoding> Utf8Path<'a, T> {
-    ghost use Rattle.std.specs.Prelude.{not, option_map, is_ok, IfOk, IfErr, ◌≡◌, option_copied, [], IsOk, Ok, Err, Some, None};
-    ghost use Rattle.typed_path.specs.texts.Texts.{is_text_option};
-    ghost use Rattle.typed_path.specs.texts.TextErrors.{IsTextError};
-    ghost use Rattle.typed_path.specs.components.Part.{kinds};
-    ghost use Rattle.typed_path.specs.components.Comps.{comps, parts_of};
-    ghost use Rattle.typed_path.specs.queries.Queries.{is_absolute, has_root, is_valid, parent_of, file_name_of, file_stem_of, extension, stripped, path_starts_with, path_ends_with};
-    ghost use Rattle.typed_path.specs.queries.Ancestry.{ancestors_of};
-    ghost use Rattle.typed_path.specs.order.Same.{is_same, path_cmp};
+    ghost use Rattle.typed_path.specs.queries.{extension};
     ghost use Rattle.typed_path.specs.views.ReadingViews.{reading_items, reading_slice};
     ghost use Rattle.typed_path.specs.views.TextAncestorViews.{utf8_ancestors_left};
     ghost use Rattle.typed_path.specs.views.TextViews.{utf8_bytes};
-    ghost use Rattle.typed_path.specs.queries.Strip.{stripped_to};
-    ghost use Rattle.typed_path.specs.changes.Checked.{refusal};
-    ghost use Rattle.typed_path.specs.promises.Promises.{HasPrefixOf, LiesWithin, HasNormalForm};
-    ghost use Rattle.typed_path.specs.promises.Below.{LiesBelow};
-    ghost use Rattle.typed_path.specs.places.Places.{normal_text};
-    ghost use Rattle.typed_path.specs.changes.Changes.{with_file_name, with_extension};
-    ghost use Rattle.typed_path.specs.changes.Fault.{fault};
-    ghost use Rattle.typed_path.specs.declared.errors.CheckedPathError.{CheckedPathError};
-    ghost use Rattle.typed_path.specs.declared.errors.AbsolutizeError.TheVariants.{Ambiguous};
-    ghost use Rattle.typed_path.specs.components.Dialect.{unix, windows};
-    ghost use Rattle.typed_path.specs.conversions.Convert.{platform, same_dialect, converted, converted_checked, absolute_from};
     ghost use Rattle.typed_path.specs.changes.Push as push_spec;
 
     /// The path of this text, whatever it is.
@@ -82,6 +69,27 @@ impl<'a, T: Utf8Encoding> Utf8Path<'a, T> {
         Utf8Path {
             path: Path::new(text.as_bytes()),
         }
+    }
+
+    /// The path of a path of bytes.
+    ///
+    /// # Errors
+    ///
+    /// `Utf8Error` exactly where its bytes are no text.
+    pub fn from_bytes_path(path: Path<'a, T::Bytes>) -> Result<Utf8Path<'a, T>, Utf8Error>
+        ensures ok { IfOk result (λ p. utf8_bytes p ≡ path_bytes path.entry) }
+        ensures flag { is_ok result ≡ is_utf8 (path_bytes path.entry) }
+        ensures err { IfErr result (IsTextError (path_bytes path.entry)) }
+    {
+        Ok(Utf8Path::new(str::from_utf8(path.as_bytes())?))
+    }
+
+    /// The same of a path whose bytes are known to be a text; they are not looked at again.
+    pub fn from_bytes_path_unchecked(path: Path<'a, T::Bytes>) -> Utf8Path<'a, T>
+        requires { is_utf8 (path_bytes path) ≡ true }
+        ensures { utf8_bytes result ≡ path_bytes path.entry }
+    {
+        Utf8Path::of(path)
     }
 
     /// The path of bytes that are a text.
@@ -133,44 +141,26 @@ impl<'a, T: Utf8Encoding> Utf8Path<'a, T> {
     /// Whether the path is not absolute.
     pub fn is_relative(self) -> bool
         ensures { result ≡ not
-            (is_absolute T.Bytes.dialect (kinds (parts_of T.Bytes.dialect (utf8_bytes self.entry)))) }
+            (is_absolute T.Bytes.dialect (kinds
+            (parts_of T.Bytes.dialect (utf8_bytes self.entry)))) }
     {
         self.path.is_relative()
     }
 
     /// Whether the path begins with a root, written or implied by a prefix.
     pub fn has_root(self) -> bool
-        ensures { result ≡ has_root T.Bytes.dialect (kinds (parts_of T.Bytes.dialect (utf8_bytes self.entry))) }
+        ensures { result ≡ has_root T.Bytes.dialect
+            (kinds (parts_of T.Bytes.dialect (utf8_bytes self.entry))) }
     {
         self.path.has_root()
     }
 
     /// Whether the encoding allows every name of the path.
     pub fn is_valid(self) -> bool
-        ensures { result ≡ is_valid T.Bytes.dialect (kinds (parts_of T.Bytes.dialect (utf8_bytes self.entry))) }
+        ensures { result ≡ is_valid T.Bytes.dialect
+            (kinds (parts_of T.Bytes.dialect (utf8_bytes self.entry))) }
     {
         self.path.is_valid()
-    }
-
-    /// The path of a path of bytes.
-    ///
-    /// # Errors
-    ///
-    /// `Utf8Error` exactly where its bytes are no text.
-    pub fn from_bytes_path(path: Path<'a, T::Bytes>) -> Result<Utf8Path<'a, T>, Utf8Error>
-        ensures ok { IfOk result (λ p. utf8_bytes p ≡ path_bytes path.entry) }
-        ensures flag { is_ok result ≡ is_utf8 (path_bytes path.entry) }
-        ensures err { IfErr result (IsTextError (path_bytes path.entry)) }
-    {
-        Ok(Utf8Path::new(str::from_utf8(path.as_bytes())?))
-    }
-
-    /// The same of a path whose bytes are known to be a text; they are not looked at again.
-    pub fn from_bytes_path_unchecked(path: Path<'a, T::Bytes>) -> Utf8Path<'a, T>
-        requires { is_utf8 (path_bytes path) ≡ true }
-        ensures { utf8_bytes result ≡ path_bytes path.entry }
-    {
-        Utf8Path::of(path)
     }
 
     /// The components of the path, from either end.
@@ -194,25 +184,10 @@ impl<'a, T: Utf8Encoding> Utf8Path<'a, T> {
     /// The path, and then each parent of the one before.
     #[inline(always)]
     pub fn ancestors(self) -> Utf8Ancestors<'a, T>
-        ensures { utf8_ancestors_left result ≡ ancestors_of T.Bytes.dialect (utf8_bytes self.entry) }
+        ensures { utf8_ancestors_left result
+            ≡ ancestors_of T.Bytes.dialect (utf8_bytes self.entry) }
     {
         Utf8Ancestors::new(self)
-    }
-
-    /// Whether the path has the same components as the path of this text.
-    #[inline]
-    pub fn eq_str(self, other: &str) -> bool
-        ensures { result ≡ is_same T.Bytes.dialect (utf8_bytes self.entry) other.now }
-    {
-        self.path.eq_bytes(other.as_bytes())
-    }
-
-    /// The order of the path and the path of this text, by their components.
-    #[inline]
-    pub fn cmp_str(self, other: &str) -> Ordering
-        ensures { result ≡ path_cmp T.Bytes.dialect (utf8_bytes self.entry) other.now }
-    {
-        self.path.cmp_bytes(other.as_bytes())
     }
 
     /// The path without its last component, or none where there is no component or nothing is above
@@ -272,9 +247,26 @@ impl<'a, T: Utf8Encoding> Utf8Path<'a, T> {
 
     /// Whether the path ends with the components of another, as they are written.
     pub fn ends_with(self, end: Utf8Path<'_, T>) -> bool
-        ensures { result ≡ path_ends_with T.Bytes.dialect (utf8_bytes self.entry) (utf8_bytes end.entry) }
+        ensures { result ≡ path_ends_with T.Bytes.dialect (utf8_bytes self.entry)
+            (utf8_bytes end.entry) }
     {
         self.as_bytes_path().ends_with(end.as_bytes_path())
+    }
+
+    /// Whether the path has the same components as the path of this text.
+    #[inline]
+    pub fn eq_str(self, other: &str) -> bool
+        ensures { result ≡ is_same T.Bytes.dialect (utf8_bytes self.entry) other.now }
+    {
+        self.path.eq_bytes(other.as_bytes())
+    }
+
+    /// The order of the path and the path of this text, by their components.
+    #[inline]
+    pub fn cmp_str(self, other: &str) -> Ordering
+        ensures { result ≡ path_cmp T.Bytes.dialect (utf8_bytes self.entry) other.now }
+    {
+        self.path.cmp_bytes(other.as_bytes())
     }
 
     /// A copy that owns its text.
@@ -307,13 +299,8 @@ impl<'a, T: Utf8Encoding> Utf8Path<'a, T> {
         alloc: Global,
         path: Utf8Path<'_, T>,
     ) -> Result<Utf8PathBuf<T>, PathError>
-        ensures refused { refusal result ≡ fault T.Bytes.dialect (utf8_bytes path.entry) }
-        ensures joined { IfOk result (λ p. p.bytes
-            ≡ push_spec.push T.Bytes.dialect (utf8_bytes self.entry) (utf8_bytes path.entry)) }
-        ensures prefix { IfOk result (λ p. HasPrefixOf T.Bytes.dialect (utf8_bytes self.entry) p.bytes) }
-        ensures contained { IfOk result
-            (λ p. LiesWithin T.Bytes.dialect (utf8_bytes self.entry) (utf8_bytes path.entry) p.bytes) }
-        ensures below { IfOk result (λ p. LiesBelow T.Bytes.dialect (utf8_bytes self.entry) p.bytes) }
+        ensures { JoinsChecked T.Bytes.dialect (λ p. p.bytes) (utf8_bytes self.entry)
+            (utf8_bytes path.entry) result }
     {
         owned!(
             self.as_bytes_path()
@@ -350,8 +337,7 @@ impl<'a, T: Utf8Encoding> Utf8Path<'a, T> {
     /// The path without `.`, and without `..` and the names that these take away, in the form of
     /// [`Path::normalize`](crate::Path::normalize).
     pub fn normalize(self, alloc: Global) -> Result<Utf8PathBuf<T>, AllocError>
-        ensures text { IfOk result (λ p. p.bytes ≡ normal_text T.Bytes.dialect (utf8_bytes self.entry)) }
-        ensures form { IfOk result (λ p. HasNormalForm T.Bytes.dialect (utf8_bytes self.entry) p.bytes) }
+        ensures { Normalizes T.Bytes.dialect (λ p. p.bytes) (utf8_bytes self.entry) result }
     {
         owned!(self.as_bytes_path().normalize(alloc))
     }
@@ -374,10 +360,8 @@ impl<'a, T: Utf8Encoding> Utf8Path<'a, T> {
         self,
         alloc: Global,
     ) -> Result<Utf8PathBuf<U>, PathError>
-        ensures ok { IfOk result (λ p.
-            converted_checked T.Bytes.dialect U.Bytes.dialect (utf8_bytes self.entry) ≡ Ok p.bytes) }
-        ensures refused { (e : CheckedPathError) → refusal result ≡ Some e
-            → converted_checked T.Bytes.dialect U.Bytes.dialect (utf8_bytes self.entry) ≡ Err e }
+        ensures { ConvertsChecked T.Bytes.dialect U.Bytes.dialect
+            (λ p. p.bytes) (utf8_bytes self.entry) result }
     {
         owned!(
             self.as_bytes_path()
@@ -394,17 +378,16 @@ impl<'a, T: Utf8Encoding> Utf8Path<'a, T> {
 
     /// The path as on Unix, as [`Utf8Path::with_encoding`] writes it.
     pub fn with_unix_encoding(self, alloc: Global) -> Result<Utf8UnixPathBuf, AllocError>
-        ensures { IfOk result (λ p. p.bytes ≡ converted T.Bytes.dialect unix (utf8_bytes self.entry)) }
+        ensures { IfOk result (λ p. p.bytes
+            ≡ converted T.Bytes.dialect unix (utf8_bytes self.entry)) }
     {
         self.with_encoding::<Utf8UnixEncoding>(alloc)
     }
 
     /// The path as on Unix, refused as [`Utf8Path::with_encoding_checked`] does.
     pub fn with_unix_encoding_checked(self, alloc: Global) -> Result<Utf8UnixPathBuf, PathError>
-        ensures ok { IfOk result
-            (λ p. converted_checked T.Bytes.dialect unix (utf8_bytes self.entry) ≡ Ok p.bytes) }
-        ensures refused { (e : CheckedPathError) → refusal result ≡ Some e
-            → converted_checked T.Bytes.dialect unix (utf8_bytes self.entry) ≡ Err e }
+        ensures { ConvertsChecked T.Bytes.dialect unix
+            (λ p. p.bytes) (utf8_bytes self.entry) result }
     {
         self.with_encoding_checked::<Utf8UnixEncoding>(alloc)
     }
@@ -418,7 +401,8 @@ impl<'a, T: Utf8Encoding> Utf8Path<'a, T> {
 
     /// The path as on Windows, as [`Utf8Path::with_encoding`] writes it.
     pub fn with_windows_encoding(self, alloc: Global) -> Result<Utf8WindowsPathBuf, AllocError>
-        ensures { IfOk result (λ p. p.bytes ≡ converted T.Bytes.dialect windows (utf8_bytes self.entry)) }
+        ensures { IfOk result (λ p. p.bytes
+            ≡ converted T.Bytes.dialect windows (utf8_bytes self.entry)) }
     {
         self.with_encoding::<Utf8WindowsEncoding>(alloc)
     }
@@ -428,10 +412,8 @@ impl<'a, T: Utf8Encoding> Utf8Path<'a, T> {
         self,
         alloc: Global,
     ) -> Result<Utf8WindowsPathBuf, PathError>
-        ensures ok { IfOk result
-            (λ p. converted_checked T.Bytes.dialect windows (utf8_bytes self.entry) ≡ Ok p.bytes) }
-        ensures refused { (e : CheckedPathError) → refusal result ≡ Some e
-            → converted_checked T.Bytes.dialect windows (utf8_bytes self.entry) ≡ Err e }
+        ensures { ConvertsChecked T.Bytes.dialect windows
+            (λ p. p.bytes) (utf8_bytes self.entry) result }
     {
         self.with_encoding_checked::<Utf8WindowsEncoding>(alloc)
     }
@@ -445,7 +427,8 @@ impl<'a, T: Utf8Encoding> Utf8Path<'a, T> {
 
     /// The path as on the machine, as [`Utf8Path::with_encoding`] writes it.
     pub fn with_platform_encoding(self, alloc: Global) -> Result<Utf8PlatformPathBuf, AllocError>
-        ensures { IfOk result (λ p. p.bytes ≡ converted T.Bytes.dialect platform (utf8_bytes self.entry)) }
+        ensures { IfOk result (λ p. p.bytes
+            ≡ converted T.Bytes.dialect platform (utf8_bytes self.entry)) }
     {
         self.with_encoding::<Utf8PlatformEncoding>(alloc)
     }
@@ -455,10 +438,8 @@ impl<'a, T: Utf8Encoding> Utf8Path<'a, T> {
         self,
         alloc: Global,
     ) -> Result<Utf8PlatformPathBuf, PathError>
-        ensures ok { IfOk result
-            (λ p. converted_checked T.Bytes.dialect platform (utf8_bytes self.entry) ≡ Ok p.bytes) }
-        ensures refused { (e : CheckedPathError) → refusal result ≡ Some e
-            → converted_checked T.Bytes.dialect platform (utf8_bytes self.entry) ≡ Err e }
+        ensures { ConvertsChecked T.Bytes.dialect platform
+            (λ p. p.bytes) (utf8_bytes self.entry) result }
     {
         self.with_encoding_checked::<Utf8PlatformEncoding>(alloc)
     }
@@ -475,11 +456,8 @@ impl<'a, T: Utf8Encoding> Utf8Path<'a, T> {
         alloc: Global,
         directory: Utf8PlatformPath<'_>,
     ) -> Result<Utf8PathBuf<T>, AbsolutizeError>
-        ensures ok { IfOk result (λ p.
-            absolute_from T.Bytes.dialect (utf8_bytes directory.entry) (utf8_bytes self.entry)
-            ≡ Some p.bytes) }
-        ensures ambiguous { result ≡ Err Ambiguous
-            → absolute_from T.Bytes.dialect (utf8_bytes directory.entry) (utf8_bytes self.entry) ≡ None }
+        ensures { Absolutizes T.Bytes.dialect (λ p. p.bytes) (utf8_bytes directory.entry)
+            (utf8_bytes self.entry) result }
     {
         let absolute = self
             .as_bytes_path()
@@ -489,7 +467,6 @@ impl<'a, T: Utf8Encoding> Utf8Path<'a, T> {
 }
 
 impl<'a, T: Utf8Encoding> IntoIterator for Utf8Path<'a, T> {
-    ghost use Rattle.typed_path.specs.components.Comps.{comps};
     ghost use Rattle.typed_path.specs.views.TextViews.{utf8_bytes};
     ghost use Rattle.typed_path.specs.views.ReadingViews.{reading_items, reading_slice};
 
@@ -497,8 +474,8 @@ impl<'a, T: Utf8Encoding> IntoIterator for Utf8Path<'a, T> {
 
     type IntoIter = Utf8Iter<'a, T>;
 
-    ghost into_iter_gives = { λ path iter. reading_items iter ≡ comps T.Bytes.dialect (utf8_bytes path)
-        × reading_slice iter ≡ utf8_bytes path };
+    ghost into_iter_gives = { λ path iter. reading_items iter
+        ≡ comps T.Bytes.dialect (utf8_bytes path) × reading_slice iter ≡ utf8_bytes path };
 
     fn into_iter(self) -> Utf8Iter<'a, T> {
         self.iter()

@@ -1,8 +1,18 @@
 //! A path that is a text, owned.
 #![tactic(auto, using(crate::proofs::lemmas::texts::TextChanges::text_laws))]
 
-ghost use Rattle.std.specs.Prelude.{◌≡◌, true};
+ghost use Rattle.std.specs.Prelude.{◌≡◌, true, ◌≤◌, ◌+◌, [], length, is_some, max, min, IsSome, None, IfOk, OnOk, OnErr, IsOk, is_ok, IfErr, map, refl};
 ghost use Rattle.std.specs.Str.{is_utf8};
+ghost use Rattle.std.specs.String.{string_bytes, string_capacity};
+ghost use Rattle.typed_path.specs.changes.{refusal, FitsPush, push_all, IsKnown, fault, popped, without_file_name, with_file_name, with_extension};
+ghost use Rattle.typed_path.specs.promises.{HasPrefixOf, LiesWithin};
+ghost use Rattle.typed_path.specs.queries.{parent_of, file_name_of};
+ghost use Rattle.std.specs.Cmp.{eq_by_cmp_equiv, on_total, partial_equiv_from_equiv, partial_order_from_total};
+ghost use Rattle.std.specs.Ordering.{on, as_partial_cmp};
+ghost use Rattle.typed_path.specs.order.{is_same, path_cmp, path_cmp_total, same-kinds};
+ghost use Rattle.std.proofs.Common.{ap};
+ghost use Rattle.typed_path.specs.components.{kinds, parts_of};
+ghost use Rattle.typed_path.specs.order.Words.{kinds_words};
 
 use crate::common::PathBuf;
 use crate::errors::PathError;
@@ -41,16 +51,6 @@ impl<T: Utf8Encoding> Model for Utf8PathBuf<T> {
 }
 
 impl<T: Utf8Encoding> Utf8PathBuf<T> {
-    ghost use Rattle.std.specs.Prelude.{◌≤◌, ◌+◌, [], length, is_some, max, min, IsSome, None, IfOk, OnOk, OnErr, IsOk, is_ok, IfErr};
-    ghost use Rattle.std.specs.String.{string_bytes, string_capacity};
-    ghost use Rattle.std.specs.Str.{is_utf8};
-    ghost use Rattle.typed_path.specs.changes.Checked.{refusal};
-    ghost use Rattle.typed_path.specs.promises.Promises.{HasPrefixOf, LiesWithin};
-    ghost use Rattle.typed_path.specs.changes.Push.{FitsPush};
-    ghost use Rattle.typed_path.specs.changes.Spelled.{IsKnown};
-    ghost use Rattle.typed_path.specs.changes.Fault.{fault};
-    ghost use Rattle.typed_path.specs.queries.Queries.{parent_of, file_name_of};
-    ghost use Rattle.typed_path.specs.changes.Changes.{popped, without_file_name, with_file_name, with_extension};
     ghost use Rattle.typed_path.specs.views.TextViews.{utf8_bytes};
     ghost use Rattle.typed_path.specs.changes.Push as push_spec;
 
@@ -79,6 +79,32 @@ impl<T: Utf8Encoding> Utf8PathBuf<T> {
         owned!(PathBuf::from_str(alloc, text))
     }
 
+    /// The path of the bytes of another, with no copy.
+    ///
+    /// # Errors
+    ///
+    /// The path of bytes, given back, exactly where its bytes are no text.
+    pub fn from_bytes_path_buf(path: PathBuf<T::Bytes>) -> Result<Utf8PathBuf<T>, PathBuf<T::Bytes>>
+        ensures ok { IfOk result (λ p. (p.bytes ≡ path.bytes) × (p.capacity ≡ path.capacity)) }
+        ensures back { IfErr result (λ p. p ≡ path) }
+        ensures flag { is_ok result ≡ is_utf8 path.bytes }
+    {
+        if path.as_path().to_str().is_some() {
+            Ok(Utf8PathBuf::of(path))
+        } else {
+            Err(path)
+        }
+    }
+
+    /// The same of a path whose bytes are known to be a text; they are not looked at again.
+    pub fn from_bytes_path_buf_unchecked(path: PathBuf<T::Bytes>) -> Utf8PathBuf<T>
+        requires { is_utf8 path.bytes ≡ true }
+        ensures bytes { result.bytes ≡ path.bytes }
+        ensures capacity { result.capacity ≡ path.capacity }
+    {
+        Utf8PathBuf::of(path)
+    }
+
     /// The path of owned bytes that are a text.
     #[inline(always)]
     pub(super) fn of(inner: PathBuf<T::Bytes>) -> Utf8PathBuf<T>
@@ -96,12 +122,20 @@ impl<T: Utf8Encoding> Utf8PathBuf<T> {
         Utf8Path::of(self.inner.as_path())
     }
 
+    /// How many bytes the path has room for, its own among them.
+    pub fn capacity(&self) -> usize
+        ensures { result ≡ self.now.capacity }
+    {
+        self.inner.capacity()
+    }
+
     /// Pushes a path onto this one: an absolute one replaces it, an empty one changes nothing.
     ///
     /// Where memory is refused the path is as it was, and has no less room.
     pub fn push(&mut self, path: Utf8Path<'_, T>) -> Result<(), AllocError>
         ensures ok { OnOk result
-            (self.new.bytes ≡ push_spec.push T.Bytes.dialect self.old.bytes (utf8_bytes path.entry)) }
+            (self.new.bytes ≡ push_spec.push T.Bytes.dialect self.old.bytes
+            (utf8_bytes path.entry)) }
         ensures err { OnErr result (self.new.bytes ≡ self.old.bytes) }
         ensures capacity { self.old.capacity ≤ self.new.capacity }
         ensures succeeds { FitsPush T.Bytes.dialect self.old.capacity self.old.bytes
@@ -109,6 +143,30 @@ impl<T: Utf8Encoding> Utf8PathBuf<T> {
             → IsOk result }
     {
         self.inner.push(path.as_bytes_path())
+    }
+
+    /// Pushes a path onto this one, unless it has a component that offends. Pushed, it lies within
+    /// this path, where this one keeps its prefix.
+    ///
+    /// # Errors
+    ///
+    /// Those of [`PathBuf::push_checked`](crate::PathBuf::push_checked). Then the path is as it was.
+    pub fn push_checked(&mut self, path: Utf8Path<'_, T>) -> Result<(), PathError>
+        ensures refused { refusal result ≡ fault T.Bytes.dialect (utf8_bytes path.entry) }
+        ensures ok { OnOk result
+            (self.new.bytes ≡ push_spec.push T.Bytes.dialect self.old.bytes
+            (utf8_bytes path.entry)) }
+        ensures err { OnErr result (self.new.bytes ≡ self.old.bytes) }
+        ensures unchanged { IsSome (refusal result) → self.new ≡ self.old }
+        ensures capacity { self.old.capacity ≤ self.new.capacity }
+        ensures succeeds { fault T.Bytes.dialect (utf8_bytes path.entry) ≡ None
+            → FitsPush T.Bytes.dialect self.old.capacity self.old.bytes (utf8_bytes path.entry)
+            → IsOk result }
+        ensures prefix { OnOk result (HasPrefixOf T.Bytes.dialect self.old.bytes self.new.bytes) }
+        ensures contained { OnOk result
+            (LiesWithin T.Bytes.dialect self.old.bytes (utf8_bytes path.entry) self.new.bytes) }
+    {
+        self.inner.push_checked(path.as_bytes_path())
     }
 
     /// The same of a path of which something may be known, as the path of the bytes has it.
@@ -124,29 +182,6 @@ impl<T: Utf8Encoding> Utf8PathBuf<T> {
         ensures err { OnErr result (self.new.bytes ≡ self.old.bytes) }
     {
         self.inner.push_next(path.as_bytes_path(), known)
-    }
-
-    /// Pushes a path onto this one, unless it has a component that offends. Pushed, it lies within
-    /// this path, where this one keeps its prefix.
-    ///
-    /// # Errors
-    ///
-    /// Those of [`PathBuf::push_checked`](crate::PathBuf::push_checked). Then the path is as it was.
-    pub fn push_checked(&mut self, path: Utf8Path<'_, T>) -> Result<(), PathError>
-        ensures refused { refusal result ≡ fault T.Bytes.dialect (utf8_bytes path.entry) }
-        ensures ok { OnOk result
-            (self.new.bytes ≡ push_spec.push T.Bytes.dialect self.old.bytes (utf8_bytes path.entry)) }
-        ensures err { OnErr result (self.new.bytes ≡ self.old.bytes) }
-        ensures unchanged { IsSome (refusal result) → self.new ≡ self.old }
-        ensures capacity { self.old.capacity ≤ self.new.capacity }
-        ensures succeeds { fault T.Bytes.dialect (utf8_bytes path.entry) ≡ None
-            → FitsPush T.Bytes.dialect self.old.capacity self.old.bytes (utf8_bytes path.entry)
-            → IsOk result }
-        ensures prefix { OnOk result (HasPrefixOf T.Bytes.dialect self.old.bytes self.new.bytes) }
-        ensures contained { OnOk result
-            (LiesWithin T.Bytes.dialect self.old.bytes (utf8_bytes path.entry) self.new.bytes) }
-    {
-        self.inner.push_checked(path.as_bytes_path())
     }
 
     /// Cuts the path to its parent, where it has one, and answers whether it has.
@@ -183,7 +218,8 @@ impl<T: Utf8Encoding> Utf8PathBuf<T> {
         ensures flag { IfOk result
             (λ renamed. renamed ≡ is_some (file_name_of T.Bytes.dialect self.old.bytes)) }
         ensures err { OnErr result (self.new.bytes ≡ self.old.bytes) }
-        ensures unchanged { file_name_of T.Bytes.dialect self.old.bytes ≡ None → self.new ≡ self.old }
+        ensures unchanged { file_name_of T.Bytes.dialect self.old.bytes ≡ None
+            → self.new ≡ self.old }
         ensures capacity { self.old.capacity ≤ self.new.capacity }
         ensures succeeds { length (with_extension T.Bytes.dialect self.old.bytes extension.now)
             ≤ self.old.capacity
@@ -198,13 +234,6 @@ impl<T: Utf8Encoding> Utf8PathBuf<T> {
         ensures capacity { self.new.capacity ≡ self.old.capacity }
     {
         self.inner.clear();
-    }
-
-    /// How many bytes the path has room for, its own among them.
-    pub fn capacity(&self) -> usize
-        ensures { result ≡ self.now.capacity }
-    {
-        self.inner.capacity()
     }
 
     /// Finds room for so many bytes more, and perhaps for others behind these.
@@ -282,32 +311,6 @@ impl<T: Utf8Encoding> Utf8PathBuf<T> {
         string_of(inner.into_vec())
     }
 
-    /// The path of the bytes of another, with no copy.
-    ///
-    /// # Errors
-    ///
-    /// The path of bytes, given back, exactly where its bytes are no text.
-    pub fn from_bytes_path_buf(path: PathBuf<T::Bytes>) -> Result<Utf8PathBuf<T>, PathBuf<T::Bytes>>
-        ensures ok { IfOk result (λ p. (p.bytes ≡ path.bytes) × (p.capacity ≡ path.capacity)) }
-        ensures back { IfErr result (λ p. p ≡ path) }
-        ensures flag { is_ok result ≡ is_utf8 path.bytes }
-    {
-        if path.as_path().to_str().is_some() {
-            Ok(Utf8PathBuf::of(path))
-        } else {
-            Err(path)
-        }
-    }
-
-    /// The same of a path whose bytes are known to be a text; they are not looked at again.
-    pub fn from_bytes_path_buf_unchecked(path: PathBuf<T::Bytes>) -> Utf8PathBuf<T>
-        requires { is_utf8 path.bytes ≡ true }
-        ensures bytes { result.bytes ≡ path.bytes }
-        ensures capacity { result.capacity ≡ path.capacity }
-    {
-        Utf8PathBuf::of(path)
-    }
-
     /// The path of the bytes, with no copy.
     pub fn into_bytes_path_buf(self) -> PathBuf<T::Bytes>
         ensures bytes { result.bytes ≡ self.bytes }
@@ -329,8 +332,6 @@ impl<T: Utf8Encoding> Clone for Utf8PathBuf<T> {
 
 /// The path of a text, with no copy.
 impl<T: Utf8Encoding> From<String> for Utf8PathBuf<T> {
-    ghost use Rattle.std.specs.String.{string_bytes};
-
     ghost from_gives = { λ text path. path.bytes ≡ string_bytes text };
 
     fn from(text: String) -> Utf8PathBuf<T> {
@@ -340,8 +341,6 @@ impl<T: Utf8Encoding> From<String> for Utf8PathBuf<T> {
 
 /// The text of a path, with no copy.
 impl<T: Utf8Encoding> From<Utf8PathBuf<T>> for String {
-    ghost use Rattle.std.specs.String.{string_bytes};
-
     ghost from_gives = { λ path text. string_bytes text ≡ path.bytes };
 
     fn from(path: Utf8PathBuf<T>) -> String {
@@ -351,9 +350,7 @@ impl<T: Utf8Encoding> From<Utf8PathBuf<T>> for String {
 
 /// Pushes paths one by one. Where memory is refused, those before it stay pushed.
 impl<'p, T: Utf8Encoding> Extend<Utf8Path<'p, T>> for Utf8PathBuf<T> {
-    ghost use Rattle.std.specs.Prelude.{map};
     ghost use Rattle.typed_path.specs.views.TextViews.{utf8_bytes};
-    ghost use Rattle.typed_path.specs.changes.Push.{push_all};
 
     ghost extend_gives = { λ old paths new. new.bytes
         ≡ push_all T.Bytes.dialect old.bytes (map utf8_bytes paths) };
@@ -373,9 +370,7 @@ impl<'p, T: Utf8Encoding> Extend<Utf8Path<'p, T>> for Utf8PathBuf<T> {
 
 /// The paths pushed one by one onto the empty path.
 impl<'p, T: Utf8Encoding> FromIterator<Utf8Path<'p, T>> for Utf8PathBuf<T> {
-    ghost use Rattle.std.specs.Prelude.{[], map};
     ghost use Rattle.typed_path.specs.views.TextViews.{utf8_bytes};
-    ghost use Rattle.typed_path.specs.changes.Push.{push_all};
 
     type Alloc = Global;
 
@@ -393,14 +388,10 @@ impl<'p, T: Utf8Encoding> FromIterator<Utf8Path<'p, T>> for Utf8PathBuf<T> {
 }
 
 impl<T: Utf8Encoding> PartialEq for Utf8PathBuf<T> {
-    ghost use Rattle.std.specs.Cmp.{eq_by_cmp_equiv, on_total, partial_equiv_from_equiv};
-    ghost use Rattle.std.specs.Ordering.{on};
-    ghost use Rattle.typed_path.specs.order.Same.{is_same};
-    ghost use Rattle.typed_path.specs.order.Laws.{path_cmp_total};
-
     ghost eq = { on (λ p. p.bytes) (is_same T.Bytes.dialect) };
 
-    ghost laws = { partial_equiv_from_equiv (eq_by_cmp_equiv (on_total (λ p. p.bytes) (path_cmp_total T.Bytes.dialect))) };
+    ghost laws = { partial_equiv_from_equiv
+        (eq_by_cmp_equiv (on_total (λ p. p.bytes) (path_cmp_total T.Bytes.dialect))) };
 
     #[inline]
     fn eq(&self, other: &Utf8PathBuf<T>) -> bool {
@@ -409,21 +400,14 @@ impl<T: Utf8Encoding> PartialEq for Utf8PathBuf<T> {
 }
 
 impl<T: Utf8Encoding> Eq for Utf8PathBuf<T> {
-    ghost use Rattle.std.specs.Cmp.{eq_by_cmp_equiv, on_total};
-    ghost use Rattle.typed_path.specs.order.Laws.{path_cmp_total};
-
     ghost laws = { eq_by_cmp_equiv (on_total (λ p. p.bytes) (path_cmp_total T.Bytes.dialect)) };
 }
 
 impl<T: Utf8Encoding> PartialOrd for Utf8PathBuf<T> {
-    ghost use Rattle.std.specs.Cmp.{on_total, partial_order_from_total};
-    ghost use Rattle.std.specs.Ordering.{as_partial_cmp, on};
-    ghost use Rattle.typed_path.specs.order.Same.{path_cmp};
-    ghost use Rattle.typed_path.specs.order.Laws.{path_cmp_total};
-
     ghost partial_cmp = { as_partial_cmp (on (λ p. p.bytes) (path_cmp T.Bytes.dialect)) };
 
-    ghost laws = { partial_order_from_total (on_total (λ p. p.bytes) (path_cmp_total T.Bytes.dialect)) };
+    ghost laws = { partial_order_from_total
+        (on_total (λ p. p.bytes) (path_cmp_total T.Bytes.dialect)) };
 
     #[inline]
     fn partial_cmp(&self, other: &Utf8PathBuf<T>) -> Option<Ordering> {
@@ -432,12 +416,6 @@ impl<T: Utf8Encoding> PartialOrd for Utf8PathBuf<T> {
 }
 
 impl<T: Utf8Encoding> Ord for Utf8PathBuf<T> {
-    ghost use Rattle.std.specs.Prelude.{refl};
-    ghost use Rattle.std.specs.Cmp.{on_total};
-    ghost use Rattle.std.specs.Ordering.{on};
-    ghost use Rattle.typed_path.specs.order.Same.{path_cmp};
-    ghost use Rattle.typed_path.specs.order.Laws.{path_cmp_total};
-
     ghost cmp = { on (λ p. p.bytes) (path_cmp T.Bytes.dialect) };
 
     ghost total = { on_total (λ p. p.bytes) (path_cmp_total T.Bytes.dialect) };
@@ -453,15 +431,10 @@ impl<T: Utf8Encoding> Ord for Utf8PathBuf<T> {
 }
 
 impl<T: Utf8Encoding> Hash for Utf8PathBuf<T> {
-    ghost use Rattle.std.proofs.Common.{ap};
-    ghost use Rattle.typed_path.specs.components.Part.{kinds};
-    ghost use Rattle.typed_path.specs.components.Comps.{parts_of};
-    ghost use Rattle.typed_path.specs.order.Words.{kinds_words};
-    ghost use Rattle.typed_path.specs.order.Laws.{same-kinds};
-
     ghost hash_input = { λ p. kinds_words (kinds (parts_of T.Bytes.dialect p.bytes)) };
 
-    ghost respects_eq = { λ p q same. ap kinds_words (same-kinds T.Bytes.dialect p.bytes q.bytes same) };
+    ghost respects_eq = { λ p q same. ap kinds_words
+        (same-kinds T.Bytes.dialect p.bytes q.bytes same) };
 
     fn hash<H: Hasher>(&self, state: &mut H) {
         self.inner.hash(state);

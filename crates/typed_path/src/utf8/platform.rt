@@ -1,6 +1,6 @@
 //! Paths of text, written as on the machine.
 
-ghost use Rattle.std.specs.Prelude.{true};
+ghost use Rattle.std.specs.Prelude.{true, codes, Some};
 
 use crate::platform::PlatformEncoding;
 use crate::utf8::encoding::Utf8Encoding;
@@ -29,8 +29,6 @@ impl Utf8Encoding for Utf8PlatformEncoding {
 
 /// Prints the name of the type.
 impl fmt::Display for Utf8PlatformEncoding {
-    ghost use Rattle.std.specs.Prelude.{codes, Some};
-
     ghost output = { λ _. Some (codes "Utf8PlatformEncoding") };
 
     fn fmt<W: fmt::Write>(&self, f: &mut fmt::Formatter<W>) -> fmt::Result {

@@ -1,5 +1,7 @@
 //! Paths of text and what is read of them, printed.
 
+ghost use Rattle.std.specs.Prelude.{Some};
+
 use crate::utf8::ancestors::Utf8Ancestors;
 use crate::utf8::encoding::Utf8Encoding;
 use crate::utf8::path::Utf8Path;
@@ -9,7 +11,6 @@ use std::fmt;
 
 /// Prints the text.
 impl<'a, T: Utf8Encoding> fmt::Display for Utf8Path<'a, T> {
-    ghost use Rattle.std.specs.Prelude.{Some};
     ghost use Rattle.typed_path.specs.views.TextViews.{utf8_bytes};
 
     ghost output = { λ path. Some (utf8_bytes path) };
@@ -21,8 +22,6 @@ impl<'a, T: Utf8Encoding> fmt::Display for Utf8Path<'a, T> {
 
 /// Prints the text.
 impl<T: Utf8Encoding> fmt::Display for Utf8PathBuf<T> {
-    ghost use Rattle.std.specs.Prelude.{Some};
-
     ghost output = { λ path. Some path.bytes };
 
     fn fmt<W: fmt::Write>(&self, f: &mut fmt::Formatter<W>) -> fmt::Result {

@@ -1,15 +1,17 @@
 //! The components of a path of text, each as a value of the type that the iterator names.
 #![tactic(auto, using(crate::proofs::lemmas::texts::TextChanges::reading_laws))]
 
-ghost use Rattle.std.specs.Prelude.{◌≡◌, true};
-ghost use Rattle.typed_path.specs.components.Part.{Part};
-ghost use Rattle.typed_path.specs.components.Written.{written, as_written};
-ghost use Rattle.typed_path.specs.texts.Texts.{IsTextReading, is_text_part};
+ghost use Rattle.std.specs.Prelude.{◌≡◌, true, ⊤, drop, option_map, map, ◌==◌, length, ℕ, List};
+ghost use Rattle.typed_path.specs.components.{Part, kinds, is_name, is_parent, is_current, written, as_written, comps};
+ghost use Rattle.typed_path.specs.texts.{IsTextReading, is_text_part};
 ghost use Rattle.typed_path.specs.views.PathViews.{components_items, components_slice, components_parts};
 ghost use Rattle.typed_path.specs.views.PieceViews.{part_of};
 ghost use Rattle.typed_path.specs.views.TextPieceViews.{text_part};
+ghost use Rattle.typed_path.specs.queries.{is_absolute, has_root, is_root, is_valid_kind};
+ghost use Rattle.typed_path.specs.scan.{but_last, slice_after_front, slice_after_back, first_part, last_part, LeavesFront, LeavesBack};
+ghost use Rattle.std.specs.Iterator.{YieldsFirstBy, item_count, YieldsLastBy};
 
-use crate::common::{Components, Concrete, ConcreteComponents, Encoding, Reversed};
+use crate::common::{Components, Encoding, Reading, Reversed};
 use crate::scan::{Cursor, Piece, PieceKind};
 use crate::utf8::encoding::{Utf8Encoding, text_of};
 use crate::utf8::path::Utf8Path;
@@ -47,8 +49,6 @@ pub struct Utf8Reading<'a, T: Utf8Encoding, I> {
 }
 
 impl<'a, T: Utf8Encoding, I> Clone for Utf8Reading<'a, T, I> {
-    ghost use Rattle.std.specs.Prelude.{⊤};
-
     ghost is_clone = { λ reading copy. copy ≡ reading };
 
     ghost is_infallible = { λ reading. ⊤ };
@@ -62,10 +62,6 @@ impl<'a, T: Utf8Encoding, I> Clone for Utf8Reading<'a, T, I> {
 impl<'a, T: Utf8Encoding, I> Copy for Utf8Reading<'a, T, I> {}
 
 impl<'a, T: Utf8Encoding, I> Utf8Reading<'a, T, I> {
-    ghost use Rattle.typed_path.specs.components.Part.{kinds};
-    ghost use Rattle.typed_path.specs.components.Comps.{comps};
-    ghost use Rattle.typed_path.specs.queries.Queries.{is_absolute, has_root};
-    ghost use Rattle.typed_path.specs.views.ConcreteViews.{concrete_items};
     ghost use Rattle.typed_path.specs.views.CursorViews.{slice_left, items_left};
     ghost use Rattle.typed_path.specs.views.TextViews.{utf8_bytes};
     ghost use Rattle.typed_path.specs.views.ReadingViews.{reading_items, reading_slice, reading_parts};
@@ -94,12 +90,10 @@ impl<'a, T: Utf8Encoding, I> Utf8Reading<'a, T, I> {
 
     /// The same components, of the path of the bytes.
     #[inline(always)]
-    pub(super) fn bytes(self) -> ConcreteComponents<'a, T::Bytes>
-    where
-        T::Bytes: Concrete<'a>,
-        ensures items { concrete_items result ≡ reading_items self.entry }
+    pub(super) fn bytes<J>(self) -> Reading<'a, T::Bytes, J>
+        ensures items { components_items result ≡ reading_items self.entry }
     {
-        ConcreteComponents::of(self.components)
+        self.components.read_as()
     }
 
     /// What is left, from the last to the first.
@@ -148,9 +142,6 @@ impl<'a, T: Utf8Encoding> Utf8Reading<'a, T, &'a str> {
 }
 
 impl<'a, T: Utf8Encoding, I: FromPiece<'a, T>> Utf8Reading<'a, T, I> {
-    ghost use Rattle.std.specs.Prelude.{drop, option_map};
-    ghost use Rattle.typed_path.specs.scan.Left.{but_last, slice_after_front, slice_after_back};
-    ghost use Rattle.typed_path.specs.scan.Steps.{first_part, last_part};
     ghost use Rattle.typed_path.specs.views.ReadingViews.{reading_items, reading_slice};
 
     /// Takes the first component that is left. It answers none for good once all are taken.
@@ -181,14 +172,12 @@ impl<'a, T: Utf8Encoding, I: FromPiece<'a, T>> Utf8Reading<'a, T, I> {
 }
 
 impl<'a, T: Utf8Encoding, I: FromPiece<'a, T>> Iterator for Utf8Reading<'a, T, I> {
-    ghost use Rattle.std.specs.Prelude.{map};
-    ghost use Rattle.std.specs.Iterator.{YieldsFirstBy, item_count};
-    ghost use Rattle.typed_path.specs.scan.Steps.{LeavesFront};
     ghost use Rattle.typed_path.specs.views.ReadingViews.{reading_items, reading_slice, reading_parts};
 
     type Item = I;
 
-    ghost next_gives = { λ s item t. YieldsFirstBy I.seen (λ r. map I.seen_of (reading_parts r)) s item t
+    ghost next_gives = { λ s item t. YieldsFirstBy I.seen
+        (λ r. map I.seen_of (reading_parts r)) s item t
         × LeavesFront reading_items reading_slice s t };
 
     ghost remaining = { item_count reading_parts };
@@ -200,12 +189,10 @@ impl<'a, T: Utf8Encoding, I: FromPiece<'a, T>> Iterator for Utf8Reading<'a, T, I
 }
 
 impl<'a, T: Utf8Encoding, I: FromPiece<'a, T>> DoubleEndedIterator for Utf8Reading<'a, T, I> {
-    ghost use Rattle.std.specs.Prelude.{map};
-    ghost use Rattle.std.specs.Iterator.{YieldsLastBy};
-    ghost use Rattle.typed_path.specs.scan.Steps.{LeavesBack};
     ghost use Rattle.typed_path.specs.views.ReadingViews.{reading_items, reading_slice, reading_parts};
 
-    ghost next_back_gives = { λ s item t. YieldsLastBy I.seen (λ r. map I.seen_of (reading_parts r)) s item t
+    ghost next_back_gives = { λ s item t. YieldsLastBy I.seen
+        (λ r. map I.seen_of (reading_parts r)) s item t
         × LeavesBack reading_items reading_slice s t };
 
     #[inline(always)]
@@ -241,10 +228,6 @@ pub struct Utf8Piece<'a> {
 }
 
 impl<'a> Utf8Piece<'a> {
-    ghost use Rattle.std.specs.Prelude.{◌==◌, length};
-    ghost use Rattle.typed_path.specs.queries.Queries.{is_root, is_valid_kind};
-    ghost use Rattle.typed_path.specs.components.Part.{is_name, is_parent, is_current};
-
     /// The text of the component.
     pub fn as_str(self) -> &'a str
         ensures { result.now ≡ (text_part self.entry).text }
@@ -338,8 +321,6 @@ impl<'a, T: Utf8Encoding> FromPiece<'a, T> for Utf8Piece<'a> {
 }
 
 impl<'a, T: Utf8Encoding> FromPiece<'a, T> for &'a str {
-    ghost use Rattle.std.specs.Prelude.{ℕ, List};
-
     ghost Seen = { List ℕ };
 
     ghost seen = { λ text. text.now };

@@ -1,12 +1,12 @@
-//! Paths of text, written as on Unix.
+//! Paths of text, written as on Unix: their components, and what is read of them.
 #![tactic(auto, using(crate::proofs::lemmas::texts::TextChanges::text_laws))]
 
-ghost use Rattle.std.specs.Prelude.{◌≡◌, true, false};
-ghost use Rattle.typed_path.specs.components.Dialect.{unix};
-ghost use Rattle.typed_path.specs.components.Part.{Part};
+ghost use Rattle.std.specs.Prelude.{◌≡◌, true, false, codes, Some, is_ok, IfOk, IfErr};
+ghost use Rattle.typed_path.specs.components.{unix, Part};
 ghost use Rattle.typed_path.specs.views.TextComponentViews.{text_unix_part};
+ghost use Rattle.typed_path.specs.texts.{is_text_part, IsTextError, part_no_text};
 
-use crate::common::{Concrete, Encoding};
+use crate::common::{Encoding, ReadAs, Values};
 use crate::constants::unix::{CURRENT_DIR_STR, PARENT_DIR_STR, SEPARATOR_STR};
 use crate::errors::ParseError;
 use crate::scan::Piece;
@@ -38,8 +38,6 @@ impl Utf8Encoding for Utf8UnixEncoding {
 
 /// Prints the name of the type.
 impl fmt::Display for Utf8UnixEncoding {
-    ghost use Rattle.std.specs.Prelude.{codes, Some};
-
     ghost output = { λ _. Some (codes "Utf8UnixEncoding") };
 
     fn fmt<W: fmt::Write>(&self, f: &mut fmt::Formatter<W>) -> fmt::Result {
@@ -66,9 +64,6 @@ pub enum Utf8UnixComponent<'a> {
 pub type Utf8UnixComponents<'a> = Utf8Reading<'a, Utf8UnixEncoding, Utf8UnixComponent<'a>>;
 
 impl<'a> Utf8UnixComponent<'a> {
-    ghost use Rattle.std.specs.Prelude.{is_ok, IfOk, IfErr};
-    ghost use Rattle.typed_path.specs.texts.Texts.{is_text_part};
-    ghost use Rattle.typed_path.specs.texts.TextErrors.{IsTextError, part_no_text};
     ghost use Rattle.typed_path.specs.views.TextViews.{utf8_bytes};
     ghost use Rattle.typed_path.specs.views.UnixViews.{unix_part};
 
@@ -173,8 +168,6 @@ impl<'a> Utf8Component<'a> for Utf8UnixComponent<'a> {
 
 /// Prints the text of the component.
 impl<'a> fmt::Display for Utf8UnixComponent<'a> {
-    ghost use Rattle.std.specs.Prelude.{Some};
-
     ghost output = { λ c. Some (text_unix_part c).text };
 
     fn fmt<W: fmt::Write>(&self, f: &mut fmt::Formatter<W>) -> fmt::Result {
@@ -193,7 +186,9 @@ impl<'a> FromPiece<'a, Utf8UnixEncoding> for Utf8UnixComponent<'a> {
 
     #[inline(always)]
     fn from_piece(piece: Piece<'a>) -> Utf8UnixComponent<'a> {
-        Utf8UnixComponent::from_utf8_unchecked(&UnixEncoding::component(piece))
+        Utf8UnixComponent::from_utf8_unchecked(&<Values as ReadAs<'a, UnixEncoding>>::from_piece(
+            piece,
+        ))
     }
 }
 

@@ -1,13 +1,202 @@
-//! One component of a Windows path.
+//! Prefixes and components of a Windows path, alone, read of bytes, and one after the other.
 
-ghost use Rattle.std.specs.Prelude.{◌≡◌, min};
-ghost use Rattle.typed_path.specs.queries.Queries.{share_length};
+ghost use Rattle.std.specs.Prelude.{◌≡◌, min, length, option_map};
+ghost use Rattle.typed_path.specs.queries.{share_length, is_verbatim_prefix, prefix_length, is_prefix, prefix_in, prefix_part_in, first_prefix, prefix_among, has_prefix, has_any_verbatim_prefix, has_verbatim_prefix, has_verbatim_unc_prefix, has_verbatim_disk_prefix, has_device_ns_prefix, has_unc_prefix, has_disk_prefix, has_physical_root, has_implicit_root};
+ghost use Rattle.typed_path.specs.components.{prefix, prefix_part, Part, kinds, windows, iterator_name};
 
-use crate::common::{Component, Concrete, ConcreteComponents, Encoding, Path};
+use crate::common::{Component, Encoding, Path, ReadAs, Reading, Values};
 use crate::constants::windows::{CURRENT_DIR, PARENT_DIR, SEPARATOR_STR};
 use crate::errors::ParseError;
 use crate::scan::{Piece, PieceKind, Separators, WindowsPrefix, find_prefix};
 use crate::windows::encoding::WindowsEncoding;
+
+impl<'a> WindowsPrefix<'a> {
+    ghost use Rattle.typed_path.specs.views.PieceViews.{prefix_view};
+
+    /// How many bytes the prefix has where it is written with one separator between names, or the
+    /// largest number where it has more.
+    ///
+    /// That of `\\server\share` has 14, and that of `\\server\` has 8.
+    pub fn len(self) -> usize
+        ensures { result ≡ min (prefix_length (prefix_view self.entry)) usize.MAX }
+    {
+        match self {
+            WindowsPrefix::Verbatim(name) | WindowsPrefix::DeviceNS(name) => {
+                name.len().saturating_add(4)
+            }
+            WindowsPrefix::VerbatimUNC(server, share) => share_len(share)
+                .saturating_add(server.len())
+                .saturating_add(8),
+            WindowsPrefix::UNC(server, share) => share_len(share)
+                .saturating_add(server.len())
+                .saturating_add(2),
+            WindowsPrefix::VerbatimDisk(_) => 6,
+            WindowsPrefix::Disk(_) => 2,
+        }
+    }
+
+    /// Whether the prefix is of one of the three verbatim kinds.
+    pub fn is_verbatim(self) -> bool
+        ensures { result ≡ is_verbatim_prefix (prefix_view self.entry) }
+    {
+        matches!(
+            self,
+            WindowsPrefix::Verbatim(_)
+                | WindowsPrefix::VerbatimUNC(..)
+                | WindowsPrefix::VerbatimDisk(_)
+        )
+    }
+}
+
+/// How many bytes a share adds to its server, or the largest number where it adds more.
+fn share_len(share: &[u8]) -> usize
+    ensures { result ≡ min (share_length share.now) usize.MAX }
+{
+    if share.is_empty() {
+        0
+    } else {
+        share.len().saturating_add(1)
+    }
+}
+
+/// Reads bytes that are one prefix: `c:` is the drive `C`.
+///
+/// # Errors
+///
+/// `not a prefix` where they have none, and `contains more than prefix` where more stands behind it,
+/// as in `C:\`.
+impl<'a> TryFrom<&'a [u8]> for WindowsPrefix<'a> {
+    ghost use Rattle.typed_path.specs.views.WindowsViews.{IsPrefixReading};
+
+    type Error = ParseError;
+
+    ghost try_from_gives = { λ text reading. IsPrefixReading text.now reading };
+
+    fn try_from(text: &'a [u8]) -> Result<WindowsPrefix<'a>, ParseError> {
+        let Some(found) = find_prefix(text) else {
+            return Err("not a prefix");
+        };
+        if found.length < text.len() {
+            return Err("contains more than prefix");
+        }
+        Ok(found.kind)
+    }
+}
+
+/// Reads an array as the slice of its bytes.
+impl<'a, const N: usize> TryFrom<&'a [u8; N]> for WindowsPrefix<'a> {
+    ghost use Rattle.typed_path.specs.views.WindowsViews.{IsPrefixReading};
+
+    type Error = ParseError;
+
+    ghost try_from_gives = { λ text reading. IsPrefixReading text.now reading };
+
+    fn try_from(text: &'a [u8; N]) -> Result<WindowsPrefix<'a>, ParseError> {
+        WindowsPrefix::try_from(text.as_slice())
+    }
+}
+
+/// Reads a text as the slice of its bytes.
+impl<'a> TryFrom<&'a str> for WindowsPrefix<'a> {
+    ghost use Rattle.typed_path.specs.views.WindowsViews.{IsPrefixReading};
+
+    type Error = ParseError;
+
+    ghost try_from_gives = { λ text reading. IsPrefixReading text.now reading };
+
+    fn try_from(text: &'a str) -> Result<WindowsPrefix<'a>, ParseError> {
+        WindowsPrefix::try_from(text.as_bytes())
+    }
+}
+
+/// The prefix of a Windows path, with the text that it was read from.
+///
+/// Equality, order and hash look at the kind alone: how the prefix is written is no part of it.
+#[derive(Clone, Copy, Debug)]
+#[derive_where(PartialEq, Eq, PartialOrd, Ord, Hash)]
+pub struct WindowsPrefixComponent<'a> {
+    #[derive_where(skip(EqHashOrd))]
+    raw: &'a [u8],
+    kind: WindowsPrefix<'a>,
+}
+
+impl<'a> WindowsPrefixComponent<'a> {
+    ghost use Rattle.typed_path.specs.views.PieceViews.{prefix_view};
+    ghost use Rattle.typed_path.specs.views.WindowsViews.{prefix_component_part};
+
+    /// The prefix of this kind and this text.
+    #[inline(always)]
+    pub(crate) fn new(raw: &'a [u8], kind: WindowsPrefix<'a>) -> WindowsPrefixComponent<'a>
+        ensures { prefix_component_part result ≡ prefix_part (prefix_view kind.entry) raw.now }
+    {
+        WindowsPrefixComponent { raw, kind }
+    }
+
+    /// Which prefix it is.
+    pub fn kind(self) -> WindowsPrefix<'a>
+        ensures { prefix (prefix_view result) ≡ (prefix_component_part self.entry).kind }
+    {
+        self.kind
+    }
+
+    /// How many bytes the text has.
+    pub fn len(self) -> usize
+        ensures { result ≡ length (prefix_component_part self.entry).text }
+    {
+        self.raw.len()
+    }
+
+    /// The text of the prefix.
+    pub fn as_bytes(self) -> &'a [u8]
+        ensures { result.now ≡ (prefix_component_part self.entry).text }
+    {
+        self.raw
+    }
+}
+
+/// Reads bytes that are one prefix, and keeps them.
+///
+/// # Errors
+///
+/// Those of a `WindowsPrefix`.
+impl<'a> TryFrom<&'a [u8]> for WindowsPrefixComponent<'a> {
+    ghost use Rattle.typed_path.specs.views.WindowsViews.{IsPrefixComponentReading};
+
+    type Error = ParseError;
+
+    ghost try_from_gives = { λ text reading. IsPrefixComponentReading text.now reading };
+
+    fn try_from(text: &'a [u8]) -> Result<WindowsPrefixComponent<'a>, ParseError> {
+        let kind = WindowsPrefix::try_from(text)?;
+        Ok(WindowsPrefixComponent::new(text, kind))
+    }
+}
+
+/// Reads an array as the slice of its bytes.
+impl<'a, const N: usize> TryFrom<&'a [u8; N]> for WindowsPrefixComponent<'a> {
+    ghost use Rattle.typed_path.specs.views.WindowsViews.{IsPrefixComponentReading};
+
+    type Error = ParseError;
+
+    ghost try_from_gives = { λ text reading. IsPrefixComponentReading text.now reading };
+
+    fn try_from(text: &'a [u8; N]) -> Result<WindowsPrefixComponent<'a>, ParseError> {
+        WindowsPrefixComponent::try_from(text.as_slice())
+    }
+}
+
+/// Reads a text as the slice of its bytes.
+impl<'a> TryFrom<&'a str> for WindowsPrefixComponent<'a> {
+    ghost use Rattle.typed_path.specs.views.WindowsViews.{IsPrefixComponentReading};
+
+    type Error = ParseError;
+
+    ghost try_from_gives = { λ text reading. IsPrefixComponentReading text.now reading };
+
+    fn try_from(text: &'a str) -> Result<WindowsPrefixComponent<'a>, ParseError> {
+        WindowsPrefixComponent::try_from(text.as_bytes())
+    }
+}
 
 /// A component of a Windows path.
 ///
@@ -28,8 +217,6 @@ pub enum WindowsComponent<'a> {
 }
 
 impl<'a> WindowsComponent<'a> {
-    ghost use Rattle.std.specs.Prelude.{◌≡◌, option_map};
-    ghost use Rattle.typed_path.specs.queries.Queries.{is_prefix, prefix_in, prefix_part_in};
     ghost use Rattle.typed_path.specs.views.PathViews.{path_bytes};
     ghost use Rattle.typed_path.specs.views.PieceViews.{prefix_view};
     ghost use Rattle.typed_path.specs.views.WindowsViews.{windows_part, prefix_component_part};
@@ -68,7 +255,6 @@ impl<'a> WindowsComponent<'a> {
 }
 
 impl<'a> Component<'a> for WindowsComponent<'a> {
-    ghost use Rattle.typed_path.specs.components.Dialect.{windows};
     ghost use Rattle.typed_path.specs.views.WindowsViews.{windows_part};
 
     ghost dialect = { windows };
@@ -136,240 +322,6 @@ impl<'a> Component<'a> for WindowsComponent<'a> {
     }
 }
 
-/// The components of a Windows path that are left to be read.
-pub type WindowsComponents<'a> = ConcreteComponents<'a, WindowsEncoding>;
-
-impl<'a> Concrete<'a> for WindowsEncoding {
-    ghost use Rattle.std.specs.Prelude.{◌≡◌};
-    ghost use Rattle.typed_path.specs.components.Dialect.{windows, iterator_name};
-    ghost use Rattle.typed_path.specs.components.Written.{written};
-    ghost use Rattle.typed_path.specs.views.PieceViews.{part_of};
-    ghost use Rattle.typed_path.specs.views.WindowsViews.{windows_part};
-
-    type Component = WindowsComponent<'a>;
-
-    ghost part = { windows_part };
-
-    fn iterator_name() -> &'static str
-        ensures { result.now ≡ iterator_name windows }
-    {
-        "WindowsComponents"
-    }
-
-    #[inline(always)]
-    fn component(piece: Piece<'a>) -> WindowsComponent<'a>
-        requires { part_of piece ≡ written windows (part_of piece) }
-        ensures { windows_part result ≡ part_of piece.entry }
-    {
-        match piece.kind {
-            PieceKind::Prefix(kind) => {
-                WindowsComponent::Prefix(WindowsPrefixComponent::new(piece.text, kind))
-            }
-            PieceKind::RootDir => WindowsComponent::RootDir,
-            PieceKind::CurDir => WindowsComponent::CurDir,
-            PieceKind::ParentDir => WindowsComponent::ParentDir,
-            PieceKind::Normal => WindowsComponent::Normal(piece.text),
-        }
-    }
-}
-
-impl<'a> ConcreteComponents<'a, WindowsEncoding> {
-    ghost use Rattle.std.specs.Prelude.{◌≡◌, option_map};
-    ghost use Rattle.typed_path.specs.components.Part.{kinds};
-    ghost use Rattle.typed_path.specs.queries.Queries.{first_prefix, prefix_among, has_prefix, has_any_verbatim_prefix, has_verbatim_prefix, has_verbatim_unc_prefix, has_verbatim_disk_prefix, has_device_ns_prefix, has_unc_prefix, has_disk_prefix, has_physical_root, has_implicit_root};
-    ghost use Rattle.typed_path.specs.views.PieceViews.{prefix_view};
-    ghost use Rattle.typed_path.specs.views.WindowsViews.{prefix_component_part};
-    ghost use Rattle.typed_path.specs.views.ConcreteViews.{concrete_parts};
-
-    /// Whether a prefix is the first component that is left.
-    pub fn has_prefix(self) -> bool
-        ensures { result ≡ has_prefix (kinds (concrete_parts self.entry)) }
-    {
-        self.prefix_kind().is_some()
-    }
-
-    /// The prefix with its text, where it is the first component that is left.
-    pub fn prefix(self) -> Option<WindowsPrefixComponent<'a>>
-        ensures { option_map prefix_component_part result
-            ≡ prefix_among (concrete_parts self.entry) }
-    {
-        WindowsEncoding::component(self.cursor().prefix_piece()?).prefix()
-    }
-
-    /// Which prefix is the first component that is left, where one is.
-    pub fn prefix_kind(self) -> Option<WindowsPrefix<'a>>
-        ensures { option_map prefix_view result
-            ≡ first_prefix (kinds (concrete_parts self.entry)) }
-    {
-        self.cursor().prefix()
-    }
-
-    /// Whether a prefix of one of the three verbatim kinds is first: `\\?\name`,
-    /// `\\?\UNC\server\share` or `\\?\C:`. One is in `//?/C:/a`, and none in `C:\a`.
-    pub fn has_any_verbatim_prefix(self) -> bool
-        ensures { result ≡ has_any_verbatim_prefix (kinds (concrete_parts self.entry)) }
-    {
-        match self.prefix_kind() {
-            Some(prefix) => prefix.is_verbatim(),
-            None => false,
-        }
-    }
-
-    /// Whether the prefix `\\?\name` is first.
-    pub fn has_verbatim_prefix(self) -> bool
-        ensures { result ≡ has_verbatim_prefix (kinds (concrete_parts self.entry)) }
-    {
-        matches!(self.prefix_kind(), Some(WindowsPrefix::Verbatim(_)))
-    }
-
-    /// Whether the prefix `\\?\UNC\server\share` is first.
-    pub fn has_verbatim_unc_prefix(self) -> bool
-        ensures { result ≡ has_verbatim_unc_prefix (kinds (concrete_parts self.entry)) }
-    {
-        matches!(self.prefix_kind(), Some(WindowsPrefix::VerbatimUNC(..)))
-    }
-
-    /// Whether the prefix `\\?\C:` is first.
-    pub fn has_verbatim_disk_prefix(self) -> bool
-        ensures { result ≡ has_verbatim_disk_prefix (kinds (concrete_parts self.entry)) }
-    {
-        matches!(self.prefix_kind(), Some(WindowsPrefix::VerbatimDisk(_)))
-    }
-
-    /// Whether the prefix `\\.\name` is first.
-    pub fn has_device_ns_prefix(self) -> bool
-        ensures { result ≡ has_device_ns_prefix (kinds (concrete_parts self.entry)) }
-    {
-        matches!(self.prefix_kind(), Some(WindowsPrefix::DeviceNS(_)))
-    }
-
-    /// Whether the prefix `\\server\share` is first.
-    pub fn has_unc_prefix(self) -> bool
-        ensures { result ≡ has_unc_prefix (kinds (concrete_parts self.entry)) }
-    {
-        matches!(self.prefix_kind(), Some(WindowsPrefix::UNC(..)))
-    }
-
-    /// Whether the prefix `C:` is first.
-    pub fn has_disk_prefix(self) -> bool
-        ensures { result ≡ has_disk_prefix (kinds (concrete_parts self.entry)) }
-    {
-        matches!(self.prefix_kind(), Some(WindowsPrefix::Disk(_)))
-    }
-
-    /// Whether a root is written: it is the first component that is left, or right behind the
-    /// prefix, as in `C:\a`. None is in `C:a` and `\\s\h`.
-    pub fn has_physical_root(self) -> bool
-        ensures { result ≡ has_physical_root (kinds (concrete_parts self.entry)) }
-    {
-        self.cursor().has_physical_root()
-    }
-
-    /// Whether a prefix other than `C:` is first, which implies a root, as in `\\s\h`.
-    pub fn has_implicit_root(self) -> bool
-        ensures { result ≡ has_implicit_root (kinds (concrete_parts self.entry)) }
-    {
-        match self.prefix_kind() {
-            Some(WindowsPrefix::Disk(_)) | None => false,
-            Some(_) => true,
-        }
-    }
-}
-
-/// Reads bytes that are one prefix: `c:` is the drive `C`.
-///
-/// # Errors
-///
-/// `not a prefix` where they have none, and `contains more than prefix` where more stands behind it,
-/// as in `C:\`.
-impl<'a> TryFrom<&'a [u8]> for WindowsPrefix<'a> {
-    ghost use Rattle.typed_path.specs.views.WindowsViews.{IsPrefixReading};
-
-    type Error = ParseError;
-
-    ghost try_from_gives = { λ text reading. IsPrefixReading text.now reading };
-
-    fn try_from(text: &'a [u8]) -> Result<WindowsPrefix<'a>, ParseError> {
-        let Some(found) = find_prefix(text) else {
-            return Err("not a prefix");
-        };
-        if found.length < text.len() {
-            return Err("contains more than prefix");
-        }
-        Ok(found.kind)
-    }
-}
-
-/// Reads an array as the slice of its bytes.
-impl<'a, const N: usize> TryFrom<&'a [u8; N]> for WindowsPrefix<'a> {
-    ghost use Rattle.typed_path.specs.views.WindowsViews.{IsPrefixReading};
-
-    type Error = ParseError;
-
-    ghost try_from_gives = { λ text reading. IsPrefixReading text.now reading };
-
-    fn try_from(text: &'a [u8; N]) -> Result<WindowsPrefix<'a>, ParseError> {
-        WindowsPrefix::try_from(text.as_slice())
-    }
-}
-
-/// Reads a text as the slice of its bytes.
-impl<'a> TryFrom<&'a str> for WindowsPrefix<'a> {
-    ghost use Rattle.typed_path.specs.views.WindowsViews.{IsPrefixReading};
-
-    type Error = ParseError;
-
-    ghost try_from_gives = { λ text reading. IsPrefixReading text.now reading };
-
-    fn try_from(text: &'a str) -> Result<WindowsPrefix<'a>, ParseError> {
-        WindowsPrefix::try_from(text.as_bytes())
-    }
-}
-
-/// Reads bytes that are one prefix, and keeps them.
-///
-/// # Errors
-///
-/// Those of a `WindowsPrefix`.
-impl<'a> TryFrom<&'a [u8]> for WindowsPrefixComponent<'a> {
-    ghost use Rattle.typed_path.specs.views.WindowsViews.{IsPrefixComponentReading};
-
-    type Error = ParseError;
-
-    ghost try_from_gives = { λ text reading. IsPrefixComponentReading text.now reading };
-
-    fn try_from(text: &'a [u8]) -> Result<WindowsPrefixComponent<'a>, ParseError> {
-        let kind = WindowsPrefix::try_from(text)?;
-        Ok(WindowsPrefixComponent::new(text, kind))
-    }
-}
-
-/// Reads an array as the slice of its bytes.
-impl<'a, const N: usize> TryFrom<&'a [u8; N]> for WindowsPrefixComponent<'a> {
-    ghost use Rattle.typed_path.specs.views.WindowsViews.{IsPrefixComponentReading};
-
-    type Error = ParseError;
-
-    ghost try_from_gives = { λ text reading. IsPrefixComponentReading text.now reading };
-
-    fn try_from(text: &'a [u8; N]) -> Result<WindowsPrefixComponent<'a>, ParseError> {
-        WindowsPrefixComponent::try_from(text.as_slice())
-    }
-}
-
-/// Reads a text as the slice of its bytes.
-impl<'a> TryFrom<&'a str> for WindowsPrefixComponent<'a> {
-    ghost use Rattle.typed_path.specs.views.WindowsViews.{IsPrefixComponentReading};
-
-    type Error = ParseError;
-
-    ghost try_from_gives = { λ text reading. IsPrefixComponentReading text.now reading };
-
-    fn try_from(text: &'a str) -> Result<WindowsPrefixComponent<'a>, ParseError> {
-        WindowsPrefixComponent::try_from(text.as_bytes())
-    }
-}
-
 /// Reads bytes that are one component: `c:` is a prefix, and `a/` is the name `a`.
 ///
 /// # Errors
@@ -421,100 +373,139 @@ impl<'a> TryFrom<&'a str> for WindowsComponent<'a> {
     }
 }
 
-/// How many bytes a share adds to its server, or the largest number where it adds more.
-fn share_len(share: &[u8]) -> usize
-    ensures { result ≡ min (share_length share.now) usize.MAX }
-{
-    if share.is_empty() {
-        0
-    } else {
-        share.len().saturating_add(1)
+/// The components of a Windows path that are left to be read.
+pub type WindowsComponents<'a> = Reading<'a, WindowsEncoding, Values>;
+
+impl<'a> ReadAs<'a, WindowsEncoding> for Values {
+    ghost use Rattle.typed_path.specs.views.Shown.{whole};
+    ghost use Rattle.typed_path.specs.views.WindowsViews.{windows_part};
+
+    ghost Seen = { Part };
+
+    ghost seen = { windows_part };
+
+    ghost shown = { whole };
+
+    ghost named = { iterator_name windows };
+
+    type Item = WindowsComponent<'a>;
+
+    fn iterator_name() -> &'static str
+        ensures { result.now ≡ iterator_name windows }
+    {
+        "WindowsComponents"
+    }
+
+    #[inline(always)]
+    fn from_piece(piece: Piece<'a>) -> WindowsComponent<'a> {
+        match piece.kind {
+            PieceKind::Prefix(kind) => {
+                WindowsComponent::Prefix(WindowsPrefixComponent::new(piece.text, kind))
+            }
+            PieceKind::RootDir => WindowsComponent::RootDir,
+            PieceKind::CurDir => WindowsComponent::CurDir,
+            PieceKind::ParentDir => WindowsComponent::ParentDir,
+            PieceKind::Normal => WindowsComponent::Normal(piece.text),
+        }
     }
 }
 
-impl<'a> WindowsPrefix<'a> {
-    ghost use Rattle.std.specs.Prelude.{◌≡◌, min};
-    ghost use Rattle.typed_path.specs.queries.Queries.{is_verbatim_prefix, prefix_length};
+impl<'a> Reading<'a, WindowsEncoding, Values> {
     ghost use Rattle.typed_path.specs.views.PieceViews.{prefix_view};
+    ghost use Rattle.typed_path.specs.views.WindowsViews.{prefix_component_part};
+    ghost use Rattle.typed_path.specs.views.PathViews.{components_parts};
 
-    /// How many bytes the prefix has where it is written with one separator between names, or the
-    /// largest number where it has more.
-    ///
-    /// That of `\\server\share` has 14, and that of `\\server\` has 8.
-    pub fn len(self) -> usize
-        ensures { result ≡ min (prefix_length (prefix_view self.entry)) usize.MAX }
+    /// Whether a prefix is the first component that is left.
+    pub fn has_prefix(self) -> bool
+        ensures { result ≡ has_prefix (kinds (components_parts self.entry)) }
     {
-        match self {
-            WindowsPrefix::Verbatim(name) | WindowsPrefix::DeviceNS(name) => {
-                name.len().saturating_add(4)
-            }
-            WindowsPrefix::VerbatimUNC(server, share) => share_len(share)
-                .saturating_add(server.len())
-                .saturating_add(8),
-            WindowsPrefix::UNC(server, share) => share_len(share)
-                .saturating_add(server.len())
-                .saturating_add(2),
-            WindowsPrefix::VerbatimDisk(_) => 6,
-            WindowsPrefix::Disk(_) => 2,
+        self.prefix_kind().is_some()
+    }
+
+    /// The prefix with its text, where it is the first component that is left.
+    pub fn prefix(self) -> Option<WindowsPrefixComponent<'a>>
+        ensures { option_map prefix_component_part result
+            ≡ prefix_among (components_parts self.entry) }
+    {
+        <Values as ReadAs<'a, WindowsEncoding>>::from_piece(self.cursor().prefix_piece()?).prefix()
+    }
+
+    /// Which prefix is the first component that is left, where one is.
+    pub fn prefix_kind(self) -> Option<WindowsPrefix<'a>>
+        ensures { option_map prefix_view result
+            ≡ first_prefix (kinds (components_parts self.entry)) }
+    {
+        self.cursor().prefix()
+    }
+
+    /// Whether a prefix of one of the three verbatim kinds is first: `\\?\name`,
+    /// `\\?\UNC\server\share` or `\\?\C:`. One is in `//?/C:/a`, and none in `C:\a`.
+    pub fn has_any_verbatim_prefix(self) -> bool
+        ensures { result ≡ has_any_verbatim_prefix (kinds (components_parts self.entry)) }
+    {
+        match self.prefix_kind() {
+            Some(prefix) => prefix.is_verbatim(),
+            None => false,
         }
     }
 
-    /// Whether the prefix is of one of the three verbatim kinds.
-    pub fn is_verbatim(self) -> bool
-        ensures { result ≡ is_verbatim_prefix (prefix_view self.entry) }
+    /// Whether the prefix `\\?\name` is first.
+    pub fn has_verbatim_prefix(self) -> bool
+        ensures { result ≡ has_verbatim_prefix (kinds (components_parts self.entry)) }
     {
-        matches!(
-            self,
-            WindowsPrefix::Verbatim(_)
-                | WindowsPrefix::VerbatimUNC(..)
-                | WindowsPrefix::VerbatimDisk(_)
-        )
-    }
-}
-
-/// The prefix of a Windows path, with the text that it was read from.
-///
-/// Equality, order and hash look at the kind alone: how the prefix is written is no part of it.
-#[derive(Clone, Copy, Debug)]
-#[derive_where(PartialEq, Eq, PartialOrd, Ord, Hash)]
-pub struct WindowsPrefixComponent<'a> {
-    #[derive_where(skip(EqHashOrd))]
-    raw: &'a [u8],
-    kind: WindowsPrefix<'a>,
-}
-
-impl<'a> WindowsPrefixComponent<'a> {
-    ghost use Rattle.std.specs.Prelude.{◌≡◌, length};
-    ghost use Rattle.typed_path.specs.components.Part.{prefix, prefix_part};
-    ghost use Rattle.typed_path.specs.views.PieceViews.{prefix_view};
-    ghost use Rattle.typed_path.specs.views.WindowsViews.{prefix_component_part};
-
-    /// The prefix of this kind and this text.
-    #[inline(always)]
-    pub(crate) fn new(raw: &'a [u8], kind: WindowsPrefix<'a>) -> WindowsPrefixComponent<'a>
-        ensures { prefix_component_part result ≡ prefix_part (prefix_view kind.entry) raw.now }
-    {
-        WindowsPrefixComponent { raw, kind }
+        matches!(self.prefix_kind(), Some(WindowsPrefix::Verbatim(_)))
     }
 
-    /// Which prefix it is.
-    pub fn kind(self) -> WindowsPrefix<'a>
-        ensures { prefix (prefix_view result) ≡ (prefix_component_part self.entry).kind }
+    /// Whether the prefix `\\?\UNC\server\share` is first.
+    pub fn has_verbatim_unc_prefix(self) -> bool
+        ensures { result ≡ has_verbatim_unc_prefix (kinds (components_parts self.entry)) }
     {
-        self.kind
+        matches!(self.prefix_kind(), Some(WindowsPrefix::VerbatimUNC(..)))
     }
 
-    /// How many bytes the text has.
-    pub fn len(self) -> usize
-        ensures { result ≡ length (prefix_component_part self.entry).text }
+    /// Whether the prefix `\\?\C:` is first.
+    pub fn has_verbatim_disk_prefix(self) -> bool
+        ensures { result ≡ has_verbatim_disk_prefix (kinds (components_parts self.entry)) }
     {
-        self.raw.len()
+        matches!(self.prefix_kind(), Some(WindowsPrefix::VerbatimDisk(_)))
     }
 
-    /// The text of the prefix.
-    pub fn as_bytes(self) -> &'a [u8]
-        ensures { result.now ≡ (prefix_component_part self.entry).text }
+    /// Whether the prefix `\\.\name` is first.
+    pub fn has_device_ns_prefix(self) -> bool
+        ensures { result ≡ has_device_ns_prefix (kinds (components_parts self.entry)) }
     {
-        self.raw
+        matches!(self.prefix_kind(), Some(WindowsPrefix::DeviceNS(_)))
+    }
+
+    /// Whether the prefix `\\server\share` is first.
+    pub fn has_unc_prefix(self) -> bool
+        ensures { result ≡ has_unc_prefix (kinds (components_parts self.entry)) }
+    {
+        matches!(self.prefix_kind(), Some(WindowsPrefix::UNC(..)))
+    }
+
+    /// Whether the prefix `C:` is first.
+    pub fn has_disk_prefix(self) -> bool
+        ensures { result ≡ has_disk_prefix (kinds (components_parts self.entry)) }
+    {
+        matches!(self.prefix_kind(), Some(WindowsPrefix::Disk(_)))
+    }
+
+    /// Whether a root is written: it is the first component that is left, or right behind the
+    /// prefix, as in `C:\a`. None is in `C:a` and `\\s\h`.
+    pub fn has_physical_root(self) -> bool
+        ensures { result ≡ has_physical_root (kinds (components_parts self.entry)) }
+    {
+        self.cursor().has_physical_root()
+    }
+
+    /// Whether a prefix other than `C:` is first, which implies a root, as in `\\s\h`.
+    pub fn has_implicit_root(self) -> bool
+        ensures { result ≡ has_implicit_root (kinds (components_parts self.entry)) }
+    {
+        match self.prefix_kind() {
+            Some(WindowsPrefix::Disk(_)) | None => false,
+            Some(_) => true,
+        }
     }
 }

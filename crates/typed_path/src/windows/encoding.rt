@@ -1,9 +1,8 @@
 //! The encoding of Windows paths.
 
-ghost use Rattle.std.specs.Prelude.{◌≡◌, false};
-ghost use Rattle.typed_path.specs.components.Dialect.{windows};
-ghost use Rattle.typed_path.specs.components.Part.{kinds, parts};
-ghost use Rattle.typed_path.specs.queries.Queries.{is_absolute, has_root};
+ghost use Rattle.std.specs.Prelude.{◌≡◌, false, codes, Some};
+ghost use Rattle.typed_path.specs.components.{windows, kinds, parts};
+ghost use Rattle.typed_path.specs.queries.{is_absolute, has_root};
 ghost use Rattle.typed_path.specs.views.CursorViews.{items_left};
 
 use crate::common::Encoding;
@@ -20,8 +19,6 @@ pub struct WindowsEncoding;
 
 /// Prints the name of the type.
 impl fmt::Display for WindowsEncoding {
-    ghost use Rattle.std.specs.Prelude.{codes, Some};
-
     ghost output = { λ _. Some (codes "WindowsEncoding") };
 
     fn fmt<W: fmt::Write>(&self, f: &mut fmt::Formatter<W>) -> fmt::Result {

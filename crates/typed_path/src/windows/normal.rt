@@ -4,23 +4,18 @@ ghost use Rattle.std.specs.Prelude.{◌≡◌, ◌<◌, ◌≤◌, ◌+◌, ◌-
 ghost use Rattle.std.specs.List.{slice_split};
 ghost use Rattle.std.specs.Vec.{vec_len, vec_capacity};
 ghost use Rattle.typed_path.specs.declared.scan.separators.Separators.{Separators};
-ghost use Rattle.typed_path.specs.components.Dialect.{windows, is_separator};
-ghost use Rattle.typed_path.specs.components.Prefix.{prefix_of, drive};
-ghost use Rattle.typed_path.specs.changes.Push.{push_windows, push_all, spells_anew};
-ghost use Rattle.typed_path.specs.places.Places.{normal_text};
-ghost use Rattle.typed_path.specs.places.Rows.{rows_of, settled, AreRowsOf, ArePlainRows, IsRowHead, IsPartedEither, TakesRows, HaveNoDrives, HasPlainNames, IsHeadOf};
+ghost use Rattle.typed_path.specs.components.{windows, is_separator, drive};
+ghost use Rattle.typed_path.specs.changes.{push_windows, push_all, spells_anew};
+ghost use Rattle.typed_path.specs.places.{normal_text, rows_of, settled, AreRowsOf, ArePlainRows, IsRowHead, IsPartedEither, TakesRows, HaveNoDisks, HasPlainNames, IsHeadOf};
 ghost use Rattle.typed_path.specs.views.PieceViews.{found_of};
 
-use crate::common::{behind_segment, cut_back, drop_name, drop_separator, put_front};
+use crate::common::{append_first, behind_segment, cut_back, drop_name, drop_separator};
 use crate::scan::{
     Cursor, Found, PieceKind, Separators, StepKind, WindowsPrefix, cut_at_separator, drive,
     find_prefix, step_of,
 };
 use crate::windows::push::{is_separated, push_at, push_next};
 use std::alloc::AllocError;
-
-/// How many names find room before more is asked for.
-const NAMES: usize = 16;
 
 /// Puts the normal text of a path behind a text. Where memory is refused, all of it goes.
 ///
@@ -50,7 +45,7 @@ fn put_resolved(text: &mut Vec<u8>, start: usize, path: &[u8]) -> Result<(), All
     ensures succeeds { HasPlainNames windows path.now
         → vec_len text.old + length path.now < vec_capacity text.old → IsOk result }
 {
-    if let Some(head) = head_of(path) {
+    if let Some(head) = row_head(path) {
         if put_rows(text, head)? {
             return Ok(());
         }
@@ -61,7 +56,7 @@ fn put_resolved(text: &mut Vec<u8>, start: usize, path: &[u8]) -> Result<(), All
 
 /// What the normal text of a path begins with, before its names.
 #[derive(Clone, Copy, Debug)]
-struct Head<'a> {
+struct RowHead<'a> {
     /// The raw prefix, where there is one.
     pub prefix: &'a [u8],
     /// `\`, or nothing.
@@ -72,7 +67,7 @@ struct Head<'a> {
 
 /// The head of a path behind which names are put in rows, where it is one.
 #[inline(always)]
-fn head_of(path: &[u8]) -> Option<Head<'_>>
+fn row_head(path: &[u8]) -> Option<RowHead<'_>>
     ensures rows { IfSome result (λ head.
         IsRowHead path.now (head.prefix.now ++ head.root.now) head.rest.now) }
     ensures head { IfSome result (λ head.
@@ -95,7 +90,7 @@ fn head_of(path: &[u8]) -> Option<Head<'_>>
 /// They are not behind the verbatim prefix named `UNC`, behind a verbatim drive without a root, nor
 /// in a text that is read verbatim where a name may hold a `/`. False says nothing.
 #[inline(always)]
-fn takes_rows(path: &[u8], found: Found<'_>, head: Head<'_>) -> bool
+fn takes_rows(path: &[u8], found: Found<'_>, head: RowHead<'_>) -> bool
     requires { found.length ≤ length path.now }
     ensures takes { IsTrue result → TakesRows path.now (found_of found.entry)
         head.entry.root.now head.entry.rest.now }
@@ -110,19 +105,19 @@ fn takes_rows(path: &[u8], found: Found<'_>, head: Head<'_>) -> bool
 
 /// The head of a path by where its prefix ends.
 #[inline(always)]
-fn head_behind(path: &[u8], end: usize) -> Head<'_>
+fn head_behind(path: &[u8], end: usize) -> RowHead<'_>
     requires { end ≤ length path.now }
     ensures prefix { result.prefix.now ≡ take end path.now }
     ensures parted { IsPartedEither (drop end path.now) result.root.now result.rest.now }
 {
     let (prefix, rest) = path.split_at(end);
     match rest {
-        [first, behind @ ..] if Separators::Either.contains(*first) => Head {
+        [first, behind @ ..] if Separators::Either.contains(*first) => RowHead {
             prefix,
             root: b"\\",
             rest: behind,
         },
-        _ => Head {
+        _ => RowHead {
             prefix,
             root: b"",
             rest,
@@ -133,7 +128,7 @@ fn head_behind(path: &[u8], end: usize) -> Head<'_>
 /// Puts the names of a path in rows behind its head, and answers whether its normal text stands there
 /// then.
 #[inline(always)]
-fn put_rows(text: &mut Vec<u8>, head: Head<'_>) -> Result<bool, AllocError>
+fn put_rows(text: &mut Vec<u8>, head: RowHead<'_>) -> Result<bool, AllocError>
     ensures ok { IfOk result (λ done. IsTrue done → (path : List ℕ)
         → IsRowHead path (head.entry.prefix.now ++ head.entry.root.now) head.entry.rest.now
         → text.new.items ≡ text.old.items ++ normal_text windows path) }
@@ -141,13 +136,13 @@ fn put_rows(text: &mut Vec<u8>, head: Head<'_>) -> Result<bool, AllocError>
     ensures capacity { vec_capacity text.old ≤ vec_capacity text.new }
     ensures succeeds { vec_len text.old + length head.entry.prefix.now + length head.entry.root.now
         + length head.entry.rest.now < vec_capacity text.old → IsOk result }
-    ensures told { HaveNoDrives (slice_split (is_separator Separators.Either) head.entry.rest.now)
+    ensures told { HaveNoDisks (slice_split (is_separator Separators.Either) head.entry.rest.now)
         → IfOk result (λ done. IsTrue done) }
 {
     text.extend_from_slice(head.prefix)?;
     text.extend_from_slice(head.root)?;
     let len = text.len();
-    if !settle_all(text, len, head.rest)? {
+    if !put_segments(text, len, head.rest)? {
         return Ok(false);
     }
     drop_separator(text, len);
@@ -156,7 +151,7 @@ fn put_rows(text: &mut Vec<u8>, head: Head<'_>) -> Result<bool, AllocError>
 
 /// Puts the names that are left of a path behind the first bytes of a text, and answers whether
 /// each one that came is put so by a push too: false says nothing of what was put.
-fn settle_all(text: &mut Vec<u8>, len: usize, path: &[u8]) -> Result<bool, AllocError>
+fn put_segments(text: &mut Vec<u8>, len: usize, path: &[u8]) -> Result<bool, AllocError>
     requires { len ≤ length text.old.items }
     ensures ok { IfOk result (λ plain. IsTrue plain → (head : List ℕ) → length head ≡ len
         → AreRowsOf Separators.Either text.old.items head []
@@ -165,23 +160,28 @@ fn settle_all(text: &mut Vec<u8>, len: usize, path: &[u8]) -> Result<bool, Alloc
     ensures long { len ≤ length text.new.items }
     ensures capacity { vec_capacity text.old ≤ vec_capacity text.new }
     ensures succeeds { vec_len text.old + length path.now < vec_capacity text.old → IsOk result }
-    ensures told { HaveNoDrives (slice_split (is_separator Separators.Either) path.now)
+    ensures told { HaveNoDisks (slice_split (is_separator Separators.Either) path.now)
         → IfOk result (λ plain. IsTrue plain) }
 {
     let mut rest = path;
     'segments: while let Some((segment, behind)) = cut_at_separator(Separators::Either, rest) {
-        if !settle(text, len, segment, rest)? {
+        if !put_segment(text, len, segment, rest)? {
             return Ok(false);
         }
         rest = behind_segment(segment, behind, Separators::Either);
     }
-    settle(text, len, rest, rest)
+    put_segment(text, len, rest, rest)
 }
 
 /// Settles one more segment, which is what the rest begins with, behind the names that stand, and
 /// answers whether it begins with no drive: one that does is passed over.
 #[inline(always)]
-fn settle(text: &mut Vec<u8>, len: usize, segment: &[u8], rest: &[u8]) -> Result<bool, AllocError>
+fn put_segment(
+    text: &mut Vec<u8>,
+    len: usize,
+    segment: &[u8],
+    rest: &[u8],
+) -> Result<bool, AllocError>
     requires within { len ≤ length text.old.items }
     requires front { take (length segment.now) rest.now ≡ segment.now }
     ensures ok { IfOk result (λ plain. IsTrue plain → (head : List ℕ) (names : List (List ℕ))
@@ -201,7 +201,7 @@ fn settle(text: &mut Vec<u8>, len: usize, segment: &[u8], rest: &[u8]) -> Result
     match step_of(segment, Separators::Either).kind {
         StepKind::ParentDir => drop_name(text, len, Separators::Either),
         StepKind::Normal => {
-            put_front(text, rest, segment.len())?;
+            append_first(text, rest, segment.len())?;
             text.push(b'\\')?;
         }
         StepKind::RootDir | StepKind::CurDir => {}
@@ -226,18 +226,8 @@ fn push_resolved(text: &mut Vec<u8>, start: usize, path: &[u8]) -> Result<(), Al
     Ok(())
 }
 
-/// Pushes a path onto the one that stands behind the first bytes of a text.
-fn push_behind(text: &mut Vec<u8>, start: usize, other: &[u8]) -> Result<(), AllocError>
-    requires { start ≤ length text.old.items }
-    ensures ok { OnOk result
-        (drop start text.new.items ≡ push_windows (drop start text.old.items) other.now) }
-    ensures kept { take start text.new.items ≡ take start text.old.items }
-    ensures long { start ≤ length text.new.items }
-    ensures capacity { vec_capacity text.old ≤ vec_capacity text.new }
-{
-    let len = text.len();
-    push_at(text, start, len, other, None)
-}
+/// How many names find room before more is asked for.
+const NAMES: usize = 16;
 
 /// Pushes the prefix and the root of a path onto the empty path at the end of a text, and answers the
 /// names that no parent takes away.
@@ -257,7 +247,7 @@ fn push_heads<'a>(
     let mut components = Cursor::of_windows(path);
     'pieces: while let Some(piece) = components.front() {
         match piece.kind {
-            PieceKind::Prefix(_) | PieceKind::RootDir => push_behind(text, start, piece.text)?,
+            PieceKind::Prefix(_) | PieceKind::RootDir => push_head(text, start, piece.text)?,
             PieceKind::CurDir => {}
             PieceKind::ParentDir => {
                 names.pop();
@@ -266,4 +256,17 @@ fn push_heads<'a>(
         }
     }
     Ok(names)
+}
+
+/// Pushes a prefix or a root onto what stands behind the first bytes of a text.
+fn push_head(text: &mut Vec<u8>, start: usize, other: &[u8]) -> Result<(), AllocError>
+    requires { start ≤ length text.old.items }
+    ensures ok { OnOk result
+        (drop start text.new.items ≡ push_windows (drop start text.old.items) other.now) }
+    ensures kept { take start text.new.items ≡ take start text.old.items }
+    ensures long { start ≤ length text.new.items }
+    ensures capacity { vec_capacity text.old ≤ vec_capacity text.new }
+{
+    let len = text.len();
+    push_at(text, start, len, other, None)
 }

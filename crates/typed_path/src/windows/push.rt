@@ -1,15 +1,14 @@
 //! A path of Windows pushed onto another.
+//!
+//! `push_at` puts it behind most bases. A base with a verbatim prefix is spelled anew: in place where it
+//! stands as it would be spelled, which `spelled_head` tells and `push_next` remembers, by `merge_at`.
 
 ghost use Rattle.std.specs.Prelude.{◌≡◌, ◌≤◌, ◌+◌, ◌++◌, ℕ, List, IsTrue, true, false, take, drop, slice_range, length, IfOk, IsOk, OnOk, OnErr, ◌||◌, Some, ◌<◌, ◌∷◌, [], Bool, IfSome};
 ghost use Rattle.std.specs.Vec.{vec_capacity, vec_len};
 ghost use Rattle.std.specs.List.{list_any, list_all, slice_split};
-ghost use Rattle.typed_path.specs.components.Dialect.{windows, is_separator};
-ghost use Rattle.typed_path.specs.components.Comps.{parts_of, is_dot, is_dot_dot};
-ghost use Rattle.typed_path.specs.components.Part.{kinds, Part, parts};
-ghost use Rattle.typed_path.specs.components.Prefix.{prefix_of, Found, is_empty};
-ghost use Rattle.typed_path.specs.changes.Push.{push_windows, ended_windows, is_disk_alone, raw_length, FitsPush, without_last_name, merge_by_kind, merged, spelled, spells_anew};
-ghost use Rattle.typed_path.specs.changes.Spelled.{IsKnown, is_component, is_row, TellsSpelled, IsSpelledHead, IsStanding, IsMergeable, AreMergeable, AreReadBehind, Stands, IsSpelled, room_of};
-ghost use Rattle.typed_path.specs.queries.Queries.{has_any_verbatim_prefix, is_verbatim_prefix, has_prefix};
+ghost use Rattle.typed_path.specs.components.{windows, is_separator, parts_of, kinds, Part, parts, prefix_of, Found, is_empty};
+ghost use Rattle.typed_path.specs.changes.{push_windows, ended_windows, is_disk_alone, raw_length, FitsPush, without_last_name, merge_by_kind, merged, spelled, spells_anew, IsKnown, is_component, is_row, TellsSpelled, IsSpelledHead, IsStanding, IsMergeable, AreMergeable, AreReadBehind, Stands, IsSpelled, room_of};
+ghost use Rattle.typed_path.specs.queries.{has_any_verbatim_prefix, is_verbatim_prefix, has_prefix};
 ghost use Rattle.typed_path.specs.declared.scan.separators.Separators.{Separators};
 ghost use Rattle.typed_path.specs.views.CursorViews.{items_left};
 ghost use Rattle.typed_path.specs.views.PieceViews.{part_of};
@@ -19,46 +18,6 @@ use crate::scan::{
     Cursor, Piece, PieceKind, Separators, after_mark, cut_at_separator, drive, find_prefix, is_dots,
 };
 use std::alloc::{AllocError, Global};
-
-/// Whether a path has one of the three verbatim kinds, which its first bytes tell.
-pub fn has_verbatim_kind(path: &[u8]) -> bool
-    ensures { result ≡ has_any_verbatim_prefix (kinds (parts_of windows path.now)) }
-{
-    match after_mark(b'?', path) {
-        Some(rest) => !rest.is_empty(),
-        None => false,
-    }
-}
-
-/// How many bytes the prefix of a path takes.
-pub fn prefix_len(path: &[u8]) -> usize
-    ensures length { result ≡ raw_length (prefix_of windows path.now) }
-    ensures within { result ≤ length path.now }
-{
-    match find_prefix(path) {
-        Some(found) => found.length,
-        None => 0,
-    }
-}
-
-/// Whether a path is a drive and nothing else.
-fn is_drive_alone(path: &[u8]) -> bool
-    ensures { result ≡ is_disk_alone (kinds (parts_of windows path.now)) }
-{
-    path.len() == 2 && drive(path).is_some()
-}
-
-/// What a base wants behind it before a relative path.
-pub fn separator_behind(base: &[u8]) -> &'static [u8]
-    ensures text { ended_windows base.now ≡ base.now ++ result.now }
-    ensures short { length result.now ≤ 1 }
-{
-    match base {
-        [] | [.., b'\\'] => b"",
-        _ if is_drive_alone(base) => b"",
-        _ => b"\\",
-    }
-}
 
 /// Cuts a text to its first bytes, and pushes a path onto the one that stands there from a place
 /// on. Where memory is refused, the text is as it was.
@@ -99,6 +58,46 @@ pub fn push_at(
     }
     let separator = separator_behind(base);
     put_over(text, kept, separator, other)
+}
+
+/// What a base wants behind it before a relative path.
+pub fn separator_behind(base: &[u8]) -> &'static [u8]
+    ensures text { ended_windows base.now ≡ base.now ++ result.now }
+    ensures short { length result.now ≤ 1 }
+{
+    match base {
+        [] | [.., b'\\'] => b"",
+        _ if is_disk_alone(base) => b"",
+        _ => b"\\",
+    }
+}
+
+/// Whether a path is a drive and nothing else.
+fn is_disk_alone(path: &[u8]) -> bool
+    ensures { result ≡ is_disk_alone (kinds (parts_of windows path.now)) }
+{
+    path.len() == 2 && drive(path).is_some()
+}
+
+/// How many bytes the prefix of a path takes.
+pub fn prefix_len(path: &[u8]) -> usize
+    ensures length { result ≡ raw_length (prefix_of windows path.now) }
+    ensures within { result ≤ length path.now }
+{
+    match find_prefix(path) {
+        Some(found) => found.length,
+        None => 0,
+    }
+}
+
+/// Whether a path has one of the three verbatim kinds, which its first bytes tell.
+pub fn has_verbatim_kind(path: &[u8]) -> bool
+    ensures { result ≡ has_any_verbatim_prefix (kinds (parts_of windows path.now)) }
+{
+    match after_mark(b'?', path) {
+        Some(rest) => !rest.is_empty(),
+        None => false,
+    }
 }
 
 /// Pushes a path onto the one that stands behind the first bytes of a text, of which something may be
@@ -160,14 +159,6 @@ fn known_of(path: &[u8]) -> Option<usize>
     }
 }
 
-/// Whether some byte of a text separates.
-#[inline(always)]
-pub fn is_separated(separators: Separators, text: &[u8]) -> bool
-    ensures { result ≡ list_any (is_separator separators) text.now }
-{
-    separators.first_in(text) != text.len()
-}
-
 /// How many bytes the prefix takes of a text that a push spells anew as it stands, in one pass over
 /// what stands behind the prefix; none of another text.
 pub fn spelled_head(text: &[u8]) -> Option<usize>
@@ -209,10 +200,19 @@ fn is_row(separators: Separators, text: &[u8]) -> bool
         && are_components(separators, text)
 }
 
+/// Whether some byte of a text separates.
+#[inline(always)]
+pub fn is_separated(separators: Separators, text: &[u8]) -> bool
+    ensures { result ≡ list_any (is_separator separators) text.now }
+{
+    separators.first_in(text) != text.len()
+}
+
 /// Whether each piece between two `\` is a component.
 fn are_components(separators: Separators, text: &[u8]) -> bool
     ensures { result
-        ≡ list_all (is_component separators) (slice_split (is_separator Separators.Backslash) text.now) }
+        ≡ list_all (is_component separators)
+        (slice_split (is_separator Separators.Backslash) text.now) }
 {
     let mut rest = text;
     'pieces: while let Some((piece, behind)) = cut_at_separator(Separators::Backslash, rest) {
@@ -233,6 +233,187 @@ fn is_component(separators: Separators, piece: &[u8]) -> bool
         [b'.'] => separators.is_verbatim(),
         _ => true,
     }
+}
+
+/// Merges a path without a prefix into the base of a verbatim kind that stands in a text from one
+/// place up to another, and cuts off what stands behind that. Where memory is refused, the text is as
+/// it was.
+///
+/// A base that is spelled as it stands is written in place: how many bytes its prefix takes may be
+/// known. Another one is written anew beside the text.
+pub fn merge_at(
+    text: &mut Vec<u8>,
+    start: usize,
+    kept: usize,
+    other: &[u8],
+    known: Option<usize>,
+) -> Result<(), AllocError>
+    requires ordered { start ≤ kept }
+    requires within { kept ≤ length text.old.items }
+    requires marked { spells_anew windows (slice_range text.old.items start kept) ≡ true }
+    requires no_prefix { has_prefix (kinds (parts_of windows other.now)) ≡ false }
+    ensures ok { IsKnown windows known (slice_range text.old.items start kept)
+        → OnOk result (text.new.items ≡ take start text.old.items
+        ++ spelled (merged (parts_of windows (slice_range text.old.items start kept))
+        (parts_of windows other.now))) }
+    ensures err { OnErr result (text.new.items ≡ text.old.items) }
+    ensures capacity { vec_capacity text.old ≤ vec_capacity text.new }
+    ensures succeeds { IsKnown windows known (slice_range text.old.items start kept)
+        → IsSpelled (slice_range text.old.items start kept)
+        → kept + length other.now < vec_capacity text.old → IsOk result }
+{
+    let base = &text[start..kept];
+    if let Some(head) = known_head(base, known) {
+        return merge_in_place(text, start, kept, head, other);
+    }
+    let alloc = *text.allocator();
+    let spelled = spelled_anew(alloc, base, other)?;
+    put_over(text, start, b"", &spelled)
+}
+
+/// How many bytes the prefix takes of a base that is spelled as it stands, which may be known; none of
+/// another base.
+fn known_head(base: &[u8], known: Option<usize>) -> Option<usize>
+    ensures within { IfSome result (λ head. head ≤ length base.now) }
+    ensures told { IsKnown windows known base.now → IsSpelledHead result base.now }
+{
+    match known {
+        Some(head) if head <= base.len() => Some(head),
+        _ => spelled_head(base),
+    }
+}
+
+/// Merges a path without a prefix into the base that stands in a text from one place up to another,
+/// and is spelled as it stands. All the room is found first. Where memory is refused, the text is as it
+/// was.
+fn merge_in_place(
+    text: &mut Vec<u8>,
+    start: usize,
+    kept: usize,
+    head: usize,
+    other: &[u8],
+) -> Result<(), AllocError>
+    requires inside { start + head ≤ kept }
+    requires within { kept ≤ length text.old.items }
+    requires no_prefix { has_prefix (kinds (parts_of windows other.now)) ≡ false }
+    ensures ok { IsKnown windows (Some head) (slice_range text.old.items start kept)
+        → OnOk result (text.new.items ≡ take start text.old.items
+        ++ spelled (merged (parts_of windows (slice_range text.old.items start kept))
+        (parts_of windows other.now))) }
+    ensures err { OnErr result (text.new.items ≡ text.old.items) }
+    ensures capacity { vec_capacity text.old ≤ vec_capacity text.new }
+    ensures succeeds { kept + length other.now < vec_capacity text.old → IsOk result }
+{
+    let parted = start + head == kept;
+    text.reserve((kept + other.len() + 1).saturating_sub(text.len()))?;
+    text.truncate(kept);
+    merge_each(text, start + head, parted, Cursor::of_windows(other))?;
+    Ok(())
+}
+
+/// A base with a prefix, written anew with another path merged into it.
+fn spelled_anew(alloc: Global, base: &[u8], other: &[u8]) -> Result<Vec<u8>, AllocError>
+    requires own { has_prefix (kinds (parts_of windows base.now)) ≡ true }
+    requires no_prefix { has_prefix (kinds (parts_of windows other.now)) ≡ false }
+    ensures { IfOk result (λ text. text.items
+        ≡ spelled (merged (parts_of windows base.now) (parts_of windows other.now))) }
+{
+    let head = prefix_len(base);
+    let room = base.len().saturating_add(other.len()).saturating_add(2);
+    let mut text = Vec::with_capacity(alloc, room)?;
+    text.extend_from_slice(&base[..head])?;
+    let mut rest = Cursor::of_windows(base);
+    rest.front();
+    let parted = put_each(&mut text, head, rest)?;
+    merge_each(&mut text, head, parted, Cursor::of_windows(other))?;
+    Ok(text)
+}
+
+/// Puts the components that stand behind a prefix behind it, and answers whether they are parted from
+/// it: a root is put there at once.
+fn put_each(text: &mut Vec<u8>, head: usize, path: Cursor<'_>) -> Result<bool, AllocError>
+    requires within { length text.old.items ≡ head }
+    requires read { AreReadBehind (parts (items_left path)) }
+    ensures stands { IfOk result (λ parted. Stands parted (parts (items_left path.entry))
+        (drop head text.new.items)) }
+    ensures kept { take head text.new.items ≡ take head text.old.items }
+    ensures long { head ≤ length text.new.items }
+{
+    let mut rest = path;
+    let parted = !rest.begins_with_root();
+    if !parted {
+        text.push(b'\\')?;
+        rest.front();
+    }
+    'pieces: while let Some(piece) = rest.front() {
+        put_component(text, head, piece.text)?;
+    }
+    Ok(parted)
+}
+
+/// Merges the components of a path into those that stand behind a prefix. With room for each of them
+/// and a separator it does not fail.
+pub fn merge_each(
+    text: &mut Vec<u8>,
+    head: usize,
+    parted: bool,
+    path: Cursor<'_>,
+) -> Result<bool, AllocError>
+    requires within { head ≤ length text.old.items }
+    requires mergeable { AreMergeable (parts (items_left path)) }
+    ensures stands { IfOk result (λ now. (ps : List Part)
+        → Stands parted ps (drop head text.old.items)
+        → Stands now (merged ps (parts (items_left path.entry))) (drop head text.new.items)) }
+    ensures kept { take head text.new.items ≡ take head text.old.items }
+    ensures long { head ≤ length text.new.items }
+    ensures capacity { vec_capacity text.old ≤ vec_capacity text.new }
+    ensures succeeds { vec_len text.old + room_of (parts (items_left path.entry))
+        ≤ vec_capacity text.old → IsOk result }
+{
+    let mut rest = path;
+    let mut apart = parted;
+    'pieces: while let Some(piece) = rest.front() {
+        apart = merge_piece(text, head, apart, piece)?;
+    }
+    Ok(apart)
+}
+
+/// Merges a component into those that stand behind a prefix: a root cuts these away, `.` is passed
+/// over, and `..` takes the last one where it is a name. It answers whether what stands is parted
+/// from the prefix.
+fn merge_piece(
+    text: &mut Vec<u8>,
+    head: usize,
+    parted: bool,
+    piece: Piece<'_>,
+) -> Result<bool, AllocError>
+    requires within { head ≤ length text.old.items }
+    requires mergeable { IsMergeable (part_of piece) (part_of piece).kind }
+    ensures stands { IfOk result (λ now. (ps : List Part)
+        → Stands parted ps (drop head text.old.items)
+        → Stands now (merge_by_kind ps (part_of piece.entry) (part_of piece.entry).kind)
+        (drop head text.new.items)) }
+    ensures kept { take head text.new.items ≡ take head text.old.items }
+    ensures long { head ≤ length text.new.items }
+    ensures capacity { vec_capacity text.old ≤ vec_capacity text.new }
+    ensures room { vec_len text.new ≤ vec_len text.old + room_of (part_of piece.entry ∷ []) }
+    ensures succeeds { vec_len text.old + room_of (part_of piece.entry ∷ [])
+        ≤ vec_capacity text.old → IsOk result }
+{
+    match piece.kind {
+        PieceKind::RootDir => {
+            text.truncate(head);
+            text.push(b'\\')?;
+            return Ok(false);
+        }
+        PieceKind::CurDir => {}
+        PieceKind::ParentDir => {
+            let kept = len_without_name(&text[head..], parted);
+            text.truncate(head + kept);
+        }
+        PieceKind::Prefix(_) | PieceKind::Normal => put_component(text, head, piece.text)?,
+    }
+    Ok(parted)
 }
 
 /// Puts a component behind those that stand behind a prefix: `\` and the component, or the component
@@ -277,185 +458,4 @@ fn len_without_name(text: &[u8], parted: bool) -> usize
         return 0;
     }
     1
-}
-
-/// Merges a component into those that stand behind a prefix: a root cuts these away, `.` is passed
-/// over, and `..` takes the last one where it is a name. It answers whether what stands is parted
-/// from the prefix.
-fn merge_piece(
-    text: &mut Vec<u8>,
-    head: usize,
-    parted: bool,
-    piece: Piece<'_>,
-) -> Result<bool, AllocError>
-    requires within { head ≤ length text.old.items }
-    requires mergeable { IsMergeable (part_of piece) (part_of piece).kind }
-    ensures stands { IfOk result (λ now. (ps : List Part)
-        → Stands parted ps (drop head text.old.items)
-        → Stands now (merge_by_kind ps (part_of piece.entry) (part_of piece.entry).kind)
-        (drop head text.new.items)) }
-    ensures kept { take head text.new.items ≡ take head text.old.items }
-    ensures long { head ≤ length text.new.items }
-    ensures capacity { vec_capacity text.old ≤ vec_capacity text.new }
-    ensures room { vec_len text.new ≤ vec_len text.old + room_of (part_of piece.entry ∷ []) }
-    ensures succeeds { vec_len text.old + room_of (part_of piece.entry ∷ [])
-        ≤ vec_capacity text.old → IsOk result }
-{
-    match piece.kind {
-        PieceKind::RootDir => {
-            text.truncate(head);
-            text.push(b'\\')?;
-            return Ok(false);
-        }
-        PieceKind::CurDir => {}
-        PieceKind::ParentDir => {
-            let kept = len_without_name(&text[head..], parted);
-            text.truncate(head + kept);
-        }
-        PieceKind::Prefix(_) | PieceKind::Normal => put_component(text, head, piece.text)?,
-    }
-    Ok(parted)
-}
-
-/// Merges the components of a path into those that stand behind a prefix. With room for each of them
-/// and a separator it does not fail.
-pub fn merge_each(
-    text: &mut Vec<u8>,
-    head: usize,
-    parted: bool,
-    path: Cursor<'_>,
-) -> Result<bool, AllocError>
-    requires within { head ≤ length text.old.items }
-    requires mergeable { AreMergeable (parts (items_left path)) }
-    ensures stands { IfOk result (λ now. (ps : List Part)
-        → Stands parted ps (drop head text.old.items)
-        → Stands now (merged ps (parts (items_left path.entry))) (drop head text.new.items)) }
-    ensures kept { take head text.new.items ≡ take head text.old.items }
-    ensures long { head ≤ length text.new.items }
-    ensures capacity { vec_capacity text.old ≤ vec_capacity text.new }
-    ensures succeeds { vec_len text.old + room_of (parts (items_left path.entry))
-        ≤ vec_capacity text.old → IsOk result }
-{
-    let mut rest = path;
-    let mut apart = parted;
-    'pieces: while let Some(piece) = rest.front() {
-        apart = merge_piece(text, head, apart, piece)?;
-    }
-    Ok(apart)
-}
-
-/// Puts the components that stand behind a prefix behind it, and answers whether they are parted from
-/// it: a root is put there at once.
-fn put_each(text: &mut Vec<u8>, head: usize, path: Cursor<'_>) -> Result<bool, AllocError>
-    requires within { length text.old.items ≡ head }
-    requires read { AreReadBehind (parts (items_left path)) }
-    ensures stands { IfOk result (λ parted. Stands parted (parts (items_left path.entry))
-        (drop head text.new.items)) }
-    ensures kept { take head text.new.items ≡ take head text.old.items }
-    ensures long { head ≤ length text.new.items }
-{
-    let mut rest = path;
-    let parted = !rest.begins_with_root();
-    if !parted {
-        text.push(b'\\')?;
-        rest.front();
-    }
-    'pieces: while let Some(piece) = rest.front() {
-        put_component(text, head, piece.text)?;
-    }
-    Ok(parted)
-}
-
-/// A base with a prefix, written anew with another path merged into it.
-fn spelled_anew(alloc: Global, base: &[u8], other: &[u8]) -> Result<Vec<u8>, AllocError>
-    requires own { has_prefix (kinds (parts_of windows base.now)) ≡ true }
-    requires no_prefix { has_prefix (kinds (parts_of windows other.now)) ≡ false }
-    ensures { IfOk result (λ text. text.items
-        ≡ spelled (merged (parts_of windows base.now) (parts_of windows other.now))) }
-{
-    let head = prefix_len(base);
-    let room = base.len().saturating_add(other.len()).saturating_add(2);
-    let mut text = Vec::with_capacity(alloc, room)?;
-    text.extend_from_slice(&base[..head])?;
-    let mut rest = Cursor::of_windows(base);
-    rest.front();
-    let parted = put_each(&mut text, head, rest)?;
-    merge_each(&mut text, head, parted, Cursor::of_windows(other))?;
-    Ok(text)
-}
-
-/// How many bytes the prefix takes of a base that is spelled as it stands, which may be known; none of
-/// another base.
-fn head_of(base: &[u8], known: Option<usize>) -> Option<usize>
-    ensures within { IfSome result (λ head. head ≤ length base.now) }
-    ensures told { IsKnown windows known base.now → IsSpelledHead result base.now }
-{
-    match known {
-        Some(head) if head <= base.len() => Some(head),
-        _ => spelled_head(base),
-    }
-}
-
-/// Merges a path without a prefix into the base that stands in a text from one place up to another,
-/// and is spelled as it stands. All the room is found first. Where memory is refused, the text is as it
-/// was.
-fn merge_in_place(
-    text: &mut Vec<u8>,
-    start: usize,
-    kept: usize,
-    head: usize,
-    other: &[u8],
-) -> Result<(), AllocError>
-    requires inside { start + head ≤ kept }
-    requires within { kept ≤ length text.old.items }
-    requires no_prefix { has_prefix (kinds (parts_of windows other.now)) ≡ false }
-    ensures ok { IsKnown windows (Some head) (slice_range text.old.items start kept)
-        → OnOk result (text.new.items ≡ take start text.old.items
-        ++ spelled (merged (parts_of windows (slice_range text.old.items start kept))
-        (parts_of windows other.now))) }
-    ensures err { OnErr result (text.new.items ≡ text.old.items) }
-    ensures capacity { vec_capacity text.old ≤ vec_capacity text.new }
-    ensures succeeds { kept + length other.now < vec_capacity text.old → IsOk result }
-{
-    let parted = start + head == kept;
-    text.reserve((kept + other.len() + 1).saturating_sub(text.len()))?;
-    text.truncate(kept);
-    merge_each(text, start + head, parted, Cursor::of_windows(other))?;
-    Ok(())
-}
-
-/// Merges a path without a prefix into the base of a verbatim kind that stands in a text from one
-/// place up to another, and cuts off what stands behind that. Where memory is refused, the text is as
-/// it was.
-///
-/// A base that is spelled as it stands is written in place: how many bytes its prefix takes may be
-/// known. Another one is written anew beside the text.
-pub fn merge_at(
-    text: &mut Vec<u8>,
-    start: usize,
-    kept: usize,
-    other: &[u8],
-    known: Option<usize>,
-) -> Result<(), AllocError>
-    requires ordered { start ≤ kept }
-    requires within { kept ≤ length text.old.items }
-    requires marked { spells_anew windows (slice_range text.old.items start kept) ≡ true }
-    requires no_prefix { has_prefix (kinds (parts_of windows other.now)) ≡ false }
-    ensures ok { IsKnown windows known (slice_range text.old.items start kept)
-        → OnOk result (text.new.items ≡ take start text.old.items
-        ++ spelled (merged (parts_of windows (slice_range text.old.items start kept))
-        (parts_of windows other.now))) }
-    ensures err { OnErr result (text.new.items ≡ text.old.items) }
-    ensures capacity { vec_capacity text.old ≤ vec_capacity text.new }
-    ensures succeeds { IsKnown windows known (slice_range text.old.items start kept)
-        → IsSpelled (slice_range text.old.items start kept)
-        → kept + length other.now < vec_capacity text.old → IsOk result }
-{
-    let base = &text[start..kept];
-    if let Some(head) = head_of(base, known) {
-        return merge_in_place(text, start, kept, head, other);
-    }
-    let alloc = *text.allocator();
-    let spelled = spelled_anew(alloc, base, other)?;
-    put_over(text, start, b"", &spelled)
 }

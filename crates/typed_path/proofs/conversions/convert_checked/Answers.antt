@@ -1,17 +1,15 @@
-use Rattle.std.proofs.Common.{◌≡◌, List, ℕ, ap, sym, refl, ◌∙◌, Some, None, ◌∷◌, [], length, drop, arith}
+use Rattle.std.proofs.Common.{◌≡◌, List, ℕ, ap, sym, refl, ◌∙◌, Some, None, ◌∷◌, [], length, drop, arith, option_map, Ok}
 use Rattle.std.proofs.lemmas.List.{drop_all}
-use Rattle.std.specs.Prelude.{option_map, Ok}
 use Rattle.std.specs.Option.{option_to_list}
-use Rattle.typed_path.specs.components.Comps.{comps, parts_of}
-use Rattle.typed_path.specs.components.Part.{parts}
-use Rattle.typed_path.specs.conversions.Convert.{push_checked_each}
-use Rattle.typed_path.specs.queries.Queries.{behind_prefix}
+use Rattle.typed_path.specs.components.{comps, parts_of, parts}
+use Rattle.typed_path.specs.conversions.{push_checked_each}
+use Rattle.typed_path.specs.queries.{behind_prefix}
 use Rattle.typed_path.specs.views.BodyViews.{body_items}
 use Rattle.typed_path.specs.views.CursorViews.{items_left}
-use Rattle.typed_path.specs.views.FrontViews.{front_bytes}
+use Rattle.typed_path.specs.views.SpanViews.{span_bytes}
 use Rattle.typed_path.specs.views.PieceViews.{part_of, step_part}
-use Rattle.typed_path.proofs.lemmas.conversions.CrossedLemmas.{pushed-first, refused-whole, pushed-all, refusal-passed}
-use Rattle.typed_path.proofs.lemmas.scan.StepLemmas.{parts-prefixed, yields_first, fewer}
+use Rattle.typed_path.proofs.lemmas.conversions.Crossings.{pushed-first, refused-whole, pushed-all, refusal-passed}
+use Rattle.typed_path.proofs.lemmas.scan.Steps.{parts-prefixed, yields_first, fewer}
 use Rattle.typed_path.proofs.conversions.convert_checked.Goals as goal
 
 -- at the end of a text stands the empty path
@@ -30,18 +28,18 @@ returns-in_err-known-2-clause-long g c = c.in_err-known-2.ensures.long c.steps.i
 pub returns-in_err-known-clause-refused : goal.returns-in_err-known-clause-refused
 returns-in_err-known-clause-refused g c =
     let e = g.U.Encoding.dialect in
-    let split = parts-prefixed (comps g.T.Encoding.dialect (front_bytes c.args.path)) (items_left c.cursor-cursor.result) (behind_prefix (items_left c.cursor-cursor.result)) (option_map part_of c.prefix_piece.result) (c.cursor-cursor.ensures.items ∙ ap (comps g.T.Encoding.dialect) c.as_bytes.ensures) c.prefix_piece.ensures refl in
+    let split = parts-prefixed (comps g.T.Encoding.dialect (span_bytes c.args.path)) (items_left c.within-cursor.result) (behind_prefix (items_left c.within-cursor.result)) (option_map part_of c.prefix_piece.result) (c.within-cursor.ensures ∙ ap parts (c.cursor.ensures.items ∙ ap (comps g.T.Encoding.dialect) c.as_bytes.ensures)) c.prefix_piece.ensures refl in
     λ f told.
-    refused-whole e [] (option_to_list (option_map part_of c.prefix_piece.result)) _ (parts_of g.T.Encoding.dialect (front_bytes c.args.path)) split f
+    refused-whole e [] (option_to_list (option_map part_of c.prefix_piece.result)) _ (parts_of g.T.Encoding.dialect (span_bytes c.args.path)) split f
     (ap (λ t. push_checked_each e (Ok t) (option_to_list (option_map part_of c.prefix_piece.result))) (sym (empty c.args.start c.args.text.now.items c.requires))
     ∙ c.in_err-known.ensures.refused f (refusal-passed c.push_prefix_checked.result c.from_residual.result _ c.from_residual.ensures.1 f told))
 
 pub steps-init : goal.steps-init
 steps-init g c =
     let e = g.U.Encoding.dialect in
-    let split = parts-prefixed (comps g.T.Encoding.dialect (front_bytes c.args.path)) (items_left c.cursor-cursor.result) (body_items c.within-body.result) (option_map part_of c.prefix_piece.result) (c.cursor-cursor.ensures.items ∙ ap (comps g.T.Encoding.dialect) c.as_bytes.ensures) c.prefix_piece.ensures (c.within-body.ensures ∙ c.body.ensures.items) in
+    let split = parts-prefixed (comps g.T.Encoding.dialect (span_bytes c.args.path)) (items_left c.within-cursor.result) (body_items c.body-body.result) (option_map part_of c.prefix_piece.result) (c.within-cursor.ensures ∙ ap parts (c.cursor.ensures.items ∙ ap (comps g.T.Encoding.dialect) c.as_bytes.ensures)) c.prefix_piece.ensures c.body-body.ensures in
     record {
-      pushed = pushed-first e [] (option_to_list (option_map part_of c.prefix_piece.result)) (parts (body_items c.within-body.result)) (parts_of g.T.Encoding.dialect (front_bytes c.args.path)) split (drop c.args.start c.push_prefix_checked.new.text.items)
+      pushed = pushed-first e [] (option_to_list (option_map part_of c.prefix_piece.result)) (parts (body_items c.body-body.result)) (parts_of g.T.Encoding.dialect (span_bytes c.args.path)) split (drop c.args.start c.push_prefix_checked.new.text.items)
           (ap (λ t. push_checked_each e (Ok t) (option_to_list (option_map part_of c.prefix_piece.result))) (sym (empty c.args.start c.args.text.now.items c.requires)) ∙ c.in_ok-known.ensures.ok);
       kept = c.in_ok-known.ensures.kept;
       long = c.in_ok-known.ensures.long;

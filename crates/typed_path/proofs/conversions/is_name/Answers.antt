@@ -1,5 +1,5 @@
 use Rattle.std.proofs.Common.{sym, ◌∙◌}
-use Rattle.typed_path.proofs.lemmas.components.PlainNames.{fault_name}
+use Rattle.typed_path.proofs.lemmas.components.WindowsNames.{fault_name}
 use Rattle.typed_path.proofs.conversions.is_name.Goals as goal
 
 pub returns-then-not-is_dots : goal.returns-then-not-is_dots

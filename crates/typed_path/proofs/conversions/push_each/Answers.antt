@@ -1,30 +1,26 @@
-use Rattle.std.proofs.Common.{true≢false, false, [], ◌∷◌, map, drop, refl, sym, ap, subst, ◌∙◌, arith}
-use Rattle.std.specs.Prelude.{Some, None, option_map}
+use Rattle.std.proofs.Common.{true≢false, false, [], ◌∷◌, map, drop, refl, sym, ap, subst, ◌∙◌, arith, Some, None, option_map}
 use Rattle.std.specs.Option.{option_to_list}
-use Rattle.typed_path.specs.components.Comps.{comps, parts_of}
-use Rattle.typed_path.specs.components.Part.{parts}
-use Rattle.typed_path.specs.changes.Push.{push, FitsPush}
-use Rattle.typed_path.specs.changes.Run.{FitsEach}
-use Rattle.typed_path.specs.changes.Spelled.{IsKnown}
-use Rattle.typed_path.specs.conversions.Convert.{crossed, crossed_all}
-use Rattle.typed_path.specs.queries.Queries.{behind_prefix}
+use Rattle.typed_path.specs.components.{comps, parts_of, parts}
+use Rattle.typed_path.specs.changes.{push, FitsPush, FitsEach, IsKnown}
+use Rattle.typed_path.specs.conversions.{crossed, crossed_all}
+use Rattle.typed_path.specs.queries.{behind_prefix}
 use Rattle.typed_path.specs.views.BodyViews.{body_items}
 use Rattle.typed_path.specs.views.CursorViews.{items_left}
-use Rattle.typed_path.specs.views.FrontViews.{front_bytes}
+use Rattle.typed_path.specs.views.SpanViews.{span_bytes}
 use Rattle.typed_path.specs.views.PieceViews.{part_of, step_part}
-use Rattle.typed_path.proofs.lemmas.scan.StepLemmas.{parts-prefixed, yields_first}
-use Rattle.typed_path.proofs.lemmas.conversions.CrossedLemmas.{put-whole, put-behind, crossed-next, crossed-end, crossed-fits}
+use Rattle.typed_path.proofs.lemmas.scan.Steps.{parts-prefixed, yields_first}
+use Rattle.typed_path.proofs.lemmas.conversions.Crossings.{put-whole, put-behind, crossed-next, crossed-end, crossed-fits}
 use Rattle.typed_path.proofs.conversions.push_each.Goals as goal
 
 pub returns-in_err-known-clause-succeeds : goal.returns-in_err-known-clause-succeeds
 returns-in_err-known-clause-succeeds g c = λ room within fits.
     let e = g.U.Encoding.dialect in
     let d = g.T.Encoding.dialect in
-    let cs = items_left c.cursor-cursor.result in
+    let cs = items_left c.within-cursor.result in
     let prefix = option_map part_of c.prefix_piece.result in
-    let split = parts-prefixed (comps d (front_bytes c.args.path)) cs (behind_prefix cs) prefix (c.cursor-cursor.ensures.items ∙ ap (comps d) c.as_bytes.ensures) c.prefix_piece.ensures refl in
+    let split = parts-prefixed (comps d (span_bytes c.args.path)) cs (behind_prefix cs) prefix (c.within-cursor.ensures ∙ ap parts (c.cursor.ensures.items ∙ ap (comps d) c.as_bytes.ensures)) c.prefix_piece.ensures refl in
     absurd (true≢false (sym {a = false} (c.in_err-known.ensures.succeeds room (omega (arith, within, c.requires))
-    (crossed-fits e (option_to_list prefix) (parts (behind_prefix cs)) (parts_of d (front_bytes c.args.path)) split room [] fits).0)))
+    (crossed-fits e (option_to_list prefix) (parts (behind_prefix cs)) (parts_of d (span_bytes c.args.path)) split room [] fits).0)))
 
 pub steps-init : goal.steps-init
 steps-init g c =
@@ -33,9 +29,9 @@ steps-init g c =
     let start = c.args.start in
     let prefix = option_map part_of c.prefix_piece.result in
     let first = option_to_list prefix in
-    let left = parts (body_items c.within-body.result) in
-    let ps = parts_of d (front_bytes c.args.path) in
-    let split = parts-prefixed (comps d (front_bytes c.args.path)) (items_left c.cursor-cursor.result) (body_items c.within-body.result) prefix (c.cursor-cursor.ensures.items ∙ ap (comps d) c.as_bytes.ensures) c.prefix_piece.ensures (c.within-body.ensures ∙ c.body.ensures.items) in
+    let left = parts (body_items c.body-body.result) in
+    let ps = parts_of d (span_bytes c.args.path) in
+    let split = parts-prefixed (comps d (span_bytes c.args.path)) (items_left c.within-cursor.result) (body_items c.body-body.result) prefix (c.within-cursor.ensures ∙ ap parts (c.cursor.ensures.items ∙ ap (comps d) c.as_bytes.ensures)) c.prefix_piece.ensures c.body-body.ensures in
     let whole = put-behind start c.args.text.now.items c.put_prefix.new.text.items (crossed_all e first) c.requires c.in_ok-known.ensures.ok in
     record {
       pushed = crossed-next e first left ps split (crossed_all e ps) [] (drop start c.put_prefix.new.text.items) whole.0 refl;

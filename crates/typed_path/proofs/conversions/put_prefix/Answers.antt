@@ -1,10 +1,9 @@
-use Rattle.std.proofs.Common.{ap, sym, subst, [], ◌∷◌, arith}
-use Rattle.std.specs.Prelude.{option_map}
+use Rattle.std.proofs.Common.{ap, sym, subst, [], ◌∷◌, arith, option_map}
 use Rattle.std.specs.Option.{option_to_list}
 use Rattle.std.proofs.lemmas.List.{drop_all}
-use Rattle.typed_path.specs.changes.Push.{FitsPush}
+use Rattle.typed_path.specs.changes.{FitsPush}
 use Rattle.typed_path.specs.views.PieceViews.{part_of}
-use Rattle.typed_path.proofs.lemmas.conversions.CrossedLemmas.{crossed-fits}
+use Rattle.typed_path.proofs.lemmas.conversions.Crossings.{crossed-fits}
 use Rattle.typed_path.proofs.conversions.put_prefix.Goals as goal
 
 pub returns-in-Some-clause-succeeds : goal.returns-in-Some-clause-succeeds

@@ -1,6 +1,5 @@
-use Rattle.typed_path.specs.components.Part.{kinds}
-use Rattle.typed_path.specs.components.Comps.{parts_of}
-use Rattle.typed_path.proofs.lemmas.order.OrderLemmas.{IsSame-path_cmp, kinds_cmp-is_eq}
+use Rattle.typed_path.specs.components.{kinds, parts_of}
+use Rattle.typed_path.proofs.lemmas.order.Comparisons.{IsSame-path_cmp, kinds_cmp-is_eq}
 use Rattle.typed_path.proofs.laws.order_agrees_with_equality.Goals as goal
 
 pub returns-clause-test : goal.returns-clause-test

@@ -1,4 +1,4 @@
-use Rattle.typed_path.specs.order.Laws.{path_cmp_total}
+use Rattle.typed_path.specs.order.{path_cmp_total}
 use Rattle.typed_path.proofs.laws.order_is_total.Goals as goal
 
 pub returns : goal.returns

@@ -1,4 +1,4 @@
-use Rattle.typed_path.specs.components.Comps.{comps}
+use Rattle.typed_path.specs.components.{comps}
 use Rattle.typed_path.proofs.lemmas.scan.Readings.{stepwise_answers, stepwise_items, stepwise_none, slice_after-left, stepwise_slices, stepwise_end}
 use Rattle.typed_path.proofs.lemmas.components.Cuts.{comps-laid_out}
 use Rattle.typed_path.proofs.laws.steps_agree_with_counts.Goals as goal

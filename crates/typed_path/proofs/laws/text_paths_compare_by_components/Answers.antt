@@ -1,8 +1,7 @@
 use Rattle.std.proofs.Common.{sym}
-use Rattle.typed_path.specs.components.Part.{kinds}
-use Rattle.typed_path.specs.components.Comps.{parts_of}
+use Rattle.typed_path.specs.components.{kinds, parts_of}
 use Rattle.typed_path.specs.views.TextViews.{utf8_bytes}
-use Rattle.typed_path.proofs.lemmas.order.OrderLemmas.{kinds_cmp-is_eq, path_words-kinds}
+use Rattle.typed_path.proofs.lemmas.order.Comparisons.{kinds_cmp-is_eq, path_words-kinds}
 use Rattle.typed_path.proofs.laws.text_paths_compare_by_components.Goals as goal
 
 pub returns-clause-equality : goal.returns-clause-equality

@@ -1,20 +1,15 @@
 -- Where the components of a text begin and end, how many they are, and what is read before and behind such a place.
-use Rattle.std.proofs.Common.{◌≡◌, ℕ, zero, suc, ◌+◌, ◌<◌, ◌≤◌, ◌==◌, false, List, [], ◌∷◌, ◌++◌, ◌⊎◌, inl, inr, length, take, drop, flat_map, refl, sym, ap, ap₂, ◌∙◌, add-zero, ne_eqb, arith, ◌-◌, true, le_refl, min, length-take, Option, Some, None, zero-add, zero-le, length-take-le, length-drop, Bool, if◌then◌else◌, subst}
+use Rattle.std.proofs.Common.{◌≡◌, ℕ, zero, suc, ◌+◌, ◌<◌, ◌≤◌, ◌==◌, false, List, [], ◌∷◌, ◌++◌, ◌⊎◌, inl, inr, length, take, drop, flat_map, refl, sym, ap, ap₂, ◌∙◌, add-zero, ne_eqb, arith, ◌-◌, true, le_refl, min, length-take, Option, Some, None, zero-add, zero-le, length-take-le, length-drop, Bool, if◌then◌else◌, subst, length-append}
 use Rattle.std.specs.List.{slice_split, onto_first}
 use Rattle.std.proofs.lemmas.Bool.{cases_Bool, eqb-false}
 use Rattle.std.proofs.lemmas.List.Splits.{slice_split-cons_yes, slice_split-cons_no}
-use Rattle.std.proofs.lemmas.List.{length-append, length-map}
+use Rattle.std.proofs.lemmas.List.{length-map}
 use Rattle.typed_path.specs.declared.scan.separators.Separators.{Separators}
 use Rattle.typed_path.specs.declared.scan.separators.Separators.TheVariants.{Slash, Backslash, Either}
 use Rattle.typed_path.specs.declared.scan.cursor.Begin.{Begin}
 use Rattle.typed_path.specs.declared.scan.cursor.Begin.TheVariants.{Body, Inside}
-use Rattle.typed_path.specs.components.Dialect.{root_text, is_separator, Dialect, separators, windows, is_verbatim}
-use Rattle.typed_path.specs.components.Part.{Part, Placed, current_part, parent_part, name_part, root_part, end_of, parts}
-use Rattle.typed_path.specs.components.Comps.{Segment, placed, later, first, component, body_of, body, later_body, comps, comps_behind, is_dot, parts_of}
-use Rattle.typed_path.specs.scan.Left.{start_at, end_at}
-use Rattle.typed_path.specs.scan.Reading.{AreInOrder, IsLaidOut}
-use Rattle.typed_path.specs.components.Prefix.{Found, prefix_of}
-use Rattle.typed_path.specs.scan.Steps.{body_from}
+use Rattle.typed_path.specs.components.{root_text, is_separator, Dialect, separators, windows, is_verbatim, Part, Placed, current_part, parent_part, name_part, root_part, end_of, parts, Segment, placed, later, first, component, body_of, body, later_body, comps, comps_behind, is_dot, parts_of, Found, prefix_of}
+use Rattle.typed_path.specs.scan.{start_at, end_at, AreInOrder, IsLaidOut, body_from}
 use Rattle.typed_path.proofs.lemmas.components.Segments.{Seen, empty, passed_dot, kept_dot, dot_dot, word, seen, pieces, named_part, later_part, later_parts, first_parts, parts-body, parts-later_body}
 use Rattle.typed_path.proofs.lemmas.lists.Lists.{width, slice_split-some, width-slice_split, slice_split-take, slice_split-drop}
 use Rattle.typed_path.proofs.lemmas.components.Prefixes.{FoundFits, prefix-fits}

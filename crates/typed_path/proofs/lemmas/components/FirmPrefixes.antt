@@ -1,19 +1,17 @@
 -- A prefix stays where its text is cut behind it and something put apart behind that.
-use Rattle.std.proofs.Common.{◌≡◌, ℕ, ◌+◌, ◌<◌, ◌≤◌, ◌==◌, Bool, true, false, not, ◌&&◌, if◌then◌else◌, nat_lt, List, [], ◌∷◌, ◌++◌, inl, inr, length, take, drop, Option, Some, None, option_and_then, option_map, refl, sym, ap, ap₂, ◌∙◌, append-nil, length-append, length-take, arith, ◌-◌, nat_eq, codes, le_refl}
+use Rattle.std.proofs.Common.{◌≡◌, ℕ, ◌+◌, ◌<◌, ◌≤◌, ◌==◌, Bool, true, false, not, ◌&&◌, if◌then◌else◌, nat_lt, List, [], ◌∷◌, ◌++◌, inl, inr, length, take, drop, Option, Some, None, option_and_then, option_map, refl, sym, ap, ap₂, ◌∙◌, append-nil, length-append, length-take, arith, ◌-◌, nat_eq, codes, le_refl, lt-ltb, eqb-true, ne_eqb, take-take}
 use Rattle.std.specs.List.{position_or_len, after_first}
-use Rattle.std.proofs.lemmas.Bool.{cases_lt, cond-true, cond-false, lt-ltb, eqb-true, or_left, or_right, or_cases, and_parts, and_left, and_right, ne_eqb, both_ways, not-true, and_from, false_from_ne_true}
-use Rattle.std.proofs.lemmas.List.{take-append-le, drop-append-le, drop_all, take-take}
+use Rattle.std.proofs.lemmas.Bool.{cases_lt, cond-true, cond-false, or_left, or_right, or_cases, and_parts, and_left, and_right, both_ways, not-true, and_from, false_from_ne_true}
+use Rattle.std.proofs.lemmas.List.{take-append-le, drop-append-le, drop_all}
 use Rattle.std.proofs.lemmas.List.Sums.{prefix_len-le-length}
 use Rattle.std.specs.Option.{option_or}
 use Rattle.std.specs.Str.{bytes_eq}
 use Rattle.std.specs.Cmp.Lexicographic.{pointwise}
 use Rattle.typed_path.specs.declared.scan.separators.Separators.{Separators}
 use Rattle.typed_path.specs.declared.scan.separators.Separators.TheVariants.{Slash, Backslash, Either}
-use Rattle.typed_path.specs.components.Dialect.{is_separator, slash, backslash, colon, windows, separators, begins_verbatim, question, dot}
-use Rattle.typed_path.specs.components.Prefix.{is_empty, is_drive_letter, to_upper, drive, after_two, after_four, name, second_name, names_length, Found, found, after_mark, after_unc, verbatim_case, device_case, unc_case, disk_case, prefix_of}
-use Rattle.typed_path.specs.queries.Queries.{is_disk}
-use Rattle.typed_path.specs.promises.Promises.{keeps_by_prefix}
-use Rattle.typed_path.specs.components.Part.{Prefix, verbatim, verbatim_unc, verbatim_disk, device_ns, unc, disk}
+use Rattle.typed_path.specs.components.{is_separator, slash, backslash, colon, windows, separators, begins_verbatim, question, dot, is_empty, is_drive_letter, to_upper, drive, after_two, after_four, name, second_name, names_length, Found, found, after_mark, after_unc, verbatim_case, device_case, unc_case, disk_case, prefix_of, Prefix, verbatim, verbatim_unc, verbatim_disk, device_ns, unc, disk}
+use Rattle.typed_path.specs.queries.{is_disk}
+use Rattle.typed_path.specs.promises.{keeps_by_prefix}
 use Rattle.typed_path.proofs.lemmas.components.Prefixes.{and_then-some, where-some, ReadsMark, IsFront, after_four-reads, after_mark-size, name-fits, names-fit, prefix-fits, Read, of_verbatim_unc, of_verbatim_disk, of_verbatim, of_device, of_unc, of_disk, prefix-read, after_mark-reads, after_unc-reads, after_two-reads, both-read, drive-take, drive-none}
 use Rattle.typed_path.proofs.lemmas.components.PrefixCuts.{name-length, name-take, names-take, prefix_by, unless-none, empty-take}
 use Rattle.typed_path.proofs.lemmas.components.Segments.{position-append}

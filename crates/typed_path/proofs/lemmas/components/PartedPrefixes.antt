@@ -1,19 +1,16 @@
 -- A prefix with more of its text behind it: where it ends, and what stands right behind it.
-use Rattle.std.proofs.Common.{◌≡◌, ℕ, suc, ◌+◌, ◌<◌, Bool, true, false, not, cond, if◌then◌else◌, List, [], ◌∷◌, length, drop, Some, None, refl, sym, ap, ◌∙◌, subst, length-drop, arith, ◌≤◌, nat_lt, ◌++◌, take, inl, inr, length-take, ◌⊎◌, ◌==◌, append-nil}
+use Rattle.std.proofs.Common.{◌≡◌, ℕ, suc, ◌+◌, ◌<◌, Bool, true, false, not, cond, if◌then◌else◌, List, [], ◌∷◌, length, drop, Some, None, refl, sym, ap, ◌∙◌, subst, length-drop, arith, ◌≤◌, nat_lt, ◌++◌, take, inl, inr, length-take, ◌⊎◌, ◌==◌, append-nil, le-ltb, eqb-true, drop-drop, take_all}
 use Rattle.std.specs.List.{position_or_len, after_first, list_any}
-use Rattle.std.proofs.lemmas.Bool.{not-true, false_from_ne_true, cases_lt, cond-false, le-ltb, both_ways, eqb-true, or_cases}
-use Rattle.std.proofs.lemmas.List.{drop-drop, take-append-le, take_all}
+use Rattle.std.proofs.lemmas.Bool.{not-true, false_from_ne_true, cases_lt, cond-false, both_ways, or_cases}
+use Rattle.std.proofs.lemmas.List.{take-append-le}
 use Rattle.std.proofs.lemmas.List.Splits.{slice_split-cons_yes}
 use Rattle.typed_path.specs.declared.scan.separators.Separators.{Separators}
 use Rattle.typed_path.specs.declared.scan.separators.Separators.TheVariants.{Backslash, Either, Slash}
-use Rattle.typed_path.specs.components.Dialect.{windows, separators, is_separator, question, begins_verbatim, is_verbatim, slash, backslash}
-use Rattle.typed_path.specs.components.Prefix.{Found, after_mark, name, second_name, names_length, prefix_of, found}
-use Rattle.typed_path.specs.queries.Queries.{is_disk, is_verbatim_prefix, begins_with_root}
-use Rattle.typed_path.specs.components.Part.{verbatim, Prefix, verbatim_unc, verbatim_disk, device_ns, unc, disk, kinds}
-use Rattle.typed_path.specs.promises.Promises.{is_verbatim_unc_name}
-use Rattle.typed_path.specs.changes.Push.{raw_length}
-use Rattle.typed_path.specs.places.Places.{resolve}
-use Rattle.typed_path.specs.places.Rows.{IsPartedEither, TakesRows, IsHeadOf}
+use Rattle.typed_path.specs.components.{windows, separators, is_separator, question, begins_verbatim, is_verbatim, slash, backslash, Found, after_mark, name, second_name, names_length, prefix_of, found, verbatim, Prefix, verbatim_unc, verbatim_disk, device_ns, unc, disk, kinds}
+use Rattle.typed_path.specs.queries.{is_disk, is_verbatim_prefix, begins_with_root}
+use Rattle.typed_path.specs.promises.{is_verbatim_unc_name}
+use Rattle.typed_path.specs.changes.{raw_length}
+use Rattle.typed_path.specs.places.{resolve, IsPartedEither, TakesRows, IsHeadOf}
 use Rattle.typed_path.proofs.lemmas.components.Prefixes.{drive-size, name-fits, names-fit, Read, of_verbatim_unc, of_verbatim_disk, of_verbatim, of_device, of_unc, of_disk, prefix-read, after_mark-reads}
 use Rattle.typed_path.proofs.lemmas.components.PrefixCuts.{name-length, verbatim_text, IsUnended, name-unended, prefix_by, verbatim-take, plain-kind}
 use Rattle.typed_path.proofs.lemmas.components.FirmPrefixes.{Apart, nothing, parted, filled-long, second-inside, names-inside, names-size, names-long, is_firm, marks-differ, no_question, verbatim_unc-again, verbatim_disk-again, verbatim-again, device-again, unc-again, after_four-tests}

@@ -1,8 +1,8 @@
--- A Windows text that is cut behind its prefix, and how many bytes a prefix takes of it.
-use Rattle.std.proofs.Common.{◌≡◌, ℕ, zero, suc, ◌+◌, ◌-◌, ◌<◌, ◌≤◌, Bool, true, false, not, cond, nat_lt, List, [], ◌∷◌, inl, inr, length, min, take, drop, sym, ap, ap₂, ◌∙◌, arith, length-take, take_all, take-take, if◌then◌else◌, Option, Some, None, option_and_then, refl, subst, ne_eqb, nat_eq, ◌⊎◌, ◌++◌}
+-- The names of a prefix, a Windows text that is cut behind its prefix, and how many bytes a prefix takes of it.
+use Rattle.std.proofs.Common.{◌≡◌, ℕ, zero, suc, ◌+◌, ◌-◌, ◌<◌, ◌≤◌, Bool, true, false, not, cond, nat_lt, List, [], ◌∷◌, inl, inr, length, min, take, drop, sym, ap, ap₂, ◌∙◌, arith, length-take, take_all, take-take, if◌then◌else◌, Option, Some, None, option_and_then, refl, subst, ne_eqb, nat_eq, ◌⊎◌, ◌++◌, lt-ltb, le-ltb, eq-eqb, eqb-true, length-append, length-drop}
 use Rattle.std.specs.List.{position_or_len, prefix_len, after_first}
-use Rattle.std.proofs.lemmas.Bool.{cases_lt, cond-true, cond-false, lt-ltb, le-ltb, eq-eqb, eqb-true, cases_Bool, false_from_ne_true, eqb-false, both_ways}
-use Rattle.std.proofs.lemmas.List.{drop-take, length-append, length-drop, drop-append-le}
+use Rattle.std.proofs.lemmas.Bool.{cases_lt, cond-true, cond-false, cases_Bool, false_from_ne_true, eqb-false, both_ways}
+use Rattle.std.proofs.lemmas.List.{drop-take, drop-append-le}
 use Rattle.std.proofs.lemmas.List.Sums.{prefix_len-le-length}
 use Rattle.std.specs.Option.{option_or}
 use Rattle.std.specs.Cmp.Lexicographic.{pointwise}
@@ -10,10 +10,8 @@ use Rattle.std.proofs.lemmas.Bool.Decides.{Decides-eqb}
 use Rattle.std.proofs.lemmas.Slice.Eq.{starts_is}
 use Rattle.typed_path.specs.declared.scan.separators.Separators.{Separators}
 use Rattle.typed_path.specs.declared.scan.separators.Separators.TheVariants.{Either, Backslash}
-use Rattle.typed_path.specs.components.Dialect.{is_separator, question, dot, windows, backslash, separators, begins_verbatim}
-use Rattle.typed_path.specs.components.Prefix.{is_empty, name, second_name, names_length, Found, found, drive, after_two, after_mark, after_unc, verbatim_unc_case, verbatim_disk_case, verbatim_case, device_case, unc_case, disk_case, prefix_of}
-use Rattle.typed_path.specs.components.Part.{Prefix, verbatim, verbatim_unc, verbatim_disk, device_ns, unc, disk}
-use Rattle.typed_path.specs.queries.Queries.{is_disk, is_verbatim_prefix}
+use Rattle.typed_path.specs.components.{is_separator, question, dot, windows, backslash, separators, begins_verbatim, is_empty, name, second_name, names_length, Found, found, drive, after_two, after_mark, after_unc, verbatim_unc_case, verbatim_disk_case, verbatim_case, device_case, unc_case, disk_case, prefix_of, Prefix, verbatim, verbatim_unc, verbatim_disk, device_ns, unc, disk}
+use Rattle.typed_path.specs.queries.{is_disk, is_verbatim_prefix}
 use Rattle.typed_path.proofs.lemmas.components.Prefixes.{and_then-some, unless-some, some_is, ReadsMark, IsFront, after_mark-reads, after_unc-reads, after_two-reads, both-read, drive-take, drive-none, OfWindows, separators-windows, backslash-separates, name-fits, Read, of_verbatim_unc, of_verbatim_disk, of_verbatim, of_device, of_unc, of_disk, prefix-read}
 use Rattle.typed_path.proofs.lemmas.components.Segments.{position-append}
 

@@ -1,15 +1,12 @@
 -- The prefix of a Windows text: its separators, how many bytes it takes, its marks and what it was read from.
-use Rattle.std.proofs.Common.{◌≡◌, ℕ, ◌==◌, ◌||◌, Bool, true, false, List, [], ◌∷◌, refl, ◌+◌, ◌<◌, ◌≤◌, not, if◌then◌else◌, nat_lt, length, Option, Some, None, option_and_then, ap, arith, length-take, length-drop, zero, suc, ◌⊎◌, inl, inr, take, drop, option_map, sym, ◌∙◌, add_assoc, subst}
-use Rattle.std.proofs.lemmas.Bool.{cond_both, ltb-true}
+use Rattle.std.proofs.Common.{◌≡◌, ℕ, ◌==◌, ◌||◌, Bool, true, false, List, [], ◌∷◌, refl, ◌+◌, ◌<◌, ◌≤◌, not, if◌then◌else◌, nat_lt, length, Option, Some, None, option_and_then, ap, arith, length-take, length-drop, zero, suc, ◌⊎◌, inl, inr, take, drop, option_map, sym, ◌∙◌, add_assoc, subst, ltb-true, drop-drop}
+use Rattle.std.proofs.lemmas.Bool.{cond_both}
 use Rattle.std.specs.Option.{option_or}
 use Rattle.std.specs.List.{position_or_len, after_first}
 use Rattle.std.proofs.lemmas.List.Sums.{prefix_len-le-length}
-use Rattle.std.proofs.lemmas.List.{drop-drop}
 use Rattle.typed_path.specs.declared.scan.separators.Separators.{Separators}
 use Rattle.typed_path.specs.declared.scan.separators.Separators.TheVariants.{Slash, Backslash, Either}
-use Rattle.typed_path.specs.components.Dialect.{windows, dialect_of, separators, begins_verbatim, slash, backslash, dot, is_separator, root_text, Dialect, unix, question}
-use Rattle.typed_path.specs.components.Prefix.{Found, is_empty, drive, after_two, after_four, after_mark, after_unc, name, second_name, names_length, verbatim_unc_case, verbatim_disk_case, verbatim_case, device_case, unc_case, disk_case, prefix_of, found}
-use Rattle.typed_path.specs.components.Part.{verbatim, verbatim_unc, verbatim_disk, device_ns, unc, disk}
+use Rattle.typed_path.specs.components.{windows, dialect_of, separators, begins_verbatim, is_verbatim, slash, backslash, dot, is_separator, root_text, Dialect, unix, question, Found, is_empty, drive, after_two, after_four, after_mark, after_unc, name, second_name, names_length, verbatim_unc_case, verbatim_disk_case, verbatim_case, device_case, unc_case, disk_case, prefix_of, found, verbatim, verbatim_unc, verbatim_disk, device_ns, unc, disk}
 
 -- The separators of a Windows text.
 
@@ -20,6 +17,16 @@ OfWindows s = dialect_of s ≡ windows
 -- each Windows text has such
 pub separators-windows : (text : List ℕ) → OfWindows (separators windows text)
 separators-windows text = cond_both (begins_verbatim text) Backslash Either OfWindows (λ marked. refl) (λ plain. refl)
+
+-- two texts of Windows are separated alike where both are read verbatim, or neither
+pub same_separators : (t b : List ℕ) → is_verbatim (separators windows t) ≡ is_verbatim (separators windows b) → separators windows t ≡ separators windows b
+same_separators t b = by (begins_verbatim t) (begins_verbatim b)
+  where
+    by : (p q : Bool) → is_verbatim (if p then Backslash else Either) ≡ is_verbatim (if q then Backslash else Either) → (if p then Backslash else Either) ≡ (if q then Backslash else Either)
+    by true true e = refl
+    by false false e = refl
+    by true false e = cc
+    by false true e = cc
 
 -- `\` is one of them
 pub backslash-separates : (s : Separators) → OfWindows s → is_separator s backslash ≡ true

@@ -1,7 +1,7 @@
--- Segments, a body taken apart at a separator, and the components read off its pieces.
-use Rattle.std.proofs.Common.{◌≡◌, ℕ, ◌==◌, Bool, true, false, cond, List, [], ◌∷◌, length, refl, eqb-true, ◌+◌, ◌-◌, ◌<◌, ◌≤◌, ◌++◌, not, ◌&&◌, ◌||◌, eqb, take, drop, get_or, slice_range, sym, ap, ◌∙◌, add-zero, arith, All, inl, inr, append-nil, append_assoc, if◌then◌else◌, map, Option, Some, None, flat_map, ap₂}
+-- Segments, a body taken apart at a separator, the components read off its pieces, and what a clean text begins with.
+use Rattle.std.proofs.Common.{◌≡◌, ℕ, ◌==◌, Bool, true, false, cond, List, [], ◌∷◌, length, refl, eqb-true, ◌+◌, ◌-◌, ◌<◌, ◌≤◌, ◌++◌, not, ◌&&◌, ◌||◌, eqb, take, drop, get_or, slice_range, sym, ap, ◌∙◌, add-zero, arith, All, inl, inr, append-nil, append_assoc, if◌then◌else◌, map, Option, Some, None, flat_map, ap₂, drop-drop, take_all, length-take-le, length-take, length-drop}
 use Rattle.std.specs.List.{slice_split, before_first, after_first, position_or_len, onto_first, AllByRecursion}
-use Rattle.std.proofs.lemmas.List.{drop-drop, drop-take, drop_more, drop_all, take_all, length-take-le, length-take, length-drop, take-append-le, map-append}
+use Rattle.std.proofs.lemmas.List.{drop-take, drop_more, drop_all, take-append-le, map-append}
 use Rattle.std.proofs.lemmas.List.Splits.{slice_split-cons_yes, slice_split_none, slice_split_first}
 use Rattle.std.proofs.lemmas.List.Sums.{prefix_len_passes, prefix_len_stops, prefix_len-le-length}
 use Rattle.std.proofs.lemmas.Bool.{cases_lt, not-true, not-false, not_from_true, cond_both}
@@ -10,12 +10,8 @@ use Rattle.std.specs.Prelude.{⊤}
 use Rattle.typed_path.specs.declared.scan.separators.Separators.{Separators}
 use Rattle.typed_path.specs.declared.scan.cursor.Begin.{Begin}
 use Rattle.typed_path.specs.declared.scan.cursor.Begin.TheVariants.{Body, Inside}
-use Rattle.typed_path.specs.components.Dialect.{is_verbatim, root_text, is_separator, dot}
-use Rattle.typed_path.specs.components.Part.{Placed, current_part, parent_part, name_part, root_part, Part, Kind, prefix, root, current, parent, normal, parts, kinds, texts, prefix_part}
-use Rattle.typed_path.specs.components.Comps.{Segment, component, later, first, is_dot, is_dot_dot, placed, segments, later_body, body_of, named, body, comps_behind}
-use Rattle.typed_path.specs.scan.Steps.{body_from, is_clean, counts}
-use Rattle.typed_path.specs.scan.Left.{slice_after_front}
-use Rattle.typed_path.specs.components.Prefix.{Found}
+use Rattle.typed_path.specs.components.{is_verbatim, root_text, is_separator, dot, Placed, current_part, parent_part, name_part, root_part, Part, Kind, prefix, root, current, parent, normal, parts, kinds, texts, prefix_part, Segment, component, later, first, is_dot, is_dot_dot, placed, segments, later_body, body_of, named, body, comps_behind, Found}
+use Rattle.typed_path.specs.scan.{body_from, is_clean, counts, slice_after_front}
 use Rattle.typed_path.proofs.lemmas.lists.Lists.{slice_split-some, slice_split-append, choice, IsUnseparated, slice_split-unseparated, AllByRecursion-append, AllByRecursion-weaker, map-through}
 
 -- What a segment is, and what is made of it as a later one and as the first one.

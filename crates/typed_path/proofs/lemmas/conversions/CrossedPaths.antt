@@ -1,28 +1,23 @@
 -- What a path is read as once it is converted, and what comes back.
-use Rattle.std.proofs.Common.{◌≡◌, ℕ, ◌-◌, ◌==◌, ◌||◌, Bool, true, false, if◌then◌else◌, List, [], ◌∷◌, ◌++◌, map, length, slice_index, None, Ok, refl, sym, ap, ap₂, ◌∙◌, subst, append_assoc, append-nil, ne_eqb, true≢false, arith, take, drop, Option, Some, inl, inr}
+use Rattle.std.proofs.Common.{◌≡◌, ℕ, ◌-◌, ◌==◌, ◌||◌, Bool, true, false, if◌then◌else◌, List, [], ◌∷◌, ◌++◌, map, length, slice_index, None, Ok, refl, sym, ap, ap₂, ◌∙◌, subst, append_assoc, append-nil, ne_eqb, true≢false, arith, take, drop, Option, Some, inl, inr, eqb-true, length-append}
 use Rattle.std.specs.List.{AllByRecursion, list_any}
-use Rattle.std.proofs.lemmas.Bool.{and_parts, cond-false, false_from_ne_true, and_left, both_ways, cases_Bool, eqb-true, not-true}
-use Rattle.std.proofs.lemmas.List.{length-append}
+use Rattle.std.proofs.lemmas.Bool.{and_parts, cond-false, false_from_ne_true, and_left, both_ways, cases_Bool, not-true}
 use Rattle.std.proofs.lemmas.List.Elements.{All-head, All-nil, All-cons, filter-append}
 use Rattle.std.proofs.Math.Bool.{or-false}
 use Rattle.typed_path.specs.declared.scan.separators.Separators.TheVariants.{Slash, Either}
 use Rattle.typed_path.specs.declared.scan.separators.Separators.{Separators}
-use Rattle.typed_path.specs.components.Dialect.{unix, windows, backslash, dot, is_separator, slash, root_of, separators}
-use Rattle.typed_path.specs.components.Part.{Kind, prefix, root, current, parent, normal, Part, kinds, texts, parent_part, name_part, root_part, Prefix, disk, prefix_part, is_name, is_parent}
-use Rattle.typed_path.specs.components.Prefix.{prefix_of, Found, is_drive_letter, drive}
-use Rattle.typed_path.specs.components.Comps.{parts_of}
-use Rattle.typed_path.specs.components.Written.{written_windows}
-use Rattle.typed_path.specs.queries.Queries.{begins_with_root, has_prefix, have_allowed_bytes, is_disk, is_root}
-use Rattle.typed_path.specs.changes.Push.{is_disk_alone, ended_with, push_windows, push_all, push_unix}
-use Rattle.typed_path.specs.conversions.Convert.{crossed, crossed_all, converted_checked}
-use Rattle.typed_path.specs.promises.Crossings.{lack_backslash, CrossesAsItIs, parents_and_names, on_unix, CrossesToUnix, CrossesBack}
+use Rattle.typed_path.specs.components.{unix, windows, backslash, dot, is_separator, slash, root_of, separators, Kind, prefix, root, current, parent, normal, Part, kinds, texts, parent_part, name_part, root_part, Prefix, disk, prefix_part, is_name, is_parent, prefix_of, Found, is_drive_letter, drive, parts_of, written_windows}
+use Rattle.typed_path.specs.queries.{begins_with_root, has_prefix, have_allowed_bytes, is_disk, is_root}
+use Rattle.typed_path.specs.changes.{is_disk_alone, ended_with, push_windows, push_all, push_unix}
+use Rattle.typed_path.specs.conversions.{crossed, crossed_all, converted_checked}
+use Rattle.typed_path.specs.promises.{lack_backslash, CrossesAsItIs, parents_and_names, on_unix, CrossesToUnix, CrossesBack}
 use Rattle.typed_path.proofs.lemmas.components.Segments.{pieces, later_parts, body_parts, body_parts-read, IsWritten, IsLater, IsLaterPart, AreRead, IsCleanName, IsWritten-later}
-use Rattle.typed_path.proofs.lemmas.components.PlainNames.{IsPlain, unseparated-none, plain-no_prefix, rooted-none, plain-read, a_name, ended_with-append, ended-spelled, plain-clean, allowed-plain}
+use Rattle.typed_path.proofs.lemmas.components.WindowsNames.{IsPlain, unseparated-none, plain-no_prefix, rooted-none, plain-read, a_name, ended_with-append, ended-spelled, plain-clean, allowed-plain}
 use Rattle.typed_path.proofs.lemmas.components.FirmPrefixes.{nothing, parted, drive-letter}
-use Rattle.typed_path.proofs.lemmas.changes.JoinLemmas.{later_parts-name, body_parts-name, body_parts-ended}
-use Rattle.typed_path.proofs.lemmas.changes.FaultLemmas.{parts_of-none, parts_of-some}
-use Rattle.typed_path.proofs.lemmas.changes.PushLemmas.{push-relative}
-use Rattle.typed_path.proofs.lemmas.conversions.CrossedLemmas.{crossed-plain, valid-allowed, converted_checked-ok}
+use Rattle.typed_path.proofs.lemmas.changes.Joins.{later_parts-name, body_parts-name, body_parts-ended}
+use Rattle.typed_path.proofs.lemmas.changes.Faults.{parts_of-none, parts_of-some}
+use Rattle.typed_path.proofs.lemmas.changes.WindowsPushes.{push-relative}
+use Rattle.typed_path.proofs.lemmas.conversions.Crossings.{crossed-plain, valid-allowed, converted_checked-ok}
 use Rattle.typed_path.proofs.lemmas.promises.WindowsBases.{read-no_drive}
 use Rattle.typed_path.proofs.lemmas.promises.WindowsContained.{verbatim-none}
 use Rattle.typed_path.proofs.lemmas.promises.WindowsStable.{push-first}

@@ -1,11 +1,11 @@
 -- Lists: what a split gives, and a list cut at an element that passes a test.
-use Rattle.std.proofs.Common.{◌≡◌, ℕ, ◌+◌, Bool, true, false, cond, List, [], ◌∷◌, ◌++◌, map, All, flat_map, sum_by, fold, refl, sym, ap₂, ◌<◌, ◌≤◌, ◌==◌, suc, not, ◌||◌, length, take, drop, ap, ◌∙◌, arith, ◌-◌, inl, inr, length-append, get_or, reverse, zero, zero-le}
+use Rattle.std.proofs.Common.{◌≡◌, ℕ, ◌+◌, Bool, true, false, cond, List, [], ◌∷◌, ◌++◌, map, All, flat_map, sum_by, fold, refl, sym, ap₂, ◌<◌, ◌≤◌, ◌==◌, suc, not, ◌||◌, length, take, drop, ap, ◌∙◌, arith, ◌-◌, inl, inr, length-append, get_or, reverse, zero, zero-le, get_or-take, length-take-le, length-drop, get_or-drop, take-append-drop, take_all, eq-eqb, eqb-true, ne_eqb}
 use Rattle.std.specs.List.{slice_split, onto_first, AllByRecursion, position_or_len, list_any, IsAfterLastMatch, after_last, suffix_len}
 use Rattle.std.proofs.lemmas.List.Elements.{All-nil, All-cons}
 use Rattle.std.proofs.lemmas.List.Splits.{slice_split-cons_yes, slice_split_none, slice_split_first, slice_split-cons_no}
-use Rattle.std.proofs.lemmas.List.{get_or-take, length-take-le, length-reverse, length-drop, get_or-reverse, get_or-drop, drop_more, take_more, take-append-drop, take_all, drop_all}
+use Rattle.std.proofs.lemmas.List.{length-reverse, get_or-reverse, drop_more, take_more, drop_all}
 use Rattle.std.proofs.lemmas.List.Sums.{fails_before_first, prefix_len_passes, prefix_len_stops, suffix_len_is, suffix_len-le-length}
-use Rattle.std.proofs.lemmas.Bool.{eq-eqb, eqb-true, eqb-false, ne_eqb, not-true, not-false, both_ways, cases_lt, not_from_true, not_from_false, cases_Bool}
+use Rattle.std.proofs.lemmas.Bool.{eqb-false, not-true, not-false, both_ways, cases_lt, not_from_true, not_from_false, cases_Bool}
 use Rattle.std.proofs.Math.Seq.{get_or-append-add}
 
 -- Lists: what a split gives, and what a function of each element sees.

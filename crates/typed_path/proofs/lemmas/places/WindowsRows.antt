@@ -6,24 +6,20 @@ use Rattle.std.proofs.lemmas.List.{nil_from_length}
 use Rattle.std.proofs.lemmas.List.Splits.{slice_split-cons_yes}
 use Rattle.typed_path.specs.declared.scan.separators.Separators.{Separators}
 use Rattle.typed_path.specs.declared.scan.separators.Separators.TheVariants.{Slash, Backslash, Either}
-use Rattle.typed_path.specs.components.Dialect.{windows, backslash, separators, is_separator, is_verbatim}
-use Rattle.typed_path.specs.components.Part.{disk, Part, name_part, root_part, prefix_part}
-use Rattle.typed_path.specs.components.Prefix.{Found, found, drive, prefix_of}
-use Rattle.typed_path.specs.components.Comps.{parts_of}
-use Rattle.typed_path.specs.queries.Queries.{is_disk}
-use Rattle.typed_path.specs.changes.Push.{push_windows, push_all, spelled}
-use Rattle.typed_path.specs.places.Places.{normal_text}
-use Rattle.typed_path.specs.places.Rows.{rows_of, settled, names_left_of, HaveNoDrives, ArePlainRows, IsNormal, IsRowHead, IsPartedEither}
-use Rattle.typed_path.specs.promises.Promises.{is_verbatim_unc_name}
+use Rattle.typed_path.specs.components.{windows, backslash, separators, is_separator, is_verbatim, disk, Part, name_part, root_part, prefix_part, Found, found, drive, prefix_of, parts_of}
+use Rattle.typed_path.specs.queries.{is_disk}
+use Rattle.typed_path.specs.changes.{push_windows, push_all, spelled}
+use Rattle.typed_path.specs.places.{normal_text, rows_of, settled, names_left_of, HaveNoDisks, ArePlainRows, IsNormal, IsRowHead, IsPartedEither}
+use Rattle.typed_path.specs.promises.{is_verbatim_unc_name}
 use Rattle.typed_path.proofs.lemmas.lists.Lists.{slice_split-unseparated}
 use Rattle.typed_path.proofs.lemmas.components.Prefixes.{OfWindows, root_text-windows, separators-windows, drive-size, Read, of_disk, prefix-read}
 use Rattle.typed_path.proofs.lemmas.components.Segments.{pieces, first_parts, later_parts, body_parts, IsCleanName}
-use Rattle.typed_path.proofs.lemmas.components.WrittenLemmas.{heads_first-parts_of}
-use Rattle.typed_path.proofs.lemmas.components.PlainNames.{IsPlain, IsHead, a_root, a_name, Settled, push_all-settled}
+use Rattle.typed_path.proofs.lemmas.components.WrittenForms.{heads_first-parts_of}
+use Rattle.typed_path.proofs.lemmas.components.WindowsNames.{IsPlain, IsHead, a_root, a_name, Settled, push_all-settled}
 use Rattle.typed_path.proofs.lemmas.components.PartedPrefixes.{raw-whole}
-use Rattle.typed_path.proofs.lemmas.changes.FaultLemmas.{parts_of-none, parts_of-some}
-use Rattle.typed_path.proofs.lemmas.places.ResolveLemmas.{Comes, comes-head}
-use Rattle.typed_path.proofs.lemmas.places.RowLemmas.{comes-left, comes-unrooted, left-clean, rowed-alone, rowed-named}
+use Rattle.typed_path.proofs.lemmas.changes.Faults.{parts_of-none, parts_of-some}
+use Rattle.typed_path.proofs.lemmas.places.Resolving.{Comes, comes-head}
+use Rattle.typed_path.proofs.lemmas.places.UnixRows.{comes-left, comes-unrooted, left-clean, rowed-alone, rowed-named}
 use Rattle.typed_path.proofs.lemmas.promises.WindowsStable.{drive-plain, settled-none, settled-drive, settled-parted, push-first, drive-raw, prefix-alone, push-root, push-drive}
 
 -- names spelled, with a separator behind them, are their rows
@@ -34,12 +30,12 @@ spelled-rows name (own ∷ names) =
     ∙ ap (λ t. (name ++ backslash ∷ []) ++ t) (spelled-rows own names)
 
 -- clean names without drives are plain
-plain-each : (names : List (List ℕ)) → AllByRecursion (IsCleanName Either) names → HaveNoDrives names → AllByRecursion IsPlain names
+plain-each : (names : List (List ℕ)) → AllByRecursion (IsCleanName Either) names → HaveNoDisks names → AllByRecursion IsPlain names
 plain-each [] clean drives = tt
 plain-each (name ∷ names) clean drives = (record { clean = clean.0; no_drive = drives.0 }, plain-each names clean.1 drives.1)
 
 -- so are the names that are left of a text, where they have none
-left-plain : (rest : List ℕ) → HaveNoDrives (names_left_of Either rest) → AllByRecursion IsPlain (names_left_of Either rest)
+left-plain : (rest : List ℕ) → HaveNoDisks (names_left_of Either rest) → AllByRecursion IsPlain (names_left_of Either rest)
 left-plain rest drives = plain-each (names_left_of Either rest) (left-clean Either (pieces Either rest) [] (slice_split-unseparated (is_separator Either) rest) tt) drives
 
 -- names pushed behind a root are their rows

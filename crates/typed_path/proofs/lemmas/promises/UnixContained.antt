@@ -8,21 +8,16 @@ use Rattle.std.proofs.lemmas.Bool.{cases_lt, cond_both}
 use Rattle.std.proofs.lemmas.Slice.Eq.{starts_is, bytes_eq-Decides}
 use Rattle.typed_path.specs.declared.errors.CheckedPathError.TheVariants.{InvalidFilename}
 use Rattle.typed_path.specs.declared.scan.separators.Separators.TheVariants.{Slash}
-use Rattle.typed_path.specs.components.Dialect.{Dialect, unix, slash, is_separator}
-use Rattle.typed_path.specs.components.Part.{Kind, prefix, root, current, parent, normal, Part, kinds, texts, name_part, current_part, parent_part, root_part, parts}
-use Rattle.typed_path.specs.components.Comps.{parts_of, is_dot, is_dot_dot, comps}
-use Rattle.typed_path.specs.queries.Queries.{is_valid_name, begins_with_root, path_starts_with}
-use Rattle.typed_path.specs.changes.Fault.{fault, fault_at}
-use Rattle.typed_path.specs.places.Places.{overdraws, resolve, place, stays, normal_text, with_implied_root}
-use Rattle.typed_path.specs.promises.Promises.{keeps_prefix, HasPrefixOf, LiesWithin, ReadsAsResolved, StaysNormal, IsCanonical, IsCanonicalForm}
-use Rattle.typed_path.specs.promises.Below.{IsBelow}
-use Rattle.typed_path.specs.changes.Push.{ended_with, push_unix, push_all}
-use Rattle.typed_path.specs.promises.Joins.{without_leading_current, JoinAppends, StripJoins}
-use Rattle.typed_path.specs.scan.Left.{left, start_at}
-use Rattle.typed_path.proofs.lemmas.changes.FaultLemmas.{fault_behind-at, fault_at-overdraws, fault_at-relative}
+use Rattle.typed_path.specs.components.{Dialect, unix, slash, is_separator, Kind, prefix, root, current, parent, normal, Part, kinds, texts, name_part, current_part, parent_part, root_part, parts, parts_of, is_dot, is_dot_dot, comps}
+use Rattle.typed_path.specs.queries.{is_valid_name, begins_with_root, path_starts_with}
+use Rattle.typed_path.specs.changes.{fault, fault_at, ended_with, push_unix, push_all}
+use Rattle.typed_path.specs.places.{overdraws, resolve, place, stays, normal_text, with_implied_root}
+use Rattle.typed_path.specs.promises.{keeps_prefix, HasPrefixOf, LiesWithin, ReadsAsResolved, StaysNormal, IsCanonical, IsCanonicalForm, IsBelow, without_leading_current, JoinAppends, StripJoins}
+use Rattle.typed_path.specs.scan.{left, start_at}
+use Rattle.typed_path.proofs.lemmas.changes.Faults.{fault_behind-at, fault_at-overdraws, fault_at-relative}
 use Rattle.typed_path.proofs.lemmas.components.Segments.{body_parts, parts-body, body_parts-read, IsCleanName, IsLaterPart, IsWritten, IsLater, AreRead, text_by_kind, texts-read, pieces, first_parts, later_parts, parts-later_body, IsWrittenPart, each-written}
-use Rattle.typed_path.proofs.lemmas.changes.JoinLemmas.{later_parts-name, body_parts-name, body_parts-ended}
-use Rattle.typed_path.proofs.lemmas.places.ResolveLemmas.{IsKept, resolve-kept, resolve-read, resolve-resolve, resolve-append, overdraws-without_leading_current, resolve-without_leading_current}
+use Rattle.typed_path.proofs.lemmas.changes.Joins.{later_parts-name, body_parts-name, body_parts-ended}
+use Rattle.typed_path.proofs.lemmas.places.Resolving.{IsKept, resolve-kept, resolve-read, resolve-resolve, resolve-append, overdraws-without_leading_current, resolve-without_leading_current}
 use Rattle.typed_path.proofs.lemmas.lists.Lists.{map-through, AllByRecursion-weaker}
 use Rattle.typed_path.proofs.lemmas.scan.Readings.{left-taken, left-all, left-front}
 use Rattle.typed_path.proofs.lemmas.components.Cuts.{body-filled, tail}

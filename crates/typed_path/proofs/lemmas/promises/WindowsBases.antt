@@ -1,27 +1,23 @@
 -- Where a base of Windows leads with a faultless path behind it.
-use Rattle.std.proofs.Common.{◌≡◌, ℕ, zero, suc, ◌+◌, ◌<◌, ◌≤◌, true, false, ◌⊎◌, inl, inr, List, [], ◌∷◌, ◌++◌, length, take, drop, refl, sym, ap, ◌∙◌, subst, append_assoc, arith, length-drop, ne_eqb, not, ◌&&◌, Bool, if◌then◌else◌, ap₂, append-nil}
-use Rattle.std.specs.Prelude.{Some, None}
+use Rattle.std.proofs.Common.{◌≡◌, ℕ, zero, suc, ◌+◌, ◌<◌, ◌≤◌, true, false, ◌⊎◌, inl, inr, List, [], ◌∷◌, ◌++◌, length, take, drop, refl, sym, ap, ◌∙◌, subst, append_assoc, arith, length-drop, ne_eqb, not, ◌&&◌, Bool, if◌then◌else◌, ap₂, append-nil, Some, None, length-append, length-take-le}
 use Rattle.std.proofs.Math.Seq.{drop-append-add, drop-append_seam, take-append_seam}
 use Rattle.std.proofs.lemmas.Bool.{both_ways, cases_lt, false_from_ne_true, and_parts}
-use Rattle.std.proofs.lemmas.List.{length-append, drop-append-le, drop_all, length-take-le}
+use Rattle.std.proofs.lemmas.List.{drop-append-le, drop_all}
 use Rattle.std.proofs.lemmas.List.Splits.{slice_split-cons_yes}
 use Rattle.std.specs.List.{AllByRecursion}
 use Rattle.typed_path.specs.declared.scan.separators.Separators.{Separators}
 use Rattle.typed_path.specs.declared.scan.separators.Separators.TheVariants.{Either, Backslash}
-use Rattle.typed_path.specs.components.Dialect.{windows, backslash, question, separators, begins_verbatim, is_separator, root_text}
-use Rattle.typed_path.specs.components.Part.{Prefix, disk, Kind, prefix, Part, kinds, prefix_part, root, normal}
-use Rattle.typed_path.specs.components.Prefix.{Found, prefix_of}
-use Rattle.typed_path.specs.components.Comps.{parts_of}
-use Rattle.typed_path.specs.queries.Queries.{is_disk, is_verbatim_prefix, begins_with_root}
-use Rattle.typed_path.specs.changes.Push.{is_disk_alone, joint, spelled, merged}
-use Rattle.typed_path.specs.places.Places.{resolve, with_implied_root}
+use Rattle.typed_path.specs.components.{windows, backslash, question, separators, begins_verbatim, is_separator, root_text, Prefix, disk, Kind, prefix, Part, kinds, prefix_part, root, normal, Found, prefix_of, parts_of}
+use Rattle.typed_path.specs.queries.{is_disk, is_verbatim_prefix, begins_with_root}
+use Rattle.typed_path.specs.changes.{is_disk_alone, joint, spelled, merged}
+use Rattle.typed_path.specs.places.{resolve, with_implied_root}
 use Rattle.typed_path.proofs.lemmas.lists.Lists.{slice_split-some, AllByRecursion-append}
 use Rattle.typed_path.proofs.lemmas.components.Prefixes.{OfWindows, backslash-separates, prefix-fits, separators-windows, root_text-windows, unseparated-either}
 use Rattle.typed_path.proofs.lemmas.components.Segments.{pieces, first_parts, later_parts, body_parts, body_parts-read, AreRead, IsWritten, parts_behind, each-written, IsWrittenPart, IsLater, IsLaterPart}
 use Rattle.typed_path.proofs.lemmas.components.PrefixCuts.{IsSize, prefix-size, IsGrown, same-sizes, plain-kind, verbatim_text, verbatim-size, verbatim-take}
-use Rattle.typed_path.proofs.lemmas.places.ResolveLemmas.{no_heads, is_head, IsKept, AreRead-later, resolve-kept, resolve-read, resolve-resolve, overdraws-kept}
-use Rattle.typed_path.proofs.lemmas.changes.FaultLemmas.{place_of, place_of-append, place_of-rooted, IsFaultless, no_heads-relative, no_heads-resolve, body_parts-alike, parts_of-none, parts_of-some}
-use Rattle.typed_path.proofs.lemmas.changes.JoinLemmas.{body_parts-more, body_parts-behind, Ending, empty, ended, drive_alone, parted, merged-resolve, joint-relative, later-relative, body_parts-spelled}
+use Rattle.typed_path.proofs.lemmas.places.Resolving.{no_heads, is_head, IsKept, AreRead-later, resolve-kept, resolve-read, resolve-resolve, overdraws-kept}
+use Rattle.typed_path.proofs.lemmas.changes.Faults.{place_of, place_of-append, place_of-rooted, IsFaultless, no_heads-relative, no_heads-resolve, body_parts-alike, parts_of-none, parts_of-some}
+use Rattle.typed_path.proofs.lemmas.changes.Joins.{body_parts-more, body_parts-behind, Ending, empty, ended, drive_alone, parted, merged-resolve, joint-relative, later-relative, body_parts-spelled}
 
 -- Where a base of Windows leads with a faultless path behind it, under a prefix that is not verbatim and under none.
 

@@ -1,23 +1,19 @@
 -- A checked push on Windows stays within its base, and the bases that keep their prefix.
-use Rattle.std.proofs.Common.{◌≡◌, ℕ, ◌<◌, true, false, if◌then◌else◌, List, [], ◌∷◌, ◌++◌, length, take, refl, sym, ap, ap₂, ◌∙◌, subst, append-nil, append_assoc, arith, ◌==◌, ◌&&◌, inl, inr, drop, Option, Some, None, option_and_then, take-append-drop, length-append, length-drop, ◌+◌, ◌⊎◌, ne_eqb, option_map}
-use Rattle.std.proofs.lemmas.Bool.{cond_both, both_ways, false_from_ne_true, cases_Bool, and_parts, cond-true, cond-false, and_left, and_right, or_cases, eqb-true, true_from_ne_false}
+use Rattle.std.proofs.Common.{◌≡◌, ℕ, ◌<◌, true, false, if◌then◌else◌, List, [], ◌∷◌, ◌++◌, length, take, refl, sym, ap, ap₂, ◌∙◌, subst, append-nil, append_assoc, arith, ◌==◌, ◌&&◌, inl, inr, drop, Option, Some, None, option_and_then, take-append-drop, length-append, length-drop, ◌+◌, ◌⊎◌, ne_eqb, option_map, eqb-true}
+use Rattle.std.proofs.lemmas.Bool.{cond_both, both_ways, false_from_ne_true, cases_Bool, and_parts, cond-true, cond-false, and_left, and_right, or_cases, true_from_ne_false}
 use Rattle.std.specs.Option.{option_or}
 use Rattle.std.proofs.lemmas.List.{same_from_push}
 use Rattle.typed_path.specs.declared.scan.separators.Separators.TheVariants.{Backslash, Either}
 use Rattle.typed_path.specs.declared.scan.separators.Separators.{Separators}
-use Rattle.typed_path.specs.components.Dialect.{windows, begins_verbatim, separators, slash, backslash, colon, is_separator}
-use Rattle.typed_path.specs.components.Part.{Prefix, Kind, prefix, Part, kinds, unc, disk, verbatim, verbatim_unc, verbatim_disk, device_ns}
-use Rattle.typed_path.specs.components.Prefix.{Found, prefix_of, found, is_empty, is_drive_letter, to_upper, drive, name, verbatim_unc_case, verbatim_disk_case, verbatim_case, device_case, unc_case, disk_case}
-use Rattle.typed_path.specs.components.Comps.{parts_of}
-use Rattle.typed_path.specs.queries.Queries.{is_verbatim_prefix, has_any_verbatim_prefix, is_disk}
-use Rattle.typed_path.specs.changes.Push.{push_windows, spelled, merged, ended_windows, is_disk_alone}
-use Rattle.typed_path.specs.places.Places.{resolve, place}
-use Rattle.typed_path.specs.changes.Fault.{fault}
-use Rattle.typed_path.specs.promises.Promises.{prefix_kind, LiesWithin, keeps_by_prefix, HasPrefixOf}
+use Rattle.typed_path.specs.components.{windows, begins_verbatim, separators, slash, backslash, colon, is_separator, Prefix, Kind, prefix, Part, kinds, unc, disk, verbatim, verbatim_unc, verbatim_disk, device_ns, Found, prefix_of, found, is_empty, is_drive_letter, to_upper, drive, name, verbatim_unc_case, verbatim_disk_case, verbatim_case, device_case, unc_case, disk_case, parts_of}
+use Rattle.typed_path.specs.queries.{is_verbatim_prefix, has_any_verbatim_prefix, is_disk}
+use Rattle.typed_path.specs.changes.{push_windows, spelled, merged, ended_windows, is_disk_alone, fault}
+use Rattle.typed_path.specs.places.{resolve, place}
+use Rattle.typed_path.specs.promises.{prefix_kind, LiesWithin, keeps_by_prefix, HasPrefixOf}
 use Rattle.typed_path.proofs.lemmas.components.Segments.{body_parts, body_parts-read, AreRead, IsWritten, parts_behind, first_part, later_parts}
 use Rattle.typed_path.proofs.lemmas.components.PrefixCuts.{verbatim_text, unless-none, name-filled, or-none}
-use Rattle.typed_path.proofs.lemmas.changes.FaultLemmas.{place_of, IsFaultless, faultless, parts_of-none, parts_of-some, push-faultless, no_heads-relative, body_parts-relative}
-use Rattle.typed_path.proofs.lemmas.changes.JoinLemmas.{Ending, ending, empty, ended, drive_alone, parted as put, spelled-filled}
+use Rattle.typed_path.proofs.lemmas.changes.Faults.{place_of, IsFaultless, faultless, parts_of-none, parts_of-some, push-faultless, no_heads-relative, body_parts-relative}
+use Rattle.typed_path.proofs.lemmas.changes.Joins.{Ending, ending, empty, ended, drive_alone, parted as put, spelled-filled}
 use Rattle.typed_path.proofs.lemmas.promises.WindowsBases.{none-place, plain-joined, found-place, spelled-rest, separators-spelled, spelled-place, Rest, from_root, from_other, read-no_drive, disk_alone-disk, rest-separated, verbatim-no_drive, merged-read}
 use Rattle.typed_path.proofs.lemmas.components.Prefixes.{FoundFits, prefix-fits, prefix-read, separators-windows, backslash-separates, Read, of_disk}
 use Rattle.typed_path.proofs.lemmas.components.FirmPrefixes.{Apart, nothing, parted, share_made, is_firm, firm-long, firm-stays, prefix-apart, three_separators, nothing as bare, filled-long, drive-stays}

@@ -6,22 +6,19 @@ use Rattle.std.proofs.lemmas.List.Elements.{All-head}
 use Rattle.std.proofs.lemmas.List.{drop_all}
 use Rattle.typed_path.specs.declared.scan.separators.Separators.{Separators}
 use Rattle.typed_path.specs.declared.scan.separators.Separators.TheVariants.{Backslash, Either}
-use Rattle.typed_path.specs.components.Dialect.{windows, backslash, separators, begins_verbatim, is_separator, Dialect, unix}
-use Rattle.typed_path.specs.components.Part.{Part, kinds, texts, name_part, disk, root_part, verbatim, verbatim_disk, prefix_part}
-use Rattle.typed_path.specs.components.Prefix.{Found, found, drive, prefix_of}
-use Rattle.typed_path.specs.components.Comps.{parts_of}
-use Rattle.typed_path.specs.queries.Queries.{begins_with_root, has_prefix, is_disk, is_verbatim_prefix, has_any_verbatim_prefix, have_allowed_bytes}
-use Rattle.typed_path.specs.changes.Push.{push_all, push_windows, spelled, is_disk_alone, ended_with, ended_windows, merged, raw_prefix, raw_length}
-use Rattle.typed_path.specs.places.Places.{normal_text, resolve, with_implied_root}
-use Rattle.typed_path.specs.promises.Promises.{with_drive_root, IsStableForm, is_verbatim_unc_name, StaysStable, HasNormalForm}
-use Rattle.typed_path.proofs.lemmas.places.ResolveLemmas.{texts-names, resolve-kept, resolve-same, with_drive_root-kept, with_drive_root-place, resolve-read, with_drive_root-rooted}
-use Rattle.typed_path.proofs.lemmas.components.PlainNames.{IsPlain, Settled, prefix_parts, text_of, settled-read, push_all-settled, plain-no_prefix, rooted-none, IsHead, a_root, a_name, Resolved, unrooted, rooted, resolved, allowed-resolve, push-plain}
+use Rattle.typed_path.specs.components.{windows, backslash, separators, begins_verbatim, is_separator, Dialect, unix, Part, kinds, texts, name_part, disk, root_part, verbatim, verbatim_disk, prefix_part, Found, found, drive, prefix_of, parts_of}
+use Rattle.typed_path.specs.queries.{begins_with_root, has_prefix, is_disk, is_verbatim_prefix, has_any_verbatim_prefix, have_allowed_bytes}
+use Rattle.typed_path.specs.changes.{push_all, push_windows, spelled, is_disk_alone, ended_with, ended_windows, merged, raw_prefix, raw_length}
+use Rattle.typed_path.specs.places.{normal_text, resolve, with_implied_root}
+use Rattle.typed_path.specs.promises.{with_drive_root, IsStableForm, is_verbatim_unc_name, StaysStable, HasNormalForm}
+use Rattle.typed_path.proofs.lemmas.places.Resolving.{texts-names, resolve-kept, resolve-same, with_drive_root-kept, with_drive_root-place, resolve-read, with_drive_root-rooted}
+use Rattle.typed_path.proofs.lemmas.components.WindowsNames.{IsPlain, Settled, prefix_parts, text_of, settled-read, push_all-settled, plain-no_prefix, rooted-none, IsHead, a_root, a_name, Resolved, unrooted, rooted, resolved, allowed-resolve, push-plain}
 use Rattle.typed_path.proofs.lemmas.components.Prefixes.{OfWindows, separators-windows, backslash-separates, drive-size, some_is, drive-take, prefix-fits, Read, of_disk, prefix-read}
 use Rattle.typed_path.proofs.lemmas.components.PrefixCuts.{verbatim_text, plain-none}
 use Rattle.typed_path.proofs.lemmas.components.FirmPrefixes.{Apart, nothing, parted, drive-extends, drive-stays}
 use Rattle.typed_path.proofs.lemmas.components.PartedPrefixes.{parted-stays, root-behind, raw-whole}
 use Rattle.typed_path.proofs.lemmas.components.Segments.{body_parts, body_parts-read}
-use Rattle.typed_path.proofs.lemmas.changes.FaultLemmas.{parts_of-none, parts_of-some}
+use Rattle.typed_path.proofs.lemmas.changes.Faults.{parts_of-none, parts_of-some}
 use Rattle.typed_path.proofs.lemmas.promises.UnixContained.{canonical_form}
 
 -- Lists whose texts, pushed one by one onto the empty text of Windows, are read as the list again.

@@ -1,28 +1,21 @@
 -- The beginning and the end of a path compared with another, and a base taken off.
-use Rattle.std.proofs.Common.{◌≡◌, ℕ, zero, suc, ◌+◌, ◌<◌, ◌≤◌, List, [], ◌∷◌, Bool, true, false, ◌&&◌, cond, length, drop, replicate, refl, sym, ap, ◌∙◌, arith, ◌-◌, ◌++◌, if◌then◌else◌, take, append_assoc, length-take}
-use Rattle.std.specs.Prelude.{Some, None, Option}
+use Rattle.std.proofs.Common.{◌≡◌, ℕ, zero, suc, ◌+◌, ◌<◌, ◌≤◌, List, [], ◌∷◌, Bool, true, false, ◌&&◌, cond, length, drop, replicate, refl, sym, ap, ◌∙◌, arith, ◌-◌, ◌++◌, take, append_assoc, length-take, Some, None, Option, drop-drop, length-drop, length-append}
 use Rattle.std.specs.List.{starts_with, ends_with}
 use Rattle.std.specs.Str.{bytes_eq}
-use Rattle.std.proofs.lemmas.List.{drop-drop, length-drop, map-append, length-append, drop-append-le, drop_all, length-map}
+use Rattle.std.proofs.lemmas.List.{map-append, drop-append-le, drop_all, length-map}
 use Rattle.std.proofs.lemmas.Option.{same_Some}
 use Rattle.std.proofs.Math.Bool.{and-false, and-true, and_assoc}
 use lib.Pointwise.{pointwise}
 use Rattle.std.proofs.lemmas.Slice.Eq.{starts_is, bytes_eq-Decides}
 use Rattle.typed_path.specs.declared.scan.separators.Separators.{Separators}
-use Rattle.typed_path.specs.declared.scan.separators.Separators.TheVariants.{Backslash, Either}
 use Rattle.typed_path.specs.declared.scan.cursor.Begin.TheVariants.{Body, Inside}
-use Rattle.typed_path.specs.components.Dialect.{Dialect, windows, separators, is_separator, is_verbatim, begins_verbatim}
-use Rattle.typed_path.specs.components.Part.{Part, Placed, parts, texts, prefix_part}
-use Rattle.typed_path.specs.scan.Steps.{first_part, last_part, is_clean}
-use Rattle.typed_path.specs.components.Comps.{comps, comps_behind, component, body, later_body}
-use Rattle.typed_path.specs.scan.Left.{front, left, slice_after_front, but_last, start_at}
-use Rattle.typed_path.specs.scan.Reading.{slice_after, fronts, backs}
-use Rattle.typed_path.specs.queries.Queries.{path_starts_with, stripped}
-use Rattle.typed_path.specs.changes.Push.{raw_length}
-use Rattle.typed_path.specs.components.Prefix.{Found, prefix_of}
+use Rattle.typed_path.specs.components.{Dialect, windows, separators, is_separator, Part, Placed, parts, texts, prefix_part, comps, comps_behind, component, body, later_body, Found, prefix_of}
+use Rattle.typed_path.specs.scan.{first_part, last_part, is_clean, front, left, slice_after_front, but_last, start_at, slice_after, fronts, backs}
+use Rattle.typed_path.specs.queries.{path_starts_with, stripped}
+use Rattle.typed_path.specs.changes.{raw_length}
 use Rattle.typed_path.proofs.lemmas.components.Cuts.{comps-laid_out, body-filled}
 use Rattle.typed_path.proofs.lemmas.scan.Readings.{stepwise_slices, left-taken, left-front}
-use Rattle.typed_path.proofs.lemmas.scan.StepLemmas.{last_pushed, last_part-push}
+use Rattle.typed_path.proofs.lemmas.scan.Steps.{last_pushed, last_part-push}
 use Rattle.typed_path.proofs.lemmas.components.Segments.{later_body-separator, body_from-starts, body_from-append, body_from-separator}
 use Rattle.typed_path.proofs.lemmas.components.Prefixes.{prefix-fits}
 
@@ -268,17 +261,7 @@ module _ (d : Dialect) (s : Separators) (t b : List ℕ) (n : ℕ) (cs : List Pl
       ∙ ap (λ m. Some (left (comps d t) t m 0)) size
       ∙ ap Some (rest_of (drop n t) refl)
 
--- two texts of Windows are separated alike where both are read verbatim, or neither
-pub same_separators : (t b : List ℕ) → is_verbatim (separators windows t) ≡ is_verbatim (separators windows b) → separators windows t ≡ separators windows b
-same_separators t b = by (begins_verbatim t) (begins_verbatim b)
-  where
-    by : (p q : Bool) → is_verbatim (if p then Backslash else Either) ≡ is_verbatim (if q then Backslash else Either) → (if p then Backslash else Either) ≡ (if q then Backslash else Either)
-    by true true e = refl
-    by false false e = refl
-    by true false e = cc
-    by false true e = cc
-
--- the same of two texts of Windows whose raw prefixes are one text, by what stands behind these
+-- what is left of a path behind a base is so of two texts of Windows whose raw prefixes are one text, by what stands behind these
 pub stripped-behind_prefix : (t b : List ℕ) (n : ℕ) → (o p : Option Found) → prefix_of windows t ≡ o → prefix_of windows b ≡ p
     → separators windows t ≡ separators windows b → take (raw_length o) t ≡ take (raw_length p) b → 0 < length (drop (raw_length p) b)
     → ((at : ℕ) → body (separators windows t) at (drop (raw_length o) t) ≡ body (separators windows t) at (drop (raw_length p) b) ++ later_body (separators windows t) (at + n) (drop n (drop (raw_length o) t)))

@@ -1,12 +1,11 @@
 -- A file name, its stem and its extension, and names with allowed bytes.
-use Rattle.std.proofs.Common.{◌≡◌, ℕ, ◌+◌, ◌-◌, ◌<◌, ◌≤◌, Bool, true, false, not, if◌then◌else◌, List, [], ◌∷◌, ◌++◌, length, reverse, drop, get_or, Some, None, All, ◌⊎◌, inl, inr, refl, sym, ap, ◌∙◌, append_assoc, arith, cond, take, Bor, ◌||◌, ◌==◌, subst, true≢false}
+use Rattle.std.proofs.Common.{◌≡◌, ℕ, ◌+◌, ◌-◌, ◌<◌, ◌≤◌, Bool, true, false, not, if◌then◌else◌, List, [], ◌∷◌, ◌++◌, length, reverse, drop, get_or, Some, None, All, ◌⊎◌, inl, inr, refl, sym, ap, ◌∙◌, append_assoc, arith, cond, take, Bor, ◌||◌, ◌==◌, subst, true≢false, eqb-true, get_or-drop, length-drop, length-take, take-append-drop, Result, Ok, Err, MatchResult, option_copied}
 use Rattle.std.specs.List.{list_any, before_last, after_last, suffix_len, slice_split, onto_first, AllByRecursion}
-use Rattle.std.proofs.lemmas.Bool.{not-true, not-false, cases_lt, both_ways, cond_both, eqb-true, false_from_ne_true}
-use Rattle.std.proofs.lemmas.List.{take_more, get_or-reverse, get_or-drop, get_or_default, length-reverse, length-drop, length-take, take-append-drop}
+use Rattle.std.proofs.lemmas.Bool.{not-true, not-false, cases_lt, both_ways, cond_both, false_from_ne_true}
+use Rattle.std.proofs.lemmas.List.{take_more, get_or-reverse, get_or_default, length-reverse}
 use Rattle.std.proofs.lemmas.List.Folds.{Any-from_list_any, list_any_none, list_any_at}
 use Rattle.std.proofs.lemmas.List.Sums.{prefix_len_passes, prefix_len_stops, suffix_len_is}
 use Rattle.memchr.specs.Find.{Nowhere, NoneAfter, Passes}
-use Rattle.std.specs.Prelude.{Result, Ok, Err, MatchResult, option_copied}
 use Rattle.std.specs.Str.{IsUtf8, is_utf8}
 use Rattle.std.specs.Result.{result_ok}
 use Rattle.std.proofs.lemmas.Str.{IsUtf8-from_is_utf8, is_utf8-from_IsUtf8}
@@ -14,14 +13,10 @@ use Rattle.std.proofs.lemmas.List.Elements.{All-head, All-tail}
 use Rattle.typed_path.specs.declared.scan.separators.Separators.{Separators}
 use Rattle.typed_path.specs.declared.scan.cursor.Begin.{Begin}
 use Rattle.typed_path.specs.declared.scan.cursor.Begin.TheVariants.{Body, Inside}
-use Rattle.typed_path.specs.components.Dialect.{dot, Dialect, dialect_of, is_separator, is_verbatim, root_text}
-use Rattle.typed_path.specs.queries.Names.{is_a_dot, has_extension, stem_of, extension_of}
-use Rattle.typed_path.specs.queries.Texts.{text_of_bytes}
-use Rattle.typed_path.specs.components.Part.{Part, Kind, kinds, parts, root_part, current_part, parent_part, name_part}
-use Rattle.typed_path.specs.components.Comps.{is_dot, is_dot_dot}
-use Rattle.typed_path.specs.queries.Queries.{is_disallowed, kind_has_allowed_bytes}
-use Rattle.typed_path.specs.scan.Steps.{body_from}
-use Rattle.typed_path.specs.changes.Checked.{SeparatesDisallowed}
+use Rattle.typed_path.specs.components.{dot, Dialect, dialect_of, is_separator, is_verbatim, root_text, Part, Kind, kinds, parts, root_part, current_part, parent_part, name_part, is_dot, is_dot_dot}
+use Rattle.typed_path.specs.queries.{is_a_dot, has_extension, stem_of, extension_of, text_of_bytes, is_disallowed, kind_has_allowed_bytes}
+use Rattle.typed_path.specs.scan.{body_from}
+use Rattle.typed_path.specs.changes.{SeparatesDisallowed}
 use Rattle.typed_path.proofs.lemmas.lists.Lists.{AllByRecursion-append}
 use Rattle.typed_path.proofs.lemmas.components.Segments.{pieces, later_part, later_parts, first_parts, body_parts, parts-body, parts-later_body}
 

@@ -1,37 +1,28 @@
 -- The list of a parent, of the paths above and of a path without its name.
-use Rattle.std.proofs.Common.{◌≡◌, ℕ, zero, suc, ◌-◌, ◌<◌, Bool, true, false, if◌then◌else◌, List, [], ◌∷◌, ◌≤◌, length, take, cond, Option, Some, None, option_and_then, option_map, refl, sym, ap, ◌∙◌, arith, inl, inr, ◌+◌, ◌++◌, drop, ap₂, le_refl, subst, length-take-le, ◌⊎◌, ◌↔◌, reverse, ◌&&◌, is_some, length-append, take_all}
+use Rattle.std.proofs.Common.{◌≡◌, ℕ, zero, suc, ◌-◌, ◌<◌, Bool, true, false, if◌then◌else◌, List, [], ◌∷◌, ◌≤◌, length, take, cond, Option, Some, None, option_and_then, option_map, refl, sym, ap, ◌∙◌, arith, inl, inr, ◌+◌, ◌++◌, drop, ap₂, le_refl, subst, length-take-le, ◌⊎◌, ◌↔◌, reverse, ◌&&◌, is_some, length-append, take_all, length-take, take-take, unwrap_or}
 use Rattle.std.proofs.lemmas.Bool.{cases_lt, false_from_ne_true, both_ways}
 use Rattle.std.proofs.lemmas.Option.{same_Some}
-use Rattle.std.proofs.lemmas.List.{length-take, take_min, drop-take, take-take, drop_all, nil_from_length, reverse-append, map-append}
+use Rattle.std.proofs.lemmas.List.{take_min, drop-take, drop_all, nil_from_length, reverse-append, map-append}
 use Rattle.std.proofs.lemmas.List.Splits.{slice_split-cons_yes}
 use Rattle.std.proofs.Math.Seq.{take-append_seam}
 use Rattle.std.specs.Cmp.{Equal-is, eq_by_cmp_equiv}
 use Rattle.std.specs.Ordering.{is_eq}
-use Rattle.std.specs.Prelude.{unwrap_or}
 use Rattle.typed_path.specs.declared.scan.separators.Separators.{Separators}
 use Rattle.typed_path.specs.declared.scan.separators.Separators.TheVariants.{Slash}
 use Rattle.typed_path.specs.declared.scan.step.Piece.{Piece}
 use Rattle.typed_path.specs.declared.scan.step.PieceKind.{PieceKind}
 use Rattle.typed_path.specs.declared.scan.step.PieceKind.TheVariants.{Prefix, RootDir, CurDir, ParentDir, Normal}
-use Rattle.typed_path.specs.components.Dialect.{Dialect, unix, windows, separators, is_separator, root_text}
-use Rattle.typed_path.specs.components.Part.{Part, Placed, prefix_part, root_part, Kind, prefix, root, current, parent, normal, parts, kinds, is_name, end_of, name_part}
-use Rattle.typed_path.specs.scan.Steps.{last_part}
-use Rattle.typed_path.specs.components.Comps.{comps, body, comps_behind, body_of, component, placed, parts_of}
-use Rattle.typed_path.specs.queries.Queries.{is_root, parent_of, name_of, file_name_of}
-use Rattle.typed_path.specs.scan.Left.{back, left, last_of, but_last, end_at, slice_after_back, first_of}
-use Rattle.typed_path.specs.components.Prefix.{Found, prefix_of}
-use Rattle.typed_path.specs.queries.Ancestry.{upwards, is_top, upwards_from, readings_behind, readings_above, ancestors_of, is_read_as, is_child_of, IsOneBelow}
-use Rattle.typed_path.specs.order.Same.{kinds_cmp}
-use Rattle.typed_path.specs.order.Laws.{kinds_cmp_total, exact_lists, exact_kinds}
+use Rattle.typed_path.specs.components.{Dialect, unix, windows, separators, is_separator, root_text, Part, Placed, prefix_part, root_part, Kind, prefix, root, current, parent, normal, parts, kinds, is_name, end_of, name_part, comps, body, comps_behind, body_of, component, placed, parts_of, Found, prefix_of}
+use Rattle.typed_path.specs.scan.{last_part, back, left, last_of, but_last, end_at, slice_after_back, first_of, AreInOrder}
+use Rattle.typed_path.specs.queries.{is_root, parent_of, name_of, file_name_of, upwards, is_top, upwards_from, readings_behind, readings_above, ancestors_of, is_read_as, is_child_of, IsOneBelow, stem_of}
+use Rattle.typed_path.specs.order.{kinds_cmp, kinds_cmp_total, exact_lists, exact_kinds}
 use Rattle.typed_path.specs.views.PieceViews.{part_of, kind_view}
-use Rattle.typed_path.specs.queries.Names.{stem_of}
-use Rattle.typed_path.specs.scan.Reading.{AreInOrder}
-use Rattle.typed_path.specs.changes.Changes.{popped, without_file_name, start_of_last, stem_end}
+use Rattle.typed_path.specs.changes.{popped, without_file_name, start_of_last, stem_end}
 use Rattle.typed_path.proofs.lemmas.scan.Readings.{left-taken, left-parent, stepwise_slices}
 use Rattle.typed_path.proofs.lemmas.components.Cuts.{body-take, comps-laid_out}
 use Rattle.typed_path.proofs.lemmas.components.Prefixes.{FoundFits, prefix-fits, some_is}
 use Rattle.typed_path.proofs.lemmas.components.PrefixCuts.{IsBehind, SamePrefix, same-found, same-none}
-use Rattle.typed_path.proofs.lemmas.scan.StepLemmas.{last_of-push, last_pushed}
+use Rattle.typed_path.proofs.lemmas.scan.Steps.{last_of-push, last_pushed}
 
 -- The list of a parent: the list without its last component.
 

@@ -1,26 +1,21 @@
 -- Names are valid where no byte strays and none stands for a device.
-use Rattle.std.proofs.Common.{◌≡◌, ℕ, suc, Bool, true, false, ◌||◌, ◌&&◌, ◌==◌, cond, not, List, [], ◌∷◌, ◌+◌, take, length, arith, refl, sym, ap, subst, ◌∙◌, true≢false, if◌then◌else◌, ◌++◌, drop, slice_index, Option, Some, None, is_some}
+use Rattle.std.proofs.Common.{◌≡◌, ℕ, suc, Bool, true, false, ◌||◌, ◌&&◌, ◌==◌, cond, not, List, [], ◌∷◌, ◌+◌, take, length, arith, refl, sym, ap, subst, ◌∙◌, true≢false, if◌then◌else◌, ◌++◌, drop, slice_index, Option, Some, None, is_some, eqb-true, ne_eqb, take_all}
 use Rattle.std.specs.List.{list_any, before_first, position_or_len, AllByRecursion, onto_first, list_all}
 use Rattle.std.specs.Str.{str_eq_ignore_ascii_case, str_to_ascii_lowercase}
 use Rattle.std.specs.Char.{to_ascii_lowercase}
 use Rattle.std.proofs.lemmas.Slice.Eq.{bytes_eq-Decides}
-use Rattle.std.proofs.lemmas.Bool.{false_from_ne_true, and_parts, eqb-true, ne_eqb}
-use Rattle.std.proofs.lemmas.List.{take_all, get_or_default}
+use Rattle.std.proofs.lemmas.Bool.{false_from_ne_true, and_parts}
+use Rattle.std.proofs.lemmas.List.{get_or_default}
 use Rattle.std.proofs.lemmas.List.Sums.{position_or_len_is}
 use Rattle.memchr.specs.Find.{Nowhere, NoneBefore, Passes, IsFirstByte, is_byte}
 use Rattle.std.proofs.lemmas.List.Folds.{list_any_at, list_any_none}
 use Rattle.typed_path.specs.declared.scan.separators.Separators.{Separators}
-use Rattle.typed_path.specs.declared.scan.separators.Separators.TheVariants.{Slash, Backslash, Either}
-use Rattle.typed_path.specs.components.Dialect.{windows, dot, Dialect, unix, slash, dialect_of, separators, is_separator, is_verbatim, root_text, begins_verbatim}
-use Rattle.typed_path.specs.queries.Names.{is_a_dot}
-use Rattle.typed_path.specs.queries.Queries.{reserved_names, is_reserved, is_disallowed, has_allowed_bytes, is_valid_name, is_valid_kind, is_valid}
-use Rattle.typed_path.specs.changes.Reserved.{begins_device, may_be_reserved}
-use Rattle.typed_path.specs.components.Part.{Part, kinds, parts, root_part, current_part, parent_part, name_part}
-use Rattle.typed_path.specs.components.Prefix.{Found, prefix_of}
-use Rattle.typed_path.specs.components.Comps.{is_dot, is_dot_dot, body, comps_behind, parts_of}
-use Rattle.typed_path.specs.changes.Checked.{is_stray}
-use Rattle.typed_path.specs.changes.Push.{raw_length}
+use Rattle.typed_path.specs.declared.scan.separators.Separators.TheVariants.{Slash}
+use Rattle.typed_path.specs.components.{windows, dot, Dialect, unix, slash, dialect_of, separators, is_separator, is_verbatim, root_text, Part, kinds, parts, root_part, current_part, parent_part, name_part, Found, prefix_of, is_dot, is_dot_dot, body, comps_behind, parts_of}
+use Rattle.typed_path.specs.queries.{is_a_dot, reserved_names, is_reserved, is_disallowed, has_allowed_bytes, is_valid_name, is_valid_kind, is_valid}
+use Rattle.typed_path.specs.changes.{begins_device, may_be_reserved, is_stray, raw_length}
 use Rattle.typed_path.proofs.lemmas.components.Segments.{pieces, first_part, first_parts, later_part, later_parts, body_parts, parts-body}
+use Rattle.typed_path.proofs.lemmas.components.Prefixes.{separators-windows}
 use Rattle.typed_path.proofs.lemmas.lists.Lists.{slice_split-some}
 
 -- Names that stand for devices: how they begin, and where their first dot comes.
@@ -248,19 +243,11 @@ pub reserved-unix : (ps : List (List ℕ)) → list_any (is_reserved unix) ps �
 reserved-unix [] = refl
 reserved-unix (p ∷ ps) = reserved-unix ps
 
--- each text of Windows is of its dialect
-windows-dialect : (t : List ℕ) → dialect_of (separators windows t) ≡ windows
-windows-dialect t = by (begins_verbatim t)
-  where
-    by : (verbatim : Bool) → dialect_of (if verbatim then Backslash else Either) ≡ windows
-    by true = refl
-    by false = refl
-
 -- the names of a text are those behind its prefix
 pub valid-windows : (t : List ℕ) (o : Option Found) → prefix_of windows t ≡ o
     → is_valid (dialect_of (separators windows t)) (kinds (parts (body (separators windows t) (raw_length o) (drop (raw_length o) t)))) ≡ is_valid windows (kinds (parts_of windows t))
 valid-windows t o e =
-    ap (λ d. is_valid d (kinds (parts (body (separators windows t) (raw_length o) (drop (raw_length o) t))))) (windows-dialect t)
+    ap (λ d. is_valid d (kinds (parts (body (separators windows t) (raw_length o) (drop (raw_length o) t))))) (separators-windows t)
     ∙ by o ∙ ap (λ p. is_valid windows (kinds (parts (comps_behind (separators windows t) t p)))) (sym e)
   where
     by : (p : Option Found) → is_valid windows (kinds (parts (body (separators windows t) (raw_length p) (drop (raw_length p) t)))) ≡ is_valid windows (kinds (parts (comps_behind (separators windows t) t p)))

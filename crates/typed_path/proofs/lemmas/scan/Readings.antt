@@ -1,15 +1,13 @@
 -- A reading from both ends, step by step, and the slice that it leaves.
-use Rattle.std.proofs.Common.{◌≡◌, ℕ, ◌+◌, ◌-◌, ◌<◌, ◌≤◌, List, [], ◌∷◌, ◌++◌, length, reverse, take, drop, get_or, slice_get, Some, None, refl, sym, ap, ap₂, ◌∙◌, append_assoc, add-zero, zero-add, add_assoc, inl, inr, nat_lt, take-take, take_all, arith, ◌==◌, ◌&&◌, if◌then◌else◌, slice_range, ne_eqb, zero, suc, option_map, le_of_eq, unwrap_or, map, Option}
-use Rattle.std.proofs.lemmas.List.{length-drop, length-take, length-reverse, take-append-drop, drop-drop, take_at, reverse-append, reverse-reverse, get_or-take, get_or-drop, get_or-reverse, nil_from_length, drop-take, take_rest, drop_more, map-append}
-use Rattle.std.proofs.lemmas.Bool.{cases_lt, cond-true, cond-false, lt-ltb, le-ltb, and_left, and_from, eq-eqb}
+use Rattle.std.proofs.Common.{◌≡◌, ℕ, ◌+◌, ◌-◌, ◌<◌, ◌≤◌, List, [], ◌∷◌, ◌++◌, length, reverse, take, drop, get_or, slice_get, Some, None, refl, sym, ap, ap₂, ◌∙◌, append_assoc, add-zero, zero-add, add_assoc, inl, inr, nat_lt, take-take, take_all, arith, ◌==◌, ◌&&◌, if◌then◌else◌, slice_range, ne_eqb, zero, suc, option_map, le_of_eq, unwrap_or, map, Option, length-drop, length-take, take-append-drop, drop-drop, take_at, get_or-take, get_or-drop, lt-ltb, le-ltb, eq-eqb}
+use Rattle.std.proofs.lemmas.List.{length-reverse, reverse-append, reverse-reverse, get_or-reverse, nil_from_length, drop-take, take_rest, drop_more, map-append}
+use Rattle.std.proofs.lemmas.Bool.{cases_lt, cond-true, cond-false, and_left, and_from}
 use Rattle.std.proofs.lemmas.Option.{slice_get-get_or}
 use Rattle.typed_path.specs.declared.scan.step.Piece.{Piece}
 use Rattle.typed_path.specs.declared.script.run.End.{End}
 use Rattle.typed_path.specs.declared.script.run.End.TheVariants.{Front}
-use Rattle.typed_path.specs.components.Part.{Placed, current_part, end_of, Part}
-use Rattle.typed_path.specs.scan.Left.{Side, front, back, first_of, last_of, but_last, items_between, answer, reads_after, reads, left, start_at, end_at, slice_after_front, slice_after_back, cut_to, end_before_last}
-use Rattle.typed_path.specs.scan.Reading.{answers_after, items_after, fronts, backs, IsWhole, items_behind, slice_behind, slice_after, IsLaidOut, answer_of}
-use Rattle.typed_path.specs.scan.Ends.{side_of, sides, taken_parts}
+use Rattle.typed_path.specs.components.{Placed, current_part, end_of, Part}
+use Rattle.typed_path.specs.scan.{Side, front, back, first_of, last_of, but_last, items_between, answer, reads_after, reads, left, start_at, end_at, slice_after_front, slice_after_back, cut_to, end_before_last, answers_after, items_after, fronts, backs, IsWhole, items_behind, slice_behind, slice_after, IsLaidOut, answer_of, side_of, sides, taken_parts}
 use Rattle.typed_path.specs.views.PieceViews.{part_of}
 use Rattle.typed_path.proofs.lemmas.components.Cuts.{ends-within, start-end, end-start}
 

@@ -1,6 +1,5 @@
 -- What changes a text leaves a text, and what the search is told of texts.
-use Rattle.std.proofs.Common.{◌≡◌, ℕ, ◌-◌, ◌<◌, ◌==◌, ◌||◌, true, List, [], ◌∷◌, ◌++◌, length, take, slice_index, refl, arith, ◌+◌, sym, ap, subst, ◌∙◌, map, drop, Option, Some}
-use Rattle.std.specs.Prelude.{None, option_and_then, option_map, Ok, Err}
+use Rattle.std.proofs.Common.{◌≡◌, ℕ, ◌-◌, ◌<◌, ◌==◌, ◌||◌, true, List, [], ◌∷◌, ◌++◌, length, take, slice_index, refl, arith, ◌+◌, sym, ap, subst, ◌∙◌, map, drop, Option, Some, None, option_and_then, option_map, Ok, Err}
 use Rattle.std.specs.List.{AllByRecursion}
 use Rattle.std.specs.Str.{IsUtf8, is_utf8, IsCharBoundary}
 use Rattle.std.proofs.lemmas.Bool.{cond_both, and_parts}
@@ -9,27 +8,20 @@ use Rattle.std.specs.String.{string_bytes}
 use Rattle.std.specs.declared.string.String.{String}
 use Rattle.typed_path.specs.declared.errors.CheckedPathError.{CheckedPathError}
 use Rattle.typed_path.specs.declared.scan.step.Piece.{Piece}
-use Rattle.typed_path.specs.components.Dialect.{Dialect, unix, windows, slash, backslash, dot, root_of}
-use Rattle.typed_path.specs.components.Part.{Kind, root, current, parent, Part, kinds, is_name, texts, Placed, parts}
-use Rattle.typed_path.specs.components.Prefix.{Found, prefix_of}
-use Rattle.typed_path.specs.components.Comps.{parts_of, comps}
-use Rattle.typed_path.specs.queries.Queries.{begins_with_root, begins_with_prefix, has_prefix, has_any_verbatim_prefix, name_of, is_root, is_absolute, parent_of, file_name_of, file_stem_of, extension, stripped}
-use Rattle.typed_path.specs.changes.Push.{ended_with, push_unix, prefix_alone, without_last_name, merge_by_kind, merged, joint, spelled, raw_length, raw_prefix, is_disk_alone, ended_windows, push_behind, push_windows, push, push_all}
-use Rattle.typed_path.specs.texts.Texts.{are_texts, is_text_part, are_text_parts, is_text_option}
-use Rattle.typed_path.specs.scan.Left.{last_of, but_last}
-use Rattle.typed_path.specs.queries.Names.{stem_of, extension_of}
-use Rattle.typed_path.specs.changes.Changes.{dotted, start_of_last, stem_end, cut_at, without_file_name, with_file_name, with_extension}
-use Rattle.typed_path.specs.places.Places.{stays, resolve, normal_text}
-use Rattle.typed_path.specs.conversions.Convert.{same_dialect, crossed, crossed_all, converted, crossing_fault, push_unless, push_checked_each, converted_checked, platform, absolute_from}
-use Rattle.typed_path.specs.components.Written.{written, as_written}
-use Rattle.typed_path.specs.scan.Steps.{first_part, last_part}
+use Rattle.typed_path.specs.components.{Dialect, unix, windows, slash, backslash, dot, root_of, Kind, root, current, parent, Part, kinds, is_name, texts, Placed, parts, Found, prefix_of, parts_of, comps, written, as_written}
+use Rattle.typed_path.specs.queries.{begins_with_root, begins_with_prefix, has_prefix, has_any_verbatim_prefix, name_of, is_root, is_absolute, parent_of, file_name_of, file_stem_of, extension, stripped, stem_of, extension_of}
+use Rattle.typed_path.specs.changes.{ended_with, push_unix, prefix_alone, without_last_name, merge_by_kind, merged, joint, spelled, raw_length, raw_prefix, is_disk_alone, ended_windows, push_behind, push_windows, push, push_all, dotted, start_of_last, stem_end, cut_at, without_file_name, with_file_name, with_extension}
+use Rattle.typed_path.specs.texts.{are_texts, is_text_part, are_text_parts, is_text_option}
+use Rattle.typed_path.specs.scan.{last_of, but_last, first_part, last_part}
+use Rattle.typed_path.specs.places.{stays, resolve, normal_text}
+use Rattle.typed_path.specs.conversions.{same_dialect, crossed, crossed_all, converted, crossing_fault, push_unless, push_checked_each, converted_checked, platform, absolute_from}
 use Rattle.typed_path.specs.views.PieceViews.{part_of}
 use Rattle.typed_path.proofs.lemmas.lists.Lists.{AllByRecursion-append}
 use Rattle.typed_path.proofs.lemmas.texts.TextCuts.{byte-utf8, prefix-text, ascii-cuts, IsCut, comps-cut, slash-text, backslash-text, current-text, parent-text as parent_part-text, name-text}
 use Rattle.typed_path.proofs.lemmas.texts.TextsLeft.{parts_of-text, AllByRecursion-last, some_text, name_of-text, without_file_name-text, ancestors-text, reading-starts, reading-front, reading-back, reading-slice, reading-first, reading-last, reading-first_some, reading-last_some, reading-parts, reading-texts, reading-above, reading-behind, stem_of-text, extension_of-text, components-text, single-text, first-text, last-text, parent-text, file_name-text, file_stem-text, extension-text, stripped-text, popped-text}
 use Rattle.typed_path.proofs.lemmas.queries.FileNames.{stem_of-whole, stem_of-extension}
-use Rattle.typed_path.proofs.lemmas.scan.StepLemmas.{last_of-push, last_pushed}
-use Rattle.typed_path.proofs.lemmas.components.WrittenLemmas.{written-drop, written-but_last, written-first, written-last, written-parts_of}
+use Rattle.typed_path.proofs.lemmas.scan.Steps.{last_of-push, last_pushed}
+use Rattle.typed_path.proofs.lemmas.components.WrittenForms.{written-drop, written-but_last, written-first, written-last, written-parts_of}
 
 -- A text pushed onto a text makes a text.
 

@@ -1,8 +1,8 @@
 -- A text cut beside a byte of ASCII, and the segments, prefixes and components that are texts.
-use Rattle.std.proofs.Common.{◌≡◌, ℕ, ◌+◌, ◌-◌, ◌<◌, ◌≤◌, ◌==◌, ◌||◌, Bool, true, false, List, [], ◌∷◌, ◌++◌, length, take, drop, get_or, slice_range, inl, inr, refl, sym, ap, subst, ◌∙◌, append_assoc, eqb-true, arith, cond, ◌&&◌, not, nat_lt, Option, Some, flat_map, None, take-append-drop, length-take-le}
+use Rattle.std.proofs.Common.{◌≡◌, ℕ, ◌+◌, ◌-◌, ◌<◌, ◌≤◌, ◌==◌, ◌||◌, Bool, true, false, List, [], ◌∷◌, ◌++◌, length, take, drop, get_or, slice_range, inl, inr, refl, sym, ap, subst, ◌∙◌, append_assoc, eqb-true, arith, cond, ◌&&◌, not, nat_lt, Option, Some, flat_map, None, take-append-drop, length-take-le, ltb-true, get_or-append-add, take_at, drop_at, length-append, take_all}
 use Rattle.std.specs.Str.{IsUtf8, IsCharBoundary}
-use Rattle.std.proofs.lemmas.Bool.{cases_lt, cond_both, ltb-true, and_parts, and_from, not-false}
-use Rattle.std.proofs.lemmas.List.{get_or_at, get_or-append-add, get_or_append_left, take_at, drop_at, length-append, take_all, drop_all}
+use Rattle.std.proofs.lemmas.Bool.{cases_lt, cond_both, and_parts, and_from, not-false}
+use Rattle.std.proofs.lemmas.List.{get_or_at, get_or_append_left, drop_all}
 use Rattle.std.proofs.lemmas.Str.{IsUtf8-nil, IsUtf8-take, IsUtf8-drop, IsUtf8-between, IsCharBoundary-before_ascii, IsCharBoundary-after_ascii, IsCharBoundary-end, is_utf8-from_IsUtf8, IsCharBoundary-from_take, IsCharBoundary-from_rest, IsUtf8-from_ascii, IsUtf8-append, IsCharBoundary-start}
 use Rattle.std.specs.Prelude.{⊤}
 use Rattle.std.specs.List.{slice_split, onto_first, AllByRecursion, position_or_len, after_first}
@@ -10,12 +10,9 @@ use Rattle.std.proofs.lemmas.List.Sums.{prefix_len_stops, prefix_len-le-length}
 use Rattle.std.proofs.lemmas.Str.Ascii.{IsAscii-nil, IsAscii-cons}
 use Rattle.typed_path.specs.declared.scan.separators.Separators.{Separators}
 use Rattle.typed_path.specs.declared.scan.separators.Separators.TheVariants.{Slash, Backslash, Either}
-use Rattle.typed_path.specs.components.Dialect.{slash, backslash, is_separator, Dialect, unix, windows, separators, question, dot, colon, root_text}
-use Rattle.typed_path.specs.components.Comps.{Segment, placed, segments, component, later, first, body, comps_behind, comps}
-use Rattle.typed_path.specs.components.Prefix.{Found, drive, after_two, after_four, after_mark, after_unc, name, second_name, names_length, is_drive_letter, prefix_of}
-use Rattle.typed_path.specs.texts.Texts.{is_text_prefix, is_text_part}
-use Rattle.typed_path.specs.components.Part.{Part, Placed, end_of, current_part, parent_part, name_part, root_part}
-use Rattle.typed_path.specs.queries.Queries.{name_of}
+use Rattle.typed_path.specs.components.{slash, backslash, is_separator, Dialect, unix, windows, separators, question, dot, colon, root_text, Segment, placed, segments, component, later, first, body, comps_behind, comps, Found, drive, after_two, after_four, after_mark, after_unc, name, second_name, names_length, is_drive_letter, prefix_of, Part, Placed, end_of, current_part, parent_part, name_part, root_part}
+use Rattle.typed_path.specs.texts.{is_text_prefix, is_text_part}
+use Rattle.typed_path.specs.queries.{name_of}
 use Rattle.typed_path.proofs.lemmas.lists.Lists.{slice_split-some, AllByRecursion-append}
 use Rattle.typed_path.proofs.lemmas.components.Prefixes.{and_then-some, where-some, Read, IsBehindMark, of_verbatim_unc, of_verbatim_disk, of_verbatim, of_device, of_unc, of_disk, prefix-read, prefix-fits}
 use Rattle.typed_path.proofs.lemmas.components.PrefixCuts.{name-length}

@@ -1,6 +1,6 @@
 use Rattle.std.proofs.Common.{◌≡◌, ◌++◌, true, map, drop}
 use Rattle.typed_path.specs.views.PathViews.{path_bytes}
-use Rattle.typed_path.specs.promises.Promises.{keeps_prefix}
+use Rattle.typed_path.specs.promises.{keeps_prefix}
 use Rattle.typed_path_uses.specs.Uses.{places, places_within, first_fault}
 use Rattle.typed_path_uses.proofs.extractor.targets.Given as goal
 

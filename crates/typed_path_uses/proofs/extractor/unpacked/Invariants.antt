@@ -1,10 +1,8 @@
-use Rattle.std.proofs.Common.{◌≡◌, ◌+◌, ◌++◌, true, map, drop, vec_len}
-use Rattle.std.specs.Prelude.{Some}
+use Rattle.std.proofs.Common.{◌≡◌, ◌+◌, ◌++◌, true, map, drop, vec_len, Some}
 use Rattle.std.specs.List.{All}
 use Rattle.typed_path.specs.views.PathViews.{path_bytes}
-use Rattle.typed_path.specs.changes.Fault.{fault}
-use Rattle.typed_path.specs.promises.Promises.{keeps_prefix}
-use Rattle.typed_path.specs.promises.Below.{IsBelow}
+use Rattle.typed_path.specs.changes.{fault}
+use Rattle.typed_path.specs.promises.{keeps_prefix, IsBelow}
 use Rattle.typed_path_uses.specs.Uses.{joined_entries, faulty}
 use Rattle.typed_path_uses.proofs.extractor.unpacked.Given as goal
 

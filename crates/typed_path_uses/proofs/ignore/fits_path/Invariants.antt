@@ -1,6 +1,5 @@
 use Rattle.std.proofs.Common.{◌≡◌}
-use Rattle.typed_path.specs.components.Part.{kinds}
-use Rattle.typed_path.specs.components.Comps.{parts_of}
+use Rattle.typed_path.specs.components.{kinds, parts_of}
 use Rattle.typed_path.specs.views.PathViews.{path_bytes, components_parts}
 use Rattle.typed_path_uses.specs.Ignore.{fits}
 use Rattle.typed_path_uses.proofs.ignore.fits_path.Given as goal

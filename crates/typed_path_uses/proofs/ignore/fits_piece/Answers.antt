@@ -1,6 +1,6 @@
 use Rattle.std.proofs.Common.{◌&&◌, ◌||◌, true, is_eq, sym, ap, ap₂, ◌∙◌}
-use Rattle.typed_path.specs.components.Part.{normal}
-use Rattle.typed_path.specs.order.Same.{kind_cmp}
+use Rattle.typed_path.specs.components.{normal}
+use Rattle.typed_path.specs.order.{kind_cmp}
 use Rattle.typed_path.specs.views.PieceViews.{kind_view}
 use Rattle.typed_path_uses.specs.Ignore.{fits_kind}
 use Rattle.typed_path_uses.proofs.Names.{same-name}

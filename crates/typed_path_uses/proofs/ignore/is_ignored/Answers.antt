@@ -1,7 +1,6 @@
 use Rattle.std.proofs.Common.{arith, ◌≡◌, ◌∙◌}
 use Rattle.std.proofs.lemmas.Grind.{common_steps}
-use Rattle.typed_path.specs.components.Part.{kinds}
-use Rattle.typed_path.specs.components.Comps.{parts_of}
+use Rattle.typed_path.specs.components.{kinds, parts_of}
 use Rattle.typed_path.specs.views.PathViews.{path_bytes}
 use Rattle.typed_path_uses.specs.Ignore.{rule_fits, is_ignored}
 use Rattle.typed_path_uses.proofs.LastRule.{fitting-decides}

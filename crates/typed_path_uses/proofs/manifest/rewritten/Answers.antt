@@ -1,8 +1,7 @@
-use Rattle.std.proofs.Common.{◌∷◌, ◌++◌, map, drop, suc, sym, ap, ◌∙◌}
-use Rattle.std.specs.Prelude.{Ok}
-use Rattle.typed_path.specs.conversions.Convert.{converted_checked}
+use Rattle.std.proofs.Common.{◌∷◌, ◌++◌, map, drop, suc, sym, ap, ◌∙◌, Ok}
+use Rattle.typed_path.specs.conversions.{converted_checked}
 use Rattle.typed_path_uses.specs.Uses.{crossings, first_refusal}
-use Rattle.typed_path.proofs.lemmas.conversions.CrossedLemmas.{refusal-passed}
+use Rattle.typed_path.proofs.lemmas.conversions.Crossings.{refusal-passed}
 use Rattle.typed_path_uses.proofs.Crossings.{refused-behind, crossings-next}
 use Rattle.typed_path_uses.proofs.manifest.rewritten.Goals as goal
 

@@ -1,5 +1,4 @@
-use Rattle.std.proofs.Common.{◌≡◌, ◌++◌, map, drop}
-use Rattle.std.specs.Prelude.{Ok}
+use Rattle.std.proofs.Common.{◌≡◌, ◌++◌, map, drop, Ok}
 use Rattle.typed_path_uses.specs.Uses.{crossings}
 use Rattle.typed_path_uses.proofs.manifest.rewritten.Given as goal
 

@@ -1,4 +1,4 @@
-use Rattle.typed_path.proofs.lemmas.order.KeyedLemmas.{inserted}
+use Rattle.typed_path.proofs.lemmas.order.Maps.{inserted}
 use Rattle.typed_path_uses.proofs.notes.note.Goals as goal
 
 pub returns-clause-puts : goal.returns-clause-puts

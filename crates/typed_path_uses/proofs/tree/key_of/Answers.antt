@@ -1,9 +1,7 @@
 use Rattle.std.proofs.Common.{◌≡◌, ℕ, List, ap}
-use Rattle.typed_path.specs.components.Dialect.{Dialect, unix, windows}
-use Rattle.typed_path.specs.components.Part.{kinds}
-use Rattle.typed_path.specs.components.Comps.{parts_of}
-use Rattle.typed_path.specs.places.Places.{normal_text}
-use Rattle.typed_path.specs.promises.Promises.{HasNormalForm}
+use Rattle.typed_path.specs.components.{Dialect, unix, windows, kinds, parts_of}
+use Rattle.typed_path.specs.places.{normal_text}
+use Rattle.typed_path.specs.promises.{HasNormalForm}
 use Rattle.typed_path_uses.specs.Tree.{IsKeyOf}
 use Rattle.typed_path_uses.proofs.tree.key_of.Goals as goal
 

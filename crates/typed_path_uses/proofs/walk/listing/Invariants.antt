@@ -1,6 +1,5 @@
 use Rattle.std.proofs.Common.{◌≡◌, ◌++◌}
-use Rattle.typed_path.specs.components.Dialect.{unix}
-use Rattle.typed_path.specs.components.Comps.{parts_of}
+use Rattle.typed_path.specs.components.{unix, parts_of}
 use Rattle.typed_path.specs.views.PathViews.{path_bytes, components_parts}
 use Rattle.typed_path_uses.specs.Uses.{lines_of}
 use Rattle.typed_path_uses.proofs.walk.listing.Given as goal

@@ -1,8 +1,7 @@
 use Rattle.std.proofs.Common.{◌≡◌, sym, ap, ◌∙◌}
 use Rattle.std.proofs.lemmas.Cmp.{tied_itself}
 use Rattle.std.specs.Cmp.Lexicographic.{bytes_decides}
-use Rattle.typed_path.specs.order.Same.{path_cmp}
-use Rattle.typed_path.specs.order.Laws.{path_cmp_total}
+use Rattle.typed_path.specs.order.{path_cmp, path_cmp_total}
 use Rattle.typed_path.proofs.common.order.compare.Goals as goal
 
 pub returns-then-eq : goal.returns-then-eq

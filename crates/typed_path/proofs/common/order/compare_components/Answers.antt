@@ -1,11 +1,11 @@
 use Rattle.std.proofs.Common.{◌≡◌, length, sym, ap, ap₂, ◌∙◌, arith}
-use Rattle.typed_path.specs.queries.Queries.{behind_prefix}
-use Rattle.typed_path.specs.order.Same.{left_cmp}
+use Rattle.typed_path.specs.queries.{behind_prefix}
+use Rattle.typed_path.specs.order.{left_cmp}
 use Rattle.typed_path.specs.views.BodyViews.{body_items}
 use Rattle.typed_path.specs.views.CursorViews.{items_left}
 use Rattle.typed_path.specs.views.PieceViews.{prefix_view, step_part}
-use Rattle.typed_path.proofs.lemmas.changes.FaultLemmas.{taken-first}
-use Rattle.typed_path.proofs.lemmas.order.OrderLemmas.{cmp-none, cmp-more, cmp-fewer, cmp-differ, cmp-alike, prefixes-differ, prefixes-alike, prefixes-none, prefixed-bare, bare-prefixed}
+use Rattle.typed_path.proofs.lemmas.changes.Faults.{taken-first}
+use Rattle.typed_path.proofs.lemmas.order.Comparisons.{cmp-none, cmp-more, cmp-fewer, cmp-differ, cmp-alike, prefixes-differ, prefixes-alike, prefixes-none, prefixed-bare, bare-prefixed}
 use Rattle.typed_path.proofs.common.order.compare_components.Goals as goal
 use Rattle.typed_path.proofs.common.order.compare_components.Goals.{in-Some-Some+else-is_ne, in-None-None}
 
@@ -19,14 +19,14 @@ returns-then-is_ne g c =
 pub returns-in-Some-None : goal.returns-in-Some-None
 returns-in-Some-None g c =
     prefixed-bare (items_left c.cursor-own.result) (items_left c.cursor-others.result) (body_items c.body.result) (prefix_view c.in-Some-None.field-0-0) c.order_of_prefixed.result
-    c.in-Some-None.ensures c.in-Some-None.ensures' c.body.ensures.items c.order_of_prefixed.ensures
+    c.in-Some-None.ensures c.in-Some-None.ensures' c.body.ensures c.order_of_prefixed.ensures
     ∙ ap₂ left_cmp c.cursor-own.ensures.items c.cursor-others.ensures.items
 
 pub returns-in-None-Some : goal.returns-in-None-Some
 returns-in-None-Some g c =
     c.reverse.ensures
     ∙ bare-prefixed (items_left c.cursor-others.result) (items_left c.cursor-own.result) (body_items c.body-in-None-Some.result) (prefix_view c.in-None-Some.field-0-1) c.order_of_prefixed-in-None-Some.result
-    c.in-None-Some.ensures' c.in-None-Some.ensures c.body-in-None-Some.ensures.items c.order_of_prefixed-in-None-Some.ensures
+    c.in-None-Some.ensures' c.in-None-Some.ensures c.body-in-None-Some.ensures c.order_of_prefixed-in-None-Some.ensures
     ∙ ap₂ left_cmp c.cursor-own.ensures.items c.cursor-others.ensures.items
 
 pub steps-init : goal.steps-init
@@ -38,7 +38,7 @@ steps-init g c =
       | in-None-None w ↦ prefixes-none cs ds w.in-None-None.ensures w.in-None-None.ensures'
     ] in
     sym (c.bodies_behind_shared.ensures
-    ∙ ap₂ left_cmp c.body-2.ensures.items c.body-3.ensures.items
+    ∙ ap₂ left_cmp c.body-2.ensures c.body-3.ensures
     ∙ behind
     ∙ ap₂ left_cmp c.cursor-own.ensures.items c.cursor-others.ensures.items)
 

@@ -1,5 +1,5 @@
 use Rattle.std.proofs.Common.{◌≡◌, length}
-use Rattle.typed_path.specs.order.Same.{left_cmp, path_cmp}
+use Rattle.typed_path.specs.order.{left_cmp, path_cmp}
 use Rattle.typed_path.specs.views.BodyViews.{body_items}
 use Rattle.typed_path.proofs.common.order.compare_components.Given as goal
 

@@ -1,12 +1,11 @@
-use Rattle.std.proofs.Common.{◌&&◌, sym, ap, ap₂, ◌∙◌}
-use Rattle.std.specs.Prelude.{option_map}
+use Rattle.std.proofs.Common.{◌&&◌, sym, ap, ap₂, ◌∙◌, option_map}
 use Rattle.std.specs.Ordering.{is_eq}
-use Rattle.typed_path.specs.queries.Queries.{behind_prefix}
-use Rattle.typed_path.specs.order.Same.{left_cmp, left_same}
+use Rattle.typed_path.specs.queries.{behind_prefix}
+use Rattle.typed_path.specs.order.{left_cmp, left_same}
 use Rattle.typed_path.specs.views.BodyViews.{body_items}
 use Rattle.typed_path.specs.views.CursorViews.{items_left}
 use Rattle.typed_path.specs.views.PieceViews.{prefix_view, step_part}
-use Rattle.typed_path.proofs.lemmas.order.OrderLemmas.{alike-differ, alike-step, alike-end, same-prefixes, same-behind}
+use Rattle.typed_path.proofs.lemmas.order.Comparisons.{alike-differ, alike-step, alike-end, same-prefixes, same-behind}
 use Rattle.typed_path.proofs.common.order.have_same_components.Goals as goal
 
 pub returns-then-not-have_same_prefixes : goal.returns-then-not-have_same_prefixes
@@ -23,7 +22,7 @@ returns-then-not-take_same_last g c =
     let ds = items_left c.cursor-others.result in
     sym (ap is_eq (sym (ap₂ left_cmp c.cursor-own.ensures.items c.cursor-others.ensures.items))
     ∙ same-behind cs ds (body_items c.body-rest.result) (body_items c.body-wanted.result) (option_map prefix_view c.prefix.result) (option_map prefix_view c.prefix-2.result) c.have_same_prefixes.result
-    c.prefix.ensures c.prefix-2.ensures c.have_same_prefixes.ensures c.if-not-have_same_prefixes.false c.body-rest.ensures.items c.body-wanted.ensures.items
+    c.prefix.ensures c.prefix-2.ensures c.have_same_prefixes.ensures c.if-not-have_same_prefixes.false c.body-rest.ensures c.body-wanted.ensures
     ∙ c.take_same_last.ensures
     ∙ ap (λ b. b && left_same (body_items c.take_same_last.new.rest) (body_items c.take_same_last.new.wanted)) c.if-not-take_same_last.true)
 
@@ -33,7 +32,7 @@ steps-init g c =
     let ds = items_left c.cursor-others.result in
     ap is_eq (sym (ap₂ left_cmp c.cursor-own.ensures.items c.cursor-others.ensures.items))
     ∙ same-behind cs ds (body_items c.body-rest.result) (body_items c.body-wanted.result) (option_map prefix_view c.prefix.result) (option_map prefix_view c.prefix-2.result) c.have_same_prefixes.result
-    c.prefix.ensures c.prefix-2.ensures c.have_same_prefixes.ensures c.if-not-have_same_prefixes.false c.body-rest.ensures.items c.body-wanted.ensures.items
+    c.prefix.ensures c.prefix-2.ensures c.have_same_prefixes.ensures c.if-not-have_same_prefixes.false c.body-rest.ensures c.body-wanted.ensures
     ∙ c.take_same_last.ensures
     ∙ ap (λ b. b && left_same (body_items c.take_same_last.new.rest) (body_items c.take_same_last.new.wanted)) c.if-not-take_same_last.false
     ∙ ap is_eq (sym c.bodies_behind_shared.ensures)

@@ -1,5 +1,5 @@
 use Rattle.std.proofs.Common.{◌≡◌, length}
-use Rattle.typed_path.specs.order.Same.{is_same, left_same}
+use Rattle.typed_path.specs.order.{is_same, left_same}
 use Rattle.typed_path.specs.views.BodyViews.{body_items}
 use Rattle.typed_path.proofs.common.order.have_same_components.Given as goal
 

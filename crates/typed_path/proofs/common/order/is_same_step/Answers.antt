@@ -1,8 +1,8 @@
 use Rattle.std.proofs.Common.{sym, ap₂, ◌∙◌}
 use Rattle.std.specs.Ordering.{is_eq}
-use Rattle.typed_path.specs.order.Same.{kind_cmp}
+use Rattle.typed_path.specs.order.{kind_cmp}
 use Rattle.typed_path.specs.views.PieceViews.{step_view}
-use Rattle.typed_path.proofs.lemmas.order.OrderLemmas.{same-name}
+use Rattle.typed_path.proofs.lemmas.order.Comparisons.{same-name}
 use Rattle.typed_path.proofs.common.order.is_same_step.Goals as goal
 
 pub returns-in-Normal-Normal : goal.returns-in-Normal-Normal

@@ -1,6 +1,6 @@
 use Rattle.typed_path.specs.views.BodyViews.{body_items}
 use Rattle.typed_path.specs.views.PieceViews.{step_part}
-use Rattle.typed_path.proofs.lemmas.order.OrderLemmas.{same-step}
+use Rattle.typed_path.proofs.lemmas.order.Comparisons.{same-step}
 use Rattle.typed_path.proofs.common.order.take_same_last.Goals as goal
 
 pub returns-in-Some-Some : goal.returns-in-Some-Some

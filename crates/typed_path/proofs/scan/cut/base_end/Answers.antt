@@ -1,8 +1,8 @@
-use Rattle.std.proofs.Common.{add_assoc, ◌≡◌, ◌<◌, rules, true, refl, ◌+◌, ◌++◌, length, drop, ap, sym, ◌∙◌}
+use Rattle.std.proofs.Common.{add_assoc, ◌≡◌, ◌<◌, rules, true, refl, ◌+◌, ◌++◌, length, drop, ap, sym, ◌∙◌, drop-drop}
 use Rattle.std.proofs.lemmas.Bool.Decides.{Decides-eqb}
-use Rattle.std.proofs.lemmas.List.{drop-drop, take_rest}
+use Rattle.std.proofs.lemmas.List.{take_rest}
 use Rattle.std.proofs.lemmas.Slice.Eq.{starts_is}
-use Rattle.typed_path.specs.components.Comps.{body, later_body}
+use Rattle.typed_path.specs.components.{body, later_body}
 use Rattle.typed_path.proofs.scan.cut.base_end.Goals as goal
 
 pub returns-clause-items : goal.returns-clause-items

@@ -2,13 +2,12 @@ use Rattle.std.proofs.Common.{◌≡◌, ◌++◌, ℕ, List, drop, refl, sym, a
 use Rattle.typed_path.specs.declared.scan.cursor.Body.{Body}
 use Rattle.typed_path.specs.declared.scan.cursor.Begin.{Begin}
 use Rattle.typed_path.specs.declared.scan.separators.Separators.{Separators}
-use Rattle.typed_path.specs.components.Part.{kinds, parts}
-use Rattle.typed_path.specs.components.Comps.{body, later_body}
-use Rattle.typed_path.specs.order.Same.{kinds_cmp, left_cmp}
-use Rattle.typed_path.specs.scan.Steps.{body_from}
+use Rattle.typed_path.specs.components.{kinds, parts, body, later_body}
+use Rattle.typed_path.specs.order.{kinds_cmp, left_cmp}
+use Rattle.typed_path.specs.scan.{body_from}
 use Rattle.typed_path.specs.views.BodyViews.{body_slice, body_items}
 use Rattle.typed_path.proofs.lemmas.components.Segments.{parts-body}
-use Rattle.typed_path.proofs.lemmas.order.OrderLemmas.{cmp-behind}
+use Rattle.typed_path.proofs.lemmas.order.Comparisons.{cmp-behind}
 use Rattle.typed_path.proofs.scan.cut.bodies_behind_shared.Goals as goal
 
 -- a whole body has the components of its slice, wherever that stands

@@ -1,6 +1,6 @@
 use Rattle.std.proofs.Common.{◌+◌, arith}
 use Rattle.std.proofs.lemmas.List.{take_rest}
-use Rattle.typed_path.specs.components.Dialect.{is_separator}
+use Rattle.typed_path.specs.components.{is_separator}
 use Rattle.typed_path.proofs.lemmas.lists.Lists.{split-none_passes, split-at_first, open-at_first}
 use Rattle.typed_path.proofs.scan.cut.cut_at_separator.Goals as goal
 

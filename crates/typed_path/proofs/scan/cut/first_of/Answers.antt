@@ -1,5 +1,5 @@
 use Rattle.std.proofs.Common.{◌≡◌, ◌==◌, ◌||◌, Bool, true, false, refl}
-use Rattle.typed_path.proofs.lemmas.scan.MaskLemmas.{first-of}
+use Rattle.typed_path.proofs.lemmas.scan.Searches.{first-of}
 use Rattle.typed_path.proofs.scan.cut.first_of.Goals as goal
 
 pub returns-clause-first : goal.returns-clause-first

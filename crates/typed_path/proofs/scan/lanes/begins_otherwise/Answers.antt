@@ -1,6 +1,6 @@
 use Rattle.std.proofs.Common.{◌-◌, ◌||◌, length, subst, arith}
-use Rattle.typed_path.specs.scan.Masks.{TellsWhether, differs_at}
-use Rattle.typed_path.proofs.lemmas.scan.MaskLemmas.{both-tell}
+use Rattle.typed_path.specs.scan.{TellsWhether, differs_at}
+use Rattle.typed_path.proofs.lemmas.scan.Searches.{both-tell}
 use Rattle.typed_path.proofs.scan.lanes.begins_otherwise.Goals as goal
 
 pub returns : goal.returns

@@ -1,8 +1,8 @@
 use Rattle.std.proofs.Common.{ℕ, ◌+◌, ◌%◌, ◌^◌, ◌==◌, Bool, not, length, pow_mono, sym, subst, ◌∙◌, ap, w8, arith}
 use Rattle.std.specs.Simd.Lanes.{zip2, mask_l}
 use Rattle.std.proofs.lemmas.Simd.{tops_compared, mask_l-lt, mask_l-mod, length-zip2, length-chunk}
-use Rattle.typed_path.specs.scan.Masks.{TellsWhether, differs_at}
-use Rattle.typed_path.proofs.lemmas.scan.MaskLemmas.{mask-chunks, block-tells}
+use Rattle.typed_path.specs.scan.{TellsWhether, differs_at}
+use Rattle.typed_path.proofs.lemmas.scan.Searches.{mask-chunks, block-tells}
 use Rattle.typed_path.proofs.scan.lanes.differs_in_block.Goals as goal
 use lib.Lanes.{chunk}
 

@@ -1,6 +1,6 @@
 use Rattle.std.proofs.Common.{◌-◌, ◌≤◌}
 use Rattle.std.specs.Slice.Scan.{HoldsNowhere}
-use Rattle.typed_path.specs.scan.Masks.{stands_at}
+use Rattle.typed_path.specs.scan.{stands_at}
 use Rattle.typed_path.proofs.scan.lanes.first_by_one.Given as goal
 
 abbrev pub invariant-loop-at : goal.invariant-loop-at

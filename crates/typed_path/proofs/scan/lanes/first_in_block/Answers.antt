@@ -1,4 +1,4 @@
-use Rattle.typed_path.specs.scan.Masks.{stands_at}
+use Rattle.typed_path.specs.scan.{stands_at}
 use Rattle.typed_path.proofs.scan.lanes.first_in_block.Goals as goal
 
 pub first_marked-requires-clause-beyond : goal.first_marked-requires-clause-beyond

@@ -1,7 +1,7 @@
 use Rattle.std.proofs.Common.{◌≡◌, ℕ, ◌+◌, ◌-◌, ◌^◌, ◌/◌, ◌≤◌, Bool, ap, subst, arith}
 use Rattle.std.specs.Slice.Scan.{IsFirstPlace}
-use Rattle.typed_path.specs.scan.Masks.{IsMask, stands_at}
-use Rattle.typed_path.proofs.lemmas.scan.MaskLemmas.{mask-behind, mask-alike, block-none, block-first}
+use Rattle.typed_path.specs.scan.{IsMask, stands_at}
+use Rattle.typed_path.proofs.lemmas.scan.Searches.{mask-behind, mask-alike, block-none, block-first}
 use Rattle.typed_path.proofs.scan.lanes.first_in_last_block.Goals as goal
 
 -- the marks that are left are those of the range

@@ -1,5 +1,5 @@
 use Rattle.std.proofs.Common.{arith}
-use Rattle.typed_path.proofs.lemmas.scan.MaskLemmas.{block-none, block-first}
+use Rattle.typed_path.proofs.lemmas.scan.Searches.{block-none, block-first}
 use Rattle.typed_path.proofs.scan.lanes.first_marked.Goals as goal
 
 pub returns-then-marks-eq0 : goal.returns-then-marks-eq0

@@ -1,6 +1,6 @@
 use Rattle.std.proofs.Common.{ℕ, ◌||◌, sym, ap, slice_index, ◌+◌, ◌==◌}
-use Rattle.typed_path.specs.scan.Masks.{is_one_of}
-use Rattle.typed_path.proofs.lemmas.scan.MaskLemmas.{paired, mask-or, mask-alike}
+use Rattle.typed_path.specs.scan.{is_one_of}
+use Rattle.typed_path.proofs.lemmas.scan.Searches.{paired, mask-or, mask-alike}
 use Rattle.typed_path.proofs.scan.lanes.forbidden_at.Goals as goal
 
 pub returns : goal.returns

@@ -1,6 +1,6 @@
 use Rattle.std.proofs.Common.{arith}
-use Rattle.typed_path.specs.changes.Checked.{is_forbidden_or}
-use Rattle.typed_path.proofs.lemmas.scan.MaskLemmas.{any-told}
+use Rattle.typed_path.specs.changes.{is_forbidden_or}
+use Rattle.typed_path.proofs.lemmas.scan.Searches.{any-told}
 use Rattle.typed_path.proofs.scan.lanes.has_forbidden.Goals as goal
 
 pub returns-then-len-ge32 : goal.returns-then-len-ge32

@@ -1,6 +1,6 @@
 use Rattle.std.proofs.Common.{◌-◌, ◌≤◌, length}
 use Rattle.std.specs.Slice.Scan.{HoldsNowhere}
-use Rattle.typed_path.specs.changes.Checked.{forbidden_at}
+use Rattle.typed_path.specs.changes.{forbidden_at}
 use Rattle.typed_path.proofs.scan.lanes.has_forbidden.Given as goal
 
 abbrev pub invariant-loop-at : goal.invariant-loop-at

@@ -1,6 +1,6 @@
 use Rattle.std.proofs.Common.{◌≡◌, ◌||◌, drop}
 use Rattle.std.specs.List.{list_any}
-use Rattle.typed_path.specs.changes.Checked.{is_forbidden_or}
+use Rattle.typed_path.specs.changes.{is_forbidden_or}
 use Rattle.typed_path.proofs.scan.lanes.has_forbidden_by_one.Given as goal
 
 abbrev pub invariant-bytes : goal.invariant-bytes

@@ -1,5 +1,5 @@
-use Rattle.typed_path.specs.changes.Checked.{forbidden_at}
-use Rattle.typed_path.proofs.lemmas.scan.MaskLemmas.{first-tells}
+use Rattle.typed_path.specs.changes.{forbidden_at}
+use Rattle.typed_path.proofs.lemmas.scan.Searches.{first-tells}
 use Rattle.typed_path.proofs.scan.lanes.is_forbidden_in_block.Goals as goal
 
 pub first_marked-requires-clause-beyond : goal.first_marked-requires-clause-beyond

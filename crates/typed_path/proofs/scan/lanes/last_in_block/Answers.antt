@@ -1,5 +1,5 @@
-use Rattle.typed_path.specs.scan.Masks.{stands_at}
-use Rattle.typed_path.proofs.lemmas.scan.MaskLemmas.{block-none, block-last}
+use Rattle.typed_path.specs.scan.{stands_at}
+use Rattle.typed_path.proofs.lemmas.scan.Searches.{block-none, block-last}
 use Rattle.std.proofs.Common.{arith}
 use Rattle.typed_path.proofs.scan.lanes.last_in_block.Goals as goal
 

@@ -1,4 +1,4 @@
-use Rattle.typed_path.proofs.lemmas.scan.MaskLemmas.{mask-or}
+use Rattle.typed_path.proofs.lemmas.scan.Searches.{mask-or}
 use Rattle.typed_path.proofs.scan.lanes.marks_at.Goals as goal
 
 pub returns : goal.returns

@@ -1,7 +1,7 @@
 use Rattle.std.proofs.Common.{◌+◌, get_or, sym, subst, eqb, w8}
 use Rattle.std.proofs.lemmas.Simd.{bitmask_splat, length-chunk}
-use Rattle.typed_path.specs.scan.Masks.{IsMask}
-use Rattle.typed_path.proofs.lemmas.scan.MaskLemmas.{mask-chunk}
+use Rattle.typed_path.specs.scan.{IsMask}
+use Rattle.typed_path.proofs.lemmas.scan.Searches.{mask-chunk}
 use Rattle.typed_path.proofs.scan.lanes.marks_of.Goals as goal
 use lib.Lanes.{chunk}
 

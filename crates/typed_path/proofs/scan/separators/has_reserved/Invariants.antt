@@ -1,7 +1,7 @@
 use Rattle.std.proofs.Common.{◌≡◌, length}
 use Rattle.std.specs.List.{slice_split, list_any}
-use Rattle.typed_path.specs.components.Dialect.{is_separator, dialect_of}
-use Rattle.typed_path.specs.queries.Queries.{is_reserved}
+use Rattle.typed_path.specs.components.{is_separator, dialect_of}
+use Rattle.typed_path.specs.queries.{is_reserved}
 use Rattle.typed_path.proofs.scan.separators.has_reserved.Given as goal
 
 abbrev pub invariant-segments : goal.invariant-segments

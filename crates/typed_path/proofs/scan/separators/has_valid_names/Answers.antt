@@ -1,7 +1,7 @@
 use Rattle.std.proofs.Common.{not, sym, ap, ◌∙◌}
 use Rattle.std.specs.List.{list_any}
-use Rattle.typed_path.specs.components.Dialect.{dialect_of}
-use Rattle.typed_path.specs.queries.Queries.{is_reserved}
+use Rattle.typed_path.specs.components.{dialect_of}
+use Rattle.typed_path.specs.queries.{is_reserved}
 use Rattle.typed_path.proofs.lemmas.components.Segments.{pieces}
 use Rattle.typed_path.proofs.lemmas.queries.ValidNames.{valid-found, reserved-unix}
 use Rattle.typed_path.proofs.scan.separators.has_valid_names.Goals as goal

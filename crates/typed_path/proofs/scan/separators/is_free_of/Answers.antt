@@ -1,8 +1,8 @@
 use Rattle.std.proofs.Common.{not, length, ◌==◌, refl, sym, ap, ◌∙◌}
 use Rattle.std.proofs.Math.Bool.{not-not}
-use Rattle.typed_path.specs.scan.Masks.{is_one_of}
+use Rattle.typed_path.specs.scan.{is_one_of}
 use Rattle.typed_path.proofs.lemmas.lists.Lists.{position-any}
-use Rattle.typed_path.proofs.lemmas.scan.MaskLemmas.{first-of}
+use Rattle.typed_path.proofs.lemmas.scan.Searches.{first-of}
 use Rattle.typed_path.proofs.scan.separators.is_free_of.Goals as goal
 
 pub returns : goal.returns

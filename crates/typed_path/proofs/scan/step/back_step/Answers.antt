@@ -1,12 +1,11 @@
-use Rattle.std.proofs.Common.{◌≡◌, ℕ, ◌+◌, ◌≤◌, ◌<◌, ◌++◌, List, [], length, take, drop, true, ap, sym, ◌∙◌, arith}
-use Rattle.std.proofs.lemmas.List.{take_rest, take-take, length-take, length-take-le}
-use Rattle.typed_path.specs.components.Dialect.{is_separator}
-use Rattle.typed_path.specs.components.Comps.{component}
+use Rattle.std.proofs.Common.{◌≡◌, ℕ, ◌+◌, ◌≤◌, ◌<◌, ◌++◌, List, [], length, take, drop, true, ap, sym, ◌∙◌, arith, take-take, length-take, length-take-le}
+use Rattle.std.proofs.lemmas.List.{take_rest}
+use Rattle.typed_path.specs.components.{is_separator, component}
 use Rattle.typed_path.specs.views.PieceViews.{step_part}
 use Rattle.typed_path.specs.declared.scan.cursor.Begin.{Begin}
-use Rattle.typed_path.specs.scan.Steps.{body_from, is_clean, end_from}
+use Rattle.typed_path.specs.scan.{body_from, is_clean, end_from}
 use Rattle.typed_path.proofs.lemmas.lists.Lists.{IsLastPlace}
-use Rattle.typed_path.proofs.lemmas.scan.TextEnds.{IsLast, last-at_end, last-before_end, is_clean-kept, end_from-trimmed}
+use Rattle.typed_path.proofs.lemmas.scan.LastComponent.{IsLast, last-at_end, last-before_end, is_clean-kept, end_from-trimmed}
 use Rattle.typed_path.proofs.scan.step.back_step.Goals as goal
 use Rattle.typed_path.proofs.scan.step.back_step.Goals.{After-step_of-step}
 

@@ -1,12 +1,10 @@
-use Rattle.std.proofs.Common.{◌≡◌, ℕ, ◌+◌, ◌<◌, ◌++◌, List, [], ◌∷◌, ◌==◌, Bool, false, cond, length, take, drop, true, ap, sym, ◌∙◌, add_assoc, arith}
+use Rattle.std.proofs.Common.{◌≡◌, ℕ, ◌+◌, ◌<◌, ◌++◌, List, [], ◌∷◌, ◌==◌, Bool, false, cond, length, take, drop, true, ap, sym, ◌∙◌, add_assoc, arith, drop-drop, length-take-le}
 use Rattle.std.specs.List.{position_or_len}
-use Rattle.std.proofs.lemmas.List.{take_rest, drop-drop, length-take-le}
+use Rattle.std.proofs.lemmas.List.{take_rest}
 use Rattle.typed_path.specs.declared.scan.separators.Separators.{Separators}
 use Rattle.typed_path.specs.declared.scan.cursor.Begin.{Begin}
-use Rattle.typed_path.specs.components.Dialect.{is_separator, root_text}
-use Rattle.typed_path.specs.components.Part.{normal, root, current, parent, Part, Placed, root_part, current_part, parent_part, name_part}
-use Rattle.typed_path.specs.components.Comps.{component, first, later_body, is_dot, is_dot_dot}
-use Rattle.typed_path.specs.scan.Steps.{body_from, is_clean}
+use Rattle.typed_path.specs.components.{is_separator, root_text, normal, root, current, parent, Part, Placed, root_part, current_part, parent_part, name_part, component, first, later_body, is_dot, is_dot_dot}
+use Rattle.typed_path.specs.scan.{body_from, is_clean}
 use Rattle.typed_path.specs.views.PieceViews.{step_part, step_view}
 use Rattle.typed_path.proofs.lemmas.components.Segments.{body_from-first}
 use Rattle.typed_path.proofs.scan.step.front_step.Goals as goal

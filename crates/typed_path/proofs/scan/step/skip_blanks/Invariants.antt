@@ -1,5 +1,5 @@
 use Rattle.std.proofs.Common.{◌≡◌, ◌≤◌, ◌+◌, ◌-◌, ℕ, drop, length}
-use Rattle.typed_path.specs.components.Comps.{later_body}
+use Rattle.typed_path.specs.components.{later_body}
 use Rattle.typed_path.proofs.scan.step.skip_blanks.Given as goal
 
 abbrev pub invariant-loop-skipped : goal.invariant-loop-skipped

@@ -1,9 +1,8 @@
-use Rattle.std.proofs.Common.{◌≡◌, ℕ, ◌-◌, ◌≤◌, List, length, take, false, ap, subst, sym, ◌∙◌, arith}
+use Rattle.std.proofs.Common.{◌≡◌, ℕ, ◌-◌, ◌≤◌, List, length, take, false, ap, subst, sym, ◌∙◌, arith, take-take, length-take-le}
 use Rattle.std.proofs.lemmas.Bool.{not-true}
-use Rattle.std.proofs.lemmas.List.{take-take, length-take-le}
 use Rattle.typed_path.specs.declared.scan.separators.Separators.{Separators}
-use Rattle.typed_path.specs.scan.Steps.{is_trimmed}
-use Rattle.typed_path.proofs.lemmas.scan.TextEnds.{IsTrimOf, trim_once}
+use Rattle.typed_path.specs.scan.{is_trimmed}
+use Rattle.typed_path.proofs.lemmas.scan.LastComponent.{IsTrimOf, trim_once}
 use Rattle.typed_path.proofs.scan.step.trim_blanks.Goals as goal
 
 -- one byte less of what is left

@@ -1,6 +1,6 @@
 use Rattle.std.proofs.Common.{◌≡◌, ◌≤◌, ◌<◌, ℕ, take, length}
 use Rattle.typed_path.specs.declared.scan.cursor.Begin.{Begin}
-use Rattle.typed_path.specs.scan.Steps.{body_from, is_clean}
+use Rattle.typed_path.specs.scan.{body_from, is_clean}
 use Rattle.typed_path.proofs.scan.step.trim_blanks.Given as goal
 
 abbrev pub invariant-blanks : goal.invariant-blanks

@@ -1,4 +1,4 @@
-use Rattle.typed_path.proofs.lemmas.script.StreamLemmas.{Reads-start, Reads-runs_out, Consumes-nothing}
+use Rattle.typed_path.proofs.lemmas.script.Streams.{Reads-start, Reads-runs_out, Consumes-nothing}
 use Rattle.std.proofs.Common.{refl}
 use Rattle.typed_path.proofs.script.answer.answer_lines.Goals as goal
 

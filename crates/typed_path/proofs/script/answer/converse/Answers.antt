@@ -1,6 +1,5 @@
-use Rattle.std.proofs.Common.{◌≡◌, ℕ, List, [], ◌++◌, take, ap, arith, ◌∙◌}
-use Rattle.std.specs.Prelude.{Result, Ok, Err, OnOk, OnErr, IsErrAnd}
-use Rattle.typed_path.proofs.lemmas.script.StreamLemmas.{Reads-runs_out, Reads-step, Reads-stops_writing, Reads-answers_all, Reads-stops_at_end, ends-writing, ends-out, ends-sent}
+use Rattle.std.proofs.Common.{◌≡◌, ℕ, List, [], ◌++◌, take, ap, arith, ◌∙◌, Result, Ok, Err, OnOk, OnErr, IsErrAnd}
+use Rattle.typed_path.proofs.lemmas.script.Streams.{Reads-runs_out, Reads-step, Reads-stops_writing, Reads-answers_all, Reads-stops_at_end, ends-writing, ends-out, ends-sent}
 use Rattle.typed_path.proofs.script.answer.converse.Goals as goal
 
 on_ok : {T E P Q S : Type 0} (r : Result T E) → OnOk r P → OnOk r Q → (P → Q → S) → OnOk r S

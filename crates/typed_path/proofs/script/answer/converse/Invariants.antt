@@ -1,6 +1,6 @@
 use Rattle.std.proofs.Common.{◌≡◌, []}
-use Rattle.typed_path.specs.script.Streams.{streams}
-use Rattle.typed_path.proofs.lemmas.script.StreamLemmas.{Reads}
+use Rattle.typed_path.specs.script.{streams}
+use Rattle.typed_path.proofs.lemmas.script.Streams.{Reads}
 use Rattle.typed_path.proofs.script.answer.converse.Given as goal
 
 abbrev pub invariant-reads : goal.invariant-reads

@@ -1,6 +1,6 @@
-use Rattle.std.proofs.Common.{sym, ◌∙◌, take, drop}
-use Rattle.std.proofs.lemmas.List.{take_rest, take-append-drop}
-use Rattle.typed_path.proofs.lemmas.script.StreamLemmas.{Writes-step}
+use Rattle.std.proofs.Common.{sym, ◌∙◌, take, drop, take-append-drop}
+use Rattle.std.proofs.lemmas.List.{take_rest}
+use Rattle.typed_path.proofs.lemmas.script.Streams.{Writes-step}
 use Rattle.typed_path.proofs.script.answer.write_all.Goals as goal
 
 pub writes-preserved : goal.writes-preserved

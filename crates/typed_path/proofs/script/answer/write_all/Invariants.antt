@@ -1,5 +1,5 @@
 use Rattle.std.proofs.Common.{◌≡◌, length}
-use Rattle.typed_path.proofs.lemmas.script.StreamLemmas.{Writes}
+use Rattle.typed_path.proofs.lemmas.script.Streams.{Writes}
 use Rattle.typed_path.proofs.script.answer.write_all.Given as goal
 
 abbrev pub invariant-writes : goal.invariant-writes

@@ -1,7 +1,6 @@
-use Rattle.std.proofs.Common.{ap, refl, sym}
-use Rattle.std.specs.Prelude.{codes}
-use Rattle.typed_path.specs.script.Lines.{fields_of, reply_line, bare_reply}
-use Rattle.typed_path.proofs.lemmas.script.LineLemmas.{no_bare_command, fields-behind, lacks-first, put_alike, put_behind}
+use Rattle.std.proofs.Common.{ap, refl, sym, codes}
+use Rattle.typed_path.specs.script.{fields_of, reply_line, bare_reply}
+use Rattle.typed_path.proofs.lemmas.script.Lines.{no_bare_command, fields-behind, lacks-first, put_alike, put_behind}
 use Rattle.typed_path.proofs.script.lines.answer_bare_line.Goals as goal
 
 pub returns-in-Some : goal.returns-in-Some

@@ -1,8 +1,7 @@
-use Rattle.std.proofs.Common.{ℕ, List, [], ◌∷◌, ap, sym, ◌∙◌}
-use Rattle.std.specs.Prelude.{codes}
-use Rattle.typed_path.specs.views.FrontViews.{front_bytes}
-use Rattle.typed_path.specs.script.Lines.{fields_of, reply_line, bare_reply}
-use Rattle.typed_path.proofs.lemmas.script.LineLemmas.{bare_too_many, fields-behind, ended_so, ends_line, put_behind}
+use Rattle.std.proofs.Common.{ℕ, List, [], ◌∷◌, ap, sym, ◌∙◌, codes}
+use Rattle.typed_path.specs.views.SpanViews.{span_bytes}
+use Rattle.typed_path.specs.script.{fields_of, reply_line, bare_reply}
+use Rattle.typed_path.proofs.lemmas.script.Lines.{bare_too_many, fields-behind, ended_so, ends_line, put_behind}
 use Rattle.typed_path.proofs.script.lines.answer_derive.Goals as goal
 
 abbrev given : List (List ℕ) → List ℕ
@@ -11,11 +10,11 @@ given fields = reply_line (bare_reply (codes "derive" ∷ fields))
 pub returns-in_ok-put_derived-in-Some-default-LineFeed-default : goal.returns-in_ok-put_derived-in-Some-default-LineFeed-default
 returns-in_ok-put_derived-in-Some-default-LineFeed-default c =
     let cut = c.in-Some-default-LineFeed-default in
-    ends_line (λ texts. given (fields_of texts)) c.args.input.now (front_bytes cut.path) cut.left.now _ _ _ (ended_so _ _ _ _ _ cut.field-0-1-is cut.ensures.text) cut.ensures.line c.in_ok-put_derived-in-Some-default-LineFeed-default.ensures (ap (λ path. given (path ∷ [])) c.as_bytes.ensures ∙ sym (ap given cut.ensures.field))
+    ends_line (λ texts. given (fields_of texts)) c.args.input.now (span_bytes cut.path) cut.left.now _ _ _ (ended_so _ _ _ _ _ cut.field-0-1-is cut.ensures.text) cut.ensures.line c.in_ok-put_derived-in-Some-default-LineFeed-default.ensures (ap (λ path. given (path ∷ [])) c.as_bytes.ensures ∙ sym (ap given cut.ensures.field))
 
 pub returns-in-Some-default-Tab-default : goal.returns-in-Some-default-Tab-default
 returns-in-Some-default-Tab-default c =
     let cut = c.in-Some-default-Tab-default in
-    put_behind c.answer_bad_line.result _ (λ texts. given (fields_of texts)) _ _ _ c.args.input.now (front_bytes cut.field-0-0) cut.rest.now (ended_so _ _ _ _ _ cut.field-0-1-is cut.ensures.text) cut.ensures.line
-    (λ line lines e. sym (ap given (fields-behind (front_bytes cut.field-0-0) line cut.ensures.field) ∙ ap reply_line (bare_too_many (front_bytes cut.field-0-0) line)))
+    put_behind c.answer_bad_line.result _ (λ texts. given (fields_of texts)) _ _ _ c.args.input.now (span_bytes cut.field-0-0) cut.rest.now (ended_so _ _ _ _ _ cut.field-0-1-is cut.ensures.text) cut.ensures.line
+    (λ line lines e. sym (ap given (fields-behind (span_bytes cut.field-0-0) line cut.ensures.field) ∙ ap reply_line (bare_too_many (span_bytes cut.field-0-0) line)))
     c.answer_bad_line.ensures

@@ -1,10 +1,8 @@
-use Rattle.std.proofs.Common.{◌≡◌, ℕ, List, ◌∷◌, ◌++◌, ap, sym, ◌∙◌}
-use Rattle.std.specs.Prelude.{Option, Result, IfOk, codes}
-use Rattle.typed_path.specs.components.Dialect.{Dialect, unix, windows}
-use Rattle.typed_path.specs.script.Lines.{tab, fields_of, reply, reply_line, reply_fields, dialect_name, AnswersFirst}
-use Rattle.typed_path.specs.script.Commands.{command_name, texts_reply}
+use Rattle.std.proofs.Common.{◌≡◌, ℕ, List, ◌∷◌, ◌++◌, ap, sym, ◌∙◌, Option, Result, IfOk, codes}
+use Rattle.typed_path.specs.components.{Dialect, unix, windows}
+use Rattle.typed_path.specs.script.{tab, fields_of, reply, reply_line, reply_fields, dialect_name, AnswersFirst, command_name, texts_reply}
 use Rattle.typed_path.specs.declared.script.lines.Command.{Command}
-use Rattle.typed_path.proofs.lemmas.script.LineLemmas.{named_reply, no_command, no_encoding, command_is_field, dialect_is_field, fields-behind, lacks-first, put_alike, put_behind}
+use Rattle.typed_path.proofs.lemmas.script.Lines.{named_reply, no_command, no_encoding, command_is_field, dialect_is_field, fields-behind, lacks-first, put_alike, put_behind}
 use Rattle.typed_path.proofs.script.lines.answer_line.Goals as goal
 
 pub returns-in_default : goal.returns-in_default

@@ -1,4 +1,4 @@
-use Rattle.typed_path.proofs.lemmas.script.LineLemmas.{no_command_begins}
+use Rattle.typed_path.proofs.lemmas.script.Lines.{no_command_begins}
 use Rattle.typed_path.proofs.script.lines.command_of.Goals as goal
 
 pub returns : goal.returns

@@ -1,4 +1,4 @@
-use Rattle.typed_path.proofs.lemmas.script.LineLemmas.{field-before, line-before, line-whole}
+use Rattle.typed_path.proofs.lemmas.script.Lines.{field-before, line-before, line-whole}
 use Rattle.typed_path.proofs.script.lines.cut_field.Goals as goal
 
 pub returns-then-at-input-clause-none : goal.returns-then-at-input-clause-none

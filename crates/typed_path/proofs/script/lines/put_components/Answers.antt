@@ -1,15 +1,13 @@
-use Rattle.std.proofs.Common.{◌≡◌, ℕ, List, [], ◌∷◌, ◌++◌, append-nil, append_assoc, refl, sym, ap, ◌∙◌}
-use Rattle.std.specs.Prelude.{codes, Some, None, option_map}
+use Rattle.std.proofs.Common.{◌≡◌, ℕ, List, [], ◌∷◌, ◌++◌, append-nil, append_assoc, refl, sym, ap, ◌∙◌, codes, Some, None, option_map}
 use Rattle.std.proofs.lemmas.Grind.{flat_map-append}
-use Rattle.typed_path.specs.components.Comps.{comps, parts_of}
-use Rattle.typed_path.specs.components.Part.{Part}
-use Rattle.typed_path.specs.script.Lines.{tab, line_feed, reply_line, components_reply, component_field, fields_behind}
+use Rattle.typed_path.specs.components.{comps, parts_of, Part, parts}
+use Rattle.typed_path.specs.script.{tab, line_feed, reply_line, components_reply, component_field, fields_behind}
 use Rattle.typed_path.specs.views.BodyViews.{body_items}
 use Rattle.typed_path.specs.views.CursorViews.{items_left}
-use Rattle.typed_path.specs.views.FrontViews.{front_bytes}
+use Rattle.typed_path.specs.views.SpanViews.{span_bytes}
 use Rattle.typed_path.specs.views.PieceViews.{part_of, step_part}
-use Rattle.typed_path.proofs.lemmas.scan.StepLemmas.{parts-prefixed, yields_first, fewer}
-use Rattle.typed_path.proofs.lemmas.script.LineLemmas.{join_with_byte-map}
+use Rattle.typed_path.proofs.lemmas.scan.Steps.{parts-prefixed, yields_first, fewer}
+use Rattle.typed_path.proofs.lemmas.script.Lines.{join_with_byte-map}
 use Rattle.typed_path.proofs.script.lines.put_components.Goals as goal
 
 -- the fields of the first components stand, and those of the others are left
@@ -42,9 +40,9 @@ all_shown old new replies left ps none ended h =
 pub steps-init : goal.steps-init
 steps-init g c =
     let d = g.T.Encoding.dialect in
-    let path = front_bytes c.args.path in
-    let split = parts-prefixed (comps d path) (items_left c.cursor-cursor.result) (body_items c.within-body.result) (option_map part_of c.prefix_piece.result)
-    (c.cursor-cursor.ensures.items ∙ ap (comps d) c.as_bytes.ensures) c.prefix_piece.ensures (c.within-body.ensures ∙ c.body.ensures.items) in
+    let path = span_bytes c.args.path in
+    let split = parts-prefixed (comps d path) (items_left c.within-cursor.result) (body_items c.body-body.result) (option_map part_of c.prefix_piece.result)
+    (c.within-cursor.ensures ∙ ap parts (c.cursor.ensures.items ∙ ap (comps d) c.as_bytes.ensures)) c.prefix_piece.ensures c.body-body.ensures in
     record {
       left = c.onward-left.ensures;
       shown = first_shown c.args.replies.now.items _ _ _ _ (parts_of d path) split c.in_ok-extend_from_slice.ensures.items c.in_ok-put_prefix.ensures;
@@ -64,4 +62,4 @@ steps-preserved g c =
 pub returns : goal.returns
 returns g c =
     let none = (yields_first step_part None (body_items c.steps.body) (body_items c.front.new.self) c.in_default.ensures.taken c.in_default.ensures.items).0 in
-    all_shown c.args.replies.now.items c.push.new.self.items c.steps.replies.items _ (parts_of g.T.Encoding.dialect (front_bytes c.args.path)) none c.in_ok-push.ensures.items c.steps.invariant.shown
+    all_shown c.args.replies.now.items c.push.new.self.items c.steps.replies.items _ (parts_of g.T.Encoding.dialect (span_bytes c.args.path)) none c.in_ok-push.ensures.items c.steps.invariant.shown

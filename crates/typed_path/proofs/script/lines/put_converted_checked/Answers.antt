@@ -1,8 +1,8 @@
-use Rattle.std.proofs.Common.{[], ◌++◌, ap, sym, subst, ◌≡◌, ◌∙◌, arith}
-use Rattle.std.specs.Prelude.{Err, Some, OnOk, ⊤}
-use Rattle.typed_path.specs.changes.Checked.{refusal}
-use Rattle.typed_path.specs.script.Lines.{reply_line, joined_reply, converted_reply}
-use Rattle.typed_path.proofs.lemmas.script.LineLemmas.{put_same, text_answered, text_cut_off}
+use Rattle.std.proofs.Common.{[], ◌++◌, ap, sym, subst, ◌≡◌, ◌∙◌, arith, Err, Some, OnOk}
+use Rattle.std.specs.Prelude.{⊤}
+use Rattle.typed_path.specs.changes.{refusal}
+use Rattle.typed_path.specs.script.{reply_line, joined_reply, converted_reply}
+use Rattle.typed_path.proofs.lemmas.script.Lines.{put_same, text_answered, text_cut_off}
 use Rattle.typed_path.proofs.script.lines.put_converted_checked.Goals as goal
 
 pub returns-in_ok-push-in-Ok : goal.returns-in_ok-push-in-Ok

@@ -1,6 +1,6 @@
 use Rattle.std.proofs.Common.{ap, ◌∙◌, arith}
-use Rattle.typed_path.specs.changes.Push.{push}
-use Rattle.typed_path.proofs.lemmas.changes.RunLemmas.{push_all-more, fits_each-pushed, fits_each-first}
+use Rattle.typed_path.specs.changes.{push}
+use Rattle.typed_path.proofs.lemmas.changes.Runs.{push_all-more, fits_each-pushed, fits_each-first}
 use Rattle.typed_path.proofs.script.run.push_each.Goals as goal
 
 pub returns-in_err-known-clause-succeeds : goal.returns-in_err-known-clause-succeeds

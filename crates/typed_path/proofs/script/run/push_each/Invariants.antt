@@ -1,7 +1,5 @@
 use Rattle.std.proofs.Common.{◌≡◌, ◌≤◌, map, take, drop}
-use Rattle.typed_path.specs.changes.Push.{push_all}
-use Rattle.typed_path.specs.changes.Run.{FitsEach}
-use Rattle.typed_path.specs.changes.Spelled.{IsKnown}
+use Rattle.typed_path.specs.changes.{push_all, FitsEach, IsKnown}
 use Rattle.typed_path.proofs.script.run.push_each.Given as goal
 
 abbrev pub invariant-others : goal.invariant-others

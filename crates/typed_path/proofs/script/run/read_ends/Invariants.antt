@@ -1,8 +1,7 @@
 use Rattle.std.proofs.Common.{◌≡◌, ◌+◌, ◌-◌, ◌≤◌, ◌++◌, map, option_map, drop, length, vec_len, vec_capacity}
 use Rattle.typed_path.specs.views.PieceViews.{part_of}
 use Rattle.typed_path.specs.views.PathViews.{components_items, components_slice}
-use Rattle.typed_path.specs.scan.Reading.{answers_after, items_after, slice_after}
-use Rattle.typed_path.specs.scan.Ends.{sides, taken_parts}
+use Rattle.typed_path.specs.scan.{answers_after, items_after, slice_after, sides, taken_parts}
 use Rattle.typed_path.proofs.script.run.read_ends.Given as goal
 
 abbrev pub invariant-ends : goal.invariant-ends

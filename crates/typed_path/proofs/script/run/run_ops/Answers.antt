@@ -2,9 +2,9 @@ use Rattle.std.proofs.Common.{◌≡◌, List, [], ◌∷◌, ◌++◌, ap, ◌�
 use Rattle.std.proofs.lemmas.List.{map-append}
 use Rattle.typed_path.specs.declared.script.run.PathOp.TheVariants.{Pop}
 use Rattle.typed_path.specs.declared.script.run.Reply.{Reply}
-use Rattle.typed_path.specs.changes.Run.{Response}
+use Rattle.typed_path.specs.changes.{Response}
 use Rattle.typed_path.specs.views.RunViews.{responses_of, response_of}
-use Rattle.typed_path.proofs.lemmas.changes.RunLemmas.{text_after-more, replies-more, stops, none_taken, on_err, fits_all-first, fits_all-stepped}
+use Rattle.typed_path.proofs.lemmas.changes.Runs.{text_after-more, replies-more, stops, none_taken, on_err, fits_all-first, fits_all-stepped}
 use Rattle.typed_path.proofs.script.run.run_ops.Goals as goal
 
 pub returns-in_err-reserve-clause-memory : goal.returns-in_err-reserve-clause-memory

@@ -1,5 +1,5 @@
 use Rattle.std.proofs.Common.{◌≡◌, ◌+◌, ◌-◌, ◌≤◌, ◌++◌, take, drop, length, vec_len, vec_capacity}
-use Rattle.typed_path.specs.changes.Run.{text_after, replies, FitsAll}
+use Rattle.typed_path.specs.changes.{text_after, replies, FitsAll}
 use Rattle.typed_path.specs.views.RunViews.{operations_of, responses_of}
 use Rattle.typed_path.proofs.script.run.run_ops.Given as goal
 

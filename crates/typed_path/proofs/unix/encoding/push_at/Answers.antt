@@ -1,7 +1,7 @@
 use Rattle.std.proofs.Common.{◌≡◌, ◌++◌, take, slice_range, sym, ap, subst, ◌∙◌, append_assoc}
 use Rattle.std.proofs.lemmas.Result.{on_ok_weaker}
-use Rattle.typed_path.specs.changes.Push.{push_unix}
-use Rattle.typed_path.proofs.lemmas.changes.PushLemmas.{up_to-end}
+use Rattle.typed_path.specs.changes.{push_unix}
+use Rattle.typed_path.proofs.lemmas.changes.WindowsPushes.{up_to-end}
 use Rattle.typed_path.proofs.unix.encoding.push_at.Goals as goal
 
 pub returns-in-Some-clause-ok : goal.returns-in-Some-clause-ok

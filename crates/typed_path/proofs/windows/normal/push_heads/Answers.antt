@@ -1,19 +1,16 @@
-use Rattle.std.proofs.Common.{◌≡◌, ◌⊎◌, inl, inr, ℕ, ◌<◌, arith, length, List, [], ◌∷◌, ◌++◌, map, drop, Bor, true, refl, sym, ap, subst, append-nil, ◌∙◌}
-use Rattle.std.specs.Prelude.{Option, Some, None, option_to_list, IsSome}
+use Rattle.std.proofs.Common.{◌≡◌, ◌⊎◌, inl, inr, ℕ, ◌<◌, arith, length, List, [], ◌∷◌, ◌++◌, map, drop, Bor, true, refl, sym, ap, subst, append-nil, ◌∙◌, Option, Some, None, option_to_list, IsSome}
 use Rattle.std.proofs.lemmas.List.{map-append, drop_all}
 use Rattle.typed_path.specs.declared.scan.step.Piece.{Piece}
 use Rattle.typed_path.specs.declared.scan.step.PieceKind.{PieceKind}
 use Rattle.typed_path.specs.declared.scan.step.PieceKind.TheVariants.{Prefix, CurDir, ParentDir, RootDir, Normal}
 use Rattle.typed_path.specs.declared.scan.prefix.WindowsPrefix.{WindowsPrefix}
-use Rattle.typed_path.specs.components.Dialect.{windows}
-use Rattle.typed_path.specs.components.Part.{Part, parts, parent}
-use Rattle.typed_path.specs.components.Comps.{parts_of}
-use Rattle.typed_path.specs.places.Places.{normal_text}
+use Rattle.typed_path.specs.components.{windows, Part, parts, parent, parts_of}
+use Rattle.typed_path.specs.places.{normal_text}
 use Rattle.typed_path.specs.views.CursorViews.{items_left}
 use Rattle.typed_path.specs.views.PieceViews.{part_of, kind_view}
-use Rattle.typed_path.proofs.lemmas.places.ResolveLemmas.{is_head, Comes, comes-current, comes-name, comes-parent, comes-parent_alone, comes-head, comes-end}
-use Rattle.typed_path.proofs.lemmas.components.WrittenLemmas.{heads_first-parts_of}
-use Rattle.typed_path.proofs.lemmas.scan.StepLemmas.{yields_first, fewer}
+use Rattle.typed_path.proofs.lemmas.places.Resolving.{is_head, Comes, comes-current, comes-name, comes-parent, comes-parent_alone, comes-head, comes-end}
+use Rattle.typed_path.proofs.lemmas.components.WrittenForms.{heads_first-parts_of}
+use Rattle.typed_path.proofs.lemmas.scan.Steps.{yields_first, fewer}
 use Rattle.typed_path.proofs.windows.normal.push_heads.Goals as goal
 
 -- a piece of a known kind, at the front of what the list comes down to
@@ -63,10 +60,10 @@ pieces-init c = (
 pub pieces-preserved-in-Continue-branch-2 : goal.pieces-preserved-in-Continue-branch-2
 pieces-preserved-in-Continue-branch-2 c =
     let taken = yields_first part_of (Some c.in-Some.piece) (items_left c.pieces.components) (items_left c.front.new.self) c.in-Some.ensures.taken c.in-Some.ensures.items in (
-      at_text (sym c.in_ok-push_behind-in-Prefix.ensures.ok) (comes-head (is_head-piece c.in-Some.piece c.in-Prefix.is) (at_parts taken c.pieces.invariant.0)),
-      c.in_ok-push_behind-in-Prefix.ensures.kept ∙ c.pieces.invariant.1,
-      c.in_ok-push_behind-in-Prefix.ensures.long,
-      omega (arith, c.in_ok-push_behind-in-Prefix.ensures.capacity, c.pieces.invariant.3),
+      at_text (sym c.in_ok-push_head-in-Prefix.ensures.ok) (comes-head (is_head-piece c.in-Some.piece c.in-Prefix.is) (at_parts taken c.pieces.invariant.0)),
+      c.in_ok-push_head-in-Prefix.ensures.kept ∙ c.pieces.invariant.1,
+      c.in_ok-push_head-in-Prefix.ensures.long,
+      omega (arith, c.in_ok-push_head-in-Prefix.ensures.capacity, c.pieces.invariant.3),
     )
 
 pub pieces-smaller-in-CurDir : goal.pieces-smaller-in-CurDir

@@ -1,10 +1,9 @@
 use Rattle.std.proofs.Common.{◌≡◌, ◌≤◌, length, map, take, drop}
 use Rattle.std.specs.Vec.{vec_capacity}
-use Rattle.typed_path.specs.components.Dialect.{windows}
-use Rattle.typed_path.specs.components.Part.{parts}
-use Rattle.typed_path.specs.places.Places.{normal_text}
+use Rattle.typed_path.specs.components.{windows, parts}
+use Rattle.typed_path.specs.places.{normal_text}
 use Rattle.typed_path.specs.views.CursorViews.{items_left}
-use Rattle.typed_path.proofs.lemmas.places.ResolveLemmas.{Comes}
+use Rattle.typed_path.proofs.lemmas.places.Resolving.{Comes}
 use Rattle.typed_path.proofs.windows.normal.push_heads.Given as goal
 
 abbrev pub decreases-pieces : goal.decreases-pieces

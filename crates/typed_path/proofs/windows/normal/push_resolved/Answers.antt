@@ -1,8 +1,8 @@
 use Rattle.std.proofs.Common.{◌≡◌, ℕ, ◌+◌, ◌<◌, arith, length, get_or, List, map, drop, Bor, sym, ap, ◌∙◌}
 use Rattle.std.proofs.lemmas.List.{drop-map, drop_more}
-use Rattle.typed_path.specs.components.Dialect.{windows}
-use Rattle.typed_path.specs.changes.Push.{push_windows, push_all}
-use Rattle.typed_path.proofs.lemmas.conversions.CrossedLemmas.{put-whole}
+use Rattle.typed_path.specs.components.{windows}
+use Rattle.typed_path.specs.changes.{push_windows, push_all}
+use Rattle.typed_path.proofs.lemmas.conversions.Crossings.{put-whole}
 use Rattle.typed_path.proofs.windows.normal.push_resolved.Goals as goal
 
 -- one more name pushed

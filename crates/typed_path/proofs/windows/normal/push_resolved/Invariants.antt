@@ -1,9 +1,8 @@
 use Rattle.std.proofs.Common.{◌≡◌, ◌≤◌, length, map, take, drop}
 use Rattle.std.specs.Vec.{vec_capacity}
-use Rattle.typed_path.specs.components.Dialect.{windows}
-use Rattle.typed_path.specs.places.Places.{normal_text}
-use Rattle.typed_path.specs.changes.Push.{push_all}
-use Rattle.typed_path.specs.changes.Spelled.{IsKnown}
+use Rattle.typed_path.specs.components.{windows}
+use Rattle.typed_path.specs.places.{normal_text}
+use Rattle.typed_path.specs.changes.{push_all, IsKnown}
 use Rattle.typed_path.proofs.windows.normal.push_resolved.Given as goal
 
 abbrev pub invariant-names : goal.invariant-names

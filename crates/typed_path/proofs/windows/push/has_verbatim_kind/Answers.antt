@@ -1,6 +1,5 @@
-use Rattle.std.proofs.Common.{ap, sym, ◌∙◌}
-use Rattle.std.specs.Prelude.{not}
-use Rattle.typed_path.proofs.lemmas.changes.PushLemmas.{verbatim-marked, is_marked}
+use Rattle.std.proofs.Common.{ap, sym, ◌∙◌, not}
+use Rattle.typed_path.proofs.lemmas.changes.WindowsPushes.{verbatim-marked, is_marked}
 use Rattle.typed_path.proofs.windows.push.has_verbatim_kind.Goals as goal
 
 pub returns-in-Some : goal.returns-in-Some

@@ -1,5 +1,5 @@
 use Rattle.std.proofs.Common.{ap, not, length, ◌==◌, ◌∙◌}
-use Rattle.typed_path.specs.components.Dialect.{is_separator}
+use Rattle.typed_path.specs.components.{is_separator}
 use Rattle.typed_path.proofs.lemmas.lists.Lists.{position-any}
 use Rattle.typed_path.proofs.windows.push.is_separated.Goals as goal
 

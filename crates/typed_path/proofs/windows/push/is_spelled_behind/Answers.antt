@@ -1,12 +1,9 @@
-use Rattle.std.proofs.Common.{◌≡◌, Bool, true, false, [], ◌∷◌, List, drop, sym, ap, ◌∙◌}
-use Rattle.std.specs.Prelude.{ℕ, Some}
-use Rattle.std.proofs.lemmas.Bool.{eqb-true}
+use Rattle.std.proofs.Common.{◌≡◌, Bool, true, false, [], ◌∷◌, List, drop, sym, ap, ◌∙◌, ℕ, Some, eqb-true}
 use Rattle.std.proofs.lemmas.List.{nil_from_length}
-use Rattle.typed_path.specs.components.Dialect.{windows, backslash, separators}
-use Rattle.typed_path.specs.components.Prefix.{Found, prefix_of, is_empty}
-use Rattle.typed_path.specs.queries.Queries.{is_verbatim_prefix}
-use Rattle.typed_path.specs.changes.Spelled.{is_row, TellsSpelled}
-use Rattle.typed_path.proofs.lemmas.changes.Spellings.{root-spelled, row-spelled_text, other-unspelled, row-unspelled}
+use Rattle.typed_path.specs.components.{windows, backslash, separators, Found, prefix_of, is_empty}
+use Rattle.typed_path.specs.queries.{is_verbatim_prefix}
+use Rattle.typed_path.specs.changes.{is_row, TellsSpelled}
+use Rattle.typed_path.proofs.lemmas.changes.SpelledTexts.{root-spelled, row-spelled_text, other-unspelled, row-unspelled}
 use Rattle.typed_path.proofs.windows.push.is_spelled_behind.Goals as goal
 
 pub returns-then-first-ne92 : goal.returns-then-first-ne92

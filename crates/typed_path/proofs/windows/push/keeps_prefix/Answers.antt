@@ -1,10 +1,8 @@
-use Rattle.std.proofs.Common.{◌≡◌, Bool, true, false, Option, Some, None, refl, sym, ap, subst, ◌∙◌, arith}
-use Rattle.std.specs.Prelude.{not, is_some, option_map, IsTrue}
-use Rattle.typed_path.specs.components.Dialect.{windows}
-use Rattle.typed_path.specs.changes.Push.{push_windows}
-use Rattle.typed_path.specs.changes.Spelled.{IsKnown}
+use Rattle.std.proofs.Common.{◌≡◌, Bool, true, false, Option, Some, None, refl, sym, ap, subst, ◌∙◌, arith, not, is_some, option_map, IsTrue}
+use Rattle.typed_path.specs.components.{windows}
+use Rattle.typed_path.specs.changes.{push_windows, IsKnown}
 use Rattle.typed_path.specs.views.PieceViews.{found_of}
-use Rattle.typed_path.proofs.lemmas.changes.ReadStanding.{keeps-known}
+use Rattle.typed_path.proofs.lemmas.changes.MergedInPlace.{keeps-known}
 use Rattle.typed_path.proofs.windows.push.keeps_prefix.Goals as goal
 
 none_is : {A : Type 0} (o : Option A) (b : Bool) → is_some o ≡ not b → IsTrue b → o ≡ None

@@ -1,14 +1,11 @@
-use Rattle.std.proofs.Common.{◌≡◌, ◌≤◌, ◌<◌, Bool, false, List, length, take, drop, slice_range, refl, sym, ap, subst, ◌∙◌, take_all, arith}
-use Rattle.std.specs.Prelude.{ℕ, if◌then◌else◌}
+use Rattle.std.proofs.Common.{◌≡◌, ◌≤◌, ◌<◌, Bool, false, List, length, take, drop, slice_range, refl, sym, ap, subst, ◌∙◌, take_all, arith, ℕ, if◌then◌else◌}
 use Rattle.std.specs.List.{IsAfterLastMatch}
 use Rattle.typed_path.specs.declared.scan.separators.Separators.TheVariants.{Backslash}
-use Rattle.typed_path.specs.components.Dialect.{is_separator}
-use Rattle.typed_path.specs.components.Part.{Part}
-use Rattle.typed_path.specs.changes.Push.{without_last_name}
-use Rattle.typed_path.specs.changes.Spelled.{Stands}
+use Rattle.typed_path.specs.components.{is_separator, Part}
+use Rattle.typed_path.specs.changes.{without_last_name, Stands}
 use Rattle.typed_path.proofs.lemmas.lists.Lists.{IsLastPlace}
-use Rattle.typed_path.proofs.lemmas.conversions.CrossedLemmas.{whole_range}
-use Rattle.typed_path.proofs.lemmas.changes.PushLemmas.{is_dots, stands-short, stands-dots, stands-cut, stands-alone}
+use Rattle.typed_path.proofs.lemmas.conversions.Crossings.{whole_range}
+use Rattle.typed_path.proofs.lemmas.changes.WindowsPushes.{is_dots, stands-short, stands-dots, stands-cut, stands-alone}
 use Rattle.typed_path.proofs.windows.push.len_without_name.Goals as goal
 
 -- the whole text, where no name is taken off

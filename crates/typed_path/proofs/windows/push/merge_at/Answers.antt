@@ -1,7 +1,7 @@
 use Rattle.std.proofs.Common.{◌≡◌, true, slice_range, sym, subst}
-use Rattle.typed_path.specs.components.Dialect.{windows}
-use Rattle.typed_path.specs.changes.Push.{spells_anew}
-use Rattle.typed_path.proofs.lemmas.changes.ReadStanding.{spelled-prefixed_list}
+use Rattle.typed_path.specs.components.{windows}
+use Rattle.typed_path.specs.changes.{spells_anew}
+use Rattle.typed_path.proofs.lemmas.changes.MergedInPlace.{spelled-prefixed_list}
 use Rattle.typed_path.proofs.windows.push.merge_at.Goals as goal
 
 pub spelled_anew-requires-clause-own : goal.spelled_anew-requires-clause-own

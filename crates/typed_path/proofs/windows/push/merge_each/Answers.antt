@@ -1,9 +1,8 @@
-use Rattle.std.proofs.Common.{true≢false, sym, ◌∙◌, arith}
-use Rattle.std.specs.Prelude.{Some, None}
+use Rattle.std.proofs.Common.{true≢false, sym, ◌∙◌, arith, Some, None}
 use Rattle.typed_path.specs.views.CursorViews.{items_left}
 use Rattle.typed_path.specs.views.PieceViews.{part_of}
-use Rattle.typed_path.proofs.lemmas.scan.StepLemmas.{yields_first}
-use Rattle.typed_path.proofs.lemmas.changes.Spellings.{merging-next, merging-end, room-next}
+use Rattle.typed_path.proofs.lemmas.scan.Steps.{yields_first}
+use Rattle.typed_path.proofs.lemmas.changes.SpelledTexts.{merging-next, merging-end, room-next}
 use Rattle.typed_path.proofs.windows.push.merge_each.Goals as goal
 
 pub returns-in_err-apart-clause-succeeds : goal.returns-in_err-apart-clause-succeeds

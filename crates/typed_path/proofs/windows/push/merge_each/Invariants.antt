@@ -1,9 +1,9 @@
 use Rattle.std.proofs.Common.{◌≡◌, ◌≤◌, ◌+◌, length, take, drop}
 use Rattle.std.specs.Vec.{vec_len, vec_capacity}
-use Rattle.typed_path.specs.components.Part.{parts}
-use Rattle.typed_path.specs.changes.Spelled.{room_of}
+use Rattle.typed_path.specs.components.{parts}
+use Rattle.typed_path.specs.changes.{room_of}
 use Rattle.typed_path.specs.views.CursorViews.{items_left}
-use Rattle.typed_path.proofs.lemmas.changes.Spellings.{IsMerging}
+use Rattle.typed_path.proofs.lemmas.changes.SpelledTexts.{IsMerging}
 use Rattle.typed_path.proofs.windows.push.merge_each.Given as goal
 
 abbrev pub decreases-pieces : goal.decreases-pieces

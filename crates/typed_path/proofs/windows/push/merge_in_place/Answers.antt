@@ -1,16 +1,10 @@
-use Rattle.std.proofs.Common.{◌≡◌, ◌≤◌, ◌+◌, ◌-◌, ◌==◌, ◌++◌, ne_eqb, inl, inr, true≢false, List, length, take, drop, slice_range, sym, ap, subst, ◌∙◌, length-drop, arith}
-use Rattle.std.specs.Prelude.{ℕ}
-use Rattle.std.proofs.lemmas.Bool.{eq-eqb, cases_lt}
-use Rattle.std.proofs.lemmas.List.{take-append-drop, drop-drop}
-use Rattle.typed_path.specs.components.Part.{parts}
-use Rattle.typed_path.specs.components.Dialect.{windows}
-use Rattle.typed_path.specs.components.Prefix.{is_empty}
-use Rattle.typed_path.specs.components.Comps.{parts_of}
-use Rattle.typed_path.specs.changes.Push.{merged}
-use Rattle.typed_path.specs.changes.Spelled.{AreMergeable, Stands, room_of}
+use Rattle.std.proofs.Common.{◌≡◌, ◌≤◌, ◌+◌, ◌-◌, ◌==◌, ◌++◌, ne_eqb, inl, inr, true≢false, List, length, take, drop, slice_range, sym, ap, subst, ◌∙◌, length-drop, arith, ℕ, eq-eqb, take-append-drop, drop-drop}
+use Rattle.std.proofs.lemmas.Bool.{cases_lt}
+use Rattle.typed_path.specs.components.{parts, windows, is_empty, parts_of}
+use Rattle.typed_path.specs.changes.{merged, AreMergeable, Stands, room_of}
 use Rattle.typed_path.specs.views.CursorViews.{items_left}
-use Rattle.typed_path.proofs.lemmas.changes.PushLemmas.{path-length}
-use Rattle.typed_path.proofs.lemmas.changes.ReadStanding.{text-mergeable, room-text, spelled-stands, spelled-prefixed_list, merged-text, place-prefix, place-text, place-behind}
+use Rattle.typed_path.proofs.lemmas.changes.WindowsPushes.{path-length}
+use Rattle.typed_path.proofs.lemmas.changes.MergedInPlace.{text-mergeable, room-text, spelled-stands, spelled-prefixed_list, merged-text, place-prefix, place-text, place-behind}
 use Rattle.typed_path.proofs.windows.push.merge_in_place.Goals as goal
 
 pub merge_each-requires-clause-mergeable : goal.merge_each-requires-clause-mergeable

@@ -1,8 +1,7 @@
 use Rattle.std.proofs.Common.{drop, refl, sym, subst}
-use Rattle.typed_path.specs.changes.Push.{merge_by_kind}
-use Rattle.typed_path.specs.changes.Spelled.{Stands}
+use Rattle.typed_path.specs.changes.{merge_by_kind, Stands}
 use Rattle.typed_path.specs.views.PieceViews.{part_of, kind_view}
-use Rattle.typed_path.proofs.lemmas.conversions.CrossedLemmas.{whole_range, cut-behind}
+use Rattle.typed_path.proofs.lemmas.conversions.Crossings.{whole_range, cut-behind}
 use Rattle.typed_path.proofs.windows.push.merge_piece.Goals as goal
 
 pub returns-in-ParentDir-clause-stands : goal.returns-in-ParentDir-clause-stands

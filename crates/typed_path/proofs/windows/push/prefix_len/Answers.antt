@@ -1,5 +1,5 @@
 use Rattle.std.proofs.Common.{sym}
-use Rattle.typed_path.specs.components.Dialect.{windows}
+use Rattle.typed_path.specs.components.{windows}
 use Rattle.typed_path.specs.views.PieceViews.{found_of}
 use Rattle.typed_path.proofs.lemmas.components.Prefixes.{prefix-fits}
 use Rattle.typed_path.proofs.windows.push.prefix_len.Goals as goal

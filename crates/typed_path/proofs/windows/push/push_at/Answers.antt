@@ -1,14 +1,9 @@
-use Rattle.std.proofs.Common.{◌≡◌, ◌≤◌, ◌+◌, ◌++◌, List, length, take, slice_range, sym, ap, subst, ◌∙◌, append-nil, append_assoc, length-append, arith}
-use Rattle.std.specs.Prelude.{ℕ, true, false}
-use Rattle.std.proofs.lemmas.List.{length-take-le}
+use Rattle.std.proofs.Common.{◌≡◌, ◌≤◌, ◌+◌, ◌++◌, List, length, take, slice_range, sym, ap, subst, ◌∙◌, append-nil, append_assoc, length-append, arith, ℕ, true, false, length-take-le}
 use Rattle.std.proofs.lemmas.Result.{on_ok_weaker}
-use Rattle.typed_path.specs.components.Dialect.{windows}
-use Rattle.typed_path.specs.components.Part.{kinds, parts}
-use Rattle.typed_path.specs.components.Comps.{parts_of}
-use Rattle.typed_path.specs.components.Prefix.{is_empty, prefix_of}
-use Rattle.typed_path.specs.queries.Queries.{has_prefix, has_any_verbatim_prefix, begins_with_root}
-use Rattle.typed_path.specs.changes.Push.{push_windows, raw_length, raw_prefix, ended_windows}
-use Rattle.typed_path.proofs.lemmas.changes.PushLemmas.{fits-plain, fits-prefixed, fits-merged, push-empty, push-prefixed, push-anew, push-rooted, push-relative, path-length, up_to-end, up_to-inside}
+use Rattle.typed_path.specs.components.{windows, kinds, parts, parts_of, is_empty, prefix_of}
+use Rattle.typed_path.specs.queries.{has_prefix, has_any_verbatim_prefix, begins_with_root}
+use Rattle.typed_path.specs.changes.{push_windows, raw_length, raw_prefix, ended_windows}
+use Rattle.typed_path.proofs.lemmas.changes.WindowsPushes.{fits-plain, fits-prefixed, fits-merged, push-empty, push-prefixed, push-anew, push-rooted, push-relative, path-length, up_to-end, up_to-inside}
 use Rattle.typed_path.proofs.windows.push.push_at.Goals as goal
 
 -- whether the path at a place of a text is verbatim, where the text is another's

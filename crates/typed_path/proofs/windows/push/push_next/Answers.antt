@@ -1,8 +1,7 @@
 use Rattle.std.proofs.Common.{◌≡◌, true≢false, length, drop, slice_range, refl, sym, ap, subst, ◌∙◌}
-use Rattle.typed_path.specs.components.Dialect.{windows}
-use Rattle.typed_path.specs.changes.Push.{FitsPush}
-use Rattle.typed_path.specs.changes.Spelled.{IsKnown}
-use Rattle.typed_path.proofs.lemmas.conversions.CrossedLemmas.{whole_range}
+use Rattle.typed_path.specs.components.{windows}
+use Rattle.typed_path.specs.changes.{FitsPush, IsKnown}
+use Rattle.typed_path.proofs.lemmas.conversions.Crossings.{whole_range}
 use Rattle.typed_path.proofs.windows.push.push_next.Goals as goal
 
 pub returns-in_err-push_at-clause-succeeds : goal.returns-in_err-push_at-clause-succeeds

@@ -1,8 +1,7 @@
-use Rattle.std.proofs.Common.{◌≡◌, ◌++◌, ◌∷◌, [], List, length, drop, OnOk, ap, ◌≤◌, ◌∙◌, length-append, length-drop, arith}
+use Rattle.std.proofs.Common.{◌≡◌, ◌++◌, ◌∷◌, [], List, length, drop, OnOk, ap, ◌≤◌, ◌∙◌, length-append, length-drop, arith, ℕ, Result, Ok, Err, is_ok, if◌then◌else◌}
 use Rattle.std.proofs.lemmas.List.{drop-append-le}
-use Rattle.std.specs.Prelude.{ℕ, Result, Ok, Err, is_ok, if◌then◌else◌}
-use Rattle.typed_path.specs.components.Dialect.{backslash}
-use Rattle.typed_path.proofs.lemmas.changes.PushLemmas.{stands-more}
+use Rattle.typed_path.specs.components.{backslash}
+use Rattle.typed_path.proofs.lemmas.changes.WindowsPushes.{stands-more}
 use Rattle.typed_path.proofs.windows.push.put_component.Goals as goal
 use Rattle.typed_path.proofs.windows.push.put_component.Goals.{then-len-head+in_ok-push, else-len-head}
 

@@ -1,12 +1,10 @@
-use Rattle.std.proofs.Common.{◌≡◌, ◌++◌, ◌∷◌, [], List, length, drop, take, refl, sym, ap, subst, ◌∙◌, length-append, arith}
-use Rattle.std.specs.Prelude.{Some, None, not, true}
+use Rattle.std.proofs.Common.{◌≡◌, ◌++◌, ◌∷◌, [], List, length, drop, take, refl, sym, ap, subst, ◌∙◌, length-append, arith, Some, None, not, true}
 use Rattle.std.proofs.lemmas.List.{drop-append-le, drop_all, take-append-le}
-use Rattle.typed_path.specs.components.Dialect.{backslash}
-use Rattle.typed_path.specs.components.Part.{Placed, parts}
+use Rattle.typed_path.specs.components.{backslash, Placed, parts}
 use Rattle.typed_path.specs.views.CursorViews.{items_left}
 use Rattle.typed_path.specs.views.PieceViews.{part_of}
-use Rattle.typed_path.proofs.lemmas.scan.StepLemmas.{yields_first}
-use Rattle.typed_path.proofs.lemmas.changes.ReadStanding.{ArePut, put-relative, put-rooted, put-next, put-end}
+use Rattle.typed_path.proofs.lemmas.scan.Steps.{yields_first}
+use Rattle.typed_path.proofs.lemmas.changes.MergedInPlace.{ArePut, put-relative, put-rooted, put-next, put-end}
 use Rattle.typed_path.proofs.windows.push.put_each.Goals as goal
 use Rattle.typed_path.proofs.windows.push.put_each.Goals.{then-not-parted+in_ok-push, else-not-parted}
 

@@ -1,7 +1,7 @@
 use Rattle.std.proofs.Common.{◌≡◌, ◌≤◌, length, take, drop}
-use Rattle.typed_path.specs.components.Part.{parts}
+use Rattle.typed_path.specs.components.{parts}
 use Rattle.typed_path.specs.views.CursorViews.{items_left}
-use Rattle.typed_path.proofs.lemmas.changes.ReadStanding.{ArePut}
+use Rattle.typed_path.proofs.lemmas.changes.MergedInPlace.{ArePut}
 use Rattle.typed_path.proofs.windows.push.put_each.Given as goal
 
 abbrev pub decreases-pieces : goal.decreases-pieces

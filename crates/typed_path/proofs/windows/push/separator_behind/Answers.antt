@@ -1,5 +1,5 @@
 use Rattle.std.proofs.Common.{rules}
-use Rattle.typed_path.proofs.lemmas.changes.PushLemmas.{ended-empty, ended-ended}
+use Rattle.typed_path.proofs.lemmas.changes.WindowsPushes.{ended-empty, ended-ended}
 use Rattle.typed_path.proofs.windows.push.separator_behind.Goals as goal
 use Rattle.typed_path.proofs.windows.push.separator_behind.Goals.{then-base-lt1, else-base-lt1+in-92-1}
 

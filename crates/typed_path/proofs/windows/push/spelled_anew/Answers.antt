@@ -1,12 +1,8 @@
-use Rattle.std.proofs.Common.{◌≡◌, ◌++◌, ◌∷◌, List, [], refl, take, drop, sym, ap, subst, ◌∙◌, length-take-le, arith}
-use Rattle.std.proofs.lemmas.List.{take_all}
-use Rattle.typed_path.specs.components.Part.{Placed, parts}
-use Rattle.typed_path.specs.components.Dialect.{windows}
-use Rattle.typed_path.specs.components.Comps.{parts_of}
-use Rattle.typed_path.specs.changes.Push.{merged}
-use Rattle.typed_path.specs.changes.Spelled.{AreReadBehind, AreMergeable, Stands}
+use Rattle.std.proofs.Common.{◌≡◌, ◌++◌, ◌∷◌, List, [], refl, take, drop, sym, ap, subst, ◌∙◌, length-take-le, arith, take_all}
+use Rattle.typed_path.specs.components.{Placed, parts, windows, parts_of}
+use Rattle.typed_path.specs.changes.{merged, AreReadBehind, AreMergeable, Stands}
 use Rattle.typed_path.specs.views.CursorViews.{items_left}
-use Rattle.typed_path.proofs.lemmas.changes.ReadStanding.{text-mergeable, prefixed-based, merged-text}
+use Rattle.typed_path.proofs.lemmas.changes.MergedInPlace.{text-mergeable, prefixed-based, merged-text}
 use Rattle.typed_path.proofs.windows.push.spelled_anew.Goals as goal
 
 parts-rest : (cs : List Placed) → parts (drop 1 cs) ≡ drop 1 (parts cs)

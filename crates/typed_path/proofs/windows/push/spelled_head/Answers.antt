@@ -1,11 +1,10 @@
 use Rattle.std.proofs.Common.{sym, ap, subst, ◌∙◌}
 use Rattle.std.proofs.lemmas.List.{take_rest}
-use Rattle.typed_path.specs.components.Dialect.{windows}
-use Rattle.typed_path.specs.changes.Push.{raw_length}
-use Rattle.typed_path.specs.changes.Spelled.{TellsSpelled}
+use Rattle.typed_path.specs.components.{windows}
+use Rattle.typed_path.specs.changes.{raw_length, TellsSpelled}
 use Rattle.typed_path.specs.views.PieceViews.{found_of}
 use Rattle.typed_path.proofs.lemmas.components.Prefixes.{prefix-fits}
-use Rattle.typed_path.proofs.lemmas.changes.Spellings.{plain-unspelled}
+use Rattle.typed_path.proofs.lemmas.changes.SpelledTexts.{plain-unspelled}
 use Rattle.typed_path.proofs.windows.push.spelled_head.Goals as goal
 
 pub slice_bounds-is_spelled_behind-count : goal.slice_bounds-is_spelled_behind-count

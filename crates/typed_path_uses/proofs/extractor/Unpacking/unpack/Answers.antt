@@ -1,7 +1,6 @@
-use Rattle.std.proofs.Common.{◌≡◌, sym}
-use Rattle.std.specs.Prelude.{Some}
+use Rattle.std.proofs.Common.{◌≡◌, sym, Some}
 use Rattle.std.proofs.lemmas.List.Elements.{All-push}
-use Rattle.typed_path.specs.changes.Fault.{fault}
+use Rattle.typed_path.specs.changes.{fault}
 use Rattle.typed_path_uses.proofs.extractor.Unpacking.unpack.Goals as goal
 
 pub returns-in_ok-push-in-Err-Checked-clause-refused : goal.returns-in_ok-push-in-Err-Checked-clause-refused

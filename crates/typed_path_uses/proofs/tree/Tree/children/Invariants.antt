@@ -1,5 +1,5 @@
 use Rattle.std.proofs.Common.{◌≡◌, ◌++◌, map, filter}
-use Rattle.typed_path.specs.queries.Ancestry.{is_child_of}
+use Rattle.typed_path.specs.queries.{is_child_of}
 use Rattle.typed_path.specs.views.PathViews.{path_bytes}
 use Rattle.typed_path_uses.specs.Tree.{filed, children_of}
 use Rattle.typed_path_uses.proofs.tree.Tree.children.Given as goal

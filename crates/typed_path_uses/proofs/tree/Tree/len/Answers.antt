@@ -1,5 +1,5 @@
 use Rattle.std.proofs.lemmas.Map.Keys.{IsDistinct-from_sorted}
-use Rattle.typed_path.specs.order.Same.{path_cmp}
+use Rattle.typed_path.specs.order.{path_cmp}
 use Rattle.typed_path_uses.proofs.tree.Tree.len.Goals as goal
 
 pub returns-clause-alone : goal.returns-clause-alone

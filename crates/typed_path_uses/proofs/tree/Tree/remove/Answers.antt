@@ -1,6 +1,6 @@
-use Rattle.std.specs.Prelude.{None}
+use Rattle.std.proofs.Common.{None}
 use Rattle.typed_path.specs.views.PathViews.{path_bytes}
-use Rattle.typed_path.proofs.lemmas.order.KeyedLemmas.{removed}
+use Rattle.typed_path.proofs.lemmas.order.Maps.{removed}
 use Rattle.typed_path_uses.proofs.Filed.{puts}
 use Rattle.typed_path_uses.proofs.tree.Tree.remove.Goals as goal
 

@@ -1,6 +1,6 @@
 use Rattle.std.proofs.Common.{◌∙◌, Some, None}
 use Rattle.typed_path.specs.views.PathViews.{path_bytes}
-use Rattle.typed_path.proofs.lemmas.order.KeyedLemmas.{inserted, removed}
+use Rattle.typed_path.proofs.lemmas.order.Maps.{inserted, removed}
 use Rattle.typed_path_uses.proofs.Apart.{keys_apart, keys_one}
 use Rattle.typed_path_uses.proofs.Filed.{puts, found-some}
 use Rattle.typed_path_uses.proofs.Moves.{moved, stays}

@@ -1,6 +1,6 @@
-use Rattle.std.specs.Prelude.{Some}
+use Rattle.std.proofs.Common.{Some}
 use Rattle.typed_path.specs.views.PathViews.{path_bytes}
-use Rattle.typed_path.proofs.lemmas.order.KeyedLemmas.{inserted}
+use Rattle.typed_path.proofs.lemmas.order.Maps.{inserted}
 use Rattle.typed_path_uses.proofs.Filed.{puts}
 use Rattle.typed_path_uses.proofs.tree.Tree.write.Goals as goal
 

@@ -1,6 +1,6 @@
 use Rattle.std.proofs.Common.{ap, ◌∙◌}
-use Rattle.typed_path.specs.components.Comps.{comps}
-use Rattle.typed_path.specs.queries.Ancestry.{readings_above}
+use Rattle.typed_path.specs.components.{comps}
+use Rattle.typed_path.specs.queries.{readings_above}
 use Rattle.typed_path.specs.views.PathViews.{components_slice, path_bytes}
 use Rattle.typed_path.proofs.lemmas.queries.Parents.{ancestors-reading}
 use Rattle.typed_path.proofs.common.components.Ancestors.new.Goals as goal

@@ -1,5 +1,4 @@
-use Rattle.std.proofs.Common.{◌≡◌, ℕ, List, ◌∷◌, length, sym, ap, ◌∙◌, arith}
-use Rattle.std.specs.Prelude.{Some}
+use Rattle.std.proofs.Common.{◌≡◌, ℕ, List, ◌∷◌, length, sym, ap, ◌∙◌, arith, Some}
 use Rattle.std.specs.Iterator.{MakesProgress, item_count}
 use Rattle.typed_path.specs.views.PathViews.{ancestors_from, ancestors_left, components_items, components_slice, path_bytes}
 use Rattle.typed_path.proofs.lemmas.queries.Parents.{readings-step}

@@ -1,10 +1,9 @@
-use Rattle.std.proofs.Common.{fold, sym, ap, arith, ◌∙◌}
-use Rattle.std.specs.Prelude.{length, option_map}
+use Rattle.std.proofs.Common.{fold, sym, ap, arith, ◌∙◌, length, option_map}
 use Rattle.typed_path.specs.views.BodyViews.{body_items}
 use Rattle.typed_path.specs.views.CursorViews.{items_left}
 use Rattle.typed_path.specs.views.PieceViews.{prefix_view, step_part}
-use Rattle.typed_path.proofs.lemmas.changes.FaultLemmas.{taken-first}
-use Rattle.typed_path.proofs.lemmas.order.OrderLemmas.{counted-bare, counted-step, path_words-fed, fed-prefix, fed-step, fed-end}
+use Rattle.typed_path.proofs.lemmas.changes.Faults.{taken-first}
+use Rattle.typed_path.proofs.lemmas.order.Comparisons.{counted-bare, counted-step, path_words-fed, fed-prefix, fed-step, fed-end}
 use Rattle.typed_path.proofs.common.encoding.Encoding.hash.Goals as goal
 
 pub steps-init : goal.steps-init
@@ -13,8 +12,8 @@ steps-init g c =
     let cs = items_left c.cursor-cursor.result in
     let ds = body_items c.body-body.result in (
       ap (fold g.H.Hasher.write c.args.state.now) (path_words-fed d c.args.path.now cs c.cursor-cursor.ensures.items)
-          ∙ fed-prefix g.H.Hasher.write c.args.state.now c.feed_prefix.new.state cs ds (option_map prefix_view c.prefix.result) c.prefix.ensures c.body-body.ensures.items c.feed_prefix.ensures,
-      counted-bare d c.args.path.now cs ds c.cursor-cursor.ensures.items c.body-body.ensures.items,
+          ∙ fed-prefix g.H.Hasher.write c.args.state.now c.feed_prefix.new.state cs ds (option_map prefix_view c.prefix.result) c.prefix.ensures c.body-body.ensures c.feed_prefix.ensures,
+      counted-bare d c.args.path.now cs ds c.cursor-cursor.ensures.items c.body-body.ensures,
     )
 
 pub steps-smaller : goal.steps-smaller

@@ -1,8 +1,8 @@
 use Rattle.std.proofs.Common.{◌≡◌, ◌≤◌, ◌+◌, length, fold, sum_by}
-use Rattle.typed_path.specs.components.Part.{parts}
+use Rattle.typed_path.specs.components.{parts}
 use Rattle.typed_path.specs.order.Words.{path_words}
 use Rattle.typed_path.specs.views.BodyViews.{body_items}
-use Rattle.typed_path.proofs.lemmas.order.OrderLemmas.{counted, fed_from}
+use Rattle.typed_path.proofs.lemmas.order.Comparisons.{counted, fed_from}
 use Rattle.typed_path.proofs.common.encoding.Encoding.hash.Given as goal
 
 abbrev pub invariant-steps : goal.invariant-steps

@@ -1,6 +1,6 @@
 use Rattle.std.proofs.Common.{fold, ap, ◌∙◌}
 use Rattle.typed_path.specs.order.Words.{path_words}
-use Rattle.typed_path.proofs.lemmas.order.OrderLemmas.{path_words-kinds}
+use Rattle.typed_path.proofs.lemmas.order.Comparisons.{path_words-kinds}
 use Rattle.typed_path.proofs.common.order.PathBufHash.hash.Goals as goal
 
 pub returns : goal.returns

@@ -1,7 +1,7 @@
 use Rattle.std.proofs.Common.{fold, ap, ◌∙◌}
 use Rattle.typed_path.specs.order.Words.{path_words}
 use Rattle.typed_path.specs.views.PathViews.{path_bytes}
-use Rattle.typed_path.proofs.lemmas.order.OrderLemmas.{path_words-kinds}
+use Rattle.typed_path.proofs.lemmas.order.Comparisons.{path_words-kinds}
 use Rattle.typed_path.proofs.common.order.PathHash.hash.Goals as goal
 
 pub returns : goal.returns

@@ -1,8 +1,7 @@
-use Rattle.std.proofs.Common.{◌≡◌, List, [], ◌∷◌, refl, sym, ap, ◌∙◌, rules, option_map}
-use Rattle.std.specs.Prelude.{Some, None}
+use Rattle.std.proofs.Common.{◌≡◌, List, [], ◌∷◌, refl, sym, ap, ◌∙◌, rules, option_map, Some, None}
 use Rattle.std.proofs.lemmas.Bool.{not-true, not-false}
-use Rattle.typed_path.specs.components.Part.{Placed}
-use Rattle.typed_path.specs.scan.Steps.{first_part}
+use Rattle.typed_path.specs.components.{Placed}
+use Rattle.typed_path.specs.scan.{first_part}
 use Rattle.typed_path.specs.views.PathViews.{path_bytes}
 use Rattle.typed_path.specs.views.PieceViews.{part_of}
 use Rattle.typed_path.proofs.lemmas.queries.Bases.{Strips-start, Strips-end, Strips-short, Strips-differ, Strips-step}

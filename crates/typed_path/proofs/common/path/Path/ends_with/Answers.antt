@@ -1,7 +1,7 @@
 use Rattle.std.proofs.Common.{◌&&◌, sym, ap, ◌∙◌}
 use Rattle.std.proofs.lemmas.Bool.{not-true, not-false}
 use Rattle.std.proofs.Math.Bool.{and-false, and-true}
-use Rattle.typed_path.specs.scan.Left.{but_last}
+use Rattle.typed_path.specs.scan.{but_last}
 use Rattle.typed_path.specs.views.PathViews.{components_items}
 use Rattle.typed_path.specs.views.PieceViews.{part_of}
 use Rattle.typed_path.proofs.lemmas.queries.Bases.{ends, ends-nothing, ends-short, ends-step}

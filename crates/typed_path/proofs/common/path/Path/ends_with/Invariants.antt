@@ -1,5 +1,5 @@
 use Rattle.std.proofs.Common.{◌≡◌, length}
-use Rattle.typed_path.specs.queries.Queries.{path_ends_with}
+use Rattle.typed_path.specs.queries.{path_ends_with}
 use Rattle.typed_path.specs.views.PathViews.{path_bytes, components_items}
 use Rattle.typed_path.proofs.lemmas.queries.Bases.{ends}
 use Rattle.typed_path.proofs.common.path.Path.ends_with.Given as goal

@@ -1,6 +1,6 @@
 use Rattle.std.proofs.Common.{sym}
 use Rattle.typed_path.specs.views.PathViews.{path_bytes}
-use Rattle.typed_path.specs.changes.Push.{push}
+use Rattle.typed_path.specs.changes.{push}
 use Rattle.typed_path.proofs.lemmas.promises.UnixContained.{lies_below}
 use Rattle.typed_path.proofs.common.path.Path.join_checked.Goals as goal
 

@@ -1,7 +1,7 @@
 use Rattle.std.proofs.Common.{◌≡◌, ap, sym, subst, ◌∙◌}
-use Rattle.typed_path.specs.places.Places.{normal_text}
+use Rattle.typed_path.specs.places.{normal_text}
 use Rattle.typed_path.specs.views.PathViews.{path_bytes}
-use Rattle.typed_path.specs.promises.Promises.{HasNormalForm}
+use Rattle.typed_path.specs.promises.{HasNormalForm}
 use Rattle.typed_path.proofs.lemmas.promises.WindowsStable.{normal_form}
 use Rattle.typed_path.proofs.common.path.Path.normalize.Goals as goal
 

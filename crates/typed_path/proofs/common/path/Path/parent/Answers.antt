@@ -1,8 +1,6 @@
-use Rattle.std.proofs.Common.{sym, ap, ◌∙◌}
-use Rattle.std.specs.Prelude.{Some}
-use Rattle.typed_path.specs.components.Comps.{comps}
-use Rattle.typed_path.specs.scan.Left.{slice_after_back}
-use Rattle.typed_path.specs.scan.Steps.{last_part}
+use Rattle.std.proofs.Common.{sym, ap, ◌∙◌, Some}
+use Rattle.typed_path.specs.components.{comps}
+use Rattle.typed_path.specs.scan.{slice_after_back, last_part}
 use Rattle.typed_path.specs.views.PieceViews.{part_of}
 use Rattle.typed_path.specs.views.PathViews.{path_bytes, components_slice}
 use Rattle.typed_path.proofs.lemmas.queries.Parents.{parent_left}

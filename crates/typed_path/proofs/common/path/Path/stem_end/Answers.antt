@@ -1,6 +1,5 @@
-use Rattle.std.proofs.Common.{◌≡◌, ◌+◌, length, sym, ap, ◌∙◌, arith}
-use Rattle.std.specs.Prelude.{Some}
-use Rattle.typed_path.specs.scan.Left.{last_of}
+use Rattle.std.proofs.Common.{◌≡◌, ◌+◌, length, sym, ap, ◌∙◌, arith, Some}
+use Rattle.typed_path.specs.scan.{last_of}
 use Rattle.typed_path.specs.views.PathViews.{path_bytes}
 use Rattle.typed_path.proofs.lemmas.queries.Parents.{HasName, has_name, stem_end-name, last-within}
 use Rattle.typed_path.proofs.common.path.Path.stem_end.Given.{Over}

@@ -1,6 +1,5 @@
-use Rattle.std.proofs.Common.{ap, ◌∙◌}
-use Rattle.std.specs.Prelude.{option_copied}
-use Rattle.typed_path.specs.queries.Texts.{text_of_bytes}
+use Rattle.std.proofs.Common.{ap, ◌∙◌, option_copied}
+use Rattle.typed_path.specs.queries.{text_of_bytes}
 use Rattle.typed_path.proofs.lemmas.queries.FileNames.{text_of_bytes-read}
 use Rattle.typed_path.proofs.common.path.Path.to_str.Goals as goal
 

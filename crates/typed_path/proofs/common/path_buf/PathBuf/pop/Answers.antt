@@ -1,6 +1,5 @@
-use Rattle.std.proofs.Common.{◌≡◌, length, take, sym, ap, ◌∙◌}
-use Rattle.std.specs.Prelude.{Some, unwrap_or}
-use Rattle.typed_path.specs.queries.Queries.{parent_of}
+use Rattle.std.proofs.Common.{◌≡◌, length, take, sym, ap, ◌∙◌, Some, unwrap_or}
+use Rattle.typed_path.specs.queries.{parent_of}
 use Rattle.typed_path.specs.views.PathViews.{path_bytes}
 use Rattle.typed_path.proofs.lemmas.queries.Parents.{parent-front}
 use Rattle.typed_path.proofs.common.path_buf.PathBuf.pop.Goals as goal

@@ -1,7 +1,6 @@
 use Rattle.std.proofs.Common.{sym, ap, subst, arith}
 use Rattle.std.specs.Vec.{vec_capacity}
-use Rattle.typed_path.specs.changes.Push.{FitsPush}
-use Rattle.typed_path.specs.changes.Spelled.{IsKnown}
+use Rattle.typed_path.specs.changes.{FitsPush, IsKnown}
 use Rattle.typed_path.specs.views.PathViews.{path_bytes}
 use Rattle.typed_path.proofs.common.path_buf.PathBuf.push_next.Goals as goal
 

@@ -1,7 +1,6 @@
 use Rattle.std.proofs.Common.{◌≡◌, List, ℕ, length, take, sym, ap, subst, ◌∙◌}
-use Rattle.typed_path.specs.changes.Push.{FitsPush}
-use Rattle.typed_path.specs.changes.Changes.{without_file_name}
-use Rattle.typed_path.specs.components.Dialect.{Dialect}
+use Rattle.typed_path.specs.changes.{FitsPush, without_file_name}
+use Rattle.typed_path.specs.components.{Dialect}
 use Rattle.typed_path.proofs.lemmas.queries.Parents.{without_file_name-front}
 use Rattle.typed_path.proofs.common.path_buf.PathBuf.set_file_name.Goals as goal
 

@@ -1,6 +1,5 @@
 use Rattle.std.proofs.Common.{◌≡◌, map}
-use Rattle.typed_path.specs.changes.Push.{push_all}
-use Rattle.typed_path.specs.changes.Spelled.{IsKnown}
+use Rattle.typed_path.specs.changes.{push_all, IsKnown}
 use Rattle.typed_path.specs.views.PathViews.{path_bytes}
 use Rattle.typed_path.proofs.common.path_buf.PathBufExtendPath.extend.Given as goal
 

@@ -1,10 +1,9 @@
 use Rattle.std.proofs.Common.{◌≡◌, ℕ, ◌+◌, true, slice_range, take, ap, sym, ◌∙◌, ◌++◌}
-use Rattle.typed_path.specs.components.Comps.{component}
-use Rattle.typed_path.specs.scan.Left.{but_last, slice_after_back}
-use Rattle.typed_path.specs.scan.Steps.{body_from, is_clean, last_part, end_from}
+use Rattle.typed_path.specs.components.{component}
+use Rattle.typed_path.specs.scan.{but_last, slice_after_back, body_from, is_clean, last_part, end_from}
 use Rattle.typed_path.specs.views.BodyViews.{body_items}
 use Rattle.typed_path.specs.views.PieceViews.{step_part}
-use Rattle.typed_path.proofs.lemmas.scan.StepLemmas.{last_part-push, but_last-push, starts-body_from, slice_after_back-push, slice_range-earlier}
+use Rattle.typed_path.proofs.lemmas.scan.Steps.{last_part-push, but_last-push, starts-body_from, slice_after_back-push, slice_range-earlier}
 use Rattle.typed_path.proofs.scan.cursor.Body.back.Goals as goal
 use Rattle.typed_path.proofs.scan.cursor.Body.back.Goals.{After-back_step-kept}
 

@@ -1,18 +1,14 @@
-use Rattle.std.proofs.Common.{◌≡◌, ◌-◌, List, [], ◌∷◌, drop, length, true, refl, sym, ap, subst, ◌∙◌, arith}
-use Rattle.std.specs.Prelude.{Some, None, Result, Ok, Err}
-use Rattle.std.proofs.lemmas.List.{length-take-le, length-drop}
-use Rattle.typed_path.specs.components.Part.{Placed, kinds, parts}
-use Rattle.typed_path.specs.components.Dialect.{dialect_of}
+use Rattle.std.proofs.Common.{◌≡◌, ◌-◌, List, [], ◌∷◌, drop, length, true, refl, sym, ap, subst, ◌∙◌, arith, Some, None, Result, Ok, Err, length-take-le, length-drop}
+use Rattle.typed_path.specs.components.{Placed, kinds, parts, dialect_of}
 use Rattle.typed_path.specs.views.BodyViews.{body_slice, body_items}
-use Rattle.typed_path.specs.scan.Steps.{first_part}
+use Rattle.typed_path.specs.scan.{first_part}
 use Rattle.typed_path.specs.views.PieceViews.{step_part}
-use Rattle.typed_path.specs.changes.Fault.{fault_behind, fault_at}
-use Rattle.typed_path.specs.changes.Checked.{error_of, SeparatesDisallowed}
-use Rattle.typed_path.specs.queries.Queries.{kind_has_allowed_bytes}
+use Rattle.typed_path.specs.changes.{fault_behind, fault_at, error_of, SeparatesDisallowed}
+use Rattle.typed_path.specs.queries.{kind_has_allowed_bytes}
 use Rattle.typed_path.proofs.lemmas.queries.FileNames.{AllowsEach, allowed-body_from}
 use Rattle.std.specs.Result.{IsErrAnd}
 use Rattle.typed_path.proofs.lemmas.components.Cuts.{body_from-count}
-use Rattle.typed_path.proofs.lemmas.changes.FaultLemmas.{fault_behind-at, taken-first}
+use Rattle.typed_path.proofs.lemmas.changes.Faults.{fault_behind-at, taken-first}
 use Rattle.typed_path.proofs.scan.cursor.Body.check.Goals as goal
 use Rattle.typed_path.proofs.scan.cursor.Body.check.Goals.{After-depth_behind}
 

@@ -1,10 +1,8 @@
-use Rattle.std.proofs.Common.{◌≡◌, ◌+◌, ◌≤◌, [], length}
-use Rattle.typed_path.specs.components.Part.{kinds, parts}
+use Rattle.std.proofs.Common.{◌≡◌, ◌+◌, ◌≤◌, [], length, IsTrue}
+use Rattle.typed_path.specs.components.{kinds, parts, dialect_of}
 use Rattle.typed_path.specs.views.BodyViews.{body_items}
-use Rattle.std.specs.Prelude.{IsTrue}
 use Rattle.typed_path.proofs.lemmas.queries.FileNames.{AllowsEach}
-use Rattle.typed_path.specs.components.Dialect.{dialect_of}
-use Rattle.typed_path.specs.changes.Fault.{fault_behind, fault_at}
+use Rattle.typed_path.specs.changes.{fault_behind, fault_at}
 use Rattle.typed_path.proofs.scan.cursor.Body.check.Given as goal
 
 abbrev pub invariant-steps : goal.invariant-steps

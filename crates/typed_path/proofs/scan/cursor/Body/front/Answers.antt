@@ -1,8 +1,7 @@
 use Rattle.std.proofs.Common.{◌≡◌, ◌+◌, slice_range, drop, ap, sym, ◌∙◌, ◌++◌}
 use Rattle.typed_path.specs.declared.scan.cursor.Begin.TheVariants.{Inside}
-use Rattle.typed_path.specs.components.Comps.{later_body, component}
-use Rattle.typed_path.specs.scan.Left.{slice_after_front}
-use Rattle.typed_path.specs.scan.Steps.{body_from}
+use Rattle.typed_path.specs.components.{later_body, component}
+use Rattle.typed_path.specs.scan.{slice_after_front, body_from}
 use Rattle.typed_path.specs.views.PieceViews.{step_part}
 use Rattle.typed_path.proofs.lemmas.components.Segments.{slice_after_front-first, slice_range-later}
 use Rattle.typed_path.proofs.scan.cursor.Body.front.Goals as goal

@@ -1,7 +1,6 @@
-use Rattle.std.proofs.Common.{◌+◌, take, sym, ap, ◌∙◌}
-use Rattle.std.proofs.lemmas.List.{length-take-le}
-use Rattle.typed_path.specs.scan.Steps.{body_from, is_clean, end_from}
-use Rattle.typed_path.proofs.lemmas.scan.TextEnds.{end_from-trimmed}
+use Rattle.std.proofs.Common.{◌+◌, take, sym, ap, ◌∙◌, length-take-le}
+use Rattle.typed_path.specs.scan.{body_from, is_clean, end_from}
+use Rattle.typed_path.proofs.lemmas.scan.LastComponent.{end_from-trimmed}
 use Rattle.typed_path.proofs.scan.cursor.Body.last_end.Goals as goal
 
 pub returns : goal.returns

@@ -1,5 +1,5 @@
 use Rattle.typed_path.specs.views.PieceViews.{part_of, step_part}
-use Rattle.typed_path.proofs.lemmas.scan.StepLemmas.{with_body, step-items, step-slice, back-none}
+use Rattle.typed_path.proofs.lemmas.scan.Steps.{step-items, step-slice, back-none}
 use Rattle.typed_path.proofs.scan.cursor.Cursor.back.Goals as goal
 
 pub returns-in-Some-clause-items : goal.returns-in-Some-clause-items
@@ -11,5 +11,4 @@ returns-in-Some-clause-slice c =
     c.in-Some.ensures.shorter c.in-Some.ensures.end c.in-Some.ensures.slice
 
 pub returns-clause-taken : goal.returns-clause-taken
-returns-clause-taken c =
-    back-none c.args.self.now (with_body c.args.self.now c.back.new.self c.in_default.ensures.from) c.in_ok-found.found c.in_ok-found.was c.in_ok-found.was c.in_default.ensures.text c.in_default.ensures.from (part_of c.take_prefix.result) c.in_default.ensures.taken c.in_default.ensures.items c.take_prefix.ensures.taken
+returns-clause-taken c = back-none c.args.self.now c.in_ok-found.found c.in_ok-found.was (part_of c.take_prefix.result) c.in_default.ensures.taken c.take_prefix.ensures.taken

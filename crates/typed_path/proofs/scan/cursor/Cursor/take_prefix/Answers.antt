@@ -1,4 +1,4 @@
-use Rattle.typed_path.proofs.lemmas.scan.StepLemmas.{slice_behind-prefix}
+use Rattle.typed_path.proofs.lemmas.scan.Steps.{slice_behind-prefix}
 use Rattle.typed_path.proofs.scan.cursor.Cursor.take_prefix.Goals as goal
 
 pub returns-clause-slice : goal.returns-clause-slice

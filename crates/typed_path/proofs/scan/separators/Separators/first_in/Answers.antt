@@ -1,5 +1,5 @@
-use Rattle.typed_path.specs.components.Dialect.{is_separator}
-use Rattle.typed_path.proofs.lemmas.scan.MaskLemmas.{first-of}
+use Rattle.typed_path.specs.components.{is_separator}
+use Rattle.typed_path.proofs.lemmas.scan.Searches.{first-of}
 use Rattle.typed_path.proofs.scan.separators.Separators.first_in.Goals as goal
 
 pub returns-clause-first : goal.returns-clause-first

@@ -1,6 +1,6 @@
 use Rattle.std.proofs.Common.{sym, ap, ◌∙◌}
 use Rattle.std.specs.List.{list_any}
-use Rattle.typed_path.specs.changes.Checked.{is_stray}
+use Rattle.typed_path.specs.changes.{is_stray}
 use Rattle.typed_path.proofs.lemmas.queries.ValidNames.{stray-slash}
 use Rattle.typed_path.proofs.scan.separators.Separators.has_stray.Goals as goal
 

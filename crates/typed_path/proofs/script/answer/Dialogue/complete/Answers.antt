@@ -1,6 +1,6 @@
 use Rattle.std.proofs.Common.{◌≡◌, [], ◌∷◌, ◌++◌, sym, subst, ap, ◌∙◌}
-use Rattle.typed_path.specs.script.Lines.{line_feed, split_lines, reply}
-use Rattle.typed_path.proofs.lemmas.script.LineLemmas.{completes, joined-open}
+use Rattle.typed_path.specs.script.{line_feed, split_lines, reply}
+use Rattle.typed_path.proofs.lemmas.script.Lines.{completes, joined-open}
 use Rattle.typed_path.proofs.script.answer.Dialogue.complete.Goals as goal
 
 pub invariant_of-self-in-Break-branch-2 : goal.invariant_of-self-in-Break-branch-2

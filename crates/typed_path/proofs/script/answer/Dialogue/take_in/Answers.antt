@@ -1,9 +1,7 @@
-use Rattle.std.proofs.Common.{◌≡◌, arith, ℕ, List, [], ◌∷◌, ◌++◌, Bool, true, false, cond, append_assoc, sym, ap, subst, refl, ◌∙◌}
-use Rattle.std.specs.Prelude.{Some, option_map}
-use Rattle.std.proofs.lemmas.Bool.{eqb-true}
+use Rattle.std.proofs.Common.{◌≡◌, arith, ℕ, List, [], ◌∷◌, ◌++◌, Bool, true, false, cond, append_assoc, sym, ap, subst, refl, ◌∙◌, Some, option_map, eqb-true}
 use Rattle.std.proofs.lemmas.List.{nil_from_length}
-use Rattle.typed_path.specs.script.Lines.{split_lines, reply, replies_to, complete_lines, open_line, AnswersFirst}
-use Rattle.typed_path.proofs.lemmas.script.LineLemmas.{joined-open, complete_lines-joined, open_line-joined}
+use Rattle.typed_path.specs.script.{split_lines, reply, replies_to, complete_lines, open_line, AnswersFirst}
+use Rattle.typed_path.proofs.lemmas.script.Lines.{joined-open, complete_lines-joined, open_line-joined}
 use Rattle.typed_path.proofs.script.answer.Dialogue.take_in.Goals as goal
 use Rattle.typed_path.proofs.script.answer.Dialogue.take_in.Goals.{then-not-is_empty+in-Some+in_ok-complete, else-not-is_empty}
 

@@ -1,5 +1,5 @@
 use Rattle.std.proofs.Common.{◌≡◌, [], ◌++◌, length}
-use Rattle.typed_path.specs.script.Lines.{split_lines, replies_to, complete_lines, open_line}
+use Rattle.typed_path.specs.script.{split_lines, replies_to, complete_lines, open_line}
 use Rattle.typed_path.proofs.script.answer.Dialogue.take_in.Given as goal
 
 abbrev pub invariant-lines : goal.invariant-lines

@@ -1,13 +1,10 @@
 use Rattle.std.proofs.Common.{sym}
 use Rattle.typed_path.proofs.typed.path.TypedPath.join_checked.Goals as goal
 
-pub returns-in-Ok-join_checked-clause-contained : goal.returns-in-Ok-join_checked-clause-contained
-returns-in-Ok-join_checked-clause-contained c =
-    rw c.in-Windows.is (rw (sym c.new-in-Windows.ensures) c.in-Ok-join_checked.ensures.contained)
+pub returns-in-Ok-join_checked-clause-joined : goal.returns-in-Ok-join_checked-clause-joined
+returns-in-Ok-join_checked-clause-joined c =
+    rw c.in-Windows.is (rw (sym c.new-in-Windows.ensures) (c.in-Ok-join_checked.ensures.refused, c.in-Ok-join_checked.ensures.joined, c.in-Ok-join_checked.ensures.prefix, c.in-Ok-join_checked.ensures.contained, c.in-Ok-join_checked.ensures.below))
 
-pub returns-in-Err-join_checked-clause-refused : goal.returns-in-Err-join_checked-clause-refused
-returns-in-Err-join_checked-clause-refused c =
-    rw c.in-Windows.is (rw (sym c.new-in-Windows.ensures) c.in-Err-join_checked.ensures.refused)
-
-pub returns-in-Ok-join_checked-clause-below : goal.returns-in-Ok-join_checked-clause-below
-returns-in-Ok-join_checked-clause-below c = rw c.in-Windows.is c.in-Ok-join_checked.ensures.below
+pub returns-in-Err-join_checked-clause-joined : goal.returns-in-Err-join_checked-clause-joined
+returns-in-Err-join_checked-clause-joined c =
+    rw c.in-Windows.is (rw (sym c.new-in-Windows.ensures) (c.in-Err-join_checked.ensures.refused, c.in-Err-join_checked.ensures.joined, c.in-Err-join_checked.ensures.prefix, c.in-Err-join_checked.ensures.contained, c.in-Err-join_checked.ensures.below))

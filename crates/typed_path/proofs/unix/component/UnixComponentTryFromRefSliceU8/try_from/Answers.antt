@@ -1,26 +1,24 @@
 use Rattle.std.proofs.Common.{◌<◌, inl, inr, length, refl, sym, ap, subst, ◌∙◌}
-use Rattle.typed_path.specs.components.Dialect.{unix}
-use Rattle.typed_path.specs.components.Part.{parts}
-use Rattle.typed_path.specs.components.Comps.{comps}
-use Rattle.typed_path.specs.scan.Steps.{first_part}
+use Rattle.typed_path.specs.components.{unix, parts, comps}
+use Rattle.typed_path.specs.scan.{first_part}
 use Rattle.typed_path.specs.views.UnixViews.{unix_part}
-use Rattle.typed_path.specs.views.ConcreteViews.{concrete_items}
-use Rattle.typed_path.proofs.lemmas.scan.StepLemmas.{no_component, one_component, more_components}
+use Rattle.typed_path.specs.views.PathViews.{components_items}
+use Rattle.typed_path.proofs.lemmas.scan.Steps.{no_component, one_component, more_components}
 use Rattle.typed_path.proofs.unix.component.UnixComponentTryFromRefSliceU8.try_from.Goals as goal
 
 pub returns-in-None : goal.returns-in-None
 returns-in-None c =
     ap parts (sym (c.new-components.ensures.items ∙ ap (comps unix) c.new.ensures))
-    ∙ one_component (concrete_items c.new-components.result) (unix_part c.in-Some.component) c.in-Some.ensures.taken (c.in-None.ensures.taken ∙ ap first_part c.in-Some.ensures.items)
+    ∙ one_component (components_items c.new-components.result) (unix_part c.in-Some.component) c.in-Some.ensures.taken (c.in-None.ensures.taken ∙ ap first_part c.in-Some.ensures.items)
 
 pub returns-in-Some-next : goal.returns-in-Some-next
 returns-in-Some-next c =
     let read = ap parts (sym (c.new-components.ensures.items ∙ ap (comps unix) c.new.ensures)) in
-    let two = more_components (concrete_items c.new-components.result) (unix_part c.in-Some.component) (unix_part c.in-Some-next.field-0) c.in-Some.ensures.taken
+    let two = more_components (components_items c.new-components.result) (unix_part c.in-Some.component) (unix_part c.in-Some-next.field-0) c.in-Some.ensures.taken
     (c.in-Some-next.ensures.taken ∙ ap first_part c.in-Some.ensures.items) in
     inr (subst (λ ps. 1 < length ps) (sym read) two, refl)
 
 pub returns-in_default : goal.returns-in_default
 returns-in_default c =
     let read = ap parts (sym (c.new-components.ensures.items ∙ ap (comps unix) c.new.ensures)) in
-    inl (read ∙ no_component (concrete_items c.new-components.result) c.in_default.ensures.taken, refl)
+    inl (read ∙ no_component (components_items c.new-components.result) c.in_default.ensures.taken, refl)

@@ -1,8 +1,7 @@
 use Rattle.std.proofs.Common.{◌++◌, Some, drop, refl, ap, sym, ◌∙◌, arith}
 use Rattle.std.proofs.lemmas.List.{take_rest}
 use Rattle.typed_path.specs.declared.scan.separators.Separators.TheVariants.{Slash}
-use Rattle.typed_path.specs.components.Comps.{body, later_body}
-use Rattle.typed_path.specs.components.Dialect.{unix}
+use Rattle.typed_path.specs.components.{body, later_body, unix}
 use Rattle.typed_path.proofs.lemmas.queries.Bases.{filled, stripped-split}
 use Rattle.typed_path.proofs.unix.encoding.UnixEncodingEncoding.behind.Goals as goal
 

@@ -1,14 +1,10 @@
-use Rattle.std.proofs.Common.{◌≡◌, ℕ, List, [], OnOk, sym, ap, ◌∙◌}
-use Rattle.std.specs.Prelude.{Result, Ok, Err}
+use Rattle.std.proofs.Common.{◌≡◌, ℕ, List, [], OnOk, sym, ap, ◌∙◌, Result, Ok, Err}
 use Rattle.typed_path.specs.declared.errors.CheckedPathError.{CheckedPathError}
-use Rattle.typed_path.specs.changes.Checked.{error_of}
+use Rattle.typed_path.specs.changes.{error_of, push, fault, fault_behind}
 use Rattle.typed_path.specs.views.CursorViews.{items_left}
-use Rattle.typed_path.specs.components.Dialect.{unix, dialect_of}
-use Rattle.typed_path.specs.components.Part.{kinds, parts}
-use Rattle.typed_path.specs.changes.Push.{push}
-use Rattle.typed_path.specs.changes.Fault.{fault, fault_behind}
-use Rattle.typed_path.specs.promises.Promises.{LiesWithin}
-use Rattle.typed_path.proofs.lemmas.changes.FaultLemmas.{harmless}
+use Rattle.typed_path.specs.components.{unix, dialect_of, kinds, parts}
+use Rattle.typed_path.specs.promises.{LiesWithin}
+use Rattle.typed_path.proofs.lemmas.changes.Faults.{harmless}
 use Rattle.typed_path.proofs.lemmas.promises.UnixContained.{contained}
 use Rattle.typed_path.proofs.unix.encoding.UnixEncodingEncoding.check.Goals as goal
 
@@ -16,13 +12,13 @@ accepted : {A : Type 0} (r : Result A CheckedPathError) (path : List ℕ) → er
 accepted (Ok x) path e = λ base. contained base path (sym e)
 accepted (Err e) path is = tt
 
-pub returns-then-is_harmless-clause-refused : goal.returns-then-is_harmless-clause-refused
-returns-then-is_harmless-clause-refused c = sym (harmless c.args.path.now (sym c.is_harmless.ensures ∙ c.if-is_harmless.true) (sym c.starts_with.ensures.value ∙ c.if-not-starts_with.true))
+pub returns-then-has_no_nul_or_dot_pair-clause-refused : goal.returns-then-has_no_nul_or_dot_pair-clause-refused
+returns-then-has_no_nul_or_dot_pair-clause-refused c = sym (harmless c.args.path.now (sym c.has_no_nul_or_dot_pair.ensures ∙ c.if-has_no_nul_or_dot_pair.true) (sym c.starts_with.ensures.value ∙ c.if-not-starts_with.true))
 
-pub returns-then-is_harmless-clause-contained : goal.returns-then-is_harmless-clause-contained
-returns-then-is_harmless-clause-contained c =
+pub returns-then-has_no_nul_or_dot_pair-clause-contained : goal.returns-then-has_no_nul_or_dot_pair-clause-contained
+returns-then-has_no_nul_or_dot_pair-clause-contained c =
     let path = c.args.path.now in
-    λ base. contained base path (harmless path (sym c.is_harmless.ensures ∙ c.if-is_harmless.true) (sym c.starts_with.ensures.value ∙ c.if-not-starts_with.true))
+    λ base. contained base path (harmless path (sym c.has_no_nul_or_dot_pair.ensures ∙ c.if-has_no_nul_or_dot_pair.true) (sym c.starts_with.ensures.value ∙ c.if-not-starts_with.true))
 
 pub returns-clause-contained : goal.returns-clause-contained
 returns-clause-contained c =

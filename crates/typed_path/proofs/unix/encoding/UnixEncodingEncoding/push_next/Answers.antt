@@ -1,8 +1,8 @@
 use Rattle.std.proofs.Common.{◌≡◌, min, length, drop, slice_range, true≢false, refl, sym, ap, subst, ◌∙◌, arith}
 use Rattle.std.proofs.lemmas.List.{drop_min}
-use Rattle.typed_path.specs.components.Dialect.{unix}
-use Rattle.typed_path.specs.changes.Push.{FitsPush}
-use Rattle.typed_path.proofs.lemmas.conversions.CrossedLemmas.{whole_range}
+use Rattle.typed_path.specs.components.{unix}
+use Rattle.typed_path.specs.changes.{FitsPush}
+use Rattle.typed_path.proofs.lemmas.conversions.Crossings.{whole_range}
 use Rattle.typed_path.proofs.unix.encoding.UnixEncodingEncoding.push_next.Goals as goal
 
 pub returns-in_err-push_at-clause-succeeds : goal.returns-in_err-push_at-clause-succeeds

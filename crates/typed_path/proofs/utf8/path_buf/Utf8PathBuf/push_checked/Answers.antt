@@ -1,6 +1,5 @@
-use Rattle.std.proofs.Common.{subst}
-use Rattle.std.specs.Prelude.{OnOk}
-use Rattle.typed_path.specs.promises.Promises.{HasPrefixOf}
+use Rattle.std.proofs.Common.{subst, OnOk}
+use Rattle.typed_path.specs.promises.{HasPrefixOf}
 use Rattle.typed_path.proofs.utf8.path_buf.Utf8PathBuf.push_checked.Goals as goal
 
 pub returns-clause-prefix : goal.returns-clause-prefix

@@ -1,6 +1,5 @@
 use Rattle.std.proofs.Common.{◌≡◌, map}
-use Rattle.typed_path.specs.changes.Push.{push_all}
-use Rattle.typed_path.specs.changes.Spelled.{IsKnown}
+use Rattle.typed_path.specs.changes.{push_all, IsKnown}
 use Rattle.typed_path.specs.views.TextViews.{utf8_bytes}
 use Rattle.typed_path.proofs.utf8.path_buf.Utf8PathBufExtendUtf8Path.extend.Given as goal
 

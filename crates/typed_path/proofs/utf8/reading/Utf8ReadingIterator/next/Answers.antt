@@ -1,5 +1,5 @@
 use Rattle.typed_path.specs.views.ReadingViews.{reading_parts}
-use Rattle.typed_path.proofs.lemmas.texts.TextsLeft.{seen_first, progress_seen_first}
+use Rattle.typed_path.proofs.lemmas.scan.Steps.{seen_first, progress_seen_first}
 use Rattle.typed_path.proofs.utf8.reading.Utf8ReadingIterator.next.Goals as goal
 
 pub returns-clause-steps : goal.returns-clause-steps

@@ -1,5 +1,5 @@
 use Rattle.std.proofs.lemmas.Str.{is_utf8-from_IsUtf8}
-use Rattle.typed_path.specs.components.Dialect.{unix}
+use Rattle.typed_path.specs.components.{unix}
 use Rattle.typed_path.proofs.lemmas.texts.TextsLeft.{single-text}
 use Rattle.typed_path.proofs.utf8.unix.Utf8UnixComponentTryFromRefStr.try_from.Goals as goal
 

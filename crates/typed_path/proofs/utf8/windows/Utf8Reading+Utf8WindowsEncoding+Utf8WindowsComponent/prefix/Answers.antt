@@ -1,7 +1,7 @@
 use Rattle.std.proofs.Common.{ap, ◌∙◌}
-use Rattle.typed_path.specs.components.Part.{parts}
-use Rattle.typed_path.specs.queries.Queries.{prefix_among}
-use Rattle.typed_path.specs.texts.Texts.{is_text_part_option}
+use Rattle.typed_path.specs.components.{parts}
+use Rattle.typed_path.specs.queries.{prefix_among}
+use Rattle.typed_path.specs.texts.{is_text_part_option}
 use Rattle.typed_path.proofs.lemmas.texts.TextsLeft.{reading-parts, prefix_among-text}
 use Rattle.typed_path.proofs.utf8.windows.«Utf8Reading+Utf8WindowsEncoding+Utf8WindowsComponent».prefix.Goals as goal
 

@@ -1,5 +1,5 @@
 use Rattle.std.proofs.lemmas.Str.{is_utf8-from_IsUtf8}
-use Rattle.typed_path.specs.components.Dialect.{windows}
+use Rattle.typed_path.specs.components.{windows}
 use Rattle.typed_path.proofs.lemmas.texts.TextsLeft.{single-text}
 use Rattle.typed_path.proofs.utf8.windows.Utf8WindowsComponentTryFromRefStr.try_from.Goals as goal
 

@@ -1,9 +1,9 @@
 use Rattle.std.proofs.lemmas.Str.{is_utf8-from_IsUtf8}
 use Rattle.std.proofs.lemmas.Bool.{and_parts}
 use Rattle.std.specs.Str.{is_utf8}
-use Rattle.typed_path.specs.texts.Texts.{is_text_prefix}
+use Rattle.typed_path.specs.texts.{is_text_prefix}
 use Rattle.typed_path.specs.views.PieceViews.{prefix_view}
-use Rattle.typed_path.specs.components.Dialect.{windows}
+use Rattle.typed_path.specs.components.{windows}
 use Rattle.typed_path.proofs.lemmas.texts.TextsLeft.{single-text}
 use Rattle.typed_path.proofs.utf8.windows.Utf8WindowsPrefixTryFromRefStr.try_from.Goals as goal
 

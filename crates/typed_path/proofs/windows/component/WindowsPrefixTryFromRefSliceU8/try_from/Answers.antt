@@ -1,6 +1,5 @@
-use Rattle.std.proofs.Common.{◌≡◌, inr, refl, rules}
-use Rattle.std.specs.Prelude.{Option, Some, None, IsSome}
-use Rattle.typed_path.specs.components.Prefix.{Found}
+use Rattle.std.proofs.Common.{◌≡◌, inr, refl, rules, Option, Some, None, IsSome}
+use Rattle.typed_path.specs.components.{Found}
 use Rattle.typed_path.specs.views.PieceViews.{found_of}
 use Rattle.typed_path.proofs.lemmas.components.Cuts.{behind-count}
 use Rattle.typed_path.proofs.windows.component.WindowsPrefixTryFromRefSliceU8.try_from.Goals as goal

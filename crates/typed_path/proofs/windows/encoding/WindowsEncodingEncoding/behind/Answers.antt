@@ -1,12 +1,11 @@
 use Rattle.std.proofs.Common.{rules, ◌≡◌, ◌<◌, ◌+◌, ◌++◌, ℕ, Some, true, length, take, drop, refl, ap, sym, subst, ◌∙◌}
 use Rattle.std.proofs.lemmas.List.{take_rest}
 use Rattle.typed_path.specs.declared.scan.cursor.Begin.TheVariants.{Inside}
-use Rattle.typed_path.specs.changes.Push.{raw_length}
-use Rattle.typed_path.specs.components.Comps.{body, later_body}
-use Rattle.typed_path.specs.components.Dialect.{windows, separators, is_verbatim}
-use Rattle.typed_path.specs.components.Prefix.{prefix_of}
-use Rattle.typed_path.specs.scan.Steps.{is_clean}
-use Rattle.typed_path.proofs.lemmas.queries.Bases.{same_separators, stripped-behind_prefix}
+use Rattle.typed_path.specs.changes.{raw_length}
+use Rattle.typed_path.specs.components.{body, later_body, windows, separators, is_verbatim, prefix_of}
+use Rattle.typed_path.specs.scan.{is_clean}
+use Rattle.typed_path.proofs.lemmas.components.Prefixes.{same_separators}
+use Rattle.typed_path.proofs.lemmas.queries.Bases.{stripped-behind_prefix}
 use Rattle.typed_path.proofs.windows.encoding.WindowsEncodingEncoding.behind.Goals as goal
 
 pub returns : goal.returns

@@ -1,13 +1,9 @@
-use Rattle.std.proofs.Common.{◌≡◌, ℕ, List, [], OnOk, sym, ap, ◌∙◌}
-use Rattle.std.specs.Prelude.{Result, Ok, Err}
+use Rattle.std.proofs.Common.{◌≡◌, ℕ, List, [], OnOk, sym, ap, ◌∙◌, Result, Ok, Err}
 use Rattle.typed_path.specs.declared.errors.CheckedPathError.{CheckedPathError}
-use Rattle.typed_path.specs.changes.Checked.{error_of}
+use Rattle.typed_path.specs.changes.{error_of, push, fault, fault_behind}
 use Rattle.typed_path.specs.views.CursorViews.{items_left}
-use Rattle.typed_path.specs.components.Dialect.{windows}
-use Rattle.typed_path.specs.components.Part.{kinds, parts}
-use Rattle.typed_path.specs.changes.Push.{push}
-use Rattle.typed_path.specs.changes.Fault.{fault, fault_behind}
-use Rattle.typed_path.specs.promises.Promises.{LiesWithin, HasPrefixOf}
+use Rattle.typed_path.specs.components.{windows, kinds, parts}
+use Rattle.typed_path.specs.promises.{LiesWithin, HasPrefixOf}
 use Rattle.typed_path.proofs.lemmas.promises.WindowsContained.{contained, keeps}
 use Rattle.typed_path.proofs.windows.encoding.WindowsEncodingEncoding.check.Goals as goal
 

@@ -1,8 +1,8 @@
 use Rattle.std.proofs.Common.{◌≡◌, ◌++◌, min, length, take, drop, slice_range, OnOk, refl, sym, ap, subst, ◌∙◌, arith}
 use Rattle.std.proofs.lemmas.List.{take_min, drop_min}
-use Rattle.typed_path.specs.components.Dialect.{windows}
-use Rattle.typed_path.specs.changes.Push.{push_windows, FitsPush}
-use Rattle.typed_path.proofs.lemmas.conversions.CrossedLemmas.{whole_range}
+use Rattle.typed_path.specs.components.{windows}
+use Rattle.typed_path.specs.changes.{push_windows, FitsPush}
+use Rattle.typed_path.proofs.lemmas.conversions.Crossings.{whole_range}
 use Rattle.typed_path.proofs.windows.encoding.WindowsEncodingEncoding.push_behind.Goals as goal
 
 -- the place is at most the end of the text

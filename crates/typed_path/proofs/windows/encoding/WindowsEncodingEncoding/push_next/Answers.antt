@@ -1,9 +1,7 @@
-use Rattle.std.proofs.Common.{◌≡◌, ◌++◌, min, List, length, take, drop, OnOk, IfOk, sym, ap, subst, ◌∙◌, arith}
-use Rattle.std.specs.Prelude.{ℕ}
+use Rattle.std.proofs.Common.{◌≡◌, ◌++◌, min, List, length, take, drop, OnOk, IfOk, sym, ap, subst, ◌∙◌, arith, ℕ}
 use Rattle.std.proofs.lemmas.List.{take_min, drop_min}
-use Rattle.typed_path.specs.components.Dialect.{windows}
-use Rattle.typed_path.specs.changes.Push.{FitsPush, push_windows}
-use Rattle.typed_path.specs.changes.Spelled.{IsKnown}
+use Rattle.typed_path.specs.components.{windows}
+use Rattle.typed_path.specs.changes.{FitsPush, push_windows, IsKnown}
 use Rattle.typed_path.proofs.windows.encoding.WindowsEncodingEncoding.push_next.Goals as goal
 
 -- the place is at most the end of the text

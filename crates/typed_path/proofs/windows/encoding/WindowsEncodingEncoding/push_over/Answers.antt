@@ -1,8 +1,8 @@
 use Rattle.std.proofs.Common.{◌≡◌, ◌-◌, min, length, take, slice_range, sym, ap, subst, ◌∙◌, arith}
 use Rattle.std.proofs.lemmas.List.{take_min}
 use Rattle.std.specs.Vec.{vec_capacity}
-use Rattle.typed_path.specs.components.Dialect.{windows}
-use Rattle.typed_path.specs.changes.Push.{FitsPush}
+use Rattle.typed_path.specs.components.{windows}
+use Rattle.typed_path.specs.changes.{FitsPush}
 use Rattle.typed_path.proofs.windows.encoding.WindowsEncodingEncoding.push_over.Goals as goal
 
 -- the bytes that are kept

@@ -1,10 +1,7 @@
 use Rattle.std.proofs.Common.{◌≡◌, rules, drop, refl, ◌∙◌}
-use Rattle.typed_path.specs.changes.Push.{raw_length}
-use Rattle.typed_path.specs.components.Comps.{body}
-use Rattle.typed_path.specs.components.Dialect.{windows, dialect_of}
-use Rattle.typed_path.specs.components.Part.{kinds, parts}
-use Rattle.typed_path.specs.components.Prefix.{prefix_of}
-use Rattle.typed_path.specs.queries.Queries.{is_valid}
+use Rattle.typed_path.specs.changes.{raw_length}
+use Rattle.typed_path.specs.components.{body, windows, dialect_of, kinds, parts, prefix_of}
+use Rattle.typed_path.specs.queries.{is_valid}
 use Rattle.typed_path.proofs.lemmas.queries.ValidNames.{valid-windows}
 use Rattle.typed_path.proofs.windows.encoding.WindowsEncodingEncoding.valid_names.Goals as goal
 

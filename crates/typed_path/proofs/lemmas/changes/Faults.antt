@@ -1,0 +1,371 @@
+-- A path judged component by component, and what holds of one that is not refused.
+use Rattle.std.proofs.Common.{◌≡◌, ℕ, zero, suc, ◌+◌, Bool, true, false, if◌then◌else◌, List, [], ◌∷◌, ◌++◌, refl, sym, ap, arith, length, drop, ◌==◌, not, ◌&&◌, ◌∙◌, ◌-◌, ◌≤◌, ◌<◌, ◌||◌, cond, slice_index, subst, Some, None, Option, nat_eq, le-leb, ne_eqb}
+use Rattle.std.specs.List.{count_by, list_any, slice_split, onto_first, starts_with, AllByRecursion}
+use Rattle.std.specs.Option.{option_or}
+use Rattle.std.proofs.lemmas.List.Sums.{sum_by_push}
+use Rattle.std.proofs.lemmas.Option.{same_Some}
+use Rattle.std.proofs.lemmas.Bool.{lt-leb, and_parts, false_from_ne_true, or_parts, not-true, eqb-false}
+use Rattle.std.proofs.lemmas.List.Splits.{slice_split-cons_yes}
+use Rattle.std.proofs.lemmas.List.{drop_more, map-append}
+use Rattle.typed_path.specs.declared.errors.CheckedPathError.TheVariants.{InvalidFilename}
+use Rattle.typed_path.specs.declared.scan.separators.Separators.{Separators}
+use Rattle.typed_path.specs.declared.scan.separators.Separators.TheVariants.{Either, Backslash, Slash}
+use Rattle.typed_path.specs.components.{Dialect, windows, dot, is_separator, is_verbatim, root_text, separators, unix, slash, Kind, prefix, root, current, parent, normal, is_name, is_parent, Part, Placed, kinds, parts, current_part, root_part, parent_part, name_part, Prefix, prefix_part, Found, prefix_of, is_dot, parts_of, is_dot_dot}
+use Rattle.typed_path.specs.scan.{first_part, is_one_of, stands_at, IsFirstOf}
+use Rattle.typed_path.specs.queries.{is_valid_name, begins_with_root, has_prefix, has_any_verbatim_prefix, is_disallowed, is_disk}
+use Rattle.typed_path.specs.changes.{fault_behind, fault_at, fault, offence, merged, spelled, ended_windows, push, begins_with_nul_or_dot_pair, has_no_nul_or_dot_pair}
+use Rattle.typed_path.specs.places.{overdraws, stays, resolve, with_implied_root}
+use Rattle.typed_path.proofs.lemmas.components.Segments.{pieces, named_part, later_parts, first_parts, body_parts, parts_behind, parts-comps_behind, later_part, parts-body}
+use Rattle.typed_path.proofs.lemmas.components.PrefixCuts.{plain-none}
+use Rattle.typed_path.proofs.lemmas.places.Resolving.{Alike, current-alike, is_head, no_heads, resolve-append}
+use Rattle.typed_path.proofs.lemmas.lists.Lists.{slice_split-some, AllByRecursion-append}
+
+-- A path judged component by component, and what holds of one that is not refused.
+
+-- one more element counted
+count_by-push : {X : Type 0} (p : X → Bool) (xs : List X) (x : X) → count_by p (xs ++ x ∷ []) ≡ count_by p xs + (if p x then 1 else 0)
+count_by-push p xs x = sum_by_push (λ y. if p y then 1 else 0) xs x
+
+-- so many more names than parents
+abbrev IsBalance : List Kind → ℕ → Type 0
+IsBalance before depth = count_by is_name before ≡ depth + count_by is_parent before
+
+-- what stands before a list counts by its balance alone
+pub fault_behind-at : (d : Dialect) (before : List Kind) (depth : ℕ) (ks : List Kind) → IsBalance before depth → fault_behind d before ks ≡ fault_at d depth ks
+fault_behind-at d before depth [] e = refl
+fault_behind-at d before depth (prefix p ∷ ks) e = refl
+fault_behind-at d before depth (root ∷ ks) e = refl
+fault_behind-at d before depth (current ∷ ks) e =
+    fault_behind-at d (before ++ current ∷ []) depth ks (omega (arith, e, count_by-push is_name before current, count_by-push is_parent before current))
+fault_behind-at d before zero (parent ∷ ks) e = rw (le-leb (count_by is_name before) (count_by is_parent before) (omega (arith, e))) refl
+fault_behind-at d before (suc depth) (parent ∷ ks) e =
+    rw (lt-leb (count_by is_name before) (count_by is_parent before) (omega (arith, e)))
+    (fault_behind-at d (before ++ parent ∷ []) depth ks (omega (arith, e, count_by-push is_name before parent, count_by-push is_parent before parent)))
+fault_behind-at d before depth (normal name ∷ ks) e =
+    by (is_valid_name d name)
+    (fault_behind-at d (before ++ normal name ∷ []) (suc depth) ks (omega (arith, e, count_by-push is_name before (normal name), count_by-push is_parent before (normal name))))
+  where
+    by : (b : Bool) → fault_behind d (before ++ normal name ∷ []) ks ≡ fault_at d (suc depth) ks
+        → option_or (if b then None else Some InvalidFilename) (fault_behind d (before ++ normal name ∷ []) ks) ≡ (if b then fault_at d (suc depth) ks else Some InvalidFilename)
+    by true h = h
+    by false h = refl
+
+-- a list that is not refused never holds more parents than names
+pub fault_at-overdraws : (d : Dialect) (depth : ℕ) (ks : List Kind) → fault_at d depth ks ≡ None → overdraws depth ks ≡ false
+fault_at-overdraws d depth [] e = refl
+fault_at-overdraws d depth (prefix p ∷ ks) e = cc
+fault_at-overdraws d depth (root ∷ ks) e = cc
+fault_at-overdraws d depth (current ∷ ks) e = fault_at-overdraws d depth ks e
+fault_at-overdraws d zero (parent ∷ ks) e = cc
+fault_at-overdraws d (suc depth) (parent ∷ ks) e = fault_at-overdraws d depth ks e
+fault_at-overdraws d depth (normal name ∷ ks) e = fault_at-overdraws d (suc depth) ks (by (is_valid_name d name) e)
+  where
+    by : (b : Bool) → (if b then fault_at d (suc depth) ks else Some InvalidFilename) ≡ None → fault_at d (suc depth) ks ≡ None
+    by true h = h
+    by false h = cc
+
+-- nor does it begin with a root
+pub fault_at-relative : (d : Dialect) (depth : ℕ) (ks : List Kind) → fault_at d depth ks ≡ None → begins_with_root ks ≡ false
+fault_at-relative d depth [] e = refl
+fault_at-relative d depth (root ∷ ks) e = cc
+fault_at-relative d depth (prefix p ∷ ks) e = refl
+fault_at-relative d depth (current ∷ ks) e = refl
+fault_at-relative d depth (parent ∷ ks) e = refl
+fault_at-relative d depth (normal name ∷ ks) e = refl
+
+-- the first component of a list, and what stands behind it
+pub taken-first : (cs : List Placed) (p : Part) → Some p ≡ first_part cs → (kinds (parts cs) ≡ p.kind ∷ kinds (parts (drop 1 cs))) × (length cs ≡ 1 + length (drop 1 cs))
+taken-first [] p e = cc
+taken-first (c ∷ cs) p e = (ap (λ q. q.kind ∷ kinds (parts cs)) (sym (same_Some _ _ e)), omega arith)
+
+-- A path of Windows that is not refused has no prefix and no root.
+
+-- a list that is not refused holds no prefix and no root
+fault_at-no_heads : (d : Dialect) (depth : ℕ) (ks : List Kind) → fault_at d depth ks ≡ None → no_heads ks ≡ true
+fault_at-no_heads d depth [] e = refl
+fault_at-no_heads d depth (prefix p ∷ ks) e = cc
+fault_at-no_heads d depth (root ∷ ks) e = cc
+fault_at-no_heads d depth (current ∷ ks) e = fault_at-no_heads d depth ks e
+fault_at-no_heads d zero (parent ∷ ks) e = cc
+fault_at-no_heads d (suc depth) (parent ∷ ks) e = fault_at-no_heads d depth ks e
+fault_at-no_heads d depth (normal name ∷ ks) e = fault_at-no_heads d (suc depth) ks (by (is_valid_name d name) e)
+  where
+    by : (b : Bool) → (if b then fault_at d (suc depth) ks else Some InvalidFilename) ≡ None → fault_at d (suc depth) ks ≡ None
+    by true h = h
+    by false h = cc
+
+-- so it does not begin with a root
+pub no_heads-relative : (ks : List Kind) → no_heads ks ≡ true → begins_with_root ks ≡ false
+no_heads-relative (root ∷ ks) e = cc
+no_heads-relative ks e = refl
+
+-- a path that is not refused: what is read of it, and what is not there
+pub record IsFaultless (path : List ℕ) : Type 0 where
+  pub no_prefix : prefix_of windows path ≡ None
+  pub read : parts_of windows path ≡ body_parts Either path
+  pub closed : overdraws zero (kinds (body_parts Either path)) ≡ false
+  pub headless : no_heads (kinds (body_parts Either path)) ≡ true
+
+-- the components of a text without a prefix
+pub parts_of-none : (t : List ℕ) → prefix_of windows t ≡ None → parts_of windows t ≡ body_parts Either t
+parts_of-none t none =
+    parts-comps_behind (separators windows t) t (prefix_of windows t)
+    ∙ ap (parts_behind (separators windows t) t) none
+    ∙ ap (λ b. body_parts (if b then Backslash else Either) t) (plain-none t none)
+
+-- the components of a text with a prefix
+pub parts_of-some : (t : List ℕ) (f : Found) → prefix_of windows t ≡ Some f → parts_of windows t ≡ parts_behind (separators windows t) t (Some f)
+parts_of-some t f some = parts-comps_behind (separators windows t) t (prefix_of windows t) ∙ ap (parts_behind (separators windows t) t) some
+
+-- a path that is not refused is faultless
+pub faultless : (path : List ℕ) → fault windows path ≡ None → IsFaultless path
+faultless path accepted = by (prefix_of windows path) refl
+  where
+    judged : fault_at windows zero (kinds (parts_of windows path)) ≡ None
+    judged = sym (fault_behind-at windows [] zero (kinds (parts_of windows path)) refl) ∙ accepted
+
+    refused : (f : Found) → fault_at windows zero (kinds (parts_behind (separators windows path) path (Some f))) ≡ None → ⊥
+    refused f e = cc
+
+    by : (o : Option Found) → prefix_of windows path ≡ o → IsFaultless path
+    by None none =
+        let read = parts_of-none path none in
+        let body = ap (λ ps. fault_at windows zero (kinds ps)) (sym read) ∙ judged in
+        record {
+          no_prefix = none;
+          read = read;
+          closed = fault_at-overdraws windows zero (kinds (body_parts Either path)) body;
+          headless = fault_at-no_heads windows zero (kinds (body_parts Either path)) body;
+        }
+    by (Some f) some = absurd (refused f (ap (λ ps. fault_at windows zero (kinds ps)) (sym (parts_of-some path f some)) ∙ judged))
+
+-- pieces that do not begin with a root resolve alike at the beginning and later
+first_parts-alike : (s : Separators) (some : List (List ℕ)) → begins_with_root (kinds (first_parts s some)) ≡ false → Alike (first_parts s some) (later_parts s some)
+first_parts-alike s [] relative = record { draws = λ names. refl; resolves = refl }
+first_parts-alike s (piece ∷ rest) relative = by (length piece == 0) (is_dot piece) (is_verbatim s) relative
+  where
+    by : (empty dotted verbatim : Bool)
+        → begins_with_root (kinds ((if empty then root_part (root_text s) else (if dotted then current_part else named_part piece)) ∷ later_parts s rest)) ≡ false
+        → Alike ((if empty then root_part (root_text s) else (if dotted then current_part else named_part piece)) ∷ later_parts s rest)
+        ((if empty then [] else (if dotted then (if verbatim then current_part ∷ [] else []) else named_part piece ∷ [])) ++ later_parts s rest)
+    by true dotted verbatim e = cc
+    by false true true e = record { draws = λ names. refl; resolves = refl }
+    by false true false e = current-alike (dot ∷ []) (later_parts s rest)
+    by false false verbatim e = record { draws = λ names. refl; resolves = refl }
+
+-- so does a text
+pub body_parts-alike : (s : Separators) (text : List ℕ) → begins_with_root (kinds (body_parts s text)) ≡ false → Alike (body_parts s text) (later_parts s (pieces s text))
+body_parts-alike s [] relative = record { draws = λ names. refl; resolves = refl }
+body_parts-alike s (b ∷ bs) relative = first_parts-alike s (pieces s (b ∷ bs)) relative
+
+-- a text that does not begin with a root does not begin with a separator
+pub body_parts-relative : (s : Separators) (b : ℕ) (bs : List ℕ) → begins_with_root (kinds (body_parts s (b ∷ bs))) ≡ false → is_separator s b ≡ false
+body_parts-relative s b bs relative = false_from_ne_true _ (λ separates. rooted (ap (λ some. begins_with_root (kinds (first_parts s some))) (sym (slice_split-cons_yes (is_separator s) b bs separates)) ∙ relative))
+  where
+    rooted : true ≡ false → ⊥
+    rooted e = cc
+
+-- what a list without prefixes and roots resolves to has none
+pub no_heads-resolve : (ps : List Part) → no_heads (kinds ps) ≡ true → no_heads (kinds (resolve ps)) ≡ true
+no_heads-resolve [] e = refl
+no_heads-resolve (p ∷ ps) e = by (stays p.kind (kinds ps)) (and_parts _ _ e).0 (no_heads-resolve ps (and_parts (not (is_head p.kind)) _ e).1)
+  where
+    by : (b : Bool) → not (is_head p.kind) ≡ true → no_heads (kinds (resolve ps)) ≡ true → no_heads (kinds ((if b then p ∷ [] else []) ++ resolve ps)) ≡ true
+    by true own rest = ap (λ c. c && no_heads (kinds (resolve ps))) own ∙ rest
+    by false own rest = rest
+
+-- a faultless path neither replaces the base nor cuts it to its prefix
+pub push-faultless : (base : List ℕ) (b : ℕ) (path : List ℕ) → IsFaultless (b ∷ path)
+    → push windows base (b ∷ path) ≡ (if has_any_verbatim_prefix (kinds (parts_of windows base)) then spelled (merged (parts_of windows base) (parts_of windows (b ∷ path))) else ended_windows base ++ b ∷ path)
+push-faultless base b path faultless =
+    let headless = ap (λ ps. no_heads (kinds ps)) faultless.read ∙ faultless.headless in
+    rw (no_heads-no_prefix (kinds (parts_of windows (b ∷ path))) headless, no_heads-relative (kinds (parts_of windows (b ∷ path))) headless) refl
+  where
+    no_heads-no_prefix : (ks : List Kind) → no_heads ks ≡ true → has_prefix ks ≡ false
+    no_heads-no_prefix [] e = refl
+    no_heads-no_prefix (prefix p ∷ ks) e = cc
+    no_heads-no_prefix (k ∷ ks) e = refl
+
+-- A path of Unix in which neither NUL nor two dots side by side stand: none of its components offends.
+
+-- ---- the search for them
+
+-- a byte that is neither a dot nor NUL does no harm
+front_free : (x : ℕ) (rest : List ℕ) → is_one_of (dot, 0) x ≡ false → has_no_nul_or_dot_pair (x ∷ rest) ≡ has_no_nul_or_dot_pair rest
+front_free x [] e = ap (λ z. not z && true) (or_parts (x == dot) (x == 0) e).1
+front_free x (y ∷ rest) e =
+    let free = or_parts (x == dot) (x == 0) e in
+    ap (λ z. not (z || x == dot && y == dot) && has_no_nul_or_dot_pair (y ∷ rest)) free.1 ∙ ap (λ d. not (d && y == dot) && has_no_nul_or_dot_pair (y ∷ rest)) free.0
+
+-- nor do many of them
+free-front : (n at : ℕ) (text : List ℕ) → at + n ≤ length text → ((k : ℕ) → at ≤ k → k < at + n → stands_at (dot, 0) text k ≡ false) → has_no_nul_or_dot_pair (drop at text) ≡ has_no_nul_or_dot_pair (drop (at + n) text)
+free-front zero at text within free = let here : at ≡ at + zero = omega arith in ap (λ k. has_no_nul_or_dot_pair (drop k text)) here
+free-front (suc n) at text within free =
+    let on : at + 1 + n ≡ at + suc n = omega arith in
+    ap has_no_nul_or_dot_pair (drop_more text at 0 (omega arith))
+    ∙ front_free (slice_index text at) (drop (at + 1) text) (free at (omega arith) (omega arith))
+    ∙ free-front n (at + 1) text (omega arith) (λ k low high. free k (omega arith) (omega arith))
+    ∙ ap (λ k. has_no_nul_or_dot_pair (drop k text)) on
+
+module _ (text : List ℕ) (at found : ℕ) (first : IsFirstOf (dot, 0) text at (length text) found) where
+  -- what stands before the first of them does no harm
+  pub no_pair-from : has_no_nul_or_dot_pair (drop at text) ≡ has_no_nul_or_dot_pair (drop found text)
+  no_pair-from =
+      let there : at + (found - at) ≡ found = omega (arith, first.low) in
+      free-front (found - at) at text (omega (arith, first.low, first.high)) (λ k low high. first.before k low (omega (arith, first.low)))
+      ∙ ap (λ k. has_no_nul_or_dot_pair (drop k text)) there
+
+-- where no harm stands at the front, the rest tells
+pub no_pair-behind : (text : List ℕ) (at : ℕ) → at < length text → begins_with_nul_or_dot_pair (drop at text) ≡ false → has_no_nul_or_dot_pair (drop at text) ≡ has_no_nul_or_dot_pair (drop (at + 1) text)
+no_pair-behind text at within none =
+    let front = drop_more text at 0 within in
+    ap has_no_nul_or_dot_pair front ∙ ap (λ harm. not harm && has_no_nul_or_dot_pair (drop (at + 1) text)) (sym (ap begins_with_nul_or_dot_pair front) ∙ none)
+
+-- where harm stands there, all is told
+pub pair-here : (text : List ℕ) → begins_with_nul_or_dot_pair text ≡ true → has_no_nul_or_dot_pair text ≡ false
+pair-here [] e = cc
+pair-here (x ∷ xs) e = ap (λ harm. not harm && has_no_nul_or_dot_pair xs) e
+
+-- ---- what they tell of the components
+
+-- a piece that is not `..`, and has no byte that no name may have
+abbrev IsHarmlessPiece : List ℕ → Type 0
+IsHarmlessPiece piece = (is_dot_dot piece ≡ false) × (list_any (is_disallowed unix) piece ≡ false)
+
+-- a byte put before a piece whose first byte, where it has one, is known
+put : (x : ℕ) (piece : List ℕ) → is_disallowed unix x ≡ false → IsHarmlessPiece piece → is_dot_dot (x ∷ piece) ≡ false → IsHarmlessPiece (x ∷ piece)
+put x piece allowed harmless apart = (apart, ap (λ b. b || list_any (is_disallowed unix) piece) allowed ∙ harmless.1)
+
+-- the same of the first of many pieces, the text of which begins with a byte
+put_onto : (x y : ℕ) (separates : Bool) (ps : List (List ℕ)) → is_disallowed unix x ≡ false → (x == dot && y == dot) ≡ false
+    → AllByRecursion IsHarmlessPiece (cond separates ([] ∷ ps) (onto_first y ps)) → AllByRecursion IsHarmlessPiece (onto_first x (cond separates ([] ∷ ps) (onto_first y ps)))
+put_onto x y true ps allowed apart all = (put x [] allowed all.0 refl, all.1)
+put_onto x y false [] allowed apart all = (put x (y ∷ []) allowed all.0 apart, tt)
+put_onto x y false ([] ∷ ps) allowed apart all = (put x (y ∷ []) allowed all.0 apart, all.1)
+put_onto x y false ((z ∷ zs) ∷ ps) allowed apart all = (put x (y ∷ z ∷ zs) allowed all.0 refl, all.1)
+
+harmless-pieces : (text : List ℕ) → has_no_nul_or_dot_pair text ≡ true → AllByRecursion IsHarmlessPiece (pieces Slash text)
+harmless-pieces [] e = ((refl, refl), tt)
+harmless-pieces (x ∷ []) e = by (x == slash) refl
+  where
+    by : (separates : Bool) → (x == slash) ≡ separates → AllByRecursion IsHarmlessPiece (cond separates ([] ∷ [] ∷ []) ((x ∷ []) ∷ []))
+    by true s = ((refl, refl), ((refl, refl), tt))
+    by false s = ((refl, ap (λ b. (b || x == 0) || false) s ∙ ap (λ b. b || false) (not-true (x == 0) (and_parts (not (x == 0)) true e).0)), tt)
+harmless-pieces (x ∷ y ∷ ys) e =
+    let told = and_parts (not (begins_with_nul_or_dot_pair (x ∷ y ∷ ys))) (has_no_nul_or_dot_pair (y ∷ ys)) e in
+    let front = or_parts (x == 0) (x == dot && y == dot) (not-true _ told.0) in
+    by (x == slash) refl front.0 front.1 (harmless-pieces (y ∷ ys) told.1)
+  where
+    by : (separates : Bool) → (x == slash) ≡ separates → (x == 0) ≡ false → (x == dot && y == dot) ≡ false
+        → AllByRecursion IsHarmlessPiece (pieces Slash (y ∷ ys)) → AllByRecursion IsHarmlessPiece (cond separates ([] ∷ pieces Slash (y ∷ ys)) (onto_first x (pieces Slash (y ∷ ys))))
+    by true s allowed apart all = ((refl, refl), all)
+    by false s allowed apart all = put_onto x y (y == slash) (pieces Slash ys) (ap (λ b. b || x == 0) s ∙ allowed) apart all
+
+-- a component that offends nowhere
+abbrev IsHarmless : Kind → Type 0
+IsHarmless k = (before : List Kind) → offence unix before k ≡ None
+
+abbrev IsHarmlessPart : Part → Type 0
+IsHarmlessPart p = IsHarmless p.kind
+
+-- the name of such a piece
+harmless-name : (piece : List ℕ) → IsHarmlessPiece piece → IsHarmlessPart (name_part piece)
+harmless-name piece harmless before = ap (λ b. if not b && true then None else Some InvalidFilename) harmless.1
+
+-- the component of such a piece, by what the piece is
+module _ (piece : List ℕ) (harmless : IsHarmlessPiece piece) where
+  later : (empty dotted twice : Bool) → is_dot_dot piece ≡ twice
+      → AllByRecursion IsHarmlessPart (if empty then [] else (if dotted then [] else (if twice then parent_part else name_part piece) ∷ []))
+  later true dotted twice e = tt
+  later false true twice e = tt
+  later false false true e = let two = sym e ∙ harmless.0 in cc
+  later false false false e = (harmless-name piece harmless, tt)
+
+  first : (empty dotted twice : Bool) → empty ≡ false → is_dot_dot piece ≡ twice
+      → IsHarmlessPart (if empty then root_part (root_text Slash) else (if dotted then current_part else (if twice then parent_part else name_part piece)))
+  first true dotted twice filled e = cc
+  first false true twice filled e = λ before. refl
+  first false false true filled e = let two = sym e ∙ harmless.0 in cc
+  first false false false filled e = harmless-name piece harmless
+
+harmless-later : (ps : List (List ℕ)) → AllByRecursion IsHarmlessPiece ps → AllByRecursion IsHarmlessPart (later_parts Slash ps)
+harmless-later [] all = tt
+harmless-later (p ∷ ps) all =
+    AllByRecursion-append IsHarmlessPart (later_part Slash p) (later_parts Slash ps)
+    (later p all.0 (length p == 0) (is_dot p) (is_dot_dot p) refl) (harmless-later ps all.1)
+
+-- components that offend nowhere are not refused
+none_refused : (before : List Kind) (ps : List Part) → AllByRecursion IsHarmlessPart ps → fault_behind unix before (kinds ps) ≡ None
+none_refused before [] all = refl
+none_refused before (p ∷ ps) all =
+    ap (λ o. option_or o (fault_behind unix (before ++ p.kind ∷ []) (kinds ps))) (all.0 before) ∙ none_refused (before ++ p.kind ∷ []) ps all.1
+
+-- a path that does not begin with a separator has something in its first piece
+whole : (b : ℕ) (bs : List ℕ) → (b == slash) ≡ false → has_no_nul_or_dot_pair (b ∷ bs) ≡ true → AllByRecursion IsHarmlessPart (body_parts Slash (b ∷ bs))
+whole b bs relative harmless = by (slice_split-some (is_separator Slash) bs) (harmless-pieces (b ∷ bs) harmless)
+  where
+    by : (some : (piece : List ℕ) × (rest : List (List ℕ)) × (slice_split (is_separator Slash) bs ≡ piece ∷ rest)) → AllByRecursion IsHarmlessPiece (pieces Slash (b ∷ bs)) → AllByRecursion IsHarmlessPart (first_parts Slash (pieces Slash (b ∷ bs)))
+    by some all =
+        let cut : pieces Slash (b ∷ bs) ≡ (b ∷ some.0) ∷ some.1 =
+        ap (λ s. cond s ([] ∷ pieces Slash bs) (onto_first b (pieces Slash bs))) relative ∙ ap (onto_first b) some.2 in
+        let each = subst (λ ps. AllByRecursion IsHarmlessPiece ps) cut all in
+        subst (λ ps. AllByRecursion IsHarmlessPart (first_parts Slash ps)) (sym cut)
+        (first (b ∷ some.0) each.0 (length (b ∷ some.0) == 0) (is_dot (b ∷ some.0)) (is_dot_dot (b ∷ some.0)) (ne_eqb (length (b ∷ some.0)) 0 (λ h. omega arith)) refl, harmless-later some.1 each.1)
+
+not_first : (b : ℕ) (bs : List ℕ) → starts_with nat_eq (b ∷ bs) (slash ∷ []) ≡ false → (b == slash) ≡ false
+not_first b bs e = ne_eqb b slash (λ h. eqb-false slash b (alone (slash == b) e) (sym h))
+  where
+    alone : (x : Bool) → (x && true) ≡ false → x ≡ false
+    alone true h = h
+    alone false h = h
+
+-- a path without a root that does no harm is not refused
+pub harmless : (path : List ℕ) → has_no_nul_or_dot_pair path ≡ true → starts_with nat_eq path (slash ∷ []) ≡ false → fault unix path ≡ None
+harmless [] e relative = refl
+harmless (b ∷ bs) e relative =
+    ap (λ ps. fault_behind unix [] (kinds ps)) (parts-body Slash 0 (b ∷ bs))
+    ∙ none_refused [] (body_parts Slash (b ∷ bs)) (whole b bs (not_first b bs relative) e)
+
+-- The place of a list with more behind it.
+
+-- where a list leads
+abbrev pub place_of : List Part → List Kind
+place_of ps = with_implied_root (kinds (resolve ps))
+
+-- no root is implied by a list without a prefix
+pub with_implied_root-headless : (ks : List Kind) → no_heads ks ≡ true → with_implied_root ks ≡ ks
+with_implied_root-headless [] headless = refl
+with_implied_root-headless (prefix p ∷ ks) headless = cc
+with_implied_root-headless (k ∷ ks) headless = refl
+
+-- a list begins with a root as it did before
+begins_with_root-append : (ks ls : List Kind) → no_heads ls ≡ true → begins_with_root (ks ++ ls) ≡ begins_with_root ks
+begins_with_root-append [] ls headless = no_heads-relative ls headless
+begins_with_root-append (root ∷ ks) ls headless = refl
+begins_with_root-append (k ∷ ks) ls headless = refl
+
+-- names behind a list change no root in it
+with_implied_root-append : (ks ls : List Kind) → no_heads ls ≡ true → with_implied_root (ks ++ ls) ≡ with_implied_root ks ++ ls
+with_implied_root-append [] ls headless = with_implied_root-headless ls headless
+with_implied_root-append (prefix p ∷ ks) ls headless =
+    ap (λ b. if is_disk p then prefix p ∷ ks ++ ls else (if b then prefix p ∷ ks ++ ls else prefix p ∷ root ∷ ks ++ ls)) (begins_with_root-append ks ls headless)
+    ∙ by (is_disk p) (begins_with_root ks)
+  where
+    by : (drive rooted : Bool) → (if drive then prefix p ∷ ks ++ ls else (if rooted then prefix p ∷ ks ++ ls else prefix p ∷ root ∷ ks ++ ls))
+        ≡ (if drive then prefix p ∷ ks else (if rooted then prefix p ∷ ks else prefix p ∷ root ∷ ks)) ++ ls
+    by true rooted = refl
+    by false true = refl
+    by false false = refl
+with_implied_root-append (k ∷ ks) ls headless = refl
+
+-- what takes nothing away and has no prefix and no root is put behind a place
+pub place_of-append : (ps qs : List Part) → overdraws zero (kinds qs) ≡ false → no_heads (kinds (resolve qs)) ≡ true → place_of (ps ++ qs) ≡ place_of ps ++ kinds (resolve qs)
+place_of-append ps qs closed headless =
+    ap (λ rs. with_implied_root (kinds rs)) (resolve-append ps qs closed)
+    ∙ ap with_implied_root (map-append (λ p. p.kind) (resolve ps) (resolve qs))
+    ∙ with_implied_root-append (kinds (resolve ps)) (kinds (resolve qs)) headless
+
+-- behind a prefix that is no drive a root put in by hand changes no place
+pub place_of-rooted : (p : Prefix) (raw text : List ℕ) (qs : List Part) → is_disk p ≡ false → no_heads (kinds (resolve qs)) ≡ true
+    → place_of (prefix_part p raw ∷ root_part text ∷ qs) ≡ place_of (prefix_part p raw ∷ qs)
+place_of-rooted p raw text qs no_drive headless = rw (no_drive, no_heads-relative (kinds (resolve qs)) headless) refl

@@ -1,0 +1,452 @@
+-- A text put behind another, a list merged into another, and lists spelled and read again.
+use Rattle.std.proofs.Common.{◌≡◌, ℕ, ◌+◌, ◌-◌, ◌<◌, ◌==◌, true, false, List, [], ◌∷◌, ◌++◌, length, take, slice_index, refl, sym, ap, ◌∙◌, append_assoc, append-nil, take_all, le_refl, subst, eqb-true, arith, ◌||◌, Bool, if◌then◌else◌, zero, suc, ap₂, ne_eqb, not, ◌&&◌, cond, length-append, eq-eqb}
+use Rattle.std.proofs.lemmas.List.{take_more}
+use Rattle.std.proofs.lemmas.List.Splits.{slice_split_none, slice_split-cons_yes}
+use Rattle.std.proofs.lemmas.Bool.{cond_both, eqb-false, both_ways, and_parts, or_parts, not-true}
+use Rattle.std.proofs.Math.Seq.{get_or-append_seam}
+use Rattle.std.specs.List.{AllByRecursion, list_any, list_all, slice_split, onto_first}
+use Rattle.std.proofs.lemmas.List.Elements.{All-nil, All-cons}
+use Rattle.std.proofs.lemmas.List.Folds.{list_any_none, list_any-append}
+use Rattle.typed_path.specs.declared.scan.separators.Separators.{Separators}
+use Rattle.typed_path.specs.declared.scan.separators.Separators.TheVariants.{Slash, Backslash, Either}
+use Rattle.typed_path.specs.components.{is_separator, windows, backslash, dot, root_text, slash, is_verbatim, name_part, kinds, Kind, prefix, root, current, parent, normal, Part, current_part, parent_part, root_part, parts_of, is_dot, is_dot_dot}
+use Rattle.typed_path.specs.changes.{ended_with, is_disk_alone, ended_windows, without_last_name, merge_by_kind, merged, joint, spelled, is_component, is_row}
+use Rattle.typed_path.specs.places.{overdraws, resolve}
+use Rattle.typed_path.specs.queries.{begins_with_root}
+use Rattle.typed_path.proofs.lemmas.lists.Lists.{slice_split-some, slice_split-append, AllByRecursion-append, IsUnseparated, slice_split-unseparated}
+use Rattle.typed_path.proofs.lemmas.components.Segments.{pieces, first_parts, first_parts-append, later_parts, body_parts, IsCleanName, later_part, first_part, IsWritten, IsWrittenPart, IsLater, IsLaterPart, AreRead, later_parts-later}
+use Rattle.typed_path.proofs.lemmas.components.PrefixCuts.{IsUnended}
+use Rattle.typed_path.proofs.lemmas.places.Resolving.{IsKept, resolve-same, Alike, Alike-append, current-alike, no_heads}
+use Rattle.typed_path.proofs.lemmas.components.Prefixes.{OfWindows, backslash-separates, root_text-windows, dot-unseparated}
+
+-- The components of a text with more put behind a separator at its end.
+
+-- a clean name behind a separator is one component
+pub later_parts-name : (s : Separators) (name : List ℕ) → IsCleanName s name → later_parts s (pieces s name) ≡ name_part name ∷ []
+later_parts-name s name clean = rw (slice_split_none (is_separator s) name clean.unseparated, clean.filled, clean.no_dot, clean.no_dot_dot)
+
+-- a clean name alone is one component
+pub body_parts-name : (s : Separators) (name : List ℕ) → IsCleanName s name → body_parts s name ≡ name_part name ∷ []
+body_parts-name s [] clean = cc
+body_parts-name s (b ∷ bs) clean = rw (slice_split_none (is_separator s) (b ∷ bs) clean.unseparated, clean.filled, clean.no_dot, clean.no_dot_dot)
+
+-- a separator within a text parts it: what stands behind it is read as later pieces
+pub body_parts-append : (s : Separators) (front : List ℕ) (b : ℕ) (rest : List ℕ) → is_separator s b ≡ true → body_parts s (front ++ b ∷ rest) ≡ first_parts s (pieces s front) ++ later_parts s (pieces s rest)
+body_parts-append s front b rest separates = filled front ∙ cut_apart
+  where
+    filled : (text : List ℕ) → body_parts s (text ++ b ∷ rest) ≡ first_parts s (pieces s (text ++ b ∷ rest))
+    filled [] = refl
+    filled (c ∷ cs) = refl
+
+    cut_apart : first_parts s (pieces s (front ++ b ∷ rest)) ≡ first_parts s (pieces s front) ++ later_parts s (pieces s rest)
+    cut_apart =
+        let some = slice_split-some (is_separator s) front in
+        rw (slice_split-append (is_separator s) front b rest separates, some.2) (first_parts-append s some.0 some.1 (pieces s rest))
+
+-- a text is what stands before its last byte, and that byte
+pub but_last : (text : List ℕ) → (length text == 0) ≡ false → text ≡ take (length text - 1) text ++ slice_index text (length text - 1) ∷ []
+but_last text filled =
+    let above : 0 < length text = grind (arith, eqb-false) in
+    let whole : length text - 1 + 1 ≡ length text = omega arith in
+    sym (take_all (length text) text (le_refl (length text))) ∙ (rw whole at (take_more text (length text - 1) 0 (omega arith)))
+
+-- a separator at the end of a text adds no component
+body_parts-separator : (s : Separators) (front : List ℕ) (b : ℕ) → is_separator s b ≡ true → body_parts s (front ++ b ∷ []) ≡ first_parts s (pieces s front)
+body_parts-separator s front b separates = body_parts-append s front b [] separates ∙ append-nil (first_parts s (pieces s front))
+
+-- what is put behind a text and a separator is read as later pieces
+pub body_parts-behind : (s : Separators) (b : ℕ) (base rest : List ℕ) → is_separator s b ≡ true → (length base == 0) ≡ false
+    → body_parts s ((base ++ b ∷ []) ++ rest) ≡ body_parts s base ++ later_parts s (pieces s rest)
+body_parts-behind s b [] rest separates filled = cc
+body_parts-behind s b (c ∷ cs) rest separates filled = rw (append_assoc cs (b ∷ []) rest) (body_parts-append s (c ∷ cs) b rest separates)
+
+-- what is put behind a text that ends with a separator is read as later pieces
+pub body_parts-more : (s : Separators) (b : ℕ) (front rest : List ℕ) → is_separator s b ≡ true → body_parts s ((front ++ b ∷ []) ++ rest) ≡ body_parts s (front ++ b ∷ []) ++ later_parts s (pieces s rest)
+body_parts-more s b front rest separates =
+    rw (append_assoc front (b ∷ []) rest) (body_parts-append s front b rest separates ∙ ap (λ ps. ps ++ later_parts s (pieces s rest)) (sym (body_parts-separator s front b separates)))
+
+-- what is put behind a text, once that ends with a separator, is read as later pieces
+pub body_parts-ended : (s : Separators) (b : ℕ) (base rest : List ℕ) → is_separator s b ≡ true → (length base == 0) ≡ false
+    → body_parts s (ended_with b base ++ rest) ≡ body_parts s base ++ later_parts s (pieces s rest)
+body_parts-ended s b base rest separates filled =
+    rw filled (cond_both (slice_index base (length base - 1) == b) base (base ++ b ∷ []) (λ text. body_parts s (text ++ rest) ≡ body_parts s base ++ later_parts s (pieces s rest)) ends (λ no_end. body_parts-behind s b base rest separates filled))
+  where
+    ends : (slice_index base (length base - 1) == b) ≡ true → body_parts s (base ++ rest) ≡ body_parts s base ++ later_parts s (pieces s rest)
+    ends last =
+        let whole : base ≡ take (length base - 1) base ++ b ∷ [] = but_last base filled ∙ ap (λ c. take (length base - 1) base ++ c ∷ []) (eqb-true _ b last) in
+        subst (λ text. body_parts s (text ++ rest) ≡ body_parts s text ++ later_parts s (pieces s rest)) (sym whole) (body_parts-more s b (take (length base - 1) base) rest separates)
+
+-- A base of Windows with a separator put behind it, where it needs one.
+
+-- what is put behind a base: nothing behind an empty one, behind `\`, and behind a drive alone, and `\` behind another
+pub data Ending (base : List ℕ) : List ℕ → Type 0 where
+  empty : base ≡ [] → Ending base []
+  ended : (front : List ℕ) → base ≡ front ++ backslash ∷ [] → Ending base []
+  drive_alone : is_disk_alone (kinds (parts_of windows base)) ≡ true → Ending base []
+  parted : is_disk_alone (kinds (parts_of windows base)) ≡ false → 0 < length base → IsUnended base → Ending base (backslash ∷ [])
+
+-- a base, and what is put behind it
+abbrev pub HasEnding : List ℕ → List ℕ → Type 0
+HasEnding base text = (mid : List ℕ) × (text ≡ base ++ mid) × Ending base mid
+
+-- a text whose last byte is another does not end with `\`
+unended-last : (base : List ℕ) → (slice_index base (length base - 1) == backslash) ≡ false → IsUnended base
+unended-last base other front is =
+    let place : length base - 1 ≡ length front = omega (arith, ap length is, length-append front (backslash ∷ [])) in
+    let last : slice_index base (length base - 1) ≡ backslash = ap (slice_index base) place ∙ ap (λ t. slice_index t (length front)) is ∙ get_or-append_seam front backslash [] 0 in
+    both_ways (slice_index base (length base - 1) == backslash) other (eq-eqb _ backslash last)
+
+-- a base that is no drive alone
+ended_with-ending : (base : List ℕ) → is_disk_alone (kinds (parts_of windows base)) ≡ false → HasEnding base (ended_with backslash base)
+ended_with-ending base no_drive = by (length base == 0) refl (slice_index base (length base - 1) == backslash) refl
+  where
+    by : (lacking : Bool) → (length base == 0) ≡ lacking → (last : Bool) → (slice_index base (length base - 1) == backslash) ≡ last
+        → HasEnding base (if (lacking || last) then base else base ++ backslash ∷ [])
+    by true e last h = ([], sym (append-nil base), empty (nothing base e))
+      where
+        nothing : (t : List ℕ) → (length t == 0) ≡ true → t ≡ []
+        nothing [] e = refl
+        nothing (b ∷ bs) e = absurd (omega (arith, eqb-true _ 0 e))
+    by false e true h =
+        ([], sym (append-nil base), ended (take (length base - 1) base) (but_last base e ∙ ap (λ c. take (length base - 1) base ++ c ∷ []) (eqb-true _ backslash h)))
+    by false e false h = (backslash ∷ [], refl, parted no_drive (grind (arith, eqb-false)) (unended-last base h))
+
+-- each base
+pub ending : (base : List ℕ) → HasEnding base (ended_windows base)
+ending base = by (is_disk_alone (kinds (parts_of windows base))) refl
+  where
+    by : (drive : Bool) → is_disk_alone (kinds (parts_of windows base)) ≡ drive → HasEnding base (if drive then base else ended_with backslash base)
+    by true e = ([], sym (append-nil base), drive_alone e)
+    by false e = ended_with-ending base e
+
+-- A list of names, currents and parents that overdraws nothing, merged into another: what it resolves to is put behind.
+
+-- a component that is a name
+abbrev named : List ℕ → List ℕ → Part
+named name text = record { kind = normal name; text = text }
+
+-- so many names
+data Names : ℕ → List Part → Type 0 where
+  none : Names zero []
+  more : {n : ℕ} {ps : List Part} (name text : List ℕ) → Names n ps → Names (suc n) (ps ++ named name text ∷ [])
+
+-- names are kept
+names-kept : (n : ℕ) (ps : List Part) → Names n ps → AllByRecursion IsKept ps
+names-kept _ _ none = tt
+names-kept _ _ (more {n = m} {ps = rs} name text names) = AllByRecursion-append IsKept rs (named name text ∷ []) (names-kept m rs names) (refl, tt)
+
+-- a name with a parent behind it is nothing
+named-alike : (name text word : List ℕ) (ps : List Part) → Alike (named name text ∷ record { kind = parent; text = word } ∷ ps) ps
+named-alike name text word ps = record { draws = λ names. refl; resolves = refl }
+
+-- the last name taken off a list
+without_last_name-append : (ps : List Part) (name text : List ℕ) → without_last_name (ps ++ named name text ∷ []) ≡ ps
+without_last_name-append [] name text = refl
+without_last_name-append (p ∷ []) name text = refl
+without_last_name-append (p ∷ q ∷ ps) name text = ap (λ qs. p ∷ qs) (without_last_name-append (q ∷ ps) name text)
+
+-- names at the end of a list take in what follows
+merged-names : (ps rs qs : List Part) (n : ℕ) → Names n rs → overdraws n (kinds qs) ≡ false → no_heads (kinds qs) ≡ true → merged (ps ++ rs) qs ≡ ps ++ resolve (rs ++ qs)
+merged-names ps rs [] n names closed headless = ap (λ qs. ps ++ qs) (sym (ap resolve (append-nil rs) ∙ resolve-same rs (names-kept n rs names)))
+merged-names ps rs (q ∷ qs) n names closed headless = by q.kind q.text n rs names closed headless (λ rs n. merged-names ps rs qs n)
+  where
+    by : (k : Kind) (word : List ℕ) (n : ℕ) (rs : List Part) → Names n rs → overdraws n (k ∷ kinds qs) ≡ false → no_heads (k ∷ kinds qs) ≡ true
+        → ((rs : List Part) (n : ℕ) → Names n rs → overdraws n (kinds qs) ≡ false → no_heads (kinds qs) ≡ true → merged (ps ++ rs) qs ≡ ps ++ resolve (rs ++ qs))
+        → merged (merge_by_kind (ps ++ rs) (record { kind = k; text = word }) k) qs ≡ ps ++ resolve (rs ++ record { kind = k; text = word } ∷ qs)
+    by (prefix p) word n rs names closed headless again = cc
+    by root word n rs names closed headless again = cc
+    by current word n rs names closed headless again =
+        again rs n names closed headless ∙ ap (λ ts. ps ++ ts) (sym (Alike-append rs _ qs (current-alike word qs)).resolves)
+    by parent word zero rs names closed headless again = cc
+    by parent word (suc n) _ (more {ps = ts} name text names) closed headless again =
+        ap (λ us. merged (without_last_name us) qs) (sym (append_assoc ps ts (named name text ∷ [])))
+        ∙ ap (λ us. merged us qs) (without_last_name-append (ps ++ ts) name text)
+        ∙ again ts n names closed headless
+        ∙ ap (λ us. ps ++ us) (sym (Alike-append ts _ qs (named-alike name text word qs)).resolves)
+        ∙ ap (λ us. ps ++ resolve us) (sym (append_assoc ts (named name text ∷ []) (record { kind = parent; text = word } ∷ qs)))
+    by (normal name) text n rs names closed headless again =
+        ap (λ ts. merged ts qs) (append_assoc ps rs (named name text ∷ []))
+        ∙ again (rs ++ named name text ∷ []) (suc n) (more name text names) closed headless
+        ∙ ap (λ ts. ps ++ resolve ts) (append_assoc rs (named name text ∷ []) qs)
+
+-- a list without prefixes and roots that overdraws nothing is merged as what it resolves to
+pub merged-resolve : (ps qs : List Part) → overdraws zero (kinds qs) ≡ false → no_heads (kinds qs) ≡ true → merged ps qs ≡ ps ++ resolve qs
+merged-resolve ps qs closed headless = ap (λ ts. merged ts qs) (sym (append-nil ps)) ∙ merged-names ps [] qs zero none closed headless
+
+-- A list as it is read behind a prefix of Windows, spelled and read again.
+
+-- what a text is that gives one component, as a later piece
+pub record IsPiece (s : Separators) (k : Kind) (text : List ℕ) : Type 0 where
+  pub unseparated : IsUnseparated (is_separator s) text
+  pub later : later_part s text ≡ record { kind = k; text = text } ∷ []
+  pub filled : (length text == 0) ≡ false
+
+-- a later component is one piece
+pub later-piece : (s : Separators) (k : Kind) (text : List ℕ) → IsLater s k text → IsPiece s k text
+later-piece s (prefix q) text later = absurd later
+later-piece s root text later = absurd later
+later-piece s current text later = rw later.1 (record {
+  unseparated = All-cons (λ b. is_separator s b ≡ false) dot [] (dot-unseparated s) (All-nil _);
+  later = ap (λ b. if b then current_part ∷ [] else []) later.0;
+  filled = refl;
+})
+later-piece s parent text later = rw later (record {
+  unseparated = All-cons (λ b. is_separator s b ≡ false) dot (dot ∷ []) (dot-unseparated s) (All-cons (λ b. is_separator s b ≡ false) dot [] (dot-unseparated s) (All-nil _));
+  later = refl;
+  filled = refl;
+})
+later-piece s (normal name) text later = rw later.0 (record {
+  unseparated = later.1.unseparated;
+  later = rw (later.1.filled, later.1.no_dot, later.1.no_dot_dot) refl;
+  filled = later.1.filled;
+})
+
+-- between components that are no roots stands a separator
+pub joint-relative : (k l : Kind) → begins_with_root (k ∷ []) ≡ false → begins_with_root (l ∷ []) ≡ false → joint k l ≡ backslash ∷ []
+joint-relative root l first second = cc
+joint-relative k root first second = cc
+joint-relative k l first second = refl
+
+-- a later component is no root
+pub later-relative : (s : Separators) (k : Kind) (text : List ℕ) → IsLater s k text → begins_with_root (k ∷ []) ≡ false
+later-relative s root text later = absurd later
+later-relative s k text later = refl
+
+-- a text that is not empty is read from its pieces
+body_parts-filled : (s : Separators) (text : List ℕ) → (length text == 0) ≡ false → body_parts s text ≡ first_parts s (pieces s text)
+body_parts-filled s [] filled = cc
+body_parts-filled s (b ∷ bs) filled = refl
+
+-- what is put behind a text that is not empty leaves it so
+append-filled : (front rest : List ℕ) → (length front == 0) ≡ false → (length (front ++ rest) == 0) ≡ false
+append-filled [] rest filled = cc
+append-filled (b ∷ bs) rest filled = ne_eqb (suc (length (bs ++ rest))) 0 (λ e. cc)
+
+-- a component is written with some bytes
+written-filled : (s : Separators) (k : Kind) (text : List ℕ) → IsWritten s k text → (length text == 0) ≡ false
+written-filled s (prefix p) text written = absurd written
+written-filled s root text written = rw written (by s)
+  where
+    by : (t : Separators) → (length (root_text t) == 0) ≡ false
+    by Slash = refl
+    by Backslash = refl
+    by Either = refl
+written-filled s (normal name) text written = rw written.0 written.1.filled
+written-filled s k text written = rw written refl
+
+-- so is a list
+pub spelled-filled : (s : Separators) (p : Part) (ps : List Part) → IsWrittenPart s p → (length (spelled (p ∷ ps)) == 0) ≡ false
+spelled-filled s p [] written = written-filled s p.kind p.text written
+spelled-filled s p (q ∷ ps) written =
+    append-filled (p.text ++ joint p.kind q.kind) (spelled (q ∷ ps)) (append-filled p.text (joint p.kind q.kind) (written-filled s p.kind p.text written))
+
+module _ (s : Separators) (w : OfWindows s) where
+  -- later components, spelled, are read again as later pieces
+  pub later_parts-spelled : (p : Part) (ps : List Part) → AllByRecursion (IsLaterPart s) (p ∷ ps) → later_parts s (pieces s (spelled (p ∷ ps))) ≡ p ∷ ps
+  later_parts-spelled p [] later =
+      let one = later-piece s p.kind p.text later.0 in
+      ap (later_parts s) (slice_split_none (is_separator s) p.text one.unseparated) ∙ append-nil (later_part s p.text) ∙ one.later
+  later_parts-spelled p (q ∷ ps) later =
+      let one = later-piece s p.kind p.text later.0 in
+      let rest = spelled (q ∷ ps) in
+      ap (λ j. later_parts s (pieces s (p.text ++ j ++ rest))) (joint-relative p.kind q.kind (later-relative s p.kind p.text later.0) (later-relative s q.kind q.text later.1.0))
+      ∙ ap (λ t. later_parts s (pieces s t)) (append_assoc p.text (backslash ∷ []) rest)
+      ∙ ap (later_parts s) (slice_split-append (is_separator s) p.text backslash rest (backslash-separates s w))
+      ∙ ap (λ ts. later_parts s (ts ++ pieces s rest)) (slice_split_none (is_separator s) p.text one.unseparated)
+      ∙ ap₂ ◌++◌ one.later (later_parts-spelled q ps later.1)
+
+  -- behind a first component that is no root stand later ones
+  first_parts-behind : (p : Part) (ps : List Part) → begins_with_root (p.kind ∷ []) ≡ false → IsUnseparated (is_separator s) p.text → first_part s p.text ≡ p
+      → AllByRecursion (IsLaterPart s) ps → first_parts s (pieces s (spelled (p ∷ ps))) ≡ p ∷ ps
+  first_parts-behind p [] relative unseparated first later = ap (first_parts s) (slice_split_none (is_separator s) p.text unseparated) ∙ ap (λ q. q ∷ []) first
+  first_parts-behind p (q ∷ ps) relative unseparated first later =
+      let rest = spelled (q ∷ ps) in
+      ap (λ j. first_parts s (pieces s (p.text ++ j ++ rest))) (joint-relative p.kind q.kind relative (later-relative s q.kind q.text later.0))
+      ∙ ap (λ t. first_parts s (pieces s t)) (append_assoc p.text (backslash ∷ []) rest)
+      ∙ ap (first_parts s) (slice_split-append (is_separator s) p.text backslash rest (backslash-separates s w))
+      ∙ ap (λ ts. first_parts s (ts ++ pieces s rest)) (slice_split_none (is_separator s) p.text unseparated)
+      ∙ ap₂ ◌∷◌ first (later_parts-spelled q ps later)
+
+  -- behind a root stands no separator
+  first_parts-root : (ps : List Part) → AllByRecursion (IsLaterPart s) ps → first_parts s (pieces s (spelled (root_part (root_text s) ∷ ps))) ≡ root_part (root_text s) ∷ ps
+  first_parts-root [] later = rw (root_text-windows s w) (ap (first_parts s) (slice_split-cons_yes (is_separator s) backslash [] (backslash-separates s w)) ∙ ap (λ t. root_part t ∷ []) (root_text-windows s w))
+  first_parts-root (q ∷ ps) later =
+      ap (λ t. first_parts s (pieces s (t ++ [] ++ spelled (q ∷ ps)))) (root_text-windows s w)
+      ∙ ap (first_parts s) (slice_split-cons_yes (is_separator s) backslash (spelled (q ∷ ps)) (backslash-separates s w))
+      ∙ ap (λ qs. root_part (root_text s) ∷ qs) (later_parts-spelled q ps later)
+
+  -- a first component is read again, with later ones behind it
+  abbrev IsReadAgain : Kind → List Part → List ℕ → Type 0
+  IsReadAgain k ps text = first_parts s (pieces s (spelled (record { kind = k; text = text } ∷ ps))) ≡ record { kind = k; text = text } ∷ ps
+
+  -- each first component is
+  first_parts-spelled : (k : Kind) (text : List ℕ) (ps : List Part) → IsWritten s k text → AllByRecursion (IsLaterPart s) ps → IsReadAgain k ps text
+  first_parts-spelled (prefix p) text ps written later = absurd written
+  first_parts-spelled root text ps written later = subst (IsReadAgain root ps) (sym written) (first_parts-root ps later)
+  first_parts-spelled current text ps written later =
+      subst (IsReadAgain current ps) (sym written) (first_parts-behind current_part ps refl (All-cons (λ b. is_separator s b ≡ false) dot [] (dot-unseparated s) (All-nil _)) refl later)
+  first_parts-spelled parent text ps written later =
+      subst (IsReadAgain parent ps) (sym written) (first_parts-behind parent_part ps refl (later-piece s parent (dot ∷ dot ∷ []) refl).unseparated refl later)
+  first_parts-spelled (normal name) text ps written later =
+      let clean = written.1 in
+      subst (IsReadAgain (normal name) ps) (sym written.0) (first_parts-behind (name_part name) ps refl clean.unseparated (rw (clean.filled, clean.no_dot, clean.no_dot_dot) refl) later)
+
+  -- a list as it is read, spelled, is read again
+  pub body_parts-spelled : (p : Part) (ps : List Part) → AreRead s (p ∷ ps) → body_parts s (spelled (p ∷ ps)) ≡ p ∷ ps
+  body_parts-spelled p ps read = body_parts-filled s (spelled (p ∷ ps)) (spelled-filled s p ps read.0) ∙ first_parts-spelled p.kind p.text ps read.0 read.1
+
+-- Texts of Windows that hold components with `\` between them, as they are read.
+
+-- pieces with `\` between them
+abbrev pub joined : List (List ℕ) → List ℕ
+joined [] = []
+joined (piece ∷ []) = piece
+joined (piece ∷ next ∷ further) = piece ++ backslash ∷ joined (next ∷ further)
+
+-- a text is its pieces with `\` between them
+pub joined-split : (text : List ℕ) → joined (slice_split (is_separator Backslash) text) ≡ text
+joined-split [] = refl
+joined-split (b ∷ bs) = let some = slice_split-some (is_separator Backslash) bs in by (b == backslash) refl some.0 some.1 some.2 (joined-split bs)
+  where
+    by : (x : Bool) → (b == backslash) ≡ x → (piece : List ℕ) (further : List (List ℕ)) → slice_split (is_separator Backslash) bs ≡ piece ∷ further → joined (slice_split (is_separator Backslash) bs) ≡ bs
+        → joined (cond x ([] ∷ slice_split (is_separator Backslash) bs) (onto_first b (slice_split (is_separator Backslash) bs))) ≡ b ∷ bs
+    by true e piece further is again =
+        ap (λ ps. joined ([] ∷ ps)) is ∙ ap (λ t. backslash ∷ t) (ap joined (sym is) ∙ again) ∙ ap (λ c. c ∷ bs) (sym (eqb-true b backslash e))
+    by false e piece [] is again = ap (λ ps. joined (onto_first b ps)) is ∙ ap (λ t. b ∷ t) (ap joined (sym is) ∙ again)
+    by false e piece (next ∷ further) is again = ap (λ ps. joined (onto_first b ps)) is ∙ ap (λ t. b ∷ t) (ap joined (sym is) ∙ again)
+
+-- without `/` both separators split as `\` does
+pub split-either : (text : List ℕ) → list_any (is_separator Slash) text ≡ false → slice_split (is_separator Either) text ≡ slice_split (is_separator Backslash) text
+split-either [] lacking = refl
+split-either (b ∷ bs) lacking =
+    let both = or_parts (b == slash) (list_any (is_separator Slash) bs) lacking in
+    ap₂ (λ x ps. cond (x || b == backslash) ([] ∷ ps) (onto_first b ps)) both.0 (split-either bs both.1)
+
+-- a piece that is one component, and how that is written
+record IsOne (s : Separators) (piece : List ℕ) : Type 0 where
+  pub part : Part
+  pub is : later_part s piece ≡ part ∷ []
+  pub same : part.text ≡ piece
+  pub relative : begins_with_root (part.kind ∷ []) ≡ false
+
+-- what `.` and `..` are
+dot-is : (piece : List ℕ) → is_dot piece ≡ true → piece ≡ dot ∷ []
+dot-is (b ∷ []) h = ap (λ c. c ∷ []) (eqb-true b dot h)
+dot-is piece h = cc
+
+dot_dot-is : (piece : List ℕ) → is_dot_dot piece ≡ true → piece ≡ dot ∷ dot ∷ []
+dot_dot-is (b ∷ c ∷ []) h = let both = and_parts (b == dot) (c == dot) h in ap₂ (λ x y. x ∷ y ∷ []) (eqb-true b dot both.0) (eqb-true c dot both.1)
+dot_dot-is piece h = cc
+
+-- so is each component of a row
+one-component : (s : Separators) (piece : List ℕ) → is_component s piece ≡ true → IsOne s piece
+one-component s piece h = by (length piece == 0) refl (is_dot piece) refl (is_verbatim s) refl (is_dot_dot piece) refl h
+  where
+    by : (blank : Bool) → (length piece == 0) ≡ blank → (dotted : Bool) → is_dot piece ≡ dotted → (verbatim : Bool) → is_verbatim s ≡ verbatim → (two : Bool) → is_dot_dot piece ≡ two
+        → not (blank || (dotted && not verbatim)) ≡ true → IsOne s piece
+    by false e true d true v two t h = record { part = current_part; is = rw (e, d, v) refl; same = sym (dot-is piece d); relative = refl }
+    by false e false d verbatim v true t h = record { part = parent_part; is = rw (e, d, t) refl; same = sym (dot_dot-is piece t); relative = refl }
+    by false e false d verbatim v false t h = record { part = name_part piece; is = rw (e, d, t) refl; same = refl; relative = refl }
+    by blank e dotted d verbatim v two t h = cc
+
+-- pieces that are components, spelled
+record AreListed (s : Separators) (ps : List (List ℕ)) : Type 0 where
+  pub first : Part
+  pub others : List Part
+  pub is : later_parts s ps ≡ first ∷ others
+  pub same : spelled (first ∷ others) ≡ joined ps
+  pub relative : begins_with_root (first.kind ∷ []) ≡ false
+
+listed : (s : Separators) (piece : List ℕ) (further : List (List ℕ)) → list_all (is_component s) (piece ∷ further) ≡ true → AreListed s (piece ∷ further)
+listed s piece [] h =
+    let one = one-component s piece (and_parts (is_component s piece) true h).0 in
+    record { first = one.part; others = []; is = ap (λ ps. ps ++ []) one.is; same = one.same; relative = one.relative }
+listed s piece (next ∷ further) h =
+    let both = and_parts (is_component s piece) (list_all (is_component s) (next ∷ further)) h in
+    let one = one-component s piece both.0 in
+    let rest = listed s next further both.1 in
+    record {
+      first = one.part;
+      others = rest.first ∷ rest.others;
+      is = ap₂ ◌++◌ one.is rest.is;
+      same = ap (λ j. one.part.text ++ j ++ spelled (rest.first ∷ rest.others)) (joint-relative one.part.kind rest.first.kind one.relative rest.relative)
+          ∙ append_assoc one.part.text (backslash ∷ []) (spelled (rest.first ∷ rest.others))
+          ∙ ap₂ (λ t u. t ++ backslash ∷ u) one.same rest.same;
+      relative = one.relative;
+    }
+
+-- a row, read as later components and spelled again
+pub record IsRead (s : Separators) (text : List ℕ) : Type 0 where
+  pub first : Part
+  pub others : List Part
+  pub later : AllByRecursion (IsLaterPart s) (first ∷ others)
+  pub same : spelled (first ∷ others) ≡ text
+
+pub row-read : (s : Separators) (text : List ℕ) → OfWindows s → is_row s text ≡ true → IsRead s text
+row-read s text w h =
+    let both = and_parts (is_verbatim s || not (list_any (is_separator Slash) text)) _ h in
+    let some = slice_split-some (is_separator Backslash) text in
+    let split : pieces s text ≡ some.0 ∷ some.1 = by s w both.0 ∙ some.2 in
+    let all = listed s some.0 some.1 (ap (list_all (is_component s)) (sym some.2) ∙ both.1) in
+    let is : later_parts s (pieces s text) ≡ all.first ∷ all.others = ap (later_parts s) split ∙ all.is in
+    record {
+      first = all.first;
+      others = all.others;
+      later = subst (AllByRecursion (IsLaterPart s)) is (later_parts-later s (pieces s text) (slice_split-unseparated (is_separator s) text));
+      same = all.same ∙ ap joined (sym some.2) ∙ joined-split text;
+    }
+  where
+    by : (s : Separators) → OfWindows s → (is_verbatim s || not (list_any (is_separator Slash) text)) ≡ true → pieces s text ≡ slice_split (is_separator Backslash) text
+    by Slash w h = cc
+    by Backslash w h = refl
+    by Either w h = split-either text (not-true _ h)
+
+-- a later component is a component as it stands
+component-later : (s : Separators) (k : Kind) (text : List ℕ) → IsLater s k text → is_component s text ≡ true
+component-later s (prefix p) text later = absurd later
+component-later s root text later = absurd later
+component-later s current text later = rw later.1 (ap (λ v. not (not v)) later.0)
+component-later s parent text later = rw later refl
+component-later s (normal name) text later = rw (later.0, later.1.filled, later.1.no_dot) refl
+
+-- what separates nothing holds no `\`
+pub backslash-free : (s : Separators) → OfWindows s → (text : List ℕ) → IsUnseparated (is_separator s) text → IsUnseparated (is_separator Backslash) text
+backslash-free Slash w text free = cc
+backslash-free Backslash w text free = free
+backslash-free Either w text free = λ k d l. (or_parts _ _ (free k d l)).1
+
+-- a later component holds no `/`, unless the text is read verbatim
+piece-slash_free : (p : Part) → IsLaterPart Either p → list_any (is_separator Slash) p.text ≡ false
+piece-slash_free p later = list_any_none (is_separator Slash) p.text (λ k d l. (or_parts _ _ ((later-piece Either p.kind p.text later).unseparated k d l)).0)
+
+-- nor do later components, spelled
+slash-free : (p : Part) (ps : List Part) → AllByRecursion (IsLaterPart Either) (p ∷ ps) → list_any (is_separator Slash) (spelled (p ∷ ps)) ≡ false
+slash-free p [] later = piece-slash_free p later.0
+slash-free p (q ∷ ps) later =
+    ap (λ j. list_any (is_separator Slash) (p.text ++ j ++ spelled (q ∷ ps))) (joint-relative p.kind q.kind (later-relative Either p.kind p.text later.0) (later-relative Either q.kind q.text later.1.0))
+    ∙ list_any-append (is_separator Slash) (p.text ++ backslash ∷ []) (spelled (q ∷ ps))
+    ∙ ap₂ ◌||◌ (list_any-append (is_separator Slash) p.text (backslash ∷ []) ∙ ap (λ x. x || false) (piece-slash_free p later.0)) (slash-free q ps later.1)
+
+-- each piece of later components, spelled, is one
+components-spelled : (s : Separators) → OfWindows s → (p : Part) (ps : List Part) → AllByRecursion (IsLaterPart s) (p ∷ ps)
+    → list_all (is_component s) (slice_split (is_separator Backslash) (spelled (p ∷ ps))) ≡ true
+components-spelled s w p [] later =
+    let free = backslash-free s w p.text (later-piece s p.kind p.text later.0).unseparated in
+    ap (list_all (is_component s)) (slice_split_none (is_separator Backslash) p.text free) ∙ ap (λ x. x && true) (component-later s p.kind p.text later.0)
+components-spelled s w p (q ∷ ps) later =
+    let free = backslash-free s w p.text (later-piece s p.kind p.text later.0).unseparated in
+    let rest = spelled (q ∷ ps) in
+    let split = slice_split (is_separator Backslash) in
+    ap (λ j. list_all (is_component s) (split (p.text ++ j ++ rest))) (joint-relative p.kind q.kind (later-relative s p.kind p.text later.0) (later-relative s q.kind q.text later.1.0))
+    ∙ ap (λ t. list_all (is_component s) (split t)) (append_assoc p.text (backslash ∷ []) rest)
+    ∙ ap (list_all (is_component s)) (slice_split-append (is_separator Backslash) p.text backslash rest refl ∙ ap (λ ts. ts ++ split rest) (slice_split_none (is_separator Backslash) p.text free))
+    ∙ ap₂ ◌&&◌ (component-later s p.kind p.text later.0) (components-spelled s w q ps later.1)
+
+-- so later components, spelled, are a row
+pub row-spelled : (s : Separators) → OfWindows s → (p : Part) (ps : List Part) → AllByRecursion (IsLaterPart s) (p ∷ ps) → is_row s (spelled (p ∷ ps)) ≡ true
+row-spelled s w p ps later = ap₂ ◌&&◌ (by s w later) (components-spelled s w p ps later)
+  where
+    by : (s : Separators) → OfWindows s → AllByRecursion (IsLaterPart s) (p ∷ ps) → (is_verbatim s || not (list_any (is_separator Slash) (spelled (p ∷ ps)))) ≡ true
+    by Slash w later = cc
+    by Backslash w later = refl
+    by Either w later = ap not (slash-free p ps later)

@@ -1,0 +1,210 @@
+-- What masks say of places, and searches of a range put together from what was seen of it.
+use Rattle.std.proofs.Common.{◌≡◌, ℕ, suc, ◌+◌, ◌-◌, ◌*◌, ◌^◌, ◌/◌, ◌%◌, ◌≤◌, ◌<◌, List, Bool, true, false, not, ◌||◌, ◌==◌, max, w64, cond, length, slice_index, slice_range, take, drop, get_or, map, refl, sym, ap, ◌∙◌, arith, bit_or, ⊎_elim, pow_pos, pow_mono, div-lt_iff_lt-mul, le-div_iff_mul-le, [], ◌∷◌, nat_lt, true≢false, shr-shr, eqb-true, ltb-true, lt-ltb, get_or-take, get_or-drop, length-take-le, length-drop, take_all}
+use Rattle.std.specs.Int.{bit_at, trailing_zeros}
+use Rattle.std.specs.Slice.Scan.{HoldsNowhere, IsFirstPlace, IsLastPlace, HoldsSomewhere}
+use Rattle.std.specs.Simd.Lanes.{mask_l}
+use Rattle.std.proofs.Math.Nat.{two-pow-succ, div-eq_of_lt}
+use Rattle.std.proofs.lemmas.Bool.{cases_lt, eqb-false}
+use Rattle.std.proofs.lemmas.List.{get_or-map, get_or_past, length-map}
+use Rattle.std.proofs.lemmas.Nat.Bits.{bit_at-zero, bit_at_or, bit_at-trailing_zeros}
+use Rattle.std.proofs.lemmas.Simd.{bit_mask_l, length-chunk, get_or-chunk, length-zip2, get_or-zip2}
+use Rattle.std.specs.List.{position_or_len, list_any}
+use Rattle.std.proofs.lemmas.List.Sums.{position_or_len_is}
+use lib.Lanes.{zip2, chunk}
+use Rattle.std.proofs.lemmas.List.Folds.{list_any_at}
+use Rattle.typed_path.specs.scan.{IsMask, TellsWhether, is_one_of, stands_at, IsFirstOf}
+
+-- What masks say of places, and searches of a range put together from what was seen of it.
+
+-- ---- masks
+
+-- the mask of a comparison of the bytes from a place on
+pub mask-chunk : (f : ℕ → Bool) (at n : ℕ) (xs : List ℕ) → at + n ≤ length xs → IsMask (λ k. f (get_or xs (at + k) 0)) n (mask_l (map f (chunk at n xs)))
+mask-chunk f at n xs fits =
+    let long = length-chunk at n xs fits in
+    record {
+      within = λ k l.
+          bit_mask_l (map f (chunk at n xs)) k
+          ∙ ap (λ b. cond b 1 0) (get_or-map f (chunk at n xs) k 0 false (omega arith) ∙ ap f (get_or-chunk at n xs k 0 l));
+      beyond = λ k l.
+          bit_mask_l (map f (chunk at n xs)) k
+          ∙ ap (λ b. cond b 1 0) (get_or_past (map f (chunk at n xs)) k false (omega (arith, length-map (chunk at n xs) f)));
+    }
+
+-- the mask of either of two tests
+pub mask-or : (p q : ℕ → Bool) (n a b : ℕ) → IsMask p n a → IsMask q n b → IsMask (λ k. p k || q k) n (bit_or a b)
+mask-or p q n a b g h = record {
+  within = λ k l. either (p k) (q k) (bit_at a k) (bit_at b k) _ (bit_at_or a b k) (g.within k l) (h.within k l);
+  beyond = λ k l. omega (arith, bit_at_or a b k, g.beyond k l, h.beyond k l);
+}
+  where
+    either : (x y : Bool) (i j m : ℕ) → m ≡ max i j → i ≡ cond x 1 0 → j ≡ cond y 1 0 → m ≡ cond (x || y) 1 0
+    either true true i j m e f g = omega arith
+    either true false i j m e f g = omega arith
+    either false true i j m e f g = omega arith
+    either false false i j m e f g = omega arith
+
+-- a mask of a test is one of each test that agrees with it
+pub mask-alike : (p q : ℕ → Bool) (n a : ℕ) → ((k : ℕ) → q k ≡ p k) → IsMask p n a → IsMask q n a
+mask-alike p q n a same g = record {
+  within = λ k l. g.within k l ∙ ap (λ b. cond b 1 0) (sym (same k));
+  beyond = g.beyond;
+}
+
+-- the mask of a comparison of the bytes from a place on with those of another text
+pub mask-chunks : (f : ℕ → ℕ → Bool) (at n : ℕ) (xs ys : List ℕ) → at + n ≤ length xs → at + n ≤ length ys
+    → IsMask (λ k. f (get_or xs (at + k) 0) (get_or ys (at + k) 0)) n (mask_l (zip2 f (chunk at n xs) (chunk at n ys)))
+mask-chunks f at n xs ys fits fits' =
+    let long = length-chunk at n xs fits in
+    let long' = length-chunk at n ys fits' in
+    let zipped = length-zip2 f (chunk at n xs) (chunk at n ys) (long ∙ sym long') in
+    let marks = zip2 f (chunk at n xs) (chunk at n ys) in
+    record {
+      within = λ k l.
+          bit_mask_l marks k
+          ∙ ap (λ b. cond b 1 0) (get_or-zip2 f (chunk at n xs) (chunk at n ys) k 0 0 false (omega arith) (omega arith) ∙ (λ i. f (get_or-chunk at n xs k 0 l i) (get_or-chunk at n ys k 0 l i)));
+      beyond = λ k l. bit_mask_l marks k ∙ ap (λ b. cond b 1 0) (get_or_past marks k false (omega arith));
+    }
+
+-- a mask without its lowest bits
+pub mask-behind : (p : ℕ → Bool) (s n mask : ℕ) → IsMask p (s + n) mask → IsMask (λ k. p (s + k)) n (mask / 2 ^ s)
+mask-behind p s n mask marks = record {
+  within = λ k l. shifted k ∙ marks.within (s + k) (omega arith);
+  beyond = λ k l. shifted k ∙ marks.beyond (s + k) (omega arith);
+}
+  where
+    shifted : (k : ℕ) → bit_at (mask / 2 ^ s) k ≡ bit_at mask (s + k)
+    shifted k = ap (λ x. x % 2) (shr-shr mask s k)
+
+-- the highest bit of a number, and those above it
+pub highest_is_set : (mask k : ℕ) → 2 ^ k ≤ mask → mask < 2 * 2 ^ k → bit_at mask k ≡ 1
+highest_is_set mask k low high =
+    let p = pow_pos k in
+    let below : mask / 2 ^ k < 2 = (div-lt_iff_lt-mul p).1 high in
+    let above : 1 ≤ mask / 2 ^ k = (le-div_iff_mul-le p).1 (omega arith) in
+    omega arith
+
+pub clear_above : (mask j k : ℕ) → mask < 2 * 2 ^ j → j < k → bit_at mask k ≡ 0
+clear_above mask j k high l = ap (λ x. x % 2) (div-eq_of_lt (omega (arith, two-pow-succ j, pow_mono {i = suc j} {j = k} (omega arith))))
+
+-- ---- a block of places, and its mask
+module _ (q : ℕ → Bool) (at n mask : ℕ) (marks : IsMask (λ k. q (at + k)) n mask) where
+  -- a bit that is set
+  block-set : (k : ℕ) → bit_at mask k ≡ 1 → (k < n) × (q (at + k) ≡ true)
+  block-set k set =
+      ⊎_elim (λ l. (l, is_set (q (at + k)) (sym (marks.within k l) ∙ set))) (λ l. absurd (omega (arith, marks.beyond k l))) (cases_lt k n)
+    where
+      is_set : (b : Bool) → cond {A = ℕ} b 1 0 ≡ 1 → b ≡ true
+      is_set true e = refl
+      is_set false e = absurd (omega arith)
+
+  -- one that is not
+  block-clear : (k : ℕ) → at ≤ k → k < at + n → bit_at mask (k - at) ≡ 0 → q k ≡ false
+  block-clear k low high clear =
+      let same : at + (k - at) ≡ k = omega arith in
+      is_clear (q k) (sym (marks.within (k - at) (omega arith) ∙ ap (λ j. cond (q j) 1 0) same) ∙ clear)
+    where
+      is_clear : (b : Bool) → cond {A = ℕ} b 1 0 ≡ 0 → b ≡ false
+      is_clear true e = absurd (omega arith)
+      is_clear false e = refl
+
+  -- no bit is set
+  pub block-none : mask ≡ 0 → HoldsNowhere q at (at + n)
+  block-none none k low high = block-clear k low high (ap (λ m. bit_at m (k - at)) none ∙ bit_at-zero (k - at))
+
+  -- whether one is
+  pub block-tells : mask < 2 ^ 64 → TellsWhether q at (at + n) (not (mask == 0))
+  block-tells fits = by (mask == 0) refl
+    where
+      by : (none : Bool) → (mask == 0) ≡ none → TellsWhether q at (at + n) (not none)
+      by true e = block-none (eqb-true mask 0 e)
+      by false e =
+          let low = bit_at-trailing_zeros w64 mask (omega (arith, eqb-false mask 0 e)) fits in
+          let found = block-set (trailing_zeros w64 mask) low.1 in (at + trailing_zeros w64 mask, omega arith, omega (arith, found.0), found.1)
+
+  -- the lowest bit
+  pub block-first : (low : ℕ) → bit_at mask low ≡ 1 → ((k : ℕ) → k < low → bit_at mask k ≡ 0) → (low < n) × IsFirstPlace q at (at + n) (at + low)
+  block-first low set below =
+      let found = block-set low set in
+      let short = found.0 in (
+        short,
+        record { low = omega arith; high = omega arith; before = λ k l g. block-clear k l (omega arith) (below (k - at) (omega arith)); hit = λ _. found.1 },
+      )
+
+  -- the highest bit
+  pub block-last : (high : ℕ) → bit_at mask high ≡ 1 → ((k : ℕ) → high < k → bit_at mask k ≡ 0) → (high < n) × IsLastPlace q at (at + n) (at + high + 1)
+  block-last high set above =
+      let found = block-set high set in
+      let short = found.0 in (
+        short,
+        record {
+          low = omega arith;
+          high = omega arith;
+          after = λ k l g. block-clear k (omega arith) g (above (k - at) (omega arith));
+          hit = λ _. ap q (omega arith) ∙ found.1;
+        },
+      )
+
+-- what is told of n places from the first on, and of the last n, is told of all
+pub both-tell : (q : ℕ → Bool) (n last : ℕ) (front back : Bool) → last ≤ n → TellsWhether q 0 (0 + n) front → TellsWhether q last (last + n) back → TellsWhether q 0 (last + n) (front || back)
+both-tell q n last true back short some told = (some.0, omega arith, omega (arith, some.2), some.3)
+both-tell q n last false true short none some = (some.0, omega arith, some.2, some.3)
+both-tell q n last false false short none none' = λ k low high. ⊎_elim (λ l. none k low (omega arith)) (λ l. none' k (omega arith) high) (cases_lt k n)
+
+-- ---- one of a pair, and a test that agrees with it
+module _ (pair : ℕ × ℕ) (p : ℕ → Bool) (same : (b : ℕ) → p b ≡ is_one_of pair b) (text : List ℕ) where
+  -- the first place within a range
+  pub first-within : (from to place : ℕ) → from ≤ to → to ≤ length text → IsFirstOf pair text from to place → place - from ≡ position_or_len p (slice_range text from to)
+  first-within from to place ordered in_range found =
+      let part = slice_range text from to in
+      let long : length part ≡ to - from = length-take-le (to - from) (drop from text) (omega (arith, length-drop from text)) in
+      let here : (k : ℕ) → k < to - from → p (get_or part k 0) ≡ stands_at pair text (from + k) = λ k l.
+      ap p (get_or-take (to - from) (drop from text) k 0 l ∙ get_or-drop from text k 0) ∙ same (slice_index text (from + k)) in
+      let back : from + (place - from) ≡ place = omega (arith, found.low) in
+      sym (position_or_len_is p part (place - from) 0 (omega (arith, found.high))
+      (λ k l. here k (omega (arith, found.high)) ∙ found.before (from + k) (omega arith) (omega (arith, found.low)))
+      (λ l. here (place - from) (omega arith) ∙ ap (stands_at pair text) back ∙ found.hit (omega (arith, found.low))))
+
+  -- the first place
+  pub first-of : (place : ℕ) → IsFirstOf pair text 0 (length text) place → place ≡ position_or_len p text
+  first-of place found =
+      let whole : length text - 0 ≡ length text = omega arith in
+      let same_place : place ≡ place - 0 = omega arith in
+      same_place
+      ∙ first-within 0 (length text) place (omega arith) (omega arith) found
+      ∙ ap (λ n. position_or_len p (take n text)) whole
+      ∙ ap (position_or_len p) (take_all (length text) text (omega arith))
+
+-- Whether a text has a byte that no name of Windows may have, told by its places.
+
+-- a test that holds at no place of a text holds of no byte
+pub any-nowhere : (p : ℕ → Bool) (text : List ℕ) → HoldsNowhere (λ k. p (slice_index text k)) 0 (length text) → list_any p text ≡ false
+any-nowhere p [] none = refl
+any-nowhere p (x ∷ xs) none = ap (λ b. b || list_any p xs) (none 0 (omega arith) (omega arith)) ∙ any-nowhere p xs (λ k low high. none (suc k) (omega arith) (omega arith))
+
+-- one that holds at a place holds of a byte
+pub any-somewhere : (p : ℕ → Bool) (text : List ℕ) (from to : ℕ) → to ≤ length text → HoldsSomewhere (λ k. p (slice_index text k)) from to → list_any p text ≡ true
+any-somewhere p text from to within some = list_any_at p text some.0 0 (omega (arith, within, some.2)) some.3
+
+-- the place of the first tells whether there is one
+pub first-tells : (holds : ℕ → Bool) (from to place : ℕ) → IsFirstPlace holds from to place → TellsWhether holds from to (nat_lt place to)
+first-tells holds from to place found = by (nat_lt place to) refl
+  where
+    by : (told : Bool) → nat_lt place to ≡ told → TellsWhether holds from to told
+    by true e = let l = ltb-true place to e in (place, found.low, l, found.hit l)
+    by false e = λ k low high. ⊎_elim (λ l. absurd (true≢false (sym (lt-ltb place to l) ∙ e))) (λ l. found.before k low (omega (arith, l, high))) (cases_lt place to)
+
+-- what is told of the end of a text, before which it holds nowhere, is told of the whole
+pub any-told : (p : ℕ → Bool) (text : List ℕ) (from to : ℕ) (told : Bool) → TellsWhether (λ k. p (slice_index text k)) from to told → ((k : ℕ) → k < from → p (slice_index text k) ≡ false) → length text ≡ to → told ≡ list_any p text
+any-told p text from to true some before whole = sym (any-somewhere p text from to (omega arith) some)
+any-told p text from to false none before whole = sym (any-nowhere p text (λ k low high. ⊎_elim (before k) (λ l. none k l (omega arith)) (cases_lt k from)))
+
+-- the tests of eight bytes, two by two and one by one
+pub paired : (a b c d e f g h : Bool) → (((a || b) || (c || d)) || (e || f)) || (g || h) ≡ (a || b || c || d || e || f || g || h)
+paired true b c d e f g h = refl
+paired false true c d e f g h = refl
+paired false false true d e f g h = refl
+paired false false false true e f g h = refl
+paired false false false false true f g h = refl
+paired false false false false false true g h = refl
+paired false false false false false false g h = refl

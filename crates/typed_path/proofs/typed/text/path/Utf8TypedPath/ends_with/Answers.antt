@@ -1,5 +1,0 @@
-use Rattle.std.proofs.Common.{sym}
-use Rattle.typed_path.proofs.typed.text.path.Utf8TypedPath.ends_with.Goals as goal
-
-pub returns-in-Windows : goal.returns-in-Windows
-returns-in-Windows c = rw c.in-Windows.is (rw (sym c.new-in-Windows.ensures) c.ends_with-in-Windows.ensures)

@@ -1,0 +1,191 @@
+//! Names in a text: split at their last dot, put behind it where its memory is found first, and
+//! taken off its end.
+
+ghost use Rattle.std.specs.Prelude.{◌≡◌, ◌<◌, ◌≤◌, ◌+◌, ◌-◌, ◌++◌, ℕ, List, fold, take, length, option_copied, IfSome, IsOk, OnOk, OnErr};
+ghost use Rattle.std.specs.List.{slice_split};
+ghost use Rattle.typed_path.specs.components.{is_separator};
+ghost use Rattle.std.specs.Vec.{vec_len, vec_capacity};
+ghost use Rattle.typed_path.specs.changes.{dotted};
+ghost use Rattle.typed_path.specs.places.{rows_of, settled, AreRowsOf, HaveNoDisks};
+ghost use Rattle.typed_path.specs.queries.{stem_of, extension_of};
+
+use crate::scan::Separators;
+use memchr::memrchr;
+use std::alloc::AllocError;
+
+/// The stem of a name and its extension. A dot that is the first byte begins no extension.
+pub fn split_name(name: &[u8]) -> (&[u8], Option<&[u8]>)
+    ensures stem { result.0.now ≡ stem_of name.now }
+    ensures shorter { length result.0.now ≤ length name.now }
+    ensures extension { option_copied result.1 ≡ extension_of name.now }
+{
+    let Some(at) = memrchr(b'.', name) else {
+        return (name, None);
+    };
+    if at == 0 {
+        return (name, None);
+    }
+    (&name[..at], Some(&name[at + 1..]))
+}
+
+/// How many bytes an extension takes with the dot before it; none where it is empty.
+pub fn dotted_len(extension: &[u8]) -> usize
+    ensures { result ≡ length (dotted extension.now) }
+{
+    if extension.is_empty() {
+        0
+    } else {
+        extension.len() + 1
+    }
+}
+
+/// Puts an extension behind a stem, with the dot before it; nothing where the extension is empty.
+pub fn put_extension(stem: &mut Vec<u8>, extension: &[u8]) -> Result<(), AllocError>
+    ensures ok { OnOk result (stem.new.items ≡ stem.old.items ++ dotted extension.now) }
+    ensures capacity { vec_capacity stem.old ≤ vec_capacity stem.new }
+    ensures succeeds { length stem.old.items + length (dotted extension.now) ≤ vec_capacity stem.old
+        → IsOk result }
+{
+    if extension.is_empty() {
+        return Ok(());
+    }
+    stem.push(b'.')?;
+    stem.extend_from_slice(extension)
+}
+
+/// Cuts a path to its first bytes, and puts a separator and another path behind them.
+#[inline(always)]
+pub fn put_over(
+    path: &mut Vec<u8>,
+    kept: usize,
+    separator: &[u8],
+    other: &[u8],
+) -> Result<(), AllocError>
+    requires within { kept ≤ length path.old.items }
+    requires short { length separator.now ≤ 1 }
+    ensures ok { OnOk result
+        (path.new.items ≡ take kept path.old.items ++ separator.now ++ other.now) }
+    ensures err { OnErr result (path.new.items ≡ path.old.items) }
+    ensures capacity { vec_capacity path.old ≤ vec_capacity path.new }
+    ensures succeeds { kept + length separator.now + length other.now ≤ vec_capacity path.old
+        → IsOk result }
+{
+    let len = kept + separator.len() + other.len();
+    path.reserve(len.saturating_sub(path.len()))?;
+    path.truncate(kept);
+    if let [byte] = separator {
+        path.push(*byte)?;
+    }
+    path.extend_from_slice(other)
+}
+
+/// How many bytes are put as one block.
+const BLOCK: usize = 16;
+
+/// Puts the first bytes of a text behind another text. A few are put as a block, and what is too many
+/// is cut off again: a block is a store, where a copy of any size is a call that branches by the size.
+#[inline(always)]
+pub fn append_first(text: &mut Vec<u8>, source: &[u8], len: usize) -> Result<(), AllocError>
+    requires { len ≤ length source.now }
+    ensures ok { OnOk result (text.new.items ≡ text.old.items ++ take len source.now) }
+    ensures err { OnErr result (text.new.items ≡ text.old.items) }
+    ensures capacity { vec_capacity text.old ≤ vec_capacity text.new }
+    ensures succeeds { vec_len text.old + length source.now ≤ vec_capacity text.old
+        → IsOk result }
+{
+    if BLOCK < len || source.len() < BLOCK {
+        return text.extend_from_slice(&source[..len]);
+    }
+    let end = text.len() + len;
+    text.extend_from_slice(&source[..BLOCK])?;
+    text.truncate(end);
+    Ok(())
+}
+
+/// Takes the last name off, and the separator behind it, where a name stands behind the first bytes.
+#[inline(always)]
+pub fn drop_name(text: &mut Vec<u8>, len: usize, separators: Separators)
+    requires { len ≤ length text.old.items }
+    ensures dropped { (head : List ℕ) (names : List (List ℕ)) → length head ≡ len
+        → AreRowsOf separators text.old.items head names
+        → text.new.items ≡ head ++ rows_of separators (take (length names - 1) names) }
+    ensures kept { take len text.new.items ≡ take len text.old.items }
+    ensures long { len ≤ length text.new.items }
+    ensures room { vec_len text.new ≤ vec_len text.old }
+    ensures capacity { vec_capacity text.new ≡ vec_capacity text.old }
+{
+    if len < text.len() {
+        let start = separators.last_in(&text[len..text.len() - 1]);
+        text.truncate(len + start);
+    }
+}
+
+/// Takes the separator behind the last name off, where a name stands behind the first bytes.
+#[inline(always)]
+pub fn drop_separator(text: &mut Vec<u8>, len: usize)
+    ensures capacity { vec_capacity text.new ≡ vec_capacity text.old }
+    ensures named { len < length text.old.items
+        → text.new.items ≡ take (length text.old.items - 1) text.old.items }
+    ensures alone { length text.old.items ≤ len → text.new.items ≡ text.old.items }
+    ensures kept { take len text.new.items ≡ take len text.old.items }
+{
+    if len < text.len() {
+        text.pop();
+    }
+}
+
+/// Cuts a text back to its first bytes where memory was refused.
+#[inline(always)]
+pub fn cut_back(
+    text: &mut Vec<u8>,
+    len: usize,
+    done: Result<(), AllocError>,
+) -> Result<(), AllocError>
+    ensures same { result ≡ done }
+    ensures ok { OnOk result (text.new.items ≡ text.old.items) }
+    ensures err { OnErr result (text.new.items ≡ take len text.old.items) }
+    ensures capacity { vec_capacity text.new ≡ vec_capacity text.old }
+{
+    if done.is_err() {
+        text.truncate(len);
+    }
+    done
+}
+
+/// What is left behind a segment: where it is empty or `.`, without the segments like it that come
+/// next, so that a run of separators is not cut one by one.
+#[inline(always)]
+pub fn behind_segment<'a>(segment: &[u8], rest: &'a [u8], separators: Separators) -> &'a [u8]
+    ensures same { (names : List (List ℕ))
+        → fold settled names (slice_split (is_separator separators) rest.now)
+        ≡ fold settled names (slice_split (is_separator separators) result.now) }
+    ensures drives { HaveNoDisks (slice_split (is_separator separators) rest.now)
+        → HaveNoDisks (slice_split (is_separator separators) result.now) }
+    ensures shorter { length result.now ≤ length rest.now }
+{
+    let mut left = rest;
+    if matches!(segment, [] | [b'.']) {
+        'blanks: while let Some(behind) = behind_blank(left, separators) {
+            left = behind;
+        }
+    }
+    left
+}
+
+/// What stands behind a separator that a text begins with, or behind a `.` and a separator.
+#[inline(always)]
+fn behind_blank(text: &[u8], separators: Separators) -> Option<&[u8]>
+    ensures same { IfSome result (λ rest. (names : List (List ℕ))
+        → fold settled names (slice_split (is_separator separators) text.now)
+        ≡ fold settled names (slice_split (is_separator separators) rest.now)) }
+    ensures drives { IfSome result (λ rest.
+        HaveNoDisks (slice_split (is_separator separators) text.now)
+        → HaveNoDisks (slice_split (is_separator separators) rest.now)) }
+    ensures shorter { IfSome result (λ rest. length rest.now < length text.now) }
+{
+    match text {
+        [first, rest @ ..] if separators.contains(*first) => Some(rest),
+        [b'.', second, rest @ ..] if separators.contains(*second) => Some(rest),
+        _ => None,
+    }
+}

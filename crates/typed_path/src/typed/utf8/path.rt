@@ -1,0 +1,352 @@
+//! A lent path of text whose dialect is chosen when the program runs.
+
+ghost use Rattle.std.specs.Prelude.{◌≡◌, [], IfOk, IsOk, Ok, not, bytes_eq, IfSome, option_map, option_copied};
+ghost use Rattle.typed_path.specs.typed.{kind_dialect, derived_dialect, typed_dialect};
+ghost use Rattle.typed_path.specs.typed.Outcomes.{JoinsChecked, Normalizes, ConvertsChecked, Absolutizes};
+ghost use Rattle.typed_path.specs.views.TypedTextViews.{typed_text};
+ghost use Rattle.typed_path.specs.components.{unix, windows, kinds, comps, parts_of};
+ghost use Rattle.typed_path.specs.changes.{with_file_name, with_extension};
+ghost use Rattle.typed_path.specs.conversions.{converted};
+ghost use Rattle.typed_path.specs.views.TextViews.{utf8_bytes};
+ghost use Rattle.typed_path.specs.views.TypedViews.{owned_bytes};
+ghost use Rattle.typed_path.specs.changes.Push as push_spec;
+ghost use Rattle.typed_path.specs.queries.{is_absolute, has_root, parent_of, file_name_of, file_stem_of, stripped, path_starts_with, path_ends_with, ancestors_of, stripped_to};
+
+use crate::errors::{AbsolutizeError, PathError, StripPrefixError};
+use crate::typed::utf8::path_buf::Utf8TypedPathBuf;
+use crate::typed::utf8::reading::Utf8TypedComponents;
+use crate::typed::variant::{PathType, Typed, each, made_as, typed, typed_option, typed_result};
+use crate::utf8::{
+    Utf8Ancestors, Utf8Iter, Utf8Path, Utf8PlatformPath, Utf8UnixEncoding, Utf8UnixPath,
+    Utf8WindowsEncoding, Utf8WindowsPath,
+};
+use std::alloc::{AllocError, Global};
+
+/// A path of text of Unix or of Windows: a text, with the dialect by which it is read.
+pub type Utf8TypedPath<'a> = Typed<Utf8UnixPath<'a>, Utf8WindowsPath<'a>>;
+
+/// The texts of the components that are left to be read.
+pub type Utf8TypedIter<'a> = Typed<
+    Utf8Iter<'a, Utf8UnixEncoding>,
+    Utf8Iter<'a, Utf8WindowsEncoding>,
+>;
+
+/// A path of text, and then each parent of the one before.
+pub type Utf8TypedAncestors<'a> = Typed<
+    Utf8Ancestors<'a, Utf8UnixEncoding>,
+    Utf8Ancestors<'a, Utf8WindowsEncoding>,
+>;
+
+impl<'a> Utf8TypedPath<'a> {
+    ghost use Rattle.typed_path.specs.queries.{extension};
+    ghost use Rattle.typed_path.specs.views.TypedViews.{reading_dialect};
+    ghost use Rattle.typed_path.specs.views.TypedTextViews.{typed_text_items, typed_text_slice, typed_text_iter_items, typed_text_iter_slice, typed_text_ancestors_left};
+
+    /// The path of this text, of a kind.
+    #[inline(always)]
+    pub fn new(text: &'a str, kind: PathType) -> Utf8TypedPath<'a>
+        ensures dialect { typed_dialect result ≡ kind_dialect kind }
+        ensures bytes { typed_text result ≡ text.now }
+    {
+        made_as!(kind, Utf8Path::new(text))
+    }
+
+    /// The path of this text, as on Unix.
+    #[inline(always)]
+    pub fn unix(text: &'a str) -> Utf8TypedPath<'a>
+        ensures dialect { typed_dialect result ≡ unix }
+        ensures bytes { typed_text result ≡ text.now }
+    {
+        Typed::Unix(Utf8Path::new(text))
+    }
+
+    /// The path of this text, as on Windows.
+    #[inline(always)]
+    pub fn windows(text: &'a str) -> Utf8TypedPath<'a>
+        ensures dialect { typed_dialect result ≡ windows }
+        ensures bytes { typed_text result ≡ text.now }
+    {
+        Typed::Windows(Utf8Path::new(text))
+    }
+
+    /// The path of this text, of the kind that [`PathType::derive`] says it looks like.
+    #[inline]
+    pub fn derive(text: &'a str) -> Utf8TypedPath<'a>
+        ensures dialect { typed_dialect result ≡ derived_dialect text.now }
+        ensures bytes { typed_text result ≡ text.now }
+    {
+        Utf8TypedPath::new(text, PathType::derive(text.as_bytes()))
+    }
+
+    /// The text of the path.
+    #[inline(always)]
+    pub fn as_str(self) -> &'a str
+        ensures { result.now ≡ typed_text self.entry }
+    {
+        each!(self, path => path.as_str())
+    }
+
+    /// Whether the path leads to one place, whatever the current directory is.
+    pub fn is_absolute(self) -> bool
+        ensures { result ≡ is_absolute (typed_dialect self.entry)
+            (kinds (parts_of (typed_dialect self.entry) (typed_text self.entry))) }
+    {
+        each!(self, path => path.is_absolute())
+    }
+
+    /// Whether the path is not absolute.
+    pub fn is_relative(self) -> bool
+        ensures { result ≡ not (is_absolute (typed_dialect self.entry)
+            (kinds (parts_of (typed_dialect self.entry) (typed_text self.entry)))) }
+    {
+        each!(self, path => path.is_relative())
+    }
+
+    /// Whether the path begins with a root, written or implied by a prefix.
+    pub fn has_root(self) -> bool
+        ensures { result ≡ has_root (typed_dialect self.entry)
+            (kinds (parts_of (typed_dialect self.entry) (typed_text self.entry))) }
+    {
+        each!(self, path => path.has_root())
+    }
+
+    /// The path without its last component, or none where there is no component or nothing is above
+    /// the last one.
+    pub fn parent(self) -> Option<Utf8TypedPath<'a>>
+        ensures dialect { IfSome result (λ p. typed_dialect p ≡ typed_dialect self.entry) }
+        ensures bytes { option_map typed_text result
+            ≡ parent_of (typed_dialect self.entry) (typed_text self.entry) }
+    {
+        typed_option!(self, path => path.parent())
+    }
+
+    /// The path, and then each parent of the one before.
+    #[inline(always)]
+    pub fn ancestors(self) -> Utf8TypedAncestors<'a>
+        ensures dialect { typed_dialect result ≡ typed_dialect self.entry }
+        ensures left { typed_text_ancestors_left result
+            ≡ ancestors_of (typed_dialect self.entry) (typed_text self.entry) }
+    {
+        typed!(self, path => path.ancestors())
+    }
+
+    /// The last component, where it is a name.
+    pub fn file_name(self) -> Option<&'a str>
+        ensures { option_copied result
+            ≡ file_name_of (typed_dialect self.entry) (typed_text self.entry) }
+    {
+        each!(self, path => path.file_name())
+    }
+
+    /// The file name up to its last dot, or the whole of it where no dot but a first one is there.
+    pub fn file_stem(self) -> Option<&'a str>
+        ensures { option_copied result
+            ≡ file_stem_of (typed_dialect self.entry) (typed_text self.entry) }
+    {
+        each!(self, path => path.file_stem())
+    }
+
+    /// What stands in the file name behind its last dot, where that is not its first character.
+    pub fn extension(self) -> Option<&'a str>
+        ensures { option_copied result
+            ≡ extension (typed_dialect self.entry) (typed_text self.entry) }
+    {
+        each!(self, path => path.extension())
+    }
+
+    /// What is left of the path behind a base of its kind.
+    ///
+    /// # Errors
+    ///
+    /// `StripPrefixError` exactly where the path does not begin with the base's components, compared
+    /// as they are written.
+    pub fn strip_prefix(self, base: &str) -> Result<Utf8TypedPath<'a>, StripPrefixError>
+        ensures dialect { IfOk result (λ p. typed_dialect p ≡ typed_dialect self.entry) }
+        ensures bytes { stripped_to typed_text result
+            ≡ stripped (typed_dialect self.entry) (typed_text self.entry) base.now }
+    {
+        typed_result!(self, path => path.strip_prefix(Utf8Path::new(base)))
+    }
+
+    /// Whether the path begins with the components of another of its kind, as they are written.
+    pub fn starts_with(self, base: &str) -> bool
+        ensures { result
+            ≡ path_starts_with (typed_dialect self.entry) (typed_text self.entry) base.now }
+    {
+        each!(self, path => path.starts_with(Utf8Path::new(base)))
+    }
+
+    /// Whether the path ends with the components of another of its kind, as they are written.
+    pub fn ends_with(self, end: &str) -> bool
+        ensures { result
+            ≡ path_ends_with (typed_dialect self.entry) (typed_text self.entry) end.now }
+    {
+        each!(self, path => path.ends_with(Utf8Path::new(end)))
+    }
+
+    /// Whether the path is this text, character by character: `a/` is not `a`.
+    #[inline]
+    pub fn eq_str(self, other: &str) -> bool
+        ensures { result ≡ bytes_eq (typed_text self.entry) other.now }
+    {
+        self.as_str() == other
+    }
+
+    /// The components of the path, from either end.
+    #[inline(always)]
+    pub fn components(self) -> Utf8TypedComponents<'a>
+        ensures dialect { reading_dialect result ≡ typed_dialect self.entry }
+        ensures items { typed_text_items result
+            ≡ comps (typed_dialect self.entry) (typed_text self.entry) }
+        ensures slice { typed_text_slice result ≡ typed_text self.entry }
+    {
+        Utf8TypedComponents::new(self)
+    }
+
+    /// The texts of the components, from either end.
+    #[inline(always)]
+    pub fn iter(self) -> Utf8TypedIter<'a>
+        ensures dialect { typed_dialect result ≡ typed_dialect self.entry }
+        ensures items { typed_text_iter_items result
+            ≡ comps (typed_dialect self.entry) (typed_text self.entry) }
+        ensures slice { typed_text_iter_slice result ≡ typed_text self.entry }
+    {
+        typed!(self, path => path.iter())
+    }
+
+    /// A copy that owns its text.
+    pub fn to_path_buf(self, alloc: Global) -> Result<Utf8TypedPathBuf, AllocError>
+        ensures dialect { IfOk result (λ p. typed_dialect p ≡ typed_dialect self.entry) }
+        ensures bytes { IfOk result (λ p. owned_bytes p ≡ typed_text self.entry) }
+        ensures succeeds { typed_text self.entry ≡ [] → IsOk result }
+    {
+        typed_result!(self, path => path.to_path_buf(alloc))
+    }
+
+    /// The path with another of its kind pushed onto it: an absolute one stands in its place, and with
+    /// an empty one it is a copy.
+    pub fn join(self, alloc: Global, path: &str) -> Result<Utf8TypedPathBuf, AllocError>
+        ensures dialect { IfOk result (λ p. typed_dialect p ≡ typed_dialect self.entry) }
+        ensures joined { IfOk result (λ p. owned_bytes p
+            ≡ push_spec.push (typed_dialect self.entry) (typed_text self.entry) path.now) }
+    {
+        typed_result!(self, base => base.join(alloc, Utf8Path::new(path)))
+    }
+
+    /// The path with another of its kind pushed onto it, unless that has a component that offends.
+    ///
+    /// The answer lies within this path, where it has the prefix of this one. A path that is refused
+    /// costs no memory.
+    ///
+    /// # Errors
+    ///
+    /// Those of [`Utf8Path::join_checked`].
+    pub fn join_checked(self, alloc: Global, path: &str) -> Result<Utf8TypedPathBuf, PathError>
+        ensures dialect { IfOk result (λ p. typed_dialect p ≡ typed_dialect self.entry) }
+        ensures joined { JoinsChecked (typed_dialect self.entry) owned_bytes (typed_text self.entry)
+            path.now result }
+    {
+        typed_result!(self, base => base.join_checked(alloc, Utf8Path::new(path)))
+    }
+
+    /// A copy with another file name, or with the name pushed where there is none.
+    pub fn with_file_name(self, alloc: Global, name: &str) -> Result<Utf8TypedPathBuf, AllocError>
+        ensures dialect { IfOk result (λ p. typed_dialect p ≡ typed_dialect self.entry) }
+        ensures bytes { IfOk result (λ p. owned_bytes p
+            ≡ with_file_name (typed_dialect self.entry) (typed_text self.entry) name.now) }
+    {
+        typed_result!(self, path => path.with_file_name(alloc, name))
+    }
+
+    /// A copy whose file name has another extension, or none where the new one is empty. Without a
+    /// file name it is a mere copy.
+    pub fn with_extension(
+        self,
+        alloc: Global,
+        extension: &str,
+    ) -> Result<Utf8TypedPathBuf, AllocError>
+        ensures dialect { IfOk result (λ p. typed_dialect p ≡ typed_dialect self.entry) }
+        ensures bytes { IfOk result (λ p. owned_bytes p
+            ≡ with_extension (typed_dialect self.entry) (typed_text self.entry) extension.now) }
+    {
+        typed_result!(self, path => path.with_extension(alloc, extension))
+    }
+
+    /// The path without `.`, and without `..` and the names that these take away, in the form of
+    /// [`Utf8Path::normalize`].
+    pub fn normalize(self, alloc: Global) -> Result<Utf8TypedPathBuf, AllocError>
+        ensures dialect { IfOk result (λ p. typed_dialect p ≡ typed_dialect self.entry) }
+        ensures normal { Normalizes (typed_dialect self.entry) owned_bytes (typed_text self.entry)
+            result }
+    {
+        typed_result!(self, path => path.normalize(alloc))
+    }
+
+    /// The normal text of the path where it is absolute, and else of the directory in this path's
+    /// dialect with the path pushed onto it.
+    ///
+    /// # Errors
+    ///
+    /// `Ambiguous` where the path is absolute neither alone nor behind the directory, as every Windows
+    /// path without a prefix is behind `/home/u`. `OutOfMemory` where memory is refused.
+    pub fn absolutize(
+        self,
+        alloc: Global,
+        directory: Utf8PlatformPath<'_>,
+    ) -> Result<Utf8TypedPathBuf, AbsolutizeError>
+        ensures dialect { IfOk result (λ p. typed_dialect p ≡ typed_dialect self.entry) }
+        ensures absolute { Absolutizes (typed_dialect self.entry) owned_bytes
+            (utf8_bytes directory.entry) (typed_text self.entry) result }
+    {
+        typed_result!(self, path => path.absolutize(alloc, directory))
+    }
+
+    /// The path as on Unix: that of Unix is copied, and that of Windows written as
+    /// [`Utf8Path::with_encoding`] does.
+    pub fn with_unix_encoding(self, alloc: Global) -> Result<Utf8TypedPathBuf, AllocError>
+        ensures dialect { IfOk result (λ p. typed_dialect p ≡ unix) }
+        ensures bytes { IfOk result (λ p. owned_bytes p
+            ≡ converted (typed_dialect self.entry) unix (typed_text self.entry)) }
+    {
+        Ok(Typed::Unix(each!(self, path => path.with_unix_encoding(alloc))?))
+    }
+
+    /// The path as on Unix, refused as [`Utf8Path::with_encoding_checked`] does, also where it is of Unix.
+    pub fn with_unix_encoding_checked(self, alloc: Global) -> Result<Utf8TypedPathBuf, PathError>
+        ensures dialect { IfOk result (λ p. typed_dialect p ≡ unix) }
+        ensures converted { ConvertsChecked (typed_dialect self.entry) unix owned_bytes
+            (typed_text self.entry) result }
+    {
+        Ok(Typed::Unix(each!(self, path => path.with_unix_encoding_checked(alloc))?))
+    }
+
+    /// The path as on Windows: that of Windows is copied, and that of Unix written as
+    /// [`Utf8Path::with_encoding`] does.
+    pub fn with_windows_encoding(self, alloc: Global) -> Result<Utf8TypedPathBuf, AllocError>
+        ensures dialect { IfOk result (λ p. typed_dialect p ≡ windows) }
+        ensures bytes { IfOk result (λ p. owned_bytes p
+            ≡ converted (typed_dialect self.entry) windows (typed_text self.entry)) }
+    {
+        Ok(Typed::Windows(each!(self, path => path.with_windows_encoding(alloc))?))
+    }
+
+    /// The path as on Windows, refused as [`Utf8Path::with_encoding_checked`] does, also where it is of
+    /// Windows.
+    pub fn with_windows_encoding_checked(self, alloc: Global) -> Result<Utf8TypedPathBuf, PathError>
+        ensures dialect { IfOk result (λ p. typed_dialect p ≡ windows) }
+        ensures converted { ConvertsChecked (typed_dialect self.entry) windows owned_bytes
+            (typed_text self.entry) result }
+    {
+        Ok(Typed::Windows(each!(self, path => path.with_windows_encoding_checked(alloc))?))
+    }
+}
+
+/// The path of this text, of the kind that it looks like.
+impl<'a> From<&'a str> for Utf8TypedPath<'a> {
+    ghost from_gives = { λ text path. (typed_dialect path ≡ derived_dialect text.now)
+        × (typed_text path ≡ text.now) };
+
+    fn from(text: &'a str) -> Utf8TypedPath<'a> {
+        Utf8TypedPath::derive(text)
+    }
+}

@@ -1,0 +1,544 @@
+//! An owned path of text whose dialect is chosen when the program runs.
+
+ghost use Rattle.std.specs.Prelude.{◌≡◌, [], IfOk, IsOk, not, bytes_eq, Ok, Err, Some, None, IfSome, option_map, option_copied, Option, IfErr, is_ok};
+ghost use Rattle.std.specs.String.{string_bytes, string_capacity};
+ghost use Rattle.typed_path.specs.components.{unix, windows, kinds, comps, parts_of};
+ghost use Rattle.typed_path.specs.typed.{kind_dialect, derived_dialect, typed_dialect, KeepsDialect, held_unix, held_windows};
+ghost use Rattle.typed_path.specs.typed.Outcomes.{Pushes, PushesChecked, Pops, SetsFileName, SetsExtension, Clears, Reserves, ReservesExactly, ShrinksTo, JoinsChecked, Normalizes, ConvertsChecked, Absolutizes};
+ghost use Rattle.typed_path.specs.views.TypedViews.{typed_owned, owned_bytes, reading_dialect};
+ghost use Rattle.typed_path.specs.views.TypedTextViews.{typed_text, typed_text_items, typed_text_slice, typed_text_iter_items, typed_text_iter_slice, typed_text_ancestors_left};
+ghost use Rattle.typed_path.specs.queries.{is_absolute, has_root, parent_of, file_name_of, file_stem_of, extension, stripped, path_starts_with, path_ends_with, ancestors_of, stripped_to};
+ghost use Rattle.typed_path.specs.changes.{with_file_name, with_extension};
+ghost use Rattle.typed_path.specs.conversions.{converted, same_dialect};
+ghost use Rattle.typed_path.specs.views.TextViews.{utf8_bytes};
+ghost use Rattle.typed_path.specs.changes.Push as push_spec;
+
+use crate::errors::{AbsolutizeError, PathError, StripPrefixError};
+use crate::typed::path_buf::TryAsRef;
+use crate::typed::utf8::path::{Utf8TypedAncestors, Utf8TypedIter, Utf8TypedPath};
+use crate::typed::utf8::reading::Utf8TypedComponents;
+use crate::typed::variant::{PathType, Typed, each, made_as, typed};
+use crate::utf8::{
+    Utf8Path, Utf8PathBuf, Utf8PlatformPath, Utf8UnixPath, Utf8UnixPathBuf, Utf8WindowsPath,
+    Utf8WindowsPathBuf,
+};
+use std::alloc::{AllocError, Global};
+
+/// An owned path of text of Unix or of Windows, which grows.
+pub type Utf8TypedPathBuf = Typed<Utf8UnixPathBuf, Utf8WindowsPathBuf>;
+
+impl Utf8TypedPathBuf {
+    /// The empty path of a kind.
+    pub fn new(alloc: Global, kind: PathType) -> Utf8TypedPathBuf
+        ensures dialect { typed_dialect result ≡ kind_dialect kind }
+        ensures bytes { owned_bytes result ≡ [] }
+        ensures capacity { (typed_owned result).capacity ≡ 0 }
+    {
+        made_as!(kind, Utf8PathBuf::new(alloc))
+    }
+
+    /// The empty path, as on Unix.
+    pub fn unix(alloc: Global) -> Utf8TypedPathBuf
+        ensures dialect { typed_dialect result ≡ unix }
+        ensures bytes { owned_bytes result ≡ [] }
+        ensures capacity { (typed_owned result).capacity ≡ 0 }
+    {
+        Typed::Unix(Utf8PathBuf::new(alloc))
+    }
+
+    /// The empty path, as on Windows.
+    pub fn windows(alloc: Global) -> Utf8TypedPathBuf
+        ensures dialect { typed_dialect result ≡ windows }
+        ensures bytes { owned_bytes result ≡ [] }
+        ensures capacity { (typed_owned result).capacity ≡ 0 }
+    {
+        Typed::Windows(Utf8PathBuf::new(alloc))
+    }
+
+    /// The path of a copy of this text, as on Unix.
+    pub fn from_unix(alloc: Global, text: &str) -> Result<Utf8TypedPathBuf, AllocError>
+        ensures dialect { IfOk result (λ p. typed_dialect p ≡ unix) }
+        ensures bytes { IfOk result (λ p. owned_bytes p ≡ text.now) }
+        ensures succeeds { text.now ≡ [] → IsOk result }
+    {
+        Utf8TypedPath::unix(text).to_path_buf(alloc)
+    }
+
+    /// The path of a copy of this text, as on Windows.
+    pub fn from_windows(alloc: Global, text: &str) -> Result<Utf8TypedPathBuf, AllocError>
+        ensures dialect { IfOk result (λ p. typed_dialect p ≡ windows) }
+        ensures bytes { IfOk result (λ p. owned_bytes p ≡ text.now) }
+        ensures succeeds { text.now ≡ [] → IsOk result }
+    {
+        Utf8TypedPath::windows(text).to_path_buf(alloc)
+    }
+
+    /// The path of a copy of this text, of the kind that [`PathType::derive`] says it looks like.
+    pub fn from_str(alloc: Global, text: &str) -> Result<Utf8TypedPathBuf, AllocError>
+        ensures dialect { IfOk result (λ p. typed_dialect p ≡ derived_dialect text.now) }
+        ensures bytes { IfOk result (λ p. owned_bytes p ≡ text.now) }
+        ensures succeeds { text.now ≡ [] → IsOk result }
+    {
+        Utf8TypedPath::derive(text).to_path_buf(alloc)
+    }
+
+    /// The path, lent.
+    pub fn to_path(&self) -> Utf8TypedPath<'_>
+        ensures dialect { typed_dialect result ≡ typed_dialect self.now }
+        ensures bytes { typed_text result ≡ owned_bytes self.now }
+    {
+        typed!(self, own => own.as_path())
+    }
+
+    /// As [`Utf8PathBuf::push`].
+    pub fn push(&mut self, path: &str) -> Result<(), AllocError>
+        ensures dialect { KeepsDialect self.old self.new }
+        ensures pushed { Pushes (typed_dialect self.old) (typed_owned self.old) path.now result
+            (typed_owned self.new) }
+    {
+        each!(self, own => own.push(Utf8Path::new(path)))
+    }
+
+    /// As [`Utf8PathBuf::push_checked`].
+    pub fn push_checked(&mut self, path: &str) -> Result<(), PathError>
+        ensures dialect { KeepsDialect self.old self.new }
+        ensures pushed { PushesChecked (typed_dialect self.old) (typed_owned self.old) path.now
+            result (typed_owned self.new) }
+    {
+        each!(self, own => own.push_checked(Utf8Path::new(path)))
+    }
+
+    /// As [`Utf8PathBuf::pop`].
+    pub fn pop(&mut self) -> bool
+        ensures dialect { KeepsDialect self.old self.new }
+        ensures popped { Pops (typed_dialect self.old) (typed_owned self.old) result
+            (typed_owned self.new) }
+    {
+        each!(self, own => own.pop())
+    }
+
+    /// As [`Utf8PathBuf::set_file_name`].
+    pub fn set_file_name(&mut self, name: &str) -> Result<(), AllocError>
+        ensures dialect { KeepsDialect self.old self.new }
+        ensures named { SetsFileName (typed_dialect self.old) (typed_owned self.old) name.now result
+            (typed_owned self.new) }
+    {
+        each!(self, own => own.set_file_name(name))
+    }
+
+    /// As [`Utf8PathBuf::set_extension`].
+    pub fn set_extension(&mut self, extension: &str) -> Result<bool, AllocError>
+        ensures dialect { KeepsDialect self.old self.new }
+        ensures extended { SetsExtension (typed_dialect self.old) (typed_owned self.old)
+            extension.now result (typed_owned self.new) }
+    {
+        each!(self, own => own.set_extension(extension))
+    }
+
+    /// As [`Utf8PathBuf::clear`].
+    pub fn clear(&mut self)
+        ensures dialect { KeepsDialect self.old self.new }
+        ensures cleared { Clears (typed_owned self.old) (typed_owned self.new) }
+    {
+        each!(self, own => own.clear())
+    }
+
+    /// As [`Utf8PathBuf::capacity`].
+    pub fn capacity(&self) -> usize
+        ensures { result ≡ (typed_owned self.now).capacity }
+    {
+        each!(self, own => own.capacity())
+    }
+
+    /// As [`Utf8PathBuf::reserve`].
+    pub fn reserve(&mut self, additional: usize) -> Result<(), AllocError>
+        ensures dialect { KeepsDialect self.old self.new }
+        ensures reserved { Reserves (typed_owned self.old) additional result
+            (typed_owned self.new) }
+    {
+        each!(self, own => own.reserve(additional))
+    }
+
+    /// As [`Utf8PathBuf::try_reserve`].
+    pub fn try_reserve(&mut self, additional: usize) -> Result<(), AllocError>
+        ensures dialect { KeepsDialect self.old self.new }
+        ensures reserved { Reserves (typed_owned self.old) additional result
+            (typed_owned self.new) }
+    {
+        each!(self, own => own.try_reserve(additional))
+    }
+
+    /// As [`Utf8PathBuf::reserve_exact`].
+    pub fn reserve_exact(&mut self, additional: usize) -> Result<(), AllocError>
+        ensures dialect { KeepsDialect self.old self.new }
+        ensures reserved { ReservesExactly (typed_owned self.old) additional result
+            (typed_owned self.new) }
+    {
+        each!(self, own => own.reserve_exact(additional))
+    }
+
+    /// As [`Utf8PathBuf::try_reserve_exact`].
+    pub fn try_reserve_exact(&mut self, additional: usize) -> Result<(), AllocError>
+        ensures dialect { KeepsDialect self.old self.new }
+        ensures reserved { ReservesExactly (typed_owned self.old) additional result
+            (typed_owned self.new) }
+    {
+        each!(self, own => own.try_reserve_exact(additional))
+    }
+
+    /// As [`Utf8PathBuf::shrink_to_fit`].
+    pub fn shrink_to_fit(&mut self) -> Result<(), AllocError>
+        ensures dialect { KeepsDialect self.old self.new }
+        ensures shrunk { ShrinksTo (typed_owned self.old) 0 result (typed_owned self.new) }
+    {
+        each!(self, own => own.shrink_to_fit())
+    }
+
+    /// As [`Utf8PathBuf::shrink_to`].
+    pub fn shrink_to(&mut self, min_capacity: usize) -> Result<(), AllocError>
+        ensures dialect { KeepsDialect self.old self.new }
+        ensures shrunk { ShrinksTo (typed_owned self.old) min_capacity result
+            (typed_owned self.new) }
+    {
+        each!(self, own => own.shrink_to(min_capacity))
+    }
+
+    /// As [`Utf8PathBuf::into_string`].
+    pub fn into_string(self) -> String
+        ensures bytes { string_bytes result ≡ owned_bytes self }
+        ensures capacity { string_capacity result ≡ (typed_owned self).capacity }
+    {
+        each!(self, own => own.into_string())
+    }
+
+    /// As [`Utf8TypedPath::as_str`].
+    pub fn as_str(&self) -> &str
+        ensures { result.now ≡ owned_bytes self.now }
+    {
+        self.to_path().as_str()
+    }
+
+    /// As [`Utf8TypedPath::is_absolute`].
+    pub fn is_absolute(&self) -> bool
+        ensures { result ≡ is_absolute (typed_dialect self.now)
+            (kinds (parts_of (typed_dialect self.now) (owned_bytes self.now))) }
+    {
+        self.to_path().is_absolute()
+    }
+
+    /// As [`Utf8TypedPath::is_relative`].
+    pub fn is_relative(&self) -> bool
+        ensures { result ≡ not (is_absolute (typed_dialect self.now)
+            (kinds (parts_of (typed_dialect self.now) (owned_bytes self.now)))) }
+    {
+        self.to_path().is_relative()
+    }
+
+    /// As [`Utf8TypedPath::has_root`].
+    pub fn has_root(&self) -> bool
+        ensures { result ≡ has_root (typed_dialect self.now)
+            (kinds (parts_of (typed_dialect self.now) (owned_bytes self.now))) }
+    {
+        self.to_path().has_root()
+    }
+
+    /// As [`Utf8TypedPath::parent`].
+    pub fn parent(&self) -> Option<Utf8TypedPath<'_>>
+        ensures dialect { IfSome result (λ p. typed_dialect p ≡ typed_dialect self.now) }
+        ensures bytes { option_map typed_text result
+            ≡ parent_of (typed_dialect self.now) (owned_bytes self.now) }
+    {
+        self.to_path().parent()
+    }
+
+    /// As [`Utf8TypedPath::ancestors`].
+    pub fn ancestors(&self) -> Utf8TypedAncestors<'_>
+        ensures dialect { typed_dialect result ≡ typed_dialect self.now }
+        ensures left { typed_text_ancestors_left result
+            ≡ ancestors_of (typed_dialect self.now) (owned_bytes self.now) }
+    {
+        self.to_path().ancestors()
+    }
+
+    /// As [`Utf8TypedPath::file_name`].
+    pub fn file_name(&self) -> Option<&str>
+        ensures { option_copied result
+            ≡ file_name_of (typed_dialect self.now) (owned_bytes self.now) }
+    {
+        self.to_path().file_name()
+    }
+
+    /// As [`Utf8TypedPath::file_stem`].
+    pub fn file_stem(&self) -> Option<&str>
+        ensures { option_copied result
+            ≡ file_stem_of (typed_dialect self.now) (owned_bytes self.now) }
+    {
+        self.to_path().file_stem()
+    }
+
+    /// As [`Utf8TypedPath::extension`].
+    pub fn extension(&self) -> Option<&str>
+        ensures { option_copied result
+            ≡ extension (typed_dialect self.now) (owned_bytes self.now) }
+    {
+        self.to_path().extension()
+    }
+
+    /// As [`Utf8TypedPath::strip_prefix`].
+    pub fn strip_prefix(&self, base: &str) -> Result<Utf8TypedPath<'_>, StripPrefixError>
+        ensures dialect { IfOk result (λ p. typed_dialect p ≡ typed_dialect self.now) }
+        ensures bytes { stripped_to typed_text result
+            ≡ stripped (typed_dialect self.now) (owned_bytes self.now) base.now }
+    {
+        self.to_path().strip_prefix(base)
+    }
+
+    /// As [`Utf8TypedPath::starts_with`].
+    pub fn starts_with(&self, base: &str) -> bool
+        ensures { result
+            ≡ path_starts_with (typed_dialect self.now) (owned_bytes self.now) base.now }
+    {
+        self.to_path().starts_with(base)
+    }
+
+    /// As [`Utf8TypedPath::ends_with`].
+    pub fn ends_with(&self, end: &str) -> bool
+        ensures { result
+            ≡ path_ends_with (typed_dialect self.now) (owned_bytes self.now) end.now }
+    {
+        self.to_path().ends_with(end)
+    }
+
+    /// As [`Utf8TypedPath::eq_str`].
+    #[inline]
+    pub fn eq_str(&self, other: &str) -> bool
+        ensures { result ≡ bytes_eq (owned_bytes self.now) other.now }
+    {
+        self.to_path().eq_str(other)
+    }
+
+    /// As [`Utf8TypedPath::components`].
+    pub fn components(&self) -> Utf8TypedComponents<'_>
+        ensures dialect { reading_dialect result ≡ typed_dialect self.now }
+        ensures items { typed_text_items result
+            ≡ comps (typed_dialect self.now) (owned_bytes self.now) }
+        ensures slice { typed_text_slice result ≡ owned_bytes self.now }
+    {
+        self.to_path().components()
+    }
+
+    /// As [`Utf8TypedPath::iter`].
+    pub fn iter(&self) -> Utf8TypedIter<'_>
+        ensures dialect { typed_dialect result ≡ typed_dialect self.now }
+        ensures items { typed_text_iter_items result
+            ≡ comps (typed_dialect self.now) (owned_bytes self.now) }
+        ensures slice { typed_text_iter_slice result ≡ owned_bytes self.now }
+    {
+        self.to_path().iter()
+    }
+
+    /// As [`Utf8TypedPath::join`].
+    pub fn join(&self, alloc: Global, path: &str) -> Result<Utf8TypedPathBuf, AllocError>
+        ensures dialect { IfOk result (λ p. typed_dialect p ≡ typed_dialect self.now) }
+        ensures joined { IfOk result (λ p. owned_bytes p
+            ≡ push_spec.push (typed_dialect self.now) (owned_bytes self.now) path.now) }
+    {
+        self.to_path().join(alloc, path)
+    }
+
+    /// As [`Utf8TypedPath::join_checked`].
+    pub fn join_checked(&self, alloc: Global, path: &str) -> Result<Utf8TypedPathBuf, PathError>
+        ensures dialect { IfOk result (λ p. typed_dialect p ≡ typed_dialect self.now) }
+        ensures joined { JoinsChecked (typed_dialect self.now) owned_bytes (owned_bytes self.now)
+            path.now result }
+    {
+        self.to_path().join_checked(alloc, path)
+    }
+
+    /// As [`Utf8TypedPath::with_file_name`].
+    pub fn with_file_name(&self, alloc: Global, name: &str) -> Result<Utf8TypedPathBuf, AllocError>
+        ensures dialect { IfOk result (λ p. typed_dialect p ≡ typed_dialect self.now) }
+        ensures bytes { IfOk result (λ p. owned_bytes p
+            ≡ with_file_name (typed_dialect self.now) (owned_bytes self.now) name.now) }
+    {
+        self.to_path().with_file_name(alloc, name)
+    }
+
+    /// As [`Utf8TypedPath::with_extension`].
+    pub fn with_extension(
+        &self,
+        alloc: Global,
+        extension: &str,
+    ) -> Result<Utf8TypedPathBuf, AllocError>
+        ensures dialect { IfOk result (λ p. typed_dialect p ≡ typed_dialect self.now) }
+        ensures bytes { IfOk result (λ p. owned_bytes p
+            ≡ with_extension (typed_dialect self.now) (owned_bytes self.now) extension.now) }
+    {
+        self.to_path().with_extension(alloc, extension)
+    }
+
+    /// As [`Utf8TypedPath::normalize`].
+    pub fn normalize(&self, alloc: Global) -> Result<Utf8TypedPathBuf, AllocError>
+        ensures dialect { IfOk result (λ p. typed_dialect p ≡ typed_dialect self.now) }
+        ensures normal { Normalizes (typed_dialect self.now) owned_bytes (owned_bytes self.now)
+            result }
+    {
+        self.to_path().normalize(alloc)
+    }
+
+    /// As [`Utf8TypedPath::absolutize`].
+    pub fn absolutize(
+        &self,
+        alloc: Global,
+        directory: Utf8PlatformPath<'_>,
+    ) -> Result<Utf8TypedPathBuf, AbsolutizeError>
+        ensures dialect { IfOk result (λ p. typed_dialect p ≡ typed_dialect self.now) }
+        ensures absolute { Absolutizes (typed_dialect self.now) owned_bytes
+            (utf8_bytes directory.entry) (owned_bytes self.now) result }
+    {
+        self.to_path().absolutize(alloc, directory)
+    }
+
+    /// As [`Utf8TypedPath::with_unix_encoding`].
+    pub fn with_unix_encoding(&self, alloc: Global) -> Result<Utf8TypedPathBuf, AllocError>
+        ensures dialect { IfOk result (λ p. typed_dialect p ≡ unix) }
+        ensures bytes { IfOk result (λ p. owned_bytes p
+            ≡ converted (typed_dialect self.now) unix (owned_bytes self.now)) }
+    {
+        self.to_path().with_unix_encoding(alloc)
+    }
+
+    /// As [`Utf8TypedPath::with_unix_encoding_checked`].
+    pub fn with_unix_encoding_checked(&self, alloc: Global) -> Result<Utf8TypedPathBuf, PathError>
+        ensures dialect { IfOk result (λ p. typed_dialect p ≡ unix) }
+        ensures converted { ConvertsChecked (typed_dialect self.now) unix owned_bytes
+            (owned_bytes self.now) result }
+    {
+        self.to_path().with_unix_encoding_checked(alloc)
+    }
+
+    /// As [`Utf8TypedPath::with_windows_encoding`].
+    pub fn with_windows_encoding(&self, alloc: Global) -> Result<Utf8TypedPathBuf, AllocError>
+        ensures dialect { IfOk result (λ p. typed_dialect p ≡ windows) }
+        ensures bytes { IfOk result (λ p. owned_bytes p
+            ≡ converted (typed_dialect self.now) windows (owned_bytes self.now)) }
+    {
+        self.to_path().with_windows_encoding(alloc)
+    }
+
+    /// As [`Utf8TypedPath::with_windows_encoding_checked`].
+    pub fn with_windows_encoding_checked(
+        &self,
+        alloc: Global,
+    ) -> Result<Utf8TypedPathBuf, PathError>
+        ensures dialect { IfOk result (λ p. typed_dialect p ≡ windows) }
+        ensures converted { ConvertsChecked (typed_dialect self.now) windows owned_bytes
+            (owned_bytes self.now) result }
+    {
+        self.to_path().with_windows_encoding_checked(alloc)
+    }
+}
+
+/// The path that is held, where it is one of Unix.
+impl<'a> TryAsRef<Utf8UnixPath<'a>> for Utf8TypedPath<'a> {
+    ghost try_as_ref_gives = { λ path held. held ≡ held_unix path };
+
+    fn try_as_ref(&self) -> Option<Utf8UnixPath<'a>> {
+        match self {
+            Typed::Unix(path) => Some(*path),
+            Typed::Windows(_) => None,
+        }
+    }
+}
+
+/// The path that is held, where it is one of Windows.
+impl<'a> TryAsRef<Utf8WindowsPath<'a>> for Utf8TypedPath<'a> {
+    ghost try_as_ref_gives = { λ path held. held ≡ held_windows path };
+
+    fn try_as_ref(&self) -> Option<Utf8WindowsPath<'a>> {
+        match self {
+            Typed::Unix(_) => None,
+            Typed::Windows(path) => Some(*path),
+        }
+    }
+}
+
+impl<'a> Utf8UnixPath<'a> {
+    /// The path as one whose dialect is chosen when the program runs.
+    pub fn to_typed_path(self) -> Utf8TypedPath<'a>
+        ensures dialect { typed_dialect result ≡ unix }
+        ensures bytes { typed_text result ≡ utf8_bytes self.entry }
+    {
+        Typed::Unix(self)
+    }
+
+    /// A copy of the path as one whose dialect is chosen when the program runs.
+    pub fn to_typed_path_buf(self, alloc: Global) -> Result<Utf8TypedPathBuf, AllocError>
+        ensures dialect { IfOk result (λ p. typed_dialect p ≡ unix) }
+        ensures bytes { IfOk result (λ p. owned_bytes p ≡ utf8_bytes self.entry) }
+        ensures succeeds { utf8_bytes self.entry ≡ [] → IsOk result }
+    {
+        self.to_typed_path().to_path_buf(alloc)
+    }
+}
+
+impl<'a> Utf8WindowsPath<'a> {
+    /// The path as one whose dialect is chosen when the program runs.
+    pub fn to_typed_path(self) -> Utf8TypedPath<'a>
+        ensures dialect { typed_dialect result ≡ windows }
+        ensures bytes { typed_text result ≡ utf8_bytes self.entry }
+    {
+        Typed::Windows(self)
+    }
+
+    /// A copy of the path as one whose dialect is chosen when the program runs.
+    pub fn to_typed_path_buf(self, alloc: Global) -> Result<Utf8TypedPathBuf, AllocError>
+        ensures dialect { IfOk result (λ p. typed_dialect p ≡ windows) }
+        ensures bytes { IfOk result (λ p. owned_bytes p ≡ utf8_bytes self.entry) }
+        ensures succeeds { utf8_bytes self.entry ≡ [] → IsOk result }
+    {
+        self.to_typed_path().to_path_buf(alloc)
+    }
+}
+
+/// The path of a text, of the kind that it looks like, with no copy.
+impl From<String> for Utf8TypedPathBuf {
+    ghost from_gives = { λ text path. (typed_dialect path ≡ derived_dialect (string_bytes text))
+        × (owned_bytes path ≡ string_bytes text) };
+
+    fn from(text: String) -> Utf8TypedPathBuf {
+        made_as!(PathType::derive(text.as_bytes()), Utf8PathBuf::from(text))
+    }
+}
+
+/// The path that is held, where it is one of Unix; one of Windows is given back.
+impl TryFrom<Utf8TypedPathBuf> for Utf8UnixPathBuf {
+    type Error = Utf8TypedPathBuf;
+
+    ghost try_from_gives = { λ path made. (is_ok made ≡ same_dialect (typed_dialect path) unix)
+        × IfOk made (λ p. p ≡ typed_owned path)
+        × IfErr made (λ back. back ≡ path) };
+
+    fn try_from(path: Utf8TypedPathBuf) -> Result<Utf8UnixPathBuf, Utf8TypedPathBuf> {
+        match path {
+            Typed::Unix(path) => Ok(path),
+            Typed::Windows(path) => Err(Typed::Windows(path)),
+        }
+    }
+}
+
+/// The path that is held, where it is one of Windows; one of Unix is given back.
+impl TryFrom<Utf8TypedPathBuf> for Utf8WindowsPathBuf {
+    type Error = Utf8TypedPathBuf;
+
+    ghost try_from_gives = { λ path made. (is_ok made ≡ same_dialect (typed_dialect path) windows)
+        × IfOk made (λ p. p ≡ typed_owned path)
+        × IfErr made (λ back. back ≡ path) };
+
+    fn try_from(path: Utf8TypedPathBuf) -> Result<Utf8WindowsPathBuf, Utf8TypedPathBuf> {
+        match path {
+            Typed::Unix(path) => Err(Typed::Unix(path)),
+            Typed::Windows(path) => Ok(path),
+        }
+    }
+}
