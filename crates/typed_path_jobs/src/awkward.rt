@@ -1,0 +1,201 @@
+//! Paths that are seldom met: very deep ones, very long ones, runs of separators, chains of pushes and
+//! pops, bytes that are no text, and texts that are not ASCII.
+
+use crate::digest::Digest;
+use crate::random::Random;
+use crate::texts::Texts;
+use std::alloc::{AllocError, Global};
+use std::hash::{DefaultHasher, Hash, Hasher};
+use typed_path::{
+    Encoding, Path, PathBuf, UnixEncoding, UnixPath, Utf8UnixPath, Utf8WindowsPath,
+    WindowsEncoding, WindowsPath, WindowsPathBuf,
+};
+
+/// Names of one byte.
+const SHORT: &[&[u8]] = &[b"a/", b"b/", b"c/", b"d/", b"e/", b"f/", b"g/", b"h/"];
+
+/// Names of usual lengths.
+const USUAL: &[&[u8]] = &[
+    b"usr/",
+    b"lib/",
+    b"node_modules/",
+    b"src/",
+    b"dist-packages/",
+    b"index.html/",
+    b"a/",
+    b"README.md/",
+    b"x86_64-linux-gnu/",
+    b"3f2504e0-4f89-11d3-9a0c-0305e82c3301/",
+    b"main.rs/",
+    b"__init__.py/",
+];
+
+/// Names with what counts for nothing, or takes away.
+const RUNS: &[&[u8]] = &[
+    b"////////",
+    b"/././././",
+    b"a/../",
+    b"usr/",
+    b"b/../../",
+    b"lib/",
+    b"./",
+    b"share/./",
+    b"..//",
+];
+
+/// Names that are texts, not all of ASCII.
+const TEXTS: &[&[u8]] = &[
+    b"\xC3\xA9t\xC3\xA9/",
+    b"\xE6\x97\xA5\xE6\x9C\xAC\xE8\xAA\x9E/",
+    b"\xD0\xB4\xD0\xBE\xD0\xBA\xD1\x83\xD0\xBC\xD0\xB5\xD0\xBD\xD1\x82\xD1\x8B/",
+    b"a/",
+    b"na\xC3\xAFve.txt/",
+    b"src/",
+];
+
+/// Names that are no texts, some of them.
+const BYTES: &[&[u8]] = &[
+    b"caf\xE9/",
+    b"\xFF\xFE/",
+    b"ok/",
+    b"na\xEFve.txt/",
+    b"plain/",
+];
+
+/// Names of Windows.
+const WINDOWS: &[&[u8]] = &[
+    br"Users\",
+    br"me\",
+    br"AppData\",
+    br"Local\",
+    br"a\",
+    br"Program Files\",
+];
+
+/// A path of so many names, which are drawn.
+fn path_of(
+    alloc: Global,
+    random: &mut Random,
+    names: &[&[u8]],
+    count: usize,
+) -> Result<Texts, AllocError> {
+    let mut texts = Texts::new(alloc);
+    for _ in 0..count {
+        texts.put(random.pick(names))?;
+    }
+    texts.end()?;
+    Ok(texts)
+}
+
+/// Does with a path, however long it is, what is done with most.
+fn handle<T: Encoding, U: Encoding>(
+    alloc: Global,
+    bytes: &[u8],
+    digest: &mut Digest,
+) -> Result<(), AllocError> {
+    let path = Path::<T>::new(bytes);
+    for piece in path.components() {
+        digest.take(piece.text.len() as u64);
+    }
+    for text in path.iter().rev() {
+        digest.take(text.len() as u64);
+    }
+    let normal = path.normalize(alloc)?;
+    digest.bytes(normal.as_path().as_bytes());
+    digest.bytes(path.with_encoding::<U>(alloc)?.as_path().as_bytes());
+    match path.with_encoding_checked::<U>(alloc) {
+        Ok(path) => digest.bytes(path.as_path().as_bytes()),
+        Err(refusal) => digest.refusal(refusal)?,
+    }
+    match Path::<T>::new(b"base").join_checked(alloc, path) {
+        Ok(path) => digest.bytes(path.as_path().as_bytes()),
+        Err(refusal) => digest.refusal(refusal)?,
+    }
+    digest.flag(path == normal.as_path());
+    digest.flag(path < normal.as_path());
+    let mut state = DefaultHasher::default();
+    path.hash(&mut state);
+    digest.take(state.finish());
+    Ok(())
+}
+
+/// Pushes names one by one onto a verbatim base, and pops until nothing is left.
+fn push_and_pop(alloc: Global, random: &mut Random, digest: &mut Digest) -> Result<(), AllocError> {
+    let base = path_of(alloc, random, WINDOWS, 8)?;
+    let mut path = WindowsPathBuf::from_bytes(alloc, br"\\?\C:\")?;
+    path.push(WindowsPath::new(base.get(0)))?;
+    for _ in 0..40 {
+        path.push(WindowsPath::new(random.pick(WINDOWS)))?;
+    }
+    digest.bytes(path.as_path().as_bytes());
+    for _ in 0..60 {
+        digest.flag(path.pop());
+    }
+    Ok(())
+}
+
+/// Handles a text that is not ASCII.
+fn handle_text(alloc: Global, bytes: &[u8], digest: &mut Digest) -> Result<(), AllocError> {
+    let Ok(path) = Utf8UnixPath::from_bytes_path(UnixPath::new(bytes)) else {
+        return Ok(());
+    };
+    for text in path.iter() {
+        digest.take(text.len() as u64);
+    }
+    digest.bytes(path.normalize(alloc)?.as_path().as_str().as_bytes());
+    digest.bytes(
+        path.with_windows_encoding(alloc)?
+            .as_path()
+            .as_str()
+            .as_bytes(),
+    );
+    let base = Utf8WindowsPath::new(r"\\?\C:\日本");
+    match base.join_checked(alloc, Utf8WindowsPath::new(path.as_str())) {
+        Ok(path) => digest.bytes(path.as_path().as_str().as_bytes()),
+        Err(refusal) => digest.refusal(refusal)?,
+    }
+    Ok(())
+}
+
+/// Handles bytes that are no text.
+fn handle_bytes(alloc: Global, bytes: &[u8], digest: &mut Digest) -> Result<(), AllocError> {
+    let path = UnixPath::new(bytes);
+    digest.flag(path.to_str().is_some());
+    let mut owned = PathBuf::<UnixEncoding>::from_bytes(alloc, bytes)?;
+    digest.flag(owned.set_extension(b"\xFF")?);
+    digest.bytes(owned.as_path().as_bytes());
+    digest.some(path.file_stem());
+    Ok(())
+}
+
+/// Handles paths of each kind, so many times; one in 64 times very long ones.
+pub fn awkward(
+    alloc: Global,
+    times: u64,
+    random: &mut Random,
+    digest: &mut Digest,
+) -> Result<(), AllocError> {
+    for time in 0..times {
+        for _ in 0..64 {
+            let deep = path_of(alloc, random, SHORT, 30)?;
+            handle::<UnixEncoding, WindowsEncoding>(alloc, deep.get(0), digest)?;
+            handle::<WindowsEncoding, UnixEncoding>(alloc, deep.get(0), digest)?;
+            let runs = path_of(alloc, random, RUNS, 20)?;
+            handle::<UnixEncoding, WindowsEncoding>(alloc, runs.get(0), digest)?;
+            handle::<WindowsEncoding, UnixEncoding>(alloc, runs.get(0), digest)?;
+            push_and_pop(alloc, random, digest)?;
+            let text = path_of(alloc, random, TEXTS, 12)?;
+            handle_text(alloc, text.get(0), digest)?;
+            let bytes = path_of(alloc, random, BYTES, 12)?;
+            handle_bytes(alloc, bytes.get(0), digest)?;
+        }
+        if time % 64 == 0 {
+            let long = path_of(alloc, random, USUAL, 50_000)?;
+            handle::<UnixEncoding, WindowsEncoding>(alloc, long.get(0), digest)?;
+            handle::<WindowsEncoding, UnixEncoding>(alloc, long.get(0), digest)?;
+            let runs = path_of(alloc, random, RUNS, 50_000)?;
+            handle::<UnixEncoding, WindowsEncoding>(alloc, runs.get(0), digest)?;
+        }
+    }
+    Ok(())
+}

@@ -1,0 +1,88 @@
+//! Manifests written anew: for the other system, without detours, from a directory.
+
+use crate::digest::Digest;
+use crate::random::Random;
+use crate::tree::{Tree, unix, windows};
+use std::alloc::{AllocError, Global};
+use typed_path::{Encoding, Path, PlatformPath, UnixPath, WindowsPath};
+use typed_path_uses::entry_on_windows;
+
+/// How many entries a manifest has.
+const ENTRIES: usize = 1_000;
+
+/// How many of a thousand have a detour.
+const OFTEN: usize = 333;
+
+/// Brings entries into their normal texts, and makes them absolute from a directory.
+fn tidy<T: Encoding>(
+    alloc: Global,
+    entries: &[&[u8]],
+    digest: &mut Digest,
+) -> Result<(), AllocError> {
+    for entry in entries {
+        let path = Path::<T>::new(entry);
+        digest.bytes(path.normalize(alloc)?.as_path().as_bytes());
+        match path.absolutize(alloc, PlatformPath::new(b"/home/user/work")) {
+            Ok(path) => digest.bytes(path.as_path().as_bytes()),
+            Err(refusal) => digest.nowhere(refusal)?,
+        }
+    }
+    Ok(())
+}
+
+/// Writes entries of Unix for Windows.
+fn to_windows(alloc: Global, entries: &[&[u8]], digest: &mut Digest) -> Result<(), AllocError> {
+    for entry in entries {
+        let path = UnixPath::new(entry);
+        digest.bytes(path.with_windows_encoding(alloc)?.as_path().as_bytes());
+        match entry_on_windows(alloc, path) {
+            Ok(path) => digest.bytes(path.as_path().as_bytes()),
+            Err(refusal) => digest.refusal(refusal)?,
+        }
+    }
+    Ok(())
+}
+
+/// Writes entries of Windows for Unix.
+fn to_unix(alloc: Global, entries: &[&[u8]], digest: &mut Digest) -> Result<(), AllocError> {
+    for entry in entries {
+        let path = WindowsPath::new(entry);
+        digest.bytes(path.with_unix_encoding(alloc)?.as_path().as_bytes());
+        match path.with_unix_encoding_checked(alloc) {
+            Ok(path) => digest.bytes(path.as_path().as_bytes()),
+            Err(refusal) => digest.refusal(refusal)?,
+        }
+    }
+    Ok(())
+}
+
+/// Writes so many manifests of each system anew.
+pub fn manifest(
+    alloc: Global,
+    manifests: u64,
+    random: &mut Random,
+    digest: &mut Digest,
+) -> Result<(), AllocError> {
+    for _ in 0..manifests {
+        let roots: &[&[u8]] = &[b"/", b"", b"./"];
+        let mut tree = Tree::new(alloc, random, unix(OFTEN), roots, 200)?;
+        let entries = tree.files(alloc, random, ENTRIES)?;
+        let list = entries.list(alloc)?;
+        tidy::<typed_path::UnixEncoding>(alloc, &list, digest)?;
+        to_windows(alloc, &list, digest)?;
+        let roots: &[&[u8]] = &[
+            br"C:\",
+            b"",
+            br"\\server\share\",
+            br"\\?\C:\",
+            br"D:\",
+            br"\",
+        ];
+        let mut tree = Tree::new(alloc, random, windows(OFTEN), roots, 200)?;
+        let entries = tree.files(alloc, random, ENTRIES)?;
+        let list = entries.list(alloc)?;
+        tidy::<typed_path::WindowsEncoding>(alloc, &list, digest)?;
+        to_unix(alloc, &list, digest)?;
+    }
+    Ok(())
+}

@@ -1,0 +1,139 @@
+//! Rules over the paths of a tree, and questions to each path.
+
+use crate::digest::Digest;
+use crate::random::Random;
+use crate::texts::Texts;
+use crate::tree::{Style, Tree, unix, windows};
+use std::alloc::{AllocError, Global};
+use typed_path::{Encoding, Path, PathType, TypedPath, UnixEncoding, UnixPath, WindowsEncoding};
+use typed_path_uses::{Rule, is_ignored, listing};
+
+/// How many paths the rules are asked of before others are made.
+const PATHS: usize = 1_000;
+
+/// How many rules of each kind there are.
+const RULES: usize = 12;
+
+/// What rules name: folders of the tree, or their ends.
+fn folders(alloc: Global, random: &mut Random, tree: &Tree) -> Result<Texts, AllocError> {
+    let mut texts = Texts::new(alloc);
+    for _ in 0..RULES {
+        texts.put(tree.folder(random))?;
+        texts.end()?;
+    }
+    Ok(texts)
+}
+
+/// Lines of rules: a folder with any one name behind it, some taken back.
+fn lines(alloc: Global, random: &mut Random, tree: &Tree, any: &[u8]) -> Result<Texts, AllocError> {
+    let mut texts = Texts::new(alloc);
+    for _ in 0..RULES {
+        if random.chance(200) {
+            texts.put(b"!")?;
+        }
+        texts.put(tree.folder(random))?;
+        texts.put(any)?;
+        texts.end()?;
+    }
+    Ok(texts)
+}
+
+/// Asks a path what it answers about itself.
+fn ask<T: Encoding>(path: Path<'_, T>, digest: &mut Digest) {
+    digest.some(path.file_name());
+    digest.some(path.extension());
+    digest.some(path.file_stem());
+    digest.flag(path.is_absolute());
+    digest.flag(path.has_root());
+    digest.some(path.parent().map(|parent| parent.as_bytes()));
+    for above in path.ancestors() {
+        digest.take(above.as_bytes().len() as u64);
+    }
+    for piece in path.components() {
+        digest.take(piece.text.len() as u64);
+    }
+    for text in path.iter().rev() {
+        digest.take(text.len() as u64);
+    }
+    digest.flag(path.is_valid());
+}
+
+/// Asks whether a path lies below folders, and what it is there, and whether it ends as they do.
+fn compare<T: Encoding>(path: Path<'_, T>, folders: &[&[u8]], digest: &mut Digest) {
+    for folder in folders {
+        let folder = Path::new(folder);
+        digest.flag(path.starts_with(folder));
+        if let Ok(rest) = path.strip_prefix(folder) {
+            digest.bytes(rest.as_bytes());
+        }
+        let name = folder.file_name().unwrap_or(b"");
+        digest.flag(
+            path.parent()
+                .is_some_and(|parent| parent.ends_with(Path::new(name))),
+        );
+    }
+}
+
+/// Asks a path whose dialect is known when the program runs.
+fn ask_typed(path: TypedPath<'_>, folders: &[&[u8]], digest: &mut Digest) {
+    digest.some(path.file_name());
+    digest.some(path.extension());
+    digest.some(path.parent().map(|parent| parent.as_bytes()));
+    for folder in folders {
+        digest.flag(path.starts_with(folder));
+    }
+    for component in path.components() {
+        digest.take(component.as_bytes().len() as u64);
+    }
+}
+
+/// The rules of lines.
+fn rules<'a>(alloc: Global, lines: &[&'a [u8]]) -> Result<Vec<Rule<'a>>, AllocError> {
+    let mut rules = Vec::with_capacity(alloc, lines.len())?;
+    for line in lines {
+        rules.push(Rule::new(line))?;
+    }
+    Ok(rules)
+}
+
+/// Asks the paths of one tree.
+fn rules_of<T: Encoding>(
+    alloc: Global,
+    random: &mut Random,
+    (style, kind, any): (Style, PathType, &[u8]),
+    roots: &[&[u8]],
+    digest: &mut Digest,
+) -> Result<(), AllocError> {
+    let mut tree = Tree::new(alloc, random, style, roots, 200)?;
+    let folders = folders(alloc, random, &tree)?;
+    let folders = folders.list(alloc)?;
+    let lines = lines(alloc, random, &tree, any)?;
+    let rules = rules(alloc, &lines.list(alloc)?)?;
+    let paths = tree.files(alloc, random, PATHS)?;
+    for path in &paths.list(alloc)? {
+        ask(Path::<T>::new(path), digest);
+        compare(Path::<T>::new(path), &folders, digest);
+        ask_typed(TypedPath::new(path, kind), &folders, digest);
+        digest.flag(is_ignored(&rules, Path::<T>::new(path), false));
+        digest.bytes(listing(alloc, UnixPath::new(path))?.as_slice());
+    }
+    Ok(())
+}
+
+/// Asks the paths of so many trees of each system.
+pub fn ask_rules(
+    alloc: Global,
+    trees: u64,
+    random: &mut Random,
+    digest: &mut Digest,
+) -> Result<(), AllocError> {
+    for _ in 0..trees {
+        let as_on_unix = (unix(50), PathType::Unix, b"/*".as_slice());
+        let roots: &[&[u8]] = &[b"", b"/", b"/srv/"];
+        rules_of::<UnixEncoding>(alloc, random, as_on_unix, roots, digest)?;
+        let as_on_windows = (windows(50), PathType::Windows, br"\*".as_slice());
+        let roots: &[&[u8]] = &[b"", br"C:\", br"\\?\D:\work\", br"\\server\share\"];
+        rules_of::<WindowsEncoding>(alloc, random, as_on_windows, roots, digest)?;
+    }
+    Ok(())
+}

@@ -1,0 +1,115 @@
+//! The names of archives, each put below a base by a checked join.
+
+use crate::digest::Digest;
+use crate::random::Random;
+use crate::texts::Texts;
+use crate::tree::{Style, Tree, unix, windows};
+use std::alloc::{AllocError, Global};
+use typed_path::{Encoding, Path, PathType, TypedPath, UnixEncoding, WindowsEncoding};
+use typed_path_uses::{typed_target, unpacked};
+
+/// What some names begin with that lead elsewhere or are nowhere allowed.
+const HOSTILE: &[&[u8]] = &[
+    b"../",
+    b"/etc/",
+    br"C:\",
+    b"a/../../",
+    b"con.txt/",
+    b"what?/",
+    b"nul/",
+    br"..\",
+    b"a:b/",
+    br"\",
+    b"a/b/../../../",
+    b"aux/",
+    b"x\0y/",
+    br"\\server\share\",
+    b"<a>/",
+    b"c:",
+];
+
+/// How many names an archive has.
+const NAMES: usize = 1_000;
+
+/// How many of a thousand are hostile.
+const OFTEN: usize = 30;
+
+/// The names of an archive: some hostile, some with a detour.
+fn names(alloc: Global, random: &mut Random, style: Style) -> Result<Texts, AllocError> {
+    let mut tree = Tree::new(alloc, random, style, &[b"", b"./"], 200)?;
+    let mut texts = Texts::new(alloc);
+    for _ in 0..NAMES {
+        if random.chance(OFTEN) {
+            texts.put(random.pick(HOSTILE))?;
+        }
+        tree.put_file(random, &mut texts)?;
+        texts.end()?;
+    }
+    Ok(texts)
+}
+
+/// Unpacks names onto a base.
+fn unpack_onto<T: Encoding>(
+    alloc: Global,
+    base: &[u8],
+    names: &[&[u8]],
+    digest: &mut Digest,
+) -> Result<(), AllocError> {
+    let unpacking = unpacked(alloc, Path::<T>::new(base), names)?;
+    for target in &unpacking.targets {
+        digest.bytes(target.as_path().as_bytes());
+    }
+    for refused in &unpacking.refused {
+        digest.fault(refused.fault);
+    }
+    Ok(())
+}
+
+/// Puts each name below a base whose dialect is known when the program runs.
+fn targets(
+    alloc: Global,
+    base: &[u8],
+    kind: PathType,
+    names: &[&[u8]],
+    digest: &mut Digest,
+) -> Result<(), AllocError> {
+    for name in names {
+        match typed_target(alloc, TypedPath::new(base, kind), name) {
+            Ok(target) => digest.bytes(target.as_bytes()),
+            Err(refusal) => digest.refusal(refusal)?,
+        }
+    }
+    Ok(())
+}
+
+/// A verbatim base, as a canonical path of Windows is.
+fn verbatim(alloc: Global, random: &mut Random) -> Result<Texts, AllocError> {
+    let mut tree = Tree::new(
+        alloc,
+        random,
+        windows(0),
+        &[br"\\?\C:\Users\me\AppData\"],
+        3,
+    )?;
+    tree.files(alloc, random, 1)
+}
+
+/// Unpacks so many archives.
+pub fn unpack(
+    alloc: Global,
+    archives: u64,
+    random: &mut Random,
+    digest: &mut Digest,
+) -> Result<(), AllocError> {
+    for _ in 0..archives {
+        let names = names(alloc, random, unix(20))?;
+        let list = names.list(alloc)?;
+        let base = verbatim(alloc, random)?;
+        unpack_onto::<UnixEncoding>(alloc, b"/srv/files", &list, digest)?;
+        unpack_onto::<WindowsEncoding>(alloc, br"C:\dist\files", &list, digest)?;
+        unpack_onto::<WindowsEncoding>(alloc, base.get(0), &list, digest)?;
+        targets(alloc, b"/var/www", PathType::Unix, &list, digest)?;
+        targets(alloc, br"D:\www", PathType::Windows, &list, digest)?;
+    }
+    Ok(())
+}
