@@ -8,7 +8,9 @@ mod separators;
 mod step;
 
 pub use cursor::{Begin, Body, Cursor, Span};
-pub use cut::{base_end, bodies_behind_shared, cut_at, cut_at_separator, text_behind};
+pub use cut::{
+    base_end, bodies_behind_shared, cut_at, cut_at_separator, order_by_bytes, text_behind,
+};
 pub use lanes::first_between;
 pub use prefix::{Found, WindowsPrefix, after_mark, drive, find_prefix};
 pub use separators::{Separators, has_valid_names};

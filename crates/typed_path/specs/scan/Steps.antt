@@ -1,11 +1,11 @@
 -- What is left of a text, by where it begins.
-use Rattle.std.specs.Prelude.{◌≡◌, ℕ, drop, List, [], ◌∷◌, Bool, true, not, ◌||◌, ◌&&◌, ◌==◌, nat_lt, length, Option, option_map}
+use Rattle.std.specs.Prelude.{◌≡◌, ℕ, drop, List, [], ◌∷◌, Bool, true, false, not, ◌||◌, ◌&&◌, ◌==◌, nat_lt, length, Option, option_map}
 use Rattle.std.specs.Option.{unwrap_or}
 use Rattle.std.specs.List.{before_first, after_last}
 use Rattle.typed_path.specs.declared.scan.separators.Separators.{Separators}
 use Rattle.typed_path.specs.declared.scan.cursor.Begin.{Begin}
 use Rattle.typed_path.specs.declared.scan.cursor.Begin.TheVariants.{Body, Inside}
-use Rattle.typed_path.specs.components.Dialects.{is_separator, is_verbatim}
+use Rattle.typed_path.specs.components.Dialects.{dot, is_separator, is_verbatim}
 use Rattle.typed_path.specs.components.Parts.{Part, Placed, end_of}
 use Rattle.typed_path.specs.components.Comps.{body, later_body, is_dot}
 use Rattle.typed_path.specs.scan.Left.{first_of, last_of, but_last, slice_after_front, slice_after_back}
@@ -24,6 +24,11 @@ abbrev pub is_clean : Begin → Separators → List ℕ → Bool
 is_clean Body s text = true
 is_clean Inside s [] = true
 is_clean Inside s (b ∷ bs) = counts s (before_first (is_separator s) (b ∷ bs))
+
+-- a text begins with a byte that neither separates nor is a dot, so it begins with a name
+abbrev pub begins_with_name : Separators → List ℕ → Bool
+begins_with_name s [] = false
+begins_with_name s (b ∷ bs) = not (is_separator s b) && not (b == dot)
 
 -- a text ends with a component: it is one byte long or empty, or its last segment counts
 abbrev pub is_trimmed : Separators → List ℕ → Bool

@@ -11,7 +11,7 @@ ghost use Rattle.std.specs.Cmp.{eq_by_cmp_equiv, on_total, partial_equiv_from_eq
 ghost use Rattle.std.proofs.Common.{ap};
 ghost use Rattle.typed_path.specs.components.{Prefix, Kind, prefix, kinds, parts, parts_of};
 ghost use Rattle.typed_path.specs.queries.{first_prefix};
-ghost use Rattle.typed_path.specs.order.{kind_cmp, are_same_prefixes, kinds_cmp, is_same, left_same, path_cmp, path_cmp_total, same-kinds};
+ghost use Rattle.typed_path.specs.order.{kind_cmp, are_same_prefixes, kinds_cmp, is_same, left_cmp, left_same, path_cmp, path_cmp_total, same-kinds};
 ghost use Rattle.typed_path.specs.order.Words.{writes_of, words_before, kinds_words};
 ghost use Rattle.typed_path.specs.promises.{words_by_kind, fed_length};
 ghost use Rattle.typed_path.specs.views.BodyViews.{body_items};
@@ -22,7 +22,7 @@ use crate::common::components::Reading;
 use crate::common::encoding::Encoding;
 use crate::common::path::Path;
 use crate::common::path_buf::PathBuf;
-use crate::scan::{Body, Step, StepKind, WindowsPrefix, bodies_behind_shared};
+use crate::scan::{Body, Step, StepKind, WindowsPrefix, bodies_behind_shared, order_by_bytes};
 use std::cmp::Ordering;
 use std::hash::{Hash, Hasher};
 
@@ -91,7 +91,26 @@ fn compare_components<T: Encoding>(path: &[u8], other: &[u8]) -> Ordering
         (None, Some(_)) => return order_of_prefixed(own.body()).reverse(),
         (None, None) => {}
     }
-    let (mut rest, mut wanted) = bodies_behind_shared(own.body(), others.body());
+    compare_bodies(own.body(), others.body())
+}
+
+/// The order of what two readings have left: by their bytes where these tell, and else from the front.
+#[inline(always)]
+fn compare_bodies(rest: Body<'_>, wanted: Body<'_>) -> Ordering
+    ensures { result ≡ left_cmp (body_items rest.entry) (body_items wanted.entry) }
+{
+    match order_by_bytes(&rest, &wanted) {
+        Some(order) => order,
+        None => compare_each(rest, wanted),
+    }
+}
+
+/// The same, component by component.
+#[inline(always)]
+fn compare_each(rest: Body<'_>, wanted: Body<'_>) -> Ordering
+    ensures { result ≡ left_cmp (body_items rest.entry) (body_items wanted.entry) }
+{
+    let (mut rest, mut wanted) = bodies_behind_shared(rest, wanted);
     'steps: while let Some(step) = wanted.front() {
         let Some(own) = rest.front() else {
             return Ordering::Less;

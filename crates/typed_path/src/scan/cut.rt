@@ -2,17 +2,19 @@
 //! share.
 
 ghost use Rattle.std.specs.Prelude.{◌≡◌, ◌≢◌, ◌≤◌, ◌<◌, ◌+◌, ◌==◌, List, ℕ, [], ◌∷◌, ◌++◌, take, length, MatchOption, IfSome, true, drop, IsTrue};
-ghost use Rattle.std.specs.List.{slice_split, position_or_len};
+ghost use Rattle.std.specs.List.{slice_split, position_or_len, before_first};
+ghost use Rattle.std.specs.Ordering.{is_ne};
 ghost use Rattle.typed_path.specs.components.{is_separator, body, later_body};
-ghost use Rattle.typed_path.specs.scan.{is_clean};
+ghost use Rattle.typed_path.specs.scan.{is_clean, begins_with_name};
 ghost use Rattle.typed_path.specs.declared.scan.cursor.Begin.{Begin};
-ghost use Rattle.typed_path.specs.order.{left_cmp};
+ghost use Rattle.typed_path.specs.order.{left_cmp, bytes_cmp};
 ghost use Rattle.typed_path.specs.views.BodyViews.{body_items};
 
 use crate::scan::cursor::Body;
-use crate::scan::lanes::{begins_otherwise, first_between};
+use crate::scan::lanes::{begins_otherwise, first_between, first_difference};
 use crate::scan::separators::Separators;
 use crate::scan::step::skip_blanks;
+use std::cmp::Ordering;
 
 /// What stands before the first such byte, and what stands behind it.
 pub fn cut_at(byte: u8, text: &[u8]) -> Option<(&[u8], &[u8])>
@@ -153,25 +155,83 @@ pub fn bodies_behind_shared<'a>(rest: Body<'a>, wanted: Body<'a>) -> (Body<'a>, 
 /// Nothing rests on this answer: whether both texts begin with it is looked at again.
 #[inline(always)]
 fn shared_front<'a>(text: &'a [u8], other: &[u8], separators: Separators) -> &'a [u8] {
-    let shared = &text[..shared_len(text, other)];
+    let shared = &text[..first_difference(text, other)];
     &shared[..separators.last_in(shared)]
 }
 
-/// How many bytes are compared at once.
-const BLOCK: usize = 32;
-
-/// How many bytes two texts begin with alike. Only that the first has so many is relied on.
+/// The order of two readings, where the bytes tell: behind the last separator that both begin with,
+/// both go on with a name, and the names differ. None says nothing.
+///
+/// So most paths are put in order by one look at their bytes up to the first that differs.
 #[inline(always)]
-fn shared_len(text: &[u8], other: &[u8]) -> usize
-    ensures { result ≤ length text.now }
+pub fn order_by_bytes(rest: &Body<'_>, wanted: &Body<'_>) -> Option<Ordering>
+    ensures { IfSome result
+        (λ order. left_cmp (body_items rest.now) (body_items wanted.now) ≡ order) }
 {
-    let len = text.len().min(other.len());
-    let mut at = 0;
-    'chunks: while len - at >= BLOCK && text[at..at + BLOCK] == other[at..at + BLOCK] {
-        at += BLOCK;
+    let separators = rest.separators;
+    if !rest.is_whole() || !wanted.is_whole() || !separators.is_same(wanted.separators) {
+        return None;
     }
-    'bytes: while at < len && text[at] == other[at] {
-        at += 1;
+    order_of_texts(rest.as_bytes(), wanted.as_bytes(), separators)
+}
+
+/// The same of two texts that are read from their beginnings.
+#[inline(always)]
+fn order_of_texts(text: &[u8], other: &[u8], separators: Separators) -> Option<Ordering>
+    ensures { IfSome result (λ order.
+        left_cmp (body separators 0 text.now) (body separators 0 other.now) ≡ order) }
+{
+    let shared = first_difference(text, other);
+    let start = separators.last_in(&text[..shared]);
+    if !begins_with_name(&text[start..], separators)
+        || !begins_with_name(&other[start..], separators)
+    {
+        return None;
     }
-    at
+    order_of_ends(&text[shared..], &other[shared..], separators)
+}
+
+/// Whether a text begins with a name, as its first byte tells. False says nothing.
+#[inline(always)]
+fn begins_with_name(text: &[u8], separators: Separators) -> bool
+    ensures { result ≡ begins_with_name separators text.now }
+{
+    match text.first() {
+        Some(byte) => !separators.contains(*byte) && *byte != b'.',
+        None => false,
+    }
+}
+
+/// The order of what two texts hold up to their first separators, where the first bytes tell.
+#[inline(always)]
+fn order_of_ends(text: &[u8], other: &[u8], separators: Separators) -> Option<Ordering>
+    ensures { IfSome result (λ order. (is_ne order ≡ true)
+        × (bytes_cmp (before_first (is_separator separators) text.now)
+        (before_first (is_separator separators) other.now) ≡ order)) }
+{
+    match (
+        first_of_name(text, separators),
+        first_of_name(other, separators),
+    ) {
+        (Some(own), Some(wanted)) => {
+            let order = own.cmp(&wanted);
+            if order.is_ne() { Some(order) } else { None }
+        }
+        (Some(_), None) => Some(Ordering::Greater),
+        (None, Some(_)) => Some(Ordering::Less),
+        (None, None) => None,
+    }
+}
+
+/// The first byte of a text, where it does not separate.
+#[inline(always)]
+fn first_of_name(text: &[u8], separators: Separators) -> Option<u8>
+    ensures { MatchOption result (before_first (is_separator separators) text.now ≡ [])
+        (λ b. (bs : List ℕ) × (before_first (is_separator separators) text.now ≡ b ∷ bs)) }
+{
+    let (first, _) = text.split_first()?;
+    if separators.contains(*first) {
+        return None;
+    }
+    Some(*first)
 }

@@ -2,10 +2,10 @@
 //! byte twice where no other is: so one and two are looked for in the same way. Of the bytes that no
 //! name of Windows may have, it is only told whether a text has one.
 
-ghost use Rattle.std.specs.Prelude.{◌≡◌, ◌≢◌, ◌≤◌, ◌<◌, ◌+◌, ◌^◌, ◌==◌, ℕ, Bool, length, slice_index};
+ghost use Rattle.std.specs.Prelude.{◌≡◌, ◌≢◌, ◌≤◌, ◌<◌, ◌+◌, ◌^◌, ◌==◌, ℕ, Bool, length, min, slice_index};
 ghost use Rattle.std.specs.Int.{bit_at};
 ghost use Rattle.std.specs.List.{list_any};
-ghost use Rattle.std.specs.Slice.Scan.{IsFirstPlace};
+ghost use Rattle.std.specs.Slice.Scan.{HoldsNowhere, IsFirstPlace};
 ghost use Rattle.typed_path.specs.changes.{is_forbidden, is_forbidden_or, forbidden_at};
 ghost use Rattle.typed_path.specs.scan.{IsMask, TellsWhether, is_one_of, stands_at, differs_at, IsFirstOf, IsBehindLastOf};
 
@@ -248,6 +248,20 @@ pub fn last_between(text: &[u8], from: usize, to: usize, pair: (u8, u8)) -> usiz
     last_by_block::<8>(text, from, at - 16, pair)
 }
 
+/// Which bytes of a block differ from those of another text.
+#[inline(always)]
+fn differences_at<const N: usize>(text: &[u8], other: &[u8], at: usize) -> u64
+    requires lanes { (0 < N) × (N ≤ 64) }
+    requires in_text { at + N ≤ length text.now }
+    requires in_other { at + N ≤ length other.now }
+    ensures mask { IsMask (λ k. differs_at text.now other.now (at + k)) N result }
+    ensures fits { result < 2 ^ 64 }
+{
+    Simd::<u8, N>::from_slice(&text[at..])
+        .simd_ne(Simd::from_slice(&other[at..]))
+        .to_bitmask()
+}
+
 /// Whether a block of a text differs from that of another.
 #[inline(always)]
 fn differs_in_block<const N: usize>(text: &[u8], other: &[u8], at: usize) -> bool
@@ -256,10 +270,98 @@ fn differs_in_block<const N: usize>(text: &[u8], other: &[u8], at: usize) -> boo
     requires in_other { at + N ≤ length other.now }
     ensures { TellsWhether (differs_at text.now other.now) at (at + N) result }
 {
-    let differences = Simd::<u8, N>::from_slice(&text[at..])
-        .simd_ne(Simd::from_slice(&other[at..]))
-        .to_bitmask();
-    differences != 0
+    differences_at::<N>(text, other, at) != 0
+}
+
+/// The first place of a block at which two texts differ, or its end where they are alike there.
+#[inline(always)]
+fn first_difference_in_block<const N: usize>(text: &[u8], other: &[u8], at: usize) -> usize
+    requires lanes { (0 < N) × (N ≤ 64) }
+    requires in_text { at + N ≤ length text.now }
+    requires in_other { at + N ≤ length other.now }
+    ensures { IsFirstPlace (differs_at text.now other.now) at (at + N) result }
+{
+    first_marked::<N>(differences_at::<N>(text, other, at), at)
+}
+
+/// The first place at which two texts differ of whose first `to` bytes those before a place are alike,
+/// or `to`. The last N of these are compared.
+#[inline(always)]
+fn first_difference_in_last_block<const N: usize>(
+    text: &[u8],
+    other: &[u8],
+    from: usize,
+    to: usize,
+) -> usize
+    requires lanes { (0 < N) × (N ≤ 64) }
+    requires room { (N ≤ to) × (to ≤ from + N) }
+    requires in_text { to ≤ length text.now }
+    requires in_other { to ≤ length other.now }
+    requires alike { HoldsNowhere (differs_at text.now other.now) 0 from }
+    ensures { IsFirstPlace (differs_at text.now other.now) 0 to result }
+{
+    first_difference_in_block::<N>(text, other, to - N)
+}
+
+/// The same of texts of N bytes to 2 N, by two blocks.
+#[inline(always)]
+fn first_difference_in_two<const N: usize>(text: &[u8], other: &[u8], to: usize) -> usize
+    requires lanes { (0 < N) × (N ≤ 64) }
+    requires room { (N ≤ to) × (to ≤ N + N) }
+    requires in_text { to ≤ length text.now }
+    requires in_other { to ≤ length other.now }
+    ensures { IsFirstPlace (differs_at text.now other.now) 0 to result }
+{
+    let found = first_difference_in_block::<N>(text, other, 0);
+    if found < N {
+        return found;
+    }
+    first_difference_in_last_block::<N>(text, other, N, to)
+}
+
+/// The same, byte by byte.
+#[inline(always)]
+fn first_difference_by_one(text: &[u8], other: &[u8], to: usize) -> usize
+    requires in_text { to ≤ length text.now }
+    requires in_other { to ≤ length other.now }
+    ensures { IsFirstPlace (differs_at text.now other.now) 0 to result }
+{
+    let mut at = 0;
+    while at < to && text[at] == other[at] {
+        at += 1;
+    }
+    at
+}
+
+/// The first place at which two texts differ, or the length of the shorter one where they are alike up
+/// to there.
+#[inline(always)]
+pub fn first_difference(text: &[u8], other: &[u8]) -> usize
+    ensures { IsFirstPlace (differs_at text.now other.now) 0
+        (min (length text.now) (length other.now)) result }
+{
+    let len = text.len().min(other.len());
+    let mut at = 0;
+    while 32 <= len - at {
+        let found = first_difference_in_block::<32>(text, other, at);
+        if found < at + 32 {
+            return found;
+        }
+        at += 32;
+    }
+    if 32 <= len {
+        return first_difference_in_last_block::<32>(text, other, at, len);
+    }
+    if 16 <= len {
+        return first_difference_in_two::<16>(text, other, len);
+    }
+    if 8 <= len {
+        return first_difference_in_two::<8>(text, other, len);
+    }
+    if 4 <= len {
+        return first_difference_in_two::<4>(text, other, len);
+    }
+    first_difference_by_one(text, other, len)
 }
 
 /// Whether a text begins otherwise, by the first N bytes of a beginning and its last N, which together

@@ -1,23 +1,6 @@
-use Rattle.std.proofs.Common.{ℕ, ◌+◌, ◌%◌, ◌^◌, ◌==◌, Bool, not, length, pow_mono, sym, subst, ◌∙◌, ap, w8, arith}
-use Rattle.std.specs.Simd.Lanes.{zip2, mask_l}
-use Rattle.std.proofs.lemmas.Simd.{tops_compared, mask_l-lt, mask_l-mod, length-zip2, length-chunk}
-use Rattle.typed_path.specs.scan.{TellsWhether, differs_at}
-use Rattle.typed_path.proofs.lemmas.scan.Searches.{mask-chunks, block-tells}
+use Rattle.typed_path.specs.scan.{differs_at}
+use Rattle.typed_path.proofs.lemmas.scan.Searches.{block-tells}
 use Rattle.typed_path.proofs.scan.lanes.differs_in_block.Goals as goal
-use lib.Lanes.{chunk}
-
-abbrev differ : ℕ → ℕ → Bool
-differ a b = not (a == b)
 
 pub returns : goal.returns
-returns g c =
-    let at = c.args.at in
-    let n = g.row.N in
-    let xs = chunk at n c.args.text.now in
-    let ys = chunk at n c.args.other.now in
-    let marks = zip2 differ xs ys in
-    let whole = length-chunk at n c.args.text.now c.requires.in_text in
-    let long = length-zip2 differ xs ys (whole ∙ sym (length-chunk at n c.args.other.now c.requires.in_other)) ∙ whole in
-    let mask = ap (λ ms. mask_l ms % 2 ^ 64) (tops_compared w8 differ xs ys) ∙ mask_l-mod marks 64 (omega (arith, long, c.requires.lanes.1)) in
-    subst (λ m. TellsWhether (differs_at c.args.text.now c.args.other.now) at (at + n) (not (m == 0))) (sym mask)
-    (block-tells (differs_at c.args.text.now c.args.other.now) at n (mask_l marks) (mask-chunks differ at n c.args.text.now c.args.other.now c.requires.in_text c.requires.in_other) (omega (arith, mask_l-lt marks, pow_mono {i = length marks} {j = 64} (omega (arith, long, c.requires.lanes.1)))))
+returns g c = block-tells (differs_at c.args.text.now c.args.other.now) c.args.at g.row.N c.differences_at.result c.differences_at.ensures.mask c.differences_at.ensures.fits

@@ -1,0 +1,191 @@
+-- Two texts that begin alike and go on with different names: their order is that of the names.
+use Rattle.std.proofs.Common.{◌≡◌, ℕ, zero, suc, ◌+◌, ◌-◌, ◌<◌, ◌≤◌, ◌==◌, List, [], ◌∷◌, ◌++◌, Bool, true, false, not, ◌&&◌, ◌||◌, cond, min, All, take, drop, length, get_or, Ordering, Less, Equal, Greater, refl, sym, ap, ap₂, ◌∙◌, subst, arith, length-take-le, length-drop, append_assoc, take-append-drop, get_or-take, get_or-drop, eqb-true, length-take, Option, Some, None}
+use Rattle.std.specs.Ordering.{is_ne, ordering_then, nat_cmp}
+use Rattle.std.specs.List.{before_first, position_or_len, IsAfterLastMatch}
+use Rattle.std.specs.Slice.Scan.{IsFirstPlace}
+use Rattle.std.specs.Prelude.{IfSome}
+use Rattle.std.proofs.lemmas.List.{drop-append-le, take-append-le, take_more}
+use Rattle.std.proofs.Math.Dec.{eqb-suc-zero}
+use Rattle.std.proofs.lemmas.Cmp.{tied_itself, nat_cmp_total}
+use Rattle.typed_path.specs.declared.scan.separators.Separators.{Separators}
+use Rattle.typed_path.specs.declared.scan.cursor.Body.{Body as Reading}
+use Rattle.typed_path.specs.declared.scan.cursor.Begin.{Begin}
+use Rattle.typed_path.specs.declared.scan.cursor.Begin.TheVariants.{Body, Inside}
+use Rattle.typed_path.specs.components.{is_separator, is_verbatim, dot, Placed, name_part, current_part, parent_part, root_part, root_text, component, first, body, later_body, kinds, parts}
+use Rattle.typed_path.specs.scan.{body_from, is_clean, counts, begins_with_name, differs_at}
+use Rattle.typed_path.specs.order.{bytes_cmp, left_cmp}
+use Rattle.typed_path.specs.views.BodyViews.{body_slice, body_items}
+use Rattle.typed_path.proofs.lemmas.components.Segments.{body_from-first, parts-body}
+use Rattle.typed_path.proofs.lemmas.queries.Bases.{body-ended}
+use Rattle.typed_path.proofs.lemmas.order.Comparisons.{cmp-behind}
+
+filled : (b : ℕ) (rest : List ℕ) → (length (b ∷ rest) == 0) ≡ false
+filled b rest = eqb-suc-zero (length rest)
+
+-- a segment that begins with no dot is a name
+first-name : (s : Separators) (b at : ℕ) (rest : List ℕ) → (b == dot) ≡ false → first s (record { text = b ∷ rest; start = at }) ≡ component (name_part (b ∷ rest)) at
+first-name s b at [] h = ap (λ d. cond d (component current_part at) (component (name_part (b ∷ [])) at)) h
+first-name s b at (c ∷ []) h = ap (λ d. cond (d && (c == dot)) (component parent_part at) (component (name_part (b ∷ c ∷ [])) at)) h
+first-name s b at (c ∷ d ∷ rest) h = ap (λ e. cond e (component (root_part (root_text s)) at) (component (name_part (b ∷ c ∷ d ∷ rest)) at)) (filled b (c ∷ d ∷ rest))
+
+counts-name : (s : Separators) (b : ℕ) (rest : List ℕ) → (b == dot) ≡ false → counts s (b ∷ rest) ≡ true
+counts-name s b [] h = by (is_verbatim s) (b == dot) h
+  where
+    by : (v d : Bool) → d ≡ false → (v || not d) ≡ true
+    by true d h = refl
+    by false true h = cc
+    by false false h = refl
+counts-name s b (c ∷ rest) h = ap (λ e. not e && (is_verbatim s || true)) (filled b (c ∷ rest)) ∙ by (is_verbatim s)
+  where
+    by : (v : Bool) → (v || true) ≡ true
+    by true = refl
+    by false = refl
+
+-- what stands before the first match, where the first elements do not match
+pub before_first-cons : (p : ℕ → Bool) (b : ℕ) (bs : List ℕ) → p b ≡ false → before_first p (b ∷ bs) ≡ b ∷ before_first p bs
+before_first-cons p b bs h =
+    let next : 1 + position_or_len p bs ≡ suc (position_or_len p bs) = omega arith in
+    ap (λ c. take (cond (not c) (1 + position_or_len p bs) 0) (b ∷ bs)) h ∙ ap (λ n. take n (b ∷ bs)) next
+
+before_first-open : (p : ℕ → Bool) (mid rest : List ℕ) → All (λ b. p b ≡ false) mid → before_first p (mid ++ rest) ≡ mid ++ before_first p rest
+before_first-open p [] rest none = refl
+before_first-open p (m ∷ mid) rest none =
+    before_first-cons p m (mid ++ rest) (none 0 0 (omega arith))
+    ∙ ap (λ xs. m ∷ xs) (before_first-open p mid rest (λ k d l. none (suc k) d (omega (arith, l))))
+
+-- a text that begins with a name by its first byte has it as its first component
+begins-name : (begin : Begin) (s : Separators) (at : ℕ) (text : List ℕ) → begins_with_name s text ≡ true
+    → (cs : List Placed) × (body_from begin s at text ≡ record { part = name_part (before_first (is_separator s) text); start = at } ∷ cs)
+begins-name begin s at [] h = cc
+begins-name begin s at (b ∷ bs) h = by (is_separator s b) refl (b == dot) refl h
+  where
+    by : (separates : Bool) → is_separator s b ≡ separates → (dotted : Bool) → (b == dot) ≡ dotted → (not separates && not dotted) ≡ true
+        → (cs : List Placed) × (body_from begin s at (b ∷ bs) ≡ record { part = name_part (before_first (is_separator s) (b ∷ bs)); start = at } ∷ cs)
+    by true e dotted f h = cc
+    by false e true f h = cc
+    by false e false f h =
+        let n = position_or_len (is_separator s) (b ∷ bs) in
+        let rest = later_body s (at + n) (drop n (b ∷ bs)) in
+        let name = before_first-cons (is_separator s) b bs e in
+        let clean : counts s (before_first (is_separator s) (b ∷ bs)) ≡ true = ap (counts s) name ∙ counts-name s b (before_first (is_separator s) bs) f in (
+          rest,
+          body_from-first begin s at b bs (is_clean-of begin clean)
+              ∙ ap (λ t. first s (record { text = t; start = at }) ++ rest) name
+              ∙ ap (λ cs. cs ++ rest) (first-name s b at (before_first (is_separator s) bs) f)
+              ∙ ap (λ t. record { part = name_part t; start = at } ∷ rest) (sym name),
+        )
+      where
+        is_clean-of : (begin : Begin) → counts s (before_first (is_separator s) (b ∷ bs)) ≡ true → is_clean begin s (b ∷ bs) ≡ true
+        is_clean-of Body h = refl
+        is_clean-of Inside h = h
+
+-- two lists that begin with different names are in their order
+named-order : (cs ds : List Placed) (n m : List ℕ) (at : ℕ) (o : Ordering) → bytes_cmp n m ≡ o → is_ne o ≡ true
+    → left_cmp (record { part = name_part n; start = at } ∷ cs) (record { part = name_part m; start = at } ∷ ds) ≡ o
+named-order cs ds n m at Less e h = ap (λ r. ordering_then (ordering_then r Equal) (left_cmp cs ds)) e
+named-order cs ds n m at Equal e h = cc
+named-order cs ds n m at Greater e h = ap (λ r. ordering_then (ordering_then r Equal) (left_cmp cs ds)) e
+
+-- what two lists of bytes begin with alike does not tell
+bytes-shared : (mid xs ys : List ℕ) → bytes_cmp (mid ++ xs) (mid ++ ys) ≡ bytes_cmp xs ys
+bytes-shared [] xs ys = refl
+bytes-shared (m ∷ mid) xs ys = ap (λ o. ordering_then o (bytes_cmp (mid ++ xs) (mid ++ ys))) (tied_itself nat_cmp_total m) ∙ bytes-shared mid xs ys
+
+-- two texts are alike up to the first place at which they differ
+alike-front : (k : ℕ) (t u : List ℕ) → k ≤ length t → k ≤ length u → ((i : ℕ) → i < k → get_or t i 0 ≡ get_or u i 0) → take k t ≡ take k u
+alike-front zero t u fits fits' same = refl
+alike-front (suc k) [] u fits fits' same = absurd (omega (arith, fits))
+alike-front (suc k) (x ∷ t) [] fits fits' same = absurd (omega (arith, fits'))
+alike-front (suc k) (x ∷ t) (y ∷ u) fits fits' same =
+    ap₂ (λ a xs. a ∷ xs) (same 0 (omega arith)) (alike-front k t u (omega (arith, fits)) (omega (arith, fits')) (λ i l. same (suc i) (omega (arith, l))))
+
+same-byte : (a b : ℕ) → not (a == b) ≡ false → a ≡ b
+same-byte a b h = by (a == b) refl h
+  where
+    by : (same : Bool) → (a == b) ≡ same → not same ≡ false → a ≡ b
+    by true e h = eqb-true a b e
+    by false e h = cc
+
+-- a whole body has the components of its slice, wherever that stands
+pub whole-body : (b : Reading) (s : Separators) (text : List ℕ) → s ≡ b.separators → text ≡ body_slice b → b.begin ≡ Begin.Body → kinds (parts (body s 0 text)) ≡ kinds (parts (body_items b))
+whole-body b s text same slice begins =
+    ap kinds (parts-body s 0 text ∙ sym (parts-body s b.from text))
+    ∙ ap₂ (λ begin r. kinds (parts (body_from begin r b.from text))) (sym begins) same
+    ∙ ap (λ t. kinds (parts (body_from b.begin b.separators b.from t))) slice
+
+-- what holds of an order that may be told
+pub if-told : {P Q : Ordering → Type 0} (o : Option Ordering) → IfSome o P → ((r : Ordering) → P r → Q r) → IfSome o Q
+if-told None holds f = tt
+if-told (Some r) holds f = f r holds
+
+-- behind the last separator that both begin with, both begin with a name, and these are in the order of their ends
+pub names-order : (s : Separators) (t u : List ℕ) (n k : ℕ) (o : Ordering) → IsFirstPlace (differs_at t u) 0 (min (length t) (length u)) k
+    → IsAfterLastMatch (is_separator s) (take k t) n → n ≤ length (take k t) → begins_with_name s (drop n t) ≡ true → begins_with_name s (drop n u) ≡ true
+    → is_ne o ≡ true → bytes_cmp (before_first (is_separator s) (drop k t)) (before_first (is_separator s) (drop k u)) ≡ o
+    → left_cmp (body s 0 t) (body s 0 u) ≡ o
+names-order s t u n k o parting last within begins begins' differ is =
+    by n refl
+  where
+    p : ℕ → Bool
+    p = is_separator s
+
+    fits : k ≤ length t
+    fits = omega (arith, parting.high)
+
+    fits' : k ≤ length u
+    fits' = omega (arith, parting.high)
+
+    low : n ≤ k
+    low = omega (arith, within, length-take-le k t fits)
+
+    same : take k t ≡ take k u
+    same = alike-front k t u fits fits' (λ i l. same-byte (get_or t i 0) (get_or u i 0) (parting.before i (omega arith) l))
+
+    mid : List ℕ
+    mid = drop n (take k t)
+
+    own : drop n t ≡ mid ++ drop k t
+    own = ap (drop n) (sym (take-append-drop k t)) ∙ drop-append-le n (take k t) (drop k t) within
+
+    other : drop n u ≡ mid ++ drop k u
+    other = ap (drop n) (sym (take-append-drop k u)) ∙ ap (λ x. drop n (x ++ drop k u)) (sym same) ∙ drop-append-le n (take k t) (drop k u) within
+
+    opened : All (λ b. p b ≡ false) mid
+    opened i d l = ap p (get_or-drop n (take k t) i d) ∙ last.0 (n + i) d (omega arith) (omega (arith, l, length-drop n (take k t)))
+
+    named : bytes_cmp (before_first p (drop n t)) (before_first p (drop n u)) ≡ o
+    named =
+        ap₂ bytes_cmp (ap (before_first p) own ∙ before_first-open p mid (drop k t) opened) (ap (before_first p) other ∙ before_first-open p mid (drop k u) opened)
+        ∙ bytes-shared mid (before_first p (drop k t)) (before_first p (drop k u))
+        ∙ is
+
+    behind : (begin : Begin) → left_cmp (body_from begin s n (drop n t)) (body_from begin s n (drop n u)) ≡ o
+    behind begin =
+        let a = begins-name begin s n (drop n t) begins in
+        let b = begins-name begin s n (drop n u) begins' in
+        ap₂ left_cmp a.1 b.1 ∙ named-order a.0 b.0 (before_first p (drop n t)) (before_first p (drop n u)) n o named differ
+
+    -- what stands before a place behind a separator
+    split : (v : List ℕ) (j : ℕ) → n ≡ j + 1 → n ≤ length v → p (get_or v j 0) ≡ true → body s 0 v ≡ body s 0 (take n v) ++ later_body s n (drop n v)
+    split v j e long separates =
+        ap (body s 0) (sym (take-append-drop n v))
+        ∙ body-ended s 0 (take n v) (take j v) (drop n v) (get_or v j 0) (ap (λ i. take i v) e ∙ take_more v j 0 (omega (arith, e, long))) separates
+        ∙ ap (λ i. body s 0 (take n v) ++ later_body s i (drop n v)) (omega (arith, length-take-le n v long))
+
+    by : (m : ℕ) → n ≡ m → left_cmp (body s 0 t) (body s 0 u) ≡ o
+    by zero e =
+        ap₂ (λ x y. left_cmp (body s 0 x) (body s 0 y)) (ap (λ i. drop i t) (sym e)) (ap (λ i. drop i u) (sym e))
+        ∙ ap (λ i. left_cmp (body s i (drop n t)) (body s i (drop n u))) (sym e)
+        ∙ behind Body
+    by (suc j) e =
+        let one : n ≡ j + 1 = omega (arith, e) in
+        let last_own : p (get_or t j 0) ≡ true = ap p (sym (get_or-take k t j 0 (omega (arith, e, low)))) ∙ ap (λ i. p (get_or (take k t) i 0)) (omega (arith, e)) ∙ last.1 (omega (arith, e)) 0 in
+        let last_other : p (get_or u j 0) ≡ true = ap p (sym (same-byte (get_or t j 0) (get_or u j 0) (parting.before j (omega arith) (omega (arith, e, low))))) ∙ last_own in
+        let front : take n u ≡ take n t = take-front u fits' ∙ ap (take n) (sym same) ∙ sym (take-front t fits) in
+        sym (cmp-behind (body s 0 (take n t)) (later_body s n (drop n t)) (later_body s n (drop n u)) (body s 0 t) (body s 0 u)
+        (split t j one (omega (arith, fits, low)) last_own)
+        (split u j one (omega (arith, fits', low)) last_other ∙ ap (λ x. body s 0 x ++ later_body s n (drop n u)) front))
+        ∙ behind Inside
+      where
+        take-front : (v : List ℕ) → k ≤ length v → take n v ≡ take n (take k v)
+        take-front v long = ap (take n) (sym (take-append-drop k v)) ∙ take-append-le n (take k v) (drop k v) (omega (arith, length-take-le k v long, low))

@@ -1,0 +1,23 @@
+use Rattle.std.proofs.Common.{sym, ap, ap₂, ◌∙◌}
+use Rattle.std.specs.List.{before_first}
+use Rattle.std.proofs.lemmas.List.{take_rest}
+use Rattle.typed_path.specs.components.{is_separator}
+use Rattle.typed_path.specs.order.{bytes_cmp}
+use Rattle.typed_path.specs.scan.{begins_with_name}
+use Rattle.typed_path.proofs.lemmas.order.SharedNames.{names-order, if-told}
+use Rattle.typed_path.proofs.scan.cut.order_of_texts.Goals as goal
+
+pub returns : goal.returns
+returns c =
+    let s = c.args.separators in
+    let t = c.args.text.now in
+    let u = c.args.other.now in
+    let n = c.last_in-start.result in
+    let k = c.first_difference-shared.result in
+    if-told c.order_of_ends.result c.order_of_ends.ensures (λ o h.
+    names-order s t u n k o c.first_difference-shared.ensures
+    c.last_in-start.ensures.last c.last_in-start.ensures.within
+    (ap (begins_with_name s) (sym (take_rest t n)) ∙ sym c.if-not-begins_with_name.ensures)
+    (ap (begins_with_name s) (sym (take_rest u n)) ∙ sym c.if-not-begins_with_name-2.ensures)
+    h.0
+    (ap₂ (λ x y. bytes_cmp (before_first (is_separator s) x) (before_first (is_separator s) y)) (sym (take_rest t k)) (sym (take_rest u k)) ∙ h.1))
