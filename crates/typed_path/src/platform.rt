@@ -8,6 +8,7 @@ use crate::errors::CheckedPathError;
 use crate::scan::{Cursor, Piece};
 use crate::unix::{UnixComponent, UnixEncoding, UnixPath, UnixPathBuf};
 use std::alloc::AllocError;
+use std::cmp::Ordering;
 use std::fmt;
 
 /// Paths as on the machine: as on Unix.
@@ -70,6 +71,11 @@ impl Encoding for PlatformEncoding {
     #[inline]
     fn behind<'a>(path: &'a [u8], base: &[u8]) -> Option<&'a [u8]> {
         UnixEncoding::behind(path, base)
+    }
+
+    #[inline(always)]
+    fn order_by_bytes(path: &[u8], other: &[u8]) -> Option<Ordering> {
+        UnixEncoding::order_by_bytes(path, other)
     }
 
     fn valid(name: &[u8]) -> bool {

@@ -1,5 +1,5 @@
 -- The prefix that a Windows text begins with: the first of six cases that matches.
-use Rattle.std.specs.Prelude.{ℕ, ◌+◌, ◌-◌, List, ◌∷◌, Bool, ◌&&◌, ◌||◌, not, ◌==◌, nat_le, nat_lt, length, if◌then◌else◌, Option, Some, None, option_and_then}
+use Rattle.std.specs.Prelude.{◌≡◌, drop, ℕ, ◌+◌, ◌-◌, List, ◌∷◌, Bool, ◌&&◌, ◌||◌, not, ◌==◌, nat_le, nat_lt, length, if◌then◌else◌, Option, Some, None, option_and_then}
 use Rattle.std.specs.List.{before_first, after_first}
 use Rattle.std.specs.Option.{option_or}
 use Rattle.typed_path.specs.declared.scan.separators.Separators.{Separators}
@@ -100,3 +100,8 @@ prefix_of windows text =
     let s = separators windows text in
     option_or (verbatim_unc_case s text) (option_or (verbatim_disk_case text) (option_or (verbatim_case s text)
     (option_or (device_case text) (option_or (unc_case text) (disk_case text)))))
+
+-- a Windows text with no prefix but a drive, by the letter of that, and what stands behind it
+abbrev pub IsPartedDrive : List ℕ → Option ℕ → List ℕ → Type 0
+IsPartedDrive text None behind = (separators windows text ≡ Either) × (prefix_of windows text ≡ None) × (behind ≡ text)
+IsPartedDrive text (Some letter) behind = (separators windows text ≡ Either) × (prefix_of windows text ≡ Some (found (disk letter) 2)) × (behind ≡ drop 2 text)

@@ -11,12 +11,14 @@ ghost use Rattle.typed_path.specs.views.CursorViews.{slice_left, items_left};
 ghost use Rattle.typed_path.specs.queries.{is_absolute, has_root, is_valid_name, is_valid, stripped};
 ghost use Rattle.typed_path.specs.places.{normal_text, HasPlainNames};
 ghost use Rattle.typed_path.specs.changes.Push as push_spec;
+ghost use Rattle.typed_path.specs.order.{path_cmp};
 ghost use Rattle.typed_path.specs.order.Words.{path_words};
 
 use crate::common::order::{feed, feed_prefix};
 use crate::errors::{CheckedPathError, PathError};
 use crate::scan::{Cursor, Piece};
 use std::alloc::AllocError;
+use std::cmp::Ordering;
 use std::hash::Hasher;
 
 /// A way of writing paths.
@@ -140,6 +142,14 @@ pub trait Encoding: Sized {
     /// with no reading of either. None says nothing.
     fn behind<'a>(path: &'a [u8], base: &[u8]) -> Option<&'a [u8]>
         ensures { IfSome result (λ rest. stripped dialect path.now base.now ≡ Some rest.now) }
+    {
+        None
+    }
+
+    /// For encodings alone. The order of two paths, where their bytes tell, with no reading of either.
+    /// None says nothing.
+    fn order_by_bytes(path: &[u8], other: &[u8]) -> Option<Ordering>
+        ensures { IfSome result (λ order. path_cmp dialect path.now other.now ≡ order) }
     {
         None
     }

@@ -22,7 +22,7 @@ use crate::common::components::Reading;
 use crate::common::encoding::Encoding;
 use crate::common::path::Path;
 use crate::common::path_buf::PathBuf;
-use crate::scan::{Body, Step, StepKind, WindowsPrefix, bodies_behind_shared, order_by_bytes};
+use crate::scan::{Body, Step, StepKind, WindowsPrefix, bodies_behind_shared, order_of_bodies};
 use std::cmp::Ordering;
 use std::hash::{Hash, Hasher};
 
@@ -34,9 +34,19 @@ pub(crate) fn is_same<T: Encoding>(path: &[u8], other: &[u8]) -> bool
     path == other || have_same_components::<T>(path, other)
 }
 
-/// The order of two texts, by their components. Where their bytes are equal, neither is read.
+/// The order of two texts, by their components. Where their bytes tell, neither is read.
 #[inline]
 pub(crate) fn compare<T: Encoding>(path: &[u8], other: &[u8]) -> Ordering
+    ensures { result ≡ path_cmp T.dialect path.now other.now }
+{
+    match T::order_by_bytes(path, other) {
+        Some(order) => order,
+        None => compare_read::<T>(path, other),
+    }
+}
+
+/// The same by reading both, unless their bytes are equal.
+fn compare_read<T: Encoding>(path: &[u8], other: &[u8]) -> Ordering
     ensures { result ≡ path_cmp T.dialect path.now other.now }
 {
     if path == other {
@@ -75,6 +85,7 @@ fn have_same_components<T: Encoding>(path: &[u8], other: &[u8]) -> bool
 
 /// The order of the components of two texts, the prefix first and then from the front. Those that
 /// both begin with, by their bytes, are not read.
+#[inline(always)]
 fn compare_components<T: Encoding>(path: &[u8], other: &[u8]) -> Ordering
     ensures { result ≡ path_cmp T.dialect path.now other.now }
 {
@@ -99,7 +110,7 @@ fn compare_components<T: Encoding>(path: &[u8], other: &[u8]) -> Ordering
 fn compare_bodies(rest: Body<'_>, wanted: Body<'_>) -> Ordering
     ensures { result ≡ left_cmp (body_items rest.entry) (body_items wanted.entry) }
 {
-    match order_by_bytes(&rest, &wanted) {
+    match order_of_bodies(&rest, &wanted) {
         Some(order) => order,
         None => compare_each(rest, wanted),
     }

@@ -159,12 +159,9 @@ fn shared_front<'a>(text: &'a [u8], other: &[u8], separators: Separators) -> &'a
     &shared[..separators.last_in(shared)]
 }
 
-/// The order of two readings, where the bytes tell: behind the last separator that both begin with,
-/// both go on with a name, and the names differ. None says nothing.
-///
-/// So most paths are put in order by one look at their bytes up to the first that differs.
+/// The order of two readings, where the bytes of their texts tell. None says nothing.
 #[inline(always)]
-pub fn order_by_bytes(rest: &Body<'_>, wanted: &Body<'_>) -> Option<Ordering>
+pub fn order_of_bodies(rest: &Body<'_>, wanted: &Body<'_>) -> Option<Ordering>
     ensures { IfSome result
         (λ order. left_cmp (body_items rest.now) (body_items wanted.now) ≡ order) }
 {
@@ -175,13 +172,20 @@ pub fn order_by_bytes(rest: &Body<'_>, wanted: &Body<'_>) -> Option<Ordering>
     order_of_texts(rest.as_bytes(), wanted.as_bytes(), separators)
 }
 
-/// The same of two texts that are read from their beginnings.
+/// The order of two texts that are read from their beginnings, where the bytes tell: the texts are one,
+/// or behind the last separator that both begin with both go on with a name, and the names differ.
+/// None says nothing.
+///
+/// So most paths are put in order by one look at their bytes up to the first that differs.
 #[inline(always)]
-fn order_of_texts(text: &[u8], other: &[u8], separators: Separators) -> Option<Ordering>
+pub fn order_of_texts(text: &[u8], other: &[u8], separators: Separators) -> Option<Ordering>
     ensures { IfSome result (λ order.
         left_cmp (body separators 0 text.now) (body separators 0 other.now) ≡ order) }
 {
     let shared = first_difference(text, other);
+    if shared == text.len() && shared == other.len() {
+        return Some(Ordering::Equal);
+    }
     let start = separators.last_in(&text[..shared]);
     if !begins_with_name(&text[start..], separators)
         || !begins_with_name(&other[start..], separators)

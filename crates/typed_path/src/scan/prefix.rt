@@ -1,7 +1,7 @@
 //! The prefixes of Windows paths: which one a text begins with.
 
 ghost use Rattle.std.specs.Prelude.{◌≡◌, ◌≤◌, ◌+◌, true, false, length, is_some, None, option_map, option_copied, IfSome, MatchOption};
-ghost use Rattle.typed_path.specs.components.{windows, is_separator, is_drive_letter, drive, after_two, after_mark, after_unc, name, second_name, names_length, is_empty, verbatim_unc_case, verbatim_disk_case, verbatim_case, device_case, unc_case, disk_case, prefix_of};
+ghost use Rattle.typed_path.specs.components.{windows, is_separator, is_drive_letter, drive, after_two, after_mark, after_unc, name, second_name, names_length, is_empty, verbatim_unc_case, verbatim_disk_case, verbatim_case, device_case, unc_case, disk_case, prefix_of, IsPartedDrive};
 ghost use Rattle.typed_path.specs.declared.scan.separators.Separators.{Separators};
 ghost use Rattle.typed_path.specs.views.PieceViews.{found_of};
 
@@ -247,5 +247,21 @@ pub fn find_prefix(text: &[u8]) -> Option<Found<'_>>
         find_marked(text)
     } else {
         disk(text)
+    }
+}
+
+/// The letter of the drive that a text begins with, where it does, and what stands behind that. None
+/// of a text that begins with two separators, whose prefix is to be read.
+#[inline(always)]
+pub fn parted_drive(text: &[u8]) -> Option<(Option<u8>, &[u8])>
+    ensures { IfSome result (λ parted.
+        IsPartedDrive text.now parted.0 parted.1.now) }
+{
+    if begins_with_two(text) {
+        return None;
+    }
+    match drive(text) {
+        Some(letter) => Some((Some(letter), &text[2..])),
+        None => Some((None, text)),
     }
 }

@@ -12,9 +12,10 @@ use crate::common::{
 use crate::errors::CheckedPathError;
 use crate::scan::{
     Cursor, Piece, Separators, StepKind, base_end, cut_at_separator, first_between,
-    has_valid_names, step_of,
+    has_valid_names, order_of_texts, step_of,
 };
 use std::alloc::AllocError;
+use std::cmp::Ordering;
 use std::fmt;
 
 /// Paths as on Unix: `/` separates, and every other byte belongs to a name.
@@ -72,6 +73,11 @@ impl Encoding for UnixEncoding {
     fn behind<'a>(path: &'a [u8], base: &[u8]) -> Option<&'a [u8]> {
         let end = base_end(path, base, Separators::Slash)?;
         Some(&path[end..])
+    }
+
+    #[inline(always)]
+    fn order_by_bytes(path: &[u8], other: &[u8]) -> Option<Ordering> {
+        order_of_texts(path, other, Separators::Slash)
     }
 
     fn valid(name: &[u8]) -> bool {

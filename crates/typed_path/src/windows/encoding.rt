@@ -7,10 +7,14 @@ ghost use Rattle.typed_path.specs.views.CursorViews.{items_left};
 
 use crate::common::Encoding;
 use crate::errors::CheckedPathError;
-use crate::scan::{Cursor, Piece, Separators, WindowsPrefix, base_end, has_valid_names};
+use crate::scan::{
+    Cursor, Piece, Separators, WindowsPrefix, base_end, has_valid_names, order_of_texts,
+    parted_drive,
+};
 use crate::windows::normal::put_normal;
 use crate::windows::push::{prefix_len, push_at, push_next};
 use std::alloc::AllocError;
+use std::cmp::Ordering;
 use std::fmt;
 
 /// Paths as on Windows: `\` and `/` separate, and a path may begin with a prefix.
@@ -76,6 +80,17 @@ impl Encoding for WindowsEncoding {
         }
         let end = base_end(body, base_body, separators)?;
         Some(&body[end..])
+    }
+
+    // Behind two separators a prefix is read, which is left to the reading.
+    #[inline(always)]
+    fn order_by_bytes(path: &[u8], other: &[u8]) -> Option<Ordering> {
+        let (drive, body) = parted_drive(path)?;
+        let (other_drive, other_body) = parted_drive(other)?;
+        if drive != other_drive {
+            return None;
+        }
+        order_of_texts(body, other_body, Separators::Either)
     }
 
     fn valid(name: &[u8]) -> bool {

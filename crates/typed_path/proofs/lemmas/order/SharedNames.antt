@@ -1,5 +1,5 @@
 -- Two texts that begin alike and go on with different names: their order is that of the names.
-use Rattle.std.proofs.Common.{◌≡◌, ℕ, zero, suc, ◌+◌, ◌-◌, ◌<◌, ◌≤◌, ◌==◌, List, [], ◌∷◌, ◌++◌, Bool, true, false, not, ◌&&◌, ◌||◌, cond, min, All, take, drop, length, get_or, Ordering, Less, Equal, Greater, refl, sym, ap, ap₂, ◌∙◌, subst, arith, length-take-le, length-drop, append_assoc, take-append-drop, get_or-take, get_or-drop, eqb-true, length-take, Option, Some, None}
+use Rattle.std.proofs.Common.{◌≡◌, ℕ, zero, suc, ◌+◌, ◌-◌, ◌<◌, ◌≤◌, ◌==◌, List, [], ◌∷◌, ◌++◌, Bool, true, false, not, ◌&&◌, ◌||◌, cond, min, All, take, drop, length, get_or, Ordering, Less, Equal, Greater, refl, sym, ap, ap₂, ◌∙◌, subst, arith, length-take-le, length-drop, append_assoc, take-append-drop, get_or-take, get_or-drop, eqb-true, length-take, take_all, Option, Some, None}
 use Rattle.std.specs.Ordering.{is_ne, ordering_then, nat_cmp}
 use Rattle.std.specs.List.{before_first, position_or_len, IsAfterLastMatch}
 use Rattle.std.specs.Slice.Scan.{IsFirstPlace}
@@ -8,14 +8,16 @@ use Rattle.std.proofs.lemmas.List.{drop-append-le, take-append-le, take_more}
 use Rattle.std.proofs.Math.Dec.{eqb-suc-zero}
 use Rattle.std.proofs.lemmas.Cmp.{tied_itself, nat_cmp_total}
 use Rattle.typed_path.specs.declared.scan.separators.Separators.{Separators}
+use Rattle.typed_path.specs.declared.scan.separators.Separators.TheVariants.{Either}
 use Rattle.typed_path.specs.declared.scan.cursor.Body.{Body as Reading}
 use Rattle.typed_path.specs.declared.scan.cursor.Begin.{Begin}
 use Rattle.typed_path.specs.declared.scan.cursor.Begin.TheVariants.{Body, Inside}
-use Rattle.typed_path.specs.components.{is_separator, is_verbatim, dot, Placed, name_part, current_part, parent_part, root_part, root_text, component, first, body, later_body, kinds, parts}
+use Rattle.typed_path.specs.components.{is_separator, is_verbatim, dot, Placed, name_part, current_part, parent_part, root_part, root_text, component, first, body, later_body, kinds, parts, windows, prefix, disk, prefix_part, comps, comps_behind, IsPartedDrive}
 use Rattle.typed_path.specs.scan.{body_from, is_clean, counts, begins_with_name, differs_at}
-use Rattle.typed_path.specs.order.{bytes_cmp, left_cmp}
+use Rattle.typed_path.specs.order.{bytes_cmp, left_cmp, kind_cmp, kinds_cmp, path_cmp, kind_cmp_total, kinds_cmp_total}
 use Rattle.typed_path.specs.views.BodyViews.{body_slice, body_items}
 use Rattle.typed_path.proofs.lemmas.components.Segments.{body_from-first, parts-body}
+use Rattle.typed_path.proofs.lemmas.components.Prefixes.{some_is}
 use Rattle.typed_path.proofs.lemmas.queries.Bases.{body-ended}
 use Rattle.typed_path.proofs.lemmas.order.Comparisons.{cmp-behind}
 
@@ -189,3 +191,28 @@ names-order s t u n k o parting last within begins begins' differ is =
       where
         take-front : (v : List ℕ) → k ≤ length v → take n v ≡ take n (take k v)
         take-front v long = ap (take n) (sym (take-append-drop k v)) ∙ take-append-le n (take k v) (drop k v) (omega (arith, length-take-le k v long, low))
+
+-- one text is in order with itself
+pub itself-order : (s : Separators) (t u : List ℕ) (k : ℕ) → IsFirstPlace (differs_at t u) 0 (min (length t) (length u)) k → k ≡ length t → k ≡ length u → left_cmp (body s 0 t) (body s 0 u) ≡ Equal
+itself-order s t u k parting whole whole' =
+    let same : t ≡ u = sym (take_all k t (omega (arith, whole))) ∙ alike-front k t u (omega (arith, whole)) (omega (arith, whole')) (λ i l. same-byte (get_or t i 0) (get_or u i 0) (parting.before i (omega arith) l)) ∙ take_all k u (omega (arith, whole')) in
+    ap (λ v. left_cmp (body s 0 t) (body s 0 v)) (sym same) ∙ tied_itself kinds_cmp_total (kinds (parts (body s 0 t)))
+
+-- two Windows texts with one drive, or none, are in the order of what stands behind it
+pub parted-order : (t u : List ℕ) (a b : Option ℕ) (v w : List ℕ) (o : Ordering) → IsPartedDrive t a v → IsPartedDrive u b w → a ≡ b → left_cmp (body Either 0 v) (body Either 0 w) ≡ o → path_cmp windows t u ≡ o
+parted-order t u None None v w o own other same is =
+    ap₂ left_cmp (bare t v own) (bare u w other) ∙ is
+  where
+    bare : (t v : List ℕ) → IsPartedDrive t None v → comps windows t ≡ body Either 0 v
+    bare t v d = ap₂ (λ s f. comps_behind s t f) d.0 d.1 ∙ ap (body Either 0) (sym d.2)
+parted-order t u None (Some m) v w o own other same is = cc
+parted-order t u (Some l) None v w o own other same is = cc
+parted-order t u (Some l) (Some m) v w o own other same is =
+    ap₂ left_cmp (driven l t v own) (driven m u w other)
+    ∙ ap (λ k. ordering_then (kind_cmp (prefix (disk l)) (prefix (disk k))) (left_cmp (body Either 2 v) (body Either 2 w))) (sym (some_is same))
+    ∙ ap (λ r. ordering_then r (left_cmp (body Either 2 v) (body Either 2 w))) (tied_itself kind_cmp_total (prefix (disk l)))
+    ∙ ap₂ kinds_cmp (ap kinds (parts-body Either 2 v ∙ sym (parts-body Either 0 v))) (ap kinds (parts-body Either 2 w ∙ sym (parts-body Either 0 w)))
+    ∙ is
+  where
+    driven : (n : ℕ) (t v : List ℕ) → IsPartedDrive t (Some n) v → comps windows t ≡ component (prefix_part (disk n) (take 2 t)) 0 ++ body Either 2 v
+    driven n t v d = ap₂ (λ s f. comps_behind s t f) d.0 d.1 ∙ ap (λ x. component (prefix_part (disk n) (take 2 t)) 0 ++ body Either 2 x) (sym d.2)

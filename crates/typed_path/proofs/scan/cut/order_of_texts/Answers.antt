@@ -4,8 +4,11 @@ use Rattle.std.proofs.lemmas.List.{take_rest}
 use Rattle.typed_path.specs.components.{is_separator}
 use Rattle.typed_path.specs.order.{bytes_cmp}
 use Rattle.typed_path.specs.scan.{begins_with_name}
-use Rattle.typed_path.proofs.lemmas.order.SharedNames.{names-order, if-told}
+use Rattle.typed_path.proofs.lemmas.order.SharedNames.{names-order, itself-order, if-told}
 use Rattle.typed_path.proofs.scan.cut.order_of_texts.Goals as goal
+
+pub returns-then-shared-other : goal.returns-then-shared-other
+returns-then-shared-other c = itself-order c.args.separators c.args.text.now c.args.other.now c.first_difference-shared.result c.first_difference-shared.ensures c.if-shared-text.true c.if-shared-other.true
 
 pub returns : goal.returns
 returns c =

@@ -1,7 +1,7 @@
 use Rattle.std.proofs.Common.{refl, sym, ap₂, ◌∙◌}
 use Rattle.typed_path.specs.order.{kinds_cmp}
 use Rattle.typed_path.proofs.lemmas.order.SharedNames.{whole-body, if-told}
-use Rattle.typed_path.proofs.scan.cut.order_by_bytes.Goals as goal
+use Rattle.typed_path.proofs.scan.cut.order_of_bodies.Goals as goal
 
 pub returns : goal.returns
 returns c =
