@@ -1,14 +1,15 @@
 //! What every encoding of paths can do.
 
-ghost use Rattle.std.specs.Prelude.{◌≡◌, ◌≤◌, ◌<◌, Bool, ◌+◌, ◌++◌, length, fold, ℕ, List, drop, take, option_map, IsSome, Some, None, IsOk, IfOk, IfSome, OnOk, OnErr};
+ghost use Rattle.std.specs.Prelude.{◌≡◌, ◌≤◌, ◌<◌, Bool, true, false, ◌+◌, ◌++◌, length, fold, ℕ, List, drop, take, option_map, IsSome, Some, None, IsOk, IfOk, IfSome, OnOk, OnErr};
 ghost use Rattle.std.specs.Vec.{vec_len, vec_capacity};
+ghost use Rattle.std.specs.Ordering.{is_ne};
 ghost use Rattle.typed_path.specs.changes.{refusal, error_of, FitsPush, IsKnown, fault};
 ghost use Rattle.typed_path.specs.promises.{HasPrefixOf, LiesWithin};
 ghost use Rattle.typed_path.specs.components.{Dialect, root_of, label_of, comps, parts_of, kinds, parts};
 ghost use Rattle.typed_path.specs.scan.{but_last, slice_after_front, slice_after_back, first_part, last_part};
 ghost use Rattle.typed_path.specs.views.PieceViews.{part_of};
 ghost use Rattle.typed_path.specs.views.CursorViews.{slice_left, items_left};
-ghost use Rattle.typed_path.specs.queries.{is_absolute, has_root, is_valid_name, is_valid, stripped};
+ghost use Rattle.typed_path.specs.queries.{is_absolute, has_root, is_valid_name, is_valid, stripped, path_starts_with};
 ghost use Rattle.typed_path.specs.places.{normal_text, HasPlainNames};
 ghost use Rattle.typed_path.specs.changes.Push as push_spec;
 ghost use Rattle.typed_path.specs.order.{path_cmp};
@@ -146,10 +147,12 @@ pub trait Encoding: Sized {
         None
     }
 
-    /// For encodings alone. The order of two paths, where their bytes tell, with no reading of either.
-    /// None says nothing.
+    /// For encodings alone. The order of two paths, where their bytes tell, with no reading of either:
+    /// they are equal, or differ in a name in one place. None says nothing.
     fn order_by_bytes(path: &[u8], other: &[u8]) -> Option<Ordering>
-        ensures { IfSome result (λ order. path_cmp dialect path.now other.now ≡ order) }
+        ensures order { IfSome result (λ order. path_cmp dialect path.now other.now ≡ order) }
+        ensures apart { IfSome result (λ order. is_ne order ≡ true
+            → path_starts_with dialect path.now other.now ≡ false) }
     {
         None
     }

@@ -1,10 +1,11 @@
 //! Texts cut at a byte, at a separator, behind a beginning, behind a base, and behind what two of them
 //! share.
 
-ghost use Rattle.std.specs.Prelude.{◌≡◌, ◌≢◌, ◌≤◌, ◌<◌, ◌+◌, ◌==◌, List, ℕ, [], ◌∷◌, ◌++◌, take, length, MatchOption, IfSome, true, drop, IsTrue};
-ghost use Rattle.std.specs.List.{slice_split, position_or_len, before_first};
+ghost use Rattle.std.specs.Prelude.{◌≡◌, ◌≢◌, ◌≤◌, ◌<◌, ◌+◌, ◌==◌, List, ℕ, [], ◌∷◌, ◌++◌, take, length, MatchOption, IfSome, true, false, drop, IsTrue};
+ghost use Rattle.std.specs.List.{slice_split, position_or_len, before_first, starts_with};
+ghost use Rattle.std.specs.Str.{bytes_eq};
 ghost use Rattle.std.specs.Ordering.{is_ne};
-ghost use Rattle.typed_path.specs.components.{is_separator, body, later_body};
+ghost use Rattle.typed_path.specs.components.{is_separator, body, later_body, parts, texts};
 ghost use Rattle.typed_path.specs.scan.{is_clean, begins_with_name};
 ghost use Rattle.typed_path.specs.declared.scan.cursor.Begin.{Begin};
 ghost use Rattle.typed_path.specs.order.{left_cmp, bytes_cmp};
@@ -179,8 +180,11 @@ pub fn order_of_bodies(rest: &Body<'_>, wanted: &Body<'_>) -> Option<Ordering>
 /// So most paths are put in order by one look at their bytes up to the first that differs.
 #[inline(always)]
 pub fn order_of_texts(text: &[u8], other: &[u8], separators: Separators) -> Option<Ordering>
-    ensures { IfSome result (λ order.
+    ensures order { IfSome result (λ order.
         left_cmp (body separators 0 text.now) (body separators 0 other.now) ≡ order) }
+    ensures apart { IfSome result (λ order. is_ne order ≡ true
+        → starts_with bytes_eq (texts (parts (body separators 0 text.now)))
+        (texts (parts (body separators 0 other.now))) ≡ false) }
 {
     let shared = first_difference(text, other);
     if shared == text.len() && shared == other.len() {

@@ -68,8 +68,12 @@ impl Encoding for WindowsEncoding {
         rooted(cursor)
     }
 
+    // Most paths begin otherwise than a base that they are asked for, which needs no prefix to be read.
     #[inline]
     fn behind<'a>(path: &'a [u8], base: &[u8]) -> Option<&'a [u8]> {
+        if !path.starts_with(base) {
+            return None;
+        }
         let (prefix, body) = path.split_at(prefix_len(path));
         let (base_prefix, base_body) = base.split_at(prefix_len(base));
         let separators = Separators::of_windows(path);

@@ -1,7 +1,10 @@
 -- Two texts that begin alike and go on with different names: their order is that of the names.
 use Rattle.std.proofs.Common.{◌≡◌, ℕ, zero, suc, ◌+◌, ◌-◌, ◌<◌, ◌≤◌, ◌==◌, List, [], ◌∷◌, ◌++◌, Bool, true, false, not, ◌&&◌, ◌||◌, cond, min, All, take, drop, length, get_or, Ordering, Less, Equal, Greater, refl, sym, ap, ap₂, ◌∙◌, subst, arith, length-take-le, length-drop, append_assoc, take-append-drop, get_or-take, get_or-drop, eqb-true, length-take, take_all, Option, Some, None}
 use Rattle.std.specs.Ordering.{is_ne, ordering_then, nat_cmp}
-use Rattle.std.specs.List.{before_first, position_or_len, IsAfterLastMatch}
+use Rattle.std.specs.List.{before_first, position_or_len, starts_with, IsAfterLastMatch}
+use Rattle.std.specs.Str.{bytes_eq}
+use Rattle.std.specs.Cmp.Lexicographic.{bytes_decides, nat_list_cmp_total}
+use Rattle.std.proofs.Math.Bool.{and-false}
 use Rattle.std.specs.Slice.Scan.{IsFirstPlace}
 use Rattle.std.specs.Prelude.{IfSome}
 use Rattle.std.proofs.lemmas.List.{drop-append-le, take-append-le, take_more}
@@ -12,13 +15,14 @@ use Rattle.typed_path.specs.declared.scan.separators.Separators.TheVariants.{Eit
 use Rattle.typed_path.specs.declared.scan.cursor.Body.{Body as Reading}
 use Rattle.typed_path.specs.declared.scan.cursor.Begin.{Begin}
 use Rattle.typed_path.specs.declared.scan.cursor.Begin.TheVariants.{Body, Inside}
-use Rattle.typed_path.specs.components.{is_separator, is_verbatim, dot, Placed, name_part, current_part, parent_part, root_part, root_text, component, first, body, later_body, kinds, parts, windows, prefix, disk, prefix_part, comps, comps_behind, IsPartedDrive}
+use Rattle.typed_path.specs.components.{is_separator, is_verbatim, dot, Placed, name_part, current_part, parent_part, root_part, root_text, component, first, body, later_body, kinds, parts, texts, windows, prefix, disk, prefix_part, comps, comps_behind, IsPartedDrive}
 use Rattle.typed_path.specs.scan.{body_from, is_clean, counts, begins_with_name, differs_at}
 use Rattle.typed_path.specs.order.{bytes_cmp, left_cmp, kind_cmp, kinds_cmp, path_cmp, kind_cmp_total, kinds_cmp_total}
 use Rattle.typed_path.specs.views.BodyViews.{body_slice, body_items}
 use Rattle.typed_path.proofs.lemmas.components.Segments.{body_from-first, parts-body}
 use Rattle.typed_path.proofs.lemmas.components.Prefixes.{some_is}
-use Rattle.typed_path.proofs.lemmas.queries.Bases.{body-ended}
+use Rattle.typed_path.specs.queries.{path_starts_with}
+use Rattle.typed_path.proofs.lemmas.queries.Bases.{begins, body-ended}
 use Rattle.typed_path.proofs.lemmas.order.Comparisons.{cmp-behind}
 
 filled : (b : ℕ) (rest : List ℕ) → (length (b ∷ rest) == 0) ≡ false
@@ -120,12 +124,54 @@ pub if-told : {P Q : Ordering → Type 0} (o : Option Ordering) → IfSome o P �
 if-told None holds f = tt
 if-told (Some r) holds f = f r holds
 
+-- two texts with the same components in front, and then names in a given order
+pub record Parted (s : Separators) (t u : List ℕ) (o : Ordering) : Type 0 where
+  pub front : List Placed
+  pub at : ℕ
+  pub own : List ℕ
+  pub other : List ℕ
+  pub behind_own : List Placed
+  pub behind_other : List Placed
+  pub own_is : body s 0 t ≡ front ++ record { part = name_part own; start = at } ∷ behind_own
+  pub other_is : body s 0 u ≡ front ++ record { part = name_part other; start = at } ∷ behind_other
+  pub order : bytes_cmp own other ≡ o
+
+-- these are in the order of the names
+pub parted-cmp : (s : Separators) (t u : List ℕ) (o : Ordering) → Parted s t u o → is_ne o ≡ true → left_cmp (body s 0 t) (body s 0 u) ≡ o
+parted-cmp s t u o p differ =
+    sym (cmp-behind p.front (record { part = name_part p.own; start = p.at } ∷ p.behind_own) (record { part = name_part p.other; start = p.at } ∷ p.behind_other) (body s 0 t) (body s 0 u) p.own_is p.other_is)
+    ∙ named-order p.behind_own p.behind_other p.own p.other p.at o p.order differ
+
+-- a list does not begin with another that has a name otherwise in one place
+begins-apart : (fs gs : List Placed) (c d : Placed) (cs ds : List Placed) → length fs ≡ length gs → bytes_eq d.part.text c.part.text ≡ false → begins (fs ++ c ∷ cs) (gs ++ d ∷ ds) ≡ false
+begins-apart [] [] c d cs ds e h = ap (λ b. b && begins cs ds) h
+begins-apart [] (g ∷ gs) c d cs ds e h = absurd (omega (arith, e))
+begins-apart (f ∷ fs) [] c d cs ds e h = absurd (omega (arith, e))
+begins-apart (f ∷ fs) (g ∷ gs) c d cs ds e h =
+    ap (λ b. bytes_eq g.part.text f.part.text && b) (begins-apart fs gs c d cs ds (omega (arith, e)) h) ∙ and-false (bytes_eq g.part.text f.part.text)
+
+-- names that are in an order are not one
+unlike : (a b : List ℕ) (o : Ordering) → bytes_cmp a b ≡ o → is_ne o ≡ true → bytes_eq b a ≡ false
+unlike a b o is differ = by (bytes_eq b a) refl o is differ
+  where
+    by : (same : Bool) → bytes_eq b a ≡ same → (o : Ordering) → bytes_cmp a b ≡ o → is_ne o ≡ true → same ≡ false
+    by false e o is differ = refl
+    by true e Less is differ = let tied : bytes_cmp a b ≡ Equal = ap (λ x. bytes_cmp a x) ((bytes_decides b a).0 e) ∙ tied_itself nat_list_cmp_total a in cc
+    by true e Equal is differ = cc
+    by true e Greater is differ = let tied : bytes_cmp a b ≡ Equal = ap (λ x. bytes_cmp a x) ((bytes_decides b a).0 e) ∙ tied_itself nat_list_cmp_total a in cc
+
+-- so the one does not begin with the other
+pub parted-begins : (s : Separators) (t u : List ℕ) (o : Ordering) → Parted s t u o → is_ne o ≡ true → begins (body s 0 t) (body s 0 u) ≡ false
+parted-begins s t u o p differ =
+    ap₂ begins p.own_is p.other_is
+    ∙ begins-apart p.front p.front (record { part = name_part p.own; start = p.at }) (record { part = name_part p.other; start = p.at }) p.behind_own p.behind_other refl (unlike p.own p.other o p.order differ)
+
 -- behind the last separator that both begin with, both begin with a name, and these are in the order of their ends
-pub names-order : (s : Separators) (t u : List ℕ) (n k : ℕ) (o : Ordering) → IsFirstPlace (differs_at t u) 0 (min (length t) (length u)) k
+pub names-parted : (s : Separators) (t u : List ℕ) (n k : ℕ) (o : Ordering) → IsFirstPlace (differs_at t u) 0 (min (length t) (length u)) k
     → IsAfterLastMatch (is_separator s) (take k t) n → n ≤ length (take k t) → begins_with_name s (drop n t) ≡ true → begins_with_name s (drop n u) ≡ true
-    → is_ne o ≡ true → bytes_cmp (before_first (is_separator s) (drop k t)) (before_first (is_separator s) (drop k u)) ≡ o
-    → left_cmp (body s 0 t) (body s 0 u) ≡ o
-names-order s t u n k o parting last within begins begins' differ is =
+    → bytes_cmp (before_first (is_separator s) (drop k t)) (before_first (is_separator s) (drop k u)) ≡ o
+    → Parted s t u o
+names-parted s t u n k o parting last within named-own named-other is =
     by n refl
   where
     p : ℕ → Bool
@@ -161,12 +207,6 @@ names-order s t u n k o parting last within begins begins' differ is =
         ∙ bytes-shared mid (before_first p (drop k t)) (before_first p (drop k u))
         ∙ is
 
-    behind : (begin : Begin) → left_cmp (body_from begin s n (drop n t)) (body_from begin s n (drop n u)) ≡ o
-    behind begin =
-        let a = begins-name begin s n (drop n t) begins in
-        let b = begins-name begin s n (drop n u) begins' in
-        ap₂ left_cmp a.1 b.1 ∙ named-order a.0 b.0 (before_first p (drop n t)) (before_first p (drop n u)) n o named differ
-
     -- what stands before a place behind a separator
     split : (v : List ℕ) (j : ℕ) → n ≡ j + 1 → n ≤ length v → p (get_or v j 0) ≡ true → body s 0 v ≡ body s 0 (take n v) ++ later_body s n (drop n v)
     split v j e long separates =
@@ -174,20 +214,39 @@ names-order s t u n k o parting last within begins begins' differ is =
         ∙ body-ended s 0 (take n v) (take j v) (drop n v) (get_or v j 0) (ap (λ i. take i v) e ∙ take_more v j 0 (omega (arith, e, long))) separates
         ∙ ap (λ i. body s 0 (take n v) ++ later_body s i (drop n v)) (omega (arith, length-take-le n v long))
 
-    by : (m : ℕ) → n ≡ m → left_cmp (body s 0 t) (body s 0 u) ≡ o
+    by : (m : ℕ) → n ≡ m → Parted s t u o
     by zero e =
-        ap₂ (λ x y. left_cmp (body s 0 x) (body s 0 y)) (ap (λ i. drop i t) (sym e)) (ap (λ i. drop i u) (sym e))
-        ∙ ap (λ i. left_cmp (body s i (drop n t)) (body s i (drop n u))) (sym e)
-        ∙ behind Body
+        let a = begins-name Body s 0 t (ap (λ i. begins_with_name s (drop i t)) (sym e) ∙ named-own) in
+        let b = begins-name Body s 0 u (ap (λ i. begins_with_name s (drop i u)) (sym e) ∙ named-other) in
+        record {
+          front = [];
+          at = 0;
+          own = before_first p t;
+          other = before_first p u;
+          behind_own = a.0;
+          behind_other = b.0;
+          own_is = a.1;
+          other_is = b.1;
+          order = sym (ap (λ i. bytes_cmp (before_first p (drop i t)) (before_first p (drop i u))) e) ∙ named;
+        }
     by (suc j) e =
         let one : n ≡ j + 1 = omega (arith, e) in
         let last_own : p (get_or t j 0) ≡ true = ap p (sym (get_or-take k t j 0 (omega (arith, e, low)))) ∙ ap (λ i. p (get_or (take k t) i 0)) (omega (arith, e)) ∙ last.1 (omega (arith, e)) 0 in
         let last_other : p (get_or u j 0) ≡ true = ap p (sym (same-byte (get_or t j 0) (get_or u j 0) (parting.before j (omega arith) (omega (arith, e, low))))) ∙ last_own in
-        let front : take n u ≡ take n t = take-front u fits' ∙ ap (take n) (sym same) ∙ sym (take-front t fits) in
-        sym (cmp-behind (body s 0 (take n t)) (later_body s n (drop n t)) (later_body s n (drop n u)) (body s 0 t) (body s 0 u)
-        (split t j one (omega (arith, fits, low)) last_own)
-        (split u j one (omega (arith, fits', low)) last_other ∙ ap (λ x. body s 0 x ++ later_body s n (drop n u)) front))
-        ∙ behind Inside
+        let same_front : take n u ≡ take n t = take-front u fits' ∙ ap (take n) (sym same) ∙ sym (take-front t fits) in
+        let a = begins-name Inside s n (drop n t) named-own in
+        let b = begins-name Inside s n (drop n u) named-other in
+        record {
+          front = body s 0 (take n t);
+          at = n;
+          own = before_first p (drop n t);
+          other = before_first p (drop n u);
+          behind_own = a.0;
+          behind_other = b.0;
+          own_is = split t j one (omega (arith, fits, low)) last_own ∙ ap (λ cs. body s 0 (take n t) ++ cs) a.1;
+          other_is = split u j one (omega (arith, fits', low)) last_other ∙ ap₂ (λ x cs. body s 0 x ++ cs) same_front b.1;
+          order = named;
+        }
       where
         take-front : (v : List ℕ) → k ≤ length v → take n v ≡ take n (take k v)
         take-front v long = ap (take n) (sym (take-append-drop k v)) ∙ take-append-le n (take k v) (drop k v) (omega (arith, length-take-le k v long, low))
@@ -198,21 +257,33 @@ itself-order s t u k parting whole whole' =
     let same : t ≡ u = sym (take_all k t (omega (arith, whole))) ∙ alike-front k t u (omega (arith, whole)) (omega (arith, whole')) (λ i l. same-byte (get_or t i 0) (get_or u i 0) (parting.before i (omega arith) l)) ∙ take_all k u (omega (arith, whole')) in
     ap (λ v. left_cmp (body s 0 t) (body s 0 v)) (sym same) ∙ tied_itself kinds_cmp_total (kinds (parts (body s 0 t)))
 
+-- the components of a Windows text with no prefix but a drive
+bare-comps : (t v : List ℕ) → IsPartedDrive t None v → comps windows t ≡ body Either 0 v
+bare-comps t v d = ap₂ (λ s f. comps_behind s t f) d.0 d.1 ∙ ap (body Either 0) (sym d.2)
+
+driven-comps : (n : ℕ) (t v : List ℕ) → IsPartedDrive t (Some n) v → comps windows t ≡ component (prefix_part (disk n) (take 2 t)) 0 ++ body Either 2 v
+driven-comps n t v d = ap₂ (λ s f. comps_behind s t f) d.0 d.1 ∙ ap (λ x. component (prefix_part (disk n) (take 2 t)) 0 ++ body Either 2 x) (sym d.2)
+
 -- two Windows texts with one drive, or none, are in the order of what stands behind it
 pub parted-order : (t u : List ℕ) (a b : Option ℕ) (v w : List ℕ) (o : Ordering) → IsPartedDrive t a v → IsPartedDrive u b w → a ≡ b → left_cmp (body Either 0 v) (body Either 0 w) ≡ o → path_cmp windows t u ≡ o
 parted-order t u None None v w o own other same is =
-    ap₂ left_cmp (bare t v own) (bare u w other) ∙ is
-  where
-    bare : (t v : List ℕ) → IsPartedDrive t None v → comps windows t ≡ body Either 0 v
-    bare t v d = ap₂ (λ s f. comps_behind s t f) d.0 d.1 ∙ ap (body Either 0) (sym d.2)
+    ap₂ left_cmp (bare-comps t v own) (bare-comps u w other) ∙ is
 parted-order t u None (Some m) v w o own other same is = cc
 parted-order t u (Some l) None v w o own other same is = cc
 parted-order t u (Some l) (Some m) v w o own other same is =
-    ap₂ left_cmp (driven l t v own) (driven m u w other)
+    ap₂ left_cmp (driven-comps l t v own) (driven-comps m u w other)
     ∙ ap (λ k. ordering_then (kind_cmp (prefix (disk l)) (prefix (disk k))) (left_cmp (body Either 2 v) (body Either 2 w))) (sym (some_is same))
     ∙ ap (λ r. ordering_then r (left_cmp (body Either 2 v) (body Either 2 w))) (tied_itself kind_cmp_total (prefix (disk l)))
     ∙ ap₂ kinds_cmp (ap kinds (parts-body Either 2 v ∙ sym (parts-body Either 0 v))) (ap kinds (parts-body Either 2 w ∙ sym (parts-body Either 0 w)))
     ∙ is
-  where
-    driven : (n : ℕ) (t v : List ℕ) → IsPartedDrive t (Some n) v → comps windows t ≡ component (prefix_part (disk n) (take 2 t)) 0 ++ body Either 2 v
-    driven n t v d = ap₂ (λ s f. comps_behind s t f) d.0 d.1 ∙ ap (λ x. component (prefix_part (disk n) (take 2 t)) 0 ++ body Either 2 x) (sym d.2)
+
+-- the one does not begin with the other where what stands behind their drives does not
+pub parted-apart : (t u : List ℕ) (a b : Option ℕ) (v w : List ℕ) → IsPartedDrive t a v → IsPartedDrive u b w → a ≡ b → begins (body Either 0 v) (body Either 0 w) ≡ false → path_starts_with windows t u ≡ false
+parted-apart t u None None v w own other same apart =
+    ap₂ begins (bare-comps t v own) (bare-comps u w other) ∙ apart
+parted-apart t u None (Some m) v w own other same apart = cc
+parted-apart t u (Some l) None v w own other same apart = cc
+parted-apart t u (Some l) (Some m) v w own other same apart =
+    ap₂ begins (driven-comps l t v own) (driven-comps m u w other)
+    ∙ ap (λ r. bytes_eq (take 2 u) (take 2 t) && r) (ap₂ (λ ps qs. starts_with bytes_eq (texts ps) (texts qs)) (parts-body Either 2 v ∙ sym (parts-body Either 0 v)) (parts-body Either 2 w ∙ sym (parts-body Either 0 w)) ∙ apart)
+    ∙ and-false (bytes_eq (take 2 u) (take 2 t))

@@ -1,6 +1,6 @@
 use Rattle.std.proofs.Common.{◌≡◌, ◌==◌, ℕ, Option, Some, None, Bool, true, false, not, refl, sym, ap, eqb-true}
 use Rattle.std.specs.Option.{option_eq}
-use Rattle.typed_path.proofs.lemmas.order.SharedNames.{parted-order, if-told}
+use Rattle.typed_path.proofs.lemmas.order.SharedNames.{parted-order, parted-apart, if-told}
 use Rattle.typed_path.proofs.windows.encoding.WindowsEncodingEncoding.order_by_bytes.Goals as goal
 
 same-drive : (d e : Option ℕ) → false ≡ not (option_eq (λ x y. x == y) d e) → d ≡ e
@@ -13,7 +13,12 @@ same-drive (Some d) (Some e) same = by (d == e) refl same
     by true is h = ap Some (eqb-true d e is)
     by false is h = cc
 
-pub returns : goal.returns
-returns c = if-told c.order_of_texts.result c.order_of_texts.ensures (λ o is.
+pub returns-clause-order : goal.returns-clause-order
+returns-clause-order c = if-told c.order_of_texts.result c.order_of_texts.ensures.order (λ o is.
     parted-order c.args.path.now c.args.other.now c.in_ok-drive.drive c.in_ok-other_drive.other_drive c.in_ok-drive.body.now c.in_ok-other_drive.other_body.now o
     c.in_ok-drive.ensures c.in_ok-other_drive.ensures (same-drive c.in_ok-drive.drive c.in_ok-other_drive.other_drive c.if-ne.ensures) is)
+
+pub returns-clause-apart : goal.returns-clause-apart
+returns-clause-apart c = if-told c.order_of_texts.result c.order_of_texts.ensures.apart (λ o apart differ.
+    parted-apart c.args.path.now c.args.other.now c.in_ok-drive.drive c.in_ok-other_drive.other_drive c.in_ok-drive.body.now c.in_ok-other_drive.other_body.now
+    c.in_ok-drive.ensures c.in_ok-other_drive.ensures (same-drive c.in_ok-drive.drive c.in_ok-other_drive.other_drive c.if-ne.ensures) (apart differ))
