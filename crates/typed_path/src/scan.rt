@@ -14,5 +14,5 @@ pub use cut::{
 };
 pub use lanes::first_between;
 pub use prefix::{Found, WindowsPrefix, after_mark, drive, find_prefix, parted_drive};
-pub use separators::{Separators, has_valid_names};
+pub use separators::{Separators, has_parent_or_device, has_valid_names};
 pub use step::{Piece, PieceKind, Step, StepKind, is_dots, step_of};

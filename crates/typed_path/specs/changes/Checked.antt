@@ -1,13 +1,17 @@
 -- What a checked call was refused for.
 use Rattle.std.specs.Prelude.{◌≡◌, ◌==◌, ℕ, List, [], ◌∷◌, Bool, true, false, not, ◌&&◌, ◌||◌, slice_index, Result, Ok, Err, Option, Some, None}
-use Rattle.std.specs.List.{All}
+use Rattle.std.specs.List.{All, before_first, list_any}
+use Rattle.std.specs.Char.{to_ascii_lowercase}
 use Rattle.typed_path.specs.declared.scan.separators.Separators.{Separators}
+use Rattle.typed_path.specs.declared.scan.separators.Separators.TheVariants.{Either}
 use Rattle.typed_path.specs.declared.errors.CheckedPathError.{CheckedPathError}
 use Rattle.typed_path.specs.declared.errors.PathError.{PathError}
 use Rattle.typed_path.specs.declared.errors.PathError.TheVariants.{Checked, OutOfMemory}
-use Rattle.typed_path.specs.components.Dialects.{dot, colon, question, dialect_of, is_separator}
+use Rattle.typed_path.specs.components.Dialects.{windows, dot, colon, question, dialect_of, is_separator}
+use Rattle.typed_path.specs.components.Comps.{is_dot_dot}
 use Rattle.typed_path.specs.scan.Masks.{is_one_of}
-use Rattle.typed_path.specs.queries.Queries.{is_disallowed}
+use Rattle.typed_path.specs.queries.Queries.{is_disallowed, is_reserved}
+use Rattle.typed_path.specs.changes.Reserved.{begins_device}
 
 -- the refusal of a path; none where the call succeeds, and where memory is refused
 abbrev pub refusal : {A : Type 0} → Result A PathError → Option CheckedPathError
@@ -50,3 +54,34 @@ begins_with_nul_or_dot_pair (a ∷ b ∷ bytes) = a == 0 || a == dot && b == dot
 abbrev pub has_no_nul_or_dot_pair : List ℕ → Bool
 has_no_nul_or_dot_pair [] = true
 has_no_nul_or_dot_pair (a ∷ bytes) = not (begins_with_nul_or_dot_pair (a ∷ bytes)) && has_no_nul_or_dot_pair bytes
+
+-- a segment is `..`, or stands for a device
+abbrev pub is_parent_or_device : List ℕ → Bool
+is_parent_or_device segment = is_dot_dot segment || is_reserved windows segment
+
+-- a text begins as `..` does, or as the name of a device
+abbrev pub begins_like_parent_or_device : List ℕ → Bool
+begins_like_parent_or_device (a ∷ b ∷ bytes) = (a == dot && b == dot) || begins_device (to_ascii_lowercase a) (to_ascii_lowercase b)
+begins_like_parent_or_device bytes = false
+
+-- the first segment of a text of Windows is one of them
+abbrev pub begins_with_parent_or_device : List ℕ → Bool
+begins_with_parent_or_device text = is_parent_or_device (before_first (is_separator Either) text)
+
+-- a segment behind a separator is
+abbrev pub has_parent_or_device_behind : List ℕ → Bool
+has_parent_or_device_behind [] = false
+has_parent_or_device_behind (b ∷ bytes) = (is_separator Either b && begins_with_parent_or_device bytes) || has_parent_or_device_behind bytes
+
+-- some segment is
+abbrev pub has_parent_or_device : List ℕ → Bool
+has_parent_or_device text = begins_with_parent_or_device text || has_parent_or_device_behind text
+
+-- a text begins with a separator of Windows
+abbrev pub begins_with_separator : List ℕ → Bool
+begins_with_separator [] = false
+begins_with_separator (b ∷ bytes) = is_separator Either b
+
+-- no prefix, no root, no `..` and no invalid name is among the components of a path of Windows, as looks at its bytes tell
+abbrev pub has_only_valid_names : List ℕ → Bool
+has_only_valid_names path = not (begins_with_separator path) && not (list_any (is_stray Either) path) && not (has_parent_or_device path)

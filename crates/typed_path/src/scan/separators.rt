@@ -7,7 +7,7 @@ ghost use Rattle.std.specs.Str.{str_eq_ignore_ascii_case};
 ghost use Rattle.typed_path.specs.scan.{is_one_of};
 ghost use Rattle.typed_path.specs.components.{windows, separators, is_separator, is_verbatim, root_text, dialect_of, body, kinds, parts};
 ghost use Rattle.typed_path.specs.queries.{has_allowed_bytes, is_reserved, is_valid_name, is_valid, is_a_dot};
-ghost use Rattle.typed_path.specs.changes.{SeparatesDisallowed, is_stray, begins_device, may_be_reserved};
+ghost use Rattle.typed_path.specs.changes.{SeparatesDisallowed, is_stray, begins_device, may_be_reserved, is_parent_or_device, begins_like_parent_or_device, begins_with_parent_or_device, has_parent_or_device};
 
 use crate::constants::windows::RESERVED_DEVICE_NAMES;
 use crate::scan::cut::cut_at_separator;
@@ -264,4 +264,63 @@ pub fn has_valid_names(text: &[u8], separators: Separators) -> bool
         Separators::Slash => true,
         Separators::Backslash | Separators::Either => !has_reserved(text, separators),
     }
+}
+
+/// Whether a segment of a text of Windows that is not read verbatim is `..` or stands for a device.
+pub fn has_parent_or_device(text: &[u8]) -> bool
+    ensures { result ≡ has_parent_or_device text.now }
+{
+    if begins_with_parent_or_device(text) {
+        return true;
+    }
+    let len = text.len();
+    let mut at = 0;
+    'segments: while at < len {
+        let found = first_between(text, at, len, (b'/', b'\\'));
+        if found == len {
+            return false;
+        }
+        if begins_with_parent_or_device(&text[found + 1..]) {
+            return true;
+        }
+        at = found + 1;
+    }
+    false
+}
+
+/// Whether the first segment of such a text is `..` or stands for a device. Most begin otherwise, which
+/// their first bytes tell.
+#[inline(always)]
+fn begins_with_parent_or_device(text: &[u8]) -> bool
+    ensures { result ≡ begins_with_parent_or_device text.now }
+{
+    begins_like_parent_or_device(text) && is_parent_or_device(first_segment(text))
+}
+
+/// Whether a text begins as `..` does, or as the name of a device.
+#[inline(always)]
+fn begins_like_parent_or_device(text: &[u8]) -> bool
+    ensures { result ≡ begins_like_parent_or_device text.now }
+{
+    match text {
+        [a, b, ..] => {
+            ((*a == b'.') & (*b == b'.'))
+                | begins_device(a.to_ascii_lowercase(), b.to_ascii_lowercase())
+        }
+        _ => false,
+    }
+}
+
+/// What stands before the first separator of such a text, or the whole where it has none.
+fn first_segment(text: &[u8]) -> &[u8]
+    ensures { result.now ≡ before_first (is_separator Separators.Either) text.now }
+{
+    &text[..Separators::Either.first_in(text)]
+}
+
+/// Whether a segment is `..` or stands for a device.
+fn is_parent_or_device(segment: &[u8]) -> bool
+    ensures { result ≡ is_parent_or_device segment.now }
+{
+    matches!(segment, [b'.', b'.']) || Separators::Either.is_reserved(segment)
 }

@@ -4,12 +4,13 @@ ghost use Rattle.std.specs.Prelude.{◌≡◌, false, codes, Some};
 ghost use Rattle.typed_path.specs.components.{windows, kinds, parts};
 ghost use Rattle.typed_path.specs.queries.{is_absolute, has_root};
 ghost use Rattle.typed_path.specs.views.CursorViews.{items_left};
+ghost use Rattle.typed_path.specs.changes.{begins_with_separator, has_only_valid_names};
 
 use crate::common::Encoding;
 use crate::errors::CheckedPathError;
 use crate::scan::{
-    Cursor, Piece, Separators, WindowsPrefix, base_end, has_valid_names, order_of_texts,
-    parted_drive,
+    Cursor, Piece, Separators, WindowsPrefix, base_end, has_parent_or_device, has_valid_names,
+    order_of_texts, parted_drive,
 };
 use crate::windows::normal::put_normal;
 use crate::windows::push::{prefix_len, push_at, push_next};
@@ -133,9 +134,31 @@ impl Encoding for WindowsEncoding {
         put_normal(text, path)
     }
 
+    // Looks at its bytes tell of most paths that none of their components offends.
     fn check(path: &[u8]) -> Result<(), CheckedPathError> {
+        if has_only_valid_names(path) {
+            return Ok(());
+        }
         Cursor::of_windows(path).check()
     }
+}
+
+/// Whether looks at the bytes of a path tell that each of its components is a valid name or a `.`: it
+/// begins with no separator, so with no prefix but a drive; and it has no `:`, so no drive.
+pub fn has_only_valid_names(path: &[u8]) -> bool
+    ensures { result ≡ has_only_valid_names path.now }
+{
+    !begins_with_separator(path)
+        && !Separators::Either.has_stray(path)
+        && !has_parent_or_device(path)
+}
+
+/// Whether a text begins with a separator.
+#[inline(always)]
+fn begins_with_separator(text: &[u8]) -> bool
+    ensures { result ≡ begins_with_separator text.now }
+{
+    matches!(text, [b'/' | b'\\', ..])
 }
 
 /// Whether the components that are left begin an absolute path.

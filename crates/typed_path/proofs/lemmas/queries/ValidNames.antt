@@ -57,7 +57,7 @@ stem-byte b bs = by (b == dot) (position_or_len is_a_dot bs)
     by false n = let more : suc n ≡ 1 + n = omega arith in subst (λ m. take m (b ∷ bs) ≡ b ∷ take n bs) more refl
 
 -- so a name that stands for a device is one that may: by where its first dot stands
-reserved-may : (name : List ℕ) → is_reserved windows name ≡ true → may_be_reserved name ≡ true
+pub reserved-may : (name : List ℕ) → is_reserved windows name ≡ true → may_be_reserved name ≡ true
 reserved-may [] h = stem-like [] h
 reserved-may (a ∷ []) h = by (a == dot) (sym (ap is_like (stem-byte a [])) ∙ stem-like (a ∷ []) h)
   where

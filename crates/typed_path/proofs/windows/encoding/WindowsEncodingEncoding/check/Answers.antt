@@ -4,6 +4,7 @@ use Rattle.typed_path.specs.changes.{error_of, push, fault, fault_behind}
 use Rattle.typed_path.specs.views.CursorViews.{items_left}
 use Rattle.typed_path.specs.components.{windows, kinds, parts}
 use Rattle.typed_path.specs.promises.{LiesWithin, HasPrefixOf}
+use Rattle.typed_path.proofs.lemmas.changes.ValidPaths.{valid-no_fault}
 use Rattle.typed_path.proofs.lemmas.promises.WindowsContained.{contained, keeps}
 use Rattle.typed_path.proofs.windows.encoding.WindowsEncodingEncoding.check.Goals as goal
 
@@ -20,6 +21,17 @@ judged c =
     c.check.ensures
     ∙ ap (λ d. fault_behind d [] (kinds (parts (items_left c.of_windows.result)))) c.of_windows.ensures.dialect
     ∙ ap (λ cs. fault_behind windows [] (kinds (parts cs))) c.of_windows.ensures.items
+
+pub returns-then-has_only_valid_names-clause-refused : goal.returns-then-has_only_valid_names-clause-refused
+returns-then-has_only_valid_names-clause-refused c = sym (valid-no_fault c.args.path.now (sym c.has_only_valid_names.ensures ∙ c.if-has_only_valid_names.true))
+
+pub returns-then-has_only_valid_names-clause-prefix : goal.returns-then-has_only_valid_names-clause-prefix
+returns-then-has_only_valid_names-clause-prefix c =
+    let path = c.args.path.now in λ base. keeps base path (valid-no_fault path (sym c.has_only_valid_names.ensures ∙ c.if-has_only_valid_names.true))
+
+pub returns-then-has_only_valid_names-clause-contained : goal.returns-then-has_only_valid_names-clause-contained
+returns-then-has_only_valid_names-clause-contained c =
+    let path = c.args.path.now in λ base. contained base path (valid-no_fault path (sym c.has_only_valid_names.ensures ∙ c.if-has_only_valid_names.true))
 
 pub returns-clause-prefix : goal.returns-clause-prefix
 returns-clause-prefix c = kept c.check.result c.args.path.now (judged c)

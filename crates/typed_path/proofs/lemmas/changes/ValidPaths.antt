@@ -1,0 +1,258 @@
+-- Paths of Windows of which looks at their bytes tell that they have no fault: the search for `..` and for devices, and what it tells of the components.
+use Rattle.std.proofs.Common.{◌≡◌, ℕ, zero, suc, ◌+◌, ◌-◌, ◌≤◌, ◌<◌, Bool, true, false, take, subst, eqb-true, ne_eqb, if◌then◌else◌, cond, not, ◌&&◌, ◌||◌, ◌==◌, List, [], ◌∷◌, ◌++◌, length, drop, refl, sym, ap, ◌∙◌, arith, Some, None, true≢false}
+use Rattle.std.specs.List.{list_any, list_all, before_first, position_or_len, onto_first}
+use Rattle.std.specs.Option.{option_or}
+use Rattle.std.specs.Char.{to_ascii_lowercase}
+use Rattle.std.proofs.lemmas.Bool.{and_parts, or_parts, false_from_ne_true, not-true}
+use Rattle.std.proofs.lemmas.List.{drop_more, drop_all}
+use Rattle.typed_path.specs.declared.errors.CheckedPathError.TheVariants.{InvalidFilename}
+use Rattle.typed_path.specs.declared.scan.separators.Separators.TheVariants.{Either}
+use Rattle.typed_path.specs.components.{windows, dot, slash, backslash, colon, question, is_separator, is_dot, is_dot_dot, root_text, Kind, prefix, root, current, parent, normal, kinds, current_part, root_part, parent_part, name_part, prefix_of, after_mark, after_two, drive, is_drive_letter, to_upper}
+use Rattle.typed_path.specs.scan.{stands_at, IsFirstOf}
+use Rattle.typed_path.specs.queries.{is_reserved, is_valid, is_valid_name}
+use Rattle.typed_path.specs.changes.{fault, fault_behind, begins_device, may_be_reserved, is_stray, is_parent_or_device, begins_like_parent_or_device, begins_with_parent_or_device, has_parent_or_device_behind, has_parent_or_device, begins_with_separator, has_only_valid_names}
+use Rattle.typed_path.proofs.lemmas.components.Segments.{pieces, first_parts, later_parts, body_parts, parts-body}
+use Rattle.typed_path.proofs.lemmas.queries.ValidNames.{reserved-may, valid-found}
+use Rattle.typed_path.proofs.lemmas.changes.Faults.{parts_of-none}
+
+-- ---- what `..` and devices begin with
+
+-- what stands before the first separator, byte by byte
+segment-byte : (b : ℕ) (bs : List ℕ) → before_first (is_separator Either) (b ∷ bs) ≡ cond (is_separator Either b) [] (b ∷ before_first (is_separator Either) bs)
+segment-byte b bs = by (is_separator Either b) (position_or_len (is_separator Either) bs)
+  where
+    by : (separates : Bool) (n : ℕ) → take (cond (not separates) (1 + n) 0) (b ∷ bs) ≡ cond separates [] (b ∷ take n bs)
+    by true n = refl
+    by false n = let more : suc n ≡ 1 + n = omega arith in subst (λ m. take m (b ∷ bs) ≡ b ∷ take n bs) more refl
+
+-- a segment that is `..` or stands for a device begins as one of them
+like : (segment : List ℕ) → is_parent_or_device segment ≡ true → begins_like_parent_or_device segment ≡ true
+like segment e = by (is_dot_dot segment) (is_reserved windows segment) refl refl e
+  where
+    dotted : (text : List ℕ) → is_dot_dot text ≡ true → begins_like_parent_or_device text ≡ true
+    dotted [] h = cc
+    dotted (a ∷ []) h = cc
+    dotted (a ∷ b ∷ []) h = ap (λ x. x || begins_device (to_ascii_lowercase a) (to_ascii_lowercase b)) h
+    dotted (a ∷ b ∷ c ∷ text) h = cc
+
+    or_true : (x : Bool) → (x || true) ≡ true
+    or_true true = refl
+    or_true false = refl
+
+    device : (text : List ℕ) → may_be_reserved text ≡ true → begins_like_parent_or_device text ≡ true
+    device [] h = cc
+    device (a ∷ []) h = cc
+    device (a ∷ b ∷ []) h = cc
+    device (a ∷ b ∷ c ∷ []) h = ap (λ x. (a == dot && b == dot) || x) h ∙ or_true (a == dot && b == dot)
+    device (a ∷ b ∷ c ∷ d ∷ []) h = ap (λ x. (a == dot && b == dot) || x) h ∙ or_true (a == dot && b == dot)
+    device (a ∷ b ∷ c ∷ d ∷ e ∷ text) h = ap (λ x. (a == dot && b == dot) || x) (and_parts _ _ h).0 ∙ or_true (a == dot && b == dot)
+
+    by : (dots reserved : Bool) → is_dot_dot segment ≡ dots → is_reserved windows segment ≡ reserved → (dots || reserved) ≡ true → begins_like_parent_or_device segment ≡ true
+    by true reserved is held h = dotted segment is
+    by false true is held h = device segment (reserved-may segment held)
+    by false false is held h = cc
+
+-- so does the text that it stands in front of
+front-like : (text : List ℕ) → begins_like_parent_or_device (before_first (is_separator Either) text) ≡ true → begins_like_parent_or_device text ≡ true
+front-like [] e = e
+front-like (a ∷ []) e = by (is_separator Either a) (sym (ap begins_like_parent_or_device (segment-byte a [])) ∙ e)
+  where
+    by : (p : Bool) → begins_like_parent_or_device (cond p [] (a ∷ [])) ≡ true → false ≡ true
+    by true h = h
+    by false h = h
+front-like (a ∷ b ∷ rest) e = by (is_separator Either a) (is_separator Either b) (before_first (is_separator Either) rest) (sym (ap begins_like_parent_or_device stem) ∙ e)
+  where
+    stem : before_first (is_separator Either) (a ∷ b ∷ rest) ≡ cond (is_separator Either a) [] (a ∷ cond (is_separator Either b) [] (b ∷ before_first (is_separator Either) rest))
+    stem = segment-byte a (b ∷ rest) ∙ ap (λ t. cond (is_separator Either a) [] (a ∷ t)) (segment-byte b rest)
+
+    by : (p q : Bool) (more : List ℕ) → begins_like_parent_or_device (cond p [] (a ∷ cond q [] (b ∷ more))) ≡ true
+        → ((a == dot && b == dot) || begins_device (to_ascii_lowercase a) (to_ascii_lowercase b)) ≡ true
+    by true q more h = cc
+    by false true more h = cc
+    by false false more h = h
+
+-- so a text that begins otherwise has no such segment in front
+pub unlike-none : (text : List ℕ) → begins_like_parent_or_device text ≡ false → begins_with_parent_or_device text ≡ false
+unlike-none text unlike =
+    false_from_ne_true _ (λ is. true≢false (sym (front-like text (like (before_first (is_separator Either) text) is)) ∙ unlike))
+
+-- ---- the search for them
+
+-- what stands behind bytes that do not separate, tells
+free-front : (n at : ℕ) (text : List ℕ) → at + n ≤ length text → ((k : ℕ) → at ≤ k → k < at + n → stands_at (slash, backslash) text k ≡ false)
+    → has_parent_or_device_behind (drop at text) ≡ has_parent_or_device_behind (drop (at + n) text)
+free-front zero at text within free = let here : at ≡ at + zero = omega arith in ap (λ k. has_parent_or_device_behind (drop k text)) here
+free-front (suc n) at text within free =
+    let on : at + 1 + n ≡ at + suc n = omega arith in
+    ap has_parent_or_device_behind (drop_more text at 0 (omega arith))
+    ∙ ap (λ s. (s && begins_with_parent_or_device (drop (at + 1) text)) || has_parent_or_device_behind (drop (at + 1) text)) (free at (omega arith) (omega arith))
+    ∙ free-front n (at + 1) text (omega arith) (λ k low high. free k (omega arith) (omega arith))
+    ∙ ap (λ k. has_parent_or_device_behind (drop k text)) on
+
+-- nothing stands behind the end
+pub behind-end : (text : List ℕ) (at : ℕ) → length text ≤ at → has_parent_or_device_behind (drop at text) ≡ false
+behind-end text at past = ap has_parent_or_device_behind (drop_all at text past)
+
+module _ (text : List ℕ) (at found : ℕ) (first : IsFirstOf (slash, backslash) text at (length text) found) where
+  -- what stands before the first separator tells nothing
+  pub behind-from : has_parent_or_device_behind (drop at text) ≡ has_parent_or_device_behind (drop found text)
+  behind-from =
+      let there : at + (found - at) ≡ found = omega (arith, first.low) in
+      free-front (found - at) at text (omega (arith, first.low, first.high)) (λ k low high. first.before k low (omega (arith, first.low)))
+      ∙ ap (λ k. has_parent_or_device_behind (drop k text)) there
+
+  -- a separator tells of the segment behind it, and then of those behind that
+  pub behind-separator : found < length text → has_parent_or_device_behind (drop at text)
+      ≡ (begins_with_parent_or_device (drop (found + 1) text) || has_parent_or_device_behind (drop (found + 1) text))
+  behind-separator within =
+      behind-from
+      ∙ ap has_parent_or_device_behind (drop_more text found 0 within)
+      ∙ ap (λ s. (s && begins_with_parent_or_device (drop (found + 1) text)) || has_parent_or_device_behind (drop (found + 1) text)) (first.hit within)
+
+-- ---- what the search tells of the pieces
+
+-- a text is the segment before its first separator, and the pieces behind that, of which the search tells
+record Split (text : List ℕ) : Type 0 where
+  more : List (List ℕ)
+  cut : pieces Either text ≡ before_first (is_separator Either) text ∷ more
+  told : list_any is_parent_or_device more ≡ has_parent_or_device_behind text
+
+split : (text : List ℕ) → Split text
+split [] = record { more = []; cut = refl; told = refl }
+split (x ∷ xs) = by (is_separator Either x) refl (split xs)
+  where
+    by : (separates : Bool) → is_separator Either x ≡ separates → Split xs → Split (x ∷ xs)
+    by true e rest = record {
+      more = pieces Either xs;
+      cut = ap (λ s. cond s ([] ∷ pieces Either xs) (onto_first x (pieces Either xs))) e ∙ ap (λ s. s ∷ pieces Either xs) (sym (segment-byte x xs ∙ ap (λ s. cond s [] (x ∷ before_first (is_separator Either) xs)) e));
+      told =
+          ap (list_any is_parent_or_device) rest.cut
+          ∙ ap (λ b. is_parent_or_device (before_first (is_separator Either) xs) || b) rest.told
+          ∙ ap (λ s. (s && begins_with_parent_or_device xs) || has_parent_or_device_behind xs) (sym e);
+    }
+    by false e rest = record {
+      more = rest.more;
+      cut =
+          ap (λ s. cond s ([] ∷ pieces Either xs) (onto_first x (pieces Either xs))) e
+          ∙ ap (onto_first x) rest.cut
+          ∙ ap (λ s. s ∷ rest.more) (sym (segment-byte x xs ∙ ap (λ s. cond s [] (x ∷ before_first (is_separator Either) xs)) e));
+      told = rest.told ∙ ap (λ s. (s && begins_with_parent_or_device xs) || has_parent_or_device_behind xs) (sym e);
+    }
+
+-- so of all pieces
+any-pieces : (text : List ℕ) → list_any is_parent_or_device (pieces Either text) ≡ has_parent_or_device text
+any-pieces text = let s = split text in ap (list_any is_parent_or_device) s.cut ∙ ap (λ b. begins_with_parent_or_device text || b) s.told
+
+-- where no piece is one of them, none stands for a device
+none_reserved : (ps : List (List ℕ)) → list_any is_parent_or_device ps ≡ false → list_any (is_reserved windows) ps ≡ false
+none_reserved [] e = refl
+none_reserved (p ∷ ps) e =
+    let all = or_parts (is_parent_or_device p) (list_any is_parent_or_device ps) e in
+    ap (λ b. b || list_any (is_reserved windows) ps) (or_parts (is_dot_dot p) (is_reserved windows p) all.0).1 ∙ none_reserved ps all.1
+
+-- ---- what the pieces tell of the components
+
+-- a `.` or a name
+abbrev is_plain : Kind → Bool
+is_plain current = true
+is_plain (normal name) = true
+is_plain k = false
+
+-- valid names and `.` are not refused
+none_refused : (before ks : List Kind) → is_valid windows ks ≡ true → list_all is_plain ks ≡ true → fault_behind windows before ks ≡ None
+none_refused before [] valid plain = refl
+none_refused before (current ∷ ks) valid plain = none_refused (before ++ current ∷ []) ks valid plain
+none_refused before (normal name ∷ ks) valid plain =
+    let own = and_parts (is_valid_name windows name) (is_valid windows ks) valid in
+    ap (λ b. option_or (if b then None else Some InvalidFilename) (fault_behind windows (before ++ normal name ∷ []) ks)) own.0
+    ∙ none_refused (before ++ normal name ∷ []) ks own.1 plain
+none_refused before (prefix p ∷ ks) valid plain = cc
+none_refused before (root ∷ ks) valid plain = cc
+none_refused before (parent ∷ ks) valid plain = cc
+
+-- later pieces that are no `..` give names
+later_plain : (ps : List (List ℕ)) → list_any is_parent_or_device ps ≡ false → list_all is_plain (kinds (later_parts Either ps)) ≡ true
+later_plain [] e = refl
+later_plain (p ∷ ps) e =
+    let all = or_parts (is_parent_or_device p) (list_any is_parent_or_device ps) e in
+    by (length p == 0) (is_dot p) (is_dot_dot p) (or_parts (is_dot_dot p) (is_reserved windows p) all.0).0 (later_plain ps all.1)
+  where
+    by : (empty dotted twice : Bool) → twice ≡ false → list_all is_plain (kinds (later_parts Either ps)) ≡ true
+        → list_all is_plain (kinds ((if empty then [] else (if dotted then [] else (if twice then parent_part else name_part p) ∷ [])) ++ later_parts Either ps)) ≡ true
+    by true dotted twice t rest = rest
+    by false true twice t rest = rest
+    by false false true t rest = cc
+    by false false false t rest = rest
+
+-- so does the first one, where it is not empty
+first_plain : (x : ℕ) (p : List ℕ) (ps : List (List ℕ)) → list_any is_parent_or_device ((x ∷ p) ∷ ps) ≡ false → list_all is_plain (kinds (first_parts Either ((x ∷ p) ∷ ps))) ≡ true
+first_plain x p ps e =
+    let all = or_parts (is_parent_or_device (x ∷ p)) (list_any is_parent_or_device ps) e in
+    by (length (x ∷ p) == 0) (is_dot (x ∷ p)) (is_dot_dot (x ∷ p)) (ne_eqb (length (x ∷ p)) 0 (λ h. omega arith)) (or_parts (is_dot_dot (x ∷ p)) (is_reserved windows (x ∷ p)) all.0).0 (later_plain ps all.1)
+  where
+    by : (empty dotted twice : Bool) → empty ≡ false → twice ≡ false → list_all is_plain (kinds (later_parts Either ps)) ≡ true
+        → list_all is_plain (kinds ((if empty then root_part (root_text Either) else (if dotted then current_part else (if twice then parent_part else name_part (x ∷ p)))) ∷ later_parts Either ps)) ≡ true
+    by true dotted twice filled t rest = cc
+    by false true twice filled t rest = rest
+    by false false true filled t rest = cc
+    by false false false filled t rest = rest
+
+-- a text that does not begin with a separator gives names and `.` alone
+body_plain : (text : List ℕ) → begins_with_separator text ≡ false → has_parent_or_device text ≡ false → list_all is_plain (kinds (body_parts Either text)) ≡ true
+body_plain [] apart none = refl
+body_plain (x ∷ xs) apart none =
+    let s = split (x ∷ xs) in
+    let cut : pieces Either (x ∷ xs) ≡ (x ∷ before_first (is_separator Either) xs) ∷ s.more =
+    s.cut ∙ ap (λ p. p ∷ s.more) (segment-byte x xs ∙ ap (λ b. cond b [] (x ∷ before_first (is_separator Either) xs)) apart) in
+    ap (λ ps. list_all is_plain (kinds (first_parts Either ps))) cut
+    ∙ first_plain x (before_first (is_separator Either) xs) s.more (ap (list_any is_parent_or_device) (sym cut) ∙ any-pieces (x ∷ xs) ∙ none)
+
+-- ---- no prefix
+
+-- a `:` strays, and so no second byte is one
+no_colon : (b : ℕ) (bs : List ℕ) → list_any (is_stray Either) (b ∷ bs) ≡ false → (b == colon) ≡ false
+no_colon b bs e = false_from_ne_true _ (λ is. true≢false (sym (stray (eqb-true b colon is)) ∙ (or_parts (is_stray Either b) _ e).0))
+  where
+    stray : b ≡ colon → is_stray Either b ≡ true
+    stray is = ap (is_stray Either) is
+
+-- so no prefix is read
+no_prefix : (text : List ℕ) → begins_with_separator text ≡ false → list_any (is_stray Either) text ≡ false → prefix_of windows text ≡ None
+no_prefix [] apart allowed = refl
+no_prefix (a ∷ []) apart allowed = refl
+no_prefix (a ∷ b ∷ text) apart allowed =
+    rw (no_mark question, no_mark dot, no_two, no_drive) refl
+  where
+    no_mark : (sign : ℕ) → after_mark sign (a ∷ b ∷ text) ≡ None
+    no_mark sign = by text
+      where
+        by : (rest : List ℕ) → after_mark sign (a ∷ b ∷ rest) ≡ None
+        by [] = refl
+        by (c ∷ []) = refl
+        by (c ∷ d ∷ rest) = ap (λ p. if (p && is_separator Either b && c == sign && is_separator Either d) then Some rest else None) apart
+
+    no_two : after_two (a ∷ b ∷ text) ≡ None
+    no_two = ap (λ p. if (p && is_separator Either b) then Some text else None) apart
+
+    no_drive : drive (a ∷ b ∷ text) ≡ None
+    no_drive = by (is_drive_letter a) (b == colon) (no_colon b text (or_parts (is_stray Either a) _ allowed).1)
+      where
+        by : (letter second : Bool) → second ≡ false → (if (letter && second) then Some (to_upper a) else None) ≡ None
+        by true true e = cc
+        by true false e = refl
+        by false second e = refl
+
+-- a path that only has valid names, as its bytes tell, is not refused
+pub valid-no_fault : (path : List ℕ) → has_only_valid_names path ≡ true → fault windows path ≡ None
+valid-no_fault path e =
+    let told = and_parts (not (begins_with_separator path) && not (list_any (is_stray Either) path)) (not (has_parent_or_device path)) e in
+    let looks = and_parts (not (begins_with_separator path)) (not (list_any (is_stray Either) path)) told.0 in
+    let apart = not-true (begins_with_separator path) looks.0 in
+    let allowed = not-true (list_any (is_stray Either) path) looks.1 in
+    let none = not-true (has_parent_or_device path) told.1 in
+    let read = parts_of-none path (no_prefix path apart allowed) in
+    let valid : is_valid windows (kinds (body_parts Either path)) ≡ true =
+    ap (λ ps. is_valid windows (kinds ps)) (sym (parts-body Either 0 path))
+    ∙ valid-found Either 0 path _ false refl allowed
+    ∙ ap not (none_reserved (pieces Either path) (any-pieces path ∙ none)) in
+    ap (λ ps. fault_behind windows [] (kinds ps)) read ∙ none_refused [] (kinds (body_parts Either path)) valid (body_plain path apart none)
