@@ -64,6 +64,15 @@ abbrev pub begins_like_parent_or_device : List ℕ → Bool
 begins_like_parent_or_device (a ∷ b ∷ bytes) = (a == dot && b == dot) || begins_device (to_ascii_lowercase a) (to_ascii_lowercase b)
 begins_like_parent_or_device bytes = false
 
+-- a stem ends before a byte: a dot or a separator
+abbrev pub ends_stem : ℕ → Bool
+ends_stem b = b == dot || is_separator Either b
+
+-- where a text goes on, its second byte is a dot, or a stem of three bytes or of four ends
+abbrev pub may_end_stem : List ℕ → Bool
+may_end_stem (a ∷ b ∷ c ∷ d ∷ e ∷ bytes) = b == dot || ends_stem d || ends_stem e
+may_end_stem bytes = true
+
 -- the first segment of a text of Windows is one of them
 abbrev pub begins_with_parent_or_device : List ℕ → Bool
 begins_with_parent_or_device text = is_parent_or_device (before_first (is_separator Either) text)

@@ -25,7 +25,7 @@ fn marks_of<const N: usize>(text: &[u8], at: usize, byte: u8) -> u64
 
 /// Which of the bytes of a block are one of a pair.
 #[inline(always)]
-fn marks_at<const N: usize>(text: &[u8], at: usize, pair: (u8, u8)) -> u64
+pub fn marks_at<const N: usize>(text: &[u8], at: usize, pair: (u8, u8)) -> u64
     requires lanes { (0 < N) × (N ≤ 64) }
     requires in_range { at + N ≤ length text.now }
     ensures { IsMask (λ k. stands_at pair text.now (at + k)) N result }
@@ -43,7 +43,7 @@ pub fn is_one_of(pair: (u8, u8), byte: u8) -> bool
 
 /// The lowest bit that is set.
 #[inline(always)]
-fn lowest(mask: u64) -> usize
+pub fn lowest(mask: u64) -> usize
     requires { mask ≢ 0 }
     ensures within { result < 64 }
     ensures set { bit_at mask result ≡ 1 }

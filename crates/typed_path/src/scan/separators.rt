@@ -1,17 +1,17 @@
 //! Which bytes separate the components of a text, how such a byte is found, and which names stand
 //! between them.
 
-ghost use Rattle.std.specs.Prelude.{◌≡◌, ◌≤◌, ◌-◌, ◌==◌, ℕ, not, length, slice_range, IsTrue};
+ghost use Rattle.std.specs.Prelude.{◌≡◌, ◌≤◌, ◌+◌, ◌-◌, ◌==◌, ◌||◌, ℕ, not, length, drop, slice_range, IsTrue};
 ghost use Rattle.std.specs.List.{position_or_len, list_any, before_first, IsAfterLastMatch, slice_split};
 ghost use Rattle.std.specs.Str.{str_eq_ignore_ascii_case};
-ghost use Rattle.typed_path.specs.scan.{is_one_of};
-ghost use Rattle.typed_path.specs.components.{windows, separators, is_separator, is_verbatim, root_text, dialect_of, body, kinds, parts};
+ghost use Rattle.typed_path.specs.scan.{is_one_of, stands_at, IsMask};
+ghost use Rattle.typed_path.specs.components.{windows, slash, backslash, separators, is_separator, is_verbatim, root_text, dialect_of, body, kinds, parts};
 ghost use Rattle.typed_path.specs.queries.{has_allowed_bytes, is_reserved, is_valid_name, is_valid, is_a_dot};
-ghost use Rattle.typed_path.specs.changes.{SeparatesDisallowed, is_stray, begins_device, may_be_reserved, is_parent_or_device, begins_like_parent_or_device, begins_with_parent_or_device, has_parent_or_device};
+ghost use Rattle.typed_path.specs.changes.{SeparatesDisallowed, is_stray, begins_device, may_be_reserved, is_parent_or_device, begins_like_parent_or_device, begins_with_parent_or_device, ends_stem, may_end_stem, has_parent_or_device, has_parent_or_device_behind};
 
 use crate::constants::windows::RESERVED_DEVICE_NAMES;
 use crate::scan::cut::cut_at_separator;
-use crate::scan::lanes::{first_between, has_forbidden, is_one_of, last_between};
+use crate::scan::lanes::{first_between, has_forbidden, is_one_of, last_between, lowest, marks_at};
 use memchr::memchr;
 
 /// The separators of one text, and with them the way in which it is read.
@@ -267,12 +267,35 @@ pub fn has_valid_names(text: &[u8], separators: Separators) -> bool
 }
 
 /// Whether a segment of a text of Windows that is not read verbatim is `..` or stands for a device.
+///
+/// The separators of a block are found at once, and only the first bytes of a segment are looked at.
 pub fn has_parent_or_device(text: &[u8]) -> bool
     ensures { result ≡ has_parent_or_device text.now }
 {
     if begins_with_parent_or_device(text) {
         return true;
     }
+    let len = text.len();
+    if len < 32 {
+        return has_parent_or_device_behind(text);
+    }
+    let mut at = 0;
+    'wholes: while 32 <= len - at {
+        let marks = marks_at::<32>(text, at, (b'/', b'\\'));
+        if has_parent_or_device_at(text, at, at + 32, marks) {
+            return true;
+        }
+        at += 32;
+    }
+    let outside = 32 - (len - at);
+    let marks = marks_at::<32>(text, len - 32, (b'/', b'\\'));
+    has_parent_or_device_at(text, at, len, marks >> outside)
+}
+
+/// Whether a segment behind a separator of such a text is `..` or stands for a device.
+fn has_parent_or_device_behind(text: &[u8]) -> bool
+    ensures { result ≡ has_parent_or_device_behind text.now }
+{
     let len = text.len();
     let mut at = 0;
     'segments: while at < len {
@@ -288,13 +311,41 @@ pub fn has_parent_or_device(text: &[u8]) -> bool
     false
 }
 
+/// Whether a segment behind a separator of a range is `..` or stands for a device. The marks tell which
+/// bytes of the range separate.
+#[inline(always)]
+fn has_parent_or_device_at(text: &[u8], from: usize, to: usize, marks: u64) -> bool
+    requires ordered { from ≤ to }
+    requires short { to ≤ from + 32 }
+    requires in_range { to ≤ length text.now }
+    requires marked { IsMask (λ k. stands_at (slash, backslash) text.now (from + k)) (to - from)
+        marks }
+    ensures { has_parent_or_device_behind (drop from text.now)
+        ≡ (result || has_parent_or_device_behind (drop to text.now)) }
+{
+    let mut at = from;
+    let mut left = marks;
+    'marks: while left != 0 {
+        let behind = lowest(left) + 1;
+        at += behind;
+        if begins_with_parent_or_device(&text[at..]) {
+            return true;
+        }
+        left >>= behind;
+    }
+    false
+}
+
 /// Whether the first segment of such a text is `..` or stands for a device. Most begin otherwise, which
 /// their first bytes tell.
 #[inline(always)]
 fn begins_with_parent_or_device(text: &[u8]) -> bool
     ensures { result ≡ begins_with_parent_or_device text.now }
 {
-    begins_like_parent_or_device(text) && is_parent_or_device(first_segment(text))
+    if !begins_like_parent_or_device(text) {
+        return false;
+    }
+    may_end_stem(text) && is_parent_or_device(first_segment(text))
 }
 
 /// Whether a text begins as `..` does, or as the name of a device.
@@ -309,6 +360,26 @@ fn begins_like_parent_or_device(text: &[u8]) -> bool
         }
         _ => false,
     }
+}
+
+/// Whether a text that goes on has a dot as its second byte, or a stem of three bytes or of four that
+/// ends.
+#[inline(always)]
+fn may_end_stem(text: &[u8]) -> bool
+    ensures { result ≡ may_end_stem text.now }
+{
+    match text {
+        [_, b, _, d, e, ..] => (*b == b'.') | ends_stem(*d) | ends_stem(*e),
+        _ => true,
+    }
+}
+
+/// Whether a stem ends before a byte.
+#[inline(always)]
+fn ends_stem(byte: u8) -> bool
+    ensures { result ≡ ends_stem byte }
+{
+    byte == b'.' || Separators::Either.contains(byte)
 }
 
 /// What stands before the first separator of such a text, or the whole where it has none.

@@ -1,5 +1,5 @@
 -- Paths of Windows of which looks at their bytes tell that they have no fault: the search for `..` and for devices, and what it tells of the components.
-use Rattle.std.proofs.Common.{◌≡◌, ℕ, zero, suc, ◌+◌, ◌-◌, ◌≤◌, ◌<◌, Bool, true, false, take, subst, eqb-true, ne_eqb, if◌then◌else◌, cond, not, ◌&&◌, ◌||◌, ◌==◌, List, [], ◌∷◌, ◌++◌, length, drop, refl, sym, ap, ◌∙◌, arith, Some, None, true≢false}
+use Rattle.std.proofs.Common.{◌^◌, ◌/◌, ◌≡◌, ℕ, zero, suc, ◌+◌, ◌-◌, ◌≤◌, ◌<◌, Bool, true, false, take, subst, eqb-true, ne_eqb, if◌then◌else◌, cond, not, ◌&&◌, ◌||◌, ◌==◌, List, [], ◌∷◌, ◌++◌, length, drop, refl, sym, ap, ◌∙◌, arith, Some, None, true≢false}
 use Rattle.std.specs.List.{list_any, list_all, before_first, position_or_len, onto_first}
 use Rattle.std.specs.Option.{option_or}
 use Rattle.std.specs.Char.{to_ascii_lowercase}
@@ -8,9 +8,12 @@ use Rattle.std.proofs.lemmas.List.{drop_more, drop_all}
 use Rattle.typed_path.specs.declared.errors.CheckedPathError.TheVariants.{InvalidFilename}
 use Rattle.typed_path.specs.declared.scan.separators.Separators.TheVariants.{Either}
 use Rattle.typed_path.specs.components.{windows, dot, slash, backslash, colon, question, is_separator, is_dot, is_dot_dot, root_text, Kind, prefix, root, current, parent, normal, kinds, current_part, root_part, parent_part, name_part, prefix_of, after_mark, after_two, drive, is_drive_letter, to_upper}
-use Rattle.typed_path.specs.scan.{stands_at, IsFirstOf}
+use Rattle.std.specs.Slice.Scan.{HoldsNowhere}
+use Rattle.std.specs.Int.{bit_at}
+use Rattle.typed_path.specs.scan.{stands_at, IsFirstOf, IsMask}
+use Rattle.typed_path.proofs.lemmas.scan.Searches.{mask-behind, mask-alike, block-first, block-none}
 use Rattle.typed_path.specs.queries.{is_reserved, is_valid, is_valid_name}
-use Rattle.typed_path.specs.changes.{fault, fault_behind, begins_device, may_be_reserved, is_stray, is_parent_or_device, begins_like_parent_or_device, begins_with_parent_or_device, has_parent_or_device_behind, has_parent_or_device, begins_with_separator, has_only_valid_names}
+use Rattle.typed_path.specs.changes.{fault, fault_behind, begins_device, may_be_reserved, is_stray, is_parent_or_device, begins_like_parent_or_device, may_end_stem, begins_with_parent_or_device, has_parent_or_device_behind, has_parent_or_device, begins_with_separator, has_only_valid_names}
 use Rattle.typed_path.proofs.lemmas.components.Segments.{pieces, first_parts, later_parts, body_parts, parts-body}
 use Rattle.typed_path.proofs.lemmas.queries.ValidNames.{reserved-may, valid-found}
 use Rattle.typed_path.proofs.lemmas.changes.Faults.{parts_of-none}
@@ -71,6 +74,84 @@ front-like (a ∷ b ∷ rest) e = by (is_separator Either a) (is_separator Eithe
     by false true more h = cc
     by false false more h = h
 
+-- what a segment is that is one of them
+module _ (segment : List ℕ) (goal : Bool) (dots : is_dot_dot segment ≡ true → goal ≡ true) (device : may_be_reserved segment ≡ true → goal ≡ true) where
+  by_kind : is_parent_or_device segment ≡ true → goal ≡ true
+  by_kind e = by (is_dot_dot segment) (is_reserved windows segment) refl refl e
+    where
+      by : (twice reserved : Bool) → is_dot_dot segment ≡ twice → is_reserved windows segment ≡ reserved → (twice || reserved) ≡ true → goal ≡ true
+      by true reserved is held h = dots is
+      by false true is held h = device (reserved-may segment held)
+      by false false is held h = cc
+
+-- a text of five bytes or more
+module _ (a b c d e : ℕ) (rest : List ℕ) where
+  stem : before_first (is_separator Either) (a ∷ b ∷ c ∷ d ∷ e ∷ rest)
+      ≡ cond (is_separator Either a) [] (a ∷ cond (is_separator Either b) [] (b ∷ cond (is_separator Either c) [] (c ∷ cond (is_separator Either d) [] (d ∷ cond (is_separator Either e) [] (e ∷ before_first (is_separator Either) rest)))))
+  stem =
+      segment-byte a (b ∷ c ∷ d ∷ e ∷ rest)
+      ∙ ap (λ t. cond (is_separator Either a) [] (a ∷ t)) (segment-byte b (c ∷ d ∷ e ∷ rest)
+      ∙ ap (λ t. cond (is_separator Either b) [] (b ∷ t)) (segment-byte c (d ∷ e ∷ rest)
+      ∙ ap (λ t. cond (is_separator Either c) [] (c ∷ t)) (segment-byte d (e ∷ rest)
+      ∙ ap (λ t. cond (is_separator Either d) [] (d ∷ t)) (segment-byte e rest))))
+
+  -- what is told of it, by which of its bytes separate
+  abbrev ends : Bool → Bool → Bool
+  ends s t = (b == dot || (d == dot || s)) || (e == dot || t)
+
+  no : (goal : Bool) → false ≡ true → goal ≡ true
+  no goal i = absurd (true≢false (sym i))
+
+  second : (x y : Bool) → x ≡ true → ((x || y) || (e == dot || false)) ≡ true
+  second true y i = refl
+  second false y i = cc
+
+  third : (x y z : Bool) → ((x || (y || true)) || z) ≡ true
+  third true y z = refl
+  third false true z = refl
+  third false false z = refl
+
+  fourth : (x y : Bool) → (x || (y || true)) ≡ true
+  fourth true y = refl
+  fourth false true = refl
+  fourth false false = refl
+
+  dotted : (x y z : Bool) → (y || z) ≡ true → ((x || (y || false)) || (z || false)) ≡ true
+  dotted true y z i = refl
+  dotted false true z i = refl
+  dotted false false true i = refl
+  dotted false false false i = cc
+
+  long-ends : begins_with_parent_or_device (a ∷ b ∷ c ∷ d ∷ e ∷ rest) ≡ true → may_end_stem (a ∷ b ∷ c ∷ d ∷ e ∷ rest) ≡ true
+  long-ends h =
+      by (is_separator Either a) (is_separator Either b) (is_separator Either c) (is_separator Either d) (is_separator Either e) (before_first (is_separator Either) rest)
+      (sym (ap is_parent_or_device stem) ∙ h)
+    where
+      by : (p q r s t : Bool) (more : List ℕ)
+          → is_parent_or_device (cond p [] (a ∷ cond q [] (b ∷ cond r [] (c ∷ cond s [] (d ∷ cond t [] (e ∷ more)))))) ≡ true → ends s t ≡ true
+      by true q r s t more i = by_kind [] (ends s t) (no _) (no _) i
+      by false true r s t more i = by_kind (a ∷ []) (ends s t) (no _) (no _) i
+      by false false true s t more i =
+          by_kind (a ∷ b ∷ []) (ends s t) (λ j. ap (λ x. (x || (d == dot || s)) || (e == dot || t)) (and_parts (a == dot) (b == dot) j).1) (no _) i
+      by false false false true t more i = by_kind (a ∷ b ∷ c ∷ []) (ends true t) (no _) (λ j. third (b == dot) (d == dot) (e == dot || t)) i
+      by false false false false true more i = by_kind (a ∷ b ∷ c ∷ d ∷ []) (ends false true) (no _) (λ j. fourth (b == dot || (d == dot || false)) (e == dot)) i
+      by false false false false false more i =
+          by_kind (a ∷ b ∷ c ∷ d ∷ e ∷ more) (ends false false) (no _)
+          (λ j. dotted (b == dot) (d == dot) (e == dot) (and_parts (begins_device (to_ascii_lowercase a) (to_ascii_lowercase b)) (d == dot || e == dot) j).1) i
+
+-- so its stem may end where its first segment is one of them
+stem-ends : (text : List ℕ) → begins_with_parent_or_device text ≡ true → may_end_stem text ≡ true
+stem-ends [] h = refl
+stem-ends (a ∷ []) h = refl
+stem-ends (a ∷ b ∷ []) h = refl
+stem-ends (a ∷ b ∷ c ∷ []) h = refl
+stem-ends (a ∷ b ∷ c ∷ d ∷ []) h = refl
+stem-ends (a ∷ b ∷ c ∷ d ∷ e ∷ rest) h = long-ends a b c d e rest h
+
+-- a text whose first stem is longer has no such segment in front
+pub unended-none : (text : List ℕ) → may_end_stem text ≡ false → begins_with_parent_or_device text ≡ false
+unended-none text unended = false_from_ne_true _ (λ is. true≢false (sym (stem-ends text is) ∙ unended))
+
 -- so a text that begins otherwise has no such segment in front
 pub unlike-none : (text : List ℕ) → begins_like_parent_or_device text ≡ false → begins_with_parent_or_device text ≡ false
 unlike-none text unlike =
@@ -93,21 +174,55 @@ free-front (suc n) at text within free =
 pub behind-end : (text : List ℕ) (at : ℕ) → length text ≤ at → has_parent_or_device_behind (drop at text) ≡ false
 behind-end text at past = ap has_parent_or_device_behind (drop_all at text past)
 
-module _ (text : List ℕ) (at found : ℕ) (first : IsFirstOf (slash, backslash) text at (length text) found) where
+-- a range without a separator tells nothing
+pub behind-range : (text : List ℕ) (at to : ℕ) → at ≤ to → to ≤ length text → HoldsNowhere (stands_at (slash, backslash) text) at to → has_parent_or_device_behind (drop at text) ≡ has_parent_or_device_behind (drop to text)
+behind-range text at to ordered within none =
+    let there : at + (to - at) ≡ to = omega (arith, ordered) in
+    free-front (to - at) at text (omega (arith, ordered, within)) (λ k low high. none k low (omega (arith, ordered, high)))
+    ∙ ap (λ k. has_parent_or_device_behind (drop k text)) there
+
+module _ (text : List ℕ) (at to found : ℕ) (within : to ≤ length text) (first : IsFirstOf (slash, backslash) text at to found) where
   -- what stands before the first separator tells nothing
   pub behind-from : has_parent_or_device_behind (drop at text) ≡ has_parent_or_device_behind (drop found text)
-  behind-from =
-      let there : at + (found - at) ≡ found = omega (arith, first.low) in
-      free-front (found - at) at text (omega (arith, first.low, first.high)) (λ k low high. first.before k low (omega (arith, first.low)))
-      ∙ ap (λ k. has_parent_or_device_behind (drop k text)) there
+  behind-from = behind-range text at found first.low (omega (arith, within, first.high)) first.before
 
   -- a separator tells of the segment behind it, and then of those behind that
-  pub behind-separator : found < length text → has_parent_or_device_behind (drop at text)
+  pub behind-separator : found < to → has_parent_or_device_behind (drop at text)
       ≡ (begins_with_parent_or_device (drop (found + 1) text) || has_parent_or_device_behind (drop (found + 1) text))
-  behind-separator within =
+  behind-separator short =
       behind-from
-      ∙ ap has_parent_or_device_behind (drop_more text found 0 within)
-      ∙ ap (λ s. (s && begins_with_parent_or_device (drop (found + 1) text)) || has_parent_or_device_behind (drop (found + 1) text)) (first.hit within)
+      ∙ ap has_parent_or_device_behind (drop_more text found 0 (omega (arith, short, within)))
+      ∙ ap (λ s. (s && begins_with_parent_or_device (drop (found + 1) text)) || has_parent_or_device_behind (drop (found + 1) text)) (first.hit short)
+
+-- marks of a range: the lowest tells of the segment behind its separator, and those that are left of the others
+module _ (text : List ℕ) (at to left low : ℕ) (ordered : at ≤ to) (within : to ≤ length text) (marks : IsMask (λ k. stands_at (slash, backslash) text (at + k)) (to - at) left)
+    (set : bit_at left low ≡ 1) (below : (k : ℕ) → k < low → bit_at left k ≡ 0) where
+  lowest-first : (low < to - at) × IsFirstOf (slash, backslash) text at (at + (to - at)) (at + low)
+  lowest-first = block-first (stands_at (slash, backslash) text) at (to - at) left marks low set below
+
+  pub lowest-within : at + (low + 1) ≤ to
+  lowest-within = omega (arith, lowest-first.0, ordered)
+
+  pub lowest-separator : has_parent_or_device_behind (drop at text)
+      ≡ (begins_with_parent_or_device (drop (at + (low + 1)) text) || has_parent_or_device_behind (drop (at + (low + 1)) text))
+  lowest-separator =
+      let behind : at + low + 1 ≡ at + (low + 1) = omega arith in
+      behind-separator text at (at + (to - at)) (at + low) (omega (arith, ordered, within)) lowest-first.1 (omega (arith, lowest-first.0))
+      ∙ ap (λ k. begins_with_parent_or_device (drop k text) || has_parent_or_device_behind (drop k text)) behind
+
+  pub marks-behind : IsMask (λ k. stands_at (slash, backslash) text (at + (low + 1) + k)) (to - (at + (low + 1))) (left / 2 ^ (low + 1))
+  marks-behind =
+      let whole : to - at ≡ (low + 1) + (to - (at + (low + 1))) = omega (arith, lowest-first.0, ordered) in
+      mask-alike _ _ _ _ (λ k. ap (stands_at (slash, backslash) text) (omega arith))
+      (mask-behind (λ k. stands_at (slash, backslash) text (at + k)) (low + 1) (to - (at + (low + 1))) left
+      (subst (λ n. IsMask (λ k. stands_at (slash, backslash) text (at + k)) n left) whole marks))
+
+-- a range without marks tells nothing
+pub unmarked : (text : List ℕ) (at to left : ℕ) → at ≤ to → to ≤ length text → IsMask (λ k. stands_at (slash, backslash) text (at + k)) (to - at) left → left ≡ 0
+    → has_parent_or_device_behind (drop at text) ≡ has_parent_or_device_behind (drop to text)
+unmarked text at to left ordered within marks none =
+    let there : at + (to - at) ≡ to = omega (arith, ordered) in
+    behind-range text at to ordered within (subst (HoldsNowhere (stands_at (slash, backslash) text) at) there (block-none (stands_at (slash, backslash) text) at (to - at) left marks none))
 
 -- ---- what the search tells of the pieces
 

@@ -1,5 +1,5 @@
 -- What masks say of places, and searches of a range put together from what was seen of it.
-use Rattle.std.proofs.Common.{◌≡◌, ℕ, suc, ◌+◌, ◌-◌, ◌*◌, ◌^◌, ◌/◌, ◌%◌, ◌≤◌, ◌<◌, List, Bool, true, false, not, ◌||◌, ◌==◌, max, w64, cond, length, slice_index, slice_range, take, drop, get_or, map, refl, sym, ap, ◌∙◌, arith, bit_or, ⊎_elim, pow_pos, pow_mono, div-lt_iff_lt-mul, le-div_iff_mul-le, [], ◌∷◌, nat_lt, true≢false, shr-shr, eqb-true, ltb-true, lt-ltb, get_or-take, get_or-drop, length-take-le, length-drop, take_all}
+use Rattle.std.proofs.Common.{◌≡◌, ℕ, suc, ◌+◌, ◌-◌, ◌*◌, ◌^◌, ◌/◌, ◌%◌, ◌≤◌, ◌<◌, List, Bool, true, false, not, ◌||◌, ◌==◌, max, w64, cond, length, slice_index, slice_range, take, drop, get_or, map, refl, sym, ap, ◌∙◌, arith, bit_or, ⊎_elim, pow_pos, pow_mono, div-lt_iff_lt-mul, le-div_iff_mul-le, [], ◌∷◌, nat_lt, true≢false, subst, shr-shr, eqb-true, ltb-true, lt-ltb, get_or-take, get_or-drop, length-take-le, length-drop, take_all}
 use Rattle.std.specs.Int.{bit_at, trailing_zeros}
 use Rattle.std.specs.Slice.Scan.{HoldsNowhere, IsFirstPlace, IsLastPlace, HoldsSomewhere}
 use Rattle.std.specs.Simd.Lanes.{mask_l}
@@ -75,6 +75,13 @@ mask-behind p s n mask marks = record {
   where
     shifted : (k : ℕ) → bit_at (mask / 2 ^ s) k ≡ bit_at mask (s + k)
     shifted k = ap (λ x. x % 2) (shr-shr mask s k)
+
+-- of the marks of a block that ends with a range, those of the range
+pub mask-last : (q : ℕ → Bool) (n from to mask : ℕ) → from ≤ to → to ≤ from + n → n ≤ to → IsMask (λ k. q (to - n + k)) n mask → IsMask (λ k. q (from + k)) (to - from) (mask / 2 ^ (n - (to - from)))
+mask-last q n from to mask ordered near room marks =
+    let s = n - (to - from) in
+    let whole : n ≡ s + (to - from) = omega arith in
+    mask-alike _ _ (to - from) _ (λ k. ap q (omega arith)) (mask-behind (λ k. q (to - n + k)) s (to - from) mask (subst (λ m. IsMask (λ k. q (to - n + k)) m mask) whole marks))
 
 -- the highest bit of a number, and those above it
 pub highest_is_set : (mask k : ℕ) → 2 ^ k ≤ mask → mask < 2 * 2 ^ k → bit_at mask k ≡ 1

@@ -1,57 +1,10 @@
-use Rattle.std.proofs.Common.{◌≡◌, ◌<◌, ◌+◌, ◌-◌, ◌||◌, ℕ, List, Bool, length, take, drop, sym, ap, ◌∙◌, arith}
-use Rattle.std.proofs.lemmas.List.{take_rest}
+use Rattle.std.proofs.Common.{length, arith}
 use Rattle.typed_path.specs.components.{slash, backslash}
-use Rattle.typed_path.specs.scan.{IsFirstOf}
-use Rattle.typed_path.specs.changes.{begins_with_parent_or_device, has_parent_or_device, has_parent_or_device_behind}
-use Rattle.typed_path.proofs.lemmas.changes.ValidPaths.{behind-from, behind-separator, behind-end}
+use Rattle.typed_path.specs.scan.{stands_at}
+use Rattle.typed_path.proofs.lemmas.scan.Searches.{mask-last}
 use Rattle.typed_path.proofs.scan.separators.has_parent_or_device.Goals as goal
 
-pub segments-init : goal.segments-init
-segments-init c = record {
-  within = omega arith;
-  same = ap (λ b. b || has_parent_or_device_behind c.args.text.now) (sym c.begins_with_parent_or_device.ensures ∙ c.if-begins_with_parent_or_device.false);
-}
-
-pub returns-then-begins_with_parent_or_device : goal.returns-then-begins_with_parent_or_device
-returns-then-begins_with_parent_or_device c =
-    ap (λ b. b || has_parent_or_device_behind c.args.text.now) (sym c.if-begins_with_parent_or_device.true ∙ c.begins_with_parent_or_device.ensures)
-
-pub returns : goal.returns
-returns c = sym (c.segments.invariant.same ∙ behind-end c.args.text.now c.segments.at (omega (arith, c.segments-test.false)))
-
-pub returns-then-found-len : goal.returns-then-found-len
-returns-then-found-len c =
+pub has_parent_or_device_at-requires-2-clause-marked : goal.has_parent_or_device_at-requires-2-clause-marked
+has_parent_or_device_at-requires-2-clause-marked c =
     let text = c.args.text.now in
-    let found = c.first_between-found.result in
-    let whole : found ≡ length text = c.if-found-len.true in
-    sym (c.segments.invariant.same ∙ behind-from text c.segments.at found c.first_between-found.ensures ∙ behind-end text found (omega (arith, whole)))
-
--- what the segment behind the separator that was found tells
-told : (text : List ℕ) (at found : ℕ) (segment : Bool) → IsFirstOf (slash, backslash) text at (length text) found → found < length text
-    → has_parent_or_device text ≡ has_parent_or_device_behind (drop at text)
-    → segment ≡ begins_with_parent_or_device (take (length text - (found + 1)) (drop (found + 1) text))
-    → has_parent_or_device text ≡ (segment || has_parent_or_device_behind (drop (found + 1) text))
-told text at found segment first within same is =
-    same
-    ∙ behind-separator text at found first within
-    ∙ ap (λ b. b || has_parent_or_device_behind (drop (found + 1) text)) (ap begins_with_parent_or_device (sym (take_rest text (found + 1))) ∙ sym is)
-
-pub returns-then-begins_with_parent_or_device-2 : goal.returns-then-begins_with_parent_or_device-2
-returns-then-begins_with_parent_or_device-2 c =
-    let text = c.args.text.now in
-    let found = c.first_between-found.result in
-    let within : found < length text = omega (arith, c.first_between-found.ensures.high, c.if-found-len.false) in
-    sym (told text c.segments.at found _ c.first_between-found.ensures within c.segments.invariant.same c.begins_with_parent_or_device-in-segments.ensures
-    ∙ ap (λ b. b || has_parent_or_device_behind (drop (found + 1) text)) c.if-begins_with_parent_or_device-2.true)
-
-pub segments-preserved : goal.segments-preserved
-segments-preserved c =
-    let text = c.args.text.now in
-    let found = c.first_between-found.result in
-    let within : found < length text = omega (arith, c.first_between-found.ensures.high, c.if-found-len.false) in
-    record {
-      within = omega (arith, within);
-      same =
-          told text c.segments.at found _ c.first_between-found.ensures within c.segments.invariant.same c.begins_with_parent_or_device-in-segments.ensures
-          ∙ ap (λ b. b || has_parent_or_device_behind (drop (found + 1) text)) c.if-begins_with_parent_or_device-2.false;
-    }
+    mask-last (stands_at (slash, backslash) text) 32 c.wholes.at (length text) _ c.wholes.invariant.within (omega (arith, c.wholes-test.false, c.wholes.invariant.within)) (omega (arith, c.if-len-lt32.false)) c.marks_at-marks-2.ensures
