@@ -257,7 +257,7 @@ pub fn parted_drive(text: &[u8]) -> Option<(Option<u8>, &[u8])>
     ensures { IfSome result (λ parted.
         IsPartedDrive text.now parted.0 parted.1.now) }
 {
-    if begins_with_two(text) {
+    if after_two(text).is_some() {
         return None;
     }
     match drive(text) {

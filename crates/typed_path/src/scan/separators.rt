@@ -205,8 +205,7 @@ fn may_be_reserved(name: &[u8]) -> bool
 fn begins_device(first: u8, second: u8) -> bool
     ensures { result ≡ begins_device first second }
 {
-    ((first == b'c') | (first == b'p') | (first == b'a') | (first == b'n') | (first == b'l'))
-        & ((second == b'o') | (second == b'r') | (second == b'u') | (second == b'p'))
+    matches!(first, b'c' | b'p' | b'a' | b'n' | b'l') & matches!(second, b'o' | b'r' | b'u' | b'p')
 }
 
 /// Whether the bytes of a name before its first dot are, ASCII case aside, the name of a device.
