@@ -1,16 +1,20 @@
 //! The encoding of Windows paths.
 
-ghost use Rattle.std.specs.Prelude.{◌≡◌, false, codes, Some};
-ghost use Rattle.typed_path.specs.components.{windows, kinds, parts};
-ghost use Rattle.typed_path.specs.queries.{is_absolute, has_root};
+ghost use Rattle.std.specs.Prelude.{◌≡◌, ◌≤◌, true, false, length, codes, Some, IfSome, IsTrue};
+ghost use Rattle.std.specs.Ordering.{is_ne};
+ghost use Rattle.typed_path.specs.components.{windows, kinds, parts, separators, prefix_of};
+ghost use Rattle.typed_path.specs.order.{path_cmp};
+ghost use Rattle.typed_path.specs.views.PieceViews.{found_of, prefix_view};
+ghost use Rattle.typed_path.specs.promises.{is_verbatim_unc_name};
+ghost use Rattle.typed_path.specs.queries.{is_absolute, has_root, is_disk, path_starts_with};
 ghost use Rattle.typed_path.specs.views.CursorViews.{items_left};
 ghost use Rattle.typed_path.specs.changes.{begins_with_separator, has_only_valid_names};
 
 use crate::common::Encoding;
 use crate::errors::CheckedPathError;
 use crate::scan::{
-    Cursor, Piece, Separators, WindowsPrefix, base_end, has_parent_or_device, has_valid_names,
-    order_of_texts, parted_drive,
+    Cursor, Found, Piece, Separators, WindowsPrefix, base_end, find_prefix, has_parent_or_device,
+    has_valid_names, order_of_texts, parted_drive,
 };
 use crate::windows::normal::put_normal;
 use crate::windows::push::{prefix_len, push_at, push_next};
@@ -87,15 +91,12 @@ impl Encoding for WindowsEncoding {
         Some(&body[end..])
     }
 
-    // Behind two separators a prefix is read, which is left to the reading.
     #[inline(always)]
     fn order_by_bytes(path: &[u8], other: &[u8]) -> Option<Ordering> {
-        let (drive, body) = parted_drive(path)?;
-        let (other_drive, other_body) = parted_drive(other)?;
-        if drive != other_drive {
-            return None;
+        match order_behind_drive(path, other) {
+            Some(order) => Some(order),
+            None => order_behind_prefix(path, other),
         }
-        order_of_texts(body, other_body, Separators::Either)
     }
 
     fn valid(name: &[u8]) -> bool {
@@ -141,6 +142,69 @@ impl Encoding for WindowsEncoding {
         }
         Cursor::of_windows(path).check()
     }
+}
+
+/// The order of two paths with no prefix but one drive, or none, where their bytes tell.
+#[inline(always)]
+fn order_behind_drive(path: &[u8], other: &[u8]) -> Option<Ordering>
+    ensures order { IfSome result (λ order. path_cmp windows path.now other.now ≡ order) }
+    ensures apart { IfSome result (λ order. is_ne order ≡ true
+        → path_starts_with windows path.now other.now ≡ false) }
+{
+    let (drive, body) = parted_drive(path)?;
+    let (other_drive, other_body) = parted_drive(other)?;
+    if drive != other_drive {
+        return None;
+    }
+    order_of_texts(body, other_body, Separators::Either)
+}
+
+/// The order of two paths that begin with one prefix, written alike, where their bytes tell. So the prefix
+/// of the first alone is read.
+fn order_behind_prefix(path: &[u8], other: &[u8]) -> Option<Ordering>
+    ensures order { IfSome result (λ order. path_cmp windows path.now other.now ≡ order) }
+    ensures apart { IfSome result (λ order. is_ne order ≡ true
+        → path_starts_with windows path.now other.now ≡ false) }
+{
+    let found = find_prefix(path)?;
+    if !begins_with_prefix(other, path, found) {
+        return None;
+    }
+    order_of_texts(
+        &path[found.length..],
+        &other[found.length..],
+        Separators::of_windows(path),
+    )
+}
+
+/// Whether a text begins with the prefix of a path and a separator behind it, which is its own prefix
+/// then. False says nothing.
+#[inline(always)]
+fn begins_with_prefix(text: &[u8], path: &[u8], found: Found<'_>) -> bool
+    requires { prefix_of windows path.now ≡ Some (found_of found) }
+    ensures prefix { IsTrue result → prefix_of windows text.now ≡ Some (found_of found.entry) }
+    ensures separators { IsTrue result → separators windows text.now ≡ separators windows path.now }
+    ensures within { IsTrue result
+        → (found.entry.length ≤ length path.now) × (found.entry.length ≤ length text.now) }
+{
+    let end = found.length;
+    if !stays_before_parted(found.kind) || path.len() <= end || text.len() <= end {
+        return false;
+    }
+    Separators::of_windows(path).contains(text[end]) && path[..end] == text[..end]
+}
+
+/// Whether a prefix stays what it is, whatever is put apart in the place of what stands behind it. False
+/// says nothing.
+#[inline(always)]
+fn stays_before_parted(prefix: WindowsPrefix<'_>) -> bool
+    ensures { IsTrue result → (is_disk (prefix_view prefix.entry) ≡ false)
+        × (is_verbatim_unc_name (Some (prefix_view prefix.entry)) ≡ false) }
+{
+    !matches!(
+        prefix,
+        WindowsPrefix::Disk(_) | WindowsPrefix::Verbatim(b"UNC")
+    )
 }
 
 /// Whether looks at the bytes of a path tell that each of its components is a valid name or a `.`: it

@@ -1,8 +1,8 @@
 -- A prefix with more of its text behind it: where it ends, and what stands right behind it.
-use Rattle.std.proofs.Common.{◌≡◌, ℕ, suc, ◌+◌, ◌<◌, Bool, true, false, not, cond, if◌then◌else◌, List, [], ◌∷◌, length, drop, Some, None, refl, sym, ap, ◌∙◌, subst, length-drop, arith, ◌≤◌, nat_lt, ◌++◌, take, inl, inr, length-take, ◌⊎◌, ◌==◌, append-nil, le-ltb, eqb-true, drop-drop, take_all}
+use Rattle.std.proofs.Common.{◌≡◌, ℕ, suc, ◌+◌, ◌<◌, Bool, true, false, not, cond, if◌then◌else◌, List, [], ◌∷◌, length, drop, Some, None, refl, sym, ap, ◌∙◌, subst, length-drop, arith, ◌≤◌, nat_lt, ◌++◌, take, inl, inr, length-take, ◌⊎◌, ◌==◌, append-nil, le-ltb, eqb-true, drop-drop, take_all, get_or, take-append-drop}
 use Rattle.std.specs.List.{position_or_len, after_first, list_any}
 use Rattle.std.proofs.lemmas.Bool.{not-true, false_from_ne_true, cases_lt, cond-false, both_ways, or_cases}
-use Rattle.std.proofs.lemmas.List.{take-append-le}
+use Rattle.std.proofs.lemmas.List.{take-append-le, drop_more}
 use Rattle.std.proofs.lemmas.List.Splits.{slice_split-cons_yes}
 use Rattle.typed_path.specs.declared.scan.separators.Separators.{Separators}
 use Rattle.typed_path.specs.declared.scan.separators.Separators.TheVariants.{Backslash, Either, Slash}
@@ -138,6 +138,17 @@ parted-stays text x f is other no_unc more put_apart some =
     sym (verbatim-take (raw ++ x) f.length four) ∙ ap begins_verbatim (take-append-le f.length raw x (omega (arith, length-take f.length text, more)) ∙ take_all f.length raw (omega (arith, length-take f.length text))) ∙ verbatim-take text f.length four in
     let same : separators windows (raw ++ x) ≡ separators windows text = ap (λ b. if b then Backslash else Either) front in
     (same, ap (λ s. prefix_by s (raw ++ x)) same ∙ parted-again (separators windows text) text x f read other no_unc more put_apart some)
+
+-- so another text that begins with it and a separator has it too, and is read with the same separators
+pub shares-prefix : (t u : List ℕ) (f : Found) → prefix_of windows t ≡ Some f → is_disk f.prefix ≡ false → is_verbatim_unc_name (Some f.prefix) ≡ false → f.length < length t → f.length < length u
+    → is_separator (separators windows t) (get_or u f.length 0) ≡ true → take f.length t ≡ take f.length u → (separators windows u ≡ separators windows t) × (prefix_of windows u ≡ Some f)
+shares-prefix t u f is other no_unc more more' separates same =
+    let x = drop f.length u in
+    let behind : x ≡ get_or u f.length 0 ∷ drop (f.length + 1) u = drop_more u f.length 0 more' in
+    let put_apart : Apart (separators windows t) x = subst (Apart (separators windows t)) (sym behind) (parted (get_or u f.length 0) (drop (f.length + 1) u) separates) in
+    let stays = parted-stays t x f is other no_unc more put_apart (λ e. omega (arith, length-drop f.length u, more')) in
+    let whole : take f.length t ++ x ≡ u = ap (λ front. front ++ x) same ∙ take-append-drop f.length u in
+    (ap (separators windows) (sym whole) ∙ stays.0, ap (prefix_of windows) (sym whole) ∙ stays.1)
 
 -- What stands right behind a prefix of Windows that is not the whole text: a root, unless the prefix is a drive.
 

@@ -15,7 +15,7 @@ use Rattle.typed_path.specs.declared.scan.separators.Separators.TheVariants.{Eit
 use Rattle.typed_path.specs.declared.scan.cursor.Body.{Body as Reading}
 use Rattle.typed_path.specs.declared.scan.cursor.Begin.{Begin}
 use Rattle.typed_path.specs.declared.scan.cursor.Begin.TheVariants.{Body, Inside}
-use Rattle.typed_path.specs.components.{is_separator, is_verbatim, dot, Placed, name_part, current_part, parent_part, root_part, root_text, component, first, body, later_body, kinds, parts, texts, windows, prefix, disk, prefix_part, comps, comps_behind, IsPartedDrive}
+use Rattle.typed_path.specs.components.{is_separator, is_verbatim, dot, Placed, name_part, current_part, parent_part, root_part, root_text, component, first, body, later_body, kinds, parts, texts, windows, Prefix, prefix, disk, prefix_part, Found, prefix_of, separators, comps, comps_behind, IsPartedDrive}
 use Rattle.typed_path.specs.scan.{body_from, is_clean, counts, begins_with_name, differs_at}
 use Rattle.typed_path.specs.order.{bytes_cmp, left_cmp, kind_cmp, kinds_cmp, path_cmp, kind_cmp_total, kinds_cmp_total}
 use Rattle.typed_path.specs.views.BodyViews.{body_slice, body_items}
@@ -264,26 +264,52 @@ bare-comps t v d = ap₂ (λ s f. comps_behind s t f) d.0 d.1 ∙ ap (body Eithe
 driven-comps : (n : ℕ) (t v : List ℕ) → IsPartedDrive t (Some n) v → comps windows t ≡ component (prefix_part (disk n) (take 2 t)) 0 ++ body Either 2 v
 driven-comps n t v d = ap₂ (λ s f. comps_behind s t f) d.0 d.1 ∙ ap (λ x. component (prefix_part (disk n) (take 2 t)) 0 ++ body Either 2 x) (sym d.2)
 
--- two Windows texts with one drive, or none, are in the order of what stands behind it
+-- behind one prefix two lists are in the order of what stands there
+behind-order : (p : Prefix) (a b : List ℕ) (s : Separators) (n m : ℕ) (v w : List ℕ) (o : Ordering) → left_cmp (body s 0 v) (body s 0 w) ≡ o
+    → left_cmp (component (prefix_part p a) 0 ++ body s n v) (component (prefix_part p b) 0 ++ body s m w) ≡ o
+behind-order p a b s n m v w o is =
+    ap (λ r. ordering_then r (left_cmp (body s n v) (body s m w))) (tied_itself kind_cmp_total (prefix p))
+    ∙ ap₂ kinds_cmp (ap kinds (parts-body s n v ∙ sym (parts-body s 0 v))) (ap kinds (parts-body s m w ∙ sym (parts-body s 0 w)))
+    ∙ is
+
+-- and the one does not begin with the other where what stands there does not
+behind-apart : (p : Prefix) (a b : List ℕ) (s : Separators) (n m : ℕ) (v w : List ℕ) → begins (body s 0 v) (body s 0 w) ≡ false
+    → begins (component (prefix_part p a) 0 ++ body s n v) (component (prefix_part p b) 0 ++ body s m w) ≡ false
+behind-apart p a b s n m v w apart =
+    ap (λ r. bytes_eq b a && r) (ap₂ (λ ps qs. starts_with bytes_eq (texts ps) (texts qs)) (parts-body s n v ∙ sym (parts-body s 0 v)) (parts-body s m w ∙ sym (parts-body s 0 w)) ∙ apart)
+    ∙ and-false (bytes_eq b a)
+
+-- so it is of two Windows texts with one drive, or none
 pub parted-order : (t u : List ℕ) (a b : Option ℕ) (v w : List ℕ) (o : Ordering) → IsPartedDrive t a v → IsPartedDrive u b w → a ≡ b → left_cmp (body Either 0 v) (body Either 0 w) ≡ o → path_cmp windows t u ≡ o
-parted-order t u None None v w o own other same is =
-    ap₂ left_cmp (bare-comps t v own) (bare-comps u w other) ∙ is
+parted-order t u None None v w o own other same is = ap₂ left_cmp (bare-comps t v own) (bare-comps u w other) ∙ is
 parted-order t u None (Some m) v w o own other same is = cc
 parted-order t u (Some l) None v w o own other same is = cc
 parted-order t u (Some l) (Some m) v w o own other same is =
     ap₂ left_cmp (driven-comps l t v own) (driven-comps m u w other)
-    ∙ ap (λ k. ordering_then (kind_cmp (prefix (disk l)) (prefix (disk k))) (left_cmp (body Either 2 v) (body Either 2 w))) (sym (some_is same))
-    ∙ ap (λ r. ordering_then r (left_cmp (body Either 2 v) (body Either 2 w))) (tied_itself kind_cmp_total (prefix (disk l)))
-    ∙ ap₂ kinds_cmp (ap kinds (parts-body Either 2 v ∙ sym (parts-body Either 0 v))) (ap kinds (parts-body Either 2 w ∙ sym (parts-body Either 0 w)))
-    ∙ is
+    ∙ ap (λ k. left_cmp (component (prefix_part (disk l) (take 2 t)) 0 ++ body Either 2 v) (component (prefix_part (disk k) (take 2 u)) 0 ++ body Either 2 w)) (sym (some_is same))
+    ∙ behind-order (disk l) (take 2 t) (take 2 u) Either 2 2 v w o is
 
--- the one does not begin with the other where what stands behind their drives does not
 pub parted-apart : (t u : List ℕ) (a b : Option ℕ) (v w : List ℕ) → IsPartedDrive t a v → IsPartedDrive u b w → a ≡ b → begins (body Either 0 v) (body Either 0 w) ≡ false → path_starts_with windows t u ≡ false
-parted-apart t u None None v w own other same apart =
-    ap₂ begins (bare-comps t v own) (bare-comps u w other) ∙ apart
+parted-apart t u None None v w own other same apart = ap₂ begins (bare-comps t v own) (bare-comps u w other) ∙ apart
 parted-apart t u None (Some m) v w own other same apart = cc
 parted-apart t u (Some l) None v w own other same apart = cc
 parted-apart t u (Some l) (Some m) v w own other same apart =
     ap₂ begins (driven-comps l t v own) (driven-comps m u w other)
-    ∙ ap (λ r. bytes_eq (take 2 u) (take 2 t) && r) (ap₂ (λ ps qs. starts_with bytes_eq (texts ps) (texts qs)) (parts-body Either 2 v ∙ sym (parts-body Either 0 v)) (parts-body Either 2 w ∙ sym (parts-body Either 0 w)) ∙ apart)
-    ∙ and-false (bytes_eq (take 2 u) (take 2 t))
+    ∙ ap (λ k. begins (component (prefix_part (disk l) (take 2 t)) 0 ++ body Either 2 v) (component (prefix_part (disk k) (take 2 u)) 0 ++ body Either 2 w)) (sym (some_is same))
+    ∙ behind-apart (disk l) (take 2 t) (take 2 u) Either 2 2 v w apart
+
+-- and of two with one prefix, read with the same separators
+module _ (t u : List ℕ) (f : Found) (own : prefix_of windows t ≡ Some f) (other : prefix_of windows u ≡ Some f) (same : separators windows u ≡ separators windows t) where
+  prefixed-comps : (v : List ℕ) → prefix_of windows v ≡ Some f → separators windows v ≡ separators windows t
+      → comps windows v ≡ component (prefix_part f.prefix (take f.length v)) 0 ++ body (separators windows t) f.length (drop f.length v)
+  prefixed-comps v is read = ap₂ (λ s g. comps_behind s v g) read is
+
+  pub prefixed-order : (o : Ordering) → left_cmp (body (separators windows t) 0 (drop f.length t)) (body (separators windows t) 0 (drop f.length u)) ≡ o → path_cmp windows t u ≡ o
+  prefixed-order o is =
+      ap₂ left_cmp (prefixed-comps t own refl) (prefixed-comps u other same)
+      ∙ behind-order f.prefix (take f.length t) (take f.length u) (separators windows t) f.length f.length (drop f.length t) (drop f.length u) o is
+
+  pub prefixed-apart : begins (body (separators windows t) 0 (drop f.length t)) (body (separators windows t) 0 (drop f.length u)) ≡ false → path_starts_with windows t u ≡ false
+  prefixed-apart apart =
+      ap₂ begins (prefixed-comps t own refl) (prefixed-comps u other same)
+      ∙ behind-apart f.prefix (take f.length t) (take f.length u) (separators windows t) f.length f.length (drop f.length t) (drop f.length u) apart

@@ -1,7 +1,7 @@
 use Rattle.std.proofs.Common.{◌≡◌, ◌==◌, ℕ, Option, Some, None, Bool, true, false, not, refl, sym, ap, eqb-true}
 use Rattle.std.specs.Option.{option_eq}
 use Rattle.typed_path.proofs.lemmas.order.SharedNames.{parted-order, parted-apart, if-told}
-use Rattle.typed_path.proofs.windows.encoding.WindowsEncodingEncoding.order_by_bytes.Goals as goal
+use Rattle.typed_path.proofs.windows.encoding.order_behind_drive.Goals as goal
 
 same-drive : (d e : Option ℕ) → false ≡ not (option_eq (λ x y. x == y) d e) → d ≡ e
 same-drive None None same = refl
