@@ -1,7 +1,6 @@
 -- What a checked call was refused for.
-use Rattle.std.specs.Prelude.{◌≡◌, ◌==◌, ℕ, List, [], ◌∷◌, Bool, true, false, not, ◌&&◌, ◌||◌, slice_index, Result, Ok, Err, Option, Some, None}
+use Rattle.std.specs.Prelude.{◌≡◌, ◌==◌, ◌/◌, ◌%◌, ◌^◌, ℕ, List, [], ◌∷◌, Bool, true, false, not, ◌&&◌, ◌||◌, slice_index, Result, Ok, Err, Option, Some, None}
 use Rattle.std.specs.List.{All, before_first, list_any}
-use Rattle.std.specs.Char.{to_ascii_lowercase}
 use Rattle.typed_path.specs.declared.scan.separators.Separators.{Separators}
 use Rattle.typed_path.specs.declared.scan.separators.Separators.TheVariants.{Either}
 use Rattle.typed_path.specs.declared.errors.CheckedPathError.{CheckedPathError}
@@ -11,7 +10,6 @@ use Rattle.typed_path.specs.components.Dialects.{windows, dot, colon, question, 
 use Rattle.typed_path.specs.components.Comps.{is_dot_dot}
 use Rattle.typed_path.specs.scan.Masks.{is_one_of}
 use Rattle.typed_path.specs.queries.Queries.{is_disallowed, is_reserved}
-use Rattle.typed_path.specs.changes.Reserved.{begins_device}
 
 -- the refusal of a path; none where the call succeeds, and where memory is refused
 abbrev pub refusal : {A : Type 0} → Result A PathError → Option CheckedPathError
@@ -59,9 +57,13 @@ has_no_nul_or_dot_pair (a ∷ bytes) = not (begins_with_nul_or_dot_pair (a ∷ b
 abbrev pub is_parent_or_device : List ℕ → Bool
 is_parent_or_device segment = is_dot_dot segment || is_reserved windows segment
 
--- a text begins as `..` does, or as the name of a device
+-- the bit of a set that the low five bits of a byte name
+abbrev pub is_in : ℕ → ℕ → Bool
+is_in set b = set / 2 ^ (b % 32) % 2 == 1
+
+-- the first two bytes of a text are, but for higher bits, those of `..` or of devices: one of `.acnlp`, and one of `.opru`
 abbrev pub begins_like_parent_or_device : List ℕ → Bool
-begins_like_parent_or_device (a ∷ b ∷ bytes) = (a == dot && b == dot) || begins_device (to_ascii_lowercase a) (to_ascii_lowercase b)
+begins_like_parent_or_device (a ∷ b ∷ bytes) = is_in 86026 a && is_in 2473984 b
 begins_like_parent_or_device bytes = false
 
 -- a stem ends before a byte: a dot or a separator

@@ -7,7 +7,7 @@ ghost use Rattle.std.specs.Str.{str_eq_ignore_ascii_case};
 ghost use Rattle.typed_path.specs.scan.{is_one_of, stands_at, IsMask};
 ghost use Rattle.typed_path.specs.components.{windows, slash, backslash, separators, is_separator, is_verbatim, root_text, dialect_of, body, kinds, parts};
 ghost use Rattle.typed_path.specs.queries.{has_allowed_bytes, is_reserved, is_valid_name, is_valid, is_a_dot};
-ghost use Rattle.typed_path.specs.changes.{SeparatesDisallowed, is_stray, begins_device, may_be_reserved, is_parent_or_device, begins_like_parent_or_device, begins_with_parent_or_device, ends_stem, may_end_stem, has_parent_or_device, has_parent_or_device_behind};
+ghost use Rattle.typed_path.specs.changes.{SeparatesDisallowed, is_stray, begins_device, may_be_reserved, is_parent_or_device, begins_like_parent_or_device, begins_with_parent_or_device, is_in, ends_stem, may_end_stem, has_parent_or_device, has_parent_or_device_behind};
 
 use crate::constants::windows::RESERVED_DEVICE_NAMES;
 use crate::scan::cut::cut_at_separator;
@@ -347,18 +347,24 @@ fn begins_with_parent_or_device(text: &[u8]) -> bool
     may_end_stem(text) && is_parent_or_device(first_segment(text))
 }
 
-/// Whether a text begins as `..` does, or as the name of a device.
+/// Whether the first two bytes of a text are, but for higher bits, one of `.acnlp` and one of `.opru`, as
+/// `..` begins and each device.
 #[inline(always)]
 fn begins_like_parent_or_device(text: &[u8]) -> bool
     ensures { result ≡ begins_like_parent_or_device text.now }
 {
     match text {
-        [a, b, ..] => {
-            ((*a == b'.') & (*b == b'.'))
-                | begins_device(a.to_ascii_lowercase(), b.to_ascii_lowercase())
-        }
+        [a, b, ..] => is_in(86_026, *a) & is_in(2_473_984, *b),
         _ => false,
     }
+}
+
+/// Whether the low five bits of a byte name a bit of a set. Letters of either case name the same.
+#[inline(always)]
+fn is_in(set: u32, byte: u8) -> bool
+    ensures { result ≡ is_in set byte }
+{
+    (set >> (byte % 32)) % 2 == 1
 }
 
 /// Whether a text that goes on has a dot as its second byte, or a stem of three bytes or of four that

@@ -1,10 +1,12 @@
 -- Paths of Windows of which looks at their bytes tell that they have no fault: the search for `..` and for devices, and what it tells of the components.
-use Rattle.std.proofs.Common.{◌^◌, ◌/◌, ◌≡◌, ℕ, zero, suc, ◌+◌, ◌-◌, ◌≤◌, ◌<◌, Bool, true, false, take, subst, eqb-true, ne_eqb, if◌then◌else◌, cond, not, ◌&&◌, ◌||◌, ◌==◌, List, [], ◌∷◌, ◌++◌, length, drop, refl, sym, ap, ◌∙◌, arith, Some, None, true≢false}
+use Rattle.std.proofs.Common.{⊎_elim, ◌^◌, ◌/◌, ◌≡◌, ℕ, zero, suc, ◌+◌, ◌-◌, ◌≤◌, ◌<◌, Bool, true, false, take, subst, eqb-true, ne_eqb, if◌then◌else◌, cond, not, ◌&&◌, ◌||◌, ◌==◌, List, [], ◌∷◌, ◌++◌, length, drop, refl, sym, ap, ◌∙◌, arith, Some, None, true≢false}
 use Rattle.std.specs.List.{list_any, list_all, before_first, position_or_len, onto_first}
 use Rattle.std.specs.Option.{option_or}
 use Rattle.std.specs.Char.{to_ascii_lowercase}
 use Rattle.std.proofs.lemmas.Bool.{and_parts, or_parts, false_from_ne_true, not-true}
 use Rattle.std.proofs.lemmas.List.{drop_more, drop_all}
+use Rattle.std.proofs.lemmas.Bool.{cases_lt}
+use Rattle.std.proofs.lemmas.Str.Ascii.{lowercase_is}
 use Rattle.typed_path.specs.declared.errors.CheckedPathError.TheVariants.{InvalidFilename}
 use Rattle.typed_path.specs.declared.scan.separators.Separators.TheVariants.{Either}
 use Rattle.typed_path.specs.components.{windows, dot, slash, backslash, colon, question, is_separator, is_dot, is_dot_dot, root_text, Kind, prefix, root, current, parent, normal, kinds, current_part, root_part, parent_part, name_part, prefix_of, after_mark, after_two, drive, is_drive_letter, to_upper}
@@ -13,7 +15,7 @@ use Rattle.std.specs.Int.{bit_at}
 use Rattle.typed_path.specs.scan.{stands_at, IsFirstOf, IsMask}
 use Rattle.typed_path.proofs.lemmas.scan.Searches.{mask-behind, mask-alike, block-first, block-none}
 use Rattle.typed_path.specs.queries.{is_reserved, is_valid, is_valid_name}
-use Rattle.typed_path.specs.changes.{fault, fault_behind, begins_device, may_be_reserved, is_stray, is_parent_or_device, begins_like_parent_or_device, may_end_stem, begins_with_parent_or_device, has_parent_or_device_behind, has_parent_or_device, begins_with_separator, has_only_valid_names}
+use Rattle.typed_path.specs.changes.{is_in, fault, fault_behind, begins_device, may_be_reserved, is_stray, is_parent_or_device, begins_like_parent_or_device, may_end_stem, begins_with_parent_or_device, has_parent_or_device_behind, has_parent_or_device, begins_with_separator, has_only_valid_names}
 use Rattle.typed_path.proofs.lemmas.components.Segments.{pieces, first_parts, later_parts, body_parts, parts-body}
 use Rattle.typed_path.proofs.lemmas.queries.ValidNames.{reserved-may, valid-found}
 use Rattle.typed_path.proofs.lemmas.changes.Faults.{parts_of-none}
@@ -28,6 +30,41 @@ segment-byte b bs = by (is_separator Either b) (position_or_len (is_separator Ei
     by true n = refl
     by false n = let more : suc n ≡ 1 + n = omega arith in subst (λ m. take m (b ∷ bs) ≡ b ∷ take n bs) more refl
 
+-- a letter and its capital name the same bit of a set
+letter : (set k b : ℕ) → (to_ascii_lowercase b == k) ≡ true → is_in set k ≡ true → is_in set (k - 32) ≡ true → is_in set b ≡ true
+letter set k b e small capital =
+    let is : to_ascii_lowercase b ≡ k = eqb-true _ _ e in
+    ⊎_elim
+    (λ under. ap (is_in set) (sym ((lowercase_is b).1 under) ∙ is) ∙ small)
+    (λ over. ⊎_elim
+    (λ upper. let same : b ≡ k - 32 = omega (arith, (lowercase_is b).0 (omega arith, omega arith), is) in ap (is_in set) same ∙ capital)
+    (λ beyond. ap (is_in set) (sym ((lowercase_is b).2 (omega (arith, beyond))) ∙ is) ∙ small)
+    (cases_lt b 91))
+    (cases_lt b 65)
+
+-- one of some tests holds
+module _ (goal : Bool) where
+  one_of_two : (p q : Bool) → (p ≡ true → goal ≡ true) → (q ≡ true → goal ≡ true) → (p || q) ≡ true → goal ≡ true
+  one_of_two true q f g e = f refl
+  one_of_two false q f g e = g e
+
+-- what a device begins with
+first_in : (a : ℕ) → (to_ascii_lowercase a == 99 || to_ascii_lowercase a == 112 || to_ascii_lowercase a == 97 || to_ascii_lowercase a == 110 || to_ascii_lowercase a == 108) ≡ true → is_in 86026 a ≡ true
+first_in a e =
+    let g = is_in 86026 a in
+    one_of_two g _ _ (one_of_two g _ _ (one_of_two g _ _ (one_of_two g _ _ (λ i. letter 86026 99 a i refl refl) (λ i. letter 86026 112 a i refl refl)) (λ i. letter 86026 97 a i refl refl)) (λ i. letter 86026 110 a i refl refl)) (λ i. letter 86026 108 a i refl refl) e
+
+second_in : (b : ℕ) → (to_ascii_lowercase b == 111 || to_ascii_lowercase b == 114 || to_ascii_lowercase b == 117 || to_ascii_lowercase b == 112) ≡ true → is_in 2473984 b ≡ true
+second_in b e =
+    let g = is_in 2473984 b in
+    one_of_two g _ _ (one_of_two g _ _ (one_of_two g _ _ (λ i. letter 2473984 111 b i refl refl) (λ i. letter 2473984 114 b i refl refl)) (λ i. letter 2473984 117 b i refl refl)) (λ i. letter 2473984 112 b i refl refl) e
+
+both_in : (a b : ℕ) → is_in 86026 a ≡ true → is_in 2473984 b ≡ true → (is_in 86026 a && is_in 2473984 b) ≡ true
+both_in a b e f = ap (λ x. x && is_in 2473984 b) e ∙ f
+
+device_in : (a b : ℕ) → begins_device (to_ascii_lowercase a) (to_ascii_lowercase b) ≡ true → (is_in 86026 a && is_in 2473984 b) ≡ true
+device_in a b e = let each = and_parts (to_ascii_lowercase a == 99 || to_ascii_lowercase a == 112 || to_ascii_lowercase a == 97 || to_ascii_lowercase a == 110 || to_ascii_lowercase a == 108) _ e in both_in a b (first_in a each.0) (second_in b each.1)
+
 -- a segment that is `..` or stands for a device begins as one of them
 like : (segment : List ℕ) → is_parent_or_device segment ≡ true → begins_like_parent_or_device segment ≡ true
 like segment e = by (is_dot_dot segment) (is_reserved windows segment) refl refl e
@@ -35,20 +72,18 @@ like segment e = by (is_dot_dot segment) (is_reserved windows segment) refl refl
     dotted : (text : List ℕ) → is_dot_dot text ≡ true → begins_like_parent_or_device text ≡ true
     dotted [] h = cc
     dotted (a ∷ []) h = cc
-    dotted (a ∷ b ∷ []) h = ap (λ x. x || begins_device (to_ascii_lowercase a) (to_ascii_lowercase b)) h
+    dotted (a ∷ b ∷ []) h =
+        let each = and_parts (a == dot) (b == dot) h in
+        both_in a b (ap (is_in 86026) (eqb-true a dot each.0)) (ap (is_in 2473984) (eqb-true b dot each.1))
     dotted (a ∷ b ∷ c ∷ text) h = cc
-
-    or_true : (x : Bool) → (x || true) ≡ true
-    or_true true = refl
-    or_true false = refl
 
     device : (text : List ℕ) → may_be_reserved text ≡ true → begins_like_parent_or_device text ≡ true
     device [] h = cc
     device (a ∷ []) h = cc
     device (a ∷ b ∷ []) h = cc
-    device (a ∷ b ∷ c ∷ []) h = ap (λ x. (a == dot && b == dot) || x) h ∙ or_true (a == dot && b == dot)
-    device (a ∷ b ∷ c ∷ d ∷ []) h = ap (λ x. (a == dot && b == dot) || x) h ∙ or_true (a == dot && b == dot)
-    device (a ∷ b ∷ c ∷ d ∷ e ∷ text) h = ap (λ x. (a == dot && b == dot) || x) (and_parts _ _ h).0 ∙ or_true (a == dot && b == dot)
+    device (a ∷ b ∷ c ∷ []) h = device_in a b h
+    device (a ∷ b ∷ c ∷ d ∷ []) h = device_in a b h
+    device (a ∷ b ∷ c ∷ d ∷ e ∷ text) h = device_in a b (and_parts (begins_device (to_ascii_lowercase a) (to_ascii_lowercase b)) _ h).0
 
     by : (dots reserved : Bool) → is_dot_dot segment ≡ dots → is_reserved windows segment ≡ reserved → (dots || reserved) ≡ true → begins_like_parent_or_device segment ≡ true
     by true reserved is held h = dotted segment is
@@ -69,7 +104,7 @@ front-like (a ∷ b ∷ rest) e = by (is_separator Either a) (is_separator Eithe
     stem = segment-byte a (b ∷ rest) ∙ ap (λ t. cond (is_separator Either a) [] (a ∷ t)) (segment-byte b rest)
 
     by : (p q : Bool) (more : List ℕ) → begins_like_parent_or_device (cond p [] (a ∷ cond q [] (b ∷ more))) ≡ true
-        → ((a == dot && b == dot) || begins_device (to_ascii_lowercase a) (to_ascii_lowercase b)) ≡ true
+        → (is_in 86026 a && is_in 2473984 b) ≡ true
     by true q more h = cc
     by false true more h = cc
     by false false more h = h
