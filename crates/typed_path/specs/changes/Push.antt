@@ -77,6 +77,12 @@ push_windows base (b ∷ path) =
     else (if has_any_verbatim_prefix (kinds (parts_of windows base)) then spelled (merged (parts_of windows base) (parts_of windows (b ∷ path)))
     else push_behind base (b ∷ path))
 
+-- a path that is put behind its base: it is not empty, and has neither a prefix nor a root
+pub record IsPutBehind (path : List ℕ) : Type 0 where
+  pub filled : is_empty path ≡ false
+  pub unprefixed : has_prefix (kinds (parts_of windows path)) ≡ false
+  pub relative : begins_with_root (kinds (parts_of windows path)) ≡ false
+
 abbrev pub push : Dialect → List ℕ → List ℕ → List ℕ
 push unix base path = push_unix base path
 push windows base path = push_windows base path

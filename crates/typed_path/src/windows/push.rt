@@ -7,7 +7,7 @@ ghost use Rattle.std.specs.Prelude.{◌≡◌, ◌≤◌, ◌+◌, ◌++◌, ℕ
 ghost use Rattle.std.specs.Vec.{vec_capacity, vec_len};
 ghost use Rattle.std.specs.List.{list_any, list_all, slice_split};
 ghost use Rattle.typed_path.specs.components.{windows, is_separator, parts_of, kinds, Part, parts, prefix_of, Found, is_empty};
-ghost use Rattle.typed_path.specs.changes.{push_windows, ended_windows, is_disk_alone, raw_length, FitsPush, without_last_name, merge_by_kind, merged, spelled, spells_anew, IsKnown, is_component, is_row, TellsSpelled, IsSpelledHead, IsStanding, IsMergeable, AreMergeable, AreReadBehind, Stands, IsSpelled, room_of};
+ghost use Rattle.typed_path.specs.changes.{push_windows, ended_windows, is_disk_alone, raw_length, FitsPush, without_last_name, merge_by_kind, merged, spelled, spells_anew, IsKnown, is_component, is_row, TellsSpelled, IsSpelledHead, IsStanding, IsMergeable, AreMergeable, AreReadBehind, Stands, IsSpelled, IsPutBehind, room_of};
 ghost use Rattle.typed_path.specs.queries.{has_any_verbatim_prefix, is_verbatim_prefix, has_prefix};
 ghost use Rattle.typed_path.specs.declared.scan.separators.Separators.{Separators};
 ghost use Rattle.typed_path.specs.views.CursorViews.{items_left};
@@ -104,9 +104,69 @@ pub fn has_verbatim_kind(path: &[u8]) -> bool
 /// known, and answers what is known of what stands there then. Where memory is refused, the text is as
 /// it was.
 ///
-/// So paths are pushed one by one, and a verbatim one is not read anew for each: its prefix is looked
-/// at again only where nothing but a root stood behind it.
+/// So paths are pushed one by one, and a verbatim one is not read anew for each.
+///
+/// Most paths that are pushed so are names, and most bases have no verbatim kind, as the first bytes
+/// of the two tell: such a path is put behind at once, and neither is read.
+#[inline]
 pub fn push_next(
+    text: &mut Vec<u8>,
+    start: usize,
+    other: &[u8],
+    known: Option<usize>,
+) -> Result<Option<usize>, AllocError>
+    requires { start ≤ length text.old.items }
+    ensures ok { IsKnown windows known (drop start text.old.items) → OnOk result (text.new.items
+        ≡ take start text.old.items ++ push_windows (drop start text.old.items) other.now) }
+    ensures known { IsKnown windows known (drop start text.old.items)
+        → IfOk result (λ next. IsKnown windows next (drop start text.new.items)) }
+    ensures err { OnErr result (text.new.items ≡ text.old.items) }
+    ensures capacity { vec_capacity text.old ≤ vec_capacity text.new }
+    ensures succeeds { (room : ℕ) → start + room ≤ vec_capacity text.old
+        → IsKnown windows known (drop start text.old.items)
+        → FitsPush windows room (drop start text.old.items) other.now
+        → IsOk result }
+{
+    if is_plain(other) && !has_verbatim_kind(&text[start..]) {
+        put_behind(text, start, other)?;
+        return Ok(None);
+    }
+    push_read(text, start, other, known)
+}
+
+/// Whether the first bytes of a path tell that it is not empty and has neither a prefix nor a root.
+/// False says nothing.
+#[inline(always)]
+fn is_plain(path: &[u8]) -> bool
+    ensures { IsTrue result → IsPutBehind path.now }
+{
+    match path {
+        [first, ..] => !Separators::Either.contains(*first) && drive(path).is_none(),
+        [] => false,
+    }
+}
+
+/// Puts a path behind the one that stands behind the first bytes of a text, and before it what that
+/// one wants behind it. Where memory is refused, the text is as it was.
+#[inline(always)]
+fn put_behind(text: &mut Vec<u8>, start: usize, other: &[u8]) -> Result<(), AllocError>
+    requires { start ≤ length text.old.items }
+    ensures ok { OnOk result (text.new.items
+        ≡ take start text.old.items
+        ++ (ended_windows (drop start text.old.items) ++ other.now)) }
+    ensures err { OnErr result (text.new.items ≡ text.old.items) }
+    ensures capacity { vec_capacity text.old ≤ vec_capacity text.new }
+    ensures succeeds { (room : ℕ) → start + room ≤ vec_capacity text.old
+        → length (ended_windows (drop start text.old.items) ++ other.now) ≤ room → IsOk result }
+{
+    let separator = separator_behind(&text[start..]);
+    let len = text.len();
+    put_over(text, len, separator, other)
+}
+
+/// The same for every path and every base, where both are read: the prefix of a verbatim base is
+/// looked at again only where nothing but a root stood behind it.
+fn push_read(
     text: &mut Vec<u8>,
     start: usize,
     other: &[u8],

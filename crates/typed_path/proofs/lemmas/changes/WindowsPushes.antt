@@ -1,17 +1,19 @@
 -- What a push of Windows asks of its base, and what stands behind a prefix that is written anew.
-use Rattle.std.proofs.Common.{◌≡◌, ℕ, ◌+◌, ◌-◌, ◌<◌, ◌≤◌, ◌==◌, ◌||◌, Bool, true, false, if◌then◌else◌, List, [], ◌∷◌, ◌++◌, length, take, drop, slice_index, Option, Some, None, refl, sym, ap, subst, ◌∙◌, append-nil, arith, suc, not, append_assoc, length-append, option_and_then, ◌&&◌, slice_range, eq-eqb, eqb-true, length-drop, length-take-le, take-take}
+use Rattle.std.proofs.Common.{ne_eqb, ◌≡◌, ℕ, ◌+◌, ◌-◌, ◌<◌, ◌≤◌, ◌==◌, ◌||◌, Bool, true, false, if◌then◌else◌, List, [], ◌∷◌, ◌++◌, length, take, drop, slice_index, Option, Some, None, refl, sym, ap, subst, ◌∙◌, append-nil, arith, suc, not, append_assoc, length-append, option_and_then, ◌&&◌, slice_range, eq-eqb, eqb-true, length-drop, length-take-le, take-take}
 use Rattle.std.specs.Option.{option_or}
 use Rattle.std.proofs.lemmas.Bool.{false_from_ne_true, both_ways}
 use Rattle.std.proofs.Math.Seq.{take-add, take-append_seam, drop-append-add}
 use Rattle.std.proofs.lemmas.List.{nil_from_length}
-use Rattle.std.specs.List.{AllByRecursion}
+use Rattle.std.specs.List.{AllByRecursion, slice_split, onto_first}
+use Rattle.std.proofs.lemmas.List.Splits.{slice_split-cons_no}
 use Rattle.typed_path.specs.declared.scan.separators.Separators.{Separators}
 use Rattle.typed_path.specs.declared.scan.separators.Separators.TheVariants.{Either, Backslash}
-use Rattle.typed_path.specs.components.{windows, backslash, question, dot, separators, is_separator, Kind, prefix, root, current, parent, normal, disk, device_ns, unc, verbatim, verbatim_disk, verbatim_unc, Part, kinds, is_name, root_part, Found, found, is_empty, drive, after_mark, after_two, after_unc, name, second_name, names_length, prefix_of, device_case, unc_case, disk_case, parts_of, is_dot, is_dot_dot}
+use Rattle.typed_path.specs.components.{current_part, parent_part, name_part, windows, backslash, question, dot, separators, is_separator, Kind, prefix, root, current, parent, normal, disk, device_ns, unc, verbatim, verbatim_disk, verbatim_unc, Part, kinds, is_name, root_part, Found, found, is_empty, drive, after_mark, after_two, after_unc, name, second_name, names_length, prefix_of, device_case, unc_case, disk_case, parts_of, is_dot, is_dot_dot}
 use Rattle.typed_path.specs.queries.{has_prefix, has_any_verbatim_prefix, begins_with_root, is_verbatim_prefix}
-use Rattle.typed_path.specs.changes.{push, push_windows, merged, without_last_name, raw_prefix, spelled, spells_anew, ended_windows, is_disk_alone, merges, FitsBy, FitsPush, names_behind, IsStanding, Stands}
-use Rattle.typed_path.proofs.lemmas.components.Segments.{AreRead, body_parts, body_parts-read}
+use Rattle.typed_path.specs.changes.{push, push_windows, merged, without_last_name, raw_prefix, spelled, spells_anew, ended_windows, is_disk_alone, merges, FitsBy, FitsPush, IsPutBehind, names_behind, IsStanding, Stands}
+use Rattle.typed_path.proofs.lemmas.components.Segments.{AreRead, body_parts, body_parts-read, first_parts, later_parts}
 use Rattle.typed_path.proofs.lemmas.components.Prefixes.{drive-size, Read, of_verbatim_unc, of_verbatim_disk, of_verbatim, of_device, of_unc, of_disk, prefix-read}
+use Rattle.typed_path.proofs.lemmas.components.WindowsNames.{unseparated-none}
 use Rattle.typed_path.proofs.lemmas.changes.Faults.{parts_of-none, parts_of-some}
 use Rattle.typed_path.proofs.lemmas.promises.WindowsBases.{read-no_drive, disk_alone-filled}
 use Rattle.typed_path.proofs.lemmas.lists.Lists.{AllByRecursion-append, IsLastPlace, place-none, place-behind}
@@ -197,6 +199,40 @@ pub push-relative : (base : List ℕ) (path : List ℕ) → (length path == 0) �
     → begins_with_root (kinds (parts_of windows path)) ≡ false → push_windows base path ≡ ended_windows base ++ path
 push-relative base [] some e f g = cc
 push-relative base (b ∷ path) some e f g = rw (e, f, g) refl
+
+-- what begins with no separator of Windows and with no drive is put behind
+pub put_behind-first : (b : ℕ) (bs : List ℕ) → is_separator Either b ≡ false → drive (b ∷ bs) ≡ None → IsPutBehind (b ∷ bs)
+put_behind-first b bs plain no_drive = record {
+  filled = filled bs;
+  unprefixed = ap (λ ps. has_prefix (kinds ps)) read ∙ (first (slice_split (is_separator Either) bs)).0;
+  relative = ap (λ ps. begins_with_root (kinds ps)) read ∙ (first (slice_split (is_separator Either) bs)).1;
+}
+  where
+    filled : (cs : List ℕ) → is_empty (b ∷ cs) ≡ false
+    filled cs = ne_eqb (length (b ∷ cs)) 0 (λ none. omega (arith, none))
+
+    read : parts_of windows (b ∷ bs) ≡ first_parts Either (onto_first b (slice_split (is_separator Either) bs))
+    read = parts_of-none (b ∷ bs) (unseparated-none b bs plain no_drive) ∙ ap (first_parts Either) (slice_split-cons_no (is_separator Either) b bs plain)
+
+    by : (dotted twice : Bool) (name : List ℕ) (others : List (List ℕ))
+        → (has_prefix (kinds ((if dotted then current_part else (if twice then parent_part else name_part name)) ∷ later_parts Either others)) ≡ false)
+        × (begins_with_root (kinds ((if dotted then current_part else (if twice then parent_part else name_part name)) ∷ later_parts Either others)) ≡ false)
+    by true twice name others = (refl, refl)
+    by false true name others = (refl, refl)
+    by false false name others = (refl, refl)
+
+    first : (some : List (List ℕ)) → (has_prefix (kinds (first_parts Either (onto_first b some))) ≡ false) × (begins_with_root (kinds (first_parts Either (onto_first b some))) ≡ false)
+    first [] = rw (filled []) (by (is_dot (b ∷ [])) (is_dot_dot (b ∷ [])) (b ∷ []) [])
+    first (head ∷ others) = rw (filled head) (by (is_dot (b ∷ head)) (is_dot_dot (b ∷ head)) (b ∷ head) others)
+
+-- the same of a text by its first byte
+pub put_behind-told : (path : List ℕ) → 1 ≤ length path → is_separator Either (slice_index path 0) ≡ false → drive path ≡ None → IsPutBehind path
+put_behind-told [] some plain no_drive = absurd (omega (arith, some))
+put_behind-told (b ∷ bs) some plain no_drive = put_behind-first b bs plain no_drive
+
+-- such a path is put behind a base that is not spelled anew
+pub push-put_behind : (base path : List ℕ) → IsPutBehind path → has_any_verbatim_prefix (kinds (parts_of windows base)) ≡ false → push_windows base path ≡ ended_windows base ++ path
+push-put_behind base path is plain = push-relative base path is.filled is.unprefixed plain is.relative
 
 -- a path that stands in a text from one place up to another
 module _ (text : List ℕ) (start end : ℕ) (ordered : start ≤ end) (within : end ≤ length text) where

@@ -1,7 +1,7 @@
 -- Components of another dialect pushed one by one, and names of Unix that are names of Windows too.
-use Rattle.std.proofs.Common.{◌≡◌, ℕ, List, [], ◌∷◌, ◌++◌, Some, refl, sym, ap, ◌∙◌, ◌≤◌, ◌+◌, ◌-◌, map, length, take, drop, slice_range, subst, length-append, length-take-le, arith, ◌==◌, ◌&&◌, Bool, true, false, not, if◌then◌else◌, Option, None, Ok, Err, Result, IsErrAnd, take_all, length-drop}
+use Rattle.std.proofs.Common.{◌≡◌, ℕ, List, [], ◌∷◌, ◌++◌, Some, refl, sym, ap, ◌∙◌, ◌≤◌, ◌+◌, ◌-◌, map, length, take, drop, slice_range, subst, length-append, length-take-le, arith, append_assoc, ◌==◌, ◌&&◌, Bool, true, false, not, if◌then◌else◌, Option, None, Ok, Err, Result, IsErrAnd, take_all, length-drop}
 use Rattle.std.proofs.Math.Seq.{drop-append_seam, take-append_seam}
-use Rattle.std.proofs.lemmas.List.{drop-take, map-append}
+use Rattle.std.proofs.lemmas.List.{drop-take, map-append, take-append-drop}
 use Rattle.std.proofs.lemmas.List.Sums.{fold-append}
 use Rattle.std.specs.List.{list_any, AllByRecursion}
 use Rattle.std.specs.Option.{option_or}
@@ -102,6 +102,13 @@ put-whole start old new path within e =
 -- and one that is put behind all of it
 pub put-behind : (start : ℕ) (old new path : List ℕ) → length old ≡ start → new ≡ old ++ path → (drop start new ≡ path) × (take start new ≡ take start old) × (start ≤ length new)
 put-behind start old new path size e = put-whole start old new path (omega (arith, size)) (e ∙ ap (λ t. t ++ path) (sym (take_all start old (omega (arith, size)))))
+
+-- what is put behind a text is put behind the end of it
+pub put-ended : (start len : ℕ) (text separator other : List ℕ) → len ≡ length text → take len text ++ separator ++ other ≡ take start text ++ ((drop start text ++ separator) ++ other)
+put-ended start len text separator other size =
+    ap (λ t. t ++ separator ++ other) (take_all len text (omega (arith, size)) ∙ sym (take-append-drop start text))
+    ∙ ap (λ t. t ++ other) (append_assoc (take start text) (drop start text) separator)
+    ∙ append_assoc (take start text) (drop start text ++ separator) other
 
 -- Names of Unix that are names of Windows too, and components that are pushed one by one unless one of them has a fault.
 

@@ -1,12 +1,28 @@
-use Rattle.std.proofs.Common.{◌≡◌, true≢false, length, drop, slice_range, refl, sym, ap, subst, ◌∙◌}
-use Rattle.typed_path.specs.components.{windows}
-use Rattle.typed_path.specs.changes.{FitsPush, IsKnown}
+use Rattle.std.proofs.Common.{◌≡◌, ◌≤◌, ◌++◌, List, ℕ, Bool, true≢false, false, length, take, drop, slice_range, sym, ap, subst, ◌∙◌}
+use Rattle.typed_path.specs.components.{windows, parts_of, kinds}
+use Rattle.typed_path.specs.queries.{has_any_verbatim_prefix}
+use Rattle.typed_path.specs.changes.{push_windows, ended_windows}
 use Rattle.typed_path.proofs.lemmas.conversions.Crossings.{whole_range}
+use Rattle.typed_path.proofs.lemmas.changes.WindowsPushes.{push-put_behind, fits-plain}
 use Rattle.typed_path.proofs.windows.push.push_next.Goals as goal
 
-pub returns-in_err-push_at-clause-succeeds : goal.returns-in_err-push_at-clause-succeeds
-returns-in_err-push_at-clause-succeeds c = λ room within known fits.
+-- what is told of the end of a text that is another's
+unmarked : (old items : List ℕ) (start : ℕ) (told : Bool) → items ≡ old → told ≡ has_any_verbatim_prefix (kinds (parts_of windows (slice_range items start (length items)))) → told ≡ false
+    → has_any_verbatim_prefix (kinds (parts_of windows (drop start old))) ≡ false
+unmarked old items start told same is none = ap (λ t. has_any_verbatim_prefix (kinds (parts_of windows t))) (sym (whole_range old items start same)) ∙ sym is ∙ none
+
+pub returns-in_err-put_behind-clause-succeeds : goal.returns-in_err-put_behind-clause-succeeds
+returns-in_err-put_behind-clause-succeeds c = λ room within known fits.
     let old = c.args.text.now.items in
-    let size : c.len-len.result ≡ length old = c.len-len.ensures ∙ c.args.text.now.ok.0 in
-    let whole : drop c.args.start old ≡ slice_range old c.args.start c.len-len.result = sym (whole_range old old c.args.start refl) ∙ ap (slice_range old c.args.start) (sym size) in
-    absurd (true≢false (sym (c.in_err-push_at.ensures.succeeds room within (subst (IsKnown windows c.args.known) whole known) (subst (λ t. FitsPush windows room t c.args.other.now) whole fits))))
+    let other = c.args.other.now in
+    let base = drop c.args.start old in
+    let none = unmarked old c.deref.result.now c.args.start c.has_verbatim_kind.result c.deref.ensures.value c.has_verbatim_kind.ensures c.if-not-has_verbatim_kind.true in
+    let pushed = push-put_behind base other (c.is_plain.ensures c.if-is_plain.true) none in
+    absurd (true≢false (sym {a = false} (c.in_err-put_behind.ensures.succeeds room within (subst (λ t. length t ≤ room) pushed (fits-plain room base other none fits)))))
+
+pub returns-then-not-has_verbatim_kind-clause-ok : goal.returns-then-not-has_verbatim_kind-clause-ok
+returns-then-not-has_verbatim_kind-clause-ok c = λ known.
+    let old = c.args.text.now.items in
+    let base = drop c.args.start old in
+    let none = unmarked old c.deref.result.now c.args.start c.has_verbatim_kind.result c.deref.ensures.value c.has_verbatim_kind.ensures c.if-not-has_verbatim_kind.true in
+    c.in_ok-put_behind.ensures.ok ∙ ap (λ u. take c.args.start old ++ u) (sym (push-put_behind base c.args.other.now (c.is_plain.ensures c.if-is_plain.true) none))
