@@ -4,8 +4,8 @@ ghost use Rattle.std.specs.Prelude.{◌≡◌, ◌≤◌, ◌+◌, ◌++◌, ℕ
 ghost use Rattle.std.specs.Option.{option_to_list};
 ghost use Rattle.std.specs.Vec.{vec_capacity};
 ghost use Rattle.typed_path.specs.declared.errors.CheckedPathError.{CheckedPathError};
-ghost use Rattle.typed_path.specs.components.{parts_of, unix, windows};
-ghost use Rattle.typed_path.specs.conversions.{same_dialect, converted, converted_checked, FitsConverted, crossed, crossed_all, is_never_refused, crossing_fault, push_checked_each, platform, absolute_from};
+ghost use Rattle.typed_path.specs.components.{parts_of, kinds, unix, windows};
+ghost use Rattle.typed_path.specs.conversions.{AllowsOnWindows, same_dialect, converted, converted_checked, FitsConverted, crossed, crossed_all, is_never_refused, crossing_fault, push_checked_each, platform, absolute_from};
 ghost use Rattle.typed_path.specs.changes.{refusal, error_of, fault, FitsEach, IsKnown};
 ghost use Rattle.typed_path.specs.views.SpanViews.{span_bytes};
 ghost use Rattle.typed_path.specs.views.PieceViews.{part_of};
@@ -13,7 +13,7 @@ ghost use Rattle.typed_path.specs.views.PieceViews.{part_of};
 use crate::common::{Encoding, Path, PathBuf, cut_back};
 use crate::errors::{AbsolutizeError, CheckedPathError, PathError};
 use crate::platform::{PlatformEncoding, PlatformPath, PlatformPathBuf};
-use crate::scan::{Piece, PieceKind, Span, is_dots};
+use crate::scan::{Piece, PieceKind, Separators, Span, has_forbidden, is_dots};
 use crate::unix::{UnixEncoding, UnixPathBuf};
 use crate::windows::{WindowsEncoding, WindowsPathBuf};
 use std::alloc::{AllocError, Global};
@@ -275,11 +275,28 @@ pub fn convert_checked<T: Encoding, U: Encoding>(
 {
     let cursor = T::cursor(path.as_bytes()).within(path);
     let mut known = push_prefix_checked::<U>(text, start, cursor.prefix_piece())?;
+    let allowed = allows_each::<T, U>(path.as_bytes());
     let mut body = cursor.body();
     'steps: while let Some(step) = body.front() {
-        known = push_piece_checked::<U>(text, start, step.piece(), known)?;
+        known = push_piece_checked::<U>(text, start, step.piece(), known, allowed)?;
     }
     Ok(())
+}
+
+/// Whether one look at the bytes of a path tells that each of its names has bytes that the other
+/// encoding, which is that of Windows, allows: then no name is looked through anew. False says
+/// nothing.
+#[inline(always)]
+fn allows_each<T: Encoding, U: Encoding>(path: &[u8]) -> bool
+    ensures { IsTrue result → AllowsOnWindows U.dialect (kinds (parts_of T.dialect path.now)) }
+{
+    if !have_one_label::<T, UnixEncoding>() {
+        return false;
+    }
+    if !have_one_label::<U, WindowsEncoding>() {
+        return false;
+    }
+    !has_forbidden(path, (b'\\', b'\\'))
 }
 
 /// Pushes the prefix of a path, where it has one, onto the path at the end of a text, which is one of
@@ -301,7 +318,7 @@ fn push_prefix_checked<U: Encoding>(
     ensures long { start ≤ length text.new.items }
 {
     match prefix {
-        Some(piece) => push_piece_checked::<U>(text, start, piece, None),
+        Some(piece) => push_piece_checked::<U>(text, start, piece, None, false),
         None => Ok(None),
     }
 }
@@ -315,8 +332,11 @@ fn push_piece_checked<U: Encoding>(
     start: usize,
     piece: Piece<'_>,
     known: Option<usize>,
+    allowed: bool,
 ) -> Result<Option<usize>, PathError>
-    requires { start ≤ length text.old.items }
+    requires within { start ≤ length text.old.items }
+    requires allowed { IsTrue allowed
+        → AllowsOnWindows U.dialect ((part_of piece).kind ∷ []) }
     ensures ok { IsKnown U.dialect known (drop start text.old.items) → OnOk result
         (push_checked_each U.dialect (Ok (drop start text.old.items)) (part_of piece.entry ∷ [])
         ≡ Ok (drop start text.new.items)) }
@@ -330,16 +350,21 @@ fn push_piece_checked<U: Encoding>(
     ensures long { IsKnown U.dialect known (drop start text.old.items)
         → start ≤ length text.new.items }
 {
-    check_component::<U>(piece)?;
+    check_component::<U>(piece, allowed)?;
     Ok(U::push_next(text, start, piece.crossed(U::root_text()), known)?)
 }
 
 /// Judges a component that is to be pushed onto a path of another encoding. A root, `.` or `..` is
-/// never refused, and most others are names that the encoding allows, which need no reading.
+/// never refused, and most others are names that the encoding allows, which need no reading. Of a
+/// name that is known to have allowed bytes the bytes are not looked at.
 #[inline(always)]
-fn check_component<U: Encoding>(piece: Piece<'_>) -> Result<(), CheckedPathError>
+fn check_component<U: Encoding>(piece: Piece<'_>, allowed: bool) -> Result<(), CheckedPathError>
+    requires { IsTrue allowed → AllowsOnWindows U.dialect ((part_of piece).kind ∷ []) }
     ensures { error_of result ≡ crossing_fault U.dialect (part_of piece.entry) }
 {
+    if allowed && is_free_name(piece) {
+        return Ok(());
+    }
     if is_never_refused(piece) || is_name::<U>(piece.text) {
         Ok(())
     } else {
@@ -353,6 +378,21 @@ fn is_name<U: Encoding>(text: &[u8]) -> bool
     ensures { IsTrue result → fault U.dialect text.now ≡ None }
 {
     !is_dots(text) && U::valid(text)
+}
+
+/// Whether a component of bytes that Windows allows is a name that stands for no device.
+#[inline(always)]
+fn is_free_name(piece: Piece<'_>) -> bool
+    ensures { IsTrue result → AllowsOnWindows windows ((part_of piece.entry).kind ∷ [])
+        → crossing_fault windows (part_of piece.entry) ≡ None }
+{
+    if is_dots(piece.text) {
+        return false;
+    }
+    match piece.kind {
+        PieceKind::Normal => !Separators::Either.is_reserved(piece.text),
+        _ => false,
+    }
 }
 
 /// Whether a component is never refused: a root, and every prefix that becomes one, `.` or `..`.

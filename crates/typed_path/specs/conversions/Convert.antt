@@ -1,11 +1,12 @@
 -- A path in another dialect, and made absolute.
-use Rattle.std.specs.Prelude.{ℕ, List, [], ◌∷◌, Bool, true, false, ◌≤◌, map, length, if◌then◌else◌, Option, Some, None, Ok, Err}
+use Rattle.std.specs.Prelude.{◌≡◌, ℕ, List, [], ◌∷◌, Bool, true, false, ◌≤◌, map, length, if◌then◌else◌, Option, Some, None, Ok, Err}
+use Rattle.std.specs.List.{AllByRecursion}
 use Rattle.std.specs.declared.result.Result.{Result}
 use Rattle.typed_path.specs.declared.errors.CheckedPathError.{CheckedPathError}
 use Rattle.typed_path.specs.components.Dialects.{Dialect, unix, windows, root_of}
 use Rattle.typed_path.specs.components.Parts.{Kind, current, parent, Part, kinds}
 use Rattle.typed_path.specs.components.Comps.{parts_of}
-use Rattle.typed_path.specs.queries.Queries.{is_root, is_absolute}
+use Rattle.typed_path.specs.queries.Queries.{is_root, is_absolute, kind_has_allowed_bytes}
 use Rattle.typed_path.specs.changes.Push.{push, push_all}
 use Rattle.typed_path.specs.changes.Run.{FitsEach}
 use Rattle.typed_path.specs.changes.Fault.{fault}
@@ -57,6 +58,10 @@ push_checked_each e (Ok base) (p ∷ ps) = push_checked_each e (push_unless e ba
 -- the same by checked pushes, which has no shortcut for its own dialect and ends at the first fault
 abbrev pub converted_checked : Dialect → Dialect → List ℕ → Result (List ℕ) CheckedPathError
 converted_checked d e t = push_checked_each e (Ok []) (parts_of d t)
+
+-- each component that crosses to Windows has bytes that a name may have there
+abbrev pub AllowsOnWindows : Dialect → List Kind → Type 0
+AllowsOnWindows e ks = (e ≡ windows) × AllByRecursion (λ k. kind_has_allowed_bytes windows k ≡ true) ks
 
 -- the dialect of the machine
 abbrev pub platform : Dialect

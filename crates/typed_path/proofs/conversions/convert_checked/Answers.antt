@@ -1,23 +1,20 @@
-use Rattle.std.proofs.Common.{◌≡◌, List, ℕ, ap, sym, refl, ◌∙◌, Some, None, ◌∷◌, [], length, drop, arith, option_map, Ok}
+use Rattle.std.proofs.Common.{◌≡◌, List, ℕ, ap, sym, refl, subst, ◌∙◌, Some, None, ◌∷◌, [], length, drop, arith, option_map, Ok}
 use Rattle.std.proofs.lemmas.List.{drop_all}
 use Rattle.std.specs.Option.{option_to_list}
-use Rattle.typed_path.specs.components.{comps, parts_of, parts}
-use Rattle.typed_path.specs.conversions.{push_checked_each}
+use Rattle.typed_path.specs.components.{kinds, comps, parts_of, parts}
+use Rattle.typed_path.specs.conversions.{AllowsOnWindows, push_checked_each}
 use Rattle.typed_path.specs.queries.{behind_prefix}
 use Rattle.typed_path.specs.views.BodyViews.{body_items}
 use Rattle.typed_path.specs.views.CursorViews.{items_left}
 use Rattle.typed_path.specs.views.SpanViews.{span_bytes}
 use Rattle.typed_path.specs.views.PieceViews.{part_of, step_part}
-use Rattle.typed_path.proofs.lemmas.conversions.Crossings.{pushed-first, refused-whole, pushed-all, refusal-passed}
+use Rattle.typed_path.proofs.lemmas.conversions.Crossings.{allows-taken, allows-left, pushed-first, refused-whole, pushed-all, refusal-passed}
 use Rattle.typed_path.proofs.lemmas.scan.Steps.{parts-prefixed, yields_first, fewer}
 use Rattle.typed_path.proofs.conversions.convert_checked.Goals as goal
 
 -- at the end of a text stands the empty path
 empty : (start : ℕ) (text : List ℕ) → length text ≡ start → drop start text ≡ []
 empty start text e = drop_all start text (omega (arith, e))
-
-pub push_piece_checked-requires : goal.push_piece_checked-requires
-push_piece_checked-requires g c = c.steps.invariant.long
 
 pub returns-in_err-known-2-clause-kept : goal.returns-in_err-known-2-clause-kept
 returns-in_err-known-2-clause-kept g c = c.in_err-known-2.ensures.kept c.steps.invariant.known ∙ c.steps.invariant.kept
@@ -43,6 +40,8 @@ steps-init g c =
           (ap (λ t. push_checked_each e (Ok t) (option_to_list (option_map part_of c.prefix_piece.result))) (sym (empty c.args.start c.args.text.now.items c.requires)) ∙ c.in_ok-known.ensures.ok);
       kept = c.in_ok-known.ensures.kept;
       long = c.in_ok-known.ensures.long;
+      allowed = λ told. allows-left e (option_to_list (option_map part_of c.prefix_piece.result)) (parts (body_items c.body-body.result)) (parts_of g.T.Encoding.dialect (span_bytes c.args.path)) split
+          (subst (λ t. AllowsOnWindows e (kinds (parts_of g.T.Encoding.dialect t))) c.as_bytes-2.ensures (c.allows_each-allowed.ensures told));
       known = c.in_ok-known.ensures.known;
     }
 
@@ -71,6 +70,7 @@ steps-preserved g c =
           ∙ c.steps.invariant.pushed;
       kept = c.in_ok-known-2.ensures.kept c.steps.invariant.known ∙ c.steps.invariant.kept;
       long = c.in_ok-known-2.ensures.long c.steps.invariant.known;
+      allowed = λ told. (allows-taken e (step_part c.in-Some.step) (parts (body_items c.front.new.self)) old taken (c.steps.invariant.allowed told)).1;
       known = c.in_ok-known-2.ensures.known c.steps.invariant.known;
     }
 

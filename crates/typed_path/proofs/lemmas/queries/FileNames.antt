@@ -171,18 +171,18 @@ abbrev IsAllowedPart : Dialect → Part → Type 0
 IsAllowedPart d p = kind_has_allowed_bytes d p.kind ≡ true
 
 -- between two separators no such byte stands
-allowed-pieces : (s : Separators) (text : List ℕ) → SeparatesDisallowed s text → AllByRecursion (IsAllowed (dialect_of s)) (pieces s text)
-allowed-pieces s [] h = (refl, tt)
-allowed-pieces s (x ∷ xs) h =
-    by (is_separator s x) (is_disallowed (dialect_of s) x) refl refl (All-head (λ b. is_disallowed (dialect_of s) b ≡ true → is_separator s b ≡ true) x xs h) (slice_split (is_separator s) xs)
-    (allowed-pieces s xs (All-tail (λ b. is_disallowed (dialect_of s) b ≡ true → is_separator s b ≡ true) x xs h))
+pub allowed-pieces : (s : Separators) (d : Dialect) (text : List ℕ) → All (λ b. is_disallowed d b ≡ true → is_separator s b ≡ true) text → AllByRecursion (IsAllowed d) (pieces s text)
+allowed-pieces s d [] h = (refl, tt)
+allowed-pieces s d (x ∷ xs) h =
+    by (is_separator s x) (is_disallowed d x) refl refl (All-head (λ b. is_disallowed d b ≡ true → is_separator s b ≡ true) x xs h) (slice_split (is_separator s) xs)
+    (allowed-pieces s d xs (All-tail (λ b. is_disallowed d b ≡ true → is_separator s b ≡ true) x xs h))
   where
-    by : (separates disallowed : Bool) → is_separator s x ≡ separates → is_disallowed (dialect_of s) x ≡ disallowed → (is_disallowed (dialect_of s) x ≡ true → is_separator s x ≡ true)
-        → (ps : List (List ℕ)) → AllByRecursion (IsAllowed (dialect_of s)) ps → AllByRecursion (IsAllowed (dialect_of s)) (cond separates ([] ∷ ps) (onto_first x ps))
+    by : (separates disallowed : Bool) → is_separator s x ≡ separates → is_disallowed d x ≡ disallowed → (is_disallowed d x ≡ true → is_separator s x ≡ true)
+        → (ps : List (List ℕ)) → AllByRecursion (IsAllowed d) ps → AllByRecursion (IsAllowed d) (cond separates ([] ∷ ps) (onto_first x ps))
     by true disallowed e f g ps all = (refl, all)
     by false true e f g ps all = absurd (true≢false (sym (g f) ∙ e))
     by false false e f g [] all = (ap (λ b. b || false) f, tt)
-    by false false e f g (p ∷ ps) all = (ap (λ b. b || list_any (is_disallowed (dialect_of s)) p) f ∙ all.0, all.1)
+    by false false e f g (p ∷ ps) all = (ap (λ b. b || list_any (is_disallowed d) p) f ∙ all.0, all.1)
 
 -- the component of a piece, by what the piece is
 module _ (s : Separators) (d : Dialect) (piece : List ℕ) (allowed : IsAllowed d piece) where
@@ -207,12 +207,12 @@ module _ (s : Separators) (d : Dialect) where
       AllByRecursion-append (IsAllowedPart d) (later_part s p) (later_parts s ps)
       (allowed-later s d p all.0 (length p == 0) (is_dot p) (is_verbatim s) (is_dot_dot p)) (allowed-later_parts ps all.1)
 
-  allowed-first_parts : (ps : List (List ℕ)) → AllByRecursion (IsAllowed d) ps → AllByRecursion (IsAllowedPart d) (first_parts s ps)
+  pub allowed-first_parts : (ps : List (List ℕ)) → AllByRecursion (IsAllowed d) ps → AllByRecursion (IsAllowedPart d) (first_parts s ps)
   allowed-first_parts [] all = tt
   allowed-first_parts (p ∷ ps) all = (allowed-first s d p all.0 (length p == 0) (is_dot p) (is_dot_dot p), allowed-later_parts ps all.1)
 
 -- the kinds of such components
-allowed-kinds : (d : Dialect) (ps : List Part) → AllByRecursion (IsAllowedPart d) ps → AllowsEach d (kinds ps)
+pub allowed-kinds : (d : Dialect) (ps : List Part) → AllByRecursion (IsAllowedPart d) ps → AllowsEach d (kinds ps)
 allowed-kinds d [] all = tt
 allowed-kinds d (p ∷ ps) all = (all.0, allowed-kinds d ps all.1)
 
@@ -222,7 +222,7 @@ pub allowed-body_from : (begin : Begin) (s : Separators) (at : ℕ) (text : List
 allowed-body_from Body s at [] h = tt
 allowed-body_from Body s at (b ∷ bs) h =
     subst (λ ps. AllowsEach (dialect_of s) (kinds ps)) (sym (parts-body s at (b ∷ bs)))
-    (allowed-kinds (dialect_of s) (body_parts s (b ∷ bs)) (allowed-first_parts s (dialect_of s) (pieces s (b ∷ bs)) (allowed-pieces s (b ∷ bs) h)))
+    (allowed-kinds (dialect_of s) (body_parts s (b ∷ bs)) (allowed-first_parts s (dialect_of s) (pieces s (b ∷ bs)) (allowed-pieces s (dialect_of s) (b ∷ bs) h)))
 allowed-body_from Inside s at text h =
     subst (λ ps. AllowsEach (dialect_of s) (kinds ps)) (sym (parts-later_body s at text))
-    (allowed-kinds (dialect_of s) (later_parts s (pieces s text)) (allowed-later_parts s (dialect_of s) (pieces s text) (allowed-pieces s text h)))
+    (allowed-kinds (dialect_of s) (later_parts s (pieces s text)) (allowed-later_parts s (dialect_of s) (pieces s text) (allowed-pieces s (dialect_of s) text h)))

@@ -1,7 +1,6 @@
 use Rattle.std.proofs.Common.{◌≡◌, ◌≤◌, ◌++◌, List, ℕ, Bool, true≢false, false, length, take, drop, slice_range, sym, ap, subst, ◌∙◌}
 use Rattle.typed_path.specs.components.{windows, parts_of, kinds}
 use Rattle.typed_path.specs.queries.{has_any_verbatim_prefix}
-use Rattle.typed_path.specs.changes.{push_windows, ended_windows}
 use Rattle.typed_path.proofs.lemmas.conversions.Crossings.{whole_range}
 use Rattle.typed_path.proofs.lemmas.changes.WindowsPushes.{push-put_behind, fits-plain}
 use Rattle.typed_path.proofs.windows.push.push_next.Goals as goal
