@@ -283,6 +283,10 @@ pub fn convert_checked<T: Encoding, U: Encoding>(
     Ok(())
 }
 
+/// How many bytes a path has at most of which all are looked at before its first component is judged: so
+/// a long path that is refused at its front is refused there.
+const LOOK: usize = 4_096;
+
 /// Whether one look at the bytes of a path tells that each of its names has bytes that the other
 /// encoding, which is that of Windows, allows: then no name is looked through anew. False says
 /// nothing.
@@ -294,6 +298,9 @@ fn allows_each<T: Encoding, U: Encoding>(path: &[u8]) -> bool
         return false;
     }
     if !have_one_label::<U, WindowsEncoding>() {
+        return false;
+    }
+    if LOOK < path.len() {
         return false;
     }
     !has_forbidden(path, (b'\\', b'\\'))
