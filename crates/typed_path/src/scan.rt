@@ -9,8 +9,7 @@ mod step;
 
 pub use cursor::{Begin, Body, Cursor, Span};
 pub use cut::{
-    base_end, bodies_behind_shared, cut_at, cut_at_separator, order_of_bodies, order_of_texts,
-    text_behind,
+    base_end, bodies_behind_shared, cut_at, cut_at_separator, order_of_texts, text_behind,
 };
 pub use lanes::{first_between, has_forbidden};
 pub use prefix::{Found, WindowsPrefix, after_mark, drive, find_prefix, parted_drive};

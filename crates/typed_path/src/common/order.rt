@@ -22,7 +22,7 @@ use crate::common::components::Reading;
 use crate::common::encoding::Encoding;
 use crate::common::path::Path;
 use crate::common::path_buf::PathBuf;
-use crate::scan::{Body, Step, StepKind, WindowsPrefix, bodies_behind_shared, order_of_bodies};
+use crate::scan::{Body, Step, StepKind, WindowsPrefix, bodies_behind_shared};
 use std::cmp::Ordering;
 use std::hash::{Hash, Hasher};
 
@@ -102,21 +102,10 @@ fn compare_components<T: Encoding>(path: &[u8], other: &[u8]) -> Ordering
         (None, Some(_)) => return order_of_prefixed(own.body()).reverse(),
         (None, None) => {}
     }
-    compare_bodies(own.body(), others.body())
+    compare_each(own.body(), others.body())
 }
 
-/// The order of what two readings have left: by their bytes where these tell, and else from the front.
-#[inline(always)]
-fn compare_bodies(rest: Body<'_>, wanted: Body<'_>) -> Ordering
-    ensures { result ≡ left_cmp (body_items rest.entry) (body_items wanted.entry) }
-{
-    match order_of_bodies(&rest, &wanted) {
-        Some(order) => order,
-        None => compare_each(rest, wanted),
-    }
-}
-
-/// The same, component by component.
+/// The order of what two readings have left, component by component.
 #[inline(always)]
 fn compare_each(rest: Body<'_>, wanted: Body<'_>) -> Ordering
     ensures { result ≡ left_cmp (body_items rest.entry) (body_items wanted.entry) }

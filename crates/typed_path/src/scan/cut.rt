@@ -160,19 +160,6 @@ fn shared_front<'a>(text: &'a [u8], other: &[u8], separators: Separators) -> &'a
     &shared[..separators.last_in(shared)]
 }
 
-/// The order of two readings, where the bytes of their texts tell. None says nothing.
-#[inline(always)]
-pub fn order_of_bodies(rest: &Body<'_>, wanted: &Body<'_>) -> Option<Ordering>
-    ensures { IfSome result
-        (λ order. left_cmp (body_items rest.now) (body_items wanted.now) ≡ order) }
-{
-    let separators = rest.separators;
-    if !rest.is_whole() || !wanted.is_whole() || !separators.is_same(wanted.separators) {
-        return None;
-    }
-    order_of_texts(rest.as_bytes(), wanted.as_bytes(), separators)
-}
-
 /// The order of two texts that are read from their beginnings, where the bytes tell: the texts are one,
 /// or behind the last separator that both begin with both go on with a name, and the names differ.
 /// None says nothing.

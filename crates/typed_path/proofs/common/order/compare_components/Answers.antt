@@ -36,7 +36,7 @@ returns g c =
       | in-Some-Some+else-is_ne w ↦ prefixes-alike cs ds (prefix_view w.in-Some-Some.prefix) (prefix_view w.in-Some-Some.other) w.compare_prefixes-order.result w.in-Some-Some.ensures w.in-Some-Some.ensures' w.compare_prefixes-order.ensures (sym w.is_ne.ensures ∙ w.if-is_ne.false)
       | in-None-None w ↦ prefixes-none cs ds w.in-None-None.ensures w.in-None-None.ensures'
     ] in
-    c.compare_bodies.ensures
+    c.compare_each.ensures
     ∙ ap₂ left_cmp c.body-2.ensures c.body-3.ensures
     ∙ behind
     ∙ ap₂ left_cmp c.cursor-own.ensures.items c.cursor-others.ensures.items
