@@ -11,7 +11,7 @@ pub use cursor::{Begin, Body, Cursor, Span};
 pub use cut::{
     base_end, bodies_behind_shared, cut_at, cut_at_separator, order_of_texts, text_behind,
 };
-pub use lanes::{first_between, has_forbidden};
+pub use lanes::{first_between, has_forbidden, has_only_names};
 pub use prefix::{Found, WindowsPrefix, after_mark, drive, find_prefix, parted_drive};
 pub use separators::{Separators, has_parent_or_device, has_valid_names};
 pub use step::{Piece, PieceKind, Step, StepKind, is_dots, step_of};

@@ -4,6 +4,7 @@
 -- Joins: a text put behind another, a list merged into another, and lists spelled and read again
 -- WindowsPushes: what a push of Windows asks of its base, and what stands behind a prefix that is written anew
 -- SpelledTexts: a text of Windows that is spelled as it is read, and what a push writes anew
+-- NamePieces: texts of which looks at their bytes tell that all their pieces are names, and how such a text is merged
 -- MergedInPlace: components as they are read, merged behind a prefix, and read again
 -- Runs: lists of operations, one operation more
 pub mod Faults
@@ -11,5 +12,6 @@ pub mod ValidPaths
 pub mod Joins
 pub mod WindowsPushes
 pub mod SpelledTexts
+pub mod NamePieces
 pub mod MergedInPlace
 pub mod Runs

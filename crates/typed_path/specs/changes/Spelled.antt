@@ -1,12 +1,13 @@
 -- The texts of Windows that a push spells anew as they stand, and how such a text is written.
-use Rattle.std.specs.Prelude.{◌≡◌, ℕ, ◌+◌, List, [], ◌∷◌, ◌++◌, length, sum_by, if◌then◌else◌, Bool, true, false, not, ◌&&◌, ◌||◌, Option, Some, None, ⊤}
+use Rattle.std.specs.Prelude.{◌≡◌, ℕ, ◌+◌, List, [], ◌∷◌, ◌++◌, length, sum_by, slice_index, if◌then◌else◌, Bool, true, false, not, ◌&&◌, ◌||◌, ◌==◌, Option, Some, None, ⊤}
 use Rattle.std.specs.List.{list_any, list_all, slice_split, All, AllByRecursion}
 use Rattle.typed_path.specs.declared.scan.separators.Separators.{Separators}
 use Rattle.typed_path.specs.declared.scan.separators.Separators.TheVariants.{Slash, Backslash}
-use Rattle.typed_path.specs.components.Dialects.{Dialect, unix, windows, backslash, is_separator, is_verbatim}
+use Rattle.typed_path.specs.components.Dialects.{Dialect, unix, windows, dot, backslash, is_separator, is_verbatim}
 use Rattle.typed_path.specs.components.Parts.{Kind, prefix, root, current, parent, normal, Part, is_name, root_part}
 use Rattle.typed_path.specs.components.Prefixes.{is_empty, prefix_of}
 use Rattle.typed_path.specs.components.Comps.{is_dot, is_dot_dot, parts_of}
+use Rattle.typed_path.specs.scan.Masks.{is_one_of, stands_at}
 use Rattle.typed_path.specs.queries.Queries.{begins_with_root, has_prefix}
 use Rattle.typed_path.specs.changes.Push.{spelled, spells_anew, raw_length}
 
@@ -46,6 +47,14 @@ names_behind parted (p ∷ ps) = (if parted then backslash ∷ [] else []) ++ p.
 -- a piece that is a name, where it holds no separator
 abbrev pub is_name_piece : List ℕ → Bool
 is_name_piece piece = not (is_empty piece || is_dot piece || is_dot_dot piece)
+
+-- a piece that begins with these two bytes is empty, or begins as `.` or `..`
+abbrev pub begins_no_name : ℕ × ℕ → ℕ → ℕ → Bool
+begins_no_name pair a b = is_one_of pair a || (a == dot && (is_one_of pair b || b == dot))
+
+-- one of a pair stands at a place of a text, and such a piece behind it
+abbrev pub begins_no_name_at : ℕ × ℕ → List ℕ → ℕ → Bool
+begins_no_name_at pair text k = stands_at pair text k && begins_no_name pair (slice_index text (k + 1)) (slice_index text (k + 2))
 
 -- a component as it stands between two `\`: it is a name unless it is `.` or `..`
 pub record IsStanding (p : Part) : Type 0 where

@@ -1,12 +1,13 @@
 //! Bytes found by blocks of 32, of 16, of 8 and of 4. What is looked for is a pair, which is one
 //! byte twice where no other is: so one and two are looked for in the same way. Of the bytes that no
-//! name of Windows may have, it is only told whether a text has one.
+//! name of Windows may have, it is only told whether a text has one, and of what stands between the
+//! bytes of a pair, whether all are names.
 
-ghost use Rattle.std.specs.Prelude.{◌≡◌, ◌≢◌, ◌≤◌, ◌<◌, ◌+◌, ◌^◌, ◌==◌, ℕ, Bool, length, min, slice_index};
+ghost use Rattle.std.specs.Prelude.{◌≡◌, ◌≢◌, ◌≤◌, ◌<◌, ◌+◌, ◌-◌, ◌^◌, ◌==◌, ℕ, Bool, true, IsTrue, length, min, slice_index};
 ghost use Rattle.std.specs.Int.{bit_at};
-ghost use Rattle.std.specs.List.{list_any};
+ghost use Rattle.std.specs.List.{list_any, list_all, slice_split};
 ghost use Rattle.std.specs.Slice.Scan.{HoldsNowhere, IsFirstPlace};
-ghost use Rattle.typed_path.specs.changes.{is_forbidden, is_forbidden_or, forbidden_at};
+ghost use Rattle.typed_path.specs.changes.{is_forbidden, is_forbidden_or, forbidden_at, begins_no_name, begins_no_name_at, is_name_piece};
 ghost use Rattle.typed_path.specs.scan.{IsMask, TellsWhether, is_one_of, stands_at, differs_at, IsFirstOf, IsBehindLastOf};
 
 use std::simd::prelude::*;
@@ -467,4 +468,77 @@ pub fn has_forbidden(text: &[u8], pair: (u8, u8)) -> bool
         return has_forbidden_in_two::<4>(text, pair);
     }
     has_forbidden_by_one(text, pair)
+}
+
+/// Whether a piece that begins with these two bytes is empty, or begins as `.` or `..` does.
+#[inline(always)]
+fn begins_no_name(pair: (u8, u8), first: u8, second: u8) -> bool
+    ensures { result ≡ begins_no_name pair first second }
+{
+    is_one_of(pair, first) || (first == b'.' && (is_one_of(pair, second) || second == b'.'))
+}
+
+/// Which bytes of a block are one of a pair with such a piece behind it. The two bytes behind the block
+/// are looked at too.
+#[inline(always)]
+fn no_names_at<const N: usize>(text: &[u8], at: usize, pair: (u8, u8)) -> u64
+    requires lanes { (0 < N) × (N ≤ 64) }
+    requires in_range { at + N + 2 ≤ length text.now }
+    ensures { IsMask (λ k. begins_no_name_at pair text.now (at + k)) N result }
+{
+    let ends = marks_at::<N>(text, at + 2, pair) | marks_of::<N>(text, at + 2, b'.');
+    let dots = marks_of::<N>(text, at + 1, b'.') & ends;
+    marks_at::<N>(text, at, pair) & (marks_at::<N>(text, at + 1, pair) | dots)
+}
+
+/// Whether a text of two bytes or more has no such piece behind a byte of a pair, but for its last two
+/// bytes.
+#[inline(always)]
+fn has_names_behind(text: &[u8], pair: (u8, u8)) -> bool
+    requires { 2 ≤ length text.now }
+    ensures { IsTrue result
+        → HoldsNowhere (begins_no_name_at pair text.now) 0 (length text.now - 2) }
+{
+    let to = text.len() - 2;
+    let mut at = 0;
+    'wholes: while 32 <= to - at {
+        if no_names_at::<32>(text, at, pair) != 0 {
+            return false;
+        }
+        at += 32;
+    }
+    if 32 <= to {
+        return no_names_at::<32>(text, to - 32, pair) == 0;
+    }
+    if 16 <= to {
+        let first = no_names_at::<16>(text, 0, pair);
+        return (first == 0) & (no_names_at::<16>(text, to - 16, pair) == 0);
+    }
+    if 8 <= to {
+        let first = no_names_at::<8>(text, 0, pair);
+        return (first == 0) & (no_names_at::<8>(text, to - 8, pair) == 0);
+    }
+    'bytes: while at < to {
+        if is_one_of(pair, text[at]) && begins_no_name(pair, text[at + 1], text[at + 2]) {
+            return false;
+        }
+        at += 1;
+    }
+    true
+}
+
+/// Whether looks at the bytes of a text tell that each piece between two bytes of a pair is a name: not
+/// empty, and neither `.` nor `..`. False says nothing.
+#[inline(always)]
+pub fn has_only_names(text: &[u8], pair: (u8, u8)) -> bool
+    ensures { IsTrue result
+        → list_all is_name_piece (slice_split (is_one_of pair) text.now) ≡ true }
+{
+    let [first, .., last] = text else {
+        return false;
+    };
+    if begins_no_name(pair, *first, text[1]) | begins_no_name(pair, *last, *last) {
+        return false;
+    }
+    has_names_behind(text, pair)
 }

@@ -15,7 +15,8 @@ ghost use Rattle.typed_path.specs.views.PieceViews.{part_of};
 
 use crate::common::put_over;
 use crate::scan::{
-    Cursor, Piece, PieceKind, Separators, after_mark, cut_at_separator, drive, find_prefix, is_dots,
+    Cursor, Piece, PieceKind, Separators, after_mark, cut_at_separator, drive, find_prefix,
+    has_only_names, is_dots,
 };
 use std::alloc::{AllocError, Global};
 
@@ -268,12 +269,16 @@ pub fn is_separated(separators: Separators, text: &[u8]) -> bool
     separators.first_in(text) != text.len()
 }
 
-/// Whether each piece between two `\` is a component.
+/// Whether each piece between two `\` is a component. Mostly all are names, which looks at the bytes
+/// tell.
 fn are_components(separators: Separators, text: &[u8]) -> bool
     ensures { result
         ≡ list_all (is_component separators)
         (slice_split (is_separator Separators.Backslash) text.now) }
 {
+    if has_only_names(text, (b'\\', b'\\')) {
+        return true;
+    }
     let mut rest = text;
     'pieces: while let Some((piece, behind)) = cut_at_separator(Separators::Backslash, rest) {
         if !is_component(separators, piece) {

@@ -1,12 +1,12 @@
 -- What masks say of places, and searches of a range put together from what was seen of it.
-use Rattle.std.proofs.Common.{◌≡◌, ℕ, suc, ◌+◌, ◌-◌, ◌*◌, ◌^◌, ◌/◌, ◌%◌, ◌≤◌, ◌<◌, List, Bool, true, false, not, ◌||◌, ◌==◌, max, w64, cond, length, slice_index, slice_range, take, drop, get_or, map, refl, sym, ap, ◌∙◌, arith, bit_or, ⊎_elim, pow_pos, pow_mono, div-lt_iff_lt-mul, le-div_iff_mul-le, [], ◌∷◌, nat_lt, true≢false, subst, shr-shr, eqb-true, ltb-true, lt-ltb, get_or-take, get_or-drop, length-take-le, length-drop, take_all}
+use Rattle.std.proofs.Common.{◌≡◌, ℕ, suc, ◌+◌, ◌-◌, ◌*◌, ◌^◌, ◌/◌, ◌%◌, ◌≤◌, ◌<◌, List, Bool, true, false, not, ◌&&◌, ◌||◌, ◌==◌, max, min, w64, cond, length, slice_index, slice_range, take, drop, get_or, map, refl, sym, ap, ◌∙◌, arith, bit_or, bit_and, ⊎_elim, pow_pos, pow_mono, div-lt_iff_lt-mul, le-div_iff_mul-le, [], ◌∷◌, nat_lt, true≢false, subst, shr-shr, eqb-true, ltb-true, lt-ltb, get_or-take, get_or-drop, length-take-le, length-drop, take_all}
 use Rattle.std.specs.Int.{bit_at, trailing_zeros}
 use Rattle.std.specs.Slice.Scan.{HoldsNowhere, IsFirstPlace, IsLastPlace, HoldsSomewhere}
 use Rattle.std.specs.Simd.Lanes.{mask_l}
 use Rattle.std.proofs.Math.Nat.{two-pow-succ, div-eq_of_lt}
 use Rattle.std.proofs.lemmas.Bool.{cases_lt, eqb-false}
 use Rattle.std.proofs.lemmas.List.{get_or-map, get_or_past, length-map}
-use Rattle.std.proofs.lemmas.Nat.Bits.{bit_at-zero, bit_at_or, bit_at-trailing_zeros}
+use Rattle.std.proofs.lemmas.Nat.Bits.{bit_at-zero, bit_at_or, bit_at_and, bit_at-trailing_zeros}
 use Rattle.std.proofs.lemmas.Simd.{bit_mask_l, length-chunk, get_or-chunk, length-zip2, get_or-zip2}
 use Rattle.std.specs.List.{position_or_len, list_any}
 use Rattle.std.proofs.lemmas.List.Sums.{position_or_len_is}
@@ -43,6 +43,19 @@ mask-or p q n a b g h = record {
     either true false i j m e f g = omega arith
     either false true i j m e f g = omega arith
     either false false i j m e f g = omega arith
+
+-- the mask of both
+pub mask-and : (p q : ℕ → Bool) (n a b : ℕ) → IsMask p n a → IsMask q n b → IsMask (λ k. p k && q k) n (bit_and a b)
+mask-and p q n a b g h = record {
+  within = λ k l. both (p k) (q k) (bit_at a k) (bit_at b k) _ (bit_at_and a b k) (g.within k l) (h.within k l);
+  beyond = λ k l. omega (arith, bit_at_and a b k, g.beyond k l, h.beyond k l);
+}
+  where
+    both : (x y : Bool) (i j m : ℕ) → m ≡ min i j → i ≡ cond x 1 0 → j ≡ cond y 1 0 → m ≡ cond (x && y) 1 0
+    both true true i j m e f g = omega arith
+    both true false i j m e f g = omega arith
+    both false true i j m e f g = omega arith
+    both false false i j m e f g = omega arith
 
 -- a mask of a test is one of each test that agrees with it
 pub mask-alike : (p q : ℕ → Bool) (n a : ℕ) → ((k : ℕ) → q k ≡ p k) → IsMask p n a → IsMask q n a
@@ -118,6 +131,10 @@ module _ (q : ℕ → Bool) (at n mask : ℕ) (marks : IsMask (λ k. q (at + k))
   -- no bit is set
   pub block-none : mask ≡ 0 → HoldsNowhere q at (at + n)
   block-none none k low high = block-clear k low high (ap (λ m. bit_at m (k - at)) none ∙ bit_at-zero (k - at))
+
+  -- and so nowhere up to the end of the block, where it is so before a place within it
+  pub block-passed : (place : ℕ) → at ≤ place → HoldsNowhere q 0 place → mask ≡ 0 → HoldsNowhere q 0 (at + n)
+  block-passed place within passed none k low high = ⊎_elim (passed k low) (λ l. block-none none k (omega (arith, l, within)) high) (cases_lt k place)
 
   -- whether one is
   pub block-tells : mask < 2 ^ 64 → TellsWhether q at (at + n) (not (mask == 0))
