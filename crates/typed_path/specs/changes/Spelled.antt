@@ -1,10 +1,10 @@
 -- The texts of Windows that a push spells anew as they stand, and how such a text is written.
-use Rattle.std.specs.Prelude.{◌≡◌, ℕ, ◌+◌, List, [], ◌∷◌, ◌++◌, length, sum_by, slice_index, if◌then◌else◌, Bool, true, false, not, ◌&&◌, ◌||◌, ◌==◌, Option, Some, None, ⊤}
+use Rattle.std.specs.Prelude.{◌≡◌, ℕ, ◌+◌, List, [], ◌∷◌, ◌++◌, map, length, sum_by, slice_index, if◌then◌else◌, Bool, true, false, not, ◌&&◌, ◌||◌, ◌==◌, Option, Some, None, ⊤}
 use Rattle.std.specs.List.{list_any, list_all, slice_split, All, AllByRecursion}
 use Rattle.typed_path.specs.declared.scan.separators.Separators.{Separators}
-use Rattle.typed_path.specs.declared.scan.separators.Separators.TheVariants.{Slash, Backslash}
-use Rattle.typed_path.specs.components.Dialects.{Dialect, unix, windows, dot, backslash, is_separator, is_verbatim}
-use Rattle.typed_path.specs.components.Parts.{Kind, prefix, root, current, parent, normal, Part, is_name, root_part}
+use Rattle.typed_path.specs.declared.scan.separators.Separators.TheVariants.{Slash, Backslash, Either}
+use Rattle.typed_path.specs.components.Dialects.{Dialect, unix, windows, dot, slash, backslash, is_separator, is_verbatim}
+use Rattle.typed_path.specs.components.Parts.{Kind, prefix, root, current, parent, normal, Part, is_name, name_part, root_part}
 use Rattle.typed_path.specs.components.Prefixes.{is_empty, prefix_of}
 use Rattle.typed_path.specs.components.Comps.{is_dot, is_dot_dot, parts_of}
 use Rattle.typed_path.specs.scan.Masks.{is_one_of, stands_at}
@@ -55,6 +55,25 @@ begins_no_name pair a b = is_one_of pair a || (a == dot && (is_one_of pair b || 
 -- one of a pair stands at a place of a text, and such a piece behind it
 abbrev pub begins_no_name_at : ℕ × ℕ → List ℕ → ℕ → Bool
 begins_no_name_at pair text k = stands_at pair text k && begins_no_name pair (slice_index text (k + 1)) (slice_index text (k + 2))
+
+-- what stands between the separators of a path of Windows, as names
+abbrev pub names_of : List ℕ → List Part
+names_of path = map name_part (slice_split (is_separator Either) path)
+
+-- each of them is a name
+abbrev pub HoldsNames : List ℕ → Type 0
+HoldsNames path = list_all is_name_piece (slice_split (is_separator Either) path) ≡ true
+
+-- a path with `\` for each `/`
+abbrev pub turned_byte : ℕ → ℕ
+turned_byte b = if b == slash then backslash else b
+
+abbrev pub turned : List ℕ → List ℕ
+turned path = map turned_byte path
+
+-- a text with `\` at its end, unless one byte stands behind its head
+abbrev pub jointed : ℕ → List ℕ → List ℕ
+jointed head text = if length text == head + 1 then text else text ++ backslash ∷ []
 
 -- a component as it stands between two `\`: it is a name unless it is `.` or `..`
 pub record IsStanding (p : Part) : Type 0 where

@@ -6,8 +6,8 @@
 ghost use Rattle.std.specs.Prelude.{◌≡◌, ◌≤◌, ◌+◌, ◌++◌, ℕ, List, IsTrue, true, false, take, drop, slice_range, length, IfOk, IsOk, OnOk, OnErr, ◌||◌, Some, ◌<◌, ◌∷◌, [], Bool, IfSome};
 ghost use Rattle.std.specs.Vec.{vec_capacity, vec_len};
 ghost use Rattle.std.specs.List.{list_any, list_all, slice_split};
-ghost use Rattle.typed_path.specs.components.{windows, is_separator, parts_of, kinds, Part, parts, prefix_of, Found, is_empty};
-ghost use Rattle.typed_path.specs.changes.{push_windows, ended_windows, is_disk_alone, raw_length, FitsPush, without_last_name, merge_by_kind, merged, spelled, spells_anew, IsKnown, is_component, is_row, TellsSpelled, IsSpelledHead, IsStanding, IsMergeable, AreMergeable, AreReadBehind, Stands, IsSpelled, IsPutBehind, room_of};
+ghost use Rattle.typed_path.specs.components.{windows, is_separator, parts_of, kinds, Part, parts, prefix_of, Found, is_empty, later_body};
+ghost use Rattle.typed_path.specs.changes.{push_windows, ended_windows, is_disk_alone, raw_length, FitsPush, without_last_name, merge_by_kind, merged, spelled, spells_anew, IsKnown, is_component, is_row, TellsSpelled, IsSpelledHead, IsStanding, IsMergeable, AreMergeable, AreReadBehind, Stands, IsSpelled, IsPutBehind, room_of, HoldsNames, names_of, jointed, turned, turned_byte};
 ghost use Rattle.typed_path.specs.queries.{has_any_verbatim_prefix, is_verbatim_prefix, has_prefix};
 ghost use Rattle.typed_path.specs.declared.scan.separators.Separators.{Separators};
 ghost use Rattle.typed_path.specs.views.CursorViews.{items_left};
@@ -372,7 +372,7 @@ fn merge_in_place(
     let parted = start + head == kept;
     text.reserve((kept + other.len() + 1).saturating_sub(text.len()))?;
     text.truncate(kept);
-    merge_each(text, start + head, parted, Cursor::of_windows(other))?;
+    merge_path(text, start + head, parted, other)?;
     Ok(())
 }
 
@@ -390,7 +390,7 @@ fn spelled_anew(alloc: Global, base: &[u8], other: &[u8]) -> Result<Vec<u8>, All
     let mut rest = Cursor::of_windows(base);
     rest.front();
     let parted = put_each(&mut text, head, rest)?;
-    merge_each(&mut text, head, parted, Cursor::of_windows(other))?;
+    merge_path(&mut text, head, parted, other)?;
     Ok(text)
 }
 
@@ -414,6 +414,122 @@ fn put_each(text: &mut Vec<u8>, head: usize, path: Cursor<'_>) -> Result<bool, A
         put_component(text, head, piece.text)?;
     }
     Ok(parted)
+}
+
+/// Merges a path without a prefix into the components that stand behind one, and answers whether what
+/// stands then is parted from it. With room for the path and a separator it does not fail.
+///
+/// Most paths that are merged hold names alone, and these are put at once.
+fn merge_path(
+    text: &mut Vec<u8>,
+    head: usize,
+    parted: bool,
+    other: &[u8],
+) -> Result<bool, AllocError>
+    requires within { head ≤ length text.old.items }
+    requires no_prefix { has_prefix (kinds (parts_of windows other.now)) ≡ false }
+    ensures stands { IfOk result (λ now. (ps : List Part)
+        → Stands parted ps (drop head text.old.items)
+        → Stands now (merged ps (parts_of windows other.now)) (drop head text.new.items)) }
+    ensures kept { take head text.new.items ≡ take head text.old.items }
+    ensures long { head ≤ length text.new.items }
+    ensures capacity { vec_capacity text.old ≤ vec_capacity text.new }
+    ensures succeeds { vec_len text.old + length other.now < vec_capacity text.old → IsOk result }
+{
+    let Some(names) = names_alone(other) else {
+        return merge_each(text, head, parted, Cursor::of_windows(other));
+    };
+    put_names(text, head, names)?;
+    Ok(parted)
+}
+
+/// The names that a path without a prefix comes to as it is merged, where looks at its bytes tell that
+/// it holds names alone: beside these it may have a `.` in front and a separator at its end. None says
+/// nothing.
+#[inline(always)]
+fn names_alone(path: &[u8]) -> Option<&[u8]>
+    requires { has_prefix (kinds (parts_of windows path.now)) ≡ false }
+    ensures named { IfSome result (λ names. HoldsNames names.now) }
+    ensures merged { IfSome result (λ names. (ps : List Part)
+        → merged ps (parts_of windows path.now) ≡ ps ++ names_of names.now) }
+    ensures short { IfSome result (λ names. length names.now ≤ length path.now) }
+{
+    let (first, _) = path.split_first()?;
+    if Separators::Either.contains(*first) {
+        return None;
+    }
+    let names = before_separator(behind_dot(path));
+    if !has_only_names(names, (b'/', b'\\')) {
+        return None;
+    }
+    Some(names)
+}
+
+/// What stands behind a `.` that a path has in front, or the path.
+#[inline(always)]
+fn behind_dot(path: &[u8]) -> &[u8]
+    ensures same { parts (later_body Separators.Either 0 result.now)
+        ≡ parts (later_body Separators.Either 0 path.now) }
+    ensures short { length result.now ≤ length path.now }
+{
+    match path {
+        [first, mark, behind @ ..] if (*first == b'.') & Separators::Either.contains(*mark) => {
+            behind
+        }
+        _ => path,
+    }
+}
+
+/// What stands before a separator at the end of a path, or the path.
+#[inline(always)]
+fn before_separator(path: &[u8]) -> &[u8]
+    ensures same { parts (later_body Separators.Either 0 result.now)
+        ≡ parts (later_body Separators.Either 0 path.now) }
+    ensures short { length result.now ≤ length path.now }
+{
+    match path {
+        [before @ .., mark] if Separators::Either.contains(*mark) => before,
+        _ => path,
+    }
+}
+
+/// Puts names with separators between them behind the components that stand behind a prefix, with `\`
+/// for each separator.
+#[inline(always)]
+fn put_names(text: &mut Vec<u8>, head: usize, names: &[u8]) -> Result<(), AllocError>
+    requires within { head ≤ length text.old.items }
+    requires named { HoldsNames names.now }
+    ensures stands { OnOk result ((parted : Bool) (ps : List Part)
+        → Stands parted ps (drop head text.old.items)
+        → Stands parted (ps ++ names_of names.now) (drop head text.new.items)) }
+    ensures kept { take head text.new.items ≡ take head text.old.items }
+    ensures long { head ≤ length text.new.items }
+    ensures capacity { vec_capacity text.old ≤ vec_capacity text.new }
+    ensures succeeds { vec_len text.old + length names.now < vec_capacity text.old
+        → IsOk result }
+{
+    put_component(text, head, names)?;
+    let from = text.len() - names.len();
+    turn_slashes(&mut text[from..]);
+    Ok(())
+}
+
+/// Writes `\` for each `/`.
+#[inline(always)]
+fn turn_slashes(bytes: &mut [u8])
+    ensures { bytes.new ≡ turned bytes.old }
+{
+    'bytes: for byte in bytes.iter_mut() {
+        *byte = turned_byte(*byte);
+    }
+}
+
+/// `\` for `/`, and each other byte as it is.
+#[inline(always)]
+fn turned_byte(byte: u8) -> u8
+    ensures { result ≡ turned_byte byte }
+{
+    if byte == b'/' { b'\\' } else { byte }
 }
 
 /// Merges the components of a path into those that stand behind a prefix. With room for each of them
@@ -489,6 +605,7 @@ fn put_component(text: &mut Vec<u8>, head: usize, component: &[u8]) -> Result<()
     ensures stands { OnOk result ((parted : Bool) (ps : List Part) (p : Part)
         → Stands parted ps (drop head text.old.items) → IsStanding p → p.text ≡ component.now
         → Stands parted (ps ++ p ∷ []) (drop head text.new.items)) }
+    ensures put { OnOk result (text.new.items ≡ jointed head text.old.items ++ component.now) }
     ensures kept { take head text.new.items ≡ take head text.old.items }
     ensures long { head ≤ length text.new.items }
     ensures capacity { vec_capacity text.old ≤ vec_capacity text.new }

@@ -1,15 +1,24 @@
 -- Texts of which looks at their bytes tell that all their pieces are names, and how such a text is merged and written.
-use Rattle.std.proofs.Common.{◌≡◌, ℕ, suc, ◌+◌, ◌-◌, ◌<◌, ◌==◌, Bool, true, false, not, ◌&&◌, ◌||◌, List, [], ◌∷◌, length, drop, slice_index, refl, sym, ap, ◌∙◌, arith, ne_eqb}
-use Rattle.std.specs.List.{list_all, slice_split, onto_first}
+use Rattle.std.proofs.Common.{◌≡◌, ℕ, zero, suc, ◌+◌, ◌-◌, ◌<◌, ◌≤◌, ◌==◌, Bool, true, false, not, ◌&&◌, ◌||◌, if◌then◌else◌, List, [], ◌∷◌, ◌++◌, map, set, get_or, length, take, drop, slice_index, Option, Some, None, refl, sym, ap, subst, ◌∙◌, append_assoc, append-nil, arith, ne_eqb, eq-eqb, eqb-true, true≢false, length-append, length-drop, take_all}
+use Rattle.std.specs.List.{list_all, slice_split, onto_first, AllByRecursion}
 use Rattle.std.specs.Slice.Scan.{HoldsNowhere}
-use Rattle.std.proofs.lemmas.Bool.{and_parts, or_parts}
+use Rattle.std.proofs.lemmas.Bool.{and_parts, or_parts, both_ways}
+use borrow.Rule.Slice.PartMut.{put_mid, post_of}
+use Rattle.std.proofs.lemmas.List.{drop-append-le, take_more, take-append-le, take_at, drop_at, length-map}
+use Rattle.std.proofs.lemmas.Slice.{take-put_mid}
+use Rattle.std.proofs.lemmas.List.Concat.{flat_map-append}
 use Rattle.std.proofs.lemmas.List.Splits.{slice_split-cons_yes, slice_split-cons_no}
 use Rattle.typed_path.specs.declared.scan.separators.Separators.{Separators}
-use Rattle.typed_path.specs.declared.scan.separators.Separators.TheVariants.{Backslash}
-use Rattle.typed_path.specs.components.{dot, backslash, is_separator, is_verbatim, is_dot, is_dot_dot, is_empty}
+use Rattle.typed_path.specs.declared.scan.separators.Separators.TheVariants.{Backslash, Either}
+use Rattle.typed_path.specs.components.{windows, dot, slash, backslash, is_separator, is_verbatim, is_dot, is_dot_dot, is_empty, Part, parts, kinds, current_part, parent_part, name_part, Found, prefix_of, parts_of, later_body}
+use Rattle.typed_path.specs.queries.{has_prefix}
 use Rattle.typed_path.specs.scan.{is_one_of, stands_at}
-use Rattle.typed_path.specs.changes.{begins_no_name, begins_no_name_at, is_component, is_name_piece}
-use Rattle.typed_path.proofs.lemmas.lists.Lists.{slice_split-some}
+use Rattle.typed_path.specs.changes.{begins_no_name, begins_no_name_at, is_component, is_name_piece, merged, names_behind, names_of, HoldsNames, IsStanding, Stands, jointed, turned, turned_byte}
+use Rattle.typed_path.proofs.lemmas.lists.Lists.{IsUnseparated, slice_split-some, slice_split-append, slice_split-unseparated}
+use Rattle.typed_path.proofs.lemmas.components.Segments.{pieces, first_part, later_part, first_parts, later_parts, named_part, parts-later_body}
+use Rattle.typed_path.proofs.lemmas.changes.Faults.{parts_of-none, parts_of-some}
+use Rattle.typed_path.proofs.lemmas.changes.Joins.{backslash-free}
+use Rattle.typed_path.proofs.lemmas.changes.WindowsPushes.{stands-more}
 
 -- ---- what the looks tell of the pieces
 module _ (pair : ℕ × ℕ) where
@@ -133,3 +142,218 @@ names-components s text e = sym (ap (λ p. list_all (is_component s) (slice_spli
     each (p ∷ ps) h =
         let all = and_parts (is_name_piece p) (list_all is_name_piece ps) h in
         ap (λ x. x && list_all (is_component s) ps) (one (is_empty p) (is_dot p) (is_dot_dot p) (is_verbatim s) all.0) ∙ each ps all.1
+
+-- ---- such a path, merged into what stands behind a prefix
+
+-- a `.` in front of other pieces vanishes as they are merged, and so does an empty piece at the end
+pub later-dot : (mark : ℕ) (rest : List ℕ) → is_separator Either mark ≡ true → parts (later_body Either 0 rest) ≡ parts (later_body Either 0 (dot ∷ mark ∷ rest))
+later-dot mark rest is =
+    parts-later_body Either 0 rest
+    ∙ sym (ap (later_parts Either) (slice_split-cons_no (is_separator Either) dot (mark ∷ rest) refl ∙ ap (onto_first dot) (slice_split-cons_yes (is_separator Either) mark rest is)))
+    ∙ sym (parts-later_body Either 0 (dot ∷ mark ∷ rest))
+
+pub later-end : (mark : ℕ) (rest : List ℕ) → is_separator Either mark ≡ true → parts (later_body Either 0 rest) ≡ parts (later_body Either 0 (rest ++ mark ∷ []))
+later-end mark rest is =
+    parts-later_body Either 0 rest
+    ∙ sym (ap (later_parts Either) (slice_split-append (is_separator Either) rest mark [] is) ∙ flat_map-append (later_part Either) (slice_split (is_separator Either) rest) ([] ∷ []) ∙ append-nil (later_parts Either (slice_split (is_separator Either) rest)))
+    ∙ sym (parts-later_body Either 0 (rest ++ mark ∷ []))
+
+pub dot-cut : (path : List ℕ) → 2 ≤ length path → (slice_index path 0 == dot && is_separator Either (slice_index path 1)) ≡ true → parts (later_body Either 0 (take (length path - 2) (drop 2 path))) ≡ parts (later_body Either 0 path)
+dot-cut [] long is = absurd (omega (arith, long))
+dot-cut (a ∷ []) long is = absurd (omega (arith, long))
+dot-cut (a ∷ b ∷ rest) long is =
+    let each = and_parts (a == dot) (is_separator Either b) is in
+    ap (λ t. parts (later_body Either 0 t)) (take_all (length (a ∷ b ∷ rest) - 2) rest (omega arith)) ∙ later-dot b rest each.1 ∙ ap (λ x. parts (later_body Either 0 (x ∷ b ∷ rest))) (sym (eqb-true a dot each.0))
+
+pub end-cut : (path : List ℕ) → 1 ≤ length path → is_separator Either (slice_index path (length path - 1)) ≡ true → parts (later_body Either 0 (take (length path - 1) path)) ≡ parts (later_body Either 0 path)
+end-cut path long is =
+    let before = length path - 1 in
+    let whole : before + 1 ≡ length path = omega (arith, long) in
+    later-end (slice_index path before) (take before path) is
+    ∙ ap (λ t. parts (later_body Either 0 t)) (sym (take_more path before 0 (omega (arith, long))) ∙ take_all (before + 1) path (omega (arith, whole)))
+
+-- a first piece that is not empty is merged as a later one
+merged-first : (ps qs : List Part) (piece : List ℕ) → (length piece == 0) ≡ false → merged ps (first_part Either piece ∷ qs) ≡ merged ps (later_part Either piece ++ qs)
+merged-first ps qs piece filled = rw filled (by (is_dot piece) (named_part piece))
+  where
+    by : (dotted : Bool) (p : Part) → merged ps ((if dotted then current_part else p) ∷ qs) ≡ merged ps ((if dotted then [] else p ∷ []) ++ qs)
+    by true p = refl
+    by false p = refl
+
+-- a list without a prefix is that of a text without one
+without-prefix : (t : List ℕ) → has_prefix (kinds (parts_of windows t)) ≡ false → prefix_of windows t ≡ None
+without-prefix t h = by (prefix_of windows t) refl
+  where
+    by : (o : Option Found) → prefix_of windows t ≡ o → o ≡ None
+    by None e = refl
+    by (Some f) e = absurd (both_ways _ h (ap (λ ps. has_prefix (kinds ps)) (parts_of-some t f e)))
+
+-- so is each of a path without a prefix and a root
+merged-later : (b : ℕ) (bs : List ℕ) (ps : List Part) → has_prefix (kinds (parts_of windows (b ∷ bs))) ≡ false → is_separator Either b ≡ false
+    → merged ps (parts_of windows (b ∷ bs)) ≡ merged ps (parts (later_body Either 0 (b ∷ bs)))
+merged-later b bs ps no_prefix apart =
+    let some = slice_split-some (is_separator Either) bs in
+    let cut : pieces Either (b ∷ bs) ≡ (b ∷ some.0) ∷ some.1 = slice_split-cons_no (is_separator Either) b bs apart ∙ ap (onto_first b) some.2 in
+    ap (merged ps) (parts_of-none (b ∷ bs) (without-prefix (b ∷ bs) no_prefix) ∙ ap (first_parts Either) cut)
+    ∙ merged-first ps (later_parts Either some.1) (b ∷ some.0) (ne_eqb (length (b ∷ some.0)) 0 (λ none. omega (arith, none)))
+    ∙ ap (merged ps) (sym (parts-later_body Either 0 (b ∷ bs) ∙ ap (later_parts Either) cut))
+
+-- pieces that are names, as later ones
+named-later : (ns : List (List ℕ)) → list_all is_name_piece ns ≡ true → later_parts Either ns ≡ map name_part ns
+named-later [] e = refl
+named-later (n ∷ ns) e =
+    let all = and_parts (is_name_piece n) (list_all is_name_piece ns) e in
+    (λ i. one (is_empty n) (is_dot n) (is_dot_dot n) all.0 i ++ named-later ns all.1 i)
+  where
+    one : (empty dotted twice : Bool) → not (empty || dotted || twice) ≡ true → (if empty then [] else (if dotted then [] else (if twice then parent_part else name_part n) ∷ [])) ≡ name_part n ∷ []
+    one true dotted twice h = cc
+    one false true twice h = cc
+    one false false true h = cc
+    one false false false h = refl
+
+-- names are put behind as they are merged
+merged-named : (ps : List Part) (ns : List (List ℕ)) → merged ps (map name_part ns) ≡ ps ++ map name_part ns
+merged-named ps [] = sym (append-nil ps)
+merged-named ps (n ∷ ns) = merged-named (ps ++ name_part n ∷ []) ns ∙ append_assoc ps (name_part n ∷ []) (map name_part ns)
+
+-- a path that comes to names
+pub merged-names : (path : List ℕ) (b : ℕ) (bs names : List ℕ) (ps : List Part) → path ≡ b ∷ bs → has_prefix (kinds (parts_of windows path)) ≡ false → is_separator Either b ≡ false
+    → parts (later_body Either 0 names) ≡ parts (later_body Either 0 path) → HoldsNames names → merged ps (parts_of windows path) ≡ ps ++ names_of names
+merged-names path b bs names ps is no_prefix apart same named =
+    ap (λ t. merged ps (parts_of windows t)) is
+    ∙ merged-later b bs ps (subst (λ t. has_prefix (kinds (parts_of windows t)) ≡ false) is no_prefix) apart
+    ∙ ap (λ t. merged ps (parts (later_body Either 0 t))) (sym is)
+    ∙ ap (merged ps) (sym same ∙ parts-later_body Either 0 names ∙ named-later (slice_split (is_separator Either) names) named)
+    ∙ merged-named ps (slice_split (is_separator Either) names)
+
+-- ---- names as they stand, and as they are written
+
+-- each name stands
+named-standing : (ns : List (List ℕ)) → list_all is_name_piece ns ≡ true → AllByRecursion (IsUnseparated (is_separator Either)) ns → AllByRecursion IsStanding (map name_part ns)
+named-standing [] e free = tt
+named-standing (n ∷ ns) e free =
+    let all = and_parts (is_name_piece n) (list_all is_name_piece ns) e in (
+      record { unprefixed = refl; relative = refl; filled = some (is_empty n) (is_dot n) (is_dot_dot n) all.0; unseparated = backslash-free Either refl n free.0; named = sym all.0 },
+      named-standing ns all.1 free.1,
+    )
+  where
+    some : (empty dotted twice : Bool) → not (empty || dotted || twice) ≡ true → empty ≡ false
+    some true true twice h = cc
+    some true false twice h = cc
+    some false dotted twice h = refl
+
+-- names with `\` between them are the text with its slashes turned
+written-names : (text : List ℕ) → names_behind false (names_of text) ≡ turned text
+written-names [] = refl
+written-names (b ∷ bs) = by (is_separator Either b) refl (slice_split-some (is_separator Either) bs) (written-names bs)
+  where
+    turns : (x y : Bool) → b == slash ≡ x → b == backslash ≡ y → (x || y) ≡ true → backslash ≡ turned_byte b
+    turns true y e f h = sym (ap (λ z. if z then backslash else b) e)
+    turns false true e f h = sym (eqb-true b backslash f) ∙ sym (ap (λ z. if z then backslash else b) e)
+    turns false false e f h = cc
+
+    stays : (x y : Bool) → b == slash ≡ x → (x || y) ≡ false → b ≡ turned_byte b
+    stays true y e h = cc
+    stays false y e h = sym (ap (λ z. if z then backslash else b) e)
+
+    by : (s : Bool) → is_separator Either b ≡ s → (piece : List ℕ) × (others : List (List ℕ)) × (slice_split (is_separator Either) bs ≡ piece ∷ others) → names_behind false (names_of bs) ≡ turned bs
+        → names_behind false (names_of (b ∷ bs)) ≡ turned (b ∷ bs)
+    by true is some rest =
+        ap (λ ns. names_behind false (map name_part ns)) (slice_split-cons_yes (is_separator Either) b bs is ∙ ap (λ ns. [] ∷ ns) some.2)
+        ∙ ap (λ ns. backslash ∷ names_behind false (map name_part ns)) (sym some.2)
+        ∙ (λ i. turns (b == slash) (b == backslash) refl refl is i ∷ rest i)
+    by false is some rest =
+        ap (λ ns. names_behind false (map name_part ns)) (slice_split-cons_no (is_separator Either) b bs is ∙ ap (onto_first b) some.2)
+        ∙ ap (λ ns. b ∷ names_behind false (map name_part ns)) (sym some.2)
+        ∙ (λ i. stays (b == slash) (b == backslash) refl is i ∷ rest i)
+
+-- more components behind what is longer than a root
+stands-others : (parted : Bool) (ps qs : List Part) (text : List ℕ) → Stands parted ps text → 1 < length text → AllByRecursion IsStanding qs → Stands parted (ps ++ qs) (text ++ names_behind true qs)
+stands-others parted ps [] text h long all = subst (λ rs. Stands parted rs (text ++ [])) (sym (append-nil ps)) (subst (Stands parted ps) (sym (append-nil text)) h)
+stands-others parted ps (q ∷ qs) text h long all =
+    let apart = text ++ backslash ∷ [] in
+    let next = stands-more parted ps q text apart (apart ++ q.text) q.text h all.0 refl (λ one. absurd (omega (arith, one, long))) (λ other. refl) refl in
+    let size : 1 < length (apart ++ q.text) = omega (arith, long, length-append apart q.text, length-append text (backslash ∷ [])) in
+    subst (λ rs. Stands parted rs (text ++ names_behind true (q ∷ qs))) (append_assoc ps (q ∷ []) qs)
+    (subst (Stands parted ((ps ++ q ∷ []) ++ qs)) (append_assoc apart q.text (names_behind true qs) ∙ append_assoc text (backslash ∷ []) (q.text ++ names_behind true qs))
+    (stands-others parted (ps ++ q ∷ []) qs (apart ++ q.text) next size all.1))
+
+-- names are put behind `\`, or at once behind a root alone
+pub stands-names : (parted : Bool) (ps : List Part) (old middle new names : List ℕ) → Stands parted ps old → HoldsNames names → (length old ≡ 1 → middle ≡ old) → ((length old ≡ 1 → ⊥) → middle ≡ old ++ backslash ∷ [])
+    → new ≡ middle ++ turned names → Stands parted (ps ++ names_of names) new
+stands-names parted ps old middle new names h named joined apart put =
+    let some = slice_split-some (is_separator Either) names in
+    let piece = some.0 in
+    let others = map name_part some.1 in
+    let list : names_of names ≡ name_part piece ∷ others = ap (map name_part) some.2 in
+    let all : AllByRecursion IsStanding (name_part piece ∷ others) =
+    subst (AllByRecursion IsStanding) list (named-standing (slice_split (is_separator Either) names) named (slice_split-unseparated (is_separator Either) names)) in
+    let first = stands-more parted ps (name_part piece) old middle (middle ++ piece) piece h all.0 refl joined apart refl in
+    let size : 1 < length (middle ++ piece) = omega (arith, length-append middle piece, some-bytes piece all.0.filled, some-middle) in
+    subst (λ rs. Stands parted (ps ++ rs) new) (sym list)
+    (subst (λ rs. Stands parted rs new) (append_assoc ps (name_part piece ∷ []) others)
+    (subst (Stands parted ((ps ++ name_part piece ∷ []) ++ others)) (append_assoc middle piece (names_behind true others) ∙ ap (λ t. middle ++ t) (ap (names_behind false) (sym list) ∙ written-names names) ∙ sym put)
+    (stands-others parted (ps ++ name_part piece ∷ []) others (middle ++ piece) first size all.1)))
+  where
+    some-bytes : (piece : List ℕ) → is_empty piece ≡ false → 0 < length piece
+    some-bytes [] e = cc
+    some-bytes (b ∷ bs) e = omega arith
+
+    some-middle : 0 < length middle
+    some-middle = by (length old == 1) refl
+      where
+        by : (b : Bool) → (length old == 1) ≡ b → 0 < length middle
+        by true e = let one = eqb-true (length old) 1 e in omega (arith, one, ap length (joined one))
+        by false e = omega (arith, ap length (apart (λ one. absurd (true≢false (sym (eq-eqb (length old) 1 one) ∙ e)))), length-append old (backslash ∷ []))
+
+-- a text with `\` behind it, unless one byte stands behind its head
+pub jointed-joined : (head : ℕ) (text : List ℕ) → head ≤ length text → length (drop head text) ≡ 1 → drop head (jointed head text) ≡ drop head text
+jointed-joined head text within one = ap (λ b. drop head (if b then text else text ++ backslash ∷ [])) (eq-eqb (length text) (head + 1) (omega (arith, one, within, length-drop head text)))
+
+pub jointed-apart : (head : ℕ) (text : List ℕ) → head ≤ length text → (length (drop head text) ≡ 1 → ⊥) → drop head (jointed head text) ≡ drop head text ++ backslash ∷ []
+jointed-apart head text within other =
+    ap (λ b. drop head (if b then text else text ++ backslash ∷ [])) (ne_eqb (length text) (head + 1) (λ same. other (omega (arith, same, length-drop head text))))
+    ∙ drop-append-le head text (backslash ∷ []) within
+
+pub jointed-long : (head : ℕ) (text : List ℕ) → head ≤ length text → head ≤ length (jointed head text)
+jointed-long head text within = by (length text == head + 1)
+  where
+    by : (b : Bool) → head ≤ length (if b then text else text ++ backslash ∷ [])
+    by true = within
+    by false = omega (arith, within, length-append text (backslash ∷ []))
+
+-- slashes turned one by one
+turned-here : (old : List ℕ) (at : ℕ) → at < length old → get_or (turned (take at old) ++ drop at old) at 0 ≡ get_or old at 0
+turned-here [] at within = absurd (omega (arith, within))
+turned-here (x ∷ xs) zero within = refl
+turned-here (x ∷ xs) (suc at) within = turned-here xs at (omega (arith, within))
+
+turned-more : (old : List ℕ) (at : ℕ) → at < length old → set (turned (take at old) ++ drop at old) at (turned_byte (get_or old at 0)) ≡ turned (take (at + 1) old) ++ drop (at + 1) old
+turned-more [] at within = absurd (omega (arith, within))
+turned-more (x ∷ xs) zero within = refl
+turned-more (x ∷ xs) (suc at) within =
+    let on : suc at + 1 ≡ suc (at + 1) = omega arith in
+    ap (λ t. turned_byte x ∷ t) (turned-more xs at (omega (arith, within))) ∙ ap (λ n. turned (take n (x ∷ xs)) ++ drop n (x ∷ xs)) (sym on)
+
+pub turned-step : (old now : List ℕ) (at b : ℕ) → now ≡ turned (take at old) ++ drop at old → at < length old → b ≡ turned_byte (get_or now at 0) → set now at b ≡ turned (take (at + 1) old) ++ drop (at + 1) old
+turned-step old now at b is within put =
+    (λ i. set (is i) at (put i))
+    ∙ ap (λ x. set (turned (take at old) ++ drop at old) at (turned_byte x)) (ap (λ xs. get_or xs at 0) is ∙ turned-here old at within)
+    ∙ turned-more old at within
+
+-- the last bytes of a text, with their slashes turned
+pub turned-end : (front names items now new : List ℕ) (from len : ℕ) → now ≡ items → items ≡ front ++ names → from + length names ≡ len → len ≡ length items → new ≡ turned (take (length now - from) (drop from now))
+    → take len (put_mid from (length now - from) now new ++ drop (length (put_mid from (length now - from) now new)) items) ≡ front ++ turned names
+turned-end front names items now new from len same is size whole turns =
+    let seam : length front ≡ from = omega (arith, size, whole, ap length is, length-append front names) in
+    let joined : now ≡ front ++ names = same ∙ is in
+    let kept : take from now ≡ front = ap (take from) joined ∙ take_at front names from seam in
+    let behind : drop from now ≡ names = ap (drop from) joined ∙ drop_at front names from seam in
+    let long : length now ≡ len = ap length same ∙ sym whole in
+    let over : new ≡ turned names = turns ∙ ap turned (ap (take (length now - from)) behind ∙ take_all (length now - from) names (omega (arith, long, size))) in
+    let counted : length new ≡ length names = ap length over ∙ length-map names turned_byte in
+    let least : len ≤ length (put_mid from (length now - from) now new) =
+    omega (arith, size, counted, ap length kept, seam, length-append (take from now) (new ++ post_of from (length now - from) now), length-append new (post_of from (length now - from) now)) in
+    take-append-le len (put_mid from (length now - from) now new) (drop (length (put_mid from (length now - from) now new)) items) least
+    ∙ take-put_mid from (length now - from) now new len (omega (arith, size, counted)) (omega (arith, long, size))
+    ∙ (λ i. kept i ++ over i)

@@ -1,28 +1,22 @@
 use Rattle.std.proofs.Common.{◌≡◌, ◌≤◌, ◌+◌, ◌-◌, ◌==◌, ◌++◌, ne_eqb, inl, inr, true≢false, List, length, take, drop, slice_range, sym, ap, subst, ◌∙◌, length-drop, arith, ℕ, eq-eqb, take-append-drop, drop-drop}
 use Rattle.std.proofs.lemmas.Bool.{cases_lt}
-use Rattle.typed_path.specs.components.{parts, windows, is_empty, parts_of}
-use Rattle.typed_path.specs.changes.{merged, AreMergeable, Stands, room_of}
-use Rattle.typed_path.specs.views.CursorViews.{items_left}
+use Rattle.typed_path.specs.components.{windows, is_empty, parts_of}
+use Rattle.typed_path.specs.changes.{merged, Stands}
 use Rattle.typed_path.proofs.lemmas.changes.WindowsPushes.{path-length}
-use Rattle.typed_path.proofs.lemmas.changes.MergedInPlace.{text-mergeable, room-text, spelled-stands, spelled-prefixed_list, merged-text, place-prefix, place-text, place-behind}
+use Rattle.typed_path.proofs.lemmas.changes.MergedInPlace.{spelled-stands, spelled-prefixed_list, merged-text, place-prefix, place-text, place-behind}
 use Rattle.typed_path.proofs.windows.push.merge_in_place.Goals as goal
 
-pub merge_each-requires-clause-mergeable : goal.merge_each-requires-clause-mergeable
-merge_each-requires-clause-mergeable c = subst AreMergeable (sym (ap parts c.of_windows.ensures.items)) (text-mergeable c.args.other.now c.requires.no_prefix)
-
 -- the room that was found is enough
-refuted : goal.After-from_residual-in_err-merge_each → ⊥
+refuted : goal.After-from_residual-in_err-merge_path → ⊥
 refuted c =
-    let room : room_of (parts (items_left c.of_windows.result)) ≤ length c.args.other.now + 1 =
-    subst (λ ps. room_of ps ≤ length c.args.other.now + 1) (sym (ap parts c.of_windows.ensures.items)) (room-text c.args.other.now c.requires.no_prefix) in
-    true≢false (sym (c.in_err-merge_each.ensures.succeeds
-    (omega (arith, room, c.truncate.ensures.len, c.truncate.ensures.capacity, c.in_ok-reserve.ensures.ok, c.in_ok-reserve.ensures.len, c.saturating_sub.ensures, c.len.ensures, c.requires.within))))
+    true≢false (sym (c.in_err-merge_path.ensures.succeeds
+    (omega (arith, c.truncate.ensures.len, c.truncate.ensures.capacity, c.in_ok-reserve.ensures.ok, c.in_ok-reserve.ensures.len, c.saturating_sub.ensures, c.len.ensures, c.requires.within))))
 
-pub returns-in_err-merge_each-clause-err : goal.returns-in_err-merge_each-clause-err
-returns-in_err-merge_each-clause-err c = absurd (refuted c)
+pub returns-in_err-merge_path-clause-err : goal.returns-in_err-merge_path-clause-err
+returns-in_err-merge_path-clause-err c = absurd (refuted c)
 
-pub returns-in_err-merge_each-clause-succeeds : goal.returns-in_err-merge_each-clause-succeeds
-returns-in_err-merge_each-clause-succeeds c = absurd (refuted c)
+pub returns-in_err-merge_path-clause-succeeds : goal.returns-in_err-merge_path-clause-succeeds
+returns-in_err-merge_path-clause-succeeds c = absurd (refuted c)
 
 -- nothing stands behind the prefix exactly where that ends where the base does
 parted-is : (n m : ℕ) (rest : List ℕ) → n ≤ m → length rest ≡ m - n → (n == m) ≡ is_empty rest
@@ -39,10 +33,10 @@ returns-clause-ok c = λ known.
     let kept = c.args.kept in
     let other = c.args.other.now in
     let base = slice_range old start kept in
-    let new = c.merge_each.new.text.items in
-    let now = c.in_ok-merge_each.field-0 in
+    let new = c.merge_path.new.text.items in
+    let now = c.in_ok-merge_path.field-0 in
     let cut : c.truncate.new.self.items ≡ take kept old = c.truncate.ensures.items ∙ ap (take kept) c.in_ok-reserve.ensures.items in
-    let same : take (start + head) new ≡ take (start + head) (take kept old) = c.in_ok-merge_each.ensures.kept ∙ ap (take (start + head)) cut in
+    let same : take (start + head) new ≡ take (start + head) (take kept old) = c.in_ok-merge_path.ensures.kept ∙ ap (take (start + head)) cut in
     let size : length (drop head base) ≡ kept - (start + head) =
     omega (arith, length-drop head base, path-length old start kept (omega (arith, c.requires.inside)) c.requires.within) in
     let behind : drop (start + head) c.truncate.new.self.items ≡ drop head base = ap (drop (start + head)) cut ∙ place-behind old new start head kept c.requires.inside c.requires.within same in
@@ -51,7 +45,7 @@ returns-clause-ok c = λ known.
     (subst (Stands (is_empty (drop head base)) (drop 1 (parts_of windows base))) (sym behind) (spelled-stands base head known.0 known.1)) in
     let merged_now : Stands now (merged (drop 1 (parts_of windows base)) (parts_of windows other)) (drop head (drop start new)) =
     subst (Stands now (merged (drop 1 (parts_of windows base)) (parts_of windows other))) (sym (drop-drop head start new))
-    (subst (λ qs. Stands now (merged (drop 1 (parts_of windows base)) qs) (drop (start + head) new)) (ap parts c.of_windows.ensures.items) (c.in_ok-merge_each.ensures.stands (drop 1 (parts_of windows base)) stands)) in
+    (c.in_ok-merge_path.ensures.stands (drop 1 (parts_of windows base)) stands) in
     sym (take-append-drop start new)
     ∙ place-text old new start head kept c.requires.inside c.requires.within same
     ∙ ap (λ t. take start old ++ t)

@@ -1,8 +1,8 @@
 use Rattle.std.proofs.Common.{◌≡◌, ◌++◌, ◌∷◌, List, [], refl, take, drop, sym, ap, subst, ◌∙◌, length-take-le, arith, take_all}
 use Rattle.typed_path.specs.components.{Placed, parts, windows, parts_of}
-use Rattle.typed_path.specs.changes.{merged, AreReadBehind, AreMergeable, Stands}
+use Rattle.typed_path.specs.changes.{AreReadBehind, Stands}
 use Rattle.typed_path.specs.views.CursorViews.{items_left}
-use Rattle.typed_path.proofs.lemmas.changes.MergedInPlace.{text-mergeable, prefixed-based, merged-text}
+use Rattle.typed_path.proofs.lemmas.changes.MergedInPlace.{prefixed-based, merged-text}
 use Rattle.typed_path.proofs.windows.push.spelled_anew.Goals as goal
 
 parts-rest : (cs : List Placed) → parts (drop 1 cs) ≡ drop 1 (parts cs)
@@ -14,9 +14,6 @@ put_each-requires-clause-read c =
     let base = c.args.base.now in
     subst AreReadBehind (sym (ap parts c.front.ensures.items ∙ parts-rest (items_left c.of_windows-rest.result) ∙ ap (λ cs. drop 1 (parts cs)) c.of_windows-rest.ensures.items)) (prefixed-based base c.requires.own).read
 
-pub merge_each-requires-clause-mergeable : goal.merge_each-requires-clause-mergeable
-merge_each-requires-clause-mergeable c = subst AreMergeable (sym (ap parts c.of_windows.ensures.items)) (text-mergeable c.args.other.now c.requires.no_prefix)
-
 pub returns : goal.returns
 returns c =
     let base = c.args.base.now in
@@ -24,8 +21,7 @@ returns c =
     let head = c.prefix_len-head.result in
     let rest : parts (items_left c.front.new.self) ≡ drop 1 (parts_of windows base) = ap parts c.front.ensures.items ∙ parts-rest (items_left c.of_windows-rest.result) ∙ ap (λ cs. drop 1 (parts cs)) c.of_windows-rest.ensures.items in
     let raw : c.extend_from_slice.new.self.items ≡ take head base = c.in_ok-extend_from_slice.ensures.items ∙ ap (λ t. t ++ take head base) c.in_ok-text.ensures.items in
-    let kept : take head c.merge_each.new.text.items ≡ take head base =
-    c.in_ok-merge_each.ensures.kept ∙ c.in_ok-parted.ensures.kept ∙ ap (take head) raw ∙ take_all head (take head base) (omega (arith, length-take-le head base c.prefix_len-head.ensures.within)) in
-    merged-text base other c.merge_each.new.text.items head c.in_ok-merge_each.field-0 c.requires.own c.requires.no_prefix c.prefix_len-head.ensures.length kept
-    (subst (λ qs. Stands c.in_ok-merge_each.field-0 (merged (drop 1 (parts_of windows base)) qs) (drop head c.merge_each.new.text.items)) (ap parts c.of_windows.ensures.items)
-    (c.in_ok-merge_each.ensures.stands (drop 1 (parts_of windows base)) (subst (λ ps. Stands c.in_ok-parted.parted ps (drop head c.put_each.new.text.items)) rest c.in_ok-parted.ensures.stands)))
+    let kept : take head c.merge_path.new.text.items ≡ take head base =
+    c.in_ok-merge_path.ensures.kept ∙ c.in_ok-parted.ensures.kept ∙ ap (take head) raw ∙ take_all head (take head base) (omega (arith, length-take-le head base c.prefix_len-head.ensures.within)) in
+    merged-text base other c.merge_path.new.text.items head c.in_ok-merge_path.field-0 c.requires.own c.requires.no_prefix c.prefix_len-head.ensures.length kept
+    (c.in_ok-merge_path.ensures.stands (drop 1 (parts_of windows base)) (subst (λ ps. Stands c.in_ok-parted.parted ps (drop head c.put_each.new.text.items)) rest c.in_ok-parted.ensures.stands))
