@@ -534,6 +534,9 @@ pub fn has_only_names(text: &[u8], pair: (u8, u8)) -> bool
     ensures { IsTrue result
         → list_all is_name_piece (slice_split (is_one_of pair) text.now) ≡ true }
 {
+    if let [only] = text {
+        return !begins_no_name(pair, *only, *only);
+    }
     let [first, .., last] = text else {
         return false;
     };
