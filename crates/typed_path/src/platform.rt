@@ -74,8 +74,13 @@ impl Encoding for PlatformEncoding {
     }
 
     #[inline(always)]
-    fn order_by_bytes(path: &[u8], other: &[u8]) -> Option<Ordering> {
-        UnixEncoding::order_by_bytes(path, other)
+    fn order_behind_prefix(path: &[u8], other: &[u8]) -> Option<Ordering> {
+        UnixEncoding::order_behind_prefix(path, other)
+    }
+
+    #[inline(always)]
+    fn is_apart(path: &[u8], other: &[u8]) -> bool {
+        UnixEncoding::is_apart(path, other)
     }
 
     fn valid(name: &[u8]) -> bool {

@@ -9,7 +9,8 @@ mod step;
 
 pub use cursor::{Begin, Body, Cursor, Span};
 pub use cut::{
-    base_end, bodies_behind_shared, cut_at, cut_at_separator, order_of_texts, text_behind,
+    are_apart, base_end, bodies_behind, bodies_behind_shared, cut_at, cut_at_separator,
+    order_behind, parting, text_behind,
 };
 pub use lanes::{first_between, has_forbidden, has_only_names};
 pub use prefix::{Found, WindowsPrefix, after_mark, drive, find_prefix, parted_drive};

@@ -1,7 +1,8 @@
 -- A path with another pushed onto it.
 use Rattle.std.specs.Prelude.{◌≡◌, ◌≤◌, ◌<◌, ℕ, ◌+◌, ◌-◌, List, [], ◌∷◌, ◌++◌, Bool, true, false, not, ◌&&◌, ◌||◌, ◌==◌, length, take, slice_index, if◌then◌else◌, Option, Some, None}
 use Rattle.std.specs.List.{fold}
-use Rattle.typed_path.specs.components.Dialects.{Dialect, unix, windows, slash, backslash}
+use Rattle.typed_path.specs.declared.scan.separators.Separators.{Separators}
+use Rattle.typed_path.specs.components.Dialects.{Dialect, unix, windows, separators, slash, backslash}
 use Rattle.typed_path.specs.components.Parts.{disk, Kind, prefix, root, current, parent, Part, kinds, is_name}
 use Rattle.typed_path.specs.components.Prefixes.{Found, is_empty, prefix_of}
 use Rattle.typed_path.specs.components.Comps.{parts_of}
@@ -56,6 +57,11 @@ raw_length (Some f) = f.length
 -- the raw text of the prefix
 abbrev pub raw_prefix : List ℕ → List ℕ
 raw_prefix text = take (raw_length (prefix_of windows text)) text
+
+-- two texts of Windows have one prefix, or none, that takes so many bytes of either, and one set of bytes separates in both
+abbrev pub HaveOnePrefix : List ℕ → List ℕ → ℕ → Separators → Type 0
+HaveOnePrefix text other n s =
+    (separators windows text ≡ s) × (separators windows other ≡ s) × (prefix_of windows other ≡ prefix_of windows text) × (n ≡ raw_length (prefix_of windows text))
 
 abbrev pub is_disk_alone : List Kind → Bool
 is_disk_alone (prefix (disk letter) ∷ []) = true

@@ -1,13 +1,15 @@
 -- What is left of a text, by where it begins.
-use Rattle.std.specs.Prelude.{◌≡◌, ℕ, drop, List, [], ◌∷◌, Bool, true, false, not, ◌||◌, ◌&&◌, ◌==◌, nat_lt, length, Option, option_map}
+use Rattle.std.specs.Prelude.{◌≡◌, ◌≤◌, ℕ, min, drop, take, List, [], ◌∷◌, Bool, true, false, not, ◌||◌, ◌&&◌, ◌==◌, nat_lt, length, Option, option_map}
 use Rattle.std.specs.Option.{unwrap_or}
-use Rattle.std.specs.List.{before_first, after_last}
+use Rattle.std.specs.List.{before_first, after_last, IsAfterLastMatch}
+use Rattle.std.specs.Slice.Scan.{IsFirstPlace}
 use Rattle.typed_path.specs.declared.scan.separators.Separators.{Separators}
 use Rattle.typed_path.specs.declared.scan.cursor.Begin.{Begin}
 use Rattle.typed_path.specs.declared.scan.cursor.Begin.TheVariants.{Body, Inside}
 use Rattle.typed_path.specs.components.Dialects.{dot, is_separator, is_verbatim}
 use Rattle.typed_path.specs.components.Parts.{Part, Placed, end_of}
 use Rattle.typed_path.specs.components.Comps.{body, later_body, is_dot}
+use Rattle.typed_path.specs.scan.Masks.{differs_at}
 use Rattle.typed_path.specs.scan.Left.{first_of, last_of, but_last, slice_after_front, slice_after_back}
 
 -- the components of a text that begins at a place
@@ -29,6 +31,13 @@ is_clean Inside s (b ∷ bs) = counts s (before_first (is_separator s) (b ∷ bs
 abbrev pub begins_with_name : Separators → List ℕ → Bool
 begins_with_name s [] = false
 begins_with_name s (b ∷ bs) = not (is_separator s b) && not (b == dot)
+
+-- two texts are alike up to the first of two places, where they differ or one ends, and the second stands behind the last separator before it
+abbrev pub IsParting : Separators → List ℕ → List ℕ → ℕ × ℕ → Type 0
+IsParting s text other p =
+    IsFirstPlace (differs_at text other) 0 (min (length text) (length other)) p.0
+    × IsAfterLastMatch (is_separator s) (take p.0 text) p.1
+    × (p.1 ≤ length (take p.0 text))
 
 -- a text ends with a component: it is one byte long or empty, or its last segment counts
 abbrev pub is_trimmed : Separators → List ℕ → Bool

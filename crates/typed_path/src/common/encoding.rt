@@ -1,8 +1,7 @@
 //! What every encoding of paths can do.
 
-ghost use Rattle.std.specs.Prelude.{◌≡◌, ◌≤◌, ◌<◌, Bool, true, false, ◌+◌, ◌++◌, length, fold, ℕ, List, drop, take, option_map, IsSome, Some, None, IsOk, IfOk, IfSome, OnOk, OnErr};
+ghost use Rattle.std.specs.Prelude.{◌≡◌, ◌≤◌, ◌<◌, Bool, IsTrue, false, ◌+◌, ◌++◌, length, fold, ℕ, List, drop, take, option_map, IsSome, Some, None, IsOk, IfOk, IfSome, OnOk, OnErr};
 ghost use Rattle.std.specs.Vec.{vec_len, vec_capacity};
-ghost use Rattle.std.specs.Ordering.{is_ne};
 ghost use Rattle.typed_path.specs.changes.{refusal, error_of, FitsPush, IsKnown, fault};
 ghost use Rattle.typed_path.specs.promises.{HasPrefixOf, LiesWithin};
 ghost use Rattle.typed_path.specs.components.{Dialect, root_of, label_of, comps, parts_of, kinds, parts};
@@ -147,14 +146,20 @@ pub trait Encoding: Sized {
         None
     }
 
-    /// For encodings alone. The order of two paths, where their bytes tell, with no reading of either:
-    /// they are equal, or differ in a name in one place. None says nothing.
-    fn order_by_bytes(path: &[u8], other: &[u8]) -> Option<Ordering>
-        ensures order { IfSome result (λ order. path_cmp dialect path.now other.now ≡ order) }
-        ensures apart { IfSome result (λ order. is_ne order ≡ true
-            → path_starts_with dialect path.now other.now ≡ false) }
+    /// For encodings alone. The order of two paths that begin with one prefix, as their bytes tell, or with
+    /// none. None says nothing.
+    fn order_behind_prefix(path: &[u8], other: &[u8]) -> Option<Ordering>
+        ensures { IfSome result (λ order. path_cmp dialect path.now other.now ≡ order) }
     {
         None
+    }
+
+    /// For encodings alone. Whether the bytes of two paths tell that they differ in a name in one place, so
+    /// that neither is a base of the other. False says nothing.
+    fn is_apart(path: &[u8], other: &[u8]) -> bool
+        ensures { IsTrue result → path_starts_with dialect path.now other.now ≡ false }
+    {
+        false
     }
 
     /// For encodings alone. Cuts a path to its first bytes, and pushes another onto what is left.

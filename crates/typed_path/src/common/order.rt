@@ -9,7 +9,7 @@ ghost use Rattle.std.specs.List.{flat_map};
 ghost use Rattle.std.specs.Ordering.{is_eq, on, as_partial_cmp};
 ghost use Rattle.std.specs.Cmp.{eq_by_cmp_equiv, on_total, partial_equiv_from_equiv, partial_order_from_total};
 ghost use Rattle.std.proofs.Common.{ap};
-ghost use Rattle.typed_path.specs.components.{Prefix, Kind, prefix, kinds, parts, parts_of};
+ghost use Rattle.typed_path.specs.components.{Prefix, Kind, prefix, kinds, parts, parts_of, body};
 ghost use Rattle.typed_path.specs.queries.{first_prefix};
 ghost use Rattle.typed_path.specs.order.{kind_cmp, are_same_prefixes, kinds_cmp, is_same, left_cmp, left_same, path_cmp, path_cmp_total, same-kinds};
 ghost use Rattle.typed_path.specs.order.Words.{writes_of, words_before, kinds_words};
@@ -22,7 +22,10 @@ use crate::common::components::Reading;
 use crate::common::encoding::Encoding;
 use crate::common::path::Path;
 use crate::common::path_buf::PathBuf;
-use crate::scan::{Body, Step, StepKind, WindowsPrefix, bodies_behind_shared};
+use crate::scan::{
+    Body, Separators, Step, StepKind, WindowsPrefix, bodies_behind, bodies_behind_shared,
+    order_behind, parting,
+};
 use std::cmp::Ordering;
 use std::hash::{Hash, Hasher};
 
@@ -34,25 +37,34 @@ pub(crate) fn is_same<T: Encoding>(path: &[u8], other: &[u8]) -> bool
     path == other || have_same_components::<T>(path, other)
 }
 
-/// The order of two texts, by their components. Where their bytes tell, neither is read.
+/// The order of two texts, by their components. Where their bytes are equal, neither is read.
 #[inline]
 pub(crate) fn compare<T: Encoding>(path: &[u8], other: &[u8]) -> Ordering
-    ensures { result ≡ path_cmp T.dialect path.now other.now }
-{
-    match T::order_by_bytes(path, other) {
-        Some(order) => order,
-        None => compare_read::<T>(path, other),
-    }
-}
-
-/// The same by reading both, unless their bytes are equal.
-fn compare_read<T: Encoding>(path: &[u8], other: &[u8]) -> Ordering
     ensures { result ≡ path_cmp T.dialect path.now other.now }
 {
     if path == other {
         return Ordering::Equal;
     }
-    compare_components::<T>(path, other)
+    match T::order_behind_prefix(path, other) {
+        Some(order) => order,
+        None => compare_components::<T>(path, other),
+    }
+}
+
+/// The order of two texts without their prefixes, by their components. Where their bytes tell, neither is
+/// read, and else what stands behind those that both begin with.
+#[inline(always)]
+pub(crate) fn compare_texts(text: &[u8], other: &[u8], separators: Separators) -> Ordering
+    ensures { result ≡ left_cmp (body separators 0 text.now) (body separators 0 other.now) }
+{
+    let places = parting(text, other, separators);
+    match order_behind(text, other, places, separators) {
+        Some(order) => order,
+        None => {
+            let (rest, wanted) = bodies_behind(text, other, places, separators);
+            compare_each(rest, wanted)
+        }
+    }
 }
 
 /// Whether two texts have the same components: the prefix first, then the last component, in which
@@ -85,7 +97,6 @@ fn have_same_components<T: Encoding>(path: &[u8], other: &[u8]) -> bool
 
 /// The order of the components of two texts, the prefix first and then from the front. Those that
 /// both begin with, by their bytes, are not read.
-#[inline(always)]
 fn compare_components<T: Encoding>(path: &[u8], other: &[u8]) -> Ordering
     ensures { result ≡ path_cmp T.dialect path.now other.now }
 {
@@ -102,15 +113,15 @@ fn compare_components<T: Encoding>(path: &[u8], other: &[u8]) -> Ordering
         (None, Some(_)) => return order_of_prefixed(own.body()).reverse(),
         (None, None) => {}
     }
-    compare_each(own.body(), others.body())
+    let (rest, wanted) = bodies_behind_shared(own.body(), others.body());
+    compare_each(rest, wanted)
 }
 
 /// The order of what two readings have left, component by component.
 #[inline(always)]
-fn compare_each(rest: Body<'_>, wanted: Body<'_>) -> Ordering
+fn compare_each(mut rest: Body<'_>, mut wanted: Body<'_>) -> Ordering
     ensures { result ≡ left_cmp (body_items rest.entry) (body_items wanted.entry) }
 {
-    let (mut rest, mut wanted) = bodies_behind_shared(rest, wanted);
     'steps: while let Some(step) = wanted.front() {
         let Some(own) = rest.front() else {
             return Ordering::Less;

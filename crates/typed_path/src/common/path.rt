@@ -1,6 +1,6 @@
 //! A path that is lent: what makes one, what it answers, and the owned paths that are made of it.
 
-ghost use Rattle.std.specs.Prelude.{◌≡◌, IfOk, IsTrue, false, not, ◌≤◌, length, option_map, option_copied, IfSome, [], IsOk};
+ghost use Rattle.std.specs.Prelude.{◌≡◌, IfOk, not, ◌≤◌, length, option_map, option_copied, IfSome, [], IsOk};
 ghost use Rattle.typed_path.specs.places.{normal_text};
 ghost use Rattle.typed_path.specs.components.{kinds, comps, parts_of};
 ghost use Rattle.typed_path.specs.queries.{is_absolute, has_root, is_valid, parent_of, file_name_of, file_stem_of, stripped, path_starts_with, path_ends_with, ancestors_of, stripped_to};
@@ -254,7 +254,7 @@ impl<'a, T: Encoding> Path<'a, T> {
         if let Some(rest) = T::behind(self.as_bytes(), base.as_bytes()) {
             return Some(Path::new(rest));
         }
-        if is_apart::<T>(self.as_bytes(), base.as_bytes()) {
+        if T::is_apart(self.as_bytes(), base.as_bytes()) {
             return None;
         }
         self.behind_by_components(base)
@@ -392,16 +392,4 @@ fn normal<T: Encoding>(alloc: Global, path: &[u8]) -> Result<Vec<u8>, AllocError
     let mut text = Vec::with_capacity(alloc, path.len() + 1)?;
     T::put_normal(&mut text, path)?;
     Ok(text)
-}
-
-/// Whether the bytes of two paths tell that they differ in a name in one place, so that neither is a base
-/// of the other. False says nothing.
-#[inline(always)]
-fn is_apart<T: Encoding>(path: &[u8], base: &[u8]) -> bool
-    ensures { IsTrue result → path_starts_with T.dialect path.now base.now ≡ false }
-{
-    match T::order_by_bytes(path, base) {
-        Some(order) => order.is_ne(),
-        None => false,
-    }
 }

@@ -6,7 +6,7 @@ ghost use Rattle.std.specs.List.{slice_split, position_or_len, before_first, sta
 ghost use Rattle.std.specs.Str.{bytes_eq};
 ghost use Rattle.std.specs.Ordering.{is_ne};
 ghost use Rattle.typed_path.specs.components.{is_separator, body, later_body, parts, texts};
-ghost use Rattle.typed_path.specs.scan.{is_clean, begins_with_name};
+ghost use Rattle.typed_path.specs.scan.{is_clean, begins_with_name, IsParting};
 ghost use Rattle.typed_path.specs.declared.scan.cursor.Begin.{Begin};
 ghost use Rattle.typed_path.specs.order.{left_cmp, bytes_cmp};
 ghost use Rattle.typed_path.specs.views.BodyViews.{body_items};
@@ -139,25 +139,45 @@ pub fn bodies_behind_shared<'a>(rest: Body<'a>, wanted: Body<'a>) -> (Body<'a>, 
     }
     let text = rest.as_bytes();
     let other = wanted.as_bytes();
-    let front = shared_front(text, other, separators);
-    match (
-        base_end(text, front, separators),
-        base_end(other, front, separators),
-    ) {
-        (Some(from), Some(other_from)) => (
-            Body::inside(text, from, separators),
-            Body::inside(other, other_from, separators),
-        ),
-        _ => (rest, wanted),
-    }
+    let places = parting(text, other, separators);
+    bodies_behind(text, other, places, separators)
 }
 
-/// The first bytes of a text that another begins with too, to behind the last separator among them.
-/// Nothing rests on this answer: whether both texts begin with it is looked at again.
+/// Where two texts part: the first place at which they differ, or the end of the shorter one, and the
+/// place behind the last separator before that.
 #[inline(always)]
-fn shared_front<'a>(text: &'a [u8], other: &[u8], separators: Separators) -> &'a [u8] {
-    let shared = &text[..first_difference(text, other)];
-    &shared[..separators.last_in(shared)]
+pub fn parting(text: &[u8], other: &[u8], separators: Separators) -> (usize, usize)
+    ensures { IsParting separators text.now other.now result }
+{
+    let shared = first_difference(text, other);
+    (shared, separators.last_in(&text[..shared]))
+}
+
+/// Two readings, behind the last separator that two texts begin with, which compare as the texts do.
+#[inline(always)]
+pub fn bodies_behind<'a>(
+    text: &'a [u8],
+    other: &'a [u8],
+    places: (usize, usize),
+    separators: Separators,
+) -> (Body<'a>, Body<'a>)
+    requires { IsParting separators text.now other.now places }
+    ensures { left_cmp (body_items result.0) (body_items result.1)
+        ≡ left_cmp (body separators 0 text.now) (body separators 0 other.now) }
+{
+    let start = places.1;
+    if start == 0 {
+        return (
+            Body::new(text, 0, separators),
+            Body::new(other, 0, separators),
+        );
+    }
+    let from = start + skip_blanks(&text[start..], separators);
+    let other_from = start + skip_blanks(&other[start..], separators);
+    (
+        Body::inside(text, from, separators),
+        Body::inside(other, other_from, separators),
+    )
 }
 
 /// The order of two texts that are read from their beginnings, where the bytes tell: the texts are one,
@@ -166,24 +186,42 @@ fn shared_front<'a>(text: &'a [u8], other: &[u8], separators: Separators) -> &'a
 ///
 /// So most paths are put in order by one look at their bytes up to the first that differs.
 #[inline(always)]
-pub fn order_of_texts(text: &[u8], other: &[u8], separators: Separators) -> Option<Ordering>
+pub fn order_behind(
+    text: &[u8],
+    other: &[u8],
+    places: (usize, usize),
+    separators: Separators,
+) -> Option<Ordering>
+    requires { IsParting separators text.now other.now places }
     ensures order { IfSome result (λ order.
         left_cmp (body separators 0 text.now) (body separators 0 other.now) ≡ order) }
     ensures apart { IfSome result (λ order. is_ne order ≡ true
         → starts_with bytes_eq (texts (parts (body separators 0 text.now)))
         (texts (parts (body separators 0 other.now))) ≡ false) }
 {
-    let shared = first_difference(text, other);
+    let (shared, start) = places;
     if shared == text.len() && shared == other.len() {
         return Some(Ordering::Equal);
     }
-    let start = separators.last_in(&text[..shared]);
     if !begins_with_name(&text[start..], separators)
         || !begins_with_name(&other[start..], separators)
     {
         return None;
     }
     order_of_ends(&text[shared..], &other[shared..], separators)
+}
+
+/// Whether the bytes of two texts tell that they differ in a name in one place. False says nothing.
+#[inline(always)]
+pub fn are_apart(text: &[u8], other: &[u8], separators: Separators) -> bool
+    ensures { IsTrue result → starts_with bytes_eq (texts (parts (body separators 0 text.now)))
+        (texts (parts (body separators 0 other.now))) ≡ false }
+{
+    let places = parting(text, other, separators);
+    match order_behind(text, other, places, separators) {
+        Some(order) => order.is_ne(),
+        None => false,
+    }
 }
 
 /// Whether a text begins with a name, as its first byte tells. False says nothing.

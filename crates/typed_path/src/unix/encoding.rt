@@ -7,12 +7,13 @@ ghost use Rattle.typed_path.specs.changes.{push_unix, ended_with, FitsPush, begi
 ghost use Rattle.typed_path.specs.places.{normal_text, rows, settled, names_left, AreRows, IsParted};
 
 use crate::common::{
-    Encoding, append_first, behind_segment, cut_back, drop_name, drop_separator, put_over,
+    Encoding, append_first, behind_segment, compare_texts, cut_back, drop_name, drop_separator,
+    put_over,
 };
 use crate::errors::CheckedPathError;
 use crate::scan::{
-    Cursor, Piece, Separators, StepKind, base_end, cut_at_separator, first_between,
-    has_valid_names, order_of_texts, step_of,
+    Cursor, Piece, Separators, StepKind, are_apart, base_end, cut_at_separator, first_between,
+    has_valid_names, step_of,
 };
 use std::alloc::AllocError;
 use std::cmp::Ordering;
@@ -76,8 +77,13 @@ impl Encoding for UnixEncoding {
     }
 
     #[inline(always)]
-    fn order_by_bytes(path: &[u8], other: &[u8]) -> Option<Ordering> {
-        order_of_texts(path, other, Separators::Slash)
+    fn order_behind_prefix(path: &[u8], other: &[u8]) -> Option<Ordering> {
+        Some(compare_texts(path, other, Separators::Slash))
+    }
+
+    #[inline(always)]
+    fn is_apart(path: &[u8], other: &[u8]) -> bool {
+        are_apart(path, other, Separators::Slash)
     }
 
     fn valid(name: &[u8]) -> bool {

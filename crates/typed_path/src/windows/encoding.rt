@@ -1,20 +1,20 @@
 //! The encoding of Windows paths.
 
 ghost use Rattle.std.specs.Prelude.{◌≡◌, ◌≤◌, true, false, length, codes, Some, IfSome, IsTrue};
-ghost use Rattle.std.specs.Ordering.{is_ne};
 ghost use Rattle.typed_path.specs.components.{windows, kinds, parts, separators, prefix_of};
-ghost use Rattle.typed_path.specs.order.{path_cmp};
 ghost use Rattle.typed_path.specs.views.PieceViews.{found_of, prefix_view};
 ghost use Rattle.typed_path.specs.promises.{is_verbatim_unc_name};
 ghost use Rattle.typed_path.specs.queries.{is_absolute, has_root, is_disk, path_starts_with};
+ghost use Rattle.typed_path.specs.order.{path_cmp};
+ghost use Rattle.typed_path.specs.declared.scan.separators.Separators.{Separators};
 ghost use Rattle.typed_path.specs.views.CursorViews.{items_left};
-ghost use Rattle.typed_path.specs.changes.{begins_with_separator, has_only_valid_names};
+ghost use Rattle.typed_path.specs.changes.{begins_with_separator, has_only_valid_names, HaveOnePrefix};
 
-use crate::common::Encoding;
+use crate::common::{Encoding, compare_texts};
 use crate::errors::CheckedPathError;
 use crate::scan::{
-    Cursor, Found, Piece, Separators, WindowsPrefix, base_end, find_prefix, has_parent_or_device,
-    has_valid_names, order_of_texts, parted_drive,
+    Cursor, Found, Piece, Separators, WindowsPrefix, are_apart, base_end, find_prefix,
+    has_parent_or_device, has_valid_names, parted_drive,
 };
 use crate::windows::normal::put_normal;
 use crate::windows::push::{prefix_len, push_at, push_next};
@@ -92,10 +92,18 @@ impl Encoding for WindowsEncoding {
     }
 
     #[inline(always)]
-    fn order_by_bytes(path: &[u8], other: &[u8]) -> Option<Ordering> {
-        match order_behind_drive(path, other) {
-            Some(order) => Some(order),
-            None => order_behind_prefix(path, other),
+    fn order_behind_prefix(path: &[u8], other: &[u8]) -> Option<Ordering> {
+        match shared_drive(path, other) {
+            Some(end) => Some(compare_texts(&path[end..], &other[end..], Separators::Either)),
+            None => order_behind_marked(path, other),
+        }
+    }
+
+    #[inline(always)]
+    fn is_apart(path: &[u8], other: &[u8]) -> bool {
+        match shared_drive(path, other) {
+            Some(end) => are_apart(&path[end..], &other[end..], Separators::Either),
+            None => is_apart_behind_marked(path, other),
         }
     }
 
@@ -144,37 +152,60 @@ impl Encoding for WindowsEncoding {
     }
 }
 
-/// The order of two paths with no prefix but one drive, or none, where their bytes tell.
+/// How many bytes the drive takes that two paths with no other prefix have both, or none where neither has
+/// one. None says nothing.
 #[inline(always)]
-fn order_behind_drive(path: &[u8], other: &[u8]) -> Option<Ordering>
-    ensures order { IfSome result (λ order. path_cmp windows path.now other.now ≡ order) }
-    ensures apart { IfSome result (λ order. is_ne order ≡ true
-        → path_starts_with windows path.now other.now ≡ false) }
+fn shared_drive(path: &[u8], other: &[u8]) -> Option<usize>
+    ensures one { IfSome result
+        (λ end. HaveOnePrefix path.now other.now end Separators.Either) }
+    ensures within { IfSome result (λ end. (end ≤ length path.now) × (end ≤ length other.now)) }
 {
     let (drive, body) = parted_drive(path)?;
-    let (other_drive, other_body) = parted_drive(other)?;
+    let (other_drive, _) = parted_drive(other)?;
     if drive != other_drive {
         return None;
     }
-    order_of_texts(body, other_body, Separators::Either)
+    Some(path.len() - body.len())
 }
 
-/// The order of two paths that begin with one prefix, written alike, where their bytes tell. So the prefix
-/// of the first alone is read.
-fn order_behind_prefix(path: &[u8], other: &[u8]) -> Option<Ordering>
-    ensures order { IfSome result (λ order. path_cmp windows path.now other.now ≡ order) }
-    ensures apart { IfSome result (λ order. is_ne order ≡ true
-        → path_starts_with windows path.now other.now ≡ false) }
+/// How many bytes the prefix takes that two paths begin with, written alike and with a separator behind it,
+/// and the separators of both. None says nothing.
+///
+/// The prefix of the first alone is read, and of neither where the bytes behind the first two differ, as
+/// those of most prefixes do that differ.
+#[inline(always)]
+fn shared_marked_prefix(path: &[u8], other: &[u8]) -> Option<(usize, Separators)>
+    ensures one { IfSome result (λ shared. HaveOnePrefix path.now other.now shared.0 shared.1) }
+    ensures within { IfSome result
+        (λ shared. (shared.0 ≤ length path.now) × (shared.0 ≤ length other.now)) }
 {
+    if path.len() < 6 || other.len() < 6 || path[2..6] != other[2..6] {
+        return None;
+    }
     let found = find_prefix(path)?;
     if !begins_with_prefix(other, path, found) {
         return None;
     }
-    order_of_texts(
-        &path[found.length..],
-        &other[found.length..],
-        Separators::of_windows(path),
-    )
+    Some((found.length, Separators::of_windows(path)))
+}
+
+/// The order of two paths that begin with such a prefix. None says nothing.
+fn order_behind_marked(path: &[u8], other: &[u8]) -> Option<Ordering>
+    ensures { IfSome result (λ order. path_cmp windows path.now other.now ≡ order) }
+{
+    let (end, separators) = shared_marked_prefix(path, other)?;
+    Some(compare_texts(&path[end..], &other[end..], separators))
+}
+
+/// Whether the bytes of two paths that begin with such a prefix tell that they differ in a name in one
+/// place. False says nothing.
+fn is_apart_behind_marked(path: &[u8], other: &[u8]) -> bool
+    ensures { IsTrue result → path_starts_with windows path.now other.now ≡ false }
+{
+    match shared_marked_prefix(path, other) {
+        Some((end, separators)) => are_apart(&path[end..], &other[end..], separators),
+        None => false,
+    }
 }
 
 /// Whether a text begins with the prefix of a path and a separator behind it, which is its own prefix

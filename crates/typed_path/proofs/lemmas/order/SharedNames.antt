@@ -1,7 +1,7 @@
 -- Two texts that begin alike and go on with different names: their order is that of the names.
-use Rattle.std.proofs.Common.{◌≡◌, ℕ, zero, suc, ◌+◌, ◌-◌, ◌<◌, ◌≤◌, ◌==◌, List, [], ◌∷◌, ◌++◌, Bool, true, false, not, ◌&&◌, ◌||◌, cond, min, All, take, drop, length, get_or, Ordering, Less, Equal, Greater, refl, sym, ap, ap₂, ◌∙◌, subst, arith, length-take-le, length-drop, append_assoc, take-append-drop, get_or-take, get_or-drop, eqb-true, length-take, take_all, Option, Some, None}
-use Rattle.std.specs.Ordering.{is_ne, ordering_then, nat_cmp}
-use Rattle.std.specs.List.{before_first, position_or_len, starts_with, IsAfterLastMatch}
+use Rattle.std.proofs.Common.{◌≡◌, ℕ, zero, suc, ◌+◌, ◌-◌, ◌<◌, ◌≤◌, ◌==◌, List, [], ◌∷◌, ◌++◌, Bool, true, false, not, ◌&&◌, ◌||◌, cond, min, All, take, drop, length, get_or, Ordering, Less, Equal, Greater, refl, sym, ap, ap₂, ◌∙◌, arith, length-take-le, length-drop, take-append-drop, get_or-take, get_or-drop, eqb-true, take_all, Option, Some, None}
+use Rattle.std.specs.Ordering.{is_ne, ordering_then}
+use Rattle.std.specs.List.{before_first, position_or_len, starts_with}
 use Rattle.std.specs.Str.{bytes_eq}
 use Rattle.std.specs.Cmp.Lexicographic.{bytes_decides, nat_list_cmp_total}
 use Rattle.std.proofs.Math.Bool.{and-false}
@@ -15,12 +15,13 @@ use Rattle.typed_path.specs.declared.scan.separators.Separators.TheVariants.{Eit
 use Rattle.typed_path.specs.declared.scan.cursor.Body.{Body as Reading}
 use Rattle.typed_path.specs.declared.scan.cursor.Begin.{Begin}
 use Rattle.typed_path.specs.declared.scan.cursor.Begin.TheVariants.{Body, Inside}
-use Rattle.typed_path.specs.components.{is_separator, is_verbatim, dot, Placed, name_part, current_part, parent_part, root_part, root_text, component, first, body, later_body, kinds, parts, texts, windows, Prefix, prefix, disk, prefix_part, Found, prefix_of, separators, comps, comps_behind, IsPartedDrive}
-use Rattle.typed_path.specs.scan.{body_from, is_clean, counts, begins_with_name, differs_at}
-use Rattle.typed_path.specs.order.{bytes_cmp, left_cmp, kind_cmp, kinds_cmp, path_cmp, kind_cmp_total, kinds_cmp_total}
+use Rattle.typed_path.specs.components.{is_separator, is_verbatim, dot, Placed, name_part, current_part, parent_part, root_part, root_text, component, first, body, later_body, kinds, parts, texts, windows, Prefix, prefix, disk, found, prefix_part, Found, prefix_of, separators, comps, comps_behind, IsPartedDrive}
+use Rattle.typed_path.specs.scan.{body_from, is_clean, counts, begins_with_name, differs_at, IsParting}
+use Rattle.typed_path.specs.order.{bytes_cmp, left_cmp, kinds_cmp, path_cmp, kind_cmp_total, kinds_cmp_total}
 use Rattle.typed_path.specs.views.BodyViews.{body_slice, body_items}
 use Rattle.typed_path.proofs.lemmas.components.Segments.{body_from-first, parts-body}
-use Rattle.typed_path.proofs.lemmas.components.Prefixes.{some_is}
+use Rattle.typed_path.proofs.lemmas.components.Prefixes.{some_is, prefix-fits}
+use Rattle.typed_path.specs.changes.{HaveOnePrefix, raw_length}
 use Rattle.typed_path.specs.queries.{path_starts_with}
 use Rattle.typed_path.proofs.lemmas.queries.Bases.{begins, body-ended}
 use Rattle.typed_path.proofs.lemmas.order.Comparisons.{cmp-behind}
@@ -166,103 +167,116 @@ parted-begins s t u o p differ =
     ap₂ begins p.own_is p.other_is
     ∙ begins-apart p.front p.front (record { part = name_part p.own; start = p.at }) (record { part = name_part p.other; start = p.at }) p.behind_own p.behind_other refl (unlike p.own p.other o p.order differ)
 
--- behind the last separator that both begin with, both begin with a name, and these are in the order of their ends
-pub names-parted : (s : Separators) (t u : List ℕ) (n k : ℕ) (o : Ordering) → IsFirstPlace (differs_at t u) 0 (min (length t) (length u)) k
-    → IsAfterLastMatch (is_separator s) (take k t) n → n ≤ length (take k t) → begins_with_name s (drop n t) ≡ true → begins_with_name s (drop n u) ≡ true
-    → bytes_cmp (before_first (is_separator s) (drop k t)) (before_first (is_separator s) (drop k u)) ≡ o
-    → Parted s t u o
-names-parted s t u n k o parting last within named-own named-other is =
-    by n refl
-  where
-    p : ℕ → Bool
-    p = is_separator s
+-- two texts, and behind the last separator that both begin with
+module _ (s : Separators) (t u : List ℕ) (p : ℕ × ℕ) (parted : IsParting s t u p) where
+  abbrev n : ℕ
+  n = p.1
 
-    fits : k ≤ length t
-    fits = omega (arith, parting.high)
+  abbrev k : ℕ
+  k = p.0
 
-    fits' : k ≤ length u
-    fits' = omega (arith, parting.high)
+  fits : k ≤ length t
+  fits = omega (arith, parted.0.high)
 
-    low : n ≤ k
-    low = omega (arith, within, length-take-le k t fits)
+  fits' : k ≤ length u
+  fits' = omega (arith, parted.0.high)
 
-    same : take k t ≡ take k u
-    same = alike-front k t u fits fits' (λ i l. same-byte (get_or t i 0) (get_or u i 0) (parting.before i (omega arith) l))
+  low : n ≤ k
+  low = omega (arith, parted.2, length-take-le k t fits)
 
-    mid : List ℕ
-    mid = drop n (take k t)
+  same : take k t ≡ take k u
+  same = alike-front k t u fits fits' (λ i l. same-byte (get_or t i 0) (get_or u i 0) (parted.0.before i (omega arith) l))
 
-    own : drop n t ≡ mid ++ drop k t
-    own = ap (drop n) (sym (take-append-drop k t)) ∙ drop-append-le n (take k t) (drop k t) within
+  -- what stands before a place behind a separator
+  split : (v : List ℕ) (j : ℕ) → n ≡ j + 1 → n ≤ length v → is_separator s (get_or v j 0) ≡ true → body s 0 v ≡ body s 0 (take n v) ++ later_body s n (drop n v)
+  split v j e long separates =
+      ap (body s 0) (sym (take-append-drop n v))
+      ∙ body-ended s 0 (take n v) (take j v) (drop n v) (get_or v j 0) (ap (λ i. take i v) e ∙ take_more v j 0 (omega (arith, e, long))) separates
+      ∙ ap (λ i. body s 0 (take n v) ++ later_body s i (drop n v)) (omega (arith, length-take-le n v long))
 
-    other : drop n u ≡ mid ++ drop k u
-    other = ap (drop n) (sym (take-append-drop k u)) ∙ ap (λ x. drop n (x ++ drop k u)) (sym same) ∙ drop-append-le n (take k t) (drop k u) within
+  take-front : (v : List ℕ) → k ≤ length v → take n v ≡ take n (take k v)
+  take-front v long = ap (take n) (sym (take-append-drop k v)) ∙ take-append-le n (take k v) (drop k v) (omega (arith, length-take-le k v long, low))
 
-    opened : All (λ b. p b ≡ false) mid
-    opened i d l = ap p (get_or-drop n (take k t) i d) ∙ last.0 (n + i) d (omega arith) (omega (arith, l, length-drop n (take k t)))
+  last_own : (j : ℕ) → n ≡ suc j → is_separator s (get_or t j 0) ≡ true
+  last_own j e =
+      ap (is_separator s) (sym (get_or-take k t j 0 (omega (arith, e, low)))) ∙ ap (λ i. is_separator s (get_or (take k t) i 0)) (omega (arith, e)) ∙ parted.1.1 (omega (arith, e)) 0
 
-    named : bytes_cmp (before_first p (drop n t)) (before_first p (drop n u)) ≡ o
-    named =
-        ap₂ bytes_cmp (ap (before_first p) own ∙ before_first-open p mid (drop k t) opened) (ap (before_first p) other ∙ before_first-open p mid (drop k u) opened)
-        ∙ bytes-shared mid (before_first p (drop k t)) (before_first p (drop k u))
-        ∙ is
+  last_other : (j : ℕ) → n ≡ suc j → is_separator s (get_or u j 0) ≡ true
+  last_other j e = ap (is_separator s) (sym (same-byte (get_or t j 0) (get_or u j 0) (parted.0.before j (omega arith) (omega (arith, e, low))))) ∙ last_own j e
 
-    -- what stands before a place behind a separator
-    split : (v : List ℕ) (j : ℕ) → n ≡ j + 1 → n ≤ length v → p (get_or v j 0) ≡ true → body s 0 v ≡ body s 0 (take n v) ++ later_body s n (drop n v)
-    split v j e long separates =
-        ap (body s 0) (sym (take-append-drop n v))
-        ∙ body-ended s 0 (take n v) (take j v) (drop n v) (get_or v j 0) (ap (λ i. take i v) e ∙ take_more v j 0 (omega (arith, e, long))) separates
-        ∙ ap (λ i. body s 0 (take n v) ++ later_body s i (drop n v)) (omega (arith, length-take-le n v long))
+  own-at : (j : ℕ) → n ≡ suc j → body s 0 t ≡ body s 0 (take n t) ++ later_body s n (drop n t)
+  own-at j e = split t j (omega (arith, e)) (omega (arith, fits, low)) (last_own j e)
 
-    by : (m : ℕ) → n ≡ m → Parted s t u o
-    by zero e =
-        let a = begins-name Body s 0 t (ap (λ i. begins_with_name s (drop i t)) (sym e) ∙ named-own) in
-        let b = begins-name Body s 0 u (ap (λ i. begins_with_name s (drop i u)) (sym e) ∙ named-other) in
-        record {
-          front = [];
-          at = 0;
-          own = before_first p t;
-          other = before_first p u;
-          behind_own = a.0;
-          behind_other = b.0;
-          own_is = a.1;
-          other_is = b.1;
-          order = sym (ap (λ i. bytes_cmp (before_first p (drop i t)) (before_first p (drop i u))) e) ∙ named;
-        }
-    by (suc j) e =
-        let one : n ≡ j + 1 = omega (arith, e) in
-        let last_own : p (get_or t j 0) ≡ true = ap p (sym (get_or-take k t j 0 (omega (arith, e, low)))) ∙ ap (λ i. p (get_or (take k t) i 0)) (omega (arith, e)) ∙ last.1 (omega (arith, e)) 0 in
-        let last_other : p (get_or u j 0) ≡ true = ap p (sym (same-byte (get_or t j 0) (get_or u j 0) (parting.before j (omega arith) (omega (arith, e, low))))) ∙ last_own in
-        let same_front : take n u ≡ take n t = take-front u fits' ∙ ap (take n) (sym same) ∙ sym (take-front t fits) in
-        let a = begins-name Inside s n (drop n t) named-own in
-        let b = begins-name Inside s n (drop n u) named-other in
-        record {
-          front = body s 0 (take n t);
-          at = n;
-          own = before_first p (drop n t);
-          other = before_first p (drop n u);
-          behind_own = a.0;
-          behind_other = b.0;
-          own_is = split t j one (omega (arith, fits, low)) last_own ∙ ap (λ cs. body s 0 (take n t) ++ cs) a.1;
-          other_is = split u j one (omega (arith, fits', low)) last_other ∙ ap₂ (λ x cs. body s 0 x ++ cs) same_front b.1;
-          order = named;
-        }
-      where
-        take-front : (v : List ℕ) → k ≤ length v → take n v ≡ take n (take k v)
-        take-front v long = ap (take n) (sym (take-append-drop k v)) ∙ take-append-le n (take k v) (drop k v) (omega (arith, length-take-le k v long, low))
+  other-at : (j : ℕ) → n ≡ suc j → body s 0 u ≡ body s 0 (take n t) ++ later_body s n (drop n u)
+  other-at j e =
+      split u j (omega (arith, e)) (omega (arith, fits', low)) (last_other j e)
+      ∙ ap (λ x. body s 0 x ++ later_body s n (drop n u)) (take-front u fits' ∙ ap (take n) (sym same) ∙ sym (take-front t fits))
+
+  -- so they are in the order of what stands behind the components of the shared front
+  pub behind-shared : 0 < n → left_cmp (later_body s n (drop n t)) (later_body s n (drop n u)) ≡ left_cmp (body s 0 t) (body s 0 u)
+  behind-shared h =
+      cmp-behind (body s 0 (take n t)) (later_body s n (drop n t)) (later_body s n (drop n u)) (body s 0 t) (body s 0 u) (own-at (n - 1) (omega (arith, h))) (other-at (n - 1) (omega (arith, h)))
+
+  -- where both go on with a name, these are in the order of their ends
+  pub names-parted : (o : Ordering) → begins_with_name s (drop n t) ≡ true → begins_with_name s (drop n u) ≡ true
+      → bytes_cmp (before_first (is_separator s) (drop k t)) (before_first (is_separator s) (drop k u)) ≡ o
+      → Parted s t u o
+  names-parted o named-own named-other is =
+      by n refl
+    where
+      mid : List ℕ
+      mid = drop n (take k t)
+
+      own : drop n t ≡ mid ++ drop k t
+      own = ap (drop n) (sym (take-append-drop k t)) ∙ drop-append-le n (take k t) (drop k t) parted.2
+
+      other : drop n u ≡ mid ++ drop k u
+      other = ap (drop n) (sym (take-append-drop k u)) ∙ ap (λ x. drop n (x ++ drop k u)) (sym same) ∙ drop-append-le n (take k t) (drop k u) parted.2
+
+      opened : All (λ b. is_separator s b ≡ false) mid
+      opened i d l = ap (is_separator s) (get_or-drop n (take k t) i d) ∙ parted.1.0 (n + i) d (omega arith) (omega (arith, l, length-drop n (take k t)))
+
+      named : bytes_cmp (before_first (is_separator s) (drop n t)) (before_first (is_separator s) (drop n u)) ≡ o
+      named =
+          ap₂ bytes_cmp (ap (before_first (is_separator s)) own ∙ before_first-open (is_separator s) mid (drop k t) opened) (ap (before_first (is_separator s)) other ∙ before_first-open (is_separator s) mid (drop k u) opened)
+          ∙ bytes-shared mid (before_first (is_separator s) (drop k t)) (before_first (is_separator s) (drop k u))
+          ∙ is
+
+      by : (m : ℕ) → n ≡ m → Parted s t u o
+      by zero e =
+          let a = begins-name Body s 0 t (ap (λ i. begins_with_name s (drop i t)) (sym e) ∙ named-own) in
+          let b = begins-name Body s 0 u (ap (λ i. begins_with_name s (drop i u)) (sym e) ∙ named-other) in
+          record {
+            front = [];
+            at = 0;
+            own = before_first (is_separator s) t;
+            other = before_first (is_separator s) u;
+            behind_own = a.0;
+            behind_other = b.0;
+            own_is = a.1;
+            other_is = b.1;
+            order = sym (ap (λ i. bytes_cmp (before_first (is_separator s) (drop i t)) (before_first (is_separator s) (drop i u))) e) ∙ named;
+          }
+      by (suc j) e =
+          let a = begins-name Inside s n (drop n t) named-own in
+          let b = begins-name Inside s n (drop n u) named-other in
+          record {
+            front = body s 0 (take n t);
+            at = n;
+            own = before_first (is_separator s) (drop n t);
+            other = before_first (is_separator s) (drop n u);
+            behind_own = a.0;
+            behind_other = b.0;
+            own_is = own-at j e ∙ ap (λ cs. body s 0 (take n t) ++ cs) a.1;
+            other_is = other-at j e ∙ ap (λ cs. body s 0 (take n t) ++ cs) b.1;
+            order = named;
+          }
 
 -- one text is in order with itself
 pub itself-order : (s : Separators) (t u : List ℕ) (k : ℕ) → IsFirstPlace (differs_at t u) 0 (min (length t) (length u)) k → k ≡ length t → k ≡ length u → left_cmp (body s 0 t) (body s 0 u) ≡ Equal
 itself-order s t u k parting whole whole' =
     let same : t ≡ u = sym (take_all k t (omega (arith, whole))) ∙ alike-front k t u (omega (arith, whole)) (omega (arith, whole')) (λ i l. same-byte (get_or t i 0) (get_or u i 0) (parting.before i (omega arith) l)) ∙ take_all k u (omega (arith, whole')) in
     ap (λ v. left_cmp (body s 0 t) (body s 0 v)) (sym same) ∙ tied_itself kinds_cmp_total (kinds (parts (body s 0 t)))
-
--- the components of a Windows text with no prefix but a drive
-bare-comps : (t v : List ℕ) → IsPartedDrive t None v → comps windows t ≡ body Either 0 v
-bare-comps t v d = ap₂ (λ s f. comps_behind s t f) d.0 d.1 ∙ ap (body Either 0) (sym d.2)
-
-driven-comps : (n : ℕ) (t v : List ℕ) → IsPartedDrive t (Some n) v → comps windows t ≡ component (prefix_part (disk n) (take 2 t)) 0 ++ body Either 2 v
-driven-comps n t v d = ap₂ (λ s f. comps_behind s t f) d.0 d.1 ∙ ap (λ x. component (prefix_part (disk n) (take 2 t)) 0 ++ body Either 2 x) (sym d.2)
 
 -- behind one prefix two lists are in the order of what stands there
 behind-order : (p : Prefix) (a b : List ℕ) (s : Separators) (n m : ℕ) (v w : List ℕ) (o : Ordering) → left_cmp (body s 0 v) (body s 0 w) ≡ o
@@ -279,37 +293,65 @@ behind-apart p a b s n m v w apart =
     ap (λ r. bytes_eq b a && r) (ap₂ (λ ps qs. starts_with bytes_eq (texts ps) (texts qs)) (parts-body s n v ∙ sym (parts-body s 0 v)) (parts-body s m w ∙ sym (parts-body s 0 w)) ∙ apart)
     ∙ and-false (bytes_eq b a)
 
--- so it is of two Windows texts with one drive, or none
-pub parted-order : (t u : List ℕ) (a b : Option ℕ) (v w : List ℕ) (o : Ordering) → IsPartedDrive t a v → IsPartedDrive u b w → a ≡ b → left_cmp (body Either 0 v) (body Either 0 w) ≡ o → path_cmp windows t u ≡ o
-parted-order t u None None v w o own other same is = ap₂ left_cmp (bare-comps t v own) (bare-comps u w other) ∙ is
-parted-order t u None (Some m) v w o own other same is = cc
-parted-order t u (Some l) None v w o own other same is = cc
-parted-order t u (Some l) (Some m) v w o own other same is =
-    ap₂ left_cmp (driven-comps l t v own) (driven-comps m u w other)
-    ∙ ap (λ k. left_cmp (component (prefix_part (disk l) (take 2 t)) 0 ++ body Either 2 v) (component (prefix_part (disk k) (take 2 u)) 0 ++ body Either 2 w)) (sym (some_is same))
-    ∙ behind-order (disk l) (take 2 t) (take 2 u) Either 2 2 v w o is
+-- two Windows texts with no prefix but one drive
+pub parted-one : (t u : List ℕ) (a b : Option ℕ) (v w : List ℕ) → IsPartedDrive t a v → IsPartedDrive u b w → a ≡ b → HaveOnePrefix t u (length t - length v) Either
+parted-one t u None None v w own other same = (
+  own.0,
+  other.0,
+  other.1 ∙ sym own.1,
+  omega (arith, ap length own.2) ∙ sym (ap raw_length own.1),
+)
+parted-one t u None (Some m) v w own other same = cc
+parted-one t u (Some l) None v w own other same = cc
+parted-one t u (Some l) (Some m) v w own other same = (
+  own.0,
+  other.0,
+  other.1 ∙ ap (λ k. Some (found (disk k) 2)) (sym (some_is same)) ∙ sym own.1,
+  omega (arith, ap length own.2, length-drop 2 t, (prefix-fits windows t (found (disk l) 2) own.1).fits) ∙ sym (ap raw_length own.1),
+)
 
-pub parted-apart : (t u : List ℕ) (a b : Option ℕ) (v w : List ℕ) → IsPartedDrive t a v → IsPartedDrive u b w → a ≡ b → begins (body Either 0 v) (body Either 0 w) ≡ false → path_starts_with windows t u ≡ false
-parted-apart t u None None v w own other same apart = ap₂ begins (bare-comps t v own) (bare-comps u w other) ∙ apart
-parted-apart t u None (Some m) v w own other same apart = cc
-parted-apart t u (Some l) None v w own other same apart = cc
-parted-apart t u (Some l) (Some m) v w own other same apart =
-    ap₂ begins (driven-comps l t v own) (driven-comps m u w other)
-    ∙ ap (λ k. begins (component (prefix_part (disk l) (take 2 t)) 0 ++ body Either 2 v) (component (prefix_part (disk k) (take 2 u)) 0 ++ body Either 2 w)) (sym (some_is same))
-    ∙ behind-apart (disk l) (take 2 t) (take 2 u) Either 2 2 v w apart
+-- what stands behind a drive is no longer than the text
+pub parted-fits : (t : List ℕ) (a : Option ℕ) (v : List ℕ) → IsPartedDrive t a v → length v ≤ length t
+parted-fits t None v own = omega (arith, ap length own.2)
+parted-fits t (Some l) v own = omega (arith, ap length own.2, length-drop 2 t)
 
--- and of two with one prefix, read with the same separators
-module _ (t u : List ℕ) (f : Found) (own : prefix_of windows t ≡ Some f) (other : prefix_of windows u ≡ Some f) (same : separators windows u ≡ separators windows t) where
-  prefixed-comps : (v : List ℕ) → prefix_of windows v ≡ Some f → separators windows v ≡ separators windows t
-      → comps windows v ≡ component (prefix_part f.prefix (take f.length v)) 0 ++ body (separators windows t) f.length (drop f.length v)
-  prefixed-comps v is read = ap₂ (λ s g. comps_behind s v g) read is
+-- a prefix ends within its text
+raw-fits : (t : List ℕ) (p : Option Found) → prefix_of windows t ≡ p → raw_length p ≤ length t
+raw-fits t None is = omega arith
+raw-fits t (Some f) is = (prefix-fits windows t f is).fits
 
-  pub prefixed-order : (o : Ordering) → left_cmp (body (separators windows t) 0 (drop f.length t)) (body (separators windows t) 0 (drop f.length u)) ≡ o → path_cmp windows t u ≡ o
-  prefixed-order o is =
-      ap₂ left_cmp (prefixed-comps t own refl) (prefixed-comps u other same)
-      ∙ behind-order f.prefix (take f.length t) (take f.length u) (separators windows t) f.length f.length (drop f.length t) (drop f.length u) o is
+-- and one of two texts within both
+pub one-fits : (t u : List ℕ) (n : ℕ) (s : Separators) → HaveOnePrefix t u n s → (n ≤ length t) × (n ≤ length u)
+one-fits t u n s one = (
+  omega (arith, one.3, raw-fits t (prefix_of windows t) refl),
+  omega (arith, one.3, ap raw_length one.2, raw-fits u (prefix_of windows u) refl),
+)
 
-  pub prefixed-apart : begins (body (separators windows t) 0 (drop f.length t)) (body (separators windows t) 0 (drop f.length u)) ≡ false → path_starts_with windows t u ≡ false
-  prefixed-apart apart =
-      ap₂ begins (prefixed-comps t own refl) (prefixed-comps u other same)
-      ∙ behind-apart f.prefix (take f.length t) (take f.length u) (separators windows t) f.length f.length (drop f.length t) (drop f.length u) apart
+-- two Windows texts with one prefix, or none, are in the order of what stands behind it, and the one does not begin with the other where that does not
+module _ (t u : List ℕ) (n : ℕ) (s : Separators) (one : HaveOnePrefix t u n s) where
+  bare-comps : (v : List ℕ) → prefix_of windows v ≡ None → separators windows v ≡ s → comps windows v ≡ body s 0 (drop 0 v)
+  bare-comps v is read = ap₂ (λ r g. comps_behind r v g) read is
+
+  prefixed-comps : (f : Found) (v : List ℕ) → prefix_of windows v ≡ Some f → separators windows v ≡ s
+      → comps windows v ≡ component (prefix_part f.prefix (take f.length v)) 0 ++ body s f.length (drop f.length v)
+  prefixed-comps f v is read = ap₂ (λ r g. comps_behind r v g) read is
+
+  pub one-order : (o : Ordering) → left_cmp (body s 0 (drop n t)) (body s 0 (drop n u)) ≡ o → path_cmp windows t u ≡ o
+  one-order o is = by (prefix_of windows t) refl one.2 one.3
+    where
+      by : (p : Option Found) → prefix_of windows t ≡ p → prefix_of windows u ≡ p → n ≡ raw_length p → path_cmp windows t u ≡ o
+      by None own other e = ap₂ left_cmp (bare-comps t own one.0) (bare-comps u other one.1) ∙ sym (λ i. left_cmp (body s 0 (drop (e i) t)) (body s 0 (drop (e i) u))) ∙ is
+      by (Some f) own other e =
+          ap₂ left_cmp (prefixed-comps f t own one.0) (prefixed-comps f u other one.1)
+          ∙ behind-order f.prefix (take f.length t) (take f.length u) s f.length f.length (drop f.length t) (drop f.length u) o
+          (sym (λ i. left_cmp (body s 0 (drop (e i) t)) (body s 0 (drop (e i) u))) ∙ is)
+
+  pub one-apart : begins (body s 0 (drop n t)) (body s 0 (drop n u)) ≡ false → path_starts_with windows t u ≡ false
+  one-apart apart = by (prefix_of windows t) refl one.2 one.3
+    where
+      by : (p : Option Found) → prefix_of windows t ≡ p → prefix_of windows u ≡ p → n ≡ raw_length p → path_starts_with windows t u ≡ false
+      by None own other e = ap₂ begins (bare-comps t own one.0) (bare-comps u other one.1) ∙ sym (λ i. begins (body s 0 (drop (e i) t)) (body s 0 (drop (e i) u))) ∙ apart
+      by (Some f) own other e =
+          ap₂ begins (prefixed-comps f t own one.0) (prefixed-comps f u other one.1)
+          ∙ behind-apart f.prefix (take f.length t) (take f.length u) s f.length f.length (drop f.length t) (drop f.length u)
+          (sym (λ i. begins (body s 0 (drop (e i) t)) (body s 0 (drop (e i) u))) ∙ apart)

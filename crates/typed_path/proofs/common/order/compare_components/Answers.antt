@@ -37,6 +37,7 @@ returns g c =
       | in-None-None w ↦ prefixes-none cs ds w.in-None-None.ensures w.in-None-None.ensures'
     ] in
     c.compare_each.ensures
+    ∙ c.bodies_behind_shared.ensures
     ∙ ap₂ left_cmp c.body-2.ensures c.body-3.ensures
     ∙ behind
     ∙ ap₂ left_cmp c.cursor-own.ensures.items c.cursor-others.ensures.items

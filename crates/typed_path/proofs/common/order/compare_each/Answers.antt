@@ -5,9 +5,6 @@ use Rattle.typed_path.proofs.lemmas.changes.Faults.{taken-first}
 use Rattle.typed_path.proofs.lemmas.order.Comparisons.{cmp-none, cmp-more, cmp-fewer, cmp-differ, cmp-alike}
 use Rattle.typed_path.proofs.common.order.compare_each.Goals as goal
 
-pub steps-init : goal.steps-init
-steps-init c = sym c.bodies_behind_shared.ensures
-
 pub returns-in_default-front : goal.returns-in_default-front
 returns-in_default-front c =
     sym (c.steps.invariant ∙ cmp-fewer (body_items c.steps.rest) (body_items c.steps.wanted) (step_part c.in-Some.step) c.in-Some.ensures.taken c.in_default-front.ensures.taken)

@@ -1,6 +1,6 @@
-use Rattle.std.proofs.Common.{ℕ, ◌+◌, ◌<◌, ◌%◌, ◌^◌, ◌==◌, Bool, not, length, pow_mono, sym, subst, ◌∙◌, ap, w8, arith}
+use Rattle.std.proofs.Common.{ℕ, ◌+◌, ◌%◌, ◌^◌, ◌==◌, Bool, not, sym, subst, ◌∙◌, ap, w8, arith}
 use Rattle.std.specs.Simd.Lanes.{zip2, mask_l}
-use Rattle.std.proofs.lemmas.Simd.{tops_compared, mask_l-lt, mask_l-mod, length-zip2, length-chunk}
+use Rattle.std.proofs.lemmas.Simd.{tops_compared, mask_l-mod, length-zip2, length-chunk}
 use Rattle.typed_path.specs.scan.{IsMask, differs_at}
 use Rattle.typed_path.proofs.lemmas.scan.Searches.{mask-chunks}
 use Rattle.typed_path.proofs.scan.lanes.differences_at.Goals as goal

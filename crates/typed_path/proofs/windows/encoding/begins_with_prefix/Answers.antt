@@ -1,6 +1,5 @@
-use Rattle.std.proofs.Common.{◌≡◌, ◌<◌, true, length, take, refl, sym, ap, ◌∙◌, arith, get_or}
+use Rattle.std.proofs.Common.{◌≡◌, true, take, refl, sym, ap, ◌∙◌, arith, get_or}
 use Rattle.std.specs.Prelude.{Some}
-use Rattle.std.specs.Bool.{IsTrue}
 use Rattle.std.specs.Cmp.Lexicographic.{bytes_decides}
 use Rattle.typed_path.specs.components.{is_separator, separators, windows, prefix_of}
 use Rattle.typed_path.specs.views.PieceViews.{found_of}

@@ -2,7 +2,7 @@ use Rattle.std.proofs.Common.{◌≡◌, sym, ap, ◌∙◌}
 use Rattle.std.proofs.lemmas.Cmp.{tied_itself}
 use Rattle.std.specs.Cmp.Lexicographic.{bytes_decides}
 use Rattle.typed_path.specs.order.{path_cmp, path_cmp_total}
-use Rattle.typed_path.proofs.common.order.compare_read.Goals as goal
+use Rattle.typed_path.proofs.common.order.compare.Goals as goal
 
 pub returns-then-eq : goal.returns-then-eq
 returns-then-eq g c =

@@ -1,0 +1,16 @@
+use Rattle.std.proofs.Common.{sym, ◌∙◌}
+use Rattle.std.specs.List.{starts_with}
+use Rattle.std.specs.Str.{bytes_eq}
+use Rattle.std.proofs.lemmas.List.{take_rest}
+use Rattle.typed_path.specs.components.{body, parts, texts}
+use Rattle.typed_path.proofs.lemmas.order.SharedNames.{one-apart}
+use Rattle.typed_path.proofs.windows.encoding.is_apart_behind_marked.Goals as goal
+
+pub returns-in-Some : goal.returns-in-Some
+returns-in-Some c = λ told.
+    let t = c.args.path.now in
+    let u = c.args.other.now in
+    let n = c.in-Some.end in
+    let s = c.in-Some.separators in
+    one-apart t u n s c.in-Some.ensures.one
+    (sym (λ i. starts_with bytes_eq (texts (parts (body s 0 (take_rest t n i)))) (texts (parts (body s 0 (take_rest u n i))))) ∙ c.are_apart.ensures told)
