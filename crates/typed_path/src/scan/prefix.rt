@@ -225,17 +225,23 @@ fn begins_with_two(text: &[u8]) -> bool
     matches!(text, [a, b, ..] if separates(*a) && separates(*b))
 }
 
-/// The prefix of a text that begins with two separators: the first of the five cases that matches.
+/// The prefix of a text that begins with two separators: the first of the five cases that matches. The
+/// third byte tells which of them can.
 fn find_marked(text: &[u8]) -> Option<Found<'_>>
     requires { is_some (after_two text.now) ≡ true }
     ensures { option_map found_of result ≡ prefix_of windows text.now }
 {
-    let separators = Separators::of_windows(text);
-    verbatim_unc(separators, text)
-        .or_else(|| verbatim_disk(text))
-        .or_else(|| verbatim(separators, text))
-        .or_else(|| device(text))
-        .or_else(|| unc(text))
+    match text {
+        [_, _, b'?', ..] => {
+            let separators = Separators::of_windows(text);
+            verbatim_disk(text)
+                .or_else(|| verbatim_unc(separators, text))
+                .or_else(|| verbatim(separators, text))
+                .or_else(|| unc(text))
+        }
+        [_, _, b'.', ..] => device(text).or_else(|| unc(text)),
+        _ => unc(text),
+    }
 }
 
 /// The prefix that a Windows text begins with: the first of the six cases that matches.

@@ -1,12 +1,12 @@
 -- The prefix of a Windows text: its separators, how many bytes it takes, its marks and what it was read from.
-use Rattle.std.proofs.Common.{◌≡◌, ℕ, ◌==◌, ◌||◌, Bool, true, false, List, [], ◌∷◌, refl, ◌+◌, ◌<◌, ◌≤◌, not, if◌then◌else◌, nat_lt, length, Option, Some, None, option_and_then, ap, arith, length-take, length-drop, zero, suc, ◌⊎◌, inl, inr, take, drop, option_map, sym, ◌∙◌, add_assoc, subst, ltb-true, drop-drop}
+use Rattle.std.proofs.Common.{◌≡◌, ℕ, ◌==◌, ◌||◌, ◌&&◌, Bool, true, false, List, [], ◌∷◌, refl, ◌+◌, ◌<◌, ◌≤◌, not, if◌then◌else◌, nat_lt, length, Option, Some, None, option_and_then, ap, arith, length-take, length-drop, zero, suc, ◌⊎◌, inl, inr, take, drop, option_map, sym, ◌∙◌, add_assoc, subst, ltb-true, eqb-true, drop-drop}
 use Rattle.std.proofs.lemmas.Bool.{cond_both}
 use Rattle.std.specs.Option.{option_or}
 use Rattle.std.specs.List.{position_or_len, after_first}
 use Rattle.std.proofs.lemmas.List.Sums.{prefix_len-le-length}
 use Rattle.typed_path.specs.declared.scan.separators.Separators.{Separators}
 use Rattle.typed_path.specs.declared.scan.separators.Separators.TheVariants.{Slash, Backslash, Either}
-use Rattle.typed_path.specs.components.{windows, dialect_of, separators, begins_verbatim, is_verbatim, slash, backslash, dot, is_separator, root_text, Dialect, unix, question, Found, is_empty, drive, after_two, after_four, after_mark, after_unc, name, second_name, names_length, verbatim_unc_case, verbatim_disk_case, verbatim_case, device_case, unc_case, disk_case, prefix_of, found, verbatim, verbatim_unc, verbatim_disk, device_ns, unc, disk}
+use Rattle.typed_path.specs.components.{windows, dialect_of, separators, begins_verbatim, is_verbatim, slash, backslash, dot, colon, is_separator, root_text, Dialect, unix, question, Found, is_empty, is_drive_letter, to_upper, drive, after_two, after_four, after_mark, after_unc, name, second_name, names_length, verbatim_unc_case, verbatim_disk_case, verbatim_case, device_case, unc_case, disk_case, prefix_of, found, verbatim, verbatim_unc, verbatim_disk, device_ns, unc, disk}
 
 -- The separators of a Windows text.
 
@@ -393,3 +393,29 @@ prefix-read text f is =
     (λ no_verbatim. or-read s text (device_case text) _ (device-read s text)
     (λ no_device. or-read s text (unc_case text) (disk_case text) (unc-read s text no_verbatim no_device)
     (λ none. disk-read s text))))) f is
+
+-- no drive behind a mark is `UNC`, so either may be asked for first
+pub drive_first : (s : Separators) (text : List ℕ) (o : Option Found) → option_or (verbatim_disk_case text) (option_or (verbatim_unc_case s text) o) ≡ option_or (verbatim_unc_case s text) (option_or (verbatim_disk_case text) o)
+drive_first s text o = by (after_mark question text)
+  where
+    of_names : List ℕ → Option Found
+    of_names rest = if is_empty (name s rest) then None else Some (found (verbatim_unc (name s rest) (second_name s rest)) (8 + names_length s rest))
+
+    by_bytes : (u n k p l : Bool) (c : ℕ) (rest : List ℕ) (letter : ℕ) → (c == 78) ≡ n → (col : Bool) → (c == colon) ≡ col
+        → option_or (option_and_then (λ x. Some (found (verbatim_disk x) 6)) (if (l && col) then Some letter else None)) (option_or (option_and_then of_names (if (((u && n) && k) && p) then Some rest else None)) o)
+        ≡ option_or (option_and_then of_names (if (((u && n) && k) && p) then Some rest else None)) (option_or (option_and_then (λ x. Some (found (verbatim_disk x) 6)) (if (l && col) then Some letter else None)) o)
+    by_bytes false n k p l c rest letter e col f = refl
+    by_bytes true false k p l c rest letter e col f = refl
+    by_bytes true true k p false c rest letter e col f = refl
+    by_bytes true true k p true c rest letter e false f = refl
+    by_bytes true true k p true c rest letter e true f = absurd (omega (arith, eqb-true c 78 e, eqb-true c colon f))
+
+    by : (marked : Option (List ℕ))
+        → option_or (option_and_then (λ letter. Some (found (verbatim_disk letter) 6)) (option_and_then drive marked)) (option_or (option_and_then of_names (option_and_then (after_unc s) marked)) o)
+        ≡ option_or (option_and_then of_names (option_and_then (after_unc s) marked)) (option_or (option_and_then (λ letter. Some (found (verbatim_disk letter) 6)) (option_and_then drive marked)) o)
+    by None = refl
+    by (Some []) = refl
+    by (Some (a ∷ [])) = refl
+    by (Some (a ∷ b ∷ [])) = refl
+    by (Some (a ∷ b ∷ c ∷ [])) = refl
+    by (Some (a ∷ b ∷ c ∷ d ∷ rest)) = by_bytes (a == 85) (b == 78) (c == 67) (is_separator s d) (is_drive_letter a) b rest (to_upper a) refl (b == colon) refl
