@@ -3,11 +3,12 @@
 
 ghost use Rattle.std.specs.Prelude.{◌≡◌, ◌≤◌, ◌+◌, ◌-◌, ◌==◌, ◌||◌, ℕ, not, length, drop, slice_range, IsTrue};
 ghost use Rattle.std.specs.List.{position_or_len, list_any, before_first, IsAfterLastMatch, slice_split};
+ghost use Rattle.std.specs.Char.{to_ascii_lowercase};
 ghost use Rattle.std.specs.Str.{str_eq_ignore_ascii_case};
 ghost use Rattle.typed_path.specs.scan.{is_one_of, stands_at, IsMask};
 ghost use Rattle.typed_path.specs.components.{windows, slash, backslash, separators, is_separator, is_verbatim, root_text, dialect_of, body, kinds, parts};
 ghost use Rattle.typed_path.specs.queries.{has_allowed_bytes, is_reserved, is_valid_name, is_valid, is_a_dot};
-ghost use Rattle.typed_path.specs.changes.{SeparatesDisallowed, is_stray, begins_device, may_be_reserved, is_parent_or_device, begins_like_parent_or_device, begins_with_parent_or_device, is_in, ends_stem, may_end_stem, has_parent_or_device, has_parent_or_device_behind};
+ghost use Rattle.typed_path.specs.changes.{SeparatesDisallowed, is_stray, is_bare_device, is_numbered_device, may_be_reserved, is_parent_or_device, begins_like_parent_or_device, begins_with_parent_or_device, is_in, ends_stem, may_end_stem, has_parent_or_device, has_parent_or_device_behind};
 
 use crate::constants::windows::RESERVED_DEVICE_NAMES;
 use crate::scan::cut::cut_at_separator;
@@ -184,28 +185,62 @@ fn is_free_of(pair: (u8, u8), text: &[u8]) -> bool
     first_between(text, 0, text.len(), pair) == text.len()
 }
 
-/// Whether a name may stand for a device: it begins as one does, and a dot, or its end, stands behind
-/// its third byte or its fourth.
+/// Whether the first bytes of a name are, ASCII case aside, the name of a device, with a dot or the end
+/// behind them. So hardly another name is compared with those of all devices.
 #[inline(always)]
 fn may_be_reserved(name: &[u8]) -> bool
     ensures { result ≡ may_be_reserved name.now }
 {
     match name {
-        [a, b, _, d, e, ..] => {
-            begins_device(a.to_ascii_lowercase(), b.to_ascii_lowercase())
-                & ((*d == b'.') | (*e == b'.'))
+        [a, b, c, d, e, ..] => {
+            if *d == b'.' {
+                is_bare_device(*a, *b, *c)
+            } else {
+                *e == b'.' && is_numbered_device(*a, *b, *c, *d)
+            }
         }
-        [a, b, _, ..] => begins_device(a.to_ascii_lowercase(), b.to_ascii_lowercase()),
+        [a, b, c, d] => {
+            if *d == b'.' {
+                is_bare_device(*a, *b, *c)
+            } else {
+                is_numbered_device(*a, *b, *c, *d)
+            }
+        }
+        [a, b, c] => is_bare_device(*a, *b, *c),
         _ => false,
     }
 }
 
-/// Whether the name of a device begins with these two letters, small ones.
+/// Whether three bytes are the name of a device, ASCII case aside.
 #[inline(always)]
-fn begins_device(first: u8, second: u8) -> bool
-    ensures { result ≡ begins_device first second }
+fn is_bare_device(first: u8, second: u8, third: u8) -> bool
+    ensures { result
+        ≡ is_bare_device (to_ascii_lowercase first) (to_ascii_lowercase second) (to_ascii_lowercase third) }
 {
-    matches!(first, b'c' | b'p' | b'a' | b'n' | b'l') & matches!(second, b'o' | b'r' | b'u' | b'p')
+    matches!(
+        (
+            first.to_ascii_lowercase(),
+            second.to_ascii_lowercase(),
+            third.to_ascii_lowercase()
+        ),
+        (b'c', b'o', b'n') | (b'p', b'r', b'n') | (b'a', b'u', b'x') | (b'n', b'u', b'l')
+    )
+}
+
+/// Whether four bytes are the name of a device that ends with a digit, ASCII case aside.
+#[inline(always)]
+fn is_numbered_device(first: u8, second: u8, third: u8, last: u8) -> bool
+    ensures { result
+        ≡ is_numbered_device (to_ascii_lowercase first) (to_ascii_lowercase second) (to_ascii_lowercase third) (to_ascii_lowercase last) }
+{
+    matches!(
+        (
+            first.to_ascii_lowercase(),
+            second.to_ascii_lowercase(),
+            third.to_ascii_lowercase()
+        ),
+        (b'c', b'o', b'm') | (b'l', b'p', b't')
+    ) && matches!(last.to_ascii_lowercase(), b'0'..=b'9')
 }
 
 /// Whether the bytes of a name before its first dot are, ASCII case aside, the name of a device.

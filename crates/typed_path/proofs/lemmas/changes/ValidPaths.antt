@@ -1,5 +1,5 @@
 -- Paths of Windows of which looks at their bytes tell that they have no fault: the search for `..` and for devices, and what it tells of the components.
-use Rattle.std.proofs.Common.{⊎_elim, ◌^◌, ◌/◌, ◌≡◌, ℕ, zero, suc, ◌+◌, ◌-◌, ◌≤◌, ◌<◌, Bool, true, false, take, subst, eqb-true, ne_eqb, if◌then◌else◌, cond, not, ◌&&◌, ◌||◌, ◌==◌, List, [], ◌∷◌, ◌++◌, length, drop, refl, sym, ap, ◌∙◌, arith, Some, None, true≢false}
+use Rattle.std.proofs.Common.{nat_le, ⊎_elim, ◌^◌, ◌/◌, ◌≡◌, ℕ, zero, suc, ◌+◌, ◌-◌, ◌≤◌, ◌<◌, Bool, true, false, take, subst, eqb-true, ne_eqb, if◌then◌else◌, cond, not, ◌&&◌, ◌||◌, ◌==◌, List, [], ◌∷◌, ◌++◌, length, drop, refl, sym, ap, ◌∙◌, arith, Some, None, true≢false}
 use Rattle.std.specs.List.{list_any, list_all, before_first, position_or_len, onto_first}
 use Rattle.std.specs.Option.{option_or}
 use Rattle.std.specs.Char.{to_ascii_lowercase}
@@ -15,7 +15,7 @@ use Rattle.std.specs.Int.{bit_at}
 use Rattle.typed_path.specs.scan.{stands_at, IsFirstOf, IsMask}
 use Rattle.typed_path.proofs.lemmas.scan.Searches.{mask-behind, mask-alike, block-first, block-none}
 use Rattle.typed_path.specs.queries.{is_reserved, is_valid, is_valid_name}
-use Rattle.typed_path.specs.changes.{is_in, fault, fault_behind, begins_device, may_be_reserved, is_stray, is_parent_or_device, begins_like_parent_or_device, may_end_stem, begins_with_parent_or_device, has_parent_or_device_behind, has_parent_or_device, begins_with_separator, has_only_valid_names}
+use Rattle.typed_path.specs.changes.{is_in, fault, fault_behind, is_bare_device, is_numbered_device, may_be_reserved, is_stray, is_parent_or_device, begins_like_parent_or_device, may_end_stem, begins_with_parent_or_device, has_parent_or_device_behind, has_parent_or_device, begins_with_separator, has_only_valid_names}
 use Rattle.typed_path.proofs.lemmas.components.Segments.{pieces, first_parts, later_parts, body_parts, parts-body}
 use Rattle.typed_path.proofs.lemmas.queries.ValidNames.{reserved-may, valid-found}
 use Rattle.typed_path.proofs.lemmas.changes.Faults.{parts_of-none}
@@ -48,22 +48,25 @@ module _ (goal : Bool) where
   one_of_two true q f g e = f refl
   one_of_two false q f g e = g e
 
--- what a device begins with
-first_in : (a : ℕ) → (to_ascii_lowercase a == 99 || to_ascii_lowercase a == 112 || to_ascii_lowercase a == 97 || to_ascii_lowercase a == 110 || to_ascii_lowercase a == 108) ≡ true → is_in 86026 a ≡ true
-first_in a e =
-    let g = is_in 86026 a in
-    one_of_two g _ _ (one_of_two g _ _ (one_of_two g _ _ (one_of_two g _ _ (λ i. letter 86026 99 a i refl refl) (λ i. letter 86026 112 a i refl refl)) (λ i. letter 86026 97 a i refl refl)) (λ i. letter 86026 110 a i refl refl)) (λ i. letter 86026 108 a i refl refl) e
-
-second_in : (b : ℕ) → (to_ascii_lowercase b == 111 || to_ascii_lowercase b == 114 || to_ascii_lowercase b == 117 || to_ascii_lowercase b == 112) ≡ true → is_in 2473984 b ≡ true
-second_in b e =
-    let g = is_in 2473984 b in
-    one_of_two g _ _ (one_of_two g _ _ (one_of_two g _ _ (λ i. letter 2473984 111 b i refl refl) (λ i. letter 2473984 114 b i refl refl)) (λ i. letter 2473984 117 b i refl refl)) (λ i. letter 2473984 112 b i refl refl) e
-
 both_in : (a b : ℕ) → is_in 86026 a ≡ true → is_in 2473984 b ≡ true → (is_in 86026 a && is_in 2473984 b) ≡ true
 both_in a b e f = ap (λ x. x && is_in 2473984 b) e ∙ f
 
-device_in : (a b : ℕ) → begins_device (to_ascii_lowercase a) (to_ascii_lowercase b) ≡ true → (is_in 86026 a && is_in 2473984 b) ≡ true
-device_in a b e = let each = and_parts (to_ascii_lowercase a == 99 || to_ascii_lowercase a == 112 || to_ascii_lowercase a == 97 || to_ascii_lowercase a == 110 || to_ascii_lowercase a == 108) _ e in both_in a b (first_in a each.0) (second_in b each.1)
+-- what a device begins with
+letters_in : (k l a b : ℕ) (third : Bool) → is_in 86026 k ≡ true → is_in 86026 (k - 32) ≡ true → is_in 2473984 l ≡ true → is_in 2473984 (l - 32) ≡ true
+    → ((to_ascii_lowercase a == k && to_ascii_lowercase b == l) && third) ≡ true → (is_in 86026 a && is_in 2473984 b) ≡ true
+letters_in k l a b third small capital other_small other_capital e =
+    let both = (and_parts (to_ascii_lowercase a == k && to_ascii_lowercase b == l) third e).0 in
+    let each = and_parts (to_ascii_lowercase a == k) (to_ascii_lowercase b == l) both in
+    both_in a b (letter 86026 k a each.0 small capital) (letter 2473984 l b each.1 other_small other_capital)
+
+bare_in : (a b c : ℕ) → is_bare_device (to_ascii_lowercase a) (to_ascii_lowercase b) c ≡ true → (is_in 86026 a && is_in 2473984 b) ≡ true
+bare_in a b c e =
+    let g = is_in 86026 a && is_in 2473984 b in
+    one_of_two g _ _ (one_of_two g _ _ (one_of_two g _ _ (letters_in 99 111 a b _ refl refl refl refl) (letters_in 112 114 a b _ refl refl refl refl)) (letters_in 97 117 a b _ refl refl refl refl)) (letters_in 110 117 a b _ refl refl refl refl) e
+
+numbered_in : (a b c d : ℕ) → is_numbered_device (to_ascii_lowercase a) (to_ascii_lowercase b) c d ≡ true → (is_in 86026 a && is_in 2473984 b) ≡ true
+numbered_in a b c d e =
+    one_of_two (is_in 86026 a && is_in 2473984 b) _ _ (letters_in 99 111 a b _ refl refl refl refl) (letters_in 108 112 a b _ refl refl refl refl) (and_parts _ (nat_le 48 d && nat_le d 57) e).0
 
 -- a segment that is `..` or stands for a device begins as one of them
 like : (segment : List ℕ) → is_parent_or_device segment ≡ true → begins_like_parent_or_device segment ≡ true
@@ -81,9 +84,20 @@ like segment e = by (is_dot_dot segment) (is_reserved windows segment) refl refl
     device [] h = cc
     device (a ∷ []) h = cc
     device (a ∷ b ∷ []) h = cc
-    device (a ∷ b ∷ c ∷ []) h = device_in a b h
-    device (a ∷ b ∷ c ∷ d ∷ []) h = device_in a b h
-    device (a ∷ b ∷ c ∷ d ∷ e ∷ text) h = device_in a b (and_parts (begins_device (to_ascii_lowercase a) (to_ascii_lowercase b)) _ h).0
+    device (a ∷ b ∷ c ∷ []) h = bare_in a b (to_ascii_lowercase c) h
+    device (a ∷ b ∷ c ∷ d ∷ []) h = stem (d == dot) h
+      where
+        stem : (s : Bool) → cond s (is_bare_device (to_ascii_lowercase a) (to_ascii_lowercase b) (to_ascii_lowercase c)) (is_numbered_device (to_ascii_lowercase a) (to_ascii_lowercase b) (to_ascii_lowercase c) (to_ascii_lowercase d)) ≡ true
+            → (is_in 86026 a && is_in 2473984 b) ≡ true
+        stem true i = bare_in a b (to_ascii_lowercase c) i
+        stem false i = numbered_in a b (to_ascii_lowercase c) (to_ascii_lowercase d) i
+    device (a ∷ b ∷ c ∷ d ∷ e ∷ text) h = stem (d == dot) (e == dot) h
+      where
+        stem : (s t : Bool) → cond s (is_bare_device (to_ascii_lowercase a) (to_ascii_lowercase b) (to_ascii_lowercase c)) (t && is_numbered_device (to_ascii_lowercase a) (to_ascii_lowercase b) (to_ascii_lowercase c) (to_ascii_lowercase d)) ≡ true
+            → (is_in 86026 a && is_in 2473984 b) ≡ true
+        stem true t i = bare_in a b (to_ascii_lowercase c) i
+        stem false true i = numbered_in a b (to_ascii_lowercase c) (to_ascii_lowercase d) i
+        stem false false i = cc
 
     by : (dots reserved : Bool) → is_dot_dot segment ≡ dots → is_reserved windows segment ≡ reserved → (dots || reserved) ≡ true → begins_like_parent_or_device segment ≡ true
     by true reserved is held h = dotted segment is
@@ -151,11 +165,11 @@ module _ (a b c d e : ℕ) (rest : List ℕ) where
   fourth false true = refl
   fourth false false = refl
 
-  dotted : (x y z : Bool) → (y || z) ≡ true → ((x || (y || false)) || (z || false)) ≡ true
-  dotted true y z i = refl
-  dotted false true z i = refl
-  dotted false false true i = refl
-  dotted false false false i = cc
+  dotted : (x y z v w : Bool) → cond y v (z && w) ≡ true → ((x || (y || false)) || (z || false)) ≡ true
+  dotted true y z v w i = refl
+  dotted false true z v w i = refl
+  dotted false false true v w i = refl
+  dotted false false false v w i = cc
 
   long-ends : begins_with_parent_or_device (a ∷ b ∷ c ∷ d ∷ e ∷ rest) ≡ true → may_end_stem (a ∷ b ∷ c ∷ d ∷ e ∷ rest) ≡ true
   long-ends h =
@@ -172,7 +186,7 @@ module _ (a b c d e : ℕ) (rest : List ℕ) where
       by false false false false true more i = by_kind (a ∷ b ∷ c ∷ d ∷ []) (ends false true) (no _) (λ j. fourth (b == dot || (d == dot || false)) (e == dot)) i
       by false false false false false more i =
           by_kind (a ∷ b ∷ c ∷ d ∷ e ∷ more) (ends false false) (no _)
-          (λ j. dotted (b == dot) (d == dot) (e == dot) (and_parts (begins_device (to_ascii_lowercase a) (to_ascii_lowercase b)) (d == dot || e == dot) j).1) i
+          (λ j. dotted (b == dot) (d == dot) (e == dot) _ _ j) i
 
 -- so its stem may end where its first segment is one of them
 stem-ends : (text : List ℕ) → begins_with_parent_or_device text ≡ true → may_end_stem text ≡ true

@@ -13,17 +13,17 @@ use Rattle.typed_path.specs.declared.scan.separators.Separators.{Separators}
 use Rattle.typed_path.specs.declared.scan.separators.Separators.TheVariants.{Slash}
 use Rattle.typed_path.specs.components.{windows, dot, Dialect, unix, slash, dialect_of, separators, is_separator, is_verbatim, root_text, Part, kinds, parts, root_part, current_part, parent_part, name_part, Found, prefix_of, is_dot, is_dot_dot, body, comps_behind, parts_of}
 use Rattle.typed_path.specs.queries.{is_a_dot, reserved_names, is_reserved, is_disallowed, has_allowed_bytes, is_valid_name, is_valid_kind, is_valid}
-use Rattle.typed_path.specs.changes.{begins_device, may_be_reserved, is_stray, raw_length}
+use Rattle.typed_path.specs.changes.{is_bare_device, is_numbered_device, may_be_reserved, is_stray, raw_length}
 use Rattle.typed_path.proofs.lemmas.components.Segments.{pieces, first_part, first_parts, later_part, later_parts, body_parts, parts-body}
 use Rattle.typed_path.proofs.lemmas.components.Prefixes.{separators-windows}
 use Rattle.typed_path.proofs.lemmas.lists.Lists.{slice_split-some}
 
 -- Names that stand for devices: how they begin, and where their first dot comes.
 
--- a text in small letters is as long as the name of a device, and begins as one
+-- a text in small letters is as long as the name of a device, and is one by its bytes
 abbrev like_device : List ℕ → Bool
-like_device (a ∷ b ∷ c ∷ []) = begins_device a b
-like_device (a ∷ b ∷ c ∷ d ∷ []) = begins_device a b
+like_device (a ∷ b ∷ c ∷ []) = is_bare_device a b c
+like_device (a ∷ b ∷ c ∷ d ∷ []) = is_numbered_device a b c d
 like_device text = false
 
 -- whether the small letters of a text are
@@ -80,7 +80,7 @@ reserved-may (a ∷ b ∷ c ∷ []) h = by (a == dot) (b == dot) (c == dot) (sym
         stem-byte a (b ∷ c ∷ [])
         ∙ ap (λ t. cond (a == dot) [] (a ∷ t)) (stem-byte b (c ∷ []) ∙ ap (λ t. cond (b == dot) [] (b ∷ t)) (stem-byte c []))
 
-    by : (p q r : Bool) → is_like (cond p [] (a ∷ cond q [] (b ∷ cond r [] (c ∷ [])))) ≡ true → begins_device (to_ascii_lowercase a) (to_ascii_lowercase b) ≡ true
+    by : (p q r : Bool) → is_like (cond p [] (a ∷ cond q [] (b ∷ cond r [] (c ∷ [])))) ≡ true → is_bare_device (to_ascii_lowercase a) (to_ascii_lowercase b) (to_ascii_lowercase c) ≡ true
     by true q r like = cc
     by false true r like = cc
     by false false true like = cc
@@ -93,7 +93,8 @@ reserved-may (a ∷ b ∷ c ∷ d ∷ []) h = by (a == dot) (b == dot) (c == dot
         ∙ ap (λ t. cond (a == dot) [] (a ∷ t)) (stem-byte b (c ∷ d ∷ [])
         ∙ ap (λ t. cond (b == dot) [] (b ∷ t)) (stem-byte c (d ∷ []) ∙ ap (λ t. cond (c == dot) [] (c ∷ t)) (stem-byte d [])))
 
-    by : (p q r s : Bool) → is_like (cond p [] (a ∷ cond q [] (b ∷ cond r [] (c ∷ cond s [] (d ∷ []))))) ≡ true → begins_device (to_ascii_lowercase a) (to_ascii_lowercase b) ≡ true
+    by : (p q r s : Bool) → is_like (cond p [] (a ∷ cond q [] (b ∷ cond r [] (c ∷ cond s [] (d ∷ []))))) ≡ true
+        → cond s (is_bare_device (to_ascii_lowercase a) (to_ascii_lowercase b) (to_ascii_lowercase c)) (is_numbered_device (to_ascii_lowercase a) (to_ascii_lowercase b) (to_ascii_lowercase c) (to_ascii_lowercase d)) ≡ true
     by true q r s like = cc
     by false true r s like = cc
     by false false true s like = cc
@@ -113,12 +114,12 @@ reserved-may (a ∷ b ∷ c ∷ d ∷ e ∷ rest) h =
 
     by : (p q r s t : Bool) (more : List ℕ)
         → is_like (cond p [] (a ∷ cond q [] (b ∷ cond r [] (c ∷ cond s [] (d ∷ cond t [] (e ∷ more)))))) ≡ true
-        → (begins_device (to_ascii_lowercase a) (to_ascii_lowercase b) && (s || t)) ≡ true
+        → cond s (is_bare_device (to_ascii_lowercase a) (to_ascii_lowercase b) (to_ascii_lowercase c)) (t && is_numbered_device (to_ascii_lowercase a) (to_ascii_lowercase b) (to_ascii_lowercase c) (to_ascii_lowercase d)) ≡ true
     by true q r s t more like = cc
     by false true r s t more like = cc
     by false false true s t more like = cc
-    by false false false true t more like = ap (λ x. x && true) like
-    by false false false false true more like = ap (λ x. x && true) like
+    by false false false true t more like = like
+    by false false false false true more like = like
     by false false false false false more like = cc
 
 -- so one that may not stands for none
