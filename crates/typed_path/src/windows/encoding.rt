@@ -79,16 +79,10 @@ impl Encoding for WindowsEncoding {
         if !path.starts_with(base) {
             return None;
         }
-        let (prefix, body) = path.split_at(prefix_len(path));
-        let (base_prefix, base_body) = base.split_at(prefix_len(base));
-        let separators = Separators::of_windows(path);
-        if prefix != base_prefix
-            || separators.is_verbatim() != Separators::of_windows(base).is_verbatim()
-        {
-            return None;
-        }
-        let end = base_end(body, base_body, separators)?;
-        Some(&body[end..])
+        let (end, separators) = shared_prefix(path, base)?;
+        let body = &path[end..];
+        let behind = base_end(body, &base[end..], separators)?;
+        Some(&body[behind..])
     }
 
     #[inline(always)]
@@ -149,6 +143,20 @@ impl Encoding for WindowsEncoding {
             return Ok(());
         }
         Cursor::of_windows(path).check()
+    }
+}
+
+/// How many bytes the prefix takes that two paths have both, as their bytes tell, and the separators of
+/// both. None says nothing.
+#[inline(always)]
+fn shared_prefix(path: &[u8], other: &[u8]) -> Option<(usize, Separators)>
+    ensures one { IfSome result (λ shared. HaveOnePrefix path.now other.now shared.0 shared.1) }
+    ensures within { IfSome result
+        (λ shared. (shared.0 ≤ length path.now) × (shared.0 ≤ length other.now)) }
+{
+    match shared_drive(path, other) {
+        Some(end) => Some((end, Separators::Either)),
+        None => shared_marked_prefix(path, other),
     }
 }
 

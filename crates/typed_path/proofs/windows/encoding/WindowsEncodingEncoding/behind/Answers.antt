@@ -1,10 +1,11 @@
-use Rattle.std.proofs.Common.{rules, ◌≡◌, ◌<◌, ◌+◌, ◌++◌, ℕ, Some, true, length, take, drop, refl, ap, sym, subst, ◌∙◌}
-use Rattle.std.proofs.lemmas.List.{take_rest}
+use Rattle.std.proofs.Common.{rules, ◌≡◌, ◌<◌, ◌≤◌, ◌+◌, ◌++◌, ◌-◌, ℕ, Some, true, length, take, drop, refl, ap, sym, subst, ◌∙◌, arith}
+use Rattle.std.proofs.lemmas.Bool.Decides.{Decides-eqb}
+use Rattle.std.proofs.lemmas.List.{take_rest, take-append-le}
+use Rattle.std.proofs.lemmas.Slice.Eq.{starts_is}
 use Rattle.typed_path.specs.declared.scan.cursor.Begin.TheVariants.{Inside}
 use Rattle.typed_path.specs.changes.{raw_length}
-use Rattle.typed_path.specs.components.{body, later_body, windows, separators, is_verbatim, prefix_of}
+use Rattle.typed_path.specs.components.{body, later_body, windows, separators, prefix_of}
 use Rattle.typed_path.specs.scan.{is_clean}
-use Rattle.typed_path.proofs.lemmas.components.Prefixes.{same_separators}
 use Rattle.typed_path.proofs.lemmas.queries.Bases.{stripped-behind_prefix}
 use Rattle.typed_path.proofs.windows.encoding.WindowsEncodingEncoding.behind.Goals as goal
 
@@ -13,17 +14,22 @@ returns c =
     let t = c.args.path.now in
     let b = c.args.base.now in
     let s = separators windows t in
-    let end = c.in_ok-end.end in
-    let told = c.in_ok-end.ensures in
+    let n = c.in_ok-end.end in
+    let r = c.in_ok-end.separators in
+    let one = c.in_ok-end.ensures.one in
+    let end = c.in_ok-behind.behind in
+    let told = c.in_ok-behind.ensures in
     let o = prefix_of windows t in
     let p = prefix_of windows b in
-    let behind : c.split_at.result.1.now ≡ drop (raw_length o) t = search rules in
-    let wanted : c.split_at-2.result.1.now ≡ drop (raw_length p) b = search rules in
-    let raw : take (raw_length o) t ≡ take (raw_length p) b = search rules in
-    let verbatim : is_verbatim s ≡ is_verbatim (separators windows b) = search rules in
-    let read : c.of_windows-separators.result ≡ s = c.of_windows-separators.ensures in
+    let begins : t ≡ b ++ drop (length b) t = (starts_is Decides-eqb t b true (sym c.if-not-starts_with.false ∙ c.starts_with.ensures.value)).0 refl in
+    let same : n ≡ raw_length p = one.3 ∙ ap raw_length (sym one.2) in
+    let behind : take (length t - n) (drop n t) ≡ drop (raw_length o) t = take_rest t n ∙ ap (λ k. drop k t) one.3 in
+    let wanted : take (length b - n) (drop n b) ≡ drop (raw_length p) b = take_rest b n ∙ ap (λ k. drop k b) same in
+    let raw : take (raw_length o) t ≡ take (raw_length p) b =
+    sym (ap (λ k. take k t) one.3) ∙ ap (take n) begins ∙ take-append-le n b (drop (length b) t) c.in_ok-end.ensures.within.1 ∙ ap (λ k. take k b) same in
+    let read : r ≡ s = sym one.0 in
     let some : 0 < length (drop (raw_length p) b) = subst (λ w. 0 < length w) wanted told.some in
     let items : (at : ℕ) → body s at (drop (raw_length o) t) ≡ body s at (drop (raw_length p) b) ++ later_body s (at + end) (drop end (drop (raw_length o) t)) = λ at. sym (λ i. body (read i) at (behind i)) ∙ told.items at ∙ (λ i. body (read i) at (wanted i) ++ later_body (read i) (at + end) (drop end (behind i))) in
     let clean : is_clean Inside s (drop end (drop (raw_length o) t)) ≡ true = sym (λ i. is_clean Inside (read i) (drop end (behind i))) ∙ told.clean in
-    stripped-behind_prefix t b end o p refl refl (same_separators t b verbatim) raw some items clean
-    ∙ ap (λ rest. Some (drop end rest)) (sym behind) ∙ ap Some (sym (take_rest c.split_at.result.1.now end))
+    stripped-behind_prefix t b end o p refl refl (one.0 ∙ sym one.1) raw some items clean
+    ∙ ap (λ rest. Some (drop end rest)) (sym behind) ∙ ap Some (sym (take_rest (take (length t - n) (drop n t)) end))
