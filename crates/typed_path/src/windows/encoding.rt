@@ -93,10 +93,16 @@ impl Encoding for WindowsEncoding {
         }
     }
 
+    // One drive in two cases is two texts, which the components tell at once.
     #[inline(always)]
     fn is_apart(path: &[u8], other: &[u8]) -> bool {
         match shared_drive(path, other) {
-            Some(end) => are_apart(&path[end..], &other[end..], Separators::Either),
+            Some(end) => {
+                if 0 < end && path[0] != other[0] {
+                    return false;
+                }
+                are_apart(&path[end..], &other[end..], Separators::Either)
+            }
             None => is_apart_behind_marked(path, other),
         }
     }

@@ -7,8 +7,8 @@ use Rattle.typed_path.specs.components.{body, parts, texts}
 use Rattle.typed_path.proofs.lemmas.order.SharedNames.{one-apart}
 use Rattle.typed_path.proofs.windows.encoding.WindowsEncodingEncoding.is_apart.Goals as goal
 
-pub returns-in-Some : goal.returns-in-Some
-returns-in-Some c = λ told.
+pub returns-else-end-gt0 : goal.returns-else-end-gt0
+returns-else-end-gt0 c = λ told.
     let t = c.args.path.now in
     let u = c.args.other.now in
     let n = c.in-Some.end in
