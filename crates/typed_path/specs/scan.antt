@@ -5,6 +5,8 @@ pub mod Ends
 pub mod Steps
 pub mod Masks
 pub mod Pending
+pub mod Blanks
+pub use Rattle.typed_path.specs.scan.Blanks.{MarksNoBlank, begins_blank, has_blank_behind, is_blank, turned}
 pub use Rattle.typed_path.specs.scan.Ends.{side_of, sides, taken_parts}
 pub use Rattle.typed_path.specs.scan.Left.{Side, answer, back, but_last, cut_to, end_at, end_before_last, first_of, front, items_between, last_of, left, reads, reads_after, slice_after_back, slice_after_front, start_at}
 pub use Rattle.typed_path.specs.scan.Masks.{IsBehindLastOf, IsFirstOf, IsMask, TellsWhether, differs_at, is_one_of, stands_at}

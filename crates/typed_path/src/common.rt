@@ -16,4 +16,6 @@ pub(crate) use order::{compare, compare_texts, is_same};
 pub use path::Path;
 pub use path_buf::PathBuf;
 pub use texts::Display;
-pub use writing::{append_first, behind_segment, cut_back, drop_name, drop_separator, put_over};
+pub use writing::{
+    append_first, behind_segment, cut_back, drop_name, drop_separator, put_over, put_turned,
+};

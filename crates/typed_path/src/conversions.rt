@@ -1,21 +1,27 @@
 //! Paths in another encoding, with and without checks, and paths made absolute.
 
-ghost use Rattle.std.specs.Prelude.{◌≡◌, ◌≤◌, ◌+◌, ◌++◌, ℕ, [], ◌∷◌, map, option_map, take, drop, length, IsTrue, IsOk, IfOk, OnOk, OnErr, Result, Ok, Err, Some, None};
+ghost use Rattle.std.specs.Prelude.{◌≡◌, ◌≤◌, ◌+◌, ◌++◌, ℕ, [], ◌∷◌, map, option_map, take, drop, length, IsTrue, IsOk, IsSome, IfSome, IfOk, OnOk, OnErr, Result, Ok, Err, Some, None, true, false};
 ghost use Rattle.std.specs.Option.{option_to_list};
 ghost use Rattle.std.specs.Vec.{vec_capacity};
 ghost use Rattle.typed_path.specs.declared.errors.CheckedPathError.{CheckedPathError};
-ghost use Rattle.typed_path.specs.components.{parts_of, kinds, unix, windows};
-ghost use Rattle.typed_path.specs.conversions.{AllowsOnWindows, same_dialect, converted, converted_checked, FitsConverted, crossed, crossed_all, is_never_refused, crossing_fault, push_checked_each, platform, absolute_from};
-ghost use Rattle.typed_path.specs.changes.{refusal, error_of, fault, FitsEach, IsKnown};
+ghost use Rattle.typed_path.specs.components.{parts_of, kinds, unix, windows, is_separator, is_verbatim, separators, backslash};
+ghost use Rattle.std.specs.List.{list_any};
+ghost use Rattle.typed_path.specs.declared.scan.separators.Separators.{Separators};
+ghost use Rattle.typed_path.specs.conversions.{AllowsOnWindows, CrossesTurned, IsUnrefused, separator_of, same_dialect, converted, converted_checked, FitsConverted, crossed, crossed_all, is_never_refused, crossing_fault, push_checked_each, platform, absolute_from};
+ghost use Rattle.typed_path.specs.changes.{refusal, error_of, fault, FitsEach, IsKnown, begins_with_separator, is_forbidden_or, has_parent_or_device};
+ghost use Rattle.typed_path.specs.scan.{is_one_of, turned};
 ghost use Rattle.typed_path.specs.views.SpanViews.{span_bytes};
 ghost use Rattle.typed_path.specs.views.PieceViews.{part_of};
 
-use crate::common::{Encoding, Path, PathBuf, cut_back};
+use crate::common::{Encoding, Path, PathBuf, cut_back, put_turned};
 use crate::errors::{AbsolutizeError, CheckedPathError, PathError};
 use crate::platform::{PlatformEncoding, PlatformPath, PlatformPathBuf};
-use crate::scan::{Piece, PieceKind, Separators, Span, has_forbidden, is_dots};
+use crate::scan::{
+    Piece, PieceKind, Separators, Span, find_prefix, has_forbidden, has_no_blank_behind,
+    has_parent_or_device, is_dots, is_free_of,
+};
 use crate::unix::{UnixEncoding, UnixPathBuf};
-use crate::windows::{WindowsEncoding, WindowsPathBuf};
+use crate::windows::{WindowsEncoding, WindowsPathBuf, begins_with_separator};
 use std::alloc::{AllocError, Global};
 
 impl<'a, T: Encoding> Path<'a, T> {
@@ -202,9 +208,85 @@ pub fn put_converted<T: Encoding, U: Encoding>(
     if have_one_label::<T, U>() {
         return text.extend_from_slice(path.as_bytes());
     }
+    if let Some(turned) = turned::<T, U>(path.as_bytes()) {
+        return put_turned(text, turned, Separators::Either, separator_of::<U>());
+    }
     let len = text.len();
     let done = push_each::<T, U>(text, len, path);
     cut_back(text, len, done)
+}
+
+/// What separates where a path is put together.
+#[inline(always)]
+fn separator_of<U: Encoding>() -> u8
+    ensures { result ≡ separator_of U.dialect }
+{
+    if have_one_label::<U, UnixEncoding>() {
+        b'/'
+    } else {
+        b'\\'
+    }
+}
+
+/// The text that a path is written as in another encoding once its separators are turned, where its
+/// bytes tell that no more of it changes. None says nothing.
+///
+/// So most paths are copied at once, and no component is pushed.
+#[inline(always)]
+fn turned<T: Encoding, U: Encoding>(path: &[u8]) -> Option<&[u8]>
+    ensures { IfSome result (λ text. CrossesTurned T.dialect U.dialect path.now text.now) }
+{
+    if have_one_label::<T, UnixEncoding>() && have_one_label::<U, WindowsEncoding>() {
+        return turned_for_windows(path);
+    }
+    if have_one_label::<T, WindowsEncoding>() && have_one_label::<U, UnixEncoding>() {
+        return turned_for_unix(path);
+    }
+    None
+}
+
+/// The same of a path of Unix on Windows: none of its names ends or begins a component there.
+fn turned_for_windows(path: &[u8]) -> Option<&[u8]>
+    ensures turned { IfSome result (λ text. CrossesTurned unix windows path.now text.now) }
+    ensures checked { IsSome result → list_any (is_forbidden_or (backslash, backslash)) path.now ≡ false
+        → has_parent_or_device path.now ≡ false → IsUnrefused unix windows path.now }
+{
+    if is_free_of((b':', b'\\'), path) && has_no_blank_behind(path, Separators::Either, false) {
+        return Some(path);
+    }
+    None
+}
+
+/// The same of a path of Windows on Unix, where a root stands behind its prefix, which that takes away.
+fn turned_for_unix(path: &[u8]) -> Option<&[u8]>
+    ensures turned { IfSome result (λ text. CrossesTurned windows unix path.now text.now) }
+    ensures checked { IfSome result (λ text. list_any (is_one_of (0, 0)) text.now ≡ false
+        → IsUnrefused windows unix path.now) }
+{
+    let Some(found) = find_prefix(path) else {
+        return if has_no_blank_behind(path, Separators::Either, false) {
+            Some(path)
+        } else {
+            None
+        };
+    };
+    let text = &path[found.length..];
+    if is_rooted(path, text) && has_no_blank_behind(text, Separators::Either, false) {
+        return Some(text);
+    }
+    None
+}
+
+/// Whether a root stands at the front of what is behind the prefix of a path of Windows, and no name
+/// there holds a `/`.
+#[inline(always)]
+fn is_rooted(path: &[u8], behind: &[u8]) -> bool
+    ensures rooted { IsTrue result → begins_with_separator behind.now ≡ true }
+    ensures slashless { IsTrue result → is_verbatim (separators windows path.now) ≡ true
+        → list_any (is_separator Separators.Slash) behind.now ≡ false }
+{
+    begins_with_separator(behind)
+        && (!Separators::of_windows(path).is_verbatim() || is_free_of((b'/', b'/'), behind))
 }
 
 /// Pushes the components of a path, as they are written in another encoding, onto the empty path at
@@ -259,7 +341,58 @@ fn put_prefix<U: Encoding>(
 
 /// Pushes the components of a path onto the empty path at the end of a text, as they are written in
 /// another encoding, by checked pushes, and ends at the first that is refused.
+///
+/// Where the bytes of the path tell that none is, and that no more than its separators changes, it is
+/// copied at once.
 pub fn convert_checked<T: Encoding, U: Encoding>(
+    text: &mut Vec<u8>,
+    start: usize,
+    path: Span<'_>,
+) -> Result<(), PathError>
+    requires { length text.old.items ≡ start }
+    ensures ok { OnOk result
+        (converted_checked T.dialect U.dialect (span_bytes path.entry)
+        ≡ Ok (drop start text.new.items)) }
+    ensures refused { (e : CheckedPathError) → refusal result ≡ Some e
+        → converted_checked T.dialect U.dialect (span_bytes path.entry) ≡ Err e }
+    ensures kept { take start text.new.items ≡ take start text.old.items }
+    ensures long { start ≤ length text.new.items }
+{
+    if let Some(turned) = turned_checked::<T, U>(path.as_bytes()) {
+        put_turned(text, turned, Separators::Either, separator_of::<U>())?;
+        return Ok(());
+    }
+    push_each_checked::<T, U>(text, start, path)
+}
+
+/// The text that a path is written as in another encoding once its separators are turned, where its
+/// bytes tell that no more of it changes, and that no component is refused. None says nothing.
+#[inline(always)]
+fn turned_checked<T: Encoding, U: Encoding>(path: &[u8]) -> Option<&[u8]>
+    ensures { IfSome result (λ text. converted_checked T.dialect U.dialect path.now
+        ≡ Ok (turned Separators.Either (separator_of U.dialect) text.now)) }
+{
+    if LOOK < path.len() {
+        return None;
+    }
+    if have_one_label::<T, UnixEncoding>() && have_one_label::<U, WindowsEncoding>() {
+        let text = turned_for_windows(path)?;
+        if has_forbidden(path, (b'\\', b'\\')) || has_parent_or_device(path) {
+            return None;
+        }
+        return Some(text);
+    }
+    if have_one_label::<T, WindowsEncoding>() && have_one_label::<U, UnixEncoding>() {
+        let text = turned_for_unix(path)?;
+        if is_free_of((b'\0', b'\0'), text) {
+            return Some(text);
+        }
+    }
+    None
+}
+
+/// The same, component by component.
+fn push_each_checked<T: Encoding, U: Encoding>(
     text: &mut Vec<u8>,
     start: usize,
     path: Span<'_>,

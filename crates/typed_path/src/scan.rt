@@ -1,5 +1,6 @@
 //! Reading a text component by component.
 
+mod blanks;
 mod cursor;
 mod cut;
 mod lanes;
@@ -7,6 +8,7 @@ mod prefix;
 mod separators;
 mod step;
 
+pub use blanks::has_no_blank_behind;
 pub use cursor::{Begin, Body, Cursor, Span};
 pub use cut::{
     are_apart, base_end, bodies_behind, bodies_behind_shared, cut_at, cut_at_separator,
@@ -14,5 +16,5 @@ pub use cut::{
 };
 pub use lanes::{first_between, has_forbidden, has_only_names};
 pub use prefix::{Found, WindowsPrefix, after_mark, drive, find_prefix, parted_drive};
-pub use separators::{Separators, has_parent_or_device, has_valid_names};
+pub use separators::{Separators, has_parent_or_device, has_valid_names, is_free_of};
 pub use step::{Piece, PieceKind, Step, StepKind, is_dots, step_of};

@@ -2,8 +2,9 @@
 use Rattle.std.specs.Prelude.{◌≡◌, ℕ, List, [], ◌∷◌, Bool, true, false, ◌≤◌, map, length, if◌then◌else◌, Option, Some, None, Ok, Err}
 use Rattle.std.specs.List.{AllByRecursion}
 use Rattle.std.specs.declared.result.Result.{Result}
+use Rattle.typed_path.specs.declared.scan.separators.Separators.TheVariants.{Either}
 use Rattle.typed_path.specs.declared.errors.CheckedPathError.{CheckedPathError}
-use Rattle.typed_path.specs.components.Dialects.{Dialect, unix, windows, root_of}
+use Rattle.typed_path.specs.components.Dialects.{Dialect, unix, windows, root_of, slash, backslash}
 use Rattle.typed_path.specs.components.Parts.{Kind, current, parent, Part, kinds}
 use Rattle.typed_path.specs.components.Comps.{parts_of}
 use Rattle.typed_path.specs.queries.Queries.{is_root, is_absolute, kind_has_allowed_bytes}
@@ -11,6 +12,7 @@ use Rattle.typed_path.specs.changes.Push.{push, push_all}
 use Rattle.typed_path.specs.changes.Run.{FitsEach}
 use Rattle.typed_path.specs.changes.Fault.{fault}
 use Rattle.typed_path.specs.places.Places.{normal_text}
+use Rattle.typed_path.specs.scan.Blanks.{turned}
 
 abbrev pub same_dialect : Dialect → Dialect → Bool
 same_dialect unix unix = true
@@ -37,6 +39,16 @@ FitsConvertedBy d e room t false = FitsEach e room [] (map (crossed e) (parts_of
 abbrev pub FitsConverted : Dialect → Dialect → ℕ → List ℕ → Type 0
 FitsConverted d e room t = FitsConvertedBy d e room t (same_dialect d e)
 
+-- what separates where a path is put together
+abbrev pub separator_of : Dialect → ℕ
+separator_of unix = slash
+separator_of windows = backslash
+
+-- a path is written in another dialect as a text with its separators turned, and there is room for that where there is for each push
+pub record CrossesTurned (d e : Dialect) (path text : List ℕ) : Type 0 where
+  pub is : crossed_all e (parts_of d path) ≡ turned Either (separator_of e) text
+  pub fits : (room : ℕ) → FitsEach e room [] (map (crossed e) (parts_of d path)) → length text ≤ room
+
 -- roots, `.` and `..` are never refused
 abbrev pub is_never_refused : Kind → Bool
 is_never_refused current = true
@@ -58,6 +70,10 @@ push_checked_each e (Ok base) (p ∷ ps) = push_checked_each e (push_unless e ba
 -- the same by checked pushes, which has no shortcut for its own dialect and ends at the first fault
 abbrev pub converted_checked : Dialect → Dialect → List ℕ → Result (List ℕ) CheckedPathError
 converted_checked d e t = push_checked_each e (Ok []) (parts_of d t)
+
+-- each component of a path is pushed as it is written in a dialect, and none is refused
+abbrev pub IsUnrefused : Dialect → Dialect → List ℕ → Type 0
+IsUnrefused d e path = converted_checked d e path ≡ Ok (crossed_all e (parts_of d path))
 
 -- each component that crosses to Windows has bytes that a name may have there
 abbrev pub AllowsOnWindows : Dialect → List Kind → Type 0

@@ -1,13 +1,14 @@
 //! Names in a text: split at their last dot, put behind it where its memory is found first, and
 //! taken off its end.
 
-ghost use Rattle.std.specs.Prelude.{◌≡◌, ◌<◌, ◌≤◌, ◌+◌, ◌-◌, ◌++◌, ℕ, List, fold, take, length, option_copied, IfSome, IsOk, OnOk, OnErr};
+ghost use Rattle.std.specs.Prelude.{◌≡◌, ◌<◌, ◌≤◌, ◌+◌, ◌-◌, ◌++◌, ℕ, List, fold, take, drop, length, option_copied, IfSome, IsOk, OnOk, OnErr};
 ghost use Rattle.std.specs.List.{slice_split};
 ghost use Rattle.typed_path.specs.components.{is_separator};
 ghost use Rattle.std.specs.Vec.{vec_len, vec_capacity};
 ghost use Rattle.typed_path.specs.changes.{dotted};
 ghost use Rattle.typed_path.specs.places.{rows_of, settled, AreRowsOf, HaveNoDisks};
 ghost use Rattle.typed_path.specs.queries.{stem_of, extension_of};
+ghost use Rattle.typed_path.specs.scan.{turned};
 
 use crate::scan::Separators;
 use memchr::memrchr;
@@ -100,6 +101,38 @@ pub fn append_first(text: &mut Vec<u8>, source: &[u8], len: usize) -> Result<(),
     text.extend_from_slice(&source[..BLOCK])?;
     text.truncate(end);
     Ok(())
+}
+
+/// Puts a text behind another, each of its separators written as one byte.
+#[inline(always)]
+pub fn put_turned(
+    text: &mut Vec<u8>,
+    source: &[u8],
+    separators: Separators,
+    byte: u8,
+) -> Result<(), AllocError>
+    ensures ok { OnOk result
+        (text.new.items ≡ text.old.items ++ turned separators byte source.now) }
+    ensures err { OnErr result (text.new.items ≡ text.old.items) }
+    ensures capacity { vec_capacity text.old ≤ vec_capacity text.new }
+    ensures succeeds { vec_len text.old + length source.now ≤ vec_capacity text.old
+        → IsOk result }
+{
+    let len = text.len();
+    text.extend_from_slice(source)?;
+    turn(text.as_mut_slice(), len, separators, byte);
+    Ok(())
+}
+
+/// Writes the separators of a text as one byte, from a place on.
+fn turn(text: &mut [u8], from: usize, separators: Separators, byte: u8)
+    requires { from ≤ length text.old }
+    ensures { text.new ≡ take from text.old ++ turned separators byte (drop from text.old) }
+{
+    'bytes: for at in from..text.len() {
+        let own = text[at];
+        text[at] = if separators.contains(own) { byte } else { own };
+    }
 }
 
 /// Takes the last name off, and the separator behind it, where a name stands behind the first bytes.

@@ -179,7 +179,7 @@ impl Separators {
 
 /// Whether a text has neither byte of a pair.
 #[inline(always)]
-fn is_free_of(pair: (u8, u8), text: &[u8]) -> bool
+pub fn is_free_of(pair: (u8, u8), text: &[u8]) -> bool
     ensures { result ≡ not (list_any (is_one_of pair) text.now) }
 {
     first_between(text, 0, text.len(), pair) == text.len()

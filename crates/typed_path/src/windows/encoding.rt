@@ -264,7 +264,7 @@ pub fn has_only_valid_names(path: &[u8]) -> bool
 
 /// Whether a text begins with a separator.
 #[inline(always)]
-fn begins_with_separator(text: &[u8]) -> bool
+pub fn begins_with_separator(text: &[u8]) -> bool
     ensures { result ≡ begins_with_separator text.now }
 {
     matches!(text, [b'/' | b'\\', ..])

@@ -304,11 +304,11 @@ split (x ∷ xs) = by (is_separator Either x) refl (split xs)
     }
 
 -- so of all pieces
-any-pieces : (text : List ℕ) → list_any is_parent_or_device (pieces Either text) ≡ has_parent_or_device text
+pub any-pieces : (text : List ℕ) → list_any is_parent_or_device (pieces Either text) ≡ has_parent_or_device text
 any-pieces text = let s = split text in ap (list_any is_parent_or_device) s.cut ∙ ap (λ b. begins_with_parent_or_device text || b) s.told
 
 -- where no piece is one of them, none stands for a device
-none_reserved : (ps : List (List ℕ)) → list_any is_parent_or_device ps ≡ false → list_any (is_reserved windows) ps ≡ false
+pub none_reserved : (ps : List (List ℕ)) → list_any is_parent_or_device ps ≡ false → list_any (is_reserved windows) ps ≡ false
 none_reserved [] e = refl
 none_reserved (p ∷ ps) e =
     let all = or_parts (is_parent_or_device p) (list_any is_parent_or_device ps) e in

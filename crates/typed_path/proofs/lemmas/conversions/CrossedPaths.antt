@@ -32,7 +32,7 @@ pub data IsStep : Part → Type 0 where
   a_plain : (name : List ℕ) → IsPlain name → IsStep (name_part name)
 
 -- what a step is read as, alone and behind a separator
-record IsReadAlone (p : Part) (b : ℕ) (bs : List ℕ) : Type 0 where
+pub record IsReadAlone (p : Part) (b : ℕ) (bs : List ℕ) : Type 0 where
   pub text : p.text ≡ b ∷ bs
   pub unseparated : is_separator Either b ≡ false
   pub alone : parts_of windows (b ∷ bs) ≡ p ∷ []
@@ -41,7 +41,7 @@ record IsReadAlone (p : Part) (b : ℕ) (bs : List ℕ) : Type 0 where
   pub relative : begins_with_root (p.kind ∷ []) ≡ false
 
 -- each step has a first byte and is read so
-step-read : (p : Part) → IsStep p → (b : ℕ) × (bs : List ℕ) × IsReadAlone p b bs
+pub step-read : (p : Part) → IsStep p → (b : ℕ) × (bs : List ℕ) × IsReadAlone p b bs
 step-read _ a_parent = (dot, dot ∷ [], record { text = refl; unseparated = refl; alone = refl; later = refl; no_prefix = refl; relative = refl })
 step-read _ (a_plain [] plain) = let clean = plain.clean in absurd (true≢false clean.filled)
 step-read _ (a_plain (b ∷ bs) plain) =
@@ -59,22 +59,22 @@ step-read _ (a_plain (b ∷ bs) plain) =
     )
 
 -- a text without a prefix, which has none either once something stands behind a separator at its end
-record IsBare (text : List ℕ) : Type 0 where
+pub record IsBare (text : List ℕ) : Type 0 where
   pub filled : (length text == 0) ≡ false
   pub no_prefix : prefix_of windows text ≡ None
   pub stays : (b : ℕ) (rest : List ℕ) → is_separator Either b ≡ false → prefix_of windows (ended_with backslash text ++ b ∷ rest) ≡ None
 
 -- such are a root, a current, a parent and a plain name
-bare-root : IsBare (backslash ∷ [])
+pub bare-root : IsBare (backslash ∷ [])
 bare-root = record { filled = refl; no_prefix = refl; stays = rooted-none }
 
-bare-current : IsBare (dot ∷ [])
+pub bare-current : IsBare (dot ∷ [])
 bare-current = record { filled = refl; no_prefix = refl; stays = λ b rest plain. unseparated-none dot (backslash ∷ b ∷ rest) refl refl }
 
-bare-parent : IsBare (dot ∷ dot ∷ [])
+pub bare-parent : IsBare (dot ∷ dot ∷ [])
 bare-parent = record { filled = refl; no_prefix = refl; stays = λ b rest plain. unseparated-none dot (dot ∷ backslash ∷ b ∷ rest) refl refl }
 
-bare-name : (name : List ℕ) → IsPlain name → IsBare name
+pub bare-name : (name : List ℕ) → IsPlain name → IsBare name
 bare-name name plain =
     let clean = plain.clean in
     record {
@@ -99,7 +99,7 @@ cons-filled b bs = ne_eqb (length (b ∷ bs)) 0 (λ none. omega (arith, none))
 
 module _ (text : List ℕ) (bare : IsBare text) where
   -- a step behind it leaves it so
-  bare-next : (b : ℕ) (bs : List ℕ) → is_separator Either b ≡ false → IsBare (ended_with backslash text ++ b ∷ bs)
+  pub bare-next : (b : ℕ) (bs : List ℕ) → is_separator Either b ≡ false → IsBare (ended_with backslash text ++ b ∷ bs)
   bare-next b bs plain =
       let front = ended_with backslash text in
       let first = ended-first b bs in
@@ -121,7 +121,7 @@ module _ (text : List ℕ) (bare : IsBare text) where
   bare-no_drive = ap (λ ps. is_disk_alone (kinds ps)) bare-read ∙ false_from_ne_true _ (read-no_drive Either (body_parts Either text) (body_parts-read Either text))
 
   -- so a step is pushed behind a separator
-  push-step : (p : Part) (b : ℕ) (bs : List ℕ) → IsReadAlone p b bs → push_windows text p.text ≡ ended_with backslash text ++ b ∷ bs
+  pub push-step : (p : Part) (b : ℕ) (bs : List ℕ) → IsReadAlone p b bs → push_windows text p.text ≡ ended_with backslash text ++ b ∷ bs
   push-step p b bs is =
       ap (push_windows text) is.text
       ∙ push-relative text (b ∷ bs) (cons-filled b bs) (ap (λ ps. has_prefix (kinds ps)) is.alone ∙ is.no_prefix) (verbatim-none text bare.no_prefix) (ap (λ ps. begins_with_root (kinds ps)) is.alone ∙ is.relative)

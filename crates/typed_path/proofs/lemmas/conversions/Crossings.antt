@@ -248,7 +248,7 @@ allowed-unix text h = subst (λ ps. AllByRecursion (λ k. kind_has_allowed_bytes
     by (b ∷ bs) h = allowed-kinds windows (body_parts Slash (b ∷ bs)) (allowed-first_parts Slash windows (pieces Slash (b ∷ bs)) (allowed-pieces Slash windows (b ∷ bs) h))
 
 -- a byte that is no `\` and not forbidden is one that Windows allows, or `/`
-free-byte : (b : ℕ) → is_forbidden_or (backslash, backslash) b ≡ false → is_disallowed windows b ≡ true → is_separator Slash b ≡ true
+pub free-byte : (b : ℕ) → is_forbidden_or (backslash, backslash) b ≡ false → is_disallowed windows b ≡ true → is_separator Slash b ≡ true
 free-byte b free disallowed = by (b == slash) refl
   where
     both : (is_forbidden b ≡ false) × (is_one_of (backslash, backslash) b ≡ false)

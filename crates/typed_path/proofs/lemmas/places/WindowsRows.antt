@@ -170,7 +170,7 @@ abbrev pub IsWithoutSlash : Separators → List ℕ → Type 0
 IsWithoutSlash s text = is_verbatim s ≡ true → list_any (is_separator Slash) text ≡ false
 
 -- so it is cut alike by its own separators and by both
-pieces-own : (s : Separators) → OfWindows s → (text : List ℕ) → IsWithoutSlash s text → pieces Either text ≡ pieces s text
+pub pieces-own : (s : Separators) → OfWindows s → (text : List ℕ) → IsWithoutSlash s text → pieces Either text ≡ pieces s text
 pieces-own Slash w text h = cc
 pieces-own Backslash w text h = pieces-either text (h refl)
 pieces-own Either w text h = refl
@@ -185,7 +185,7 @@ separates-own Backslash w b bs h separates = by (is_separator Slash b) (or_parts
     by false e f = f
 separates-own Either w b bs h separates = separates
 
-without_slash-behind : (s : Separators) (b : ℕ) (bs : List ℕ) → IsWithoutSlash s (b ∷ bs) → IsWithoutSlash s bs
+pub without_slash-behind : (s : Separators) (b : ℕ) (bs : List ℕ) → IsWithoutSlash s (b ∷ bs) → IsWithoutSlash s bs
 without_slash-behind s b bs h verbatim = (or_parts (is_separator Slash b) (list_any (is_separator Slash) bs) (h verbatim)).1
 
 -- under another prefix, with a root behind it or nothing

@@ -4,7 +4,7 @@ use Rattle.typed_path.specs.changes.{IsKnown}
 use Rattle.typed_path.specs.conversions.{AllowsOnWindows, push_checked_each, converted_checked}
 use Rattle.typed_path.specs.views.BodyViews.{body_items}
 use Rattle.typed_path.specs.views.SpanViews.{span_bytes}
-use Rattle.typed_path.proofs.conversions.convert_checked.Given as goal
+use Rattle.typed_path.proofs.conversions.push_each_checked.Given as goal
 
 abbrev pub decreases-steps : goal.decreases-steps
 decreases-steps g l = length (body_items l.body)

@@ -10,7 +10,7 @@ use Rattle.typed_path.specs.views.SpanViews.{span_bytes}
 use Rattle.typed_path.specs.views.PieceViews.{part_of, step_part}
 use Rattle.typed_path.proofs.lemmas.conversions.Crossings.{allows-taken, allows-left, pushed-first, refused-whole, pushed-all, refusal-passed}
 use Rattle.typed_path.proofs.lemmas.scan.Steps.{parts-prefixed, yields_first, fewer}
-use Rattle.typed_path.proofs.conversions.convert_checked.Goals as goal
+use Rattle.typed_path.proofs.conversions.push_each_checked.Goals as goal
 
 -- at the end of a text stands the empty path
 empty : (start : ℕ) (text : List ℕ) → length text ≡ start → drop start text ≡ []

@@ -1,0 +1,596 @@
+-- Paths of which a conversion changes no more than the separators.
+use Rattle.std.proofs.Common.{All, not, Ok, Err, take, drop, get_or, ◌≡◌, ℕ, suc, ◌+◌, ◌-◌, ◌≤◌, ◌<◌, ◌==◌, ◌||◌, ◌&&◌, Bool, true, false, if◌then◌else◌, cond, List, [], ◌∷◌, ◌++◌, map, length, fold, flat_map, slice_index, refl, sym, ap, ap₂, ◌∙◌, subst, append_assoc, arith, eqb-true, true≢false, length-append, Some, None, Option}
+use Rattle.std.specs.Prelude.{⊤}
+use Rattle.std.specs.List.{AllByRecursion, list_any, slice_split, onto_first, before_first}
+use Rattle.std.proofs.lemmas.Bool.{and_parts, and_right, or_parts, false_from_ne_true, both_ways, cond-false, eqb-false}
+use Rattle.std.proofs.lemmas.List.{length-map}
+use Rattle.std.proofs.lemmas.List.Elements.{All-head, All-nil, All-cons}
+use Rattle.typed_path.specs.declared.scan.separators.Separators.{Separators}
+use Rattle.typed_path.specs.declared.scan.separators.Separators.TheVariants.{Slash, Backslash, Either}
+use Rattle.typed_path.specs.components.{Dialect, unix, windows, dot, slash, backslash, colon, is_separator, is_dot, is_dot_dot, root_text, root_of, Part, current_part, parent_part, name_part, root_part, drive, is_drive_letter, to_upper, parts_of, is_verbatim, separators, Found, prefix_of, prefix_part, Kind, prefix, root, current, parent, normal, kinds}
+use Rattle.typed_path.specs.changes.{ended_with, push, push_all, push_unix, push_windows, spells_anew, FitsPush, FitsEach, begins_with_separator, fault, is_stray, is_forbidden_or, has_parent_or_device}
+use Rattle.typed_path.specs.queries.{is_valid, is_valid_kind, is_disallowed, kind_has_allowed_bytes}
+use Rattle.typed_path.specs.conversions.{crossed, crossed_all, CrossesTurned, crossing_fault, push_checked_each, push_unless, converted_checked}
+use Rattle.typed_path.specs.scan.{is_one_of, is_blank, begins_blank, has_blank_behind, turned}
+use Rattle.typed_path.proofs.lemmas.lists.Lists.{IsUnseparated, slice_split-some, slice_split-unseparated, AllByRecursion-weaker}
+use Rattle.typed_path.proofs.lemmas.components.Segments.{pieces, named_part, later_part, first_part, later_parts, first_parts, body_parts, IsCleanName, IsWritten, IsWrittenPart, each-written, body_parts-read, parts-body}
+use Rattle.typed_path.proofs.lemmas.components.WindowsNames.{IsPlain, ended_with-append, fault_name}
+use Rattle.typed_path.proofs.lemmas.queries.ValidNames.{valid-found}
+use Rattle.typed_path.proofs.lemmas.queries.FileNames.{allowed-pieces, allowed-kinds, allowed-first_parts}
+use Rattle.typed_path.proofs.lemmas.components.FirmPrefixes.{drive-letter}
+use Rattle.typed_path.proofs.lemmas.changes.ValidPaths.{any-pieces, none_reserved}
+use Rattle.typed_path.proofs.lemmas.conversions.Crossings.{free-byte}
+use Rattle.typed_path.proofs.lemmas.changes.WindowsPushes.{fits-plain}
+use Rattle.typed_path.proofs.lemmas.conversions.CrossedPaths.{IsStep, a_parent, a_plain, IsBare, step-read, bare-next, push-step, bare-root, bare-current, bare-parent, bare-name}
+use Rattle.typed_path.proofs.lemmas.components.Prefixes.{OfWindows, separators-windows, Read, of_disk, of_unc, of_verbatim, of_verbatim_unc, of_verbatim_disk, of_device, prefix-read}
+use Rattle.typed_path.proofs.lemmas.changes.Faults.{parts_of-none, parts_of-some}
+use Rattle.typed_path.proofs.lemmas.places.UnixRows.{take-ended}
+use Rattle.typed_path.proofs.lemmas.places.WindowsRows.{IsWithoutSlash, pieces-own, without_slash-behind}
+use Rattle.typed_path.proofs.lemmas.promises.UnixContained.{parts_of-unix}
+use Rattle.typed_path.proofs.lemmas.promises.WindowsStable.{push-first}
+use Rattle.typed_path.proofs.lemmas.promises.WindowsContained.{verbatim-none}
+use Rattle.typed_path.proofs.lemmas.scan.Blanks.{segment-byte}
+
+-- ---- the pieces of a text, and its bytes
+
+-- pieces with a byte behind each
+abbrev pub rows_by : ℕ → List (List ℕ) → List ℕ
+rows_by b names = flat_map (λ name. name ++ b ∷ []) names
+
+-- the pieces of a text are the text with its separators turned
+pub pieces-turned : (s : Separators) (b : ℕ) (text : List ℕ) → rows_by b (pieces s text) ≡ turned s b text ++ b ∷ []
+pieces-turned s b [] = refl
+pieces-turned s b (x ∷ xs) = let some = slice_split-some (is_separator s) xs in by (is_separator s x) (pieces s xs) some.0 some.1 some.2 (pieces-turned s b xs)
+  where
+    by : (separates : Bool) (ps : List (List ℕ)) (piece : List ℕ) (others : List (List ℕ)) → ps ≡ piece ∷ others → rows_by b ps ≡ turned s b xs ++ b ∷ []
+        → rows_by b (cond separates ([] ∷ ps) (onto_first x ps)) ≡ (cond separates b x) ∷ (turned s b xs ++ b ∷ [])
+    by true ps piece others e rest = ap (λ t. b ∷ t) rest
+    by false ps piece others e rest = ap (λ qs. rows_by b (onto_first x qs)) e ∙ ap (λ t. x ∷ t) (ap (rows_by b) (sym e) ∙ rest)
+
+-- bytes that a text does not hold are in no piece of it
+pub pieces-free : (s : Separators) (q : ℕ → Bool) (text : List ℕ) → list_any q text ≡ false → AllByRecursion (λ piece. list_any q piece ≡ false) (pieces s text)
+pieces-free s q [] free = (refl, tt)
+pieces-free s q (x ∷ xs) free = let some = slice_split-some (is_separator s) xs in let own = or_parts (q x) (list_any q xs) free in by (is_separator s x) (pieces s xs) some.0 some.1 some.2 own.0 (pieces-free s q xs own.1)
+  where
+    by : (separates : Bool) (ps : List (List ℕ)) (piece : List ℕ) (others : List (List ℕ)) → ps ≡ piece ∷ others → q x ≡ false → AllByRecursion (λ piece. list_any q piece ≡ false) ps
+        → AllByRecursion (λ piece. list_any q piece ≡ false) (cond separates ([] ∷ ps) (onto_first x ps))
+    by true ps piece others e own rest = (refl, rest)
+    by false ps piece others e own rest =
+        let each = subst (AllByRecursion (λ piece. list_any q piece ≡ false)) e rest in
+        subst (λ qs. AllByRecursion (λ piece. list_any q piece ≡ false) (onto_first x qs)) (sym e) (ap (λ b. b || list_any q piece) own ∙ each.0, each.1)
+
+-- a text is the segment before its first separator, and the pieces behind that, of which the search for blank ones tells
+record Split (s : Separators) (parents : Bool) (text : List ℕ) : Type 0 where
+  more : List (List ℕ)
+  cut : pieces s text ≡ before_first (is_separator s) text ∷ more
+  told : list_any (is_blank parents) more ≡ has_blank_behind s parents text
+
+split : (s : Separators) (parents : Bool) (text : List ℕ) → Split s parents text
+split s parents [] = record { more = []; cut = refl; told = refl }
+split s parents (x ∷ xs) = by (is_separator s x) refl (split s parents xs)
+  where
+    by : (separates : Bool) → is_separator s x ≡ separates → Split s parents xs → Split s parents (x ∷ xs)
+    by true e rest = record {
+      more = pieces s xs;
+      cut = ap (λ b. cond b ([] ∷ pieces s xs) (onto_first x (pieces s xs))) e ∙ ap (λ t. t ∷ pieces s xs) (sym (segment-byte s x xs ∙ ap (λ b. cond b [] (x ∷ before_first (is_separator s) xs)) e));
+      told =
+          ap (list_any (is_blank parents)) rest.cut
+          ∙ ap (λ b. is_blank parents (before_first (is_separator s) xs) || b) rest.told
+          ∙ ap (λ b. (b && begins_blank s parents xs) || has_blank_behind s parents xs) (sym e);
+    }
+    by false e rest = record {
+      more = rest.more;
+      cut =
+          ap (λ b. cond b ([] ∷ pieces s xs) (onto_first x (pieces s xs))) e
+          ∙ ap (onto_first x) rest.cut
+          ∙ ap (λ t. t ∷ rest.more) (sym (segment-byte s x xs ∙ ap (λ b. cond b [] (x ∷ before_first (is_separator s) xs)) e));
+      told = rest.told ∙ ap (λ b. (b && begins_blank s parents xs) || has_blank_behind s parents xs) (sym e);
+    }
+
+-- the pieces of a text, where none but the first is blank
+pub tight-pieces : (s : Separators) (parents : Bool) (text : List ℕ) → has_blank_behind s parents text ≡ false
+    → (head : List ℕ) × (others : List (List ℕ)) × (pieces s text ≡ head ∷ others) × (list_any (is_blank parents) others ≡ false)
+tight-pieces s parents text none = let cut = split s parents text in (before_first (is_separator s) text, cut.more, cut.cut, cut.told ∙ none)
+
+-- ---- the components of such pieces, as they cross
+
+-- `.` and `..` are written so
+dot-text : (text : List ℕ) → is_dot text ≡ true → dot ∷ [] ≡ text
+dot-text [] e = cc
+dot-text (a ∷ []) e = ap (λ b. b ∷ []) (sym (eqb-true a dot e))
+dot-text (a ∷ b ∷ text) e = cc
+
+dots-text : (text : List ℕ) → is_dot_dot text ≡ true → dot ∷ dot ∷ [] ≡ text
+dots-text [] e = cc
+dots-text (a ∷ []) e = cc
+dots-text (a ∷ b ∷ []) e = let both = and_parts (a == dot) (b == dot) e in ap₂ (λ c d. c ∷ d ∷ []) (sym (eqb-true a dot both.0)) (sym (eqb-true b dot both.1))
+dots-text (a ∷ b ∷ c ∷ text) e = cc
+
+-- a parent or a name crosses as it is written
+named-crossed : (e : Dialect) (piece : List ℕ) → crossed e (named_part piece) ≡ piece
+named-crossed e piece = by (is_dot_dot piece) (dots-text piece)
+  where
+    by : (twice : Bool) → (twice ≡ true → dot ∷ dot ∷ [] ≡ piece) → crossed e (if twice then parent_part else name_part piece) ≡ piece
+    by true two = two refl
+    by false two = refl
+
+-- a piece that is not blank is no `.`, and not empty
+filled : (piece : List ℕ) → is_blank false piece ≡ false → ((length piece == 0) ≡ false) × (is_dot piece ≡ false)
+filled [] e = absurd (true≢false e)
+filled (a ∷ []) e = (refl, e)
+filled (a ∷ b ∷ piece) e = (false_from_ne_true _ (λ h. absurd (omega (arith, eqb-true _ 0 h))), refl)
+
+later-crossed : (e : Dialect) (s : Separators) (ps : List (List ℕ)) → list_any (is_blank false) ps ≡ false → map (crossed e) (later_parts s ps) ≡ ps
+later-crossed e s [] none = refl
+later-crossed e s (p ∷ ps) none =
+    let own = or_parts (is_blank false p) (list_any (is_blank false) ps) none in
+    let is = filled p own.0 in
+    by (length p == 0) (is_dot p) is.0 is.1 (later-crossed e s ps own.1)
+  where
+    by : (empty dotted : Bool) → empty ≡ false → dotted ≡ false → map (crossed e) (later_parts s ps) ≡ ps
+        → map (crossed e) ((if empty then [] else (if dotted then (if is_verbatim s then current_part ∷ [] else []) else named_part p ∷ [])) ++ later_parts s ps) ≡ p ∷ ps
+    by true dotted f g rest = cc
+    by false true f g rest = cc
+    by false false f g rest = ap₂ ◌∷◌ (named-crossed e p) rest
+
+-- the first piece, as it crosses
+abbrev pub first_text : Dialect → List ℕ → List ℕ
+first_text e [] = root_of e
+first_text e (b ∷ bs) = b ∷ bs
+
+first-crossed : (e : Dialect) (s : Separators) (piece : List ℕ) → crossed e (first_part s piece) ≡ first_text e piece
+first-crossed e s [] = refl
+first-crossed e s (b ∷ bs) = by (length (b ∷ bs) == 0) (is_dot (b ∷ bs)) (false_from_ne_true _ (λ h. absurd (omega (arith, eqb-true _ 0 h)))) (dot-text (b ∷ bs))
+  where
+    by : (empty dotted : Bool) → empty ≡ false → (dotted ≡ true → dot ∷ [] ≡ b ∷ bs)
+        → crossed e (if empty then root_part (root_text s) else (if dotted then current_part else named_part (b ∷ bs))) ≡ b ∷ bs
+    by true dotted f one = cc
+    by false true f one = one refl
+    by false false f one = named-crossed e (b ∷ bs)
+
+-- ---- pieces pushed one by one
+
+-- names that are pushed behind a text are its rows, where each is put behind it with a byte between
+module _ (push_one : List ℕ → List ℕ → List ℕ) (b : ℕ) (Base Piece : List ℕ → Type 0)
+    (step : (text piece : List ℕ) → Base text → Piece piece → (push_one text piece ≡ ended_with b text ++ piece) × Base (ended_with b text ++ piece))
+    (unended : (front piece : List ℕ) → Piece piece → ended_with b (front ++ piece) ≡ (front ++ piece) ++ b ∷ []) where
+  pushed : (text : List ℕ) (ps : List (List ℕ)) → Base text → AllByRecursion Piece ps → ended_with b text ≡ text ++ b ∷ [] → fold push_one text ps ++ b ∷ [] ≡ text ++ b ∷ rows_by b ps
+  pushed text [] base each ends = refl
+  pushed text (p ∷ ps) base each ends =
+      let own = step text p base each.0 in
+      let front = text ++ b ∷ [] in
+      let same : ended_with b text ++ p ≡ front ++ p = ap (λ t. t ++ p) ends in
+      ap (λ t. fold push_one t ps ++ b ∷ []) (own.0 ∙ same)
+      ∙ pushed (front ++ p) ps (subst Base same own.1) each.1 (unended front p each.0)
+      ∙ append_assoc front p (b ∷ rows_by b ps)
+      ∙ append_assoc text (b ∷ []) (p ++ b ∷ rows_by b ps)
+      ∙ ap (λ t. text ++ b ∷ t) (sym (append_assoc p (b ∷ []) (rows_by b ps)))
+
+  -- the same behind a root
+  pushed-root : (p : List ℕ) (ps : List (List ℕ)) → Base (b ∷ []) → ended_with b (b ∷ []) ≡ b ∷ [] → AllByRecursion Piece (p ∷ ps) → fold push_one (b ∷ []) (p ∷ ps) ++ b ∷ [] ≡ b ∷ rows_by b (p ∷ ps)
+  pushed-root p ps base ends each =
+      let own = step (b ∷ []) p base each.0 in
+      let same : ended_with b (b ∷ []) ++ p ≡ (b ∷ []) ++ p = ap (λ t. t ++ p) ends in
+      ap (λ t. fold push_one t ps ++ b ∷ []) (own.0 ∙ same)
+      ∙ pushed ((b ∷ []) ++ p) ps (subst Base same own.1) each.1 (unended (b ∷ []) p each.0)
+      ∙ ap (λ t. b ∷ t) (sym (append_assoc p (b ∷ []) (rows_by b ps)))
+
+  -- all pieces of a text, the first of which is a root where it is empty
+  pushed-pieces : (head : List ℕ) (others : List (List ℕ)) (text : List ℕ) → rows_by b (head ∷ others) ≡ text ++ b ∷ [] → 0 < length text → ((length head == 0) ≡ false → Base head × (ended_with b head ≡ head ++ b ∷ [])) → AllByRecursion Piece others
+      → Base (b ∷ []) → ended_with b (b ∷ []) ≡ b ∷ [] → fold push_one (if length head == 0 then b ∷ [] else head) others ++ b ∷ [] ≡ text ++ b ∷ []
+  pushed-pieces [] [] text rows some own each base ends = absurd (omega (arith, some, ap length rows, length-append text (b ∷ [])))
+  pushed-pieces [] (p ∷ ps) text rows some own each base ends = pushed-root p ps base ends each ∙ rows
+  pushed-pieces (x ∷ xs) others text rows some own each base ends =
+      let is : (length (x ∷ xs) == 0) ≡ false = false_from_ne_true _ (λ h. absurd (omega (arith, eqb-true _ 0 h))) in
+      let head = x ∷ xs in
+      let all = own is in
+      ap (λ c. fold push_one (if c then b ∷ [] else head) others ++ b ∷ []) is
+      ∙ pushed head others all.0 each all.1
+      ∙ sym (append_assoc head (b ∷ []) (rows_by b others))
+      ∙ rows
+
+-- a text whose end holds no separator wants one behind it
+ended-piece : (s : Separators) (b : ℕ) → is_separator s b ≡ true → (front piece : List ℕ) → (length piece == 0) ≡ false → IsUnseparated (is_separator s) piece
+    → ended_with b (front ++ piece) ≡ (front ++ piece) ++ b ∷ []
+ended-piece s b separates front piece is unseparated = ended_with-append b front piece is ∙ ap (λ t. front ++ t) alone ∙ sym (append_assoc front piece (b ∷ []))
+  where
+    alone : ended_with b piece ≡ piece ++ b ∷ []
+    alone =
+        let some : length piece - 1 < length piece = grind (arith, eqb-false) in
+        let last : (slice_index piece (length piece - 1) == b) ≡ false =
+        false_from_ne_true _ (λ e. both_ways (is_separator s (slice_index piece (length piece - 1))) (unseparated (length piece - 1) 0 some) (ap (is_separator s) (eqb-true _ b e) ∙ separates)) in
+        rw (is, last) refl
+
+-- what a text is, where it is another one with a byte more behind both
+unrowed : (b : ℕ) (text other : List ℕ) → text ++ b ∷ [] ≡ other ++ b ∷ [] → text ≡ other
+unrowed b text other e = sym (take-ended text b) ∙ ap (λ t. take (length t - 1) t) e ∙ take-ended other b
+
+-- pieces that are not blank are not empty
+pieces-filled : (ps : List (List ℕ)) → list_any (is_blank false) ps ≡ false → AllByRecursion (λ p. (length p == 0) ≡ false) ps
+pieces-filled [] none = tt
+pieces-filled (p ∷ ps) none = let own = or_parts (is_blank false p) (list_any (is_blank false) ps) none in ((filled p own.0).0, pieces-filled ps own.1)
+
+-- two facts of each
+both-each : (P Q : List ℕ → Type 0) (ps : List (List ℕ)) → AllByRecursion P ps → AllByRecursion Q ps → AllByRecursion (λ p. P p × Q p) ps
+both-each P Q [] f g = tt
+both-each P Q (p ∷ ps) f g = ((f.0, g.0), both-each P Q ps f.1 g.1)
+
+-- how the first piece is written, by whether it is empty
+first-written : (e : Dialect) (head : List ℕ) → first_text e head ≡ (if length head == 0 then root_of e else head)
+first-written e [] = refl
+first-written e (b ∷ bs) = ap (λ c. if c then root_of e else b ∷ bs) (sym (false_from_ne_true (length (b ∷ bs) == 0) (λ h. absurd (omega (arith, eqb-true _ 0 h)))))
+
+-- ---- pushed on Unix
+
+-- a piece without `/` that is not empty
+abbrev IsUnixPiece : List ℕ → Type 0
+IsUnixPiece p = ((length p == 0) ≡ false) × IsUnseparated (is_separator Slash) p
+
+step-unix : (text piece : List ℕ) → ⊤ → IsUnixPiece piece → (push_unix text piece ≡ ended_with slash text ++ piece) × ⊤
+step-unix text [] base own = absurd (true≢false own.0)
+step-unix text (b ∷ bs) base own = (rw (All-head (λ c. is_separator Slash c ≡ false) b bs own.1) refl, tt)
+
+-- a path pushed onto the empty one
+push_unix-first : (t : List ℕ) → push_unix [] t ≡ t
+push_unix-first [] = refl
+push_unix-first (b ∷ bs) = by (b == slash)
+  where
+    by : (rooted : Bool) → (if rooted then b ∷ bs else b ∷ bs) ≡ b ∷ bs
+    by true = refl
+    by false = refl
+
+-- what holds no separator of Windows holds none of Unix
+unslashed : (piece : List ℕ) → IsUnseparated (is_separator Either) piece → IsUnseparated (is_separator Slash) piece
+unslashed piece unseparated = λ k d l. (or_parts (get_or piece k d == slash) (get_or piece k d == backslash) (unseparated k d l)).0
+
+-- ---- pushed on Windows
+
+-- a piece without separators and `:` that is not empty
+record IsWindowsPiece (piece : List ℕ) : Type 0 where
+  filled : (length piece == 0) ≡ false
+  unseparated : IsUnseparated (is_separator Either) piece
+  step : IsStep (named_part piece)
+
+-- without `:` no drive is read
+undriven : (piece : List ℕ) → list_any (is_one_of (colon, backslash)) piece ≡ false → drive piece ≡ None
+undriven [] free = refl
+undriven (a ∷ []) free = refl
+undriven (a ∷ b ∷ bs) free =
+    let second = or_parts (is_one_of (colon, backslash) b) (list_any (is_one_of (colon, backslash)) bs) (or_parts (is_one_of (colon, backslash) a) (list_any (is_one_of (colon, backslash)) (b ∷ bs)) free).1 in
+    cond-false (is_drive_letter a && b == colon) (Some (to_upper a)) None (and_right (is_drive_letter a) (b == colon) (or_parts (b == colon) (b == backslash) second.0).0)
+
+-- such a name is plain
+plain-free : (piece : List ℕ) → (length piece == 0) ≡ false → is_dot piece ≡ false → is_dot_dot piece ≡ false → IsUnseparated (is_separator Either) piece → list_any (is_one_of (colon, backslash)) piece ≡ false → IsPlain piece
+plain-free piece is no_dot no_dots unseparated free = record { clean = record { filled = is; no_dot = no_dot; no_dot_dot = no_dots; unseparated = unseparated }; no_drive = undriven piece free }
+
+-- it is a parent or a plain name where it is no `.`
+step-free : (piece : List ℕ) → (length piece == 0) ≡ false → is_dot piece ≡ false → IsUnseparated (is_separator Either) piece → list_any (is_one_of (colon, backslash)) piece ≡ false → IsStep (named_part piece)
+step-free piece is no_dot unseparated free = by (is_dot_dot piece) (λ e. plain-free piece is no_dot e unseparated free)
+  where
+    by : (twice : Bool) → (twice ≡ false → IsPlain piece) → IsStep (if twice then parent_part else name_part piece)
+    by true plain = a_parent
+    by false plain = a_plain piece (plain refl)
+
+-- pieces that are not blank are such
+windows-pieces : (ps : List (List ℕ)) → list_any (is_blank false) ps ≡ false → AllByRecursion (IsUnseparated (is_separator Either)) ps → AllByRecursion (λ p. list_any (is_one_of (colon, backslash)) p ≡ false) ps
+    → AllByRecursion IsWindowsPiece ps
+windows-pieces [] none unseparated free = tt
+windows-pieces (p ∷ ps) none unseparated free =
+    let own = or_parts (is_blank false p) (list_any (is_blank false) ps) none in
+    let is = filled p own.0 in
+    (record { filled = is.0; unseparated = unseparated.0; step = step-free p is.0 is.1 unseparated.0 free.0 }, windows-pieces ps own.1 unseparated.1 free.1)
+
+-- what such a piece is written as
+step-text : (piece : List ℕ) → (named_part piece).text ≡ piece
+step-text piece = by (is_dot_dot piece) (dots-text piece)
+  where
+    by : (twice : Bool) → (twice ≡ true → dot ∷ dot ∷ [] ≡ piece) → (if twice then parent_part else name_part piece).text ≡ piece
+    by true two = two refl
+    by false two = refl
+
+-- it is put behind a text without a prefix, which stays without one
+step-windows : (text piece : List ℕ) → IsBare text → IsWindowsPiece piece → (push_windows text piece ≡ ended_with backslash text ++ piece) × IsBare (ended_with backslash text ++ piece)
+step-windows text piece bare own =
+    let read = step-read (named_part piece) own.step in
+    let is = read.2 in
+    let written : read.0 ∷ read.1 ≡ piece = sym is.text ∙ step-text piece in (
+      ap (push_windows text) (sym (step-text piece)) ∙ push-step text bare (named_part piece) read.0 read.1 is ∙ ap (λ t. ended_with backslash text ++ t) written,
+      subst (λ t. IsBare (ended_with backslash text ++ t)) written (bare-next text bare read.0 read.1 is.unseparated),
+    )
+
+-- the first piece has no prefix
+bare-first : (head : List ℕ) → (length head == 0) ≡ false → IsUnseparated (is_separator Either) head → list_any (is_one_of (colon, backslash)) head ≡ false → IsBare head
+bare-first head is unseparated free = by (is_dot head) (is_dot_dot head) refl refl
+  where
+    by : (one two : Bool) → is_dot head ≡ one → is_dot_dot head ≡ two → IsBare head
+    by true two e f = subst IsBare (dot-text head e) bare-current
+    by false true e f = subst IsBare (dots-text head f) bare-parent
+    by false false e f = bare-name head (plain-free head is e f unseparated free)
+
+-- the pieces of a text without blank ones, pushed on Unix one by one, are the text with its separators turned
+module _ (x : ℕ) (xs : List ℕ) (head : List ℕ) (others : List (List ℕ)) (cut : pieces Either (x ∷ xs) ≡ head ∷ others) (none : list_any (is_blank false) others ≡ false) where
+  each-unseparated : AllByRecursion (IsUnseparated (is_separator Either)) (head ∷ others)
+  each-unseparated = subst (AllByRecursion (IsUnseparated (is_separator Either))) cut (slice_split-unseparated (is_separator Either) (x ∷ xs))
+
+  rows-whole : (b : ℕ) → rows_by b (head ∷ others) ≡ turned Either b (x ∷ xs) ++ b ∷ []
+  rows-whole b = ap (rows_by b) (sym cut) ∙ pieces-turned Either b (x ∷ xs)
+
+  some-bytes : (b : ℕ) → 0 < length (turned Either b (x ∷ xs))
+  some-bytes b = omega arith
+
+  turned-unix : push_all unix (first_text unix head) others ≡ turned Either slash (x ∷ xs)
+  turned-unix =
+      let each = both-each (λ p. (length p == 0) ≡ false) (IsUnseparated (is_separator Slash)) others (pieces-filled others none) (AllByRecursion-weaker _ _ unslashed others each-unseparated.1) in
+      unrowed slash _ _
+      (ap (λ t. push_all unix t others ++ slash ∷ []) (first-written unix head)
+      ∙ pushed-pieces push_unix slash (λ t. ⊤) IsUnixPiece step-unix (λ front piece own. ended-piece Slash slash refl front piece own.0 own.1) head others (turned Either slash (x ∷ xs)) (rows-whole slash) (some-bytes slash)
+      (λ is. (tt, ended-piece Slash slash refl [] head is (unslashed head each-unseparated.0))) each tt refl)
+
+  -- ---- pushed on Windows, where no byte is `:` or `\`
+
+  module _ (free : list_any (is_one_of (colon, backslash)) (x ∷ xs) ≡ false) where
+    each-free : AllByRecursion (λ p. list_any (is_one_of (colon, backslash)) p ≡ false) (head ∷ others)
+    each-free = subst (AllByRecursion (λ p. list_any (is_one_of (colon, backslash)) p ≡ false)) cut (pieces-free Either (is_one_of (colon, backslash)) (x ∷ xs) free)
+
+    turned-windows : push_all windows (first_text windows head) others ≡ turned Either backslash (x ∷ xs)
+    turned-windows =
+        unrowed backslash _ _
+        (ap (λ t. push_all windows t others ++ backslash ∷ []) (first-written windows head)
+        ∙ pushed-pieces push_windows backslash IsBare IsWindowsPiece step-windows (λ front piece own. ended-piece Either backslash refl front piece own.filled own.unseparated) head others (turned Either backslash (x ∷ xs)) (rows-whole backslash) (some-bytes backslash)
+        (λ is. (bare-first head is each-unseparated.0 each-free.0, ended-piece Either backslash refl [] head is each-unseparated.0))
+        (windows-pieces others none each-unseparated.1 each-free.1) bare-root refl)
+
+-- ---- a whole path
+
+-- what its pieces are crossed to, pushed one by one
+crossed-pieces : (e : Dialect) (s : Separators) (x : ℕ) (xs head : List ℕ) (others : List (List ℕ)) → pieces s (x ∷ xs) ≡ head ∷ others → list_any (is_blank false) others ≡ false
+    → map (crossed e) (body_parts s (x ∷ xs)) ≡ first_text e head ∷ others
+crossed-pieces e s x xs head others cut none = ap (λ ps. map (crossed e) (first_parts s ps)) cut ∙ ap₂ ◌∷◌ (first-crossed e s head) (later-crossed e s others none)
+
+-- a text without `\` is cut alike by both sets that hold `/`
+pieces-slash : (text : List ℕ) → list_any (is_one_of (colon, backslash)) text ≡ false → pieces Either text ≡ pieces Slash text
+pieces-slash [] free = refl
+pieces-slash (b ∷ bs) free =
+    let both = or_parts (is_one_of (colon, backslash) b) (list_any (is_one_of (colon, backslash)) bs) free in
+    ap₂ (λ c ps. cond c ([] ∷ ps) (onto_first b ps)) (by (b == slash) (b == backslash) (or_parts (b == colon) (b == backslash) both.0).1) (pieces-slash bs both.1)
+  where
+    by : (c d : Bool) → d ≡ false → (c || d) ≡ c
+    by true d e = refl
+    by false d e = e
+
+-- there is room for a text that the last push makes
+fits-unix : (room : ℕ) (text path : List ℕ) (paths : List (List ℕ)) → FitsEach unix room text (path ∷ paths) → length (push_all unix text (path ∷ paths)) ≤ room
+fits-unix room text path [] fits = fits.0
+fits-unix room text path (p ∷ ps) fits = fits-unix room (push_unix text path) p ps fits.1
+
+fits-windows : (room : ℕ) (text path : List ℕ) (paths : List (List ℕ)) → spells_anew windows text ≡ false → IsBare (push_windows text path) → AllByRecursion IsWindowsPiece paths → FitsEach windows room text (path ∷ paths)
+    → length (push_all windows text (path ∷ paths)) ≤ room
+fits-windows room text path [] plain bare each fits = fits-plain room text path plain fits.0
+fits-windows room text path (p ∷ ps) plain bare each fits =
+    let own = step-windows (push_windows text path) p bare each.0 in
+    fits-windows room (push_windows text path) p ps (verbatim-none (push_windows text path) bare.no_prefix) (subst IsBare (sym own.0) own.1) each.1 fits.1
+
+-- a path of Unix without blank pieces, `:` and `\` is written on Windows with its separators turned
+pub crosses-windows : (path : List ℕ) → list_any (is_one_of (colon, backslash)) path ≡ false → has_blank_behind Either false path ≡ false → CrossesTurned unix windows path path
+crosses-windows [] free none = record { is = refl; fits = λ room fits. omega arith }
+crosses-windows (x ∷ xs) free none =
+    let path = x ∷ xs in
+    let tight = tight-pieces Either false path none in
+    let head = tight.0 in
+    let others = tight.1 in
+    let cut = tight.2 in
+    let clear = tight.3 in
+    let listed : map (crossed windows) (parts_of unix path) ≡ first_text windows head ∷ others =
+    ap (map (crossed windows)) (parts_of-unix path) ∙ crossed-pieces windows Slash x xs head others (sym (pieces-slash path free) ∙ cut) clear in
+    let unseparated = each-unseparated x xs head others cut clear in
+    let frees = each-free x xs head others cut clear free in
+    let whole : crossed_all windows (parts_of unix path) ≡ turned Either backslash path =
+    ap (push_all windows []) listed ∙ ap (λ t. push_all windows t others) (push-first (first_text windows head)) ∙ turned-windows x xs head others cut clear free in
+    record {
+      is = whole;
+      fits = λ room fits.
+          let first = bare-any head unseparated.0 frees.0 in
+          let long = fits-windows room [] (first_text windows head) others refl (subst IsBare (sym (push-first (first_text windows head))) first) (windows-pieces others clear unseparated.1 frees.1) (subst (FitsEach windows room []) listed fits) in
+          omega (arith, long, ap length (ap (push_all windows []) (sym listed) ∙ whole), length-map path (λ c. if is_separator Either c then backslash else c));
+    }
+  where
+    bare-any : (head : List ℕ) → IsUnseparated (is_separator Either) head → list_any (is_one_of (colon, backslash)) head ≡ false → IsBare (first_text windows head)
+    bare-any [] unseparated free = bare-root
+    bare-any (b ∷ bs) unseparated free = bare-first (b ∷ bs) (false_from_ne_true (length (b ∷ bs) == 0) (λ h. absurd (omega (arith, eqb-true _ 0 h)))) unseparated free
+
+-- how a root is pushed on Unix, whatever stands before it
+push_unix-root : (text : List ℕ) → push_unix text (slash ∷ []) ≡ slash ∷ []
+push_unix-root text = refl
+
+-- the body of a path of Windows without blank pieces, and without `/` where it is read verbatim, is written on Unix with its separators turned
+module _ (s : Separators) (w : OfWindows s) (x : ℕ) (xs : List ℕ) (without : IsWithoutSlash s (x ∷ xs))
+    (head : List ℕ) (others : List (List ℕ)) (cut : pieces Either (x ∷ xs) ≡ head ∷ others) (clear : list_any (is_blank false) others ≡ false) where
+  body-listed : map (crossed unix) (body_parts s (x ∷ xs)) ≡ first_text unix head ∷ others
+  body-listed = crossed-pieces unix s x xs head others (sym (pieces-own s w (x ∷ xs) without) ∙ cut) clear
+
+  body-turned : push_all unix (first_text unix head) others ≡ turned Either slash (x ∷ xs)
+  body-turned = turned-unix x xs head others cut clear
+
+  -- behind nothing
+  body-alone : crossed_all unix (body_parts s (x ∷ xs)) ≡ turned Either slash (x ∷ xs)
+  body-alone = ap (push_all unix []) body-listed ∙ ap (λ t. push_all unix t others) (push_unix-first (first_text unix head)) ∙ body-turned
+
+  -- behind a prefix, where a root stands at its front
+  body-rooted : (p : Part) → is_separator Either x ≡ true → crossed_all unix (p ∷ body_parts s (x ∷ xs)) ≡ turned Either slash (x ∷ xs)
+  body-rooted p separates =
+      ap (λ ts. push_all unix [] (crossed unix p ∷ ts)) body-listed
+      ∙ by head (sym cut ∙ ap (λ c. cond c ([] ∷ pieces Either xs) (onto_first x (pieces Either xs))) separates) body-turned
+    where
+      first_of : List (List ℕ) → List ℕ
+      first_of [] = []
+      first_of (t ∷ ts) = t
+
+      by : (h : List ℕ) → h ∷ others ≡ [] ∷ pieces Either xs → push_all unix (first_text unix h) others ≡ turned Either slash (x ∷ xs)
+          → push_all unix [] (crossed unix p ∷ first_text unix h ∷ others) ≡ turned Either slash (x ∷ xs)
+      by [] e whole = whole
+      by (b ∷ bs) e whole = absurd (some (ap first_of e))
+        where
+          some : b ∷ bs ≡ [] → ⊥
+          some e = cc
+
+  body-fits : (ps : List Part) → crossed_all unix ps ≡ turned Either slash (x ∷ xs) → (ts : List (List ℕ)) (t : List ℕ) → map (crossed unix) ps ≡ t ∷ ts → (room : ℕ) → FitsEach unix room [] (map (crossed unix) ps) → length (x ∷ xs) ≤ room
+  body-fits ps whole ts t listed room fits =
+      let long = fits-unix room [] t ts (subst (FitsEach unix room []) listed fits) in
+      omega (arith, long, ap length (ap (push_all unix []) (sym listed) ∙ whole), length-map (x ∷ xs) (λ c. if is_separator Either c then slash else c))
+
+-- a path of Windows without a prefix
+pub crosses-unix : (path : List ℕ) → prefix_of windows path ≡ None → has_blank_behind Either false path ≡ false → CrossesTurned windows unix path path
+crosses-unix [] no_prefix none = record { is = refl; fits = λ room fits. omega arith }
+crosses-unix (x ∷ xs) no_prefix none =
+    let path = x ∷ xs in
+    let read = parts_of-none path no_prefix in
+    let without : IsWithoutSlash Either path = λ verbatim. absurd (true≢false (sym verbatim)) in
+    let tight = tight-pieces Either false path none in
+    let whole = ap (crossed_all unix) read ∙ body-alone Either refl x xs without tight.0 tight.1 tight.2 tight.3 in
+    record {
+      is = whole;
+      fits = body-fits Either refl x xs without tight.0 tight.1 tight.2 tight.3 (parts_of windows path) whole _ _ (ap (map (crossed unix)) read ∙ body-listed Either refl x xs without tight.0 tight.1 tight.2 tight.3);
+    }
+
+-- a path of Windows with a prefix and a root behind it
+pub crosses-rooted : (path rest : List ℕ) (f : Found) → prefix_of windows path ≡ Some f → drop f.length path ≡ rest → IsWithoutSlash (separators windows path) rest → has_blank_behind Either false rest ≡ false
+    → begins_with_separator rest ≡ true → CrossesTurned windows unix path rest
+crosses-rooted path [] f is behind without none rooted = absurd (true≢false (sym rooted))
+crosses-rooted path (x ∷ xs) f is behind without none rooted =
+    let s = separators windows path in
+    let w = separators-windows path in
+    let p = prefix_part f.prefix (take f.length path) in
+    let read : parts_of windows path ≡ p ∷ body_parts s (x ∷ xs) = parts_of-some path f is ∙ ap (λ t. p ∷ body_parts s t) behind in
+    let tight = tight-pieces Either false (x ∷ xs) none in
+    let whole = ap (crossed_all unix) read ∙ body-rooted s w x xs without tight.0 tight.1 tight.2 tight.3 p rooted in
+    record {
+      is = whole;
+      fits = body-fits s w x xs without tight.0 tight.1 tight.2 tight.3 (parts_of windows path) whole _ _ (ap (map (crossed unix)) read);
+    }
+
+-- ---- checked pushes of what is not refused
+
+-- components that are not refused are pushed
+unrefused : (e : Dialect) (base : List ℕ) (ps : List Part) → AllByRecursion (λ p. crossing_fault e p ≡ None) ps → push_checked_each e (Ok base) ps ≡ Ok (push_all e base (map (crossed e) ps))
+unrefused e base [] each = refl
+unrefused e base (p ∷ ps) each = ap (λ o. push_checked_each e (push_unless e base o (crossed e p)) ps) each.0 ∙ unrefused e (push e base (crossed e p)) ps each.1
+
+-- components as they are written behind the prefix are not refused where they are valid
+valid-unrefused : (e : Dialect) (s : Separators) (ps : List Part) → AllByRecursion (IsWrittenPart s) ps → is_valid e (kinds ps) ≡ true → AllByRecursion (λ p. crossing_fault e p ≡ None) ps
+valid-unrefused e s [] written valid = tt
+valid-unrefused e s (p ∷ ps) written valid = let both = and_parts (is_valid_kind e p.kind) (is_valid e (kinds ps)) valid in (by p.kind p.text written.0 both.0, valid-unrefused e s ps written.1 both.1)
+  where
+    by : (k : Kind) (text : List ℕ) → IsWritten s k text → is_valid_kind e k ≡ true → crossing_fault e (record { kind = k; text = text }) ≡ None
+    by (prefix q) text own valid = absurd own
+    by root text own valid = refl
+    by current text own valid = refl
+    by parent text own valid = refl
+    by (normal name) text own valid = let clean = own.1 in ap (fault e) own.0 ∙ fault_name e name (rw (clean.filled, clean.no_dot, clean.no_dot_dot) refl) valid
+
+body-written : (s : Separators) (text : List ℕ) → AllByRecursion (IsWrittenPart s) (body_parts s text)
+body-written s text = each-written s (body_parts s text) (body_parts-read s text)
+
+-- a path of Unix without forbidden bytes and devices is written on Windows by checked pushes as by others
+pub checked-windows : (path : List ℕ) → list_any (is_forbidden_or (backslash, backslash)) path ≡ false → list_any (is_one_of (colon, backslash)) path ≡ false → has_parent_or_device path ≡ false
+    → converted_checked unix windows path ≡ Ok (crossed_all windows (parts_of unix path))
+checked-windows path free plain none = unrefused windows [] (parts_of unix path) (subst (AllByRecursion (λ p. crossing_fault windows p ≡ None)) (sym (parts_of-unix path)) (valid-unrefused windows Slash (body_parts Slash path) (body-written Slash path) valid))
+  where
+    unstrayed : (b : ℕ) → is_forbidden_or (backslash, backslash) b ≡ false → is_stray Either b ≡ false
+    unstrayed b f = by (is_disallowed windows b) (is_separator Slash b) (b == backslash) (free-byte b f)
+      where
+        by : (d c o : Bool) → (d ≡ true → c ≡ true) → d && not (c || o) ≡ false
+        by false c o h = refl
+        by true true o h = refl
+        by true false o h = absurd (true≢false (sym (h refl)))
+
+    allowed : (text : List ℕ) → list_any (is_forbidden_or (backslash, backslash)) text ≡ false → list_any (is_stray Either) text ≡ false
+    allowed [] f = refl
+    allowed (b ∷ bs) f = let both = or_parts (is_forbidden_or (backslash, backslash) b) (list_any (is_forbidden_or (backslash, backslash)) bs) f in ap (λ c. c || list_any (is_stray Either) bs) (unstrayed b both.0) ∙ allowed bs both.1
+
+    own : is_valid windows (kinds (body_parts Either path)) ≡ true
+    own = ap (λ ps. is_valid windows (kinds ps)) (sym (parts-body Either 0 path)) ∙ valid-found Either 0 path _ false refl (allowed path free) ∙ ap not (none_reserved (pieces Either path) (any-pieces path ∙ none))
+
+    same-first : (ps : List (List ℕ)) → kinds (first_parts Slash ps) ≡ kinds (first_parts Either ps)
+    same-first [] = refl
+    same-first (p ∷ ps) = by (length p == 0)
+      where
+        by : (empty : Bool) → kinds ((if empty then root_part (root_text Slash) else (if is_dot p then current_part else named_part p)) ∷ later_parts Slash ps)
+            ≡ kinds ((if empty then root_part (root_text Either) else (if is_dot p then current_part else named_part p)) ∷ later_parts Either ps)
+        by true = refl
+        by false = refl
+
+    same : (text : List ℕ) → list_any (is_one_of (colon, backslash)) text ≡ false → kinds (body_parts Slash text) ≡ kinds (body_parts Either text)
+    same [] f = refl
+    same (b ∷ bs) f = ap (λ ps. kinds (first_parts Slash ps)) (sym (pieces-slash (b ∷ bs) f)) ∙ same-first (pieces Either (b ∷ bs))
+
+    valid : is_valid windows (kinds (body_parts Slash path)) ≡ true
+    valid = ap (is_valid windows) (same path plain) ∙ own
+
+-- names that Unix allows are valid there
+valid-unix : (ks : List Kind) → AllByRecursion (λ k. kind_has_allowed_bytes unix k ≡ true) ks → is_valid unix ks ≡ true
+valid-unix [] each = refl
+valid-unix (k ∷ ks) each = ap (λ b. b && is_valid unix ks) (by k each.0) ∙ valid-unix ks each.1
+  where
+    by : (k : Kind) → kind_has_allowed_bytes unix k ≡ true → is_valid_kind unix k ≡ true
+    by (normal name) allowed = ap (λ b. b && true) allowed
+    by k allowed = refl
+
+-- a byte that Unix allows in no name separates in a text of Windows, where that has no NUL, and no `/` if it is read verbatim
+disallowed-separates : (s : Separators) → OfWindows s → (text : List ℕ) → IsWithoutSlash s text → list_any (is_one_of (0, 0)) text ≡ false → All (λ b. is_disallowed unix b ≡ true → is_separator s b ≡ true) text
+disallowed-separates s w [] without free = All-nil _
+disallowed-separates s w (b ∷ bs) without free =
+    let both = or_parts (is_one_of (0, 0) b) (list_any (is_one_of (0, 0)) bs) free in
+    let nul = or_parts (b == 0) (b == 0) both.0 in
+    All-cons (λ c. is_disallowed unix c ≡ true → is_separator s c ≡ true) b bs (own s w without (b == 0) nul.0) (disallowed-separates s w bs (without_slash-behind s b bs without) both.1)
+  where
+    slashed : (c d o : Bool) → d ≡ false → (c || d) ≡ true → (c || o) ≡ true
+    slashed true d o e h = refl
+    slashed false true o e h = cc
+    slashed false false o e h = cc
+
+    unslashed-none : (c d : Bool) → c ≡ false → d ≡ false → (c || d) ≡ true → false ≡ true
+    unslashed-none true d e f h = cc
+    unslashed-none false true e f h = cc
+    unslashed-none false false e f h = h
+
+    own : (s : Separators) → OfWindows s → IsWithoutSlash s (b ∷ bs) → (d : Bool) → d ≡ false → (b == slash || d) ≡ true → is_separator s b ≡ true
+    own Slash w without d e h = cc
+    own Either w without d e h = slashed (b == slash) d (b == backslash) e h
+    own Backslash w without d e h = absurd (true≢false (sym (unslashed-none (b == slash) d (or_parts (b == slash) (list_any (is_separator Slash) bs) (without refl)).0 e h)))
+
+-- so the names of its body are not refused on Unix
+body-unrefused : (s : Separators) → OfWindows s → (text : List ℕ) → IsWithoutSlash s text → list_any (is_one_of (0, 0)) text ≡ false → AllByRecursion (λ p. crossing_fault unix p ≡ None) (body_parts s text)
+body-unrefused s w [] without free = tt
+body-unrefused s w (b ∷ bs) without free =
+    valid-unrefused unix s (body_parts s (b ∷ bs)) (body-written s (b ∷ bs))
+    (valid-unix (kinds (body_parts s (b ∷ bs))) (allowed-kinds unix (body_parts s (b ∷ bs)) (allowed-first_parts s unix (pieces s (b ∷ bs)) (allowed-pieces s unix (b ∷ bs) (disallowed-separates s w (b ∷ bs) without free)))))
+
+-- nor is a prefix
+prefix-unrefused : (path : List ℕ) (f : Found) → prefix_of windows path ≡ Some f → crossing_fault unix (prefix_part f.prefix (take f.length path)) ≡ None
+prefix-unrefused path f is = by path f (prefix-read path f is)
+  where
+    letter_is : (a c : ℕ) → is_drive_letter c ≡ false → is_drive_letter a ≡ true → (a == c) ≡ false
+    letter_is a c other own = false_from_ne_true _ (λ h. both_ways (is_drive_letter a) (ap is_drive_letter (eqb-true a c h) ∙ other) own)
+
+    by : (path : List ℕ) (f : Found) → Read (separators windows path) path f → crossing_fault unix (prefix_part f.prefix (take f.length path)) ≡ None
+    by [] _ (of_disk letter drive) = cc
+    by (a ∷ []) _ (of_disk letter drive) = cc
+    by (a ∷ b ∷ text) _ (of_disk letter drive) =
+        let own = drive-letter a b text letter drive in
+        fault_name unix (a ∷ b ∷ []) (and_right (a == dot) (b == dot) (ap (λ c. c == dot) own.1))
+        (rw (letter_is a slash refl own.0, letter_is a 0 refl own.0, own.1) refl)
+    by path _ (of_verbatim_unc rest mark server) = refl
+    by path f read = cc
+
+-- a path of Windows without NUL is written on Unix by checked pushes as by others
+pub checked-unix : (path : List ℕ) → prefix_of windows path ≡ None → list_any (is_one_of (0, 0)) path ≡ false → converted_checked windows unix path ≡ Ok (crossed_all unix (parts_of windows path))
+checked-unix path no_prefix free =
+    unrefused unix [] (parts_of windows path) (subst (AllByRecursion (λ p. crossing_fault unix p ≡ None)) (sym (parts_of-none path no_prefix)) (body-unrefused Either refl path (λ verbatim. absurd (true≢false (sym verbatim))) free))
+
+pub checked-rooted : (path rest : List ℕ) (f : Found) → prefix_of windows path ≡ Some f → drop f.length path ≡ rest → IsWithoutSlash (separators windows path) rest → list_any (is_one_of (0, 0)) rest ≡ false
+    → converted_checked windows unix path ≡ Ok (crossed_all unix (parts_of windows path))
+checked-rooted path rest f is behind without free =
+    let s = separators windows path in
+    unrefused unix [] (parts_of windows path)
+    (subst (AllByRecursion (λ p. crossing_fault unix p ≡ None)) (sym (parts_of-some path f is ∙ ap (λ t. prefix_part f.prefix (take f.length path) ∷ body_parts s t) behind))
+    (prefix-unrefused path f is, body-unrefused s (separators-windows path) rest without free))
