@@ -1,6 +1,6 @@
 //! Paths in another encoding, with and without checks, and paths made absolute.
 
-ghost use Rattle.std.specs.Prelude.{◌≡◌, ◌≤◌, ◌+◌, ◌++◌, ℕ, [], ◌∷◌, map, option_map, take, drop, length, IsTrue, IsOk, IsSome, IfSome, IfOk, OnOk, OnErr, Result, Ok, Err, Some, None, true, false};
+ghost use Rattle.std.specs.Prelude.{◌≡◌, ◌≤◌, ◌+◌, ◌++◌, ℕ, [], ◌∷◌, map, option_map, take, drop, length, IsTrue, IsOk, IfSome, IfOk, OnOk, OnErr, Result, Ok, Err, Some, None, true, false};
 ghost use Rattle.std.specs.Option.{option_to_list};
 ghost use Rattle.std.specs.Vec.{vec_capacity};
 ghost use Rattle.typed_path.specs.declared.errors.CheckedPathError.{CheckedPathError};
@@ -17,8 +17,8 @@ use crate::common::{Encoding, Path, PathBuf, cut_back, put_turned};
 use crate::errors::{AbsolutizeError, CheckedPathError, PathError};
 use crate::platform::{PlatformEncoding, PlatformPath, PlatformPathBuf};
 use crate::scan::{
-    Piece, PieceKind, Separators, Span, find_prefix, has_forbidden, has_no_blank_behind,
-    has_parent_or_device, is_dots, is_free_of,
+    Piece, PieceKind, Separators, Span, before_last_separator, find_prefix, has_forbidden,
+    has_no_blank_behind, has_parent_or_device, is_dots, is_free_of,
 };
 use crate::unix::{UnixEncoding, UnixPathBuf};
 use crate::windows::{WindowsEncoding, WindowsPathBuf, begins_with_separator};
@@ -245,14 +245,15 @@ fn turned<T: Encoding, U: Encoding>(path: &[u8]) -> Option<&[u8]>
     None
 }
 
-/// The same of a path of Unix on Windows: none of its names ends or begins a component there.
+/// The same of a path of Unix on Windows, where no byte of it begins a component or a drive there.
 fn turned_for_windows(path: &[u8]) -> Option<&[u8]>
     ensures turned { IfSome result (λ text. CrossesTurned unix windows path.now text.now) }
-    ensures checked { IsSome result → list_any (is_forbidden_or (backslash, backslash)) path.now ≡ false
-        → has_parent_or_device path.now ≡ false → IsUnrefused unix windows path.now }
+    ensures checked { IfSome result (λ text. list_any (is_forbidden_or (backslash, backslash)) text.now ≡ false
+        → has_parent_or_device text.now ≡ false → IsUnrefused unix windows path.now) }
 {
-    if is_free_of((b':', b'\\'), path) && has_no_blank_behind(path, Separators::Either, false) {
-        return Some(path);
+    let text = before_last_separator(path, Separators::Slash);
+    if has_no_blank_behind(text, Separators::Either) && is_free_of((b':', b'\\'), text) {
+        return Some(text);
     }
     None
 }
@@ -264,14 +265,15 @@ fn turned_for_unix(path: &[u8]) -> Option<&[u8]>
         → IsUnrefused windows unix path.now) }
 {
     let Some(found) = find_prefix(path) else {
-        return if has_no_blank_behind(path, Separators::Either, false) {
-            Some(path)
-        } else {
-            None
-        };
+        let text = before_last_separator(path, Separators::Either);
+        if has_no_blank_behind(text, Separators::Either) {
+            return Some(text);
+        }
+        return None;
     };
-    let text = &path[found.length..];
-    if is_rooted(path, text) && has_no_blank_behind(text, Separators::Either, false) {
+    let behind = &path[found.length..];
+    let text = before_last_separator(behind, Separators::of_windows(path));
+    if is_rooted(path, text) && has_no_blank_behind(text, Separators::Either) {
         return Some(text);
     }
     None
@@ -377,7 +379,7 @@ fn turned_checked<T: Encoding, U: Encoding>(path: &[u8]) -> Option<&[u8]>
     }
     if have_one_label::<T, UnixEncoding>() && have_one_label::<U, WindowsEncoding>() {
         let text = turned_for_windows(path)?;
-        if has_forbidden(path, (b'\\', b'\\')) || has_parent_or_device(path) {
+        if has_forbidden(text, (b'\\', b'\\')) || has_parent_or_device(text) {
             return None;
         }
         return Some(text);

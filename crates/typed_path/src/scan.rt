@@ -8,7 +8,7 @@ mod prefix;
 mod separators;
 mod step;
 
-pub use blanks::has_no_blank_behind;
+pub use blanks::{before_last_separator, has_no_blank_behind};
 pub use cursor::{Begin, Body, Cursor, Span};
 pub use cut::{
     are_apart, base_end, bodies_behind, bodies_behind_shared, cut_at, cut_at_separator,

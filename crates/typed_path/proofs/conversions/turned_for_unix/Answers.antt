@@ -1,28 +1,49 @@
-use Rattle.std.proofs.Common.{sym}
+use Rattle.std.proofs.Common.{◌≡◌, ℕ, List, drop, length, take, ◌-◌, refl, sym, ap, ◌∙◌, None, Some, ◌∷◌}
 use Rattle.std.proofs.lemmas.List.{take_rest}
-use Rattle.typed_path.specs.components.{windows}
+use Rattle.typed_path.specs.declared.scan.separators.Separators.TheVariants.{Either}
+use Rattle.typed_path.specs.declared.scan.separators.Separators.{Separators}
+use Rattle.typed_path.specs.components.{windows, body, parts_of, prefix_of, prefix_part, separators, Found}
 use Rattle.typed_path.specs.views.PieceViews.{found_of}
-use Rattle.typed_path.proofs.lemmas.components.Prefixes.{prefix-fits}
-use Rattle.typed_path.proofs.lemmas.conversions.TurnedPaths.{crosses-unix, crosses-rooted, checked-unix, checked-rooted}
+use Rattle.typed_path.proofs.lemmas.components.Prefixes.{prefix-fits, separators-windows}
+use Rattle.typed_path.proofs.lemmas.components.Segments.{body_parts}
+use Rattle.typed_path.proofs.lemmas.changes.Faults.{parts_of-none, parts_of-some}
+use Rattle.typed_path.proofs.lemmas.conversions.TurnedPaths.{crosses-unix, crosses-rooted, checked-unix, checked-rooted, body-same}
 use Rattle.typed_path.proofs.conversions.turned_for_unix.Goals as goal
 
 pub returns-then-has_no_blank_behind : goal.returns-then-has_no_blank_behind
 returns-then-has_no_blank_behind c =
-    let no_prefix = sym c.in_default.ensures in
-    record { turned = crosses-unix c.args.path.now no_prefix (c.has_no_blank_behind.ensures c.if-has_no_blank_behind.true); checked = checked-unix c.args.path.now no_prefix }
+    let path = c.args.path.now in
+    let text = c.before_last_separator-text.result.now in
+    let read = parts_of-none path (sym c.in_default.ensures) ∙ body-same Either path text c.before_last_separator-text.ensures in
+    record { turned = crosses-unix path text read (c.has_no_blank_behind.ensures c.if-has_no_blank_behind.true); checked = checked-unix path text read }
 
-pub slice_bounds-text-count : goal.slice_bounds-text-count
-slice_bounds-text-count c = (prefix-fits windows c.args.path.now (found_of c.in-Some.found) (sym c.in-Some.ensures)).fits
+pub slice_bounds-behind-count : goal.slice_bounds-behind-count
+slice_bounds-behind-count c = (prefix-fits windows c.args.path.now (found_of c.in-Some.found) (sym c.in-Some.ensures)).fits
 
-pub slice_bounds-text-start : goal.slice_bounds-text-start
-slice_bounds-text-start c = (prefix-fits windows c.args.path.now (found_of c.in-Some.found) (sym c.in-Some.ensures)).fits
+pub slice_bounds-behind-start : goal.slice_bounds-behind-start
+slice_bounds-behind-start c = (prefix-fits windows c.args.path.now (found_of c.in-Some.found) (sym c.in-Some.ensures)).fits
+
+-- what a path with a prefix is read as, by what stands behind that
+behind_read : (path behind text : List ℕ) (f : Found) (s : Separators) → s ≡ separators windows path → prefix_of windows path ≡ Some f → behind ≡ take (length path - f.length) (drop f.length path)
+    → ((at : ℕ) → body s at behind ≡ body s at text) → parts_of windows path ≡ prefix_part f.prefix (take f.length path) ∷ body_parts (separators windows path) text
+behind_read path behind text f s own is e same =
+    parts_of-some path f is
+    ∙ ap (λ t. prefix_part f.prefix (take f.length path) ∷ body_parts (separators windows path) t) (sym (take_rest path f.length) ∙ sym e)
+    ∙ ap (λ r. prefix_part f.prefix (take f.length path) ∷ body_parts r behind) (sym own)
+    ∙ ap (λ ps. prefix_part f.prefix (take f.length path) ∷ ps) (body-same s behind text same)
+    ∙ ap (λ r. prefix_part f.prefix (take f.length path) ∷ body_parts r text) own
 
 pub returns-then-has_no_blank_behind-2 : goal.returns-then-has_no_blank_behind-2
 returns-then-has_no_blank_behind-2 c =
+    let path = c.args.path.now in
+    let text = c.before_last_separator-text-2.result.now in
+    let f = found_of c.in-Some.found in
     let is = sym c.in-Some.ensures in
-    let behind = sym (take_rest c.args.path.now c.in-Some.found.length) in
+    let s = separators windows path in
+    let w = separators-windows path in
     let without = c.is_rooted.ensures.slashless c.if-is_rooted.true in
+    let read = behind_read path _ text f c.of_windows.result c.of_windows.ensures is refl c.before_last_separator-text-2.ensures in
     record {
-      turned = crosses-rooted c.args.path.now _ (found_of c.in-Some.found) is behind without (c.has_no_blank_behind-then-is_rooted.ensures c.if-has_no_blank_behind-2.true) (c.is_rooted.ensures.rooted c.if-is_rooted.true);
-      checked = checked-rooted c.args.path.now _ (found_of c.in-Some.found) is behind without;
+      turned = crosses-rooted path text s (prefix_part f.prefix (take f.length path)) w read without (c.has_no_blank_behind-then-is_rooted.ensures c.if-has_no_blank_behind-2.true) (c.is_rooted.ensures.rooted c.if-is_rooted.true);
+      checked = checked-rooted path text f is s w read without;
     }

@@ -7,10 +7,10 @@ use Rattle.std.proofs.lemmas.List.{length-map}
 use Rattle.std.proofs.lemmas.List.Elements.{All-head, All-nil, All-cons}
 use Rattle.typed_path.specs.declared.scan.separators.Separators.{Separators}
 use Rattle.typed_path.specs.declared.scan.separators.Separators.TheVariants.{Slash, Backslash, Either}
-use Rattle.typed_path.specs.components.{Dialect, unix, windows, dot, slash, backslash, colon, is_separator, is_dot, is_dot_dot, root_text, root_of, Part, current_part, parent_part, name_part, root_part, drive, is_drive_letter, to_upper, parts_of, is_verbatim, separators, Found, prefix_of, prefix_part, Kind, prefix, root, current, parent, normal, kinds}
+use Rattle.typed_path.specs.components.{Dialect, unix, windows, dot, slash, backslash, colon, is_separator, is_dot, is_dot_dot, root_text, root_of, Part, current_part, parent_part, name_part, root_part, drive, is_drive_letter, to_upper, parts_of, is_verbatim, separators, Found, prefix_of, prefix_part, Kind, prefix, root, current, parent, normal, kinds, body, parts}
 use Rattle.typed_path.specs.changes.{ended_with, push, push_all, push_unix, push_windows, spells_anew, FitsPush, FitsEach, begins_with_separator, fault, is_stray, is_forbidden_or, has_parent_or_device}
 use Rattle.typed_path.specs.queries.{is_valid, is_valid_kind, is_disallowed, kind_has_allowed_bytes}
-use Rattle.typed_path.specs.conversions.{crossed, crossed_all, CrossesTurned, crossing_fault, push_checked_each, push_unless, converted_checked}
+use Rattle.typed_path.specs.conversions.{crossed, crossed_all, CrossesTurned, IsUnrefused, crossing_fault, push_checked_each, push_unless, converted_checked}
 use Rattle.typed_path.specs.scan.{is_one_of, is_blank, begins_blank, has_blank_behind, turned}
 use Rattle.typed_path.proofs.lemmas.lists.Lists.{IsUnseparated, slice_split-some, slice_split-unseparated, AllByRecursion-weaker}
 use Rattle.typed_path.proofs.lemmas.components.Segments.{pieces, named_part, later_part, first_part, later_parts, first_parts, body_parts, IsCleanName, IsWritten, IsWrittenPart, each-written, body_parts-read, parts-body}
@@ -60,23 +60,23 @@ pieces-free s q (x ∷ xs) free = let some = slice_split-some (is_separator s) x
         subst (λ qs. AllByRecursion (λ piece. list_any q piece ≡ false) (onto_first x qs)) (sym e) (ap (λ b. b || list_any q piece) own ∙ each.0, each.1)
 
 -- a text is the segment before its first separator, and the pieces behind that, of which the search for blank ones tells
-record Split (s : Separators) (parents : Bool) (text : List ℕ) : Type 0 where
+record Split (s : Separators) (text : List ℕ) : Type 0 where
   more : List (List ℕ)
   cut : pieces s text ≡ before_first (is_separator s) text ∷ more
-  told : list_any (is_blank parents) more ≡ has_blank_behind s parents text
+  told : list_any is_blank more ≡ has_blank_behind s text
 
-split : (s : Separators) (parents : Bool) (text : List ℕ) → Split s parents text
-split s parents [] = record { more = []; cut = refl; told = refl }
-split s parents (x ∷ xs) = by (is_separator s x) refl (split s parents xs)
+split : (s : Separators) (text : List ℕ) → Split s text
+split s [] = record { more = []; cut = refl; told = refl }
+split s (x ∷ xs) = by (is_separator s x) refl (split s xs)
   where
-    by : (separates : Bool) → is_separator s x ≡ separates → Split s parents xs → Split s parents (x ∷ xs)
+    by : (separates : Bool) → is_separator s x ≡ separates → Split s xs → Split s (x ∷ xs)
     by true e rest = record {
       more = pieces s xs;
       cut = ap (λ b. cond b ([] ∷ pieces s xs) (onto_first x (pieces s xs))) e ∙ ap (λ t. t ∷ pieces s xs) (sym (segment-byte s x xs ∙ ap (λ b. cond b [] (x ∷ before_first (is_separator s) xs)) e));
       told =
-          ap (list_any (is_blank parents)) rest.cut
-          ∙ ap (λ b. is_blank parents (before_first (is_separator s) xs) || b) rest.told
-          ∙ ap (λ b. (b && begins_blank s parents xs) || has_blank_behind s parents xs) (sym e);
+          ap (list_any is_blank) rest.cut
+          ∙ ap (λ b. is_blank (before_first (is_separator s) xs) || b) rest.told
+          ∙ ap (λ b. (b && begins_blank s xs) || has_blank_behind s xs) (sym e);
     }
     by false e rest = record {
       more = rest.more;
@@ -84,13 +84,13 @@ split s parents (x ∷ xs) = by (is_separator s x) refl (split s parents xs)
           ap (λ b. cond b ([] ∷ pieces s xs) (onto_first x (pieces s xs))) e
           ∙ ap (onto_first x) rest.cut
           ∙ ap (λ t. t ∷ rest.more) (sym (segment-byte s x xs ∙ ap (λ b. cond b [] (x ∷ before_first (is_separator s) xs)) e));
-      told = rest.told ∙ ap (λ b. (b && begins_blank s parents xs) || has_blank_behind s parents xs) (sym e);
+      told = rest.told ∙ ap (λ b. (b && begins_blank s xs) || has_blank_behind s xs) (sym e);
     }
 
 -- the pieces of a text, where none but the first is blank
-pub tight-pieces : (s : Separators) (parents : Bool) (text : List ℕ) → has_blank_behind s parents text ≡ false
-    → (head : List ℕ) × (others : List (List ℕ)) × (pieces s text ≡ head ∷ others) × (list_any (is_blank parents) others ≡ false)
-tight-pieces s parents text none = let cut = split s parents text in (before_first (is_separator s) text, cut.more, cut.cut, cut.told ∙ none)
+pub tight-pieces : (s : Separators) (text : List ℕ) → has_blank_behind s text ≡ false
+    → (head : List ℕ) × (others : List (List ℕ)) × (pieces s text ≡ head ∷ others) × (list_any is_blank others ≡ false)
+tight-pieces s text none = let cut = split s text in (before_first (is_separator s) text, cut.more, cut.cut, cut.told ∙ none)
 
 -- ---- the components of such pieces, as they cross
 
@@ -115,15 +115,15 @@ named-crossed e piece = by (is_dot_dot piece) (dots-text piece)
     by false two = refl
 
 -- a piece that is not blank is no `.`, and not empty
-filled : (piece : List ℕ) → is_blank false piece ≡ false → ((length piece == 0) ≡ false) × (is_dot piece ≡ false)
+filled : (piece : List ℕ) → is_blank piece ≡ false → ((length piece == 0) ≡ false) × (is_dot piece ≡ false)
 filled [] e = absurd (true≢false e)
 filled (a ∷ []) e = (refl, e)
 filled (a ∷ b ∷ piece) e = (false_from_ne_true _ (λ h. absurd (omega (arith, eqb-true _ 0 h))), refl)
 
-later-crossed : (e : Dialect) (s : Separators) (ps : List (List ℕ)) → list_any (is_blank false) ps ≡ false → map (crossed e) (later_parts s ps) ≡ ps
+later-crossed : (e : Dialect) (s : Separators) (ps : List (List ℕ)) → list_any is_blank ps ≡ false → map (crossed e) (later_parts s ps) ≡ ps
 later-crossed e s [] none = refl
 later-crossed e s (p ∷ ps) none =
-    let own = or_parts (is_blank false p) (list_any (is_blank false) ps) none in
+    let own = or_parts (is_blank p) (list_any is_blank ps) none in
     let is = filled p own.0 in
     by (length p == 0) (is_dot p) is.0 is.1 (later-crossed e s ps own.1)
   where
@@ -206,9 +206,9 @@ unrowed : (b : ℕ) (text other : List ℕ) → text ++ b ∷ [] ≡ other ++ b 
 unrowed b text other e = sym (take-ended text b) ∙ ap (λ t. take (length t - 1) t) e ∙ take-ended other b
 
 -- pieces that are not blank are not empty
-pieces-filled : (ps : List (List ℕ)) → list_any (is_blank false) ps ≡ false → AllByRecursion (λ p. (length p == 0) ≡ false) ps
+pieces-filled : (ps : List (List ℕ)) → list_any is_blank ps ≡ false → AllByRecursion (λ p. (length p == 0) ≡ false) ps
 pieces-filled [] none = tt
-pieces-filled (p ∷ ps) none = let own = or_parts (is_blank false p) (list_any (is_blank false) ps) none in ((filled p own.0).0, pieces-filled ps own.1)
+pieces-filled (p ∷ ps) none = let own = or_parts (is_blank p) (list_any is_blank ps) none in ((filled p own.0).0, pieces-filled ps own.1)
 
 -- two facts of each
 both-each : (P Q : List ℕ → Type 0) (ps : List (List ℕ)) → AllByRecursion P ps → AllByRecursion Q ps → AllByRecursion (λ p. P p × Q p) ps
@@ -272,11 +272,11 @@ step-free piece is no_dot unseparated free = by (is_dot_dot piece) (λ e. plain-
     by false plain = a_plain piece (plain refl)
 
 -- pieces that are not blank are such
-windows-pieces : (ps : List (List ℕ)) → list_any (is_blank false) ps ≡ false → AllByRecursion (IsUnseparated (is_separator Either)) ps → AllByRecursion (λ p. list_any (is_one_of (colon, backslash)) p ≡ false) ps
+windows-pieces : (ps : List (List ℕ)) → list_any is_blank ps ≡ false → AllByRecursion (IsUnseparated (is_separator Either)) ps → AllByRecursion (λ p. list_any (is_one_of (colon, backslash)) p ≡ false) ps
     → AllByRecursion IsWindowsPiece ps
 windows-pieces [] none unseparated free = tt
 windows-pieces (p ∷ ps) none unseparated free =
-    let own = or_parts (is_blank false p) (list_any (is_blank false) ps) none in
+    let own = or_parts (is_blank p) (list_any is_blank ps) none in
     let is = filled p own.0 in
     (record { filled = is.0; unseparated = unseparated.0; step = step-free p is.0 is.1 unseparated.0 free.0 }, windows-pieces ps own.1 unseparated.1 free.1)
 
@@ -308,7 +308,7 @@ bare-first head is unseparated free = by (is_dot head) (is_dot_dot head) refl re
     by false false e f = bare-name head (plain-free head is e f unseparated free)
 
 -- the pieces of a text without blank ones, pushed on Unix one by one, are the text with its separators turned
-module _ (x : ℕ) (xs : List ℕ) (head : List ℕ) (others : List (List ℕ)) (cut : pieces Either (x ∷ xs) ≡ head ∷ others) (none : list_any (is_blank false) others ≡ false) where
+module _ (x : ℕ) (xs : List ℕ) (head : List ℕ) (others : List (List ℕ)) (cut : pieces Either (x ∷ xs) ≡ head ∷ others) (none : list_any is_blank others ≡ false) where
   each-unseparated : AllByRecursion (IsUnseparated (is_separator Either)) (head ∷ others)
   each-unseparated = subst (AllByRecursion (IsUnseparated (is_separator Either))) cut (slice_split-unseparated (is_separator Either) (x ∷ xs))
 
@@ -343,7 +343,7 @@ module _ (x : ℕ) (xs : List ℕ) (head : List ℕ) (others : List (List ℕ)) 
 -- ---- a whole path
 
 -- what its pieces are crossed to, pushed one by one
-crossed-pieces : (e : Dialect) (s : Separators) (x : ℕ) (xs head : List ℕ) (others : List (List ℕ)) → pieces s (x ∷ xs) ≡ head ∷ others → list_any (is_blank false) others ≡ false
+crossed-pieces : (e : Dialect) (s : Separators) (x : ℕ) (xs head : List ℕ) (others : List (List ℕ)) → pieces s (x ∷ xs) ≡ head ∷ others → list_any is_blank others ≡ false
     → map (crossed e) (body_parts s (x ∷ xs)) ≡ first_text e head ∷ others
 crossed-pieces e s x xs head others cut none = ap (λ ps. map (crossed e) (first_parts s ps)) cut ∙ ap₂ ◌∷◌ (first-crossed e s head) (later-crossed e s others none)
 
@@ -371,27 +371,27 @@ fits-windows room text path (p ∷ ps) plain bare each fits =
     fits-windows room (push_windows text path) p ps (verbatim-none (push_windows text path) bare.no_prefix) (subst IsBare (sym own.0) own.1) each.1 fits.1
 
 -- a path of Unix without blank pieces, `:` and `\` is written on Windows with its separators turned
-pub crosses-windows : (path : List ℕ) → list_any (is_one_of (colon, backslash)) path ≡ false → has_blank_behind Either false path ≡ false → CrossesTurned unix windows path path
-crosses-windows [] free none = record { is = refl; fits = λ room fits. omega arith }
-crosses-windows (x ∷ xs) free none =
-    let path = x ∷ xs in
-    let tight = tight-pieces Either false path none in
+pub crosses-windows : (path text : List ℕ) → parts_of unix path ≡ body_parts Slash text → list_any (is_one_of (colon, backslash)) text ≡ false → has_blank_behind Either text ≡ false → CrossesTurned unix windows path text
+crosses-windows path [] read free none = record { is = ap (crossed_all windows) read; fits = λ room fits. omega arith }
+crosses-windows path (x ∷ xs) read free none =
+    let text = x ∷ xs in
+    let tight = tight-pieces Either text none in
     let head = tight.0 in
     let others = tight.1 in
     let cut = tight.2 in
     let clear = tight.3 in
     let listed : map (crossed windows) (parts_of unix path) ≡ first_text windows head ∷ others =
-    ap (map (crossed windows)) (parts_of-unix path) ∙ crossed-pieces windows Slash x xs head others (sym (pieces-slash path free) ∙ cut) clear in
+    ap (map (crossed windows)) read ∙ crossed-pieces windows Slash x xs head others (sym (pieces-slash text free) ∙ cut) clear in
     let unseparated = each-unseparated x xs head others cut clear in
     let frees = each-free x xs head others cut clear free in
-    let whole : crossed_all windows (parts_of unix path) ≡ turned Either backslash path =
+    let whole : crossed_all windows (parts_of unix path) ≡ turned Either backslash text =
     ap (push_all windows []) listed ∙ ap (λ t. push_all windows t others) (push-first (first_text windows head)) ∙ turned-windows x xs head others cut clear free in
     record {
       is = whole;
       fits = λ room fits.
           let first = bare-any head unseparated.0 frees.0 in
           let long = fits-windows room [] (first_text windows head) others refl (subst IsBare (sym (push-first (first_text windows head))) first) (windows-pieces others clear unseparated.1 frees.1) (subst (FitsEach windows room []) listed fits) in
-          omega (arith, long, ap length (ap (push_all windows []) (sym listed) ∙ whole), length-map path (λ c. if is_separator Either c then backslash else c));
+          omega (arith, long, ap length (ap (push_all windows []) (sym listed) ∙ whole), length-map text (λ c. if is_separator Either c then backslash else c));
     }
   where
     bare-any : (head : List ℕ) → IsUnseparated (is_separator Either) head → list_any (is_one_of (colon, backslash)) head ≡ false → IsBare (first_text windows head)
@@ -404,7 +404,7 @@ push_unix-root text = refl
 
 -- the body of a path of Windows without blank pieces, and without `/` where it is read verbatim, is written on Unix with its separators turned
 module _ (s : Separators) (w : OfWindows s) (x : ℕ) (xs : List ℕ) (without : IsWithoutSlash s (x ∷ xs))
-    (head : List ℕ) (others : List (List ℕ)) (cut : pieces Either (x ∷ xs) ≡ head ∷ others) (clear : list_any (is_blank false) others ≡ false) where
+    (head : List ℕ) (others : List (List ℕ)) (cut : pieces Either (x ∷ xs) ≡ head ∷ others) (clear : list_any is_blank others ≡ false) where
   body-listed : map (crossed unix) (body_parts s (x ∷ xs)) ≡ first_text unix head ∷ others
   body-listed = crossed-pieces unix s x xs head others (sym (pieces-own s w (x ∷ xs) without) ∙ cut) clear
 
@@ -439,13 +439,11 @@ module _ (s : Separators) (w : OfWindows s) (x : ℕ) (xs : List ℕ) (without :
       omega (arith, long, ap length (ap (push_all unix []) (sym listed) ∙ whole), length-map (x ∷ xs) (λ c. if is_separator Either c then slash else c))
 
 -- a path of Windows without a prefix
-pub crosses-unix : (path : List ℕ) → prefix_of windows path ≡ None → has_blank_behind Either false path ≡ false → CrossesTurned windows unix path path
-crosses-unix [] no_prefix none = record { is = refl; fits = λ room fits. omega arith }
-crosses-unix (x ∷ xs) no_prefix none =
-    let path = x ∷ xs in
-    let read = parts_of-none path no_prefix in
-    let without : IsWithoutSlash Either path = λ verbatim. absurd (true≢false (sym verbatim)) in
-    let tight = tight-pieces Either false path none in
+pub crosses-unix : (path text : List ℕ) → parts_of windows path ≡ body_parts Either text → has_blank_behind Either text ≡ false → CrossesTurned windows unix path text
+crosses-unix path [] read none = record { is = ap (crossed_all unix) read; fits = λ room fits. omega arith }
+crosses-unix path (x ∷ xs) read none =
+    let without : IsWithoutSlash Either (x ∷ xs) = λ verbatim. absurd (true≢false (sym verbatim)) in
+    let tight = tight-pieces Either (x ∷ xs) none in
     let whole = ap (crossed_all unix) read ∙ body-alone Either refl x xs without tight.0 tight.1 tight.2 tight.3 in
     record {
       is = whole;
@@ -453,15 +451,11 @@ crosses-unix (x ∷ xs) no_prefix none =
     }
 
 -- a path of Windows with a prefix and a root behind it
-pub crosses-rooted : (path rest : List ℕ) (f : Found) → prefix_of windows path ≡ Some f → drop f.length path ≡ rest → IsWithoutSlash (separators windows path) rest → has_blank_behind Either false rest ≡ false
-    → begins_with_separator rest ≡ true → CrossesTurned windows unix path rest
-crosses-rooted path [] f is behind without none rooted = absurd (true≢false (sym rooted))
-crosses-rooted path (x ∷ xs) f is behind without none rooted =
-    let s = separators windows path in
-    let w = separators-windows path in
-    let p = prefix_part f.prefix (take f.length path) in
-    let read : parts_of windows path ≡ p ∷ body_parts s (x ∷ xs) = parts_of-some path f is ∙ ap (λ t. p ∷ body_parts s t) behind in
-    let tight = tight-pieces Either false (x ∷ xs) none in
+pub crosses-rooted : (path text : List ℕ) (s : Separators) (p : Part) → OfWindows s → parts_of windows path ≡ p ∷ body_parts s text → IsWithoutSlash s text → has_blank_behind Either text ≡ false → begins_with_separator text ≡ true
+    → CrossesTurned windows unix path text
+crosses-rooted path [] s p w read without none rooted = absurd (true≢false (sym rooted))
+crosses-rooted path (x ∷ xs) s p w read without none rooted =
+    let tight = tight-pieces Either (x ∷ xs) none in
     let whole = ap (crossed_all unix) read ∙ body-rooted s w x xs without tight.0 tight.1 tight.2 tight.3 p rooted in
     record {
       is = whole;
@@ -491,9 +485,10 @@ body-written : (s : Separators) (text : List ℕ) → AllByRecursion (IsWrittenP
 body-written s text = each-written s (body_parts s text) (body_parts-read s text)
 
 -- a path of Unix without forbidden bytes and devices is written on Windows by checked pushes as by others
-pub checked-windows : (path : List ℕ) → list_any (is_forbidden_or (backslash, backslash)) path ≡ false → list_any (is_one_of (colon, backslash)) path ≡ false → has_parent_or_device path ≡ false
-    → converted_checked unix windows path ≡ Ok (crossed_all windows (parts_of unix path))
-checked-windows path free plain none = unrefused windows [] (parts_of unix path) (subst (AllByRecursion (λ p. crossing_fault windows p ≡ None)) (sym (parts_of-unix path)) (valid-unrefused windows Slash (body_parts Slash path) (body-written Slash path) valid))
+pub checked-windows : (path text : List ℕ) → parts_of unix path ≡ body_parts Slash text → list_any (is_one_of (colon, backslash)) text ≡ false → list_any (is_forbidden_or (backslash, backslash)) text ≡ false
+    → has_parent_or_device text ≡ false → IsUnrefused unix windows path
+checked-windows path text read plain free none =
+    unrefused windows [] (parts_of unix path) (subst (AllByRecursion (λ p. crossing_fault windows p ≡ None)) (sym read) (valid-unrefused windows Slash (body_parts Slash text) (body-written Slash text) valid))
   where
     unstrayed : (b : ℕ) → is_forbidden_or (backslash, backslash) b ≡ false → is_stray Either b ≡ false
     unstrayed b f = by (is_disallowed windows b) (is_separator Slash b) (b == backslash) (free-byte b f)
@@ -507,8 +502,8 @@ checked-windows path free plain none = unrefused windows [] (parts_of unix path)
     allowed [] f = refl
     allowed (b ∷ bs) f = let both = or_parts (is_forbidden_or (backslash, backslash) b) (list_any (is_forbidden_or (backslash, backslash)) bs) f in ap (λ c. c || list_any (is_stray Either) bs) (unstrayed b both.0) ∙ allowed bs both.1
 
-    own : is_valid windows (kinds (body_parts Either path)) ≡ true
-    own = ap (λ ps. is_valid windows (kinds ps)) (sym (parts-body Either 0 path)) ∙ valid-found Either 0 path _ false refl (allowed path free) ∙ ap not (none_reserved (pieces Either path) (any-pieces path ∙ none))
+    own : is_valid windows (kinds (body_parts Either text)) ≡ true
+    own = ap (λ ps. is_valid windows (kinds ps)) (sym (parts-body Either 0 text)) ∙ valid-found Either 0 text _ false refl (allowed text free) ∙ ap not (none_reserved (pieces Either text) (any-pieces text ∙ none))
 
     same-first : (ps : List (List ℕ)) → kinds (first_parts Slash ps) ≡ kinds (first_parts Either ps)
     same-first [] = refl
@@ -523,8 +518,8 @@ checked-windows path free plain none = unrefused windows [] (parts_of unix path)
     same [] f = refl
     same (b ∷ bs) f = ap (λ ps. kinds (first_parts Slash ps)) (sym (pieces-slash (b ∷ bs) f)) ∙ same-first (pieces Either (b ∷ bs))
 
-    valid : is_valid windows (kinds (body_parts Slash path)) ≡ true
-    valid = ap (is_valid windows) (same path plain) ∙ own
+    valid : is_valid windows (kinds (body_parts Slash text)) ≡ true
+    valid = ap (is_valid windows) (same text plain) ∙ own
 
 -- names that Unix allows are valid there
 valid-unix : (ks : List Kind) → AllByRecursion (λ k. kind_has_allowed_bytes unix k ≡ true) ks → is_valid unix ks ≡ true
@@ -583,14 +578,16 @@ prefix-unrefused path f is = by path f (prefix-read path f is)
     by path f read = cc
 
 -- a path of Windows without NUL is written on Unix by checked pushes as by others
-pub checked-unix : (path : List ℕ) → prefix_of windows path ≡ None → list_any (is_one_of (0, 0)) path ≡ false → converted_checked windows unix path ≡ Ok (crossed_all unix (parts_of windows path))
-checked-unix path no_prefix free =
-    unrefused unix [] (parts_of windows path) (subst (AllByRecursion (λ p. crossing_fault unix p ≡ None)) (sym (parts_of-none path no_prefix)) (body-unrefused Either refl path (λ verbatim. absurd (true≢false (sym verbatim))) free))
+pub checked-unix : (path text : List ℕ) → parts_of windows path ≡ body_parts Either text → list_any (is_one_of (0, 0)) text ≡ false → IsUnrefused windows unix path
+checked-unix path text read free =
+    unrefused unix [] (parts_of windows path) (subst (AllByRecursion (λ p. crossing_fault unix p ≡ None)) (sym read) (body-unrefused Either refl text (λ verbatim. absurd (true≢false (sym verbatim))) free))
 
-pub checked-rooted : (path rest : List ℕ) (f : Found) → prefix_of windows path ≡ Some f → drop f.length path ≡ rest → IsWithoutSlash (separators windows path) rest → list_any (is_one_of (0, 0)) rest ≡ false
-    → converted_checked windows unix path ≡ Ok (crossed_all unix (parts_of windows path))
-checked-rooted path rest f is behind without free =
-    let s = separators windows path in
+pub checked-rooted : (path text : List ℕ) (f : Found) → prefix_of windows path ≡ Some f → (s : Separators) → OfWindows s → parts_of windows path ≡ prefix_part f.prefix (take f.length path) ∷ body_parts s text → IsWithoutSlash s text
+    → list_any (is_one_of (0, 0)) text ≡ false → IsUnrefused windows unix path
+checked-rooted path text f is s w read without free =
     unrefused unix [] (parts_of windows path)
-    (subst (AllByRecursion (λ p. crossing_fault unix p ≡ None)) (sym (parts_of-some path f is ∙ ap (λ t. prefix_part f.prefix (take f.length path) ∷ body_parts s t) behind))
-    (prefix-unrefused path f is, body-unrefused s (separators-windows path) rest without free))
+    (subst (AllByRecursion (λ p. crossing_fault unix p ≡ None)) (sym read) (prefix-unrefused path f is, body-unrefused s w text without free))
+
+-- a body that is read alike without the separator at its end
+pub body-same : (s : Separators) (text other : List ℕ) → ((at : ℕ) → body s at text ≡ body s at other) → body_parts s text ≡ body_parts s other
+body-same s text other same = sym (parts-body s 0 text) ∙ ap parts (same 0) ∙ parts-body s 0 other

@@ -1,12 +1,14 @@
 -- Segments that count for nothing behind others: how marks tell that there is none, and what that tells of the pieces of a text.
-use Rattle.std.proofs.Common.{◌≡◌, ℕ, suc, ◌+◌, ◌-◌, ◌*◌, ◌^◌, ◌/◌, ◌%◌, ◌≤◌, ◌<◌, List, [], ◌∷◌, Bool, true, false, cond, not, ◌&&◌, ◌||◌, ◌==◌, max, min, w64, length, take, drop, slice_index, refl, sym, ap, ◌∙◌, arith, bit_or, bit_and, shr-shr, subst, true≢false, drop-drop, inl, inr}
+use Rattle.std.proofs.Common.{◌≡◌, ℕ, suc, ◌+◌, ◌-◌, ◌*◌, ◌^◌, ◌/◌, ◌%◌, ◌≤◌, ◌<◌, List, [], ◌∷◌, Bool, true, false, cond, not, ◌&&◌, ◌||◌, ◌==◌, max, min, w64, length, take, take_all, drop, ◌++◌, slice_index, refl, sym, ap, ◌∙◌, arith, bit_or, bit_and, shr-shr, subst, true≢false, drop-drop, inl, inr}
 use Rattle.std.specs.Int.{bit_at}
 use Rattle.std.specs.List.{before_first, position_or_len, list_any, onto_first}
 use Rattle.std.proofs.lemmas.Bool.{and_parts, false_from_ne_true, cases_lt}
-use Rattle.std.proofs.lemmas.List.{drop_more, drop_all}
+use Rattle.std.proofs.lemmas.List.{drop_more, drop_all, take_more}
 use Rattle.std.proofs.lemmas.Nat.Bits.{bit_at-zero, bit_at_or, bit_at_and, bit_at-lt, bit_at_set_same}
 use Rattle.typed_path.specs.declared.scan.separators.Separators.{Separators}
-use Rattle.typed_path.specs.components.{dot, is_separator}
+use Rattle.typed_path.specs.components.{dot, is_separator, body}
+use Rattle.typed_path.specs.declared.scan.cursor.Begin.TheVariants.{Body}
+use Rattle.typed_path.proofs.lemmas.components.Segments.{body_from-separator}
 use Rattle.typed_path.specs.scan.{IsMask, stands_at, is_one_of, MarksNoBlank, is_blank, begins_blank, has_blank_behind}
 
 -- ---- marks
@@ -16,30 +18,16 @@ shifted : (mask s k : ℕ) → bit_at (mask / 2 ^ s) k ≡ bit_at mask (s + k)
 shifted mask s k = ap (λ x. x % 2) (shr-shr mask s k)
 
 -- where no mark is left, none stands before a blank segment
-module _ (parents : Bool) (separators ends dots double : ℕ) (doubled : parents ≡ true → double ≡ bit_and (bit_and (dots / 2) (dots / 4)) (ends / 8))
-    (none : bit_and separators (bit_or (bit_or (ends / 2) (bit_and (dots / 2) (ends / 4))) double) ≡ 0) where
-  unmarked : (k : ℕ) → bit_at separators k ≡ 1 → (bit_at ends (1 + k) ≡ 0) × (min (bit_at dots (1 + k)) (bit_at ends (2 + k)) ≡ 0) × (bit_at double k ≡ 0)
-  unmarked k set =
-      let single = bit_and (dots / 2) (ends / 4) in
-      let all = bit_at_and separators (bit_or (bit_or (ends / 2) single) double) k in
-      let zero = ap (λ m. bit_at m k) none ∙ bit_at-zero k in
-      let either = bit_at_or (bit_or (ends / 2) single) double k in
-      let first = bit_at_or (ends / 2) single k in
-      let both = bit_at_and (dots / 2) (ends / 4) k in (
-        omega (arith, all, zero, either, first, set, shifted ends 1 k),
-        omega (arith, all, zero, either, first, both, set, shifted dots 1 k, shifted ends 2 k),
-        omega (arith, all, zero, either, set),
-      )
-
-  pub tells_none : MarksNoBlank parents separators ends dots
-  tells_none k set =
-      let u = unmarked k set in (
-        u.0,
-        λ d. omega (arith, u.1, d, bit_at-lt ends (2 + k)),
-        λ p d e.
-            let three = ap (λ m. bit_at m k) (doubled p) in
-            omega (arith, u.2, d, e, three, bit_at_and (bit_and (dots / 2) (dots / 4)) (ends / 8) k, bit_at_and (dots / 2) (dots / 4) k, shifted dots 1 k, shifted dots 2 k, shifted ends 3 k, bit_at-lt ends (3 + k)),
-      )
+pub tells_none : (separators ends dots : ℕ) → bit_and separators (bit_or (ends / 2) (bit_and (dots / 2) (ends / 4))) ≡ 0 → MarksNoBlank separators ends dots
+tells_none separators ends dots none k set =
+    let behind = bit_and (dots / 2) (ends / 4) in
+    let all = bit_at_and separators (bit_or (ends / 2) behind) k in
+    let zero = ap (λ m. bit_at m k) none ∙ bit_at-zero k in
+    let either = bit_at_or (ends / 2) behind k in
+    let both = bit_at_and (dots / 2) (ends / 4) k in (
+      omega (arith, all, zero, either, set, shifted ends 1 k),
+      λ d. omega (arith, all, zero, either, both, set, d, shifted dots 1 k, shifted ends 2 k, bit_at-lt ends (2 + k)),
+    )
 
 -- ---- what the first bytes of a text tell of its first segment
 
@@ -61,45 +49,25 @@ segment-byte s b bs = by (is_separator s b) (position_or_len (is_separator s) bs
     by true n = refl
     by false n = let more : suc n ≡ 1 + n = omega arith in subst (λ m. take m (b ∷ bs) ≡ b ∷ take n bs) more refl
 
--- it is no blank one where it neither ends at once, nor behind a dot, nor, where parents are asked for, behind two
-module _ (s : Separators) (parents : Bool) where
-  unblank : (text : List ℕ) → ends_segment s text ≡ false → (begins_with_dot text ≡ true → ends_segment s (drop 1 text) ≡ false)
-      → (parents ≡ true → begins_with_dot text ≡ true → begins_with_dot (drop 1 text) ≡ true → ends_segment s (drop 2 text) ≡ false) → begins_blank s parents text ≡ false
-  unblank [] e f g = absurd (true≢false e)
-  unblank (a ∷ rest) e f g =
-      ap (is_blank parents) (segment-byte s a rest ∙ ap (λ p. cond p [] (a ∷ before_first (is_separator s) rest)) e) ∙ first rest f g
-    where
-      first : (rest : List ℕ) → (begins_with_dot (a ∷ rest) ≡ true → ends_segment s rest ≡ false)
-          → (parents ≡ true → begins_with_dot (a ∷ rest) ≡ true → begins_with_dot rest ≡ true → ends_segment s (drop 1 rest) ≡ false)
-          → is_blank parents (a ∷ before_first (is_separator s) rest) ≡ false
-      first [] f g = false_from_ne_true (a == dot) (λ h. true≢false (f h))
-      first (b ∷ rest) f g = by (is_separator s b) refl
-        where
-          second : (rest : List ℕ) → (parents ≡ true → begins_with_dot (a ∷ b ∷ rest) ≡ true → (b == dot) ≡ true → ends_segment s rest ≡ false)
-              → is_blank parents (a ∷ b ∷ before_first (is_separator s) rest) ≡ false
-          second [] g = false_from_ne_true (parents && (a == dot && b == dot)) (λ h. let i = and_parts parents _ h in let j = and_parts (a == dot) (b == dot) i.1 in true≢false (g i.0 j.0 j.1))
-          second (c ∷ rest) g = at (is_separator s c) refl
-            where
-              at : (p : Bool) → is_separator s c ≡ p → is_blank parents (a ∷ b ∷ before_first (is_separator s) (c ∷ rest)) ≡ false
-              at true e =
-                  ap (λ t. is_blank parents (a ∷ b ∷ t)) (segment-byte s c rest ∙ ap (λ p. cond p [] (c ∷ before_first (is_separator s) rest)) e)
-                  ∙ false_from_ne_true (parents && (a == dot && b == dot)) (λ h. let i = and_parts parents _ h in let j = and_parts (a == dot) (b == dot) i.1 in true≢false (sym e ∙ g i.0 j.0 j.1))
-              at false e = ap (λ t. is_blank parents (a ∷ b ∷ t)) (segment-byte s c rest ∙ ap (λ p. cond p [] (c ∷ before_first (is_separator s) rest)) e)
-
-          by : (p : Bool) → is_separator s b ≡ p → is_blank parents (a ∷ before_first (is_separator s) (b ∷ rest)) ≡ false
-          by true e =
-              ap (λ t. is_blank parents (a ∷ t)) (segment-byte s b rest ∙ ap (λ p. cond p [] (b ∷ before_first (is_separator s) rest)) e)
-              ∙ false_from_ne_true (a == dot) (λ h. true≢false (sym e ∙ f h))
-          by false e =
-              ap (λ t. is_blank parents (a ∷ t)) (segment-byte s b rest ∙ ap (λ p. cond p [] (b ∷ before_first (is_separator s) rest)) e)
-              ∙ second rest g
+-- it is no blank one where it ends neither at once nor behind a dot
+unblank : (s : Separators) (text : List ℕ) → ends_segment s text ≡ false → (begins_with_dot text ≡ true → ends_segment s (drop 1 text) ≡ false) → begins_blank s text ≡ false
+unblank s [] e f = absurd (true≢false e)
+unblank s (a ∷ rest) e f = ap is_blank (segment-byte s a rest ∙ ap (λ p. cond p [] (a ∷ before_first (is_separator s) rest)) e) ∙ behind rest f
+  where
+    behind : (rest : List ℕ) → (begins_with_dot (a ∷ rest) ≡ true → ends_segment s rest ≡ false) → is_blank (a ∷ before_first (is_separator s) rest) ≡ false
+    behind [] f = false_from_ne_true (a == dot) (λ h. true≢false (f h))
+    behind (b ∷ rest) f = by (is_separator s b) refl
+      where
+        by : (p : Bool) → is_separator s b ≡ p → is_blank (a ∷ before_first (is_separator s) (b ∷ rest)) ≡ false
+        by true e =
+            ap (λ t. is_blank (a ∷ t)) (segment-byte s b rest ∙ ap (λ p. cond p [] (b ∷ before_first (is_separator s) rest)) e)
+            ∙ false_from_ne_true (a == dot) (λ h. true≢false (sym e ∙ f h))
+        by false e = ap (λ t. is_blank (a ∷ t)) (segment-byte s b rest ∙ ap (λ p. cond p [] (b ∷ before_first (is_separator s) rest)) e)
 
 -- where no separator stands before a blank segment, no segment behind the first is one
-pub nowhere : (s : Separators) (parents : Bool) (text : List ℕ)
-    → ((k : ℕ) → k < length text → (is_separator s (slice_index text k) && begins_blank s parents (drop (suc k) text)) ≡ false) → has_blank_behind s parents text ≡ false
-nowhere s parents [] none = refl
-nowhere s parents (b ∷ bs) none =
-    ap (λ x. x || has_blank_behind s parents bs) (none 0 (omega arith)) ∙ nowhere s parents bs (λ k l. none (suc k) (omega arith))
+pub nowhere : (s : Separators) (text : List ℕ) → ((k : ℕ) → k < length text → (is_separator s (slice_index text k) && begins_blank s (drop (suc k) text)) ≡ false) → has_blank_behind s text ≡ false
+nowhere s [] none = refl
+nowhere s (b ∷ bs) none = ap (λ x. x || has_blank_behind s bs) (none 0 (omega arith)) ∙ nowhere s bs (λ k l. none (suc k) (omega arith))
 
 -- ---- a block of a text
 
@@ -115,13 +83,13 @@ module _ (text : List ℕ) (j : ℕ) where
   dot-within d = elim (cases_lt j (length text)) [ inl low ↦ low | inr high ↦ absurd (true≢false (sym d ∙ ap begins_with_dot (drop_all j text high))) ]
 
 -- places of a block, where its marks name no separator before a blank segment: those of ends and of dots tell of places below a bound
-module _ (s : Separators) (parents : Bool) (text : List ℕ) (at n bound separators ends dots : ℕ) (none : MarksNoBlank parents separators ends dots)
+module _ (s : Separators) (text : List ℕ) (at n bound separators ends dots : ℕ) (none : MarksNoBlank separators ends dots)
     (separated : (k : ℕ) → k < n → is_separator s (slice_index text (at + k)) ≡ true → bit_at separators k ≡ 1)
     (ended : (k : ℕ) → k < bound → ends_segment s (drop (at + k) text) ≡ true → bit_at ends k ≡ 1)
     (dotted : (k : ℕ) → k < bound → begins_with_dot (drop (at + k) text) ≡ true → bit_at dots k ≡ 1) where
-  block-place : (k : ℕ) → k < n → 1 + k < bound → (begins_with_dot (drop (at + (1 + k)) text) ≡ true → 2 + k < bound) → (begins_with_dot (drop (at + (2 + k)) text) ≡ true → 3 + k < bound)
-      → (is_separator s (slice_index text (at + k)) && begins_blank s parents (drop (suc (at + k)) text)) ≡ false
-  block-place k low one two three = false_from_ne_true _ (λ h. let each = and_parts (is_separator s (slice_index text (at + k))) _ h in true≢false (sym each.1 ∙ clean each.0))
+  block-place : (k : ℕ) → k < n → 1 + k < bound → (begins_with_dot (drop (at + (1 + k)) text) ≡ true → 2 + k < bound)
+      → (is_separator s (slice_index text (at + k)) && begins_blank s (drop (suc (at + k)) text)) ≡ false
+  block-place k low one two = false_from_ne_true _ (λ h. let each = and_parts (is_separator s (slice_index text (at + k))) _ h in true≢false (sym each.1 ∙ clean each.0))
     where
       at_one : drop (suc (at + k)) text ≡ drop (at + (1 + k)) text
       at_one = let same : suc (at + k) ≡ at + (1 + k) = omega arith in ap (λ m. drop m text) same
@@ -129,28 +97,21 @@ module _ (s : Separators) (parents : Bool) (text : List ℕ) (at n bound separat
       at_two : drop 1 (drop (suc (at + k)) text) ≡ drop (at + (2 + k)) text
       at_two = let same : suc (at + k) + 1 ≡ at + (2 + k) = omega arith in drop-drop 1 (suc (at + k)) text ∙ ap (λ m. drop m text) same
 
-      at_three : drop 2 (drop (suc (at + k)) text) ≡ drop (at + (3 + k)) text
-      at_three = let same : suc (at + k) + 2 ≡ at + (3 + k) = omega arith in drop-drop 2 (suc (at + k)) text ∙ ap (λ m. drop m text) same
-
       unended : (m : ℕ) (t : List ℕ) → t ≡ drop (at + m) text → m < bound → bit_at ends m ≡ 0 → ends_segment s t ≡ false
       unended m t is within zero = false_from_ne_true _ (λ e. let set = ended m within (ap (ends_segment s) (sym is) ∙ e) in absurd (omega (arith, set, zero)))
 
-      clean : is_separator s (slice_index text (at + k)) ≡ true → begins_blank s parents (drop (suc (at + k)) text) ≡ false
+      clean : is_separator s (slice_index text (at + k)) ≡ true → begins_blank s (drop (suc (at + k)) text) ≡ false
       clean separates =
           let m = none k (separated k low separates) in
-          unblank s parents (drop (suc (at + k)) text) (unended (1 + k) _ at_one one m.0)
+          unblank s (drop (suc (at + k)) text) (unended (1 + k) _ at_one one m.0)
           (λ d. let own = ap begins_with_dot (sym at_one) ∙ d in unended (2 + k) _ at_two (two own) (m.1 (dotted (1 + k) one own)))
-          (λ p d e.
-          let own = ap begins_with_dot (sym at_one) ∙ d in
-          let next = ap begins_with_dot (sym at_two) ∙ e in
-          unended (3 + k) _ at_three (three next) (m.2 p (dotted (1 + k) one own) (dotted (2 + k) (two own) next)))
 
 -- a bit that is set by a test that holds
 set-of : (p : ℕ → Bool) (n mask k : ℕ) → IsMask p n mask → k < n → p k ≡ true → bit_at mask k ≡ 1
 set-of p n mask k marks low h = marks.within k low ∙ ap (λ b. cond b 1 0) h
 
 -- a block of n bytes, by the marks of its separators and dots
-module _ (s : Separators) (parents : Bool) (pair : ℕ × ℕ) (paired : (b : ℕ) → is_separator s b ≡ is_one_of pair b) (text : List ℕ) (at n marks dots : ℕ) (fits : at + n ≤ length text)
+module _ (s : Separators) (pair : ℕ × ℕ) (paired : (b : ℕ) → is_separator s b ≡ is_one_of pair b) (text : List ℕ) (at n marks dots : ℕ) (fits : at + n ≤ length text)
     (separates : IsMask (λ k. stands_at pair text (at + k)) n marks) (dotted : IsMask (λ k. stands_at (dot, dot) text (at + k)) n dots) where
   separated : (k : ℕ) → k < n → is_separator s (slice_index text (at + k)) ≡ true → bit_at marks k ≡ 1
   separated k low h = set-of _ n marks k separates low (sym (paired (slice_index text (at + k))) ∙ h)
@@ -161,10 +122,10 @@ module _ (s : Separators) (parents : Bool) (pair : ℕ × ℕ) (paired : (b : �
   dot-set : (k : ℕ) → k < n → begins_with_dot (drop (at + k) text) ≡ true → bit_at dots k ≡ 1
   dot-set k low h = set-of _ n dots k dotted low (ap (λ b. b || b) (sym (dot-at text (at + k) (omega (arith, fits))) ∙ h))
 
-  -- its places but the last three
-  pub block-passed : MarksNoBlank parents marks marks dots → (k : ℕ) → k + 3 < n
-      → (is_separator s (slice_index text (at + k)) && begins_blank s parents (drop (suc (at + k)) text)) ≡ false
-  block-passed none k low = block-place s parents text at n n marks marks dots none separated ended dot-set k (omega arith) (omega arith) (λ d. omega arith) (λ d. omega arith)
+  -- its places but the last two
+  pub block-passed : MarksNoBlank marks marks dots → (k : ℕ) → k + 2 < n
+      → (is_separator s (slice_index text (at + k)) && begins_blank s (drop (suc (at + k)) text)) ≡ false
+  block-passed none k low = block-place s text at n n marks marks dots none separated ended dot-set k (omega arith) (omega arith) (λ d. omega arith)
 
   -- all of the last block, behind which the text ends
   module _ (whole : at + n ≡ length text) (short : n < 64) where
@@ -177,8 +138,26 @@ module _ (s : Separators) (parents : Bool) (pair : ℕ × ℕ) (paired : (b : �
     last-dotted : (k : ℕ) → k < 1 + n → begins_with_dot (drop (at + k) text) ≡ true → bit_at dots k ≡ 1
     last-dotted k low h = let within = dot-within text (at + k) h in dot-set k (omega (arith, within, whole)) h
 
-    pub block-last : MarksNoBlank parents marks (bit_or marks (1 * 2 ^ n % 2 ^ 64)) dots → (k : ℕ) → k < n
-        → (is_separator s (slice_index text (at + k)) && begins_blank s parents (drop (suc (at + k)) text)) ≡ false
+    pub block-last : MarksNoBlank marks (bit_or marks (1 * 2 ^ n % 2 ^ 64)) dots → (k : ℕ) → k < n
+        → (is_separator s (slice_index text (at + k)) && begins_blank s (drop (suc (at + k)) text)) ≡ false
     block-last none k low =
-        block-place s parents text at n (1 + n) marks _ dots none separated last-ended last-dotted k low (omega arith)
-        (λ d. let within = dot-within text (at + (1 + k)) d in omega (arith, within, whole)) (λ d. let within = dot-within text (at + (2 + k)) d in omega (arith, within, whole))
+        block-place s text at n (1 + n) marks _ dots none separated last-ended last-dotted k low (omega arith)
+        (λ d. let within = dot-within text (at + (1 + k)) d in omega (arith, within, whole))
+
+-- a separator at the end of a text belongs to no component, where it stands behind other bytes
+pub last-separator : (s : Separators) (at : ℕ) (text : List ℕ) → 1 ≤ length text → is_separator s (slice_index text (length text - 1)) ≡ true → (length (take (length text - 1) text) == 0) ≡ false
+    → body s at text ≡ body s at (take (length text - 1) text)
+last-separator s at text some separates filled = by (take (length text - 1) text) refl
+  where
+    last : ℕ
+    last = slice_index text (length text - 1)
+
+    size : length text - 1 + 1 ≡ length text
+    size = omega (arith, some)
+
+    whole : text ≡ take (length text - 1) text ++ last ∷ []
+    whole = sym (take_all (length text) text (omega arith)) ∙ ap (λ n. take n text) (sym size) ∙ take_more text (length text - 1) 0 (omega (arith, some))
+
+    by : (front : List ℕ) → take (length text - 1) text ≡ front → body s at text ≡ body s at front
+    by [] e = absurd (true≢false (sym (ap (λ t. length t == 0) e) ∙ filled))
+    by (u ∷ us) e = ap (body s at) (whole ∙ ap (λ t. t ++ last ∷ []) e) ∙ body_from-separator s at last separates Body u us

@@ -6,7 +6,7 @@ use Rattle.typed_path.proofs.scan.blanks.has_no_blank_in_blocks.Given as goal
 abbrev pub invariant-wholes : goal.invariant-wholes
 invariant-wholes g l = record {
   within : l.at ≤ length l.text;
-  passed : (k : ℕ) → k < l.at → (is_separator l.separators (slice_index l.text k) && begins_blank l.separators l.parents (drop (suc k) l.text)) ≡ false;
+  passed : (k : ℕ) → k < l.at → (is_separator l.separators (slice_index l.text k) && begins_blank l.separators (drop (suc k) l.text)) ≡ false;
 }
 
 abbrev pub decreases-wholes : goal.decreases-wholes
