@@ -13,7 +13,7 @@ use crate::common::{
 use crate::errors::CheckedPathError;
 use crate::scan::{
     Cursor, Piece, Separators, StepKind, are_apart, base_end, cut_at_separator, first_between,
-    has_valid_names, step_of,
+    has_only_names, has_valid_names, step_of,
 };
 use std::alloc::AllocError;
 use std::cmp::Ordering;
@@ -243,7 +243,8 @@ fn split_root(path: &[u8]) -> (&[u8], &[u8])
     }
 }
 
-/// Puts the names that are left of a path behind the first bytes of a text.
+/// Puts the names that are left of a path behind the first bytes of a text. A path that looks at its bytes
+/// tell to hold names alone is put at once.
 fn put_segments(text: &mut Vec<u8>, len: usize, path: &[u8]) -> Result<(), AllocError>
     requires { len ≤ length text.old.items }
     ensures ok { OnOk result ((head : List ℕ) → length head ≡ len → AreRows text.old.items head []
@@ -253,6 +254,11 @@ fn put_segments(text: &mut Vec<u8>, len: usize, path: &[u8]) -> Result<(), Alloc
     ensures capacity { vec_capacity text.old ≤ vec_capacity text.new }
     ensures succeeds { vec_len text.old + length path.now < vec_capacity text.old → IsOk result }
 {
+    if has_only_names(path, (b'/', b'/')) {
+        text.extend_from_slice(path)?;
+        text.push(b'/')?;
+        return Ok(());
+    }
     let mut rest = path;
     'segments: while let Some((segment, behind)) = cut_at_separator(Separators::Slash, rest) {
         put_segment(text, len, segment, rest)?;

@@ -9,10 +9,12 @@ ghost use Rattle.typed_path.specs.changes.{push_windows, push_all, spells_anew};
 ghost use Rattle.typed_path.specs.places.{normal_text, rows_of, settled, AreRowsOf, ArePlainRows, IsRowHead, IsPartedEither, TakesRows, HaveNoDisks, HasPlainNames, IsHeadOf};
 ghost use Rattle.typed_path.specs.views.PieceViews.{found_of};
 
-use crate::common::{append_first, behind_segment, cut_back, drop_name, drop_separator};
+use crate::common::{
+    append_first, behind_segment, cut_back, drop_name, drop_separator, put_turned,
+};
 use crate::scan::{
     Cursor, Found, PieceKind, Separators, StepKind, WindowsPrefix, cut_at_separator, drive,
-    find_prefix, step_of,
+    find_prefix, has_only_names, is_free_of, step_of,
 };
 use crate::windows::push::{is_separated, push_at, push_next};
 use std::alloc::AllocError;
@@ -163,6 +165,11 @@ fn put_segments(text: &mut Vec<u8>, len: usize, path: &[u8]) -> Result<bool, All
     ensures told { HaveNoDisks (slice_split (is_separator Separators.Either) path.now)
         → IfOk result (λ plain. IsTrue plain) }
 {
+    if is_free_of((b':', b':'), path) && has_only_names(path, (b'/', b'\\')) {
+        put_turned(text, path, Separators::Either, b'\\')?;
+        text.push(b'\\')?;
+        return Ok(true);
+    }
     let mut rest = path;
     'segments: while let Some((segment, behind)) = cut_at_separator(Separators::Either, rest) {
         if !put_segment(text, len, segment, rest)? {

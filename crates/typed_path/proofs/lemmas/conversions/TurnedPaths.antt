@@ -252,16 +252,16 @@ record IsWindowsPiece (piece : List ℕ) : Type 0 where
   step : IsStep (named_part piece)
 
 -- without `:` no drive is read
-undriven : (piece : List ℕ) → list_any (is_one_of (colon, backslash)) piece ≡ false → drive piece ≡ None
-undriven [] free = refl
-undriven (a ∷ []) free = refl
-undriven (a ∷ b ∷ bs) free =
-    let second = or_parts (is_one_of (colon, backslash) b) (list_any (is_one_of (colon, backslash)) bs) (or_parts (is_one_of (colon, backslash) a) (list_any (is_one_of (colon, backslash)) (b ∷ bs)) free).1 in
-    cond-false (is_drive_letter a && b == colon) (Some (to_upper a)) None (and_right (is_drive_letter a) (b == colon) (or_parts (b == colon) (b == backslash) second.0).0)
+pub undriven : (other : ℕ) (piece : List ℕ) → list_any (is_one_of (colon, other)) piece ≡ false → drive piece ≡ None
+undriven other [] free = refl
+undriven other (a ∷ []) free = refl
+undriven other (a ∷ b ∷ bs) free =
+    let second = or_parts (is_one_of (colon, other) b) (list_any (is_one_of (colon, other)) bs) (or_parts (is_one_of (colon, other) a) (list_any (is_one_of (colon, other)) (b ∷ bs)) free).1 in
+    cond-false (is_drive_letter a && b == colon) (Some (to_upper a)) None (and_right (is_drive_letter a) (b == colon) (or_parts (b == colon) (b == other) second.0).0)
 
 -- such a name is plain
 plain-free : (piece : List ℕ) → (length piece == 0) ≡ false → is_dot piece ≡ false → is_dot_dot piece ≡ false → IsUnseparated (is_separator Either) piece → list_any (is_one_of (colon, backslash)) piece ≡ false → IsPlain piece
-plain-free piece is no_dot no_dots unseparated free = record { clean = record { filled = is; no_dot = no_dot; no_dot_dot = no_dots; unseparated = unseparated }; no_drive = undriven piece free }
+plain-free piece is no_dot no_dots unseparated free = record { clean = record { filled = is; no_dot = no_dot; no_dot_dot = no_dots; unseparated = unseparated }; no_drive = undriven backslash piece free }
 
 -- it is a parent or a plain name where it is no `.`
 step-free : (piece : List ℕ) → (length piece == 0) ≡ false → is_dot piece ≡ false → IsUnseparated (is_separator Either) piece → list_any (is_one_of (colon, backslash)) piece ≡ false → IsStep (named_part piece)

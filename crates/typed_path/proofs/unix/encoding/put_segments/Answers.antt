@@ -1,8 +1,10 @@
-use Rattle.std.proofs.Common.{arith, refl, ◌∙◌}
+use Rattle.std.proofs.Common.{◌++◌, ◌∷◌, [], ap, arith, refl, ◌∙◌}
 use Rattle.std.specs.Prelude.{⊤}
 use Rattle.std.proofs.lemmas.Result.{on_ok_weaker}
 use Rattle.typed_path.specs.declared.scan.separators.Separators.TheVariants.{Slash}
 use Rattle.typed_path.proofs.lemmas.places.UnixRows.{standing-start, standing-step, standing-over, standing-end}
+use Rattle.typed_path.specs.components.{slash}
+use Rattle.typed_path.proofs.lemmas.places.NamedRows.{unix-names}
 use Rattle.typed_path.proofs.unix.encoding.put_segments.Goals as goal
 
 pub segments-init : goal.segments-init
@@ -25,3 +27,8 @@ returns-clause-ok c =
     on_ok_weaker c.put_segment-2.result
     (λ settles head size are. standing-end Slash (λ name. ⊤) _ _ head _ c.args.path.now c.in_default.ensures.pieces (λ names. settles head names size) (c.segments.invariant.standing head size are))
     c.put_segment-2.ensures.ok
+
+pub returns-then-has_only_names-clause-ok : goal.returns-then-has_only_names-clause-ok
+returns-then-has_only_names-clause-ok c = λ head size are.
+    unix-names c.args.text.now.items _ head c.args.path.now (c.has_only_names.ensures c.if-has_only_names.true) are
+    (c.in_ok-push.ensures.items ∙ ap (λ t. t ++ slash ∷ []) c.in_ok-extend_from_slice.ensures.items)
