@@ -18,4 +18,5 @@ pub use path_buf::PathBuf;
 pub use texts::Display;
 pub use writing::{
     append_first, behind_segment, cut_back, drop_name, drop_separator, put_over, put_turned,
+    turn_behind,
 };

@@ -5,10 +5,11 @@ ghost use Rattle.std.specs.Option.{option_to_list};
 ghost use Rattle.std.specs.Vec.{vec_capacity};
 ghost use Rattle.typed_path.specs.declared.errors.CheckedPathError.{CheckedPathError};
 ghost use Rattle.typed_path.specs.components.{parts_of, kinds, unix, windows, is_separator, is_verbatim, separators, backslash};
-ghost use Rattle.std.specs.List.{list_any};
+ghost use Rattle.std.specs.List.{list_any, slice_split};
 ghost use Rattle.typed_path.specs.declared.scan.separators.Separators.{Separators};
 ghost use Rattle.typed_path.specs.conversions.{AllowsOnWindows, CrossesTurned, IsUnrefused, separator_of, same_dialect, converted, converted_checked, FitsConverted, crossed, crossed_all, is_never_refused, crossing_fault, push_checked_each, platform, absolute_from};
-ghost use Rattle.typed_path.specs.changes.{refusal, error_of, fault, FitsEach, IsKnown, begins_with_separator, is_forbidden_or, has_parent_or_device};
+ghost use Rattle.typed_path.specs.changes.{refusal, error_of, fault, FitsEach, IsKnown, begins_with_separator, is_forbidden_or};
+ghost use Rattle.typed_path.specs.queries.{is_reserved};
 ghost use Rattle.typed_path.specs.scan.{is_one_of, turned};
 ghost use Rattle.typed_path.specs.views.SpanViews.{span_bytes};
 ghost use Rattle.typed_path.specs.views.PieceViews.{part_of};
@@ -18,7 +19,7 @@ use crate::errors::{AbsolutizeError, CheckedPathError, PathError};
 use crate::platform::{PlatformEncoding, PlatformPath, PlatformPathBuf};
 use crate::scan::{
     Piece, PieceKind, Separators, Span, before_last_separator, find_prefix, has_forbidden,
-    has_no_blank_behind, has_parent_or_device, is_dots, is_free_of,
+    has_no_blank_behind, has_reserved, is_dots, is_free_of,
 };
 use crate::unix::{UnixEncoding, UnixPathBuf};
 use crate::windows::{WindowsEncoding, WindowsPathBuf, begins_with_separator};
@@ -249,7 +250,7 @@ fn turned<T: Encoding, U: Encoding>(path: &[u8]) -> Option<&[u8]>
 fn turned_for_windows(path: &[u8]) -> Option<&[u8]>
     ensures turned { IfSome result (λ text. CrossesTurned unix windows path.now text.now) }
     ensures checked { IfSome result (λ text. list_any (is_forbidden_or (backslash, backslash)) text.now ≡ false
-        → has_parent_or_device text.now ≡ false → IsUnrefused unix windows path.now) }
+        → list_any (is_reserved windows) (slice_split (is_separator Separators.Either) text.now) ≡ false → IsUnrefused unix windows path.now) }
 {
     let text = before_last_separator(path, Separators::Slash);
     if has_no_blank_behind(text, Separators::Either) && is_free_of((b':', b'\\'), text) {
@@ -379,7 +380,7 @@ fn turned_checked<T: Encoding, U: Encoding>(path: &[u8]) -> Option<&[u8]>
     }
     if have_one_label::<T, UnixEncoding>() && have_one_label::<U, WindowsEncoding>() {
         let text = turned_for_windows(path)?;
-        if has_forbidden(text, (b'\\', b'\\')) || has_parent_or_device(text) {
+        if has_forbidden(text, (b'\\', b'\\')) || has_reserved(text, Separators::Either) {
             return None;
         }
         return Some(text);

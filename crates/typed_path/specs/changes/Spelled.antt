@@ -64,13 +64,6 @@ names_of path = map name_part (slice_split (is_separator Either) path)
 abbrev pub HoldsNames : List ℕ → Type 0
 HoldsNames path = list_all is_name_piece (slice_split (is_separator Either) path) ≡ true
 
--- a path with `\` for each `/`
-abbrev pub turned_byte : ℕ → ℕ
-turned_byte b = if b == slash then backslash else b
-
-abbrev pub turned : List ℕ → List ℕ
-turned path = map turned_byte path
-
 -- a text with `\` at its end, unless one byte stands behind its head
 abbrev pub jointed : ℕ → List ℕ → List ℕ
 jointed head text = if length text == head + 1 then text else text ++ backslash ∷ []

@@ -120,11 +120,22 @@ pub fn put_turned(
 {
     let len = text.len();
     text.extend_from_slice(source)?;
-    turn(text.as_mut_slice(), len, separators, byte);
+    turn_behind(text, len, separators, byte);
     Ok(())
 }
 
-/// Writes the separators of a text as one byte, from a place on.
+/// Writes the separators that stand behind the first bytes of a text as one byte.
+#[inline(always)]
+pub fn turn_behind(text: &mut Vec<u8>, from: usize, separators: Separators, byte: u8)
+    requires { from ≤ length text.old.items }
+    ensures turned { text.new.items
+        ≡ take from text.old.items ++ turned separators byte (drop from text.old.items) }
+    ensures capacity { vec_capacity text.new ≡ vec_capacity text.old }
+{
+    turn(text.as_mut_slice(), from, separators, byte);
+}
+
+/// The same in a slice.
 fn turn(text: &mut [u8], from: usize, separators: Separators, byte: u8)
     requires { from ≤ length text.old }
     ensures { text.new ≡ take from text.old ++ turned separators byte (drop from text.old) }

@@ -270,11 +270,15 @@ fn is_same_aside_case(text: &[u8], other: &[u8]) -> bool
     text.eq_ignore_ascii_case(other)
 }
 
-/// Whether a segment of a text stands for a device.
-fn has_reserved(text: &[u8], separators: Separators) -> bool
+/// Whether a segment of a text stands for a device. Of most texts of Windows that are not read verbatim one
+/// look tells that none does.
+pub fn has_reserved(text: &[u8], separators: Separators) -> bool
     ensures { result ≡ list_any (is_reserved (dialect_of separators))
         (slice_split (is_separator separators) text.now) }
 {
+    if separators.is_same(Separators::Either) && !has_parent_or_device(text) {
+        return false;
+    }
     let mut rest = text;
     'segments: while let Some((segment, behind)) = cut_at_separator(separators, rest) {
         if separators.is_reserved(segment) {

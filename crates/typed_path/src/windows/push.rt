@@ -7,13 +7,13 @@ ghost use Rattle.std.specs.Prelude.{◌≡◌, ◌≤◌, ◌+◌, ◌++◌, ℕ
 ghost use Rattle.std.specs.Vec.{vec_capacity, vec_len};
 ghost use Rattle.std.specs.List.{list_any, list_all, slice_split};
 ghost use Rattle.typed_path.specs.components.{windows, is_separator, parts_of, kinds, Part, parts, prefix_of, Found, is_empty, later_body};
-ghost use Rattle.typed_path.specs.changes.{push_windows, ended_windows, is_disk_alone, raw_length, FitsPush, without_last_name, merge_by_kind, merged, spelled, spells_anew, IsKnown, is_component, is_row, TellsSpelled, IsSpelledHead, IsStanding, IsMergeable, AreMergeable, AreReadBehind, Stands, IsSpelled, IsPutBehind, room_of, HoldsNames, names_of, jointed, turned, turned_byte};
+ghost use Rattle.typed_path.specs.changes.{push_windows, ended_windows, is_disk_alone, raw_length, FitsPush, without_last_name, merge_by_kind, merged, spelled, spells_anew, IsKnown, is_component, is_row, TellsSpelled, IsSpelledHead, IsStanding, IsMergeable, AreMergeable, AreReadBehind, Stands, IsSpelled, IsPutBehind, room_of, HoldsNames, names_of, jointed};
 ghost use Rattle.typed_path.specs.queries.{has_any_verbatim_prefix, is_verbatim_prefix, has_prefix};
 ghost use Rattle.typed_path.specs.declared.scan.separators.Separators.{Separators};
 ghost use Rattle.typed_path.specs.views.CursorViews.{items_left};
 ghost use Rattle.typed_path.specs.views.PieceViews.{part_of};
 
-use crate::common::put_over;
+use crate::common::{put_over, turn_behind};
 use crate::scan::{
     Cursor, Piece, PieceKind, Separators, after_mark, cut_at_separator, drive, find_prefix,
     has_only_names, is_dots,
@@ -510,26 +510,8 @@ fn put_names(text: &mut Vec<u8>, head: usize, names: &[u8]) -> Result<(), AllocE
 {
     put_component(text, head, names)?;
     let from = text.len() - names.len();
-    turn_slashes(&mut text[from..]);
+    turn_behind(text, from, Separators::Either, b'\\');
     Ok(())
-}
-
-/// Writes `\` for each `/`.
-#[inline(always)]
-fn turn_slashes(bytes: &mut [u8])
-    ensures { bytes.new ≡ turned bytes.old }
-{
-    'bytes: for byte in bytes.iter_mut() {
-        *byte = turned_byte(*byte);
-    }
-}
-
-/// `\` for `/`, and each other byte as it is.
-#[inline(always)]
-fn turned_byte(byte: u8) -> u8
-    ensures { result ≡ turned_byte byte }
-{
-    if byte == b'/' { b'\\' } else { byte }
 }
 
 /// Merges the components of a path into those that stand behind a prefix. With room for each of them

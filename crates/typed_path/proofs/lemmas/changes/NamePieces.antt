@@ -3,17 +3,15 @@ use Rattle.std.proofs.Common.{◌≡◌, ℕ, zero, suc, ◌+◌, ◌-◌, ◌<�
 use Rattle.std.specs.List.{list_all, slice_split, onto_first, AllByRecursion}
 use Rattle.std.specs.Slice.Scan.{HoldsNowhere}
 use Rattle.std.proofs.lemmas.Bool.{and_parts, or_parts, both_ways}
-use borrow.Rule.Slice.PartMut.{put_mid, post_of}
 use Rattle.std.proofs.lemmas.List.{drop-append-le, take_more, take-append-le, take_at, drop_at, length-map}
-use Rattle.std.proofs.lemmas.Slice.{take-put_mid}
 use Rattle.std.proofs.lemmas.List.Concat.{flat_map-append}
 use Rattle.std.proofs.lemmas.List.Splits.{slice_split-cons_yes, slice_split-cons_no}
 use Rattle.typed_path.specs.declared.scan.separators.Separators.{Separators}
 use Rattle.typed_path.specs.declared.scan.separators.Separators.TheVariants.{Backslash, Either}
 use Rattle.typed_path.specs.components.{windows, dot, slash, backslash, is_separator, is_verbatim, is_dot, is_dot_dot, is_empty, Part, parts, kinds, current_part, parent_part, name_part, Found, prefix_of, parts_of, later_body}
 use Rattle.typed_path.specs.queries.{has_prefix}
-use Rattle.typed_path.specs.scan.{is_one_of, stands_at}
-use Rattle.typed_path.specs.changes.{begins_no_name, begins_no_name_at, is_component, is_name_piece, merged, names_behind, names_of, HoldsNames, IsStanding, Stands, jointed, turned, turned_byte}
+use Rattle.typed_path.specs.scan.{is_one_of, stands_at, turned}
+use Rattle.typed_path.specs.changes.{begins_no_name, begins_no_name_at, is_component, is_name_piece, merged, names_behind, names_of, HoldsNames, IsStanding, Stands, jointed}
 use Rattle.typed_path.proofs.lemmas.lists.Lists.{IsUnseparated, slice_split-some, slice_split-append, slice_split-unseparated}
 use Rattle.typed_path.proofs.lemmas.components.Segments.{pieces, first_part, later_part, first_parts, later_parts, named_part, parts-later_body}
 use Rattle.typed_path.proofs.lemmas.changes.Faults.{parts_of-none, parts_of-some}
@@ -242,30 +240,21 @@ named-standing (n ∷ ns) e free =
     some true false twice h = cc
     some false dotted twice h = refl
 
--- names with `\` between them are the text with its slashes turned
-written-names : (text : List ℕ) → names_behind false (names_of text) ≡ turned text
+-- names with `\` between them are the text with its separators turned
+written-names : (text : List ℕ) → names_behind false (names_of text) ≡ turned Either backslash text
 written-names [] = refl
 written-names (b ∷ bs) = by (is_separator Either b) refl (slice_split-some (is_separator Either) bs) (written-names bs)
   where
-    turns : (x y : Bool) → b == slash ≡ x → b == backslash ≡ y → (x || y) ≡ true → backslash ≡ turned_byte b
-    turns true y e f h = sym (ap (λ z. if z then backslash else b) e)
-    turns false true e f h = sym (eqb-true b backslash f) ∙ sym (ap (λ z. if z then backslash else b) e)
-    turns false false e f h = cc
-
-    stays : (x y : Bool) → b == slash ≡ x → (x || y) ≡ false → b ≡ turned_byte b
-    stays true y e h = cc
-    stays false y e h = sym (ap (λ z. if z then backslash else b) e)
-
-    by : (s : Bool) → is_separator Either b ≡ s → (piece : List ℕ) × (others : List (List ℕ)) × (slice_split (is_separator Either) bs ≡ piece ∷ others) → names_behind false (names_of bs) ≡ turned bs
-        → names_behind false (names_of (b ∷ bs)) ≡ turned (b ∷ bs)
+    by : (s : Bool) → is_separator Either b ≡ s → (piece : List ℕ) × (others : List (List ℕ)) × (slice_split (is_separator Either) bs ≡ piece ∷ others) → names_behind false (names_of bs) ≡ turned Either backslash bs
+        → names_behind false (names_of (b ∷ bs)) ≡ turned Either backslash (b ∷ bs)
     by true is some rest =
         ap (λ ns. names_behind false (map name_part ns)) (slice_split-cons_yes (is_separator Either) b bs is ∙ ap (λ ns. [] ∷ ns) some.2)
         ∙ ap (λ ns. backslash ∷ names_behind false (map name_part ns)) (sym some.2)
-        ∙ (λ i. turns (b == slash) (b == backslash) refl refl is i ∷ rest i)
+        ∙ (λ i. (if sym is i then backslash else b) ∷ rest i)
     by false is some rest =
         ap (λ ns. names_behind false (map name_part ns)) (slice_split-cons_no (is_separator Either) b bs is ∙ ap (onto_first b) some.2)
         ∙ ap (λ ns. b ∷ names_behind false (map name_part ns)) (sym some.2)
-        ∙ (λ i. stays (b == slash) (b == backslash) refl is i ∷ rest i)
+        ∙ (λ i. (if sym is i then backslash else b) ∷ rest i)
 
 -- more components behind what is longer than a root
 stands-others : (parted : Bool) (ps qs : List Part) (text : List ℕ) → Stands parted ps text → 1 < length text → AllByRecursion IsStanding qs → Stands parted (ps ++ qs) (text ++ names_behind true qs)
@@ -280,7 +269,7 @@ stands-others parted ps (q ∷ qs) text h long all =
 
 -- names are put behind `\`, or at once behind a root alone
 pub stands-names : (parted : Bool) (ps : List Part) (old middle new names : List ℕ) → Stands parted ps old → HoldsNames names → (length old ≡ 1 → middle ≡ old) → ((length old ≡ 1 → ⊥) → middle ≡ old ++ backslash ∷ [])
-    → new ≡ middle ++ turned names → Stands parted (ps ++ names_of names) new
+    → new ≡ middle ++ turned Either backslash names → Stands parted (ps ++ names_of names) new
 stands-names parted ps old middle new names h named joined apart put =
     let some = slice_split-some (is_separator Either) names in
     let piece = some.0 in
@@ -322,38 +311,11 @@ jointed-long head text within = by (length text == head + 1)
     by true = within
     by false = omega (arith, within, length-append text (backslash ∷ []))
 
--- slashes turned one by one
-turned-here : (old : List ℕ) (at : ℕ) → at < length old → get_or (turned (take at old) ++ drop at old) at 0 ≡ get_or old at 0
-turned-here [] at within = absurd (omega (arith, within))
-turned-here (x ∷ xs) zero within = refl
-turned-here (x ∷ xs) (suc at) within = turned-here xs at (omega (arith, within))
-
-turned-more : (old : List ℕ) (at : ℕ) → at < length old → set (turned (take at old) ++ drop at old) at (turned_byte (get_or old at 0)) ≡ turned (take (at + 1) old) ++ drop (at + 1) old
-turned-more [] at within = absurd (omega (arith, within))
-turned-more (x ∷ xs) zero within = refl
-turned-more (x ∷ xs) (suc at) within =
-    let on : suc at + 1 ≡ suc (at + 1) = omega arith in
-    ap (λ t. turned_byte x ∷ t) (turned-more xs at (omega (arith, within))) ∙ ap (λ n. turned (take n (x ∷ xs)) ++ drop n (x ∷ xs)) (sym on)
-
-pub turned-step : (old now : List ℕ) (at b : ℕ) → now ≡ turned (take at old) ++ drop at old → at < length old → b ≡ turned_byte (get_or now at 0) → set now at b ≡ turned (take (at + 1) old) ++ drop (at + 1) old
-turned-step old now at b is within put =
-    (λ i. set (is i) at (put i))
-    ∙ ap (λ x. set (turned (take at old) ++ drop at old) at (turned_byte x)) (ap (λ xs. get_or xs at 0) is ∙ turned-here old at within)
-    ∙ turned-more old at within
-
--- the last bytes of a text, with their slashes turned
-pub turned-end : (front names items now new : List ℕ) (from len : ℕ) → now ≡ items → items ≡ front ++ names → from + length names ≡ len → len ≡ length items → new ≡ turned (take (length now - from) (drop from now))
-    → take len (put_mid from (length now - from) now new ++ drop (length (put_mid from (length now - from) now new)) items) ≡ front ++ turned names
-turned-end front names items now new from len same is size whole turns =
-    let seam : length front ≡ from = omega (arith, size, whole, ap length is, length-append front names) in
-    let joined : now ≡ front ++ names = same ∙ is in
-    let kept : take from now ≡ front = ap (take from) joined ∙ take_at front names from seam in
-    let behind : drop from now ≡ names = ap (drop from) joined ∙ drop_at front names from seam in
-    let long : length now ≡ len = ap length same ∙ sym whole in
-    let over : new ≡ turned names = turns ∙ ap turned (ap (take (length now - from)) behind ∙ take_all (length now - from) names (omega (arith, long, size))) in
-    let counted : length new ≡ length names = ap length over ∙ length-map names turned_byte in
-    let least : len ≤ length (put_mid from (length now - from) now new) =
-    omega (arith, size, counted, ap length kept, seam, length-append (take from now) (new ++ post_of from (length now - from) now), length-append new (post_of from (length now - from) now)) in
-    take-append-le len (put_mid from (length now - from) now new) (drop (length (put_mid from (length now - from) now new)) items) least
-    ∙ take-put_mid from (length now - from) now new len (omega (arith, size, counted)) (omega (arith, long, size))
-    ∙ (λ i. kept i ++ over i)
+-- the last bytes of a text, with their separators turned
+pub turned-end : (front names items new : List ℕ) (from : ℕ) → items ≡ front ++ names → from + length names ≡ length items → new ≡ take from items ++ turned Either backslash (drop from items)
+    → new ≡ front ++ turned Either backslash names
+turned-end front names items new from is size turns =
+    let seam : length front ≡ from = omega (arith, size, ap length is, length-append front names) in
+    turns
+    ∙ ap (λ t. take from t ++ turned Either backslash (drop from t)) is
+    ∙ (λ i. take_at front names from seam i ++ turned Either backslash (drop_at front names from seam i))

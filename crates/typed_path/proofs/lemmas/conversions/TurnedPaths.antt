@@ -8,8 +8,8 @@ use Rattle.std.proofs.lemmas.List.Elements.{All-head, All-nil, All-cons}
 use Rattle.typed_path.specs.declared.scan.separators.Separators.{Separators}
 use Rattle.typed_path.specs.declared.scan.separators.Separators.TheVariants.{Slash, Backslash, Either}
 use Rattle.typed_path.specs.components.{Dialect, unix, windows, dot, slash, backslash, colon, is_separator, is_dot, is_dot_dot, root_text, root_of, Part, current_part, parent_part, name_part, root_part, drive, is_drive_letter, to_upper, parts_of, is_verbatim, separators, Found, prefix_of, prefix_part, Kind, prefix, root, current, parent, normal, kinds, body, parts}
-use Rattle.typed_path.specs.changes.{ended_with, push, push_all, push_unix, push_windows, spells_anew, FitsPush, FitsEach, begins_with_separator, fault, is_stray, is_forbidden_or, has_parent_or_device}
-use Rattle.typed_path.specs.queries.{is_valid, is_valid_kind, is_disallowed, kind_has_allowed_bytes}
+use Rattle.typed_path.specs.changes.{ended_with, push, push_all, push_unix, push_windows, spells_anew, FitsPush, FitsEach, begins_with_separator, fault, is_stray, is_forbidden_or}
+use Rattle.typed_path.specs.queries.{is_valid, is_valid_kind, is_disallowed, kind_has_allowed_bytes, is_reserved}
 use Rattle.typed_path.specs.conversions.{crossed, crossed_all, CrossesTurned, IsUnrefused, crossing_fault, push_checked_each, push_unless, converted_checked}
 use Rattle.typed_path.specs.scan.{is_one_of, is_blank, begins_blank, has_blank_behind, turned}
 use Rattle.typed_path.proofs.lemmas.lists.Lists.{IsUnseparated, slice_split-some, slice_split-unseparated, AllByRecursion-weaker}
@@ -18,7 +18,6 @@ use Rattle.typed_path.proofs.lemmas.components.WindowsNames.{IsPlain, ended_with
 use Rattle.typed_path.proofs.lemmas.queries.ValidNames.{valid-found}
 use Rattle.typed_path.proofs.lemmas.queries.FileNames.{allowed-pieces, allowed-kinds, allowed-first_parts}
 use Rattle.typed_path.proofs.lemmas.components.FirmPrefixes.{drive-letter}
-use Rattle.typed_path.proofs.lemmas.changes.ValidPaths.{any-pieces, none_reserved}
 use Rattle.typed_path.proofs.lemmas.conversions.Crossings.{free-byte}
 use Rattle.typed_path.proofs.lemmas.changes.WindowsPushes.{fits-plain}
 use Rattle.typed_path.proofs.lemmas.conversions.CrossedPaths.{IsStep, a_parent, a_plain, IsBare, step-read, bare-next, push-step, bare-root, bare-current, bare-parent, bare-name}
@@ -486,7 +485,7 @@ body-written s text = each-written s (body_parts s text) (body_parts-read s text
 
 -- a path of Unix without forbidden bytes and devices is written on Windows by checked pushes as by others
 pub checked-windows : (path text : List ℕ) → parts_of unix path ≡ body_parts Slash text → list_any (is_one_of (colon, backslash)) text ≡ false → list_any (is_forbidden_or (backslash, backslash)) text ≡ false
-    → has_parent_or_device text ≡ false → IsUnrefused unix windows path
+    → list_any (is_reserved windows) (pieces Either text) ≡ false → IsUnrefused unix windows path
 checked-windows path text read plain free none =
     unrefused windows [] (parts_of unix path) (subst (AllByRecursion (λ p. crossing_fault windows p ≡ None)) (sym read) (valid-unrefused windows Slash (body_parts Slash text) (body-written Slash text) valid))
   where
@@ -503,7 +502,7 @@ checked-windows path text read plain free none =
     allowed (b ∷ bs) f = let both = or_parts (is_forbidden_or (backslash, backslash) b) (list_any (is_forbidden_or (backslash, backslash)) bs) f in ap (λ c. c || list_any (is_stray Either) bs) (unstrayed b both.0) ∙ allowed bs both.1
 
     own : is_valid windows (kinds (body_parts Either text)) ≡ true
-    own = ap (λ ps. is_valid windows (kinds ps)) (sym (parts-body Either 0 text)) ∙ valid-found Either 0 text _ false refl (allowed text free) ∙ ap not (none_reserved (pieces Either text) (any-pieces text ∙ none))
+    own = ap (λ ps. is_valid windows (kinds ps)) (sym (parts-body Either 0 text)) ∙ valid-found Either 0 text _ false refl (allowed text free) ∙ ap not none
 
     same-first : (ps : List (List ℕ)) → kinds (first_parts Slash ps) ≡ kinds (first_parts Either ps)
     same-first [] = refl

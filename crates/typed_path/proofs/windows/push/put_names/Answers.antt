@@ -1,6 +1,9 @@
 use Rattle.std.proofs.Common.{◌≡◌, ◌+◌, ◌++◌, length, drop, ap, ◌∙◌, length-append, arith}
 use Rattle.std.proofs.lemmas.List.{drop-append-le}
-use Rattle.typed_path.specs.changes.{jointed, turned}
+use Rattle.typed_path.specs.declared.scan.separators.Separators.TheVariants.{Either}
+use Rattle.typed_path.specs.components.{backslash}
+use Rattle.typed_path.specs.changes.{jointed}
+use Rattle.typed_path.specs.scan.{turned}
 use Rattle.typed_path.proofs.lemmas.changes.NamePieces.{stands-names, jointed-joined, jointed-apart, jointed-long, turned-end}
 use Rattle.typed_path.proofs.windows.push.put_names.Goals as goal
 
@@ -16,5 +19,4 @@ returns-clause-stands c = λ parted ps h.
     let size : length items ≡ length (jointed head old) + length names = ap length put ∙ length-append (jointed head old) names in
     stands-names parted ps (drop head old) (drop head (jointed head old)) _ names h c.requires.named
     (jointed-joined head old c.requires.within) (jointed-apart head old c.requires.within)
-    (ap (drop head) (turned-end (jointed head old) names items c.deref_mut.result.now c.turn_slashes.new.bytes _ _ c.deref_mut.ensures.value put (omega (arith, c.len.ensures, whole, size)) whole c.turn_slashes.ensures)
-    ∙ drop-append-le head (jointed head old) (turned names) long)
+    (ap (drop head) (turned-end (jointed head old) names items c.turn_behind.new.text.items _ put (omega (arith, c.len.ensures, whole, size)) c.turn_behind.ensures.turned) ∙ drop-append-le head (jointed head old) (turned Either backslash names) long)
