@@ -246,7 +246,7 @@ fn turned<T: Encoding, U: Encoding>(path: &[u8]) -> Option<&[u8]>
     None
 }
 
-/// The same of a path of Unix on Windows, where no byte of it begins a component or a drive there.
+/// The same of a path of Unix on Windows, in which no byte separates there alone, and none marks a drive.
 fn turned_for_windows(path: &[u8]) -> Option<&[u8]>
     ensures turned { IfSome result (λ text. CrossesTurned unix windows path.now text.now) }
     ensures checked { IfSome result (λ text. list_any (is_forbidden_or (backslash, backslash)) text.now ≡ false
@@ -259,7 +259,8 @@ fn turned_for_windows(path: &[u8]) -> Option<&[u8]>
     None
 }
 
-/// The same of a path of Windows on Unix, where a root stands behind its prefix, which that takes away.
+/// The same of a path of Windows on Unix, which has no prefix, or a root behind it: pushed onto what the
+/// prefix is written as, that replaces it.
 fn turned_for_unix(path: &[u8]) -> Option<&[u8]>
     ensures turned { IfSome result (λ text. CrossesTurned windows unix path.now text.now) }
     ensures checked { IfSome result (λ text. list_any (is_one_of (0, 0)) text.now ≡ false
@@ -468,7 +469,7 @@ fn push_prefix_checked<U: Encoding>(
 
 /// Pushes a component onto the path at the end of a text, which is one of another encoding, and of
 /// which something may be known, by a checked push, and answers what is known of what stands there
-/// then.
+/// then. Of a component that is known to have allowed bytes they are not looked at.
 #[inline(always)]
 fn push_piece_checked<U: Encoding>(
     text: &mut Vec<u8>,

@@ -2,6 +2,8 @@
 -- Crossings: components of another dialect pushed one by one, and names of Unix that are names of Windows too
 -- CrossedPaths: what a path is read as once it is converted, and what comes back
 -- TurnedPaths: paths of which a conversion changes no more than the separators
+-- UnrefusedPaths: paths of which looks at their bytes tell that no component is refused as it crosses
 pub mod Crossings
 pub mod CrossedPaths
 pub mod TurnedPaths
+pub mod UnrefusedPaths

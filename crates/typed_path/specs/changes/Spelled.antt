@@ -3,7 +3,7 @@ use Rattle.std.specs.Prelude.{◌≡◌, ℕ, ◌+◌, List, [], ◌∷◌, ◌+
 use Rattle.std.specs.List.{list_any, list_all, slice_split, All, AllByRecursion}
 use Rattle.typed_path.specs.declared.scan.separators.Separators.{Separators}
 use Rattle.typed_path.specs.declared.scan.separators.Separators.TheVariants.{Slash, Backslash, Either}
-use Rattle.typed_path.specs.components.Dialects.{Dialect, unix, windows, dot, slash, backslash, is_separator, is_verbatim}
+use Rattle.typed_path.specs.components.Dialects.{Dialect, unix, windows, dot, backslash, is_separator, is_verbatim}
 use Rattle.typed_path.specs.components.Parts.{Kind, prefix, root, current, parent, normal, Part, is_name, name_part, root_part}
 use Rattle.typed_path.specs.components.Prefixes.{is_empty, prefix_of}
 use Rattle.typed_path.specs.components.Comps.{is_dot, is_dot_dot, parts_of}

@@ -155,7 +155,7 @@ pub trait Encoding: Sized {
     }
 
     /// For encodings alone. Whether the bytes of two paths tell that they differ in a name in one place, so
-    /// that neither is a base of the other. False says nothing.
+    /// that the first does not begin with the second. False says nothing.
     fn is_apart(path: &[u8], other: &[u8]) -> bool
         ensures { IsTrue result → path_starts_with dialect path.now other.now ≡ false }
     {

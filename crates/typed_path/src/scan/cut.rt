@@ -1,5 +1,5 @@
 //! Texts cut at a byte, at a separator, behind a beginning, behind a base, and behind what two of them
-//! share.
+//! share; and the order of two texts from where they part.
 
 ghost use Rattle.std.specs.Prelude.{◌≡◌, ◌≢◌, ◌≤◌, ◌<◌, ◌+◌, ◌==◌, List, ℕ, [], ◌∷◌, ◌++◌, take, length, MatchOption, IfSome, true, false, drop, IsTrue};
 ghost use Rattle.std.specs.List.{slice_split, position_or_len, before_first, starts_with};

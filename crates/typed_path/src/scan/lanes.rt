@@ -1,7 +1,7 @@
 //! Bytes found by blocks of 32, of 16, of 8 and of 4. What is looked for is a pair, which is one
 //! byte twice where no other is: so one and two are looked for in the same way. Of the bytes that no
 //! name of Windows may have, it is only told whether a text has one, and of what stands between the
-//! bytes of a pair, whether all are names.
+//! bytes of a pair, whether all are names. Of two texts the first place is found at which they differ.
 
 ghost use Rattle.std.specs.Prelude.{◌≡◌, ◌≢◌, ◌≤◌, ◌<◌, ◌+◌, ◌-◌, ◌^◌, ◌==◌, ℕ, Bool, true, IsTrue, length, min, slice_index};
 ghost use Rattle.std.specs.Int.{bit_at};
@@ -386,11 +386,16 @@ fn forbidden_at<const N: usize>(text: &[u8], at: usize, pair: (u8, u8)) -> u64
     requires in_range { at + N ≤ length text.now }
     ensures { IsMask (λ k. forbidden_at pair text.now (at + k)) N result }
 {
-    marks_at::<N>(text, at, (b':', b'?'))
-        | marks_at::<N>(text, at, (b'*', b'"'))
-        | marks_at::<N>(text, at, (b'>', b'<'))
-        | marks_at::<N>(text, at, (b'|', b'\0'))
-        | marks_at::<N>(text, at, pair)
+    let block = Simd::<u8, N>::from_slice(&text[at..]);
+    (block.simd_eq(Simd::splat(b':'))
+        | block.simd_eq(Simd::splat(b'?'))
+        | block.simd_eq(Simd::splat(b'*'))
+        | block.simd_eq(Simd::splat(b'"'))
+        | block.simd_eq(Simd::splat(b'>'))
+        | block.simd_eq(Simd::splat(b'<'))
+        | block.simd_eq(Simd::splat(b'|'))
+        | block.simd_eq(Simd::splat(b'\0'))
+        | (block.simd_eq(Simd::splat(pair.0)) | block.simd_eq(Simd::splat(pair.1)))).to_bitmask()
 }
 
 /// Whether a block has such a byte.

@@ -186,7 +186,7 @@ pub fn is_free_of(pair: (u8, u8), text: &[u8]) -> bool
 }
 
 /// Whether the first bytes of a name are, ASCII case aside, the name of a device, with a dot or the end
-/// behind them. So hardly another name is compared with those of all devices.
+/// behind them. The list of devices decides of such a name; no other one is compared with it.
 #[inline(always)]
 fn may_be_reserved(name: &[u8]) -> bool
     ensures { result ≡ may_be_reserved name.now }

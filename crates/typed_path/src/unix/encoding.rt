@@ -255,6 +255,7 @@ fn put_segments(text: &mut Vec<u8>, len: usize, path: &[u8]) -> Result<(), Alloc
     ensures succeeds { vec_len text.old + length path.now < vec_capacity text.old → IsOk result }
 {
     if has_only_names(path, (b'/', b'/')) {
+        text.reserve(path.len() + 1)?;
         text.extend_from_slice(path)?;
         text.push(b'/')?;
         return Ok(());

@@ -73,13 +73,16 @@ impl Encoding for WindowsEncoding {
         rooted(cursor)
     }
 
-    // Most paths begin otherwise than a base that they are asked for, which needs no prefix to be read.
+    // Most paths hold another byte where a base ends that they are asked for, so no prefix is read.
     #[inline]
     fn behind<'a>(path: &'a [u8], base: &[u8]) -> Option<&'a [u8]> {
-        if !path.starts_with(base) {
+        if !holds_last_byte(path, base) {
             return None;
         }
         let (end, separators) = shared_prefix(path, base)?;
+        if path[..end] != base[..end] {
+            return None;
+        }
         let body = &path[end..];
         let behind = base_end(body, &base[end..], separators)?;
         Some(&body[behind..])
@@ -149,6 +152,19 @@ impl Encoding for WindowsEncoding {
             return Ok(());
         }
         Cursor::of_windows(path).check()
+    }
+}
+
+/// Whether a text holds the last byte of a beginning in its place. Nothing rests on this answer: whether the
+/// text begins so is looked at again.
+#[inline(always)]
+fn holds_last_byte(text: &[u8], beginning: &[u8]) -> bool {
+    let Some((last, front)) = beginning.split_last() else {
+        return false;
+    };
+    match text.get(front.len()) {
+        Some(byte) => *byte == *last,
+        None => false,
     }
 }
 
@@ -254,7 +270,7 @@ fn stays_before_parted(prefix: WindowsPrefix<'_>) -> bool
 
 /// Whether looks at the bytes of a path tell that each of its components is a valid name or a `.`: it
 /// begins with no separator, so with no prefix but a drive; and it has no `:`, so no drive.
-pub fn has_only_valid_names(path: &[u8]) -> bool
+fn has_only_valid_names(path: &[u8]) -> bool
     ensures { result ≡ has_only_valid_names path.now }
 {
     !begins_with_separator(path)

@@ -152,7 +152,7 @@ fn put_rows(text: &mut Vec<u8>, head: RowHead<'_>) -> Result<bool, AllocError>
 }
 
 /// How many bytes a path has at least that is looked at as a whole before its segments are cut.
-const LOOK: usize = 16;
+const LEAST: usize = 16;
 
 /// Puts the names that are left of a path behind the first bytes of a text, and answers whether
 /// each one that came is put so by a push too: false says nothing of what was put.
@@ -168,7 +168,10 @@ fn put_segments(text: &mut Vec<u8>, len: usize, path: &[u8]) -> Result<bool, All
     ensures told { HaveNoDisks (slice_split (is_separator Separators.Either) path.now)
         → IfOk result (λ plain. IsTrue plain) }
 {
-    if LOOK <= path.len() && is_free_of((b':', b':'), path) && has_only_names(path, (b'/', b'\\')) {
+    if LEAST <= path.len()
+        && is_free_of((b':', b':'), path)
+        && has_only_names(path, (b'/', b'\\'))
+    {
         put_turned(text, path, Separators::Either, b'\\')?;
         text.push(b'\\')?;
         return Ok(true);

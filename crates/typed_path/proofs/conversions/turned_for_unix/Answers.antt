@@ -1,4 +1,4 @@
-use Rattle.std.proofs.Common.{◌≡◌, ℕ, List, drop, length, take, ◌-◌, refl, sym, ap, ◌∙◌, None, Some, ◌∷◌}
+use Rattle.std.proofs.Common.{◌≡◌, ℕ, List, drop, length, take, ◌-◌, refl, sym, ap, ◌∙◌, Some, ◌∷◌}
 use Rattle.std.proofs.lemmas.List.{take_rest}
 use Rattle.typed_path.specs.declared.scan.separators.Separators.TheVariants.{Either}
 use Rattle.typed_path.specs.declared.scan.separators.Separators.{Separators}
@@ -7,7 +7,8 @@ use Rattle.typed_path.specs.views.PieceViews.{found_of}
 use Rattle.typed_path.proofs.lemmas.components.Prefixes.{prefix-fits, separators-windows}
 use Rattle.typed_path.proofs.lemmas.components.Segments.{body_parts}
 use Rattle.typed_path.proofs.lemmas.changes.Faults.{parts_of-none, parts_of-some}
-use Rattle.typed_path.proofs.lemmas.conversions.TurnedPaths.{crosses-unix, crosses-rooted, checked-unix, checked-rooted, body-same}
+use Rattle.typed_path.proofs.lemmas.conversions.TurnedPaths.{crosses-unix, crosses-rooted, body-same}
+use Rattle.typed_path.proofs.lemmas.conversions.UnrefusedPaths.{checked-unix, checked-rooted}
 use Rattle.typed_path.proofs.conversions.turned_for_unix.Goals as goal
 
 pub returns-then-has_no_blank_behind : goal.returns-then-has_no_blank_behind

@@ -4,7 +4,8 @@ use Rattle.typed_path.specs.declared.scan.separators.Separators.TheVariants.{Sla
 use Rattle.typed_path.specs.components.{unix, body, parts_of}
 use Rattle.typed_path.proofs.lemmas.components.Segments.{body_parts}
 use Rattle.typed_path.proofs.lemmas.promises.UnixContained.{parts_of-unix}
-use Rattle.typed_path.proofs.lemmas.conversions.TurnedPaths.{crosses-windows, checked-windows, body-same}
+use Rattle.typed_path.proofs.lemmas.conversions.TurnedPaths.{crosses-windows, body-same}
+use Rattle.typed_path.proofs.lemmas.conversions.UnrefusedPaths.{checked-windows}
 use Rattle.typed_path.proofs.conversions.turned_for_windows.Goals as goal
 
 -- what the text is read as that is copied

@@ -1,31 +1,24 @@
 -- Paths of which a conversion changes no more than the separators.
-use Rattle.std.proofs.Common.{All, not, Ok, Err, take, drop, get_or, ◌≡◌, ℕ, suc, ◌+◌, ◌-◌, ◌≤◌, ◌<◌, ◌==◌, ◌||◌, ◌&&◌, Bool, true, false, if◌then◌else◌, cond, List, [], ◌∷◌, ◌++◌, map, length, fold, flat_map, slice_index, refl, sym, ap, ap₂, ◌∙◌, subst, append_assoc, arith, eqb-true, true≢false, length-append, Some, None, Option}
+use Rattle.std.proofs.Common.{take, get_or, ◌≡◌, ℕ, ◌-◌, ◌≤◌, ◌<◌, ◌==◌, ◌||◌, ◌&&◌, Bool, true, false, if◌then◌else◌, cond, List, [], ◌∷◌, ◌++◌, map, length, fold, flat_map, slice_index, refl, sym, ap, ap₂, ◌∙◌, subst, append_assoc, arith, eqb-true, true≢false, length-append, Some, None}
 use Rattle.std.specs.Prelude.{⊤}
-use Rattle.std.specs.List.{AllByRecursion, list_any, slice_split, onto_first, before_first}
+use Rattle.std.specs.List.{AllByRecursion, list_any, onto_first, before_first}
 use Rattle.std.proofs.lemmas.Bool.{and_parts, and_right, or_parts, false_from_ne_true, both_ways, cond-false, eqb-false}
 use Rattle.std.proofs.lemmas.List.{length-map}
-use Rattle.std.proofs.lemmas.List.Elements.{All-head, All-nil, All-cons}
+use Rattle.std.proofs.lemmas.List.Elements.{All-head}
 use Rattle.typed_path.specs.declared.scan.separators.Separators.{Separators}
-use Rattle.typed_path.specs.declared.scan.separators.Separators.TheVariants.{Slash, Backslash, Either}
-use Rattle.typed_path.specs.components.{Dialect, unix, windows, dot, slash, backslash, colon, is_separator, is_dot, is_dot_dot, root_text, root_of, Part, current_part, parent_part, name_part, root_part, drive, is_drive_letter, to_upper, parts_of, is_verbatim, separators, Found, prefix_of, prefix_part, Kind, prefix, root, current, parent, normal, kinds, body, parts}
-use Rattle.typed_path.specs.changes.{ended_with, push, push_all, push_unix, push_windows, spells_anew, FitsPush, FitsEach, begins_with_separator, fault, is_stray, is_forbidden_or}
-use Rattle.typed_path.specs.queries.{is_valid, is_valid_kind, is_disallowed, kind_has_allowed_bytes, is_reserved}
-use Rattle.typed_path.specs.conversions.{crossed, crossed_all, CrossesTurned, IsUnrefused, crossing_fault, push_checked_each, push_unless, converted_checked}
+use Rattle.typed_path.specs.declared.scan.separators.Separators.TheVariants.{Slash, Either}
+use Rattle.typed_path.specs.components.{Dialect, unix, windows, dot, slash, backslash, colon, is_separator, is_dot, is_dot_dot, root_text, root_of, Part, current_part, parent_part, name_part, root_part, drive, is_drive_letter, to_upper, parts_of, is_verbatim, body, parts}
+use Rattle.typed_path.specs.changes.{ended_with, push_all, push_unix, push_windows, spells_anew, FitsEach, begins_with_separator}
+use Rattle.typed_path.specs.conversions.{crossed, crossed_all, CrossesTurned}
 use Rattle.typed_path.specs.scan.{is_one_of, is_blank, begins_blank, has_blank_behind, turned}
 use Rattle.typed_path.proofs.lemmas.lists.Lists.{IsUnseparated, slice_split-some, slice_split-unseparated, AllByRecursion-weaker}
-use Rattle.typed_path.proofs.lemmas.components.Segments.{pieces, named_part, later_part, first_part, later_parts, first_parts, body_parts, IsCleanName, IsWritten, IsWrittenPart, each-written, body_parts-read, parts-body}
-use Rattle.typed_path.proofs.lemmas.components.WindowsNames.{IsPlain, ended_with-append, fault_name}
-use Rattle.typed_path.proofs.lemmas.queries.ValidNames.{valid-found}
-use Rattle.typed_path.proofs.lemmas.queries.FileNames.{allowed-pieces, allowed-kinds, allowed-first_parts}
-use Rattle.typed_path.proofs.lemmas.components.FirmPrefixes.{drive-letter}
-use Rattle.typed_path.proofs.lemmas.conversions.Crossings.{free-byte}
+use Rattle.typed_path.proofs.lemmas.components.Segments.{pieces, named_part, first_part, later_parts, first_parts, body_parts, parts-body}
+use Rattle.typed_path.proofs.lemmas.components.WindowsNames.{IsPlain, ended_with-append}
 use Rattle.typed_path.proofs.lemmas.changes.WindowsPushes.{fits-plain}
 use Rattle.typed_path.proofs.lemmas.conversions.CrossedPaths.{IsStep, a_parent, a_plain, IsBare, step-read, bare-next, push-step, bare-root, bare-current, bare-parent, bare-name}
-use Rattle.typed_path.proofs.lemmas.components.Prefixes.{OfWindows, separators-windows, Read, of_disk, of_unc, of_verbatim, of_verbatim_unc, of_verbatim_disk, of_device, prefix-read}
-use Rattle.typed_path.proofs.lemmas.changes.Faults.{parts_of-none, parts_of-some}
+use Rattle.typed_path.proofs.lemmas.components.Prefixes.{OfWindows}
 use Rattle.typed_path.proofs.lemmas.places.UnixRows.{take-ended}
-use Rattle.typed_path.proofs.lemmas.places.WindowsRows.{IsWithoutSlash, pieces-own, without_slash-behind}
-use Rattle.typed_path.proofs.lemmas.promises.UnixContained.{parts_of-unix}
+use Rattle.typed_path.proofs.lemmas.places.WindowsRows.{IsWithoutSlash, pieces-own}
 use Rattle.typed_path.proofs.lemmas.promises.WindowsStable.{push-first}
 use Rattle.typed_path.proofs.lemmas.promises.WindowsContained.{verbatim-none}
 use Rattle.typed_path.proofs.lemmas.scan.Blanks.{segment-byte}
@@ -347,7 +340,7 @@ crossed-pieces : (e : Dialect) (s : Separators) (x : ℕ) (xs head : List ℕ) (
 crossed-pieces e s x xs head others cut none = ap (λ ps. map (crossed e) (first_parts s ps)) cut ∙ ap₂ ◌∷◌ (first-crossed e s head) (later-crossed e s others none)
 
 -- a text without `\` is cut alike by both sets that hold `/`
-pieces-slash : (text : List ℕ) → list_any (is_one_of (colon, backslash)) text ≡ false → pieces Either text ≡ pieces Slash text
+pub pieces-slash : (text : List ℕ) → list_any (is_one_of (colon, backslash)) text ≡ false → pieces Either text ≡ pieces Slash text
 pieces-slash [] free = refl
 pieces-slash (b ∷ bs) free =
     let both = or_parts (is_one_of (colon, backslash) b) (list_any (is_one_of (colon, backslash)) bs) free in
@@ -396,10 +389,6 @@ crosses-windows path (x ∷ xs) read free none =
     bare-any : (head : List ℕ) → IsUnseparated (is_separator Either) head → list_any (is_one_of (colon, backslash)) head ≡ false → IsBare (first_text windows head)
     bare-any [] unseparated free = bare-root
     bare-any (b ∷ bs) unseparated free = bare-first (b ∷ bs) (false_from_ne_true (length (b ∷ bs) == 0) (λ h. absurd (omega (arith, eqb-true _ 0 h)))) unseparated free
-
--- how a root is pushed on Unix, whatever stands before it
-push_unix-root : (text : List ℕ) → push_unix text (slash ∷ []) ≡ slash ∷ []
-push_unix-root text = refl
 
 -- the body of a path of Windows without blank pieces, and without `/` where it is read verbatim, is written on Unix with its separators turned
 module _ (s : Separators) (w : OfWindows s) (x : ℕ) (xs : List ℕ) (without : IsWithoutSlash s (x ∷ xs))
@@ -460,132 +449,6 @@ crosses-rooted path (x ∷ xs) s p w read without none rooted =
       is = whole;
       fits = body-fits s w x xs without tight.0 tight.1 tight.2 tight.3 (parts_of windows path) whole _ _ (ap (map (crossed unix)) read);
     }
-
--- ---- checked pushes of what is not refused
-
--- components that are not refused are pushed
-unrefused : (e : Dialect) (base : List ℕ) (ps : List Part) → AllByRecursion (λ p. crossing_fault e p ≡ None) ps → push_checked_each e (Ok base) ps ≡ Ok (push_all e base (map (crossed e) ps))
-unrefused e base [] each = refl
-unrefused e base (p ∷ ps) each = ap (λ o. push_checked_each e (push_unless e base o (crossed e p)) ps) each.0 ∙ unrefused e (push e base (crossed e p)) ps each.1
-
--- components as they are written behind the prefix are not refused where they are valid
-valid-unrefused : (e : Dialect) (s : Separators) (ps : List Part) → AllByRecursion (IsWrittenPart s) ps → is_valid e (kinds ps) ≡ true → AllByRecursion (λ p. crossing_fault e p ≡ None) ps
-valid-unrefused e s [] written valid = tt
-valid-unrefused e s (p ∷ ps) written valid = let both = and_parts (is_valid_kind e p.kind) (is_valid e (kinds ps)) valid in (by p.kind p.text written.0 both.0, valid-unrefused e s ps written.1 both.1)
-  where
-    by : (k : Kind) (text : List ℕ) → IsWritten s k text → is_valid_kind e k ≡ true → crossing_fault e (record { kind = k; text = text }) ≡ None
-    by (prefix q) text own valid = absurd own
-    by root text own valid = refl
-    by current text own valid = refl
-    by parent text own valid = refl
-    by (normal name) text own valid = let clean = own.1 in ap (fault e) own.0 ∙ fault_name e name (rw (clean.filled, clean.no_dot, clean.no_dot_dot) refl) valid
-
-body-written : (s : Separators) (text : List ℕ) → AllByRecursion (IsWrittenPart s) (body_parts s text)
-body-written s text = each-written s (body_parts s text) (body_parts-read s text)
-
--- a path of Unix without forbidden bytes and devices is written on Windows by checked pushes as by others
-pub checked-windows : (path text : List ℕ) → parts_of unix path ≡ body_parts Slash text → list_any (is_one_of (colon, backslash)) text ≡ false → list_any (is_forbidden_or (backslash, backslash)) text ≡ false
-    → list_any (is_reserved windows) (pieces Either text) ≡ false → IsUnrefused unix windows path
-checked-windows path text read plain free none =
-    unrefused windows [] (parts_of unix path) (subst (AllByRecursion (λ p. crossing_fault windows p ≡ None)) (sym read) (valid-unrefused windows Slash (body_parts Slash text) (body-written Slash text) valid))
-  where
-    unstrayed : (b : ℕ) → is_forbidden_or (backslash, backslash) b ≡ false → is_stray Either b ≡ false
-    unstrayed b f = by (is_disallowed windows b) (is_separator Slash b) (b == backslash) (free-byte b f)
-      where
-        by : (d c o : Bool) → (d ≡ true → c ≡ true) → d && not (c || o) ≡ false
-        by false c o h = refl
-        by true true o h = refl
-        by true false o h = absurd (true≢false (sym (h refl)))
-
-    allowed : (text : List ℕ) → list_any (is_forbidden_or (backslash, backslash)) text ≡ false → list_any (is_stray Either) text ≡ false
-    allowed [] f = refl
-    allowed (b ∷ bs) f = let both = or_parts (is_forbidden_or (backslash, backslash) b) (list_any (is_forbidden_or (backslash, backslash)) bs) f in ap (λ c. c || list_any (is_stray Either) bs) (unstrayed b both.0) ∙ allowed bs both.1
-
-    own : is_valid windows (kinds (body_parts Either text)) ≡ true
-    own = ap (λ ps. is_valid windows (kinds ps)) (sym (parts-body Either 0 text)) ∙ valid-found Either 0 text _ false refl (allowed text free) ∙ ap not none
-
-    same-first : (ps : List (List ℕ)) → kinds (first_parts Slash ps) ≡ kinds (first_parts Either ps)
-    same-first [] = refl
-    same-first (p ∷ ps) = by (length p == 0)
-      where
-        by : (empty : Bool) → kinds ((if empty then root_part (root_text Slash) else (if is_dot p then current_part else named_part p)) ∷ later_parts Slash ps)
-            ≡ kinds ((if empty then root_part (root_text Either) else (if is_dot p then current_part else named_part p)) ∷ later_parts Either ps)
-        by true = refl
-        by false = refl
-
-    same : (text : List ℕ) → list_any (is_one_of (colon, backslash)) text ≡ false → kinds (body_parts Slash text) ≡ kinds (body_parts Either text)
-    same [] f = refl
-    same (b ∷ bs) f = ap (λ ps. kinds (first_parts Slash ps)) (sym (pieces-slash (b ∷ bs) f)) ∙ same-first (pieces Either (b ∷ bs))
-
-    valid : is_valid windows (kinds (body_parts Slash text)) ≡ true
-    valid = ap (is_valid windows) (same text plain) ∙ own
-
--- names that Unix allows are valid there
-valid-unix : (ks : List Kind) → AllByRecursion (λ k. kind_has_allowed_bytes unix k ≡ true) ks → is_valid unix ks ≡ true
-valid-unix [] each = refl
-valid-unix (k ∷ ks) each = ap (λ b. b && is_valid unix ks) (by k each.0) ∙ valid-unix ks each.1
-  where
-    by : (k : Kind) → kind_has_allowed_bytes unix k ≡ true → is_valid_kind unix k ≡ true
-    by (normal name) allowed = ap (λ b. b && true) allowed
-    by k allowed = refl
-
--- a byte that Unix allows in no name separates in a text of Windows, where that has no NUL, and no `/` if it is read verbatim
-disallowed-separates : (s : Separators) → OfWindows s → (text : List ℕ) → IsWithoutSlash s text → list_any (is_one_of (0, 0)) text ≡ false → All (λ b. is_disallowed unix b ≡ true → is_separator s b ≡ true) text
-disallowed-separates s w [] without free = All-nil _
-disallowed-separates s w (b ∷ bs) without free =
-    let both = or_parts (is_one_of (0, 0) b) (list_any (is_one_of (0, 0)) bs) free in
-    let nul = or_parts (b == 0) (b == 0) both.0 in
-    All-cons (λ c. is_disallowed unix c ≡ true → is_separator s c ≡ true) b bs (own s w without (b == 0) nul.0) (disallowed-separates s w bs (without_slash-behind s b bs without) both.1)
-  where
-    slashed : (c d o : Bool) → d ≡ false → (c || d) ≡ true → (c || o) ≡ true
-    slashed true d o e h = refl
-    slashed false true o e h = cc
-    slashed false false o e h = cc
-
-    unslashed-none : (c d : Bool) → c ≡ false → d ≡ false → (c || d) ≡ true → false ≡ true
-    unslashed-none true d e f h = cc
-    unslashed-none false true e f h = cc
-    unslashed-none false false e f h = h
-
-    own : (s : Separators) → OfWindows s → IsWithoutSlash s (b ∷ bs) → (d : Bool) → d ≡ false → (b == slash || d) ≡ true → is_separator s b ≡ true
-    own Slash w without d e h = cc
-    own Either w without d e h = slashed (b == slash) d (b == backslash) e h
-    own Backslash w without d e h = absurd (true≢false (sym (unslashed-none (b == slash) d (or_parts (b == slash) (list_any (is_separator Slash) bs) (without refl)).0 e h)))
-
--- so the names of its body are not refused on Unix
-body-unrefused : (s : Separators) → OfWindows s → (text : List ℕ) → IsWithoutSlash s text → list_any (is_one_of (0, 0)) text ≡ false → AllByRecursion (λ p. crossing_fault unix p ≡ None) (body_parts s text)
-body-unrefused s w [] without free = tt
-body-unrefused s w (b ∷ bs) without free =
-    valid-unrefused unix s (body_parts s (b ∷ bs)) (body-written s (b ∷ bs))
-    (valid-unix (kinds (body_parts s (b ∷ bs))) (allowed-kinds unix (body_parts s (b ∷ bs)) (allowed-first_parts s unix (pieces s (b ∷ bs)) (allowed-pieces s unix (b ∷ bs) (disallowed-separates s w (b ∷ bs) without free)))))
-
--- nor is a prefix
-prefix-unrefused : (path : List ℕ) (f : Found) → prefix_of windows path ≡ Some f → crossing_fault unix (prefix_part f.prefix (take f.length path)) ≡ None
-prefix-unrefused path f is = by path f (prefix-read path f is)
-  where
-    letter_is : (a c : ℕ) → is_drive_letter c ≡ false → is_drive_letter a ≡ true → (a == c) ≡ false
-    letter_is a c other own = false_from_ne_true _ (λ h. both_ways (is_drive_letter a) (ap is_drive_letter (eqb-true a c h) ∙ other) own)
-
-    by : (path : List ℕ) (f : Found) → Read (separators windows path) path f → crossing_fault unix (prefix_part f.prefix (take f.length path)) ≡ None
-    by [] _ (of_disk letter drive) = cc
-    by (a ∷ []) _ (of_disk letter drive) = cc
-    by (a ∷ b ∷ text) _ (of_disk letter drive) =
-        let own = drive-letter a b text letter drive in
-        fault_name unix (a ∷ b ∷ []) (and_right (a == dot) (b == dot) (ap (λ c. c == dot) own.1))
-        (rw (letter_is a slash refl own.0, letter_is a 0 refl own.0, own.1) refl)
-    by path _ (of_verbatim_unc rest mark server) = refl
-    by path f read = cc
-
--- a path of Windows without NUL is written on Unix by checked pushes as by others
-pub checked-unix : (path text : List ℕ) → parts_of windows path ≡ body_parts Either text → list_any (is_one_of (0, 0)) text ≡ false → IsUnrefused windows unix path
-checked-unix path text read free =
-    unrefused unix [] (parts_of windows path) (subst (AllByRecursion (λ p. crossing_fault unix p ≡ None)) (sym read) (body-unrefused Either refl text (λ verbatim. absurd (true≢false (sym verbatim))) free))
-
-pub checked-rooted : (path text : List ℕ) (f : Found) → prefix_of windows path ≡ Some f → (s : Separators) → OfWindows s → parts_of windows path ≡ prefix_part f.prefix (take f.length path) ∷ body_parts s text → IsWithoutSlash s text
-    → list_any (is_one_of (0, 0)) text ≡ false → IsUnrefused windows unix path
-checked-rooted path text f is s w read without free =
-    unrefused unix [] (parts_of windows path)
-    (subst (AllByRecursion (λ p. crossing_fault unix p ≡ None)) (sym read) (prefix-unrefused path f is, body-unrefused s w text without free))
 
 -- a body that is read alike without the separator at its end
 pub body-same : (s : Separators) (text other : List ℕ) → ((at : ℕ) → body s at text ≡ body s at other) → body_parts s text ≡ body_parts s other

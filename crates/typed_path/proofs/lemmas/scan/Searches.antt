@@ -1,5 +1,5 @@
 -- What masks say of places, and searches of a range put together from what was seen of it.
-use Rattle.std.proofs.Common.{◌≡◌, ℕ, suc, ◌+◌, ◌-◌, ◌*◌, ◌^◌, ◌/◌, ◌%◌, ◌≤◌, ◌<◌, List, Bool, true, false, not, ◌&&◌, ◌||◌, ◌==◌, max, min, w64, cond, length, slice_index, slice_range, take, drop, get_or, map, refl, sym, ap, ◌∙◌, arith, bit_or, bit_and, ⊎_elim, pow_pos, pow_mono, div-lt_iff_lt-mul, le-div_iff_mul-le, [], ◌∷◌, nat_lt, true≢false, subst, shr-shr, eqb-true, ltb-true, lt-ltb, get_or-take, get_or-drop, length-take-le, length-drop, take_all}
+use Rattle.std.proofs.Common.{◌≡◌, ℕ, suc, ◌+◌, ◌-◌, ◌*◌, ◌^◌, ◌/◌, ◌%◌, ◌≤◌, ◌<◌, List, Bool, true, false, not, ◌&&◌, ◌||◌, ◌==◌, max, min, w64, cond, length, slice_index, slice_range, take, drop, get_or, map, refl, sym, ap, ap₂, eqb, replicate, ◌∙◌, arith, bit_or, bit_and, ⊎_elim, pow_pos, pow_mono, div-lt_iff_lt-mul, le-div_iff_mul-le, [], ◌∷◌, nat_lt, true≢false, subst, shr-shr, eqb-true, ltb-true, lt-ltb, get_or-take, get_or-drop, length-take-le, length-drop, take_all}
 use Rattle.std.specs.Int.{bit_at, trailing_zeros}
 use Rattle.std.specs.Slice.Scan.{HoldsNowhere, IsFirstPlace, IsLastPlace, HoldsSomewhere}
 use Rattle.std.specs.Simd.Lanes.{mask_l}
@@ -7,10 +7,10 @@ use Rattle.std.proofs.Math.Nat.{two-pow-succ, div-eq_of_lt}
 use Rattle.std.proofs.lemmas.Bool.{cases_lt, eqb-false}
 use Rattle.std.proofs.lemmas.List.{get_or-map, get_or_past, length-map}
 use Rattle.std.proofs.lemmas.Nat.Bits.{bit_at-zero, bit_at_or, bit_at_and, bit_at-trailing_zeros}
-use Rattle.std.proofs.lemmas.Simd.{bit_mask_l, length-chunk, get_or-chunk, length-zip2, get_or-zip2}
+use Rattle.std.proofs.lemmas.Simd.{bit_mask_l, length-chunk, get_or-chunk, length-zip2, get_or-zip2, zip2_splat, mask_l-mod}
 use Rattle.std.specs.List.{position_or_len, list_any}
 use Rattle.std.proofs.lemmas.List.Sums.{position_or_len_is}
-use lib.Lanes.{zip2, chunk}
+use lib.Lanes.{zip2, chunk, top}
 use Rattle.std.proofs.lemmas.List.Folds.{list_any_at}
 use Rattle.typed_path.specs.scan.{IsMask, TellsWhether, is_one_of, stands_at, IsFirstOf}
 
@@ -30,6 +30,45 @@ mask-chunk f at n xs fits =
           bit_mask_l (map f (chunk at n xs)) k
           ∙ ap (λ b. cond b 1 0) (get_or_past (map f (chunk at n xs)) k false (omega (arith, length-map (chunk at n xs) f)));
     }
+
+-- a lane of ones where a test holds
+abbrev pub lane : Bool → ℕ
+lane b = cond b 255 0
+
+-- lanes where either of two tests holds
+pub lanes-or : (p q : ℕ → Bool) (xs : List ℕ) {a b : List ℕ} → a ≡ map (λ x. lane (p x)) xs → b ≡ map (λ x. lane (q x)) xs → zip2 bit_or a b ≡ map (λ x. lane (p x || q x)) xs
+lanes-or p q xs e f = ap₂ (zip2 bit_or) e f ∙ by xs
+  where
+    both : (c d : Bool) → bit_or (lane c) (lane d) ≡ lane (c || d)
+    both true true = refl
+    both true false = refl
+    both false true = refl
+    both false false = refl
+
+    by : (ys : List ℕ) → zip2 bit_or (map (λ x. lane (p x)) ys) (map (λ x. lane (q x)) ys) ≡ map (λ x. lane (p x || q x)) ys
+    by [] = refl
+    by (y ∷ ys) = ap₂ ◌∷◌ (both (p y) (q y)) (by ys)
+
+-- lanes of a block where a byte stands
+pub lanes-of : (y at n : ℕ) (text : List ℕ) → at + n ≤ length text → zip2 (λ a b. lane (eqb a b)) (chunk at n text) (replicate n y) ≡ map (λ x. lane (eqb x y)) (chunk at n text)
+lanes-of y at n text fits = zip2_splat (λ a b. lane (eqb a b)) (chunk at n text) n y (length-chunk at n text fits)
+
+-- the mask of such lanes
+pub mask-lanes : (p : ℕ → Bool) (at n : ℕ) (text : List ℕ) {z : List ℕ} → at + n ≤ length text → n ≤ 64 → z ≡ map (λ x. lane (p x)) (chunk at n text)
+    → IsMask (λ k. p (get_or text (at + k) 0)) n (mask_l (map (top 7) z) % 2 ^ 64)
+mask-lanes p at n text {z} fits short e =
+    let xs = chunk at n text in
+    subst (IsMask (λ k. p (get_or text (at + k) 0)) n)
+    (sym (ap (λ l. mask_l (map (top 7) l) % 2 ^ 64) e ∙ ap (λ l. mask_l l % 2 ^ 64) (tops xs) ∙ mask_l-mod (map p xs) 64 (omega (arith, length-map xs p, length-chunk at n text fits))))
+    (mask-chunk p at n text fits)
+  where
+    own : (b : Bool) → top 7 (lane b) ≡ b
+    own true = refl
+    own false = refl
+
+    tops : (ys : List ℕ) → map (top 7) (map (λ x. lane (p x)) ys) ≡ map p ys
+    tops [] = refl
+    tops (y ∷ ys) = ap₂ ◌∷◌ (own (p y)) (tops ys)
 
 -- the mask of either of two tests
 pub mask-or : (p q : ℕ → Bool) (n a b : ℕ) → IsMask p n a → IsMask q n b → IsMask (λ k. p k || q k) n (bit_or a b)

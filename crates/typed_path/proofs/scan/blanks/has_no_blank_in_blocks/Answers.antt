@@ -1,4 +1,4 @@
-use Rattle.std.proofs.Common.{◌≡◌, ◌<◌, ◌≤◌, ◌+◌, ◌-◌, ◌&&◌, ℕ, suc, false, length, drop, slice_index, arith, inl, inr, subst, eqb-true}
+use Rattle.std.proofs.Common.{◌≡◌, ◌+◌, ◌-◌, ◌&&◌, ℕ, suc, false, length, drop, slice_index, arith, inl, inr, subst, eqb-true}
 use Rattle.std.proofs.lemmas.Bool.{cases_lt}
 use Rattle.typed_path.specs.components.{is_separator}
 use Rattle.typed_path.specs.scan.{begins_blank}

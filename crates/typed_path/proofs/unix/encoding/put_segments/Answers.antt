@@ -31,4 +31,4 @@ returns-clause-ok c =
 pub returns-then-has_only_names-clause-ok : goal.returns-then-has_only_names-clause-ok
 returns-then-has_only_names-clause-ok c = λ head size are.
     unix-names c.args.text.now.items _ head c.args.path.now (c.has_only_names.ensures c.if-has_only_names.true) are
-    (c.in_ok-push.ensures.items ∙ ap (λ t. t ++ slash ∷ []) c.in_ok-extend_from_slice.ensures.items)
+    (c.in_ok-push.ensures.items ∙ ap (λ t. t ++ slash ∷ []) c.in_ok-extend_from_slice.ensures.items ∙ ap (λ t. (t ++ c.args.path.now) ++ slash ∷ []) c.in_ok-reserve.ensures.items)
