@@ -69,18 +69,13 @@ impl Encoding for PlatformEncoding {
     }
 
     #[inline]
-    fn behind<'a>(path: &'a [u8], base: &[u8]) -> Option<&'a [u8]> {
-        UnixEncoding::behind(path, base)
+    fn strip_by_bytes<'a>(path: &'a [u8], base: &[u8]) -> Option<Option<&'a [u8]>> {
+        UnixEncoding::strip_by_bytes(path, base)
     }
 
     #[inline(always)]
     fn order_behind_prefix(path: &[u8], other: &[u8]) -> Option<Ordering> {
         UnixEncoding::order_behind_prefix(path, other)
-    }
-
-    #[inline(always)]
-    fn is_apart(path: &[u8], other: &[u8]) -> bool {
-        UnixEncoding::is_apart(path, other)
     }
 
     fn valid(name: &[u8]) -> bool {

@@ -1,6 +1,6 @@
 //! What every encoding of paths can do.
 
-ghost use Rattle.std.specs.Prelude.{◌≡◌, ◌≤◌, ◌<◌, Bool, IsTrue, false, ◌+◌, ◌++◌, length, fold, ℕ, List, drop, take, option_map, IsSome, Some, None, IsOk, IfOk, IfSome, OnOk, OnErr};
+ghost use Rattle.std.specs.Prelude.{◌≡◌, ◌≤◌, ◌<◌, Bool, ◌+◌, ◌++◌, length, fold, ℕ, List, drop, take, option_copied, option_map, IsSome, Some, None, IsOk, IfOk, IfSome, OnOk, OnErr};
 ghost use Rattle.std.specs.Vec.{vec_len, vec_capacity};
 ghost use Rattle.typed_path.specs.changes.{refusal, error_of, FitsPush, IsKnown, fault};
 ghost use Rattle.typed_path.specs.promises.{HasPrefixOf, LiesWithin};
@@ -8,7 +8,7 @@ ghost use Rattle.typed_path.specs.components.{Dialect, root_of, label_of, comps,
 ghost use Rattle.typed_path.specs.scan.{but_last, slice_after_front, slice_after_back, first_part, last_part};
 ghost use Rattle.typed_path.specs.views.PieceViews.{part_of};
 ghost use Rattle.typed_path.specs.views.CursorViews.{slice_left, items_left};
-ghost use Rattle.typed_path.specs.queries.{is_absolute, has_root, is_valid_name, is_valid, stripped, path_starts_with};
+ghost use Rattle.typed_path.specs.queries.{is_absolute, has_root, is_valid_name, is_valid, stripped};
 ghost use Rattle.typed_path.specs.places.{normal_text, HasPlainNames};
 ghost use Rattle.typed_path.specs.changes.Push as push_spec;
 ghost use Rattle.typed_path.specs.order.{path_cmp};
@@ -143,6 +143,14 @@ pub trait Encoding: Sized {
     fn behind<'a>(path: &'a [u8], base: &[u8]) -> Option<&'a [u8]>
         ensures { IfSome result (λ rest. stripped dialect path.now base.now ≡ Some rest.now) }
     {
+        Self::strip_by_bytes(path, base)?
+    }
+
+    /// For encodings alone. What is left of a path behind a base, or none where it does not begin with
+    /// the base's components, where the bytes of the two tell, with no reading of either. None says nothing.
+    fn strip_by_bytes<'a>(path: &'a [u8], base: &[u8]) -> Option<Option<&'a [u8]>>
+        ensures { IfSome result (λ told. stripped dialect path.now base.now ≡ option_copied told) }
+    {
         None
     }
 
@@ -152,14 +160,6 @@ pub trait Encoding: Sized {
         ensures { IfSome result (λ order. path_cmp dialect path.now other.now ≡ order) }
     {
         None
-    }
-
-    /// For encodings alone. Whether the bytes of two paths tell that they differ in a name in one place, so
-    /// that the first does not begin with the second. False says nothing.
-    fn is_apart(path: &[u8], other: &[u8]) -> bool
-        ensures { IsTrue result → path_starts_with dialect path.now other.now ≡ false }
-    {
-        false
     }
 
     /// For encodings alone. Cuts a path to its first bytes, and pushes another onto what is left.

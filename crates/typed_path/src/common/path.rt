@@ -251,13 +251,11 @@ impl<'a, T: Encoding> Path<'a, T> {
         ensures { option_map path_bytes result
             ≡ stripped T.dialect (path_bytes self.entry) (path_bytes base.entry) }
     {
-        if let Some(rest) = T::behind(self.as_bytes(), base.as_bytes()) {
-            return Some(Path::new(rest));
+        match T::strip_by_bytes(self.as_bytes(), base.as_bytes()) {
+            Some(Some(rest)) => Some(Path::new(rest)),
+            Some(None) => None,
+            None => self.behind_by_components(base),
         }
-        if T::is_apart(self.as_bytes(), base.as_bytes()) {
-            return None;
-        }
-        self.behind_by_components(base)
     }
 
     /// The same, component by component.

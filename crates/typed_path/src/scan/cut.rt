@@ -1,12 +1,13 @@
 //! Texts cut at a byte, at a separator, behind a beginning, behind a base, and behind what two of them
 //! share; and the order of two texts from where they part.
 
-ghost use Rattle.std.specs.Prelude.{◌≡◌, ◌≢◌, ◌≤◌, ◌<◌, ◌+◌, ◌==◌, List, ℕ, [], ◌∷◌, ◌++◌, take, length, MatchOption, IfSome, true, false, drop, IsTrue};
+ghost use Rattle.std.specs.Prelude.{◌≡◌, ◌≢◌, ◌≤◌, ◌<◌, ◌+◌, ◌==◌, List, ℕ, [], min, ◌∷◌, ◌++◌, take, length, MatchOption, IfSome, true, false, drop, IsTrue};
 ghost use Rattle.std.specs.List.{slice_split, position_or_len, before_first, starts_with};
+ghost use Rattle.std.specs.Slice.Scan.{IsFirstPlace};
 ghost use Rattle.std.specs.Str.{bytes_eq};
 ghost use Rattle.std.specs.Ordering.{is_ne};
 ghost use Rattle.typed_path.specs.components.{is_separator, body, later_body, parts, texts};
-ghost use Rattle.typed_path.specs.scan.{is_clean, begins_with_name, IsParting};
+ghost use Rattle.typed_path.specs.scan.{is_clean, begins_with_name, differs_at, IsParting};
 ghost use Rattle.typed_path.specs.declared.scan.cursor.Begin.{Begin};
 ghost use Rattle.typed_path.specs.order.{left_cmp, bytes_cmp};
 ghost use Rattle.typed_path.specs.views.BodyViews.{body_items};
@@ -88,9 +89,12 @@ pub fn text_behind<'a>(beginning: &[u8], text: &'a [u8]) -> Option<&'a [u8]>
 }
 
 /// How many bytes of a text stand before the component behind a base, where the bytes tell: the
-/// text begins with those of the base, and no component reaches over its end.
+/// text begins with those of the base, and no component reaches over its end. It is told how many bytes
+/// the two begin with.
 #[inline(always)]
-pub fn base_end(text: &[u8], base: &[u8], separators: Separators) -> Option<usize>
+pub fn base_end(text: &[u8], base: &[u8], shared: usize, separators: Separators) -> Option<usize>
+    requires { IsFirstPlace (differs_at text.now base.now) 0
+        (min (length text.now) (length base.now)) shared }
     ensures within { IfSome result (λ n. n ≤ length text.now) }
     ensures some { IfSome result (λ n. 0 < length base.now) }
     ensures items { IfSome result (λ n. (at : ℕ) → body separators at text.now
@@ -98,14 +102,14 @@ pub fn base_end(text: &[u8], base: &[u8], separators: Separators) -> Option<usiz
     ensures clean { IfSome result (λ n.
         is_clean Begin.Inside separators (drop n text.now) ≡ true) }
 {
-    if base.is_empty() || !text.starts_with(base) {
+    if shared == 0 || shared < base.len() {
         return None;
     }
-    let rest = &text[base.len()..];
+    let rest = &text[shared..];
     if !is_border(base, rest, separators) {
         return None;
     }
-    Some(base.len() + skip_blanks(rest, separators))
+    Some(shared + skip_blanks(rest, separators))
 }
 
 /// Whether no component reaches over the border between two texts: one of them has a separator
@@ -211,14 +215,17 @@ pub fn order_behind(
     order_of_ends(&text[shared..], &other[shared..], separators)
 }
 
-/// Whether the bytes of two texts tell that they differ in a name in one place. False says nothing.
+/// Whether the bytes of two texts tell that they differ in a name in one place. False says nothing. It is
+/// told how many bytes the two begin with.
 #[inline(always)]
-pub fn are_apart(text: &[u8], other: &[u8], separators: Separators) -> bool
+pub fn are_apart(text: &[u8], other: &[u8], shared: usize, separators: Separators) -> bool
+    requires { IsFirstPlace (differs_at text.now other.now) 0
+        (min (length text.now) (length other.now)) shared }
     ensures { IsTrue result → starts_with bytes_eq (texts (parts (body separators 0 text.now)))
         (texts (parts (body separators 0 other.now))) ≡ false }
 {
-    let places = parting(text, other, separators);
-    match order_behind(text, other, places, separators) {
+    let start = separators.last_in(&text[..shared]);
+    match order_behind(text, other, (shared, start), separators) {
         Some(order) => order.is_ne(),
         None => false,
     }

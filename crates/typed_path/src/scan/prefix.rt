@@ -1,6 +1,6 @@
 //! The prefixes of Windows paths: which one a text begins with.
 
-ghost use Rattle.std.specs.Prelude.{◌≡◌, ◌≤◌, ◌+◌, true, false, length, is_some, None, option_map, option_copied, IfSome, MatchOption};
+ghost use Rattle.std.specs.Prelude.{◌≡◌, ◌≤◌, ◌+◌, true, false, length, is_some, ℕ, List, ◌∷◌, Some, None, option_map, option_copied, IfSome, MatchOption};
 ghost use Rattle.typed_path.specs.components.{windows, is_separator, is_drive_letter, drive, after_two, after_mark, after_unc, name, second_name, names_length, is_empty, verbatim_unc_case, verbatim_disk_case, verbatim_case, device_case, unc_case, disk_case, prefix_of, IsPartedDrive};
 ghost use Rattle.typed_path.specs.declared.scan.separators.Separators.{Separators};
 ghost use Rattle.typed_path.specs.views.PieceViews.{found_of};
@@ -77,6 +77,19 @@ fn after_two(text: &[u8]) -> Option<&[u8]>
         [a, b, rest @ ..] if separates(*a) && separates(*b) => Some(rest),
         _ => None,
     }
+}
+
+/// The first byte of a name that stands behind two separators. None says nothing.
+#[inline(always)]
+pub fn byte_behind_two(text: &[u8]) -> Option<u8>
+    ensures { IfSome result (λ b. (is_separator Separators.Either b ≡ false)
+        × ((rest : List ℕ) × (after_two text.now ≡ Some (b ∷ rest)))) }
+{
+    let (first, _) = after_two(text)?.split_first()?;
+    if separates(*first) {
+        return None;
+    }
+    Some(*first)
 }
 
 /// What stands behind two separators, the byte `sign` and a separator.

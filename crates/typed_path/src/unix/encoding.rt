@@ -13,7 +13,7 @@ use crate::common::{
 use crate::errors::CheckedPathError;
 use crate::scan::{
     Cursor, Piece, Separators, StepKind, are_apart, base_end, cut_at_separator, first_between,
-    has_only_names, has_valid_names, step_of,
+    first_difference, has_only_names, has_valid_names, step_of,
 };
 use std::alloc::AllocError;
 use std::cmp::Ordering;
@@ -71,19 +71,20 @@ impl Encoding for UnixEncoding {
     }
 
     #[inline]
-    fn behind<'a>(path: &'a [u8], base: &[u8]) -> Option<&'a [u8]> {
-        let end = base_end(path, base, Separators::Slash)?;
-        Some(&path[end..])
+    fn strip_by_bytes<'a>(path: &'a [u8], base: &[u8]) -> Option<Option<&'a [u8]>> {
+        let shared = first_difference(path, base);
+        if let Some(end) = base_end(path, base, shared, Separators::Slash) {
+            return Some(Some(&path[end..]));
+        }
+        if are_apart(path, base, shared, Separators::Slash) {
+            return Some(None);
+        }
+        None
     }
 
     #[inline(always)]
     fn order_behind_prefix(path: &[u8], other: &[u8]) -> Option<Ordering> {
         Some(compare_texts(path, other, Separators::Slash))
-    }
-
-    #[inline(always)]
-    fn is_apart(path: &[u8], other: &[u8]) -> bool {
-        are_apart(path, other, Separators::Slash)
     }
 
     fn valid(name: &[u8]) -> bool {

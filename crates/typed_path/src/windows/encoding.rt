@@ -1,7 +1,7 @@
 //! The encoding of Windows paths.
 
-ghost use Rattle.std.specs.Prelude.{◌≡◌, ◌≤◌, true, false, length, codes, Some, IfSome, IsTrue};
-ghost use Rattle.typed_path.specs.components.{windows, kinds, parts, separators, prefix_of};
+ghost use Rattle.std.specs.Prelude.{◌≡◌, ◌≤◌, ◌&&◌, true, false, length, codes, Some, IfSome, IsTrue};
+ghost use Rattle.typed_path.specs.components.{windows, kinds, parts, separators, is_separator, prefix_of};
 ghost use Rattle.typed_path.specs.views.PieceViews.{found_of, prefix_view};
 ghost use Rattle.typed_path.specs.promises.{is_verbatim_unc_name};
 ghost use Rattle.typed_path.specs.queries.{is_absolute, has_root, is_disk, path_starts_with};
@@ -13,8 +13,8 @@ ghost use Rattle.typed_path.specs.changes.{begins_with_separator, has_only_valid
 use crate::common::{Encoding, compare_texts};
 use crate::errors::CheckedPathError;
 use crate::scan::{
-    Cursor, Found, Piece, Separators, WindowsPrefix, are_apart, base_end, find_prefix,
-    has_parent_or_device, has_valid_names, parted_drive,
+    Cursor, Found, Piece, Separators, WindowsPrefix, are_apart, base_end, byte_behind_two,
+    find_prefix, first_difference, has_parent_or_device, has_valid_names, parted_drive,
 };
 use crate::windows::normal::put_normal;
 use crate::windows::push::{prefix_len, push_at, push_next};
@@ -73,19 +73,26 @@ impl Encoding for WindowsEncoding {
         rooted(cursor)
     }
 
-    // Most paths hold another byte where a base ends that they are asked for, so no prefix is read.
+    // Where the first bytes tell that the two begin otherwise, no prefix is read.
     #[inline]
-    fn behind<'a>(path: &'a [u8], base: &[u8]) -> Option<&'a [u8]> {
-        if !holds_last_byte(path, base) {
-            return None;
+    fn strip_by_bytes<'a>(path: &'a [u8], base: &[u8]) -> Option<Option<&'a [u8]>> {
+        if begin_apart(path, base) {
+            return Some(None);
         }
         let (end, separators) = shared_prefix(path, base)?;
         if path[..end] != base[..end] {
             return None;
         }
         let body = &path[end..];
-        let behind = base_end(body, &base[end..], separators)?;
-        Some(&body[behind..])
+        let wanted = &base[end..];
+        let shared = first_difference(body, wanted);
+        if let Some(behind) = base_end(body, wanted, shared, separators) {
+            return Some(Some(&body[behind..]));
+        }
+        if are_apart(body, wanted, shared, separators) {
+            return Some(None);
+        }
+        None
     }
 
     #[inline(always)]
@@ -93,20 +100,6 @@ impl Encoding for WindowsEncoding {
         match shared_drive(path, other) {
             Some(end) => Some(compare_texts(&path[end..], &other[end..], Separators::Either)),
             None => order_behind_marked(path, other),
-        }
-    }
-
-    // One drive in two cases is two texts, which the components tell at once.
-    #[inline(always)]
-    fn is_apart(path: &[u8], other: &[u8]) -> bool {
-        match shared_drive(path, other) {
-            Some(end) => {
-                if 0 < end && path[0] != other[0] {
-                    return false;
-                }
-                are_apart(&path[end..], &other[end..], Separators::Either)
-            }
-            None => is_apart_behind_marked(path, other),
         }
     }
 
@@ -155,17 +148,34 @@ impl Encoding for WindowsEncoding {
     }
 }
 
-/// Whether a text holds the last byte of a beginning in its place. Nothing rests on this answer: whether the
-/// text begins so is looked at again.
+/// Whether the first bytes of two paths tell that their first components are written otherwise. False says
+/// nothing.
+///
+/// A component begins with the byte that it stands at, but for a root, which is written `\\` for either
+/// separator. A name behind two separators belongs to a prefix.
 #[inline(always)]
-fn holds_last_byte(text: &[u8], beginning: &[u8]) -> bool {
-    let Some((last, front)) = beginning.split_last() else {
+fn begin_apart(path: &[u8], other: &[u8]) -> bool
+    ensures { IsTrue result → path_starts_with windows path.now other.now ≡ false }
+{
+    let ([own, ..], [wanted, ..]) = (path, other) else {
         return false;
     };
-    match text.get(front.len()) {
-        Some(byte) => *byte == *last,
-        None => false,
+    if own != wanted && !are_separators(*own, *wanted) {
+        return true;
     }
+    match (byte_behind_two(path), byte_behind_two(other)) {
+        (Some(own), Some(other)) => other != own,
+        _ => false,
+    }
+}
+
+/// Whether both bytes separate.
+#[inline(always)]
+fn are_separators(first: u8, second: u8) -> bool
+    ensures { result
+        ≡ (is_separator Separators.Either first && is_separator Separators.Either second) }
+{
+    Separators::Either.contains(first) && Separators::Either.contains(second)
 }
 
 /// How many bytes the prefix takes that two paths have both, as their bytes tell, and the separators of
@@ -225,17 +235,6 @@ fn order_behind_marked(path: &[u8], other: &[u8]) -> Option<Ordering>
 {
     let (end, separators) = shared_marked_prefix(path, other)?;
     Some(compare_texts(&path[end..], &other[end..], separators))
-}
-
-/// Whether the bytes of two paths that begin with such a prefix tell that they differ in a name in one
-/// place. False says nothing.
-fn is_apart_behind_marked(path: &[u8], other: &[u8]) -> bool
-    ensures { IsTrue result → path_starts_with windows path.now other.now ≡ false }
-{
-    match shared_marked_prefix(path, other) {
-        Some((end, separators)) => are_apart(&path[end..], &other[end..], separators),
-        None => false,
-    }
 }
 
 /// Whether a text begins with the prefix of a path and a separator behind it, which is its own prefix

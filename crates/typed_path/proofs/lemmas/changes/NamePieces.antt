@@ -1,14 +1,14 @@
 -- Texts of which looks at their bytes tell that all their pieces are names, and how such a text is merged and written.
-use Rattle.std.proofs.Common.{◌≡◌, ℕ, zero, suc, ◌+◌, ◌-◌, ◌<◌, ◌≤◌, ◌==◌, Bool, true, false, not, ◌&&◌, ◌||◌, if◌then◌else◌, List, [], ◌∷◌, ◌++◌, map, set, get_or, length, take, drop, slice_index, Option, Some, None, refl, sym, ap, subst, ◌∙◌, append_assoc, append-nil, arith, ne_eqb, eq-eqb, eqb-true, true≢false, length-append, length-drop, take_all}
+use Rattle.std.proofs.Common.{◌≡◌, ℕ, suc, ◌+◌, ◌-◌, ◌<◌, ◌≤◌, ◌==◌, Bool, true, false, not, ◌&&◌, ◌||◌, if◌then◌else◌, List, [], ◌∷◌, ◌++◌, map, length, take, drop, slice_index, Option, Some, None, refl, sym, ap, subst, ◌∙◌, append_assoc, append-nil, arith, ne_eqb, eq-eqb, eqb-true, true≢false, length-append, length-drop, take_all}
 use Rattle.std.specs.List.{list_all, slice_split, onto_first, AllByRecursion}
 use Rattle.std.specs.Slice.Scan.{HoldsNowhere}
 use Rattle.std.proofs.lemmas.Bool.{and_parts, or_parts, both_ways}
-use Rattle.std.proofs.lemmas.List.{drop-append-le, take_more, take-append-le, take_at, drop_at, length-map}
+use Rattle.std.proofs.lemmas.List.{drop-append-le, take_more, take_at, drop_at}
 use Rattle.std.proofs.lemmas.List.Concat.{flat_map-append}
 use Rattle.std.proofs.lemmas.List.Splits.{slice_split-cons_yes, slice_split-cons_no}
 use Rattle.typed_path.specs.declared.scan.separators.Separators.{Separators}
 use Rattle.typed_path.specs.declared.scan.separators.Separators.TheVariants.{Backslash, Either}
-use Rattle.typed_path.specs.components.{windows, dot, slash, backslash, is_separator, is_verbatim, is_dot, is_dot_dot, is_empty, Part, parts, kinds, current_part, parent_part, name_part, Found, prefix_of, parts_of, later_body}
+use Rattle.typed_path.specs.components.{windows, dot, backslash, is_separator, is_verbatim, is_dot, is_dot_dot, is_empty, Part, parts, kinds, current_part, parent_part, name_part, Found, prefix_of, parts_of, later_body}
 use Rattle.typed_path.specs.queries.{has_prefix}
 use Rattle.typed_path.specs.scan.{is_one_of, stands_at, turned}
 use Rattle.typed_path.specs.changes.{begins_no_name, begins_no_name_at, is_component, is_name_piece, merged, names_behind, names_of, HoldsNames, IsStanding, Stands, jointed}

@@ -1,10 +1,10 @@
 -- The rows of a text that holds names alone: its bytes, and a separator behind them.
 use Rattle.std.proofs.Common.{◌≡◌, ℕ, ◌==◌, ◌||◌, Bool, true, false, if◌then◌else◌, List, [], ◌∷◌, ◌++◌, length, fold, refl, sym, ap, ◌∙◌, subst, append_assoc, append-nil, eqb-true}
-use Rattle.std.specs.List.{list_all, list_any, slice_split, AllByRecursion}
+use Rattle.std.specs.List.{list_all, list_any, slice_split}
 use Rattle.std.proofs.lemmas.Bool.{and_parts, or_parts, not-true}
 use Rattle.typed_path.specs.declared.scan.separators.Separators.{Separators}
 use Rattle.typed_path.specs.declared.scan.separators.Separators.TheVariants.{Slash, Either}
-use Rattle.typed_path.specs.components.{slash, backslash, colon, is_dot, is_dot_dot, drive}
+use Rattle.typed_path.specs.components.{slash, backslash, colon, is_dot, is_dot_dot}
 use Rattle.typed_path.specs.changes.{is_name_piece}
 use Rattle.typed_path.specs.scan.{is_one_of, turned}
 use Rattle.typed_path.specs.places.{row_end, rows_of, rows, settled, names_left, names_left_of, AreRows, AreRowsOf, HaveNoDisks, ArePlainRows}

@@ -124,6 +124,10 @@ module _ {d : Dialect} {t b : List ℕ} {rest wanted : List Placed} {slice : Lis
             ∙ ap (λ cs. begins cs (drop 1 wanted)) (sym e) ∙ ap (begins rest') (sym f);
       }
 
+-- nothing is left of a path that does not begin with a base
+pub stripped-not : (d : Dialect) (t b : List ℕ) → path_starts_with d t b ≡ false → stripped d t b ≡ None
+stripped-not d t b apart = ap (λ test. cond test (Some (left (comps d t) t (length (comps d b)) 0)) None) apart
+
 -- The end of a path compared with another, component by component.
 
 abbrev pub ends : List Placed → List Placed → Bool

@@ -1,5 +1,4 @@
-use Rattle.std.proofs.Common.{◌≡◌, ◌≤◌, ◌<◌, ◌+◌, ◌-◌, ◌++◌, ℕ, List, [], ◌∷◌, Bool, true, false, if◌then◌else◌, length, take, drop, get_or, arith, sym, ap, ◌∙◌, append_assoc, get_or-drop, length-drop}
-use Rattle.std.specs.List.{slice_set}
+use Rattle.std.proofs.Common.{◌≡◌, ◌<◌, ◌+◌, ◌-◌, ◌++◌, [], ◌∷◌, if◌then◌else◌, length, take, drop, get_or, arith, sym, ap, ◌∙◌, append_assoc, get_or-drop, length-drop}
 use Rattle.std.proofs.lemmas.List.{take_more_set, get_or-set_other, length-set}
 use Rattle.std.proofs.lemmas.List.{map_more}
 use Rattle.typed_path.specs.components.{is_separator}

@@ -1,24 +1,27 @@
-use Rattle.std.proofs.Common.{rules, ◌≡◌, ◌<◌, ◌≤◌, ◌+◌, ◌++◌, ◌-◌, ℕ, Some, true, length, take, drop, refl, ap, sym, subst, ◌∙◌, arith}
+use Rattle.std.proofs.Common.{◌≡◌, ◌<◌, ◌+◌, ◌++◌, ◌-◌, ℕ, Some, true, length, take, drop, refl, ap, sym, subst, ◌∙◌}
 use Rattle.std.proofs.lemmas.Bool.{not-false}
 use Rattle.std.specs.Cmp.Lexicographic.{bytes_decides}
 use Rattle.std.proofs.lemmas.List.{take_rest}
 use Rattle.typed_path.specs.declared.scan.cursor.Begin.TheVariants.{Inside}
 use Rattle.typed_path.specs.changes.{raw_length}
-use Rattle.typed_path.specs.components.{body, later_body, windows, separators, prefix_of}
+use Rattle.typed_path.specs.components.{body, parts, texts, later_body, windows, separators, prefix_of}
 use Rattle.typed_path.specs.scan.{is_clean}
-use Rattle.typed_path.proofs.lemmas.queries.Bases.{stripped-behind_prefix}
-use Rattle.typed_path.proofs.windows.encoding.WindowsEncodingEncoding.behind.Goals as goal
+use Rattle.std.specs.List.{starts_with}
+use Rattle.std.specs.Str.{bytes_eq}
+use Rattle.typed_path.proofs.lemmas.order.SharedNames.{one-apart}
+use Rattle.typed_path.proofs.lemmas.queries.Bases.{stripped-behind_prefix, stripped-not}
+use Rattle.typed_path.proofs.windows.encoding.WindowsEncodingEncoding.strip_by_bytes.Goals as goal
 
-pub returns : goal.returns
-returns c =
+pub returns-in-Some : goal.returns-in-Some
+returns-in-Some c =
     let t = c.args.path.now in
     let b = c.args.base.now in
     let s = separators windows t in
     let n = c.in_ok-end.end in
     let r = c.in_ok-end.separators in
     let one = c.in_ok-end.ensures.one in
-    let end = c.in_ok-behind.behind in
-    let told = c.in_ok-behind.ensures in
+    let end = c.in-Some.behind in
+    let told = c.in-Some.ensures in
     let o = prefix_of windows t in
     let p = prefix_of windows b in
     let same : n ≡ raw_length p = one.3 ∙ ap raw_length (sym one.2) in
@@ -32,3 +35,16 @@ returns c =
     let clean : is_clean Inside s (drop end (drop (raw_length o) t)) ≡ true = sym (λ i. is_clean Inside (read i) (drop end (behind i))) ∙ told.clean in
     stripped-behind_prefix t b end o p refl refl (one.0 ∙ sym one.1) raw some items clean
     ∙ ap (λ rest. Some (drop end rest)) (sym behind) ∙ ap Some (sym (take_rest (take (length t - n) (drop n t)) end))
+
+pub returns-then-begin_apart : goal.returns-then-begin_apart
+returns-then-begin_apart c = stripped-not windows c.args.path.now c.args.base.now (c.begin_apart.ensures c.if-begin_apart.true)
+
+pub returns-then-are_apart : goal.returns-then-are_apart
+returns-then-are_apart c =
+    let t = c.args.path.now in
+    let u = c.args.base.now in
+    let n = c.in_ok-end.end in
+    let s = c.in_ok-end.separators in
+    stripped-not windows t u
+    (one-apart t u n s c.in_ok-end.ensures.one
+    (sym (λ i. starts_with bytes_eq (texts (parts (body s 0 (take_rest t n i)))) (texts (parts (body s 0 (take_rest u n i))))) ∙ c.are_apart.ensures c.if-are_apart.true))
