@@ -1,5 +1,6 @@
 -- What a checked call was refused for.
-use Rattle.std.specs.Prelude.{◌≡◌, ◌==◌, ◌/◌, ◌%◌, ◌^◌, ℕ, List, [], ◌∷◌, Bool, true, false, not, ◌&&◌, ◌||◌, slice_index, Result, Ok, Err, Option, Some, None}
+use Rattle.std.specs.Prelude.{◌≡◌, ◌==◌, ◌/◌, ◌%◌, ◌^◌, ℕ, List, [], ◌∷◌, Bool, true, false, not, ◌&&◌, ◌||◌, ◌+◌, ◌<◌, min, max, drop, slice_index, Result, Ok, Err, Option, Some, None}
+use Rattle.std.specs.Int.{bit_at}
 use Rattle.std.specs.List.{All, before_first, list_any}
 use Rattle.typed_path.specs.declared.scan.separators.Separators.{Separators}
 use Rattle.typed_path.specs.declared.scan.separators.Separators.TheVariants.{Either}
@@ -75,6 +76,15 @@ abbrev pub may_end_stem : List ℕ → Bool
 may_end_stem (a ∷ b ∷ c ∷ d ∷ e ∷ bytes) = b == dot || ends_stem d || ends_stem e
 may_end_stem bytes = true
 
+-- the low five bits of a byte are one of five numbers
+abbrev pub is_low : ℕ × ℕ × ℕ × ℕ × ℕ → ℕ → Bool
+is_low of b = (((b % 32 == of.0 || b % 32 == of.1) || b % 32 == of.2) || b % 32 == of.3) || b % 32 == of.4
+
+-- the bits of a mask: those of separators behind which stand the first letter, then the second, and then a dot or the end of a stem
+abbrev pub AreMayBegins : ℕ → ℕ → ℕ → ℕ → ℕ → ℕ → Type 0
+AreMayBegins separators firsts seconds dots ends mask = (k : ℕ) → bit_at mask k
+    ≡ min (bit_at separators k) (min (bit_at firsts (1 + k)) (min (bit_at seconds (2 + k)) (max (bit_at dots (2 + k)) (max (bit_at ends (4 + k)) (bit_at ends (5 + k))))))
+
 -- the first segment of a text of Windows is one of them
 abbrev pub begins_with_parent_or_device : List ℕ → Bool
 begins_with_parent_or_device text = is_parent_or_device (before_first (is_separator Either) text)
@@ -83,6 +93,15 @@ begins_with_parent_or_device text = is_parent_or_device (before_first (is_separa
 abbrev pub has_parent_or_device_behind : List ℕ → Bool
 has_parent_or_device_behind [] = false
 has_parent_or_device_behind (b ∷ bytes) = (is_separator Either b && begins_with_parent_or_device bytes) || has_parent_or_device_behind bytes
+
+-- none begins behind a place of a text
+abbrev pub BeginsNone : List ℕ → ℕ → Type 0
+BeginsNone text k = (is_separator Either (slice_index text k) && begins_with_parent_or_device (drop (k + 1) text)) ≡ false
+
+-- marks of separators among the bytes of a text from a place on: behind those of so many bytes that have no mark none begins
+pub record TellsBegins (text : List ℕ) (from n mask : ℕ) : Type 0 where
+  pub separates : (k : ℕ) → bit_at mask k ≡ 1 → (k < n) × (is_separator Either (slice_index text (from + k)) ≡ true)
+  pub none : (k : ℕ) → k < n → bit_at mask k ≡ 0 → BeginsNone text (from + k)
 
 -- some segment is
 abbrev pub has_parent_or_device : List ℕ → Bool

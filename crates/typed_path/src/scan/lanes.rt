@@ -7,7 +7,7 @@ ghost use Rattle.std.specs.Prelude.{◌≡◌, ◌≢◌, ◌≤◌, ◌<◌, �
 ghost use Rattle.std.specs.Int.{bit_at};
 ghost use Rattle.std.specs.List.{list_any, list_all, slice_split};
 ghost use Rattle.std.specs.Slice.Scan.{HoldsNowhere, IsFirstPlace};
-ghost use Rattle.typed_path.specs.changes.{is_forbidden, is_forbidden_or, forbidden_at, begins_no_name, begins_no_name_at, is_name_piece};
+ghost use Rattle.typed_path.specs.changes.{is_forbidden, is_forbidden_or, forbidden_at, is_low, begins_no_name, begins_no_name_at, is_name_piece};
 ghost use Rattle.typed_path.specs.scan.{IsMask, TellsWhether, is_one_of, stands_at, differs_at, IsFirstOf, IsBehindLastOf};
 
 use std::simd::prelude::*;
@@ -396,6 +396,21 @@ fn forbidden_at<const N: usize>(text: &[u8], at: usize, pair: (u8, u8)) -> u64
         | block.simd_eq(Simd::splat(b'|'))
         | block.simd_eq(Simd::splat(b'\0'))
         | (block.simd_eq(Simd::splat(pair.0)) | block.simd_eq(Simd::splat(pair.1)))).to_bitmask()
+}
+
+/// Which bytes of a block are, in their low five bits, one of five numbers. Letters of either case are one.
+#[inline(always)]
+pub fn low_bits_at<const N: usize>(text: &[u8], at: usize, of: (u8, u8, u8, u8, u8)) -> u64
+    requires lanes { (0 < N) × (N ≤ 64) }
+    requires in_range { at + N ≤ length text.now }
+    ensures { IsMask (λ k. is_low of (slice_index text.now (at + k))) N result }
+{
+    let low = Simd::<u8, N>::from_slice(&text[at..]) & Simd::splat(31);
+    (low.simd_eq(Simd::splat(of.0))
+        | low.simd_eq(Simd::splat(of.1))
+        | low.simd_eq(Simd::splat(of.2))
+        | low.simd_eq(Simd::splat(of.3))
+        | low.simd_eq(Simd::splat(of.4))).to_bitmask()
 }
 
 /// Whether a block has such a byte.

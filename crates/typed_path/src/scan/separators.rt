@@ -1,18 +1,21 @@
 //! Which bytes separate the components of a text, how such a byte is found, and which names stand
 //! between them.
 
-ghost use Rattle.std.specs.Prelude.{◌≡◌, ◌≤◌, ◌+◌, ◌-◌, ◌==◌, ◌||◌, ℕ, not, length, drop, slice_range, IsTrue};
+ghost use Rattle.std.specs.Prelude.{◌≡◌, ◌≤◌, ◌<◌, ◌+◌, ◌-◌, ◌*◌, ◌^◌, ◌==◌, ◌||◌, ℕ, not, length, true, drop, slice_range, slice_index, IsTrue};
+ghost use Rattle.std.specs.Int.{bit_at};
 ghost use Rattle.std.specs.List.{position_or_len, list_any, before_first, IsAfterLastMatch, slice_split};
 ghost use Rattle.std.specs.Char.{to_ascii_lowercase};
 ghost use Rattle.std.specs.Str.{str_eq_ignore_ascii_case};
 ghost use Rattle.typed_path.specs.scan.{is_one_of, stands_at, IsMask};
 ghost use Rattle.typed_path.specs.components.{windows, slash, backslash, separators, is_separator, is_verbatim, root_text, dialect_of, body, kinds, parts};
 ghost use Rattle.typed_path.specs.queries.{has_allowed_bytes, is_reserved, is_valid_name, is_valid, is_a_dot};
-ghost use Rattle.typed_path.specs.changes.{SeparatesDisallowed, is_stray, is_bare_device, is_numbered_device, may_be_reserved, is_parent_or_device, begins_like_parent_or_device, begins_with_parent_or_device, is_in, ends_stem, may_end_stem, has_parent_or_device, has_parent_or_device_behind};
+ghost use Rattle.typed_path.specs.changes.{AreMayBegins, BeginsNone, TellsBegins, SeparatesDisallowed, is_stray, is_bare_device, is_numbered_device, may_be_reserved, is_parent_or_device, begins_like_parent_or_device, begins_with_parent_or_device, is_in, ends_stem, may_end_stem, has_parent_or_device, has_parent_or_device_behind};
 
 use crate::constants::windows::RESERVED_DEVICE_NAMES;
 use crate::scan::cut::cut_at_separator;
-use crate::scan::lanes::{first_between, has_forbidden, is_one_of, last_between, lowest, marks_at};
+use crate::scan::lanes::{
+    first_between, has_forbidden, is_one_of, last_between, low_bits_at, lowest, marks_at,
+};
 use memchr::memchr;
 
 /// The separators of one text, and with them the way in which it is read.
@@ -306,7 +309,8 @@ pub fn has_valid_names(text: &[u8], separators: Separators) -> bool
 
 /// Whether a segment of a text of Windows that is not read verbatim is `..` or stands for a device.
 ///
-/// The separators of a block are found at once, and only the first bytes of a segment are looked at.
+/// The separators of a block are found at once, and with them behind which of these one may stand, as few
+/// others begin and end so: of these alone the segments are looked at.
 pub fn has_parent_or_device(text: &[u8]) -> bool
     ensures { result ≡ has_parent_or_device text.now }
 {
@@ -318,16 +322,55 @@ pub fn has_parent_or_device(text: &[u8]) -> bool
         return has_parent_or_device_behind(text);
     }
     let mut at = 0;
-    'wholes: while 32 <= len - at {
-        let marks = marks_at::<32>(text, at, (b'/', b'\\'));
-        if has_parent_or_device_at(text, at, at + 32, marks) {
+    'wholes: while 32 < len - at {
+        let marks = may_begins_at(text, at, 0) & LOOKED;
+        if has_parent_or_device_at(text, at, at + 27, marks) {
             return true;
         }
-        at += 32;
+        at += 27;
     }
     let outside = 32 - (len - at);
-    let marks = marks_at::<32>(text, len - 32, (b'/', b'\\'));
+    let marks = may_begins_at(text, len - 32, ENDED);
     has_parent_or_device_at(text, at, len, marks >> outside)
+}
+
+/// The bits of the places of a block behind which five more bytes of it stand.
+const LOOKED: u64 = (1 << 27) - 1;
+
+/// The bits of the places behind the last block of a text, where each stem ends.
+const ENDED: u64 = 31 << 32;
+
+/// Which bytes of a block of 32 separate, with the first bytes of `..` or of a device behind them, as far
+/// as the block tells, or the marks of ends behind it.
+#[inline(always)]
+fn may_begins_at(text: &[u8], at: usize, behind: u64) -> u64
+    requires in_range { at + 32 ≤ length text.now }
+    ensures separates { (k : ℕ) → bit_at result k ≡ 1
+        → (k < 32) × (is_separator Separators.Either (slice_index text.now (at + k)) ≡ true) }
+    ensures passed { (k : ℕ) → k < 27 → bit_at result k ≡ 0 → BeginsNone text.now (at + k) }
+    ensures last { at + 32 ≡ length text.now → behind ≡ 31 * 2 ^ 32
+        → (k : ℕ) → k < 32 → bit_at result k ≡ 0 → BeginsNone text.now (at + k) }
+{
+    let separators = marks_at::<32>(text, at, (b'/', b'\\'));
+    let dots = marks_at::<32>(text, at, (b'.', b'.'));
+    let firsts = low_bits_at::<32>(text, at, (1, 3, 12, 14, 16));
+    let seconds = low_bits_at::<32>(text, at, (14, 15, 16, 18, 21));
+    may_begins(
+        separators,
+        firsts,
+        seconds,
+        dots,
+        separators | dots | behind,
+    )
+}
+
+/// Marks of separators behind which such bytes stand, by those of all separators, of first and second
+/// letters, of dots and of what ends a stem.
+#[inline(always)]
+fn may_begins(separators: u64, firsts: u64, seconds: u64, dots: u64, ends: u64) -> u64
+    ensures { AreMayBegins separators firsts seconds dots ends result }
+{
+    separators & ((firsts >> 1) & ((seconds >> 2) & ((dots >> 2) | ((ends >> 4) | (ends >> 5)))))
 }
 
 /// Whether a segment behind a separator of such a text is `..` or stands for a device.
@@ -349,15 +392,14 @@ fn has_parent_or_device_behind(text: &[u8]) -> bool
     false
 }
 
-/// Whether a segment behind a separator of a range is `..` or stands for a device. The marks tell which
-/// bytes of the range separate.
+/// Whether a segment behind a separator of a range is `..` or stands for a device. The marks tell behind
+/// which bytes of the range one may stand.
 #[inline(always)]
 fn has_parent_or_device_at(text: &[u8], from: usize, to: usize, marks: u64) -> bool
     requires ordered { from ≤ to }
     requires short { to ≤ from + 32 }
     requires in_range { to ≤ length text.now }
-    requires marked { IsMask (λ k. stands_at (slash, backslash) text.now (from + k)) (to - from)
-        marks }
+    requires marked { TellsBegins text.now from (to - from) marks }
     ensures { has_parent_or_device_behind (drop from text.now)
         ≡ (result || has_parent_or_device_behind (drop to text.now)) }
 {

@@ -1,7 +1,7 @@
 use Rattle.std.proofs.Common.{◌≡◌, ◌+◌, ◌||◌, Bool, ℕ, List, length, drop, take, ◌-◌, sym, ap, ◌∙◌, arith}
 use Rattle.std.proofs.lemmas.List.{take_rest}
 use Rattle.typed_path.specs.changes.{begins_with_parent_or_device, has_parent_or_device_behind}
-use Rattle.typed_path.proofs.lemmas.changes.ValidPaths.{lowest-within, lowest-separator, marks-behind, unmarked}
+use Rattle.typed_path.proofs.lemmas.changes.MayBegins.{lowest-within, lowest-separator, marks-behind, unmarked}
 use Rattle.typed_path.proofs.scan.separators.has_parent_or_device_at.Goals as goal
 
 -- the segment that begins at a place
