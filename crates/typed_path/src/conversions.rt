@@ -237,6 +237,9 @@ fn separator_of<U: Encoding>() -> u8
 fn turned<T: Encoding, U: Encoding>(path: &[u8]) -> Option<&[u8]>
     ensures { IfSome result (λ text. CrossesTurned T.dialect U.dialect path.now text.now) }
 {
+    if path.len() < LEAST {
+        return None;
+    }
     if have_one_label::<T, UnixEncoding>() && have_one_label::<U, WindowsEncoding>() {
         return turned_for_windows(path);
     }
@@ -253,7 +256,7 @@ fn turned_for_windows(path: &[u8]) -> Option<&[u8]>
         → list_any (is_reserved windows) (slice_split (is_separator Separators.Either) text.now) ≡ false → IsUnrefused unix windows path.now) }
 {
     let text = before_last_separator(path, Separators::Slash);
-    if has_no_blank_behind(text, Separators::Either) && is_free_of((b':', b'\\'), text) {
+    if is_free_of((b':', b'\\'), text) && has_no_blank_behind(text, Separators::Either) {
         return Some(text);
     }
     None
@@ -376,7 +379,7 @@ fn turned_checked<T: Encoding, U: Encoding>(path: &[u8]) -> Option<&[u8]>
     ensures { IfSome result (λ text. converted_checked T.dialect U.dialect path.now
         ≡ Ok (turned Separators.Either (separator_of U.dialect) text.now)) }
 {
-    if LOOK < path.len() {
+    if path.len() < LEAST || LOOK < path.len() {
         return None;
     }
     if have_one_label::<T, UnixEncoding>() && have_one_label::<U, WindowsEncoding>() {
@@ -419,6 +422,10 @@ fn push_each_checked<T: Encoding, U: Encoding>(
     }
     Ok(())
 }
+
+/// How many bytes a path has at least that is looked at before its components are pushed: of a shorter one
+/// a look by blocks tells nothing.
+const LEAST: usize = 8;
 
 /// How many bytes a path has at most of which all are looked at before its first component is judged: so
 /// a long path that is refused at its front is refused there.

@@ -89,12 +89,11 @@ pub fn text_behind<'a>(beginning: &[u8], text: &'a [u8]) -> Option<&'a [u8]>
 }
 
 /// How many bytes of a text stand before the component behind a base, where the bytes tell: the
-/// text begins with those of the base, and no component reaches over its end. It is told how many bytes
-/// the two begin with.
+/// text begins with those of the base, and no component reaches over its end.
+///
+/// The bytes beside that end are looked at first: of most texts they tell that it is not so.
 #[inline(always)]
-pub fn base_end(text: &[u8], base: &[u8], shared: usize, separators: Separators) -> Option<usize>
-    requires { IsFirstPlace (differs_at text.now base.now) 0
-        (min (length text.now) (length base.now)) shared }
+pub fn base_end(text: &[u8], base: &[u8], separators: Separators) -> Option<usize>
     ensures within { IfSome result (λ n. n ≤ length text.now) }
     ensures some { IfSome result (λ n. 0 < length base.now) }
     ensures items { IfSome result (λ n. (at : ℕ) → body separators at text.now
@@ -102,14 +101,24 @@ pub fn base_end(text: &[u8], base: &[u8], shared: usize, separators: Separators)
     ensures clean { IfSome result (λ n.
         is_clean Begin.Inside separators (drop n text.now) ≡ true) }
 {
-    if shared == 0 || shared < base.len() {
+    if !holds_last_byte(text, base) {
         return None;
     }
-    let rest = &text[shared..];
-    if !is_border(base, rest, separators) {
+    let rest = &text[base.len()..];
+    if !is_border(base, rest, separators) || !text.starts_with(base) {
         return None;
     }
-    Some(shared + skip_blanks(rest, separators))
+    Some(base.len() + skip_blanks(rest, separators))
+}
+
+/// Whether a beginning is not empty, and a text is as long and holds its last byte in its place.
+#[inline(always)]
+fn holds_last_byte(text: &[u8], beginning: &[u8]) -> bool
+    ensures some { IsTrue result → 0 < length beginning.now }
+    ensures long { IsTrue result → length beginning.now ≤ length text.now }
+{
+    let len = beginning.len();
+    0 < len && len <= text.len() && text[len - 1] == beginning[len - 1]
 }
 
 /// Whether no component reaches over the border between two texts: one of them has a separator

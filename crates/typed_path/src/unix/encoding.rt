@@ -72,10 +72,10 @@ impl Encoding for UnixEncoding {
 
     #[inline]
     fn strip_by_bytes<'a>(path: &'a [u8], base: &[u8]) -> Option<Option<&'a [u8]>> {
-        let shared = first_difference(path, base);
-        if let Some(end) = base_end(path, base, shared, Separators::Slash) {
+        if let Some(end) = base_end(path, base, Separators::Slash) {
             return Some(Some(&path[end..]));
         }
+        let shared = first_difference(path, base);
         if are_apart(path, base, shared, Separators::Slash) {
             return Some(None);
         }

@@ -85,10 +85,10 @@ impl Encoding for WindowsEncoding {
         }
         let body = &path[end..];
         let wanted = &base[end..];
-        let shared = first_difference(body, wanted);
-        if let Some(behind) = base_end(body, wanted, shared, separators) {
+        if let Some(behind) = base_end(body, wanted, separators) {
             return Some(Some(&body[behind..]));
         }
+        let shared = first_difference(body, wanted);
         if are_apart(body, wanted, shared, separators) {
             return Some(None);
         }

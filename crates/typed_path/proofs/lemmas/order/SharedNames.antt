@@ -113,13 +113,6 @@ same-byte a b h = by (a == b) refl h
     by true e h = eqb-true a b e
     by false e h = cc
 
--- a text begins with another that is alike up to its end
-pub alike-begins : (t u : List ℕ) (k : ℕ) → IsFirstPlace (differs_at t u) 0 (min (length t) (length u)) k → length u ≤ k → t ≡ u ++ drop k t
-alike-begins t u k parting whole =
-    sym (take-append-drop k t)
-    ∙ ap (λ x. x ++ drop k t)
-    (alike-front k t u (omega (arith, parting.high)) (omega (arith, parting.high)) (λ i l. same-byte (get_or t i 0) (get_or u i 0) (parting.before i (omega arith) l)) ∙ take_all k u whole)
-
 -- a whole body has the components of its slice, wherever that stands
 pub whole-body : (b : Reading) (s : Separators) (text : List ℕ) → s ≡ b.separators → text ≡ body_slice b → b.begin ≡ Begin.Body → kinds (parts (body s 0 text)) ≡ kinds (parts (body_items b))
 whole-body b s text same slice begins =

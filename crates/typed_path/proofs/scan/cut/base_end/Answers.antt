@@ -1,7 +1,8 @@
-use Rattle.std.proofs.Common.{add_assoc, ◌≡◌, ◌<◌, ◌-◌, take, arith, ◌+◌, ◌++◌, length, drop, ap, sym, ◌∙◌, drop-drop}
+use Rattle.std.proofs.Common.{add_assoc, ◌≡◌, ◌<◌, rules, true, refl, ◌+◌, ◌++◌, length, drop, ap, sym, ◌∙◌, drop-drop}
+use Rattle.std.proofs.lemmas.Bool.Decides.{Decides-eqb}
 use Rattle.std.proofs.lemmas.List.{take_rest}
+use Rattle.std.proofs.lemmas.Slice.Eq.{starts_is}
 use Rattle.typed_path.specs.components.{body, later_body}
-use Rattle.typed_path.proofs.lemmas.order.SharedNames.{alike-begins}
 use Rattle.typed_path.proofs.scan.cut.base_end.Goals as goal
 
 pub returns-clause-items : goal.returns-clause-items
@@ -9,14 +10,12 @@ returns-clause-items c at =
     let s = c.args.separators in
     let text = c.args.text.now in
     let base = c.args.base.now in
-    let m = c.args.shared in
+    let m = length base in
     let k = c.skip_blanks.result in
-    let whole : length base ≡ m = omega (arith, c.requires.high, c.if-shared-base.false) in
-    let some : 0 < length base = omega (arith, whole, c.if-shared-eq0.false) in
-    let begins : text ≡ base ++ drop m text = alike-begins text base m c.requires (omega (arith, whole)) in
+    let some : 0 < m = search rules in
+    let begins : text ≡ base ++ drop m text = (starts_is Decides-eqb text base true (sym c.if-not-starts_with.false ∙ c.starts_with.ensures.value)).0 refl in
     ap (body s at) (begins ∙ ap (λ r. base ++ r) (sym (take_rest text m)))
     ∙ c.is_border.ensures c.if-not-is_border.false some at
-    ∙ ap (λ n. body s at base ++ later_body s (at + n) (take (length text - m) (drop m text))) whole
     ∙ ap (λ cs. body s at base ++ cs) (c.skip_blanks.ensures.same (at + m))
     ∙ ap (λ r. body s at base ++ later_body s (at + m + k) (drop k r)) (take_rest text m)
     ∙ ap (λ r. body s at base ++ later_body s (at + m + k) r) (drop-drop k m text)
