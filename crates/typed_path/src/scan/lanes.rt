@@ -415,7 +415,7 @@ pub fn low_bits_at<const N: usize>(text: &[u8], at: usize, of: (u8, u8, u8, u8, 
 
 /// Whether a block has such a byte.
 #[inline(always)]
-fn is_forbidden_in_block<const N: usize>(text: &[u8], at: usize, pair: (u8, u8)) -> bool
+pub fn is_forbidden_in_block<const N: usize>(text: &[u8], at: usize, pair: (u8, u8)) -> bool
     requires lanes { (0 < N) × (N ≤ 64) }
     requires in_range { at + N ≤ length text.now }
     ensures { TellsWhether (forbidden_at pair text.now) at (at + N) result }

@@ -1,12 +1,12 @@
 //! Which bytes separate the components of a text, how such a byte is found, and which names stand
 //! between them.
 
-ghost use Rattle.std.specs.Prelude.{◌≡◌, ◌≤◌, ◌<◌, ◌+◌, ◌-◌, ◌*◌, ◌^◌, ◌==◌, ◌||◌, ℕ, not, length, true, drop, slice_range, slice_index, IsTrue};
+ghost use Rattle.std.specs.Prelude.{◌≡◌, ◌≤◌, ◌<◌, ◌+◌, ◌-◌, ◌*◌, ◌^◌, ◌==◌, ◌||◌, ◌&&◌, ℕ, not, length, true, drop, slice_range, slice_index, IsTrue};
 ghost use Rattle.std.specs.Int.{bit_at};
 ghost use Rattle.std.specs.List.{position_or_len, list_any, before_first, IsAfterLastMatch, slice_split};
 ghost use Rattle.std.specs.Char.{to_ascii_lowercase};
 ghost use Rattle.std.specs.Str.{str_eq_ignore_ascii_case};
-ghost use Rattle.typed_path.specs.scan.{is_one_of, stands_at, IsMask};
+ghost use Rattle.typed_path.specs.scan.{TellsWhether, is_one_of};
 ghost use Rattle.typed_path.specs.components.{windows, slash, backslash, separators, is_separator, is_verbatim, root_text, dialect_of, body, kinds, parts};
 ghost use Rattle.typed_path.specs.queries.{has_allowed_bytes, is_reserved, is_valid_name, is_valid, is_a_dot};
 ghost use Rattle.typed_path.specs.changes.{AreMayBegins, BeginsNone, TellsBegins, SeparatesDisallowed, is_stray, is_bare_device, is_numbered_device, may_be_reserved, is_parent_or_device, begins_like_parent_or_device, begins_with_parent_or_device, is_in, ends_stem, may_end_stem, has_parent_or_device, has_parent_or_device_behind};
@@ -14,7 +14,8 @@ ghost use Rattle.typed_path.specs.changes.{AreMayBegins, BeginsNone, TellsBegins
 use crate::constants::windows::RESERVED_DEVICE_NAMES;
 use crate::scan::cut::cut_at_separator;
 use crate::scan::lanes::{
-    first_between, has_forbidden, is_one_of, last_between, low_bits_at, lowest, marks_at,
+    first_between, has_forbidden, is_forbidden_in_block, is_one_of, last_between, low_bits_at,
+    lowest, marks_at,
 };
 use memchr::memchr;
 
@@ -308,30 +309,67 @@ pub fn has_valid_names(text: &[u8], separators: Separators) -> bool
 }
 
 /// Whether a segment of a text of Windows that is not read verbatim is `..` or stands for a device.
-///
-/// The separators of a block are found at once, and with them behind which of these one may stand, as few
-/// others begin and end so: of these alone the segments are looked at.
 pub fn has_parent_or_device(text: &[u8]) -> bool
     ensures { result ≡ has_parent_or_device text.now }
+{
+    has_parent_device_or(false, text)
+}
+
+/// Whether a byte of such a text strays, or a segment is `..` or stands for a device.
+pub fn has_stray_parent_or_device(text: &[u8]) -> bool
+    ensures { result
+        ≡ (list_any (is_stray Separators.Either) text.now || has_parent_or_device text.now) }
+{
+    has_parent_device_or(true, text)
+}
+
+/// Whether a segment of such a text is `..` or stands for a device, or, where that is asked for, whether a
+/// byte strays.
+///
+/// The separators of a block are found at once, and with them behind which of these such a segment may
+/// stand, as few others begin and end so: of these alone the segments are looked at.
+#[inline(always)]
+fn has_parent_device_or(strays: bool, text: &[u8]) -> bool
+    ensures { result ≡ ((strays && list_any (is_stray Separators.Either) text.now)
+        || has_parent_or_device text.now) }
 {
     if begins_with_parent_or_device(text) {
         return true;
     }
     let len = text.len();
     if len < 32 {
+        if strays && Separators::Either.has_stray(text) {
+            return true;
+        }
         return has_parent_or_device_behind(text);
     }
     let mut at = 0;
     'wholes: while 32 < len - at {
+        if strays && has_stray_at(text, at) {
+            return true;
+        }
         let marks = may_begins_at(text, at, 0) & LOOKED;
         if has_parent_or_device_at(text, at, at + 27, marks) {
             return true;
         }
         at += 27;
     }
+    if strays && has_stray_at(text, len - 32) {
+        return true;
+    }
     let outside = 32 - (len - at);
     let marks = may_begins_at(text, len - 32, ENDED);
     has_parent_or_device_at(text, at, len, marks >> outside)
+}
+
+/// Whether a byte of a block of 32 strays in such a text.
+#[inline(always)]
+fn has_stray_at(text: &[u8], at: usize) -> bool
+    requires in_range { at + 32 ≤ length text.now }
+    ensures { TellsWhether (λ k. is_stray Separators.Either (slice_index text.now k)) at (at + 32)
+        result }
+{
+    is_forbidden_in_block::<32>(text, at, (b':', b':'))
 }
 
 /// The bits of the places of a block behind which five more bytes of it stand.

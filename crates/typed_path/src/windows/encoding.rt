@@ -14,7 +14,7 @@ use crate::common::{Encoding, compare_texts};
 use crate::errors::CheckedPathError;
 use crate::scan::{
     Cursor, Found, Piece, Separators, WindowsPrefix, are_apart, base_end, byte_behind_two,
-    find_prefix, first_difference, has_parent_or_device, has_valid_names, parted_drive,
+    find_prefix, first_difference, has_stray_parent_or_device, has_valid_names, parted_drive,
 };
 use crate::windows::normal::put_normal;
 use crate::windows::push::{prefix_len, push_at, push_next};
@@ -272,9 +272,7 @@ fn stays_before_parted(prefix: WindowsPrefix<'_>) -> bool
 fn has_only_valid_names(path: &[u8]) -> bool
     ensures { result ≡ has_only_valid_names path.now }
 {
-    !begins_with_separator(path)
-        && !Separators::Either.has_stray(path)
-        && !has_parent_or_device(path)
+    !begins_with_separator(path) && !has_stray_parent_or_device(path)
 }
 
 /// Whether a text begins with a separator.
