@@ -14,7 +14,9 @@ pub use cut::{
     are_apart, base_end, bodies_behind, bodies_behind_shared, cut_at, cut_at_separator,
     order_behind, parting, text_behind,
 };
-pub use lanes::{first_between, first_difference, has_forbidden, has_only_names};
+pub use lanes::{
+    first_between, first_difference, has_forbidden, has_no_nul_or_dot_pair, has_only_names,
+};
 pub use prefix::{
     Found, WindowsPrefix, after_mark, byte_behind_two, drive, find_prefix, parted_drive,
 };

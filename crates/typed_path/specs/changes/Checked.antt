@@ -43,11 +43,19 @@ forbidden_at pair text k = is_forbidden_or pair (slice_index text k)
 abbrev pub SeparatesDisallowed : Separators → List ℕ → Type 0
 SeparatesDisallowed s text = All (λ b. is_disallowed (dialect_of s) b ≡ true → is_separator s b ≡ true) text
 
+-- the first of two bytes is NUL, or both are dots
+abbrev pub is_nul_or_dot_pair : ℕ → ℕ → Bool
+is_nul_or_dot_pair a b = a == 0 || a == dot && b == dot
+
+-- NUL stands at a place of a text, or a dot with another behind it
+abbrev pub nul_or_dot_pair_at : List ℕ → ℕ → Bool
+nul_or_dot_pair_at text k = is_nul_or_dot_pair (slice_index text k) (slice_index text (k + 1))
+
 -- a text begins with NUL, or with two dots
 abbrev pub begins_with_nul_or_dot_pair : List ℕ → Bool
 begins_with_nul_or_dot_pair [] = false
 begins_with_nul_or_dot_pair (a ∷ []) = a == 0
-begins_with_nul_or_dot_pair (a ∷ b ∷ bytes) = a == 0 || a == dot && b == dot
+begins_with_nul_or_dot_pair (a ∷ b ∷ bytes) = is_nul_or_dot_pair a b
 
 -- neither NUL nor two dots side by side stand in a text
 abbrev pub has_no_nul_or_dot_pair : List ℕ → Bool

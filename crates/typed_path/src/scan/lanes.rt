@@ -1,13 +1,14 @@
 //! Bytes found by blocks of 32, of 16, of 8 and of 4. What is looked for is a pair, which is one
 //! byte twice where no other is: so one and two are looked for in the same way. Of the bytes that no
-//! name of Windows may have, it is only told whether a text has one, and of what stands between the
-//! bytes of a pair, whether all are names. Of two texts the first place is found at which they differ.
+//! name of Windows may have, it is only told whether a text has one, of NUL and two dots side by side
+//! likewise, and of what stands between the bytes of a pair, whether all are names. Of two texts the
+//! first place is found at which they differ.
 
 ghost use Rattle.std.specs.Prelude.{◌≡◌, ◌≢◌, ◌≤◌, ◌<◌, ◌+◌, ◌-◌, ◌^◌, ◌==◌, ℕ, Bool, true, IsTrue, length, min, slice_index};
 ghost use Rattle.std.specs.Int.{bit_at};
 ghost use Rattle.std.specs.List.{list_any, list_all, slice_split};
 ghost use Rattle.std.specs.Slice.Scan.{HoldsNowhere, IsFirstPlace};
-ghost use Rattle.typed_path.specs.changes.{is_forbidden, is_forbidden_or, forbidden_at, is_low, begins_no_name, begins_no_name_at, is_name_piece};
+ghost use Rattle.typed_path.specs.changes.{is_forbidden, is_forbidden_or, forbidden_at, is_low, begins_no_name, begins_no_name_at, is_name_piece, is_nul_or_dot_pair, nul_or_dot_pair_at, has_no_nul_or_dot_pair};
 ghost use Rattle.typed_path.specs.scan.{IsMask, TellsWhether, is_one_of, stands_at, differs_at, IsFirstOf, IsBehindLastOf};
 
 use std::simd::prelude::*;
@@ -488,6 +489,99 @@ pub fn has_forbidden(text: &[u8], pair: (u8, u8)) -> bool
         return has_forbidden_in_two::<4>(text, pair);
     }
     has_forbidden_by_one(text, pair)
+}
+
+/// Which bytes of a block are NUL, or a dot with another behind it. The byte behind the block is looked
+/// at too.
+#[inline(always)]
+fn nul_or_dot_pair_at<const N: usize>(text: &[u8], at: usize) -> u64
+    requires lanes { (0 < N) × (N ≤ 64) }
+    requires in_range { at + N + 1 ≤ length text.now }
+    ensures { IsMask (λ k. nul_or_dot_pair_at text.now (at + k)) N result }
+{
+    marks_of::<N>(text, at, b'\0')
+        | (marks_of::<N>(text, at, b'.') & marks_of::<N>(text, at + 1, b'.'))
+}
+
+/// Whether a block has such a byte.
+#[inline(always)]
+fn has_nul_or_dot_pair_in_block<const N: usize>(text: &[u8], at: usize) -> bool
+    requires lanes { (0 < N) × (N ≤ 64) }
+    requires in_range { at + N + 1 ≤ length text.now }
+    ensures { TellsWhether (nul_or_dot_pair_at text.now) at (at + N) result }
+{
+    nul_or_dot_pair_at::<N>(text, at) != 0
+}
+
+/// Whether such a byte stands in the first bytes of a text, of which there are N to 2 N.
+#[inline(always)]
+fn has_nul_or_dot_pair_in_two<const N: usize>(text: &[u8], to: usize) -> bool
+    requires lanes { (0 < N) × (N ≤ 64) }
+    requires size { (N ≤ to) × (to ≤ N + N) }
+    requires in_range { to < length text.now }
+    ensures { TellsWhether (nul_or_dot_pair_at text.now) 0 to result }
+{
+    has_nul_or_dot_pair_in_block::<N>(text, 0) | has_nul_or_dot_pair_in_block::<N>(text, to - N)
+}
+
+/// The same, byte by byte.
+#[inline(always)]
+fn has_nul_or_dot_pair_by_one(text: &[u8], to: usize) -> bool
+    requires { to < length text.now }
+    ensures { TellsWhether (nul_or_dot_pair_at text.now) 0 to result }
+{
+    let mut at = 0;
+    while at < to && !is_nul_or_dot_pair(text[at], text[at + 1]) {
+        at += 1;
+    }
+    at < to
+}
+
+/// Whether two bytes are NUL and any other, or two dots.
+#[inline(always)]
+fn is_nul_or_dot_pair(first: u8, second: u8) -> bool
+    ensures { result ≡ is_nul_or_dot_pair first second }
+{
+    first == b'\0' || (first == b'.' && second == b'.')
+}
+
+/// Whether such a byte stands before a place of a text.
+#[inline(always)]
+fn has_nul_or_dot_pair_before(text: &[u8], to: usize) -> bool
+    requires { to < length text.now }
+    ensures { TellsWhether (nul_or_dot_pair_at text.now) 0 to result }
+{
+    let mut at = 0;
+    while 32 <= to - at {
+        if has_nul_or_dot_pair_in_block::<32>(text, at) {
+            return true;
+        }
+        at += 32;
+    }
+    if 32 <= to {
+        return has_nul_or_dot_pair_in_block::<32>(text, to - 32);
+    }
+    if 16 <= to {
+        return has_nul_or_dot_pair_in_two::<16>(text, to);
+    }
+    if 8 <= to {
+        return has_nul_or_dot_pair_in_two::<8>(text, to);
+    }
+    if 4 <= to {
+        return has_nul_or_dot_pair_in_two::<4>(text, to);
+    }
+    has_nul_or_dot_pair_by_one(text, to)
+}
+
+/// Whether a text holds neither NUL nor two dots side by side. Without a root, a path of Unix that does
+/// not has no component that offends.
+pub fn has_no_nul_or_dot_pair(text: &[u8]) -> bool
+    ensures { result ≡ has_no_nul_or_dot_pair text.now }
+{
+    match text {
+        [] => true,
+        [.., last] => *last != b'\0' && !has_nul_or_dot_pair_before(text, text.len() - 1),
+    }
 }
 
 /// Whether a piece that begins with these two bytes is empty, or begins as `.` or `..` does.

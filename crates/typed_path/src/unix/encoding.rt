@@ -3,7 +3,7 @@
 ghost use Rattle.std.specs.Prelude.{false, ◌≡◌, ◌≤◌, ◌+◌, ◌++◌, ℕ, take, slice_range, length, IfSome, IsNone, IsOk, OnOk, OnErr, ◌<◌, ◌-◌, List, [], codes, Some};
 ghost use Rattle.std.specs.Vec.{vec_capacity, vec_len};
 ghost use Rattle.typed_path.specs.components.{unix, slash};
-ghost use Rattle.typed_path.specs.changes.{push_unix, ended_with, FitsPush, begins_with_nul_or_dot_pair, has_no_nul_or_dot_pair};
+ghost use Rattle.typed_path.specs.changes.{push_unix, ended_with, FitsPush};
 ghost use Rattle.typed_path.specs.places.{normal_text, rows, settled, names_left, AreRows, IsParted};
 
 use crate::common::{
@@ -12,8 +12,8 @@ use crate::common::{
 };
 use crate::errors::CheckedPathError;
 use crate::scan::{
-    Cursor, Piece, Separators, StepKind, are_apart, base_end, cut_at_separator, first_between,
-    first_difference, has_only_names, has_valid_names, step_of,
+    Cursor, Piece, Separators, StepKind, are_apart, base_end, cut_at_separator, first_difference,
+    has_no_nul_or_dot_pair, has_only_names, has_valid_names, step_of,
 };
 use std::alloc::AllocError;
 use std::cmp::Ordering;
@@ -175,32 +175,6 @@ fn separator_behind(base: &[u8]) -> &'static [u8]
         [] | [.., b'/'] => b"",
         _ => b"/",
     }
-}
-
-/// Whether a path holds neither NUL nor two dots side by side. Without a root, such a path has no
-/// component that offends.
-pub fn has_no_nul_or_dot_pair(path: &[u8]) -> bool
-    ensures { result ≡ has_no_nul_or_dot_pair path.now }
-{
-    let mut at = 0;
-    'dots: while at < path.len() {
-        let found = first_between(path, at, path.len(), (b'.', b'\0'));
-        if found == path.len() {
-            return true;
-        }
-        if begins_with_nul_or_dot_pair(&path[found..]) {
-            return false;
-        }
-        at = found + 1;
-    }
-    true
-}
-
-/// Whether a text begins with NUL, or with two dots.
-fn begins_with_nul_or_dot_pair(text: &[u8]) -> bool
-    ensures { result ≡ begins_with_nul_or_dot_pair text.now }
-{
-    matches!(text, [b'\0', ..] | [b'.', b'.', ..])
 }
 
 /// Puts the normal text of a path behind a text, in one pass.

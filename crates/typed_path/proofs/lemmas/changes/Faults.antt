@@ -1,19 +1,20 @@
 -- A path judged component by component, and what holds of one that is not refused.
-use Rattle.std.proofs.Common.{◌≡◌, ℕ, zero, suc, ◌+◌, Bool, true, false, if◌then◌else◌, List, [], ◌∷◌, ◌++◌, refl, sym, ap, arith, length, drop, ◌==◌, not, ◌&&◌, ◌∙◌, ◌-◌, ◌≤◌, ◌<◌, ◌||◌, cond, slice_index, subst, Some, None, Option, nat_eq, le-leb, ne_eqb}
+use Rattle.std.proofs.Common.{◌≡◌, ℕ, zero, suc, ◌+◌, Bool, true, false, if◌then◌else◌, List, [], ◌∷◌, ◌++◌, refl, sym, ap, arith, length, drop, ◌==◌, not, ◌&&◌, ◌∙◌, ◌-◌, ◌<◌, ◌||◌, cond, slice_index, subst, Some, None, Option, nat_eq, le-leb, ne_eqb, eq-eqb, ⊎_elim}
 use Rattle.std.specs.List.{count_by, list_any, slice_split, onto_first, starts_with, AllByRecursion}
 use Rattle.std.specs.Option.{option_or}
+use Rattle.std.specs.Slice.Scan.{HoldsNowhere}
 use Rattle.std.proofs.lemmas.List.Sums.{sum_by_push}
 use Rattle.std.proofs.lemmas.Option.{same_Some}
-use Rattle.std.proofs.lemmas.Bool.{lt-leb, and_parts, false_from_ne_true, or_parts, not-true, eqb-false}
+use Rattle.std.proofs.lemmas.Bool.{cases_lt, lt-leb, and_parts, false_from_ne_true, or_parts, not-true, eqb-false}
 use Rattle.std.proofs.lemmas.List.Splits.{slice_split-cons_yes}
-use Rattle.std.proofs.lemmas.List.{drop_more, map-append}
+use Rattle.std.proofs.lemmas.List.{get_or_past, map-append}
 use Rattle.typed_path.specs.declared.errors.CheckedPathError.TheVariants.{InvalidFilename}
 use Rattle.typed_path.specs.declared.scan.separators.Separators.{Separators}
 use Rattle.typed_path.specs.declared.scan.separators.Separators.TheVariants.{Either, Backslash, Slash}
 use Rattle.typed_path.specs.components.{Dialect, windows, dot, is_separator, is_verbatim, root_text, separators, unix, slash, Kind, prefix, root, current, parent, normal, is_name, is_parent, Part, Placed, kinds, parts, current_part, root_part, parent_part, name_part, Prefix, prefix_part, Found, prefix_of, is_dot, parts_of, is_dot_dot}
-use Rattle.typed_path.specs.scan.{first_part, is_one_of, stands_at, IsFirstOf}
+use Rattle.typed_path.specs.scan.{first_part, TellsWhether}
 use Rattle.typed_path.specs.queries.{is_valid_name, begins_with_root, has_prefix, has_any_verbatim_prefix, is_disallowed, is_disk}
-use Rattle.typed_path.specs.changes.{fault_behind, fault_at, fault, offence, merged, spelled, ended_windows, push, begins_with_nul_or_dot_pair, has_no_nul_or_dot_pair}
+use Rattle.typed_path.specs.changes.{fault_behind, fault_at, fault, offence, merged, spelled, ended_windows, push, begins_with_nul_or_dot_pair, has_no_nul_or_dot_pair, is_nul_or_dot_pair, nul_or_dot_pair_at}
 use Rattle.typed_path.specs.places.{overdraws, stays, resolve, with_implied_root}
 use Rattle.typed_path.proofs.lemmas.components.Segments.{pieces, named_part, later_parts, first_parts, body_parts, parts_behind, parts-comps_behind, later_part, parts-body}
 use Rattle.typed_path.proofs.lemmas.components.PrefixCuts.{plain-none}
@@ -190,41 +191,53 @@ push-faultless base b path faultless =
 
 -- ---- the search for them
 
--- a byte that is neither a dot nor NUL does no harm
-front_free : (x : ℕ) (rest : List ℕ) → is_one_of (dot, 0) x ≡ false → has_no_nul_or_dot_pair (x ∷ rest) ≡ has_no_nul_or_dot_pair rest
-front_free x [] e = ap (λ z. not z && true) (or_parts (x == dot) (x == 0) e).1
-front_free x (y ∷ rest) e =
-    let free = or_parts (x == dot) (x == 0) e in
-    ap (λ z. not (z || x == dot && y == dot) && has_no_nul_or_dot_pair (y ∷ rest)) free.1 ∙ ap (λ d. not (d && y == dot) && has_no_nul_or_dot_pair (y ∷ rest)) free.0
+-- of a byte behind which no dot stands it counts whether it is NUL
+lone : (zeros dots : Bool) → zeros || dots && false ≡ zeros
+lone true dots = refl
+lone false true = refl
+lone false false = refl
 
--- nor do many of them
-free-front : (n at : ℕ) (text : List ℕ) → at + n ≤ length text → ((k : ℕ) → at ≤ k → k < at + n → stands_at (dot, 0) text k ≡ false) → has_no_nul_or_dot_pair (drop at text) ≡ has_no_nul_or_dot_pair (drop (at + n) text)
-free-front zero at text within free = let here : at ≡ at + zero = omega arith in ap (λ k. has_no_nul_or_dot_pair (drop k text)) here
-free-front (suc n) at text within free =
-    let on : at + 1 + n ≡ at + suc n = omega arith in
-    ap has_no_nul_or_dot_pair (drop_more text at 0 (omega arith))
-    ∙ front_free (slice_index text at) (drop (at + 1) text) (free at (omega arith) (omega arith))
-    ∙ free-front n (at + 1) text (omega arith) (λ k low high. free k (omega arith) (omega arith))
-    ∙ ap (λ k. has_no_nul_or_dot_pair (drop k text)) on
+-- at the front of a text, its first place tells
+front-place : (x : ℕ) (xs : List ℕ) → nul_or_dot_pair_at (x ∷ xs) 0 ≡ begins_with_nul_or_dot_pair (x ∷ xs)
+front-place x (y ∷ ys) = refl
+front-place x [] = lone (x == 0) (x == dot)
 
-module _ (text : List ℕ) (at found : ℕ) (first : IsFirstOf (dot, 0) text at (length text) found) where
-  -- what stands before the first of them does no harm
-  pub no_pair-from : has_no_nul_or_dot_pair (drop at text) ≡ has_no_nul_or_dot_pair (drop found text)
-  no_pair-from =
-      let there : at + (found - at) ≡ found = omega (arith, first.low) in
-      free-front (found - at) at text (omega (arith, first.low, first.high)) (λ k low high. first.before k low (omega (arith, first.low)))
-      ∙ ap (λ k. has_no_nul_or_dot_pair (drop k text)) there
+-- and the later ones tell behind it
+later-place : (x k : ℕ) (xs : List ℕ) → nul_or_dot_pair_at (x ∷ xs) (suc k) ≡ nul_or_dot_pair_at xs k
+later-place x k xs = let on : suc k + 1 ≡ suc (k + 1) = omega arith in ap (λ j. is_nul_or_dot_pair (slice_index xs k) (slice_index (x ∷ xs) j)) on
 
--- where no harm stands at the front, the rest tells
-pub no_pair-behind : (text : List ℕ) (at : ℕ) → at < length text → begins_with_nul_or_dot_pair (drop at text) ≡ false → has_no_nul_or_dot_pair (drop at text) ≡ has_no_nul_or_dot_pair (drop (at + 1) text)
-no_pair-behind text at within none =
-    let front = drop_more text at 0 within in
-    ap has_no_nul_or_dot_pair front ∙ ap (λ harm. not harm && has_no_nul_or_dot_pair (drop (at + 1) text)) (sym (ap begins_with_nul_or_dot_pair front) ∙ none)
+-- such a byte stands nowhere in a text
+no_pair-nowhere : (text : List ℕ) → HoldsNowhere (nul_or_dot_pair_at text) 0 (length text) → has_no_nul_or_dot_pair text ≡ true
+no_pair-nowhere [] none = refl
+no_pair-nowhere (x ∷ xs) none =
+    ap (λ harm. not harm && has_no_nul_or_dot_pair xs) (sym (front-place x xs) ∙ none 0 (omega arith) (omega arith)) ∙ no_pair-nowhere xs (λ k low high. sym (later-place x k xs) ∙ none (suc k) (omega arith) (omega arith))
 
--- where harm stands there, all is told
-pub pair-here : (text : List ℕ) → begins_with_nul_or_dot_pair text ≡ true → has_no_nul_or_dot_pair text ≡ false
-pair-here [] e = cc
-pair-here (x ∷ xs) e = ap (λ harm. not harm && has_no_nul_or_dot_pair xs) e
+-- one stands at a place of it
+no_pair-somewhere : (text : List ℕ) (k : ℕ) → k < length text → nul_or_dot_pair_at text k ≡ true → has_no_nul_or_dot_pair text ≡ false
+no_pair-somewhere [] k within here = absurd (omega arith)
+no_pair-somewhere (x ∷ xs) zero within here = ap (λ harm. not harm && has_no_nul_or_dot_pair xs) (sym (front-place x xs) ∙ here)
+no_pair-somewhere (x ∷ xs) (suc k) within here = ap (λ rest. not (begins_with_nul_or_dot_pair (x ∷ xs)) && rest) (no_pair-somewhere xs k (omega arith) (sym (later-place x k xs) ∙ here)) ∙ never (not (begins_with_nul_or_dot_pair (x ∷ xs)))
+  where
+    never : (b : Bool) → b && false ≡ false
+    never true = refl
+    never false = refl
+
+module _ (text : List ℕ) (some : 0 < length text) where
+  -- behind the last byte of a text stands no dot
+  last-place : nul_or_dot_pair_at text (length text - 1) ≡ (slice_index text (length text - 1) == 0)
+  last-place =
+      let behind : slice_index text (length text - 1 + 1) ≡ 0 = get_or_past text (length text - 1 + 1) 0 (omega arith) in
+      ap (is_nul_or_dot_pair (slice_index text (length text - 1))) behind ∙ lone (slice_index text (length text - 1) == 0) (slice_index text (length text - 1) == dot)
+
+  -- a text whose last byte is NUL
+  pub no_pair-last : slice_index text (length text - 1) ≡ 0 → has_no_nul_or_dot_pair text ≡ false
+  no_pair-last zeros = no_pair-somewhere text (length text - 1) (omega arith) (last-place ∙ eq-eqb (slice_index text (length text - 1)) 0 zeros)
+
+  -- of any other, the places before the last byte tell
+  pub no_pair-before : (told : Bool) → (slice_index text (length text - 1) ≡ 0 → ⊥) → TellsWhether (nul_or_dot_pair_at text) 0 (length text - 1) told → has_no_nul_or_dot_pair text ≡ not told
+  no_pair-before true other pair = no_pair-somewhere text pair.0 (omega (arith, pair.2)) pair.3
+  no_pair-before false other none =
+      no_pair-nowhere text (λ k low high. ⊎_elim (none k low) (λ l. let here : k ≡ length text - 1 = omega (arith, l, high) in ap (nul_or_dot_pair_at text) here ∙ last-place ∙ ne_eqb (slice_index text (length text - 1)) 0 other) (cases_lt k (length text - 1)))
 
 -- ---- what they tell of the components
 
