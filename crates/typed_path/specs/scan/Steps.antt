@@ -1,5 +1,5 @@
 -- What is left of a text, by where it begins.
-use Rattle.std.specs.Prelude.{◌≡◌, ◌≤◌, ℕ, min, drop, take, List, [], ◌∷◌, Bool, true, false, not, ◌||◌, ◌&&◌, ◌==◌, nat_lt, length, Option, option_map}
+use Rattle.std.specs.Prelude.{◌≡◌, ◌≤◌, ℕ, min, drop, take, List, [], ◌∷◌, Bool, true, not, ◌||◌, ◌&&◌, ◌==◌, nat_lt, length, Option, option_map}
 use Rattle.std.specs.Option.{unwrap_or}
 use Rattle.std.specs.List.{before_first, after_last, IsAfterLastMatch}
 use Rattle.std.specs.Slice.Scan.{IsFirstPlace}
@@ -11,6 +11,7 @@ use Rattle.typed_path.specs.components.Parts.{Part, Placed, end_of}
 use Rattle.typed_path.specs.components.Comps.{body, later_body, is_dot}
 use Rattle.typed_path.specs.scan.Masks.{differs_at}
 use Rattle.typed_path.specs.scan.Left.{first_of, last_of, but_last, slice_after_front, slice_after_back}
+use Rattle.typed_path.specs.changes.Spelled.{is_name_piece}
 
 -- the components of a text that begins at a place
 abbrev pub body_from : Begin → Separators → ℕ → List ℕ → List Placed
@@ -27,17 +28,27 @@ is_clean Body s text = true
 is_clean Inside s [] = true
 is_clean Inside s (b ∷ bs) = counts s (before_first (is_separator s) (b ∷ bs))
 
--- a text begins with a byte that neither separates nor is a dot, so it begins with a name
+-- a segment that holds such a byte is a name: it neither separates nor is a dot
+abbrev pub tells_name : Separators → ℕ → Bool
+tells_name s b = not (is_separator s b) && not (b == dot)
+
+-- the segment that a text begins with is a name
 abbrev pub begins_with_name : Separators → List ℕ → Bool
-begins_with_name s [] = false
-begins_with_name s (b ∷ bs) = not (is_separator s b) && not (b == dot)
+begins_with_name s text = is_name_piece (before_first (is_separator s) text)
 
 -- two texts are alike up to the first of two places, where they differ or one ends, and the second stands behind the last separator before it
-abbrev pub IsParting : Separators → List ℕ → List ℕ → ℕ × ℕ → Type 0
-IsParting s text other p =
-    IsFirstPlace (differs_at text other) 0 (min (length text) (length other)) p.0
-    × IsAfterLastMatch (is_separator s) (take p.0 text) p.1
-    × (p.1 ≤ length (take p.0 text))
+abbrev pub IsParting : Separators → List ℕ → List ℕ → ℕ → ℕ → Type 0
+IsParting s text other shared start =
+    IsFirstPlace (differs_at text other) 0 (min (length text) (length other)) shared
+    × IsAfterLastMatch (is_separator s) (take shared text) start
+    × (start ≤ length (take shared text))
+
+-- the segments in which two texts part at a place are names
+abbrev pub PartWithinNames : Separators → List ℕ → List ℕ → ℕ → Type 0
+PartWithinNames s text other shared =
+    (start : ℕ) × IsParting s text other shared start
+    × (begins_with_name s (drop start text) ≡ true)
+    × (begins_with_name s (drop start other) ≡ true)
 
 -- a text ends with a component: it is one byte long or empty, or its last segment counts
 abbrev pub is_trimmed : Separators → List ℕ → Bool

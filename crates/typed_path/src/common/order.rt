@@ -24,7 +24,7 @@ use crate::common::path::Path;
 use crate::common::path_buf::PathBuf;
 use crate::scan::{
     Body, Separators, Step, StepKind, WindowsPrefix, bodies_behind, bodies_behind_shared,
-    order_behind, parting,
+    first_difference, order_behind,
 };
 use std::cmp::Ordering;
 use std::hash::{Hash, Hasher};
@@ -57,11 +57,11 @@ pub(crate) fn compare<T: Encoding>(path: &[u8], other: &[u8]) -> Ordering
 pub(crate) fn compare_texts(text: &[u8], other: &[u8], separators: Separators) -> Ordering
     ensures { result ≡ left_cmp (body separators 0 text.now) (body separators 0 other.now) }
 {
-    let places = parting(text, other, separators);
-    match order_behind(text, other, places, separators) {
+    let shared = first_difference(text, other);
+    match order_behind(text, other, shared, separators) {
         Some(order) => order,
         None => {
-            let (rest, wanted) = bodies_behind(text, other, places, separators);
+            let (rest, wanted) = bodies_behind(text, other, shared, separators);
             compare_each(rest, wanted)
         }
     }

@@ -2,12 +2,12 @@
 //! share; and the order of two texts from where they part.
 
 ghost use Rattle.std.specs.Prelude.{◌≡◌, ◌≢◌, ◌≤◌, ◌<◌, ◌+◌, ◌==◌, List, ℕ, [], min, ◌∷◌, ◌++◌, take, length, MatchOption, IfSome, true, false, drop, IsTrue};
-ghost use Rattle.std.specs.List.{slice_split, position_or_len, before_first, starts_with};
+ghost use Rattle.std.specs.List.{slice_split, position_or_len, before_first, starts_with, IsAfterLastMatch};
 ghost use Rattle.std.specs.Slice.Scan.{IsFirstPlace};
 ghost use Rattle.std.specs.Str.{bytes_eq};
 ghost use Rattle.std.specs.Ordering.{is_ne};
 ghost use Rattle.typed_path.specs.components.{is_separator, body, later_body, parts, texts};
-ghost use Rattle.typed_path.specs.scan.{is_clean, begins_with_name, differs_at, IsParting};
+ghost use Rattle.typed_path.specs.scan.{is_clean, begins_with_name, tells_name, differs_at, PartWithinNames};
 ghost use Rattle.typed_path.specs.declared.scan.cursor.Begin.{Begin};
 ghost use Rattle.typed_path.specs.order.{left_cmp, bytes_cmp};
 ghost use Rattle.typed_path.specs.views.BodyViews.{body_items};
@@ -152,33 +152,24 @@ pub fn bodies_behind_shared<'a>(rest: Body<'a>, wanted: Body<'a>) -> (Body<'a>, 
     }
     let text = rest.as_bytes();
     let other = wanted.as_bytes();
-    let places = parting(text, other, separators);
-    bodies_behind(text, other, places, separators)
+    bodies_behind(text, other, first_difference(text, other), separators)
 }
 
-/// Where two texts part: the first place at which they differ, or the end of the shorter one, and the
-/// place behind the last separator before that.
-#[inline(always)]
-pub fn parting(text: &[u8], other: &[u8], separators: Separators) -> (usize, usize)
-    ensures { IsParting separators text.now other.now result }
-{
-    let shared = first_difference(text, other);
-    (shared, separators.last_in(&text[..shared]))
-}
-
-/// Two readings, behind the last separator that two texts begin with, which compare as the texts do.
+/// Two readings, behind the last separator that two texts begin with, which compare as the texts do. It
+/// is told how many bytes the two begin with.
 #[inline(always)]
 pub fn bodies_behind<'a>(
     text: &'a [u8],
     other: &'a [u8],
-    places: (usize, usize),
+    shared: usize,
     separators: Separators,
 ) -> (Body<'a>, Body<'a>)
-    requires { IsParting separators text.now other.now places }
+    requires { IsFirstPlace (differs_at text.now other.now) 0
+        (min (length text.now) (length other.now)) shared }
     ensures { left_cmp (body_items result.0) (body_items result.1)
         ≡ left_cmp (body separators 0 text.now) (body separators 0 other.now) }
 {
-    let start = places.1;
+    let start = separators.last_in(&text[..shared]);
     if start == 0 {
         return (
             Body::new(text, 0, separators),
@@ -194,31 +185,29 @@ pub fn bodies_behind<'a>(
 }
 
 /// The order of two texts that are read from their beginnings, where the bytes tell: the texts are one,
-/// or behind the last separator that both begin with both go on with a name, and the names differ.
-/// None says nothing.
+/// or part within names, and the names differ. None says nothing. It is told how many bytes the two begin
+/// with.
 ///
 /// So most paths are put in order by one look at their bytes up to the first that differs.
 #[inline(always)]
 pub fn order_behind(
     text: &[u8],
     other: &[u8],
-    places: (usize, usize),
+    shared: usize,
     separators: Separators,
 ) -> Option<Ordering>
-    requires { IsParting separators text.now other.now places }
+    requires { IsFirstPlace (differs_at text.now other.now) 0
+        (min (length text.now) (length other.now)) shared }
     ensures order { IfSome result (λ order.
         left_cmp (body separators 0 text.now) (body separators 0 other.now) ≡ order) }
     ensures apart { IfSome result (λ order. is_ne order ≡ true
         → starts_with bytes_eq (texts (parts (body separators 0 text.now)))
         (texts (parts (body separators 0 other.now))) ≡ false) }
 {
-    let (shared, start) = places;
     if shared == text.len() && shared == other.len() {
         return Some(Ordering::Equal);
     }
-    if !begins_with_name(&text[start..], separators)
-        || !begins_with_name(&other[start..], separators)
-    {
+    if !part_within_names(text, other, shared, separators) {
         return None;
     }
     order_of_ends(&text[shared..], &other[shared..], separators)
@@ -233,9 +222,49 @@ pub fn are_apart(text: &[u8], other: &[u8], shared: usize, separators: Separator
     ensures { IsTrue result → starts_with bytes_eq (texts (parts (body separators 0 text.now)))
         (texts (parts (body separators 0 other.now))) ≡ false }
 {
-    let start = separators.last_in(&text[..shared]);
-    match order_behind(text, other, (shared, start), separators) {
+    match order_behind(text, other, shared, separators) {
         Some(order) => order.is_ne(),
+        None => false,
+    }
+}
+
+/// Whether the bytes of two texts tell that the segments in which they part are names. False says nothing.
+///
+/// The last byte that both begin with mostly tells of both, and no segment is searched for then.
+#[inline(always)]
+fn part_within_names(text: &[u8], other: &[u8], shared: usize, separators: Separators) -> bool
+    requires { IsFirstPlace (differs_at text.now other.now) 0
+        (min (length text.now) (length other.now)) shared }
+    ensures { IsTrue result → PartWithinNames separators text.now other.now shared }
+{
+    let front = &text[..shared];
+    if ends_with_name(front, separators) {
+        return true;
+    }
+    let start = last_start(front, separators);
+    begins_with_name(&text[start..], separators) && begins_with_name(&other[start..], separators)
+}
+
+/// Where the last segment of a text begins. It is not searched for where the text ends with a separator.
+#[inline(always)]
+fn last_start(text: &[u8], separators: Separators) -> usize
+    ensures within { result ≤ length text.now }
+    ensures last { IsAfterLastMatch (is_separator separators) text.now result }
+{
+    match text.last() {
+        Some(byte) if separators.contains(*byte) => text.len(),
+        _ => separators.last_in(text),
+    }
+}
+
+/// Whether a text ends with a byte that stands in names alone.
+#[inline(always)]
+fn ends_with_name(text: &[u8], separators: Separators) -> bool
+    ensures { IsTrue result → (before : List ℕ) × (b : ℕ) × (text.now ≡ before ++ b ∷ [])
+        × (tells_name separators b ≡ true) }
+{
+    match text.split_last() {
+        Some((last, _)) => tells_name(*last, separators),
         None => false,
     }
 }
@@ -243,12 +272,20 @@ pub fn are_apart(text: &[u8], other: &[u8], shared: usize, separators: Separator
 /// Whether a text begins with a name, as its first byte tells. False says nothing.
 #[inline(always)]
 fn begins_with_name(text: &[u8], separators: Separators) -> bool
-    ensures { result ≡ begins_with_name separators text.now }
+    ensures { IsTrue result → begins_with_name separators text.now ≡ true }
 {
-    match text.first() {
-        Some(byte) => !separators.contains(*byte) && *byte != b'.',
+    match text.split_first() {
+        Some((first, _)) => tells_name(*first, separators),
         None => false,
     }
+}
+
+/// Whether a segment with such a byte is a name: the byte is neither a separator nor a dot.
+#[inline(always)]
+fn tells_name(byte: u8, separators: Separators) -> bool
+    ensures { result ≡ tells_name separators byte }
+{
+    !separators.contains(byte) && byte != b'.'
 }
 
 /// The order of what two texts hold up to their first separators, where the first bytes tell.

@@ -1,10 +1,12 @@
 -- Two texts that begin alike and go on with different names: their order is that of the names.
-use Rattle.std.proofs.Common.{◌≡◌, ℕ, zero, suc, ◌+◌, ◌-◌, ◌<◌, ◌≤◌, ◌==◌, List, [], ◌∷◌, ◌++◌, Bool, true, false, not, ◌&&◌, ◌||◌, cond, min, All, take, drop, length, get_or, Ordering, Less, Equal, Greater, refl, sym, ap, ap₂, ◌∙◌, arith, length-take-le, length-drop, take-append-drop, get_or-take, get_or-drop, eqb-true, take_all, Option, Some, None}
+use Rattle.std.proofs.Common.{◌≡◌, ℕ, zero, suc, ◌+◌, ◌-◌, ◌<◌, ◌≤◌, ◌==◌, List, [], ◌∷◌, ◌++◌, Bool, true, false, not, ◌&&◌, ◌||◌, cond, min, All, take, drop, length, get_or, Ordering, Less, Equal, Greater, refl, sym, ap, ap₂, ◌∙◌, arith, length-take-le, length-drop, take-append-drop, get_or-take, get_or-drop, eqb-true, take_all, append_assoc, length-append, inl, inr, Option, Some, None}
 use Rattle.std.specs.Ordering.{is_ne, ordering_then}
-use Rattle.std.specs.List.{before_first, position_or_len, starts_with}
+use Rattle.std.specs.List.{before_first, position_or_len, starts_with, suffix_len}
 use Rattle.std.specs.Str.{bytes_eq}
 use Rattle.std.specs.Cmp.Lexicographic.{bytes_decides, nat_list_cmp_total}
 use Rattle.std.proofs.Math.Bool.{and-false}
+use Rattle.std.proofs.Math.Seq.{get_or-append_seam}
+use Rattle.std.proofs.lemmas.Bool.{and_parts, cases_lt, not-true}
 use Rattle.std.specs.Slice.Scan.{IsFirstPlace}
 use Rattle.std.specs.Prelude.{IfSome}
 use Rattle.std.proofs.lemmas.List.{drop-append-le, take-append-le, take_more}
@@ -15,13 +17,14 @@ use Rattle.typed_path.specs.declared.scan.separators.Separators.TheVariants.{Eit
 use Rattle.typed_path.specs.declared.scan.cursor.Body.{Body as Reading}
 use Rattle.typed_path.specs.declared.scan.cursor.Begin.{Begin}
 use Rattle.typed_path.specs.declared.scan.cursor.Begin.TheVariants.{Body, Inside}
-use Rattle.typed_path.specs.components.{is_separator, is_verbatim, dot, Placed, name_part, current_part, parent_part, root_part, root_text, component, first, body, later_body, kinds, parts, texts, windows, Prefix, prefix, disk, found, prefix_part, Found, prefix_of, separators, comps, comps_behind, IsPartedDrive}
-use Rattle.typed_path.specs.scan.{body_from, is_clean, counts, begins_with_name, differs_at, IsParting}
+use Rattle.typed_path.specs.components.{is_separator, is_verbatim, dot, Placed, name_part, component, first, is_empty, is_dot, is_dot_dot, body, later_body, kinds, parts, texts, windows, Prefix, prefix, disk, found, prefix_part, Found, prefix_of, separators, comps, comps_behind, IsPartedDrive}
+use Rattle.typed_path.specs.scan.{body_from, is_clean, counts, begins_with_name, tells_name, differs_at, IsParting, PartWithinNames}
 use Rattle.typed_path.specs.order.{bytes_cmp, left_cmp, kinds_cmp, path_cmp, kind_cmp_total, kinds_cmp_total}
 use Rattle.typed_path.specs.views.BodyViews.{body_slice, body_items}
+use Rattle.typed_path.proofs.lemmas.lists.Lists.{last_place}
 use Rattle.typed_path.proofs.lemmas.components.Segments.{body_from-first, parts-body}
 use Rattle.typed_path.proofs.lemmas.components.Prefixes.{some_is, prefix-fits}
-use Rattle.typed_path.specs.changes.{HaveOnePrefix, raw_length}
+use Rattle.typed_path.specs.changes.{HaveOnePrefix, raw_length, is_name_piece}
 use Rattle.typed_path.specs.queries.{path_starts_with}
 use Rattle.typed_path.proofs.lemmas.queries.Bases.{begins, body-ended}
 use Rattle.typed_path.proofs.lemmas.order.Comparisons.{cmp-behind}
@@ -29,24 +32,38 @@ use Rattle.typed_path.proofs.lemmas.order.Comparisons.{cmp-behind}
 filled : (b : ℕ) (rest : List ℕ) → (length (b ∷ rest) == 0) ≡ false
 filled b rest = eqb-suc-zero (length rest)
 
--- a segment that begins with no dot is a name
-first-name : (s : Separators) (b at : ℕ) (rest : List ℕ) → (b == dot) ≡ false → first s (record { text = b ∷ rest; start = at }) ≡ component (name_part (b ∷ rest)) at
-first-name s b at [] h = ap (λ d. cond d (component current_part at) (component (name_part (b ∷ [])) at)) h
-first-name s b at (c ∷ []) h = ap (λ d. cond (d && (c == dot)) (component parent_part at) (component (name_part (b ∷ c ∷ [])) at)) h
-first-name s b at (c ∷ d ∷ rest) h = ap (λ e. cond e (component (root_part (root_text s)) at) (component (name_part (b ∷ c ∷ d ∷ rest)) at)) (filled b (c ∷ d ∷ rest))
+-- a segment that is a name is read as one
+first-name : (s : Separators) (piece : List ℕ) (at : ℕ) → is_name_piece piece ≡ true → first s (record { text = piece; start = at }) ≡ component (name_part piece) at
+first-name s piece at h = by (is_empty piece) (is_dot piece) (is_dot_dot piece) _ _ _ _ h
+  where
+    by : (e d dd : Bool) (rooting dotting parenting naming : List Placed) → not (e || d || dd) ≡ true → cond e rooting (cond d dotting (cond dd parenting naming)) ≡ naming
+    by false false false rooting dotting parenting naming h = refl
+    by false false true rooting dotting parenting naming h = cc
+    by false true dd rooting dotting parenting naming h = cc
+    by true d dd rooting dotting parenting naming h = cc
 
-counts-name : (s : Separators) (b : ℕ) (rest : List ℕ) → (b == dot) ≡ false → counts s (b ∷ rest) ≡ true
-counts-name s b [] h = by (is_verbatim s) (b == dot) h
+counts-name : (s : Separators) (piece : List ℕ) → is_name_piece piece ≡ true → counts s piece ≡ true
+counts-name s piece h = by (is_empty piece) (is_dot piece) (is_dot_dot piece) (is_verbatim s) h
   where
-    by : (v d : Bool) → d ≡ false → (v || not d) ≡ true
-    by true d h = refl
-    by false true h = cc
-    by false false h = refl
-counts-name s b (c ∷ rest) h = ap (λ e. not e && (is_verbatim s || true)) (filled b (c ∷ rest)) ∙ by (is_verbatim s)
-  where
-    by : (v : Bool) → (v || true) ≡ true
-    by true = refl
-    by false = refl
+    by : (e d dd v : Bool) → not (e || d || dd) ≡ true → not e && (v || not d) ≡ true
+    by false false dd true h = refl
+    by false false dd false h = refl
+    by false true dd v h = cc
+    by true d dd v h = cc
+
+-- three bytes or more are a name
+long-name : (a b c : ℕ) (rest : List ℕ) → is_name_piece (a ∷ b ∷ c ∷ rest) ≡ true
+long-name a b c rest = ap (λ e. not (e || false || false)) (filled a (b ∷ c ∷ rest))
+
+-- a segment that holds another byte than a dot is a name
+holds-name : (xs : List ℕ) (b : ℕ) (ys : List ℕ) → (b == dot) ≡ false → is_name_piece (xs ++ b ∷ ys) ≡ true
+holds-name [] b [] h = ap (λ d. not (d || false)) h
+holds-name [] b (c ∷ []) h = ap (λ d. not (d && (c == dot))) h
+holds-name [] b (c ∷ d ∷ ys) h = long-name b c d ys
+holds-name (a ∷ []) b [] h = ap (λ d. not ((a == dot) && d)) h ∙ ap not (and-false (a == dot))
+holds-name (a ∷ []) b (c ∷ ys) h = long-name a b c ys
+holds-name (a ∷ c ∷ []) b ys h = long-name a c b ys
+holds-name (a ∷ c ∷ d ∷ xs) b ys h = long-name a c d (xs ++ b ∷ ys)
 
 -- what stands before the first match, where the first elements do not match
 pub before_first-cons : (p : ℕ → Bool) (b : ℕ) (bs : List ℕ) → p b ≡ false → before_first p (b ∷ bs) ≡ b ∷ before_first p bs
@@ -60,31 +77,21 @@ before_first-open p (m ∷ mid) rest none =
     before_first-cons p m (mid ++ rest) (none 0 0 (omega arith))
     ∙ ap (λ xs. m ∷ xs) (before_first-open p mid rest (λ k d l. none (suc k) d (omega (arith, l))))
 
--- a text that begins with a name by its first byte has it as its first component
+-- a text that begins with a name has it as its first component
 begins-name : (begin : Begin) (s : Separators) (at : ℕ) (text : List ℕ) → begins_with_name s text ≡ true
     → (cs : List Placed) × (body_from begin s at text ≡ record { part = name_part (before_first (is_separator s) text); start = at } ∷ cs)
 begins-name begin s at [] h = cc
-begins-name begin s at (b ∷ bs) h = by (is_separator s b) refl (b == dot) refl h
+begins-name begin s at (b ∷ bs) h =
+    let n = position_or_len (is_separator s) (b ∷ bs) in
+    let rest = later_body s (at + n) (drop n (b ∷ bs)) in (
+      rest,
+      body_from-first begin s at b bs (is_clean-of begin (counts-name s (before_first (is_separator s) (b ∷ bs)) h))
+          ∙ ap (λ cs. cs ++ rest) (first-name s (before_first (is_separator s) (b ∷ bs)) at h),
+    )
   where
-    by : (separates : Bool) → is_separator s b ≡ separates → (dotted : Bool) → (b == dot) ≡ dotted → (not separates && not dotted) ≡ true
-        → (cs : List Placed) × (body_from begin s at (b ∷ bs) ≡ record { part = name_part (before_first (is_separator s) (b ∷ bs)); start = at } ∷ cs)
-    by true e dotted f h = cc
-    by false e true f h = cc
-    by false e false f h =
-        let n = position_or_len (is_separator s) (b ∷ bs) in
-        let rest = later_body s (at + n) (drop n (b ∷ bs)) in
-        let name = before_first-cons (is_separator s) b bs e in
-        let clean : counts s (before_first (is_separator s) (b ∷ bs)) ≡ true = ap (counts s) name ∙ counts-name s b (before_first (is_separator s) bs) f in (
-          rest,
-          body_from-first begin s at b bs (is_clean-of begin clean)
-              ∙ ap (λ t. first s (record { text = t; start = at }) ++ rest) name
-              ∙ ap (λ cs. cs ++ rest) (first-name s b at (before_first (is_separator s) bs) f)
-              ∙ ap (λ t. record { part = name_part t; start = at } ∷ rest) (sym name),
-        )
-      where
-        is_clean-of : (begin : Begin) → counts s (before_first (is_separator s) (b ∷ bs)) ≡ true → is_clean begin s (b ∷ bs) ≡ true
-        is_clean-of Body h = refl
-        is_clean-of Inside h = h
+    is_clean-of : (begin : Begin) → counts s (before_first (is_separator s) (b ∷ bs)) ≡ true → is_clean begin s (b ∷ bs) ≡ true
+    is_clean-of Body h = refl
+    is_clean-of Inside h = h
 
 -- two lists that begin with different names are in their order
 named-order : (cs ds : List Placed) (n m : List ℕ) (at : ℕ) (o : Ordering) → bytes_cmp n m ≡ o → is_ne o ≡ true
@@ -168,13 +175,7 @@ parted-begins s t u o p differ =
     ∙ begins-apart p.front p.front (record { part = name_part p.own; start = p.at }) (record { part = name_part p.other; start = p.at }) p.behind_own p.behind_other refl (unlike p.own p.other o p.order differ)
 
 -- two texts, and behind the last separator that both begin with
-module _ (s : Separators) (t u : List ℕ) (p : ℕ × ℕ) (parted : IsParting s t u p) where
-  abbrev n : ℕ
-  n = p.1
-
-  abbrev k : ℕ
-  k = p.0
-
+module _ (s : Separators) (t u : List ℕ) (k n : ℕ) (parted : IsParting s t u k n) where
   fits : k ≤ length t
   fits = omega (arith, parted.0.high)
 
@@ -217,28 +218,64 @@ module _ (s : Separators) (t u : List ℕ) (p : ℕ × ℕ) (parted : IsParting 
   behind-shared h =
       cmp-behind (body s 0 (take n t)) (later_body s n (drop n t)) (later_body s n (drop n u)) (body s 0 t) (body s 0 u) (own-at (n - 1) (omega (arith, h))) (other-at (n - 1) (omega (arith, h)))
 
-  -- where both go on with a name, these are in the order of their ends
+  -- what both hold of the segments in which they part, which separates nowhere
+  abbrev mid : List ℕ
+  mid = drop n (take k t)
+
+  opened : All (λ b. is_separator s b ≡ false) mid
+  opened i d l = ap (is_separator s) (get_or-drop n (take k t) i d) ∙ parted.1.0 (n + i) d (omega arith) (omega (arith, l, length-drop n (take k t)))
+
+  own-piece : before_first (is_separator s) (drop n t) ≡ mid ++ before_first (is_separator s) (drop k t)
+  own-piece =
+      ap (before_first (is_separator s)) (ap (drop n) (sym (take-append-drop k t)) ∙ drop-append-le n (take k t) (drop k t) parted.2)
+      ∙ before_first-open (is_separator s) mid (drop k t) opened
+
+  other-piece : before_first (is_separator s) (drop n u) ≡ mid ++ before_first (is_separator s) (drop k u)
+  other-piece =
+      ap (before_first (is_separator s)) (ap (drop n) (sym (take-append-drop k u)) ∙ ap (λ x. drop n (x ++ drop k u)) (sym same) ∙ drop-append-le n (take k t) (drop k u) parted.2)
+      ∙ before_first-open (is_separator s) mid (drop k u) opened
+
+  -- where the last byte that both begin with tells it, these are names
+  last-named : (before : List ℕ) (b : ℕ) → take k t ≡ before ++ b ∷ [] → tells_name s b ≡ true → (begins_with_name s (drop n t) ≡ true) × (begins_with_name s (drop n u) ≡ true)
+  last-named before b is tells = (
+    ap is_name_piece own-piece ∙ name (before_first (is_separator s) (drop k t)),
+    ap is_name_piece other-piece ∙ name (before_first (is_separator s) (drop k u)),
+  )
+    where
+      both : (not (is_separator s b) ≡ true) × (not (b == dot) ≡ true)
+      both = and_parts (not (is_separator s b)) (not (b == dot)) tells
+
+      size : length (take k t) ≡ length before + 1
+      size = ap length is ∙ length-append before (b ∷ [])
+
+      inside : n ≤ length before
+      inside = elim (cases_lt (length before) n) [
+        | inl h ↦
+            let last : n - 1 ≡ length before = omega (arith, h, size, parted.2) in
+            let separates : is_separator s b ≡ true =
+            ap (is_separator s) (sym (get_or-append_seam before b [] 0) ∙ ap (λ i. get_or (before ++ b ∷ []) i 0) (sym last) ∙ ap (λ xs. get_or xs (n - 1) 0) (sym is))
+            ∙ parted.1.1 (omega (arith, h)) 0 in
+            let apart = not-true _ both.0 in
+            cc
+        | inr h ↦ h
+      ]
+
+      name : (rest : List ℕ) → is_name_piece (mid ++ rest) ≡ true
+      name rest =
+          ap (λ xs. is_name_piece (xs ++ rest)) (ap (drop n) is ∙ drop-append-le n before (b ∷ []) inside)
+          ∙ ap is_name_piece (append_assoc (drop n before) (b ∷ []) rest)
+          ∙ holds-name (drop n before) b rest (not-true _ both.1)
+
+  -- where they are, the texts are in the order of their ends
   pub names-parted : (o : Ordering) → begins_with_name s (drop n t) ≡ true → begins_with_name s (drop n u) ≡ true
       → bytes_cmp (before_first (is_separator s) (drop k t)) (before_first (is_separator s) (drop k u)) ≡ o
       → Parted s t u o
   names-parted o named-own named-other is =
       by n refl
     where
-      mid : List ℕ
-      mid = drop n (take k t)
-
-      own : drop n t ≡ mid ++ drop k t
-      own = ap (drop n) (sym (take-append-drop k t)) ∙ drop-append-le n (take k t) (drop k t) parted.2
-
-      other : drop n u ≡ mid ++ drop k u
-      other = ap (drop n) (sym (take-append-drop k u)) ∙ ap (λ x. drop n (x ++ drop k u)) (sym same) ∙ drop-append-le n (take k t) (drop k u) parted.2
-
-      opened : All (λ b. is_separator s b ≡ false) mid
-      opened i d l = ap (is_separator s) (get_or-drop n (take k t) i d) ∙ parted.1.0 (n + i) d (omega arith) (omega (arith, l, length-drop n (take k t)))
-
       named : bytes_cmp (before_first (is_separator s) (drop n t)) (before_first (is_separator s) (drop n u)) ≡ o
       named =
-          ap₂ bytes_cmp (ap (before_first (is_separator s)) own ∙ before_first-open (is_separator s) mid (drop k t) opened) (ap (before_first (is_separator s)) other ∙ before_first-open (is_separator s) mid (drop k u) opened)
+          ap₂ bytes_cmp own-piece other-piece
           ∙ bytes-shared mid (before_first (is_separator s) (drop k t)) (before_first (is_separator s) (drop k u))
           ∙ is
 
@@ -271,6 +308,16 @@ module _ (s : Separators) (t u : List ℕ) (p : ℕ × ℕ) (parted : IsParting 
             other_is = other-at j e ∙ ap (λ cs. body s 0 (take n t) ++ cs) b.1;
             order = named;
           }
+
+-- two texts part within names where the last byte that both begin with tells it
+pub tells-parted : (s : Separators) (t u : List ℕ) (k : ℕ) → IsFirstPlace (differs_at t u) 0 (min (length t) (length u)) k
+    → (before : List ℕ) (b : ℕ) → take k t ≡ before ++ b ∷ [] → tells_name s b ≡ true → PartWithinNames s t u k
+tells-parted s t u k parting before b is tells =
+    let n = length (take k t) - suffix_len (λ x. not (is_separator s x)) (take k t) in
+    let place = last_place (is_separator s) (take k t) in
+    let parted : IsParting s t u k n = (parting, place.last, place.within) in
+    let named = last-named s t u k n parted before b is tells in
+    (n, parted, named.0, named.1)
 
 -- one text is in order with itself
 pub itself-order : (s : Separators) (t u : List ℕ) (k : ℕ) → IsFirstPlace (differs_at t u) 0 (min (length t) (length u)) k → k ≡ length t → k ≡ length u → left_cmp (body s 0 t) (body s 0 u) ≡ Equal

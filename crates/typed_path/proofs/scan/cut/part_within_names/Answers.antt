@@ -1,0 +1,7 @@
+use Rattle.typed_path.proofs.lemmas.order.SharedNames.{tells-parted}
+use Rattle.typed_path.proofs.scan.cut.part_within_names.Goals as goal
+
+pub returns-then-ends_with_name : goal.returns-then-ends_with_name
+returns-then-ends_with_name c = λ told.
+    let last = c.ends_with_name.ensures c.if-ends_with_name.true in
+    tells-parted c.args.separators c.args.text.now c.args.other.now c.args.shared c.requires last.0 last.1 last.2 last.3
