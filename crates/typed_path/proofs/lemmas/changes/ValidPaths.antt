@@ -1,5 +1,5 @@
 -- Paths of Windows of which looks at their bytes tell that they have no fault: the search for `..` and for devices, and what it tells of the components.
-use Rattle.std.proofs.Common.{nat_le, ⊎_elim, ◌^◌, ◌/◌, ◌≡◌, ℕ, zero, suc, ◌+◌, ◌-◌, ◌≤◌, ◌<◌, Bool, true, false, take, subst, eqb-true, ne_eqb, if◌then◌else◌, cond, not, ◌&&◌, ◌||◌, ◌==◌, List, [], ◌∷◌, ◌++◌, length, drop, refl, sym, ap, ◌∙◌, arith, Some, None, true≢false}
+use Rattle.std.proofs.Common.{nat_le, ⊎_elim, ◌≡◌, ℕ, zero, suc, ◌+◌, ◌-◌, ◌≤◌, ◌<◌, Bool, true, false, take, subst, eqb-true, ne_eqb, if◌then◌else◌, cond, not, ◌&&◌, ◌||◌, ◌==◌, List, [], ◌∷◌, ◌++◌, length, drop, refl, sym, ap, ◌∙◌, arith, Some, None, true≢false}
 use Rattle.std.specs.List.{list_any, list_all, before_first, position_or_len, onto_first}
 use Rattle.std.specs.Option.{option_or}
 use Rattle.std.specs.Char.{to_ascii_lowercase}
@@ -11,9 +11,7 @@ use Rattle.typed_path.specs.declared.errors.CheckedPathError.TheVariants.{Invali
 use Rattle.typed_path.specs.declared.scan.separators.Separators.TheVariants.{Either}
 use Rattle.typed_path.specs.components.{windows, dot, slash, backslash, colon, question, is_separator, is_dot, is_dot_dot, root_text, Kind, prefix, root, current, parent, normal, kinds, current_part, root_part, parent_part, name_part, prefix_of, after_mark, after_two, drive, is_drive_letter, to_upper}
 use Rattle.std.specs.Slice.Scan.{HoldsNowhere}
-use Rattle.std.specs.Int.{bit_at}
-use Rattle.typed_path.specs.scan.{stands_at, IsFirstOf, IsMask}
-use Rattle.typed_path.proofs.lemmas.scan.Searches.{mask-behind, mask-alike, block-first, block-none}
+use Rattle.typed_path.specs.scan.{stands_at, IsFirstOf}
 use Rattle.typed_path.specs.queries.{is_reserved, is_valid, is_valid_name}
 use Rattle.typed_path.specs.changes.{is_in, fault, fault_behind, is_bare_device, is_numbered_device, may_be_reserved, is_stray, is_parent_or_device, begins_like_parent_or_device, may_end_stem, begins_with_parent_or_device, has_parent_or_device_behind, has_parent_or_device, begins_with_separator, has_only_valid_names}
 use Rattle.typed_path.proofs.lemmas.components.Segments.{pieces, first_parts, later_parts, body_parts, parts-body}
