@@ -272,6 +272,10 @@ fn stays_before_parted(prefix: WindowsPrefix<'_>) -> bool
 fn has_only_valid_names(path: &[u8]) -> bool
     ensures { result ≡ has_only_valid_names path.now }
 {
+    // A drive is told at once.
+    if let [_, b':', ..] = path {
+        return false;
+    }
     !begins_with_separator(path) && !has_stray_parent_or_device(path)
 }
 
