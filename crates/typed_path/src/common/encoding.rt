@@ -155,7 +155,7 @@ pub trait Encoding: Sized {
     }
 
     /// For encodings alone. The order of two paths that begin with one prefix, as their bytes tell, or with
-    /// none. None says nothing.
+    /// none, or with prefixes that differ. None says nothing.
     fn order_behind_prefix(path: &[u8], other: &[u8]) -> Option<Ordering>
         ensures { IfSome result (λ order. path_cmp dialect path.now other.now ≡ order) }
     {

@@ -178,7 +178,7 @@ fn have_same_prefixes(own: Option<WindowsPrefix<'_>>, other: Option<WindowsPrefi
 
 /// The order of two prefixes: by kind, and then by names. How they are written is no part of it.
 #[inline(always)]
-fn compare_prefixes(own: WindowsPrefix<'_>, other: WindowsPrefix<'_>) -> Ordering
+pub(crate) fn compare_prefixes(own: WindowsPrefix<'_>, other: WindowsPrefix<'_>) -> Ordering
     ensures { result
         ≡ kind_cmp (prefix (prefix_view own.entry)) (prefix (prefix_view other.entry)) }
 {

@@ -1,16 +1,17 @@
 //! The encoding of Windows paths.
 
-ghost use Rattle.std.specs.Prelude.{◌≡◌, ◌≤◌, ◌&&◌, true, false, length, codes, Some, IfSome, IsTrue};
-ghost use Rattle.typed_path.specs.components.{windows, kinds, parts, separators, is_separator, prefix_of};
+ghost use Rattle.std.specs.Prelude.{◌≡◌, ◌≤◌, ◌&&◌, ℕ, true, false, length, codes, Some, IfSome, IsTrue};
+ghost use Rattle.std.specs.Ordering.{is_ne};
+ghost use Rattle.typed_path.specs.components.{windows, kinds, parts, separators, is_separator, prefix_of, prefix, disk, Found as PrefixFound};
 ghost use Rattle.typed_path.specs.views.PieceViews.{found_of, prefix_view};
 ghost use Rattle.typed_path.specs.promises.{is_verbatim_unc_name};
 ghost use Rattle.typed_path.specs.queries.{is_absolute, has_root, is_disk, path_starts_with};
-ghost use Rattle.typed_path.specs.order.{path_cmp};
+ghost use Rattle.typed_path.specs.order.{kind_cmp, path_cmp};
 ghost use Rattle.typed_path.specs.declared.scan.separators.Separators.{Separators};
 ghost use Rattle.typed_path.specs.views.CursorViews.{items_left};
 ghost use Rattle.typed_path.specs.changes.{begins_with_separator, has_only_valid_names, HaveOnePrefix};
 
-use crate::common::{Encoding, compare_texts};
+use crate::common::{Encoding, compare_prefixes, compare_texts};
 use crate::errors::CheckedPathError;
 use crate::scan::{
     Cursor, Found, Piece, Separators, WindowsPrefix, are_apart, base_end, byte_behind_two,
@@ -97,10 +98,16 @@ impl Encoding for WindowsEncoding {
 
     #[inline(always)]
     fn order_behind_prefix(path: &[u8], other: &[u8]) -> Option<Ordering> {
-        match shared_drive(path, other) {
-            Some(end) => Some(compare_texts(&path[end..], &other[end..], Separators::Either)),
-            None => order_behind_marked(path, other),
+        let (Some((drive, body)), Some((other_drive, other_body))) = (
+            parted_drive(path),
+            parted_drive(other),
+        ) else {
+            return order_behind_marked(path, other);
+        };
+        if drive == other_drive {
+            return Some(compare_texts(body, other_body, Separators::Either));
         }
+        order_of_drives(drive, other_drive)
     }
 
     fn valid(name: &[u8]) -> bool {
@@ -219,22 +226,56 @@ fn shared_marked_prefix(path: &[u8], other: &[u8]) -> Option<(usize, Separators)
     ensures within { IfSome result
         (λ shared. (shared.0 ≤ length path.now) × (shared.0 ≤ length other.now)) }
 {
-    if path.len() < 6 || other.len() < 6 || path[2..6] != other[2..6] {
-        return None;
-    }
-    let found = find_prefix(path)?;
+    let found = marked_prefix(path, other)?;
     if !begins_with_prefix(other, path, found) {
         return None;
     }
     Some((found.length, Separators::of_windows(path)))
 }
 
-/// The order of two paths that begin with such a prefix. None says nothing.
+/// The prefix of a path, where the bytes behind the first two are those of another path. None says nothing.
+#[inline(always)]
+fn marked_prefix<'a>(path: &'a [u8], other: &[u8]) -> Option<Found<'a>>
+    ensures { IfSome result (λ found. prefix_of windows path.now ≡ Some (found_of found)) }
+{
+    if path.len() < 6 || other.len() < 6 || path[2..6] != other[2..6] {
+        return None;
+    }
+    find_prefix(path)
+}
+
+/// The order of two paths that begin with such a prefix, or with different ones. None says nothing.
 fn order_behind_marked(path: &[u8], other: &[u8]) -> Option<Ordering>
     ensures { IfSome result (λ order. path_cmp windows path.now other.now ≡ order) }
 {
-    let (end, separators) = shared_marked_prefix(path, other)?;
+    let found = marked_prefix(path, other)?;
+    if !begins_with_prefix(other, path, found) {
+        return order_of_prefixes(found.kind, other);
+    }
+    let end = found.length;
+    let separators = Separators::of_windows(path);
     Some(compare_texts(&path[end..], &other[end..], separators))
+}
+
+/// The order of a prefix and that of a text, where they differ.
+fn order_of_prefixes(own: WindowsPrefix<'_>, text: &[u8]) -> Option<Ordering>
+    ensures { IfSome result (λ order. (found : PrefixFound)
+        × (prefix_of windows text.now ≡ Some found)
+        × (kind_cmp (prefix (prefix_view own.entry)) (prefix found.prefix) ≡ order)
+        × (is_ne order ≡ true)) }
+{
+    let found = find_prefix(text)?;
+    let order = compare_prefixes(own, found.kind);
+    if order.is_ne() { Some(order) } else { None }
+}
+
+/// The order of two drives, where both are there.
+#[inline(always)]
+fn order_of_drives(drive: Option<u8>, other: Option<u8>) -> Option<Ordering>
+    ensures { IfSome result (λ order. (a : ℕ) × (b : ℕ) × (drive ≡ Some a) × (other ≡ Some b)
+        × (kind_cmp (prefix (disk a)) (prefix (disk b)) ≡ order)) }
+{
+    Some(drive?.cmp(&other?))
 }
 
 /// Whether a text begins with the prefix of a path and a separator behind it, which is its own prefix
