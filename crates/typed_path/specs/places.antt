@@ -2,4 +2,4 @@
 pub mod Places
 pub mod Rows
 pub use Rattle.typed_path.specs.places.Places.{normal_text, overdraws, place, resolve, stays, with_implied_root}
-pub use Rattle.typed_path.specs.places.Rows.{ArePlainRows, AreRows, AreRowsOf, HasPlainNames, HaveNoDisks, IsHeadOf, IsNormal, IsParted, IsPartedEither, IsRowHead, TakesRows, names_left, names_left_of, row_end, rows, rows_of, settled}
+pub use Rattle.typed_path.specs.places.Rows.{ArePlainRows, ArePut, AreRows, AreRowsOf, HasPlainNames, HaveNoDisks, IsHeadOf, IsNormal, IsParted, IsPartedEither, IsRowHead, TakesRows, names_left, names_left_of, row_end, rows, rows_of, settled}

@@ -16,6 +16,7 @@ pub use cut::{
 };
 pub use lanes::{
     first_between, first_difference, has_forbidden, has_no_nul_or_dot_pair, has_only_names,
+    leading_names,
 };
 pub use prefix::{
     Found, WindowsPrefix, after_mark, byte_behind_two, drive, find_prefix, parted_drive,

@@ -2,7 +2,7 @@
 -- Resolving: what a list resolves to: names that it comes down to, lists put behind one another, and a root put in
 -- UnixRows: the normal text of Unix, written row by row
 -- WindowsRows: the normal text of Windows, written row by row
--- NamedRows: the rows of a text that holds names alone, which are its bytes
+-- NamedRows: the rows of names that stand side by side in a text, which are its bytes there
 pub mod Resolving
 pub mod UnixRows
 pub mod WindowsRows

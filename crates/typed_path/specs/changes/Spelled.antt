@@ -1,5 +1,5 @@
 -- The texts of Windows that a push spells anew as they stand, and how such a text is written.
-use Rattle.std.specs.Prelude.{◌≡◌, ℕ, ◌+◌, List, [], ◌∷◌, ◌++◌, map, length, sum_by, slice_index, if◌then◌else◌, Bool, true, false, not, ◌&&◌, ◌||◌, ◌==◌, Option, Some, None, ⊤}
+use Rattle.std.specs.Prelude.{◌≡◌, ◌≤◌, ℕ, ◌+◌, drop, List, [], ◌∷◌, ◌++◌, map, length, sum_by, slice_index, if◌then◌else◌, Bool, true, false, not, ◌&&◌, ◌||◌, ◌==◌, Option, Some, None, ⊤}
 use Rattle.std.specs.List.{list_any, list_all, slice_split, All, AllByRecursion}
 use Rattle.typed_path.specs.declared.scan.separators.Separators.{Separators}
 use Rattle.typed_path.specs.declared.scan.separators.Separators.TheVariants.{Slash, Backslash, Either}
@@ -55,6 +55,13 @@ begins_no_name pair a b = is_one_of pair a || (a == dot && (is_one_of pair b || 
 -- one of a pair stands at a place of a text, and such a piece behind it
 abbrev pub begins_no_name_at : ℕ × ℕ → List ℕ → ℕ → Bool
 begins_no_name_at pair text k = stands_at pair text k && begins_no_name pair (slice_index text (k + 1)) (slice_index text (k + 2))
+
+-- names are the pieces of a text before a place: a byte of a pair stands behind each
+pub record AreNamesBefore (pair : ℕ × ℕ) (text : List ℕ) (place : ℕ) : Type 0 where
+  pub names : List (List ℕ)
+  pub within : place ≤ length text
+  pub named : list_all is_name_piece names ≡ true
+  pub parted : slice_split (is_one_of pair) text ≡ names ++ slice_split (is_one_of pair) (drop place text)
 
 -- what stands between the separators of a path of Windows, as names
 abbrev pub names_of : List ℕ → List Part

@@ -1,12 +1,13 @@
 -- The normal text as it is written behind a text: a head, and then each name with a separator behind it.
 use Rattle.std.specs.Prelude.{◌≡◌, ◌⊎◌, ◌<◌, ◌≤◌, ℕ, ◌-◌, List, [], ◌∷◌, ◌++◌, true, false, ◌||◌, ◌==◌, length, take, drop, if◌then◌else◌, Some, None, ⊤}
-use Rattle.std.specs.List.{list_any, flat_map, fold, slice_split, All, AllByRecursion}
+use Rattle.std.specs.List.{list_all, list_any, flat_map, fold, slice_split, All, AllByRecursion}
 use Rattle.typed_path.specs.declared.scan.separators.Separators.{Separators}
 use Rattle.typed_path.specs.declared.scan.separators.Separators.TheVariants.{Slash, Backslash, Either}
 use Rattle.typed_path.specs.components.Dialects.{Dialect, unix, windows, slash, backslash, separators, is_separator, is_verbatim}
 use Rattle.typed_path.specs.components.Comps.{is_dot, is_dot_dot}
 use Rattle.typed_path.specs.components.Prefixes.{Found, drive, prefix_of}
 use Rattle.typed_path.specs.changes.Push.{raw_length, raw_prefix, spells_anew}
+use Rattle.typed_path.specs.changes.Spelled.{is_name_piece}
 use Rattle.typed_path.specs.places.Places.{normal_text}
 use Rattle.typed_path.specs.promises.Promises.{is_verbatim_unc_name}
 
@@ -34,6 +35,13 @@ pub record AreRowsOf (s : Separators) (text head : List ℕ) (names : List (List
 
 abbrev pub AreRows : List ℕ → List ℕ → List (List ℕ) → Type 0
 AreRows text head names = AreRowsOf Slash text head names
+
+-- the first of some pieces, which are names, put in rows behind a text: the later ones are still to come
+pub record ArePut (s : Separators) (old new : List ℕ) (pieces later : List (List ℕ)) : Type 0 where
+  pub names : List (List ℕ)
+  pub named : list_all is_name_piece names ≡ true
+  pub parted : pieces ≡ names ++ later
+  pub is : new ≡ old ++ rows_of s names
 
 -- names once one more segment came: an empty one and `.` are nothing, `..` takes a name away
 abbrev pub settled : List (List ℕ) → List ℕ → List (List ℕ)

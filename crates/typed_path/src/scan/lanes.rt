@@ -1,14 +1,14 @@
 //! Bytes found by blocks of 32, of 16, of 8 and of 4. What is looked for is a pair, which is one
 //! byte twice where no other is: so one and two are looked for in the same way. Of the bytes that no
 //! name of Windows may have, it is only told whether a text has one, of NUL and two dots side by side
-//! likewise, and of what stands between the bytes of a pair, whether all are names. Of two texts the
-//! first place is found at which they differ.
+//! likewise, and of what stands between the bytes of a pair, how much at the front is names. Of two texts
+//! the first place is found at which they differ.
 
-ghost use Rattle.std.specs.Prelude.{◌≡◌, ◌≢◌, ◌≤◌, ◌<◌, ◌+◌, ◌-◌, ◌^◌, ◌==◌, ℕ, Bool, true, IsTrue, length, min, slice_index};
+ghost use Rattle.std.specs.Prelude.{◌≡◌, ◌≢◌, ◌≤◌, ◌<◌, ◌+◌, ◌-◌, ◌^◌, ◌==◌, ℕ, Bool, true, IsTrue, MatchOption, length, min, slice_index};
 ghost use Rattle.std.specs.Int.{bit_at};
 ghost use Rattle.std.specs.List.{list_any, list_all, slice_split};
 ghost use Rattle.std.specs.Slice.Scan.{HoldsNowhere, IsFirstPlace};
-ghost use Rattle.typed_path.specs.changes.{is_forbidden, is_forbidden_or, forbidden_at, is_low, begins_no_name, begins_no_name_at, is_name_piece, is_nul_or_dot_pair, nul_or_dot_pair_at, has_no_nul_or_dot_pair};
+ghost use Rattle.typed_path.specs.changes.{is_forbidden, is_forbidden_or, forbidden_at, is_low, begins_no_name, begins_no_name_at, is_name_piece, is_nul_or_dot_pair, nul_or_dot_pair_at, has_no_nul_or_dot_pair, AreNamesBefore};
 ghost use Rattle.typed_path.specs.scan.{IsMask, TellsWhether, is_one_of, stands_at, differs_at, IsFirstOf, IsBehindLastOf};
 
 use std::simd::prelude::*;
@@ -605,40 +605,114 @@ fn no_names_at<const N: usize>(text: &[u8], at: usize, pair: (u8, u8)) -> u64
     marks_at::<N>(text, at, pair) & (marks_at::<N>(text, at + 1, pair) | dots)
 }
 
-/// Whether a text of two bytes or more has no such piece behind a byte of a pair, but for its last two
-/// bytes.
+/// The first byte of a block that is one of a pair with such a piece behind it, or the end of the block.
 #[inline(always)]
-fn has_names_behind(text: &[u8], pair: (u8, u8)) -> bool
-    requires { 2 ≤ length text.now }
-    ensures { IsTrue result
-        → HoldsNowhere (begins_no_name_at pair text.now) 0 (length text.now - 2) }
+fn first_no_name_in_block<const N: usize>(text: &[u8], at: usize, pair: (u8, u8)) -> usize
+    requires lanes { (0 < N) × (N ≤ 64) }
+    requires in_range { at + N + 2 ≤ length text.now }
+    ensures { IsFirstPlace (begins_no_name_at pair text.now) at (at + N) result }
 {
-    let to = text.len() - 2;
+    first_marked::<N>(no_names_at::<N>(text, at, pair), at)
+}
+
+/// The first such byte before a place of a text, or that place, by two blocks. Mostly there is none,
+/// which one branch tells.
+#[inline(always)]
+fn first_no_name_in_two<const N: usize>(text: &[u8], to: usize, pair: (u8, u8)) -> usize
+    requires lanes { (0 < N) × (N ≤ 64) }
+    requires size { (N ≤ to) × (to ≤ N + N) }
+    requires in_range { to + 2 ≤ length text.now }
+    ensures { IsFirstPlace (begins_no_name_at pair text.now) 0 to result }
+{
+    let first = no_names_at::<N>(text, 0, pair);
+    let last = no_names_at::<N>(text, to - N, pair);
+    if (first == 0) & (last == 0) {
+        return to;
+    }
+    let place = first_marked::<N>(first, 0);
+    if place < N {
+        return place;
+    }
+    first_marked::<N>(last, to - N)
+}
+
+/// The same, byte by byte.
+#[inline(always)]
+fn first_no_name_by_one(text: &[u8], to: usize, pair: (u8, u8)) -> usize
+    requires { to + 2 ≤ length text.now }
+    ensures { IsFirstPlace (begins_no_name_at pair text.now) 0 to result }
+{
+    let mut at = 0;
+    while at < to
+        && !(is_one_of(pair, text[at]) && begins_no_name(pair, text[at + 1], text[at + 2]))
+    {
+        at += 1;
+    }
+    at
+}
+
+/// The first such byte before a place of a text, or that place.
+#[inline(always)]
+fn first_no_name(text: &[u8], to: usize, pair: (u8, u8)) -> usize
+    requires { to + 2 ≤ length text.now }
+    ensures { IsFirstPlace (begins_no_name_at pair text.now) 0 to result }
+{
     let mut at = 0;
     'wholes: while 32 <= to - at {
-        if no_names_at::<32>(text, at, pair) != 0 {
-            return false;
+        let found = first_no_name_in_block::<32>(text, at, pair);
+        if found < at + 32 {
+            return found;
         }
         at += 32;
     }
     if 32 <= to {
-        return no_names_at::<32>(text, to - 32, pair) == 0;
+        return first_no_name_in_block::<32>(text, to - 32, pair);
     }
     if 16 <= to {
-        let first = no_names_at::<16>(text, 0, pair);
-        return (first == 0) & (no_names_at::<16>(text, to - 16, pair) == 0);
+        return first_no_name_in_two::<16>(text, to, pair);
     }
     if 8 <= to {
-        let first = no_names_at::<8>(text, 0, pair);
-        return (first == 0) & (no_names_at::<8>(text, to - 8, pair) == 0);
+        return first_no_name_in_two::<8>(text, to, pair);
     }
-    'bytes: while at < to {
-        if is_one_of(pair, text[at]) && begins_no_name(pair, text[at + 1], text[at + 2]) {
-            return false;
-        }
-        at += 1;
+    first_no_name_by_one(text, to, pair)
+}
+
+/// How many bytes at the front of a text are names, each with a byte of a pair behind it, as looks at
+/// its bytes tell; none where each piece between two bytes of the pair is a name.
+///
+/// A piece that begins as `..` does, as `..a`, is taken for none.
+#[inline(always)]
+pub fn leading_names(text: &[u8], pair: (u8, u8)) -> Option<usize>
+    ensures { MatchOption result
+        (list_all is_name_piece (slice_split (is_one_of pair) text.now) ≡ true)
+        (λ place. AreNamesBefore pair text.now place) }
+{
+    if let [only] = text {
+        return if begins_no_name(pair, *only, *only) {
+            Some(0)
+        } else {
+            None
+        };
     }
-    true
+    let [first, second, ..] = text else {
+        return Some(0);
+    };
+    if begins_no_name(pair, *first, *second) {
+        return Some(0);
+    }
+    let to = text.len() - 2;
+    let found = first_no_name(text, to, pair);
+    if found < to {
+        return Some(found + 1);
+    }
+    let last = text[to + 1];
+    if is_one_of(pair, text[to]) && begins_no_name(pair, last, last) {
+        return Some(to + 1);
+    }
+    if is_one_of(pair, last) {
+        return Some(to + 2);
+    }
+    None
 }
 
 /// Whether looks at the bytes of a text tell that each piece between two bytes of a pair is a name: not
@@ -648,14 +722,5 @@ pub fn has_only_names(text: &[u8], pair: (u8, u8)) -> bool
     ensures { IsTrue result
         → list_all is_name_piece (slice_split (is_one_of pair) text.now) ≡ true }
 {
-    if let [only] = text {
-        return !begins_no_name(pair, *only, *only);
-    }
-    let [first, .., last] = text else {
-        return false;
-    };
-    if begins_no_name(pair, *first, text[1]) | begins_no_name(pair, *last, *last) {
-        return false;
-    }
-    has_names_behind(text, pair)
+    leading_names(text, pair).is_none()
 }

@@ -1,10 +1,11 @@
 //! The encoding of Unix paths: how one is pushed, judged and brought into its normal text.
 
-ghost use Rattle.std.specs.Prelude.{false, ◌≡◌, ◌≤◌, ◌+◌, ◌++◌, ℕ, take, slice_range, length, IfSome, IsNone, IsOk, OnOk, OnErr, ◌<◌, ◌-◌, List, [], codes, Some};
+ghost use Rattle.std.specs.Prelude.{false, ◌≡◌, ◌≤◌, ◌+◌, ◌++◌, ℕ, take, slice_range, length, IfOk, IfSome, IsNone, IsOk, MatchOption, OnOk, OnErr, ◌<◌, ◌-◌, List, [], codes, Some};
 ghost use Rattle.std.specs.Vec.{vec_capacity, vec_len};
-ghost use Rattle.typed_path.specs.components.{unix, slash};
+ghost use Rattle.std.specs.List.{slice_split};
+ghost use Rattle.typed_path.specs.components.{unix, slash, is_separator};
 ghost use Rattle.typed_path.specs.changes.{push_unix, ended_with, FitsPush};
-ghost use Rattle.typed_path.specs.places.{normal_text, rows, settled, names_left, AreRows, IsParted};
+ghost use Rattle.typed_path.specs.places.{normal_text, rows, settled, names_left, AreRows, ArePut, IsParted};
 
 use crate::common::{
     Encoding, append_first, behind_segment, compare_texts, cut_back, drop_name, drop_separator,
@@ -13,7 +14,7 @@ use crate::common::{
 use crate::errors::CheckedPathError;
 use crate::scan::{
     Cursor, Piece, Separators, StepKind, are_apart, base_end, cut_at_separator, first_difference,
-    has_no_nul_or_dot_pair, has_only_names, has_valid_names, step_of,
+    has_no_nul_or_dot_pair, has_valid_names, leading_names, step_of,
 };
 use std::alloc::AllocError;
 use std::cmp::Ordering;
@@ -218,8 +219,8 @@ fn split_root(path: &[u8]) -> (&[u8], &[u8])
     }
 }
 
-/// Puts the names that are left of a path behind the first bytes of a text. A path that looks at its bytes
-/// tell to hold names alone is put at once.
+/// Puts the names that are left of a path behind the first bytes of a text. Names that stand side by side
+/// are put at once, and only what stands between them is settled by segments.
 fn put_segments(text: &mut Vec<u8>, len: usize, path: &[u8]) -> Result<(), AllocError>
     requires { len ≤ length text.old.items }
     ensures ok { OnOk result ((head : List ℕ) → length head ≡ len → AreRows text.old.items head []
@@ -229,18 +230,41 @@ fn put_segments(text: &mut Vec<u8>, len: usize, path: &[u8]) -> Result<(), Alloc
     ensures capacity { vec_capacity text.old ≤ vec_capacity text.new }
     ensures succeeds { vec_len text.old + length path.now < vec_capacity text.old → IsOk result }
 {
-    if has_only_names(path, (b'/', b'/')) {
-        text.reserve(path.len() + 1)?;
-        text.extend_from_slice(path)?;
-        text.push(b'/')?;
-        return Ok(());
-    }
+    text.reserve(path.len() + 1)?;
     let mut rest = path;
-    'segments: while let Some((segment, behind)) = cut_at_separator(Separators::Slash, rest) {
-        put_segment(text, len, segment, rest)?;
+    'segments: while let Some(left) = put_names(text, rest)? {
+        let Some((segment, behind)) = cut_at_separator(Separators::Slash, left) else {
+            return put_segment(text, len, left, left);
+        };
+        put_segment(text, len, segment, left)?;
         rest = behind_segment(segment, behind, Separators::Slash);
     }
-    put_segment(text, len, rest, rest)
+    Ok(())
+}
+
+/// Puts the names that a path begins with behind a text, each with a separator behind it, and answers what
+/// is left; none where all of it was put.
+#[inline(always)]
+fn put_names<'a>(text: &mut Vec<u8>, path: &'a [u8]) -> Result<Option<&'a [u8]>, AllocError>
+    ensures ok { IfOk result (λ left. MatchOption left
+        (ArePut Separators.Slash text.old.items text.new.items
+        (slice_split (is_separator Separators.Slash) path.now) [])
+        (λ rest. ArePut Separators.Slash text.old.items text.new.items
+        (slice_split (is_separator Separators.Slash) path.now)
+        (slice_split (is_separator Separators.Slash) rest.now))) }
+    ensures front { take (length text.old.items) text.new.items ≡ text.old.items }
+    ensures room { IfOk result (λ left. IfSome left (λ rest.
+        vec_len text.new + length rest.now ≡ vec_len text.old + length path.now)) }
+    ensures capacity { vec_capacity text.old ≤ vec_capacity text.new }
+    ensures succeeds { vec_len text.old + length path.now < vec_capacity text.old → IsOk result }
+{
+    let Some(names) = leading_names(path, (b'/', b'/')) else {
+        text.extend_from_slice(path)?;
+        text.push(b'/')?;
+        return Ok(None);
+    };
+    text.extend_from_slice(&path[..names])?;
+    Ok(Some(&path[names..]))
 }
 
 /// Settles one more segment, which is what the rest begins with, behind the names that stand.

@@ -1,12 +1,13 @@
 //! The normal text of a Windows path.
 
-ghost use Rattle.std.specs.Prelude.{◌≡◌, ◌<◌, ◌≤◌, ◌+◌, ◌-◌, ◌++◌, ℕ, List, [], false, take, drop, length, map, IsTrue, IsSome, IfSome, IsOk, IfOk, OnOk, OnErr, None};
-ghost use Rattle.std.specs.List.{slice_split};
+ghost use Rattle.std.specs.Prelude.{◌≡◌, ◌<◌, ◌≤◌, ◌+◌, ◌-◌, ◌++◌, ℕ, List, [], false, take, drop, length, map, IsTrue, IsSome, IfSome, IsOk, IfOk, OnOk, OnErr, MatchOption, None};
+ghost use Rattle.std.specs.List.{list_any, slice_split};
 ghost use Rattle.std.specs.Vec.{vec_len, vec_capacity};
 ghost use Rattle.typed_path.specs.declared.scan.separators.Separators.{Separators};
-ghost use Rattle.typed_path.specs.components.{windows, is_separator, drive};
+ghost use Rattle.typed_path.specs.components.{windows, colon, is_separator, drive};
+ghost use Rattle.typed_path.specs.scan.{is_one_of};
 ghost use Rattle.typed_path.specs.changes.{push_windows, push_all, spells_anew};
-ghost use Rattle.typed_path.specs.places.{normal_text, rows_of, settled, AreRowsOf, ArePlainRows, IsRowHead, IsPartedEither, TakesRows, HaveNoDisks, HasPlainNames, IsHeadOf};
+ghost use Rattle.typed_path.specs.places.{normal_text, rows_of, settled, AreRowsOf, ArePlainRows, ArePut, IsRowHead, IsPartedEither, TakesRows, HaveNoDisks, HasPlainNames, IsHeadOf};
 ghost use Rattle.typed_path.specs.views.PieceViews.{found_of};
 
 use crate::common::{
@@ -14,7 +15,7 @@ use crate::common::{
 };
 use crate::scan::{
     Cursor, Found, PieceKind, Separators, StepKind, WindowsPrefix, cut_at_separator, drive,
-    find_prefix, has_only_names, is_free_of, step_of,
+    find_prefix, is_free_of, leading_names, step_of,
 };
 use crate::windows::push::{is_separated, push_at, push_next};
 use std::alloc::AllocError;
@@ -168,12 +169,8 @@ fn put_segments(text: &mut Vec<u8>, len: usize, path: &[u8]) -> Result<bool, All
     ensures told { HaveNoDisks (slice_split (is_separator Separators.Either) path.now)
         → IfOk result (λ plain. IsTrue plain) }
 {
-    if LEAST <= path.len()
-        && is_free_of((b':', b':'), path)
-        && has_only_names(path, (b'/', b'\\'))
-    {
-        put_turned(text, path, Separators::Either, b'\\')?;
-        text.push(b'\\')?;
+    if LEAST <= path.len() && is_free_of((b':', b':'), path) {
+        put_undriven(text, len, path)?;
         return Ok(true);
     }
     let mut rest = path;
@@ -184,6 +181,57 @@ fn put_segments(text: &mut Vec<u8>, len: usize, path: &[u8]) -> Result<bool, All
         rest = behind_segment(segment, behind, Separators::Either);
     }
     put_segment(text, len, rest, rest)
+}
+
+/// The same of a path in which no `:` stands, so that no name begins with a drive. Names that stand side
+/// by side are put at once, and only what stands between them is settled by segments.
+fn put_undriven(text: &mut Vec<u8>, len: usize, path: &[u8]) -> Result<(), AllocError>
+    requires within { len ≤ length text.old.items }
+    requires free { list_any (is_one_of (colon, colon)) path.now ≡ false }
+    ensures ok { OnOk result ((head : List ℕ) → length head ≡ len
+        → AreRowsOf Separators.Either text.old.items head []
+        → ArePlainRows text.new.items head path.now) }
+    ensures kept { take len text.new.items ≡ take len text.old.items }
+    ensures long { len ≤ length text.new.items }
+    ensures capacity { vec_capacity text.old ≤ vec_capacity text.new }
+    ensures succeeds { vec_len text.old + length path.now < vec_capacity text.old → IsOk result }
+{
+    text.reserve(path.len() + 1)?;
+    let mut rest = path;
+    'segments: while let Some(left) = put_names(text, rest)? {
+        let Some((segment, behind)) = cut_at_separator(Separators::Either, left) else {
+            put_segment(text, len, left, left)?;
+            return Ok(());
+        };
+        put_segment(text, len, segment, left)?;
+        rest = behind_segment(segment, behind, Separators::Either);
+    }
+    Ok(())
+}
+
+/// Puts the names that a path begins with behind a text, each with a separator behind it, and answers what
+/// is left; none where all of it was put.
+#[inline(always)]
+fn put_names<'a>(text: &mut Vec<u8>, path: &'a [u8]) -> Result<Option<&'a [u8]>, AllocError>
+    ensures ok { IfOk result (λ left. MatchOption left
+        (ArePut Separators.Either text.old.items text.new.items
+        (slice_split (is_separator Separators.Either) path.now) [])
+        (λ rest. ArePut Separators.Either text.old.items text.new.items
+        (slice_split (is_separator Separators.Either) path.now)
+        (slice_split (is_separator Separators.Either) rest.now))) }
+    ensures front { take (length text.old.items) text.new.items ≡ text.old.items }
+    ensures room { IfOk result (λ left. IfSome left (λ rest.
+        vec_len text.new + length rest.now ≡ vec_len text.old + length path.now)) }
+    ensures capacity { vec_capacity text.old ≤ vec_capacity text.new }
+    ensures succeeds { vec_len text.old + length path.now < vec_capacity text.old → IsOk result }
+{
+    let Some(names) = leading_names(path, (b'/', b'\\')) else {
+        put_turned(text, path, Separators::Either, b'\\')?;
+        text.push(b'\\')?;
+        return Ok(None);
+    };
+    put_turned(text, &path[..names], Separators::Either, b'\\')?;
+    Ok(Some(&path[names..]))
 }
 
 /// Settles one more segment, which is what the rest begins with, behind the names that stand, and

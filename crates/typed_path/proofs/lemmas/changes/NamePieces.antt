@@ -1,8 +1,8 @@
 -- Texts of which looks at their bytes tell that all their pieces are names, and how such a text is merged and written.
-use Rattle.std.proofs.Common.{◌≡◌, ℕ, suc, ◌+◌, ◌-◌, ◌<◌, ◌≤◌, ◌==◌, Bool, true, false, not, ◌&&◌, ◌||◌, if◌then◌else◌, List, [], ◌∷◌, ◌++◌, map, length, take, drop, slice_index, Option, Some, None, refl, sym, ap, subst, ◌∙◌, append_assoc, append-nil, arith, ne_eqb, eq-eqb, eqb-true, true≢false, length-append, length-drop, take_all}
+use Rattle.std.proofs.Common.{◌≡◌, ℕ, zero, suc, ◌+◌, ◌-◌, ◌<◌, ◌≤◌, ◌==◌, Bool, true, false, not, ◌&&◌, ◌||◌, if◌then◌else◌, List, [], ◌∷◌, ◌++◌, map, length, take, drop, slice_index, Option, Some, None, refl, sym, ap, subst, ◌∙◌, append_assoc, append-nil, arith, ne_eqb, eq-eqb, eqb-true, true≢false, ⊎_elim, length-append, length-drop, take_all}
 use Rattle.std.specs.List.{list_all, slice_split, onto_first, AllByRecursion}
 use Rattle.std.specs.Slice.Scan.{HoldsNowhere}
-use Rattle.std.proofs.lemmas.Bool.{and_parts, or_parts, both_ways}
+use Rattle.std.proofs.lemmas.Bool.{and_parts, or_parts, both_ways, cases_lt}
 use Rattle.std.proofs.lemmas.List.{drop-append-le, take_more, take_at, drop_at}
 use Rattle.std.proofs.lemmas.List.Concat.{flat_map-append}
 use Rattle.std.proofs.lemmas.List.Splits.{slice_split-cons_yes, slice_split-cons_no}
@@ -11,7 +11,7 @@ use Rattle.typed_path.specs.declared.scan.separators.Separators.TheVariants.{Bac
 use Rattle.typed_path.specs.components.{windows, dot, backslash, is_separator, is_verbatim, is_dot, is_dot_dot, is_empty, Part, parts, kinds, current_part, parent_part, name_part, Found, prefix_of, parts_of, later_body}
 use Rattle.typed_path.specs.queries.{has_prefix}
 use Rattle.typed_path.specs.scan.{is_one_of, stands_at, turned}
-use Rattle.typed_path.specs.changes.{begins_no_name, begins_no_name_at, is_component, is_name_piece, merged, names_behind, names_of, HoldsNames, IsStanding, Stands, jointed}
+use Rattle.typed_path.specs.changes.{AreNamesBefore, begins_no_name, begins_no_name_at, is_component, is_name_piece, merged, names_behind, names_of, HoldsNames, IsStanding, Stands, jointed}
 use Rattle.typed_path.proofs.lemmas.lists.Lists.{IsUnseparated, slice_split-some, slice_split-append, slice_split-unseparated}
 use Rattle.typed_path.proofs.lemmas.components.Segments.{pieces, first_part, later_part, first_parts, later_parts, named_part, parts-later_body}
 use Rattle.typed_path.proofs.lemmas.changes.Faults.{parts_of-none, parts_of-some}
@@ -79,27 +79,36 @@ module _ (pair : ℕ × ℕ) where
   all-names split piece pieces is name later =
       ap (list_all is_name_piece) is ∙ ap (λ x. x && list_all is_name_piece pieces) name ∙ ap (λ ps. list_all is_name_piece (drop 1 ps)) (sym is) ∙ later
 
-  -- what is told of the places of a text is told of those behind its first
-  behind : (b : ℕ) (bs : List ℕ) → HoldsNowhere (begins_no_name_at pair (b ∷ bs)) 0 (length (b ∷ bs) - 2) → HoldsNowhere (begins_no_name_at pair bs) 0 (length bs - 2)
-  behind b bs none k low high =
+  -- what a place of a text tells is told behind its first byte
+  place-behind : (b k : ℕ) (bs : List ℕ) → begins_no_name_at pair (b ∷ bs) (suc k) ≡ begins_no_name_at pair bs k
+  place-behind b k bs =
       let one : suc k + 1 ≡ suc (k + 1) = omega arith in
       let two : suc k + 2 ≡ suc (k + 2) = omega arith in
-      sym {a = begins_no_name_at pair (b ∷ bs) (suc k)} (λ i. stands_at pair bs k && begins_no_name pair (slice_index (b ∷ bs) (one i)) (slice_index (b ∷ bs) (two i))) ∙ none (suc k) (omega arith) (omega (arith, high))
+      λ i. stands_at pair bs k && begins_no_name pair (slice_index (b ∷ bs) (one i)) (slice_index (b ∷ bs) (two i))
+
+  -- the last byte of a text is no separator, and no piece of its own that is no name
+  record IsClosed (before last : ℕ) : Type 0 where
+    pub apart : separates last ≡ false
+    pub filled : (separates before && begins_no_name pair last last) ≡ false
 
   -- so all pieces but the first are names
-  later-names : (b : ℕ) (bs : List ℕ) (last : ℕ) → HoldsNowhere (begins_no_name_at pair (b ∷ bs)) 0 (length (b ∷ bs) - 2) → slice_index (b ∷ bs) (length bs) ≡ last → begins_no_name pair last last ≡ false
+  later-names : (b : ℕ) (bs : List ℕ) (before last : ℕ) → HoldsNowhere (begins_no_name_at pair (b ∷ bs)) 0 (length (b ∷ bs) - 2) → slice_index (b ∷ bs) (length bs - 1) ≡ before → slice_index (b ∷ bs) (length bs) ≡ last → IsClosed before last
       → list_all is_name_piece (drop 1 (slice_split separates (b ∷ bs))) ≡ true
-  later-names b [] last none is end =
-      ap (λ ps. list_all is_name_piece (drop 1 ps)) (slice_split-cons_no separates b [] (ap separates is ∙ (alone-name last end).0))
-  later-names b (c ∷ []) last none is end = by (separates b) refl
+  later-names b [] before last none at is end =
+      ap (λ ps. list_all is_name_piece (drop 1 ps)) (slice_split-cons_no separates b [] (ap separates is ∙ end.apart))
+  later-names b (c ∷ []) before last none at is end = by (separates b) refl
     where
-      own : (separates c ≡ false) × (is_name_piece (c ∷ []) ≡ true)
-      own = alone-name c (ap (λ x. begins_no_name pair x x) is ∙ end)
+      closed : separates c ≡ false
+      closed = ap separates is ∙ end.apart
 
       by : (s : Bool) → separates b ≡ s → list_all is_name_piece (drop 1 (slice_split separates (b ∷ c ∷ []))) ≡ true
-      by true e = ap (λ ps. list_all is_name_piece (drop 1 ps)) (slice_split-cons_yes separates b (c ∷ []) e) ∙ ap (list_all is_name_piece) (slice_split-cons_no separates c [] own.0) ∙ ap (λ x. x && true) own.1
-      by false e = ap (λ ps. list_all is_name_piece (drop 1 ps)) (slice_split-cons_no separates b (c ∷ []) e ∙ ap (onto_first b) (slice_split-cons_no separates c [] own.0))
-  later-names b (c ∷ d ∷ ds) last none is end = by (separates b) refl (later-names c (d ∷ ds) last (behind b (c ∷ d ∷ ds) none) is end)
+      by true e =
+          let own = (alone-name c (ap (λ s. s && begins_no_name pair c c) (sym e) ∙ (λ i. separates (at i) && begins_no_name pair (is i) (is i)) ∙ end.filled)).1 in
+          ap (λ ps. list_all is_name_piece (drop 1 ps)) (slice_split-cons_yes separates b (c ∷ []) e) ∙ ap (list_all is_name_piece) (slice_split-cons_no separates c [] closed) ∙ ap (λ x. x && true) own
+      by false e = ap (λ ps. list_all is_name_piece (drop 1 ps)) (slice_split-cons_no separates b (c ∷ []) e ∙ ap (onto_first b) (slice_split-cons_no separates c [] closed))
+  later-names b (c ∷ d ∷ ds) before last none at is end =
+      let size : length (c ∷ d ∷ ds) - 1 ≡ suc (length (d ∷ ds) - 1) = omega arith in
+      by (separates b) refl (later-names c (d ∷ ds) before last (λ k low high. sym (place-behind b k (c ∷ d ∷ ds)) ∙ none (suc k) (omega arith) (omega (arith, high))) (ap (slice_index (b ∷ c ∷ d ∷ ds)) (sym size) ∙ at) is end)
     where
       by : (s : Bool) → separates b ≡ s → list_all is_name_piece (drop 1 (slice_split separates (c ∷ d ∷ ds))) ≡ true → list_all is_name_piece (drop 1 (slice_split separates (b ∷ c ∷ d ∷ ds))) ≡ true
       by true e later =
@@ -113,14 +122,93 @@ module _ (pair : ℕ × ℕ) where
           ∙ later
 
   -- and all are, where the text is opened as one is
-  pub names-told : (text : List ℕ) (first second last : ℕ) → 1 < length text → slice_index text 0 ≡ first → slice_index text 1 ≡ second → slice_index text (length text - 1) ≡ last
-      → begins_no_name pair first second ≡ false → begins_no_name pair last last ≡ false → HoldsNowhere (begins_no_name_at pair text) 0 (length text - 2) → list_all is_name_piece (slice_split separates text) ≡ true
-  names-told [] first second last long is it at begin end none = absurd (omega (arith, long))
-  names-told (a ∷ []) first second last long is it at begin end none = absurd (omega (arith, long))
-  names-told (a ∷ b ∷ bs) first second last long is it at begin end none =
+  pub names-told : (text : List ℕ) (first second before last : ℕ) → 1 < length text → slice_index text 0 ≡ first → slice_index text 1 ≡ second → slice_index text (length text - 2) ≡ before → slice_index text (length text - 1) ≡ last
+      → begins_no_name pair first second ≡ false → separates last ≡ false → (separates before && begins_no_name pair last last) ≡ false → HoldsNowhere (begins_no_name_at pair text) 0 (length text - 2) → list_all is_name_piece (slice_split separates text) ≡ true
+  names-told [] first second before last long is it at end begin apart filled none = absurd (omega (arith, long))
+  names-told (a ∷ []) first second before last long is it at end begin apart filled none = absurd (omega (arith, long))
+  names-told (a ∷ b ∷ bs) first second before last long is it at end begin apart filled none =
       let named = first-name a b bs ((λ i. begins_no_name pair (is i) (it i)) ∙ begin) in
       let size : length (a ∷ b ∷ bs) - 1 ≡ length (b ∷ bs) = omega arith in
-      all-names (slice_split separates (a ∷ b ∷ bs)) named.0 named.1 named.2 named.3 (later-names a (b ∷ bs) last none (ap (slice_index (a ∷ b ∷ bs)) (sym size) ∙ at) end)
+      let less : length (a ∷ b ∷ bs) - 2 ≡ length (b ∷ bs) - 1 = omega arith in
+      all-names (slice_split separates (a ∷ b ∷ bs)) named.0 named.1 named.2 named.3
+      (later-names a (b ∷ bs) before last none (ap (slice_index (a ∷ b ∷ bs)) (sym less) ∙ at) (ap (slice_index (a ∷ b ∷ bs)) (sym size) ∙ end) (record { apart = apart; filled = filled }))
+
+  -- the pieces before a separator, of which all but the first are names
+  record AreLed (text : List ℕ) (at : ℕ) : Type 0 where
+    pub first : List ℕ
+    pub names : List (List ℕ)
+    pub named : list_all is_name_piece names ≡ true
+    pub parted : slice_split separates text ≡ first ∷ (names ++ slice_split separates (drop (suc at) text))
+
+  -- the first piece of a text that a separator ends is a name, where the text is opened as one is
+  front-name : (b : ℕ) (bs : List ℕ) (at : ℕ) → at < length (b ∷ bs) → separates (slice_index (b ∷ bs) at) ≡ true → begins_no_name pair b (slice_index (b ∷ bs) 1) ≡ false
+      → (piece : List ℕ) × (pieces : List (List ℕ)) × (slice_split separates (b ∷ bs) ≡ piece ∷ pieces) × (is_name_piece piece ≡ true)
+  front-name b [] at within is begin =
+      let here : at ≡ 0 = omega (arith, within) in
+      absurd (true≢false (sym is ∙ ap (λ k. separates (slice_index (b ∷ []) k)) here ∙ (opened b 0 begin).apart))
+  front-name b (c ∷ cs) at within is begin = first-name b c cs begin
+
+  -- one list has one first piece
+  same-name : {piece other : List ℕ} {pieces others ps : List (List ℕ)} → ps ≡ piece ∷ pieces → ps ≡ other ∷ others → is_name_piece other ≡ true → is_name_piece piece ≡ true
+  same-name {piece} {other} {pieces} {others} is it name = let same : piece ≡ other = cc in ap is_name_piece same ∙ name
+
+  -- before the first place that tells of no name they are
+  led : (text : List ℕ) (at : ℕ) → at < length text → separates (slice_index text at) ≡ true → HoldsNowhere (begins_no_name_at pair text) 0 at → AreLed text at
+  led [] at within is none = absurd (omega arith)
+  led (b ∷ bs) zero within is none = record { first = []; names = []; named = refl; parted = slice_split-cons_yes separates b bs is }
+  led (b ∷ []) (suc at) within is none = absurd (omega (arith, within))
+  led (b ∷ c ∷ cs) (suc at) within is none =
+      let later = led (c ∷ cs) at (omega (arith, within)) is (λ k low high. sym (place-behind b k (c ∷ cs)) ∙ none (suc k) (omega arith) (omega (arith, high))) in
+      by (separates b) refl later
+    where
+      by : (s : Bool) → separates b ≡ s → AreLed (c ∷ cs) at → AreLed (b ∷ c ∷ cs) (suc at)
+      by true e later =
+          let front = front-name c cs at (omega (arith, within)) is (ap (λ s. s && begins_no_name pair c (slice_index (c ∷ cs) 1)) (sym e) ∙ none 0 (omega arith) (omega arith)) in
+          let own : is_name_piece later.first ≡ true = same-name later.parted front.2 front.3 in
+          record {
+            first = [];
+            names = later.first ∷ later.names;
+            named = ap (λ x. x && list_all is_name_piece later.names) own ∙ later.named;
+            parted = slice_split-cons_yes separates b (c ∷ cs) e ∙ ap (λ ps. [] ∷ ps) later.parted;
+          }
+      by false e later = record {
+        first = b ∷ later.first;
+        names = later.names;
+        named = later.named;
+        parted = slice_split-cons_no separates b (c ∷ cs) e ∙ ap (onto_first b) later.parted;
+      }
+
+  -- and all are, where the text is opened as one is
+  pub names-before : (text : List ℕ) (first second at : ℕ) → at < length text → slice_index text 0 ≡ first → slice_index text 1 ≡ second → begins_no_name pair first second ≡ false
+      → separates (slice_index text at) ≡ true → HoldsNowhere (begins_no_name_at pair text) 0 at → AreNamesBefore pair text (at + 1)
+  names-before [] first second at within is it begin ends none = absurd (omega (arith, within))
+  names-before (b ∷ bs) first second at within is it begin ends none =
+      let text = b ∷ bs in
+      let on : suc at ≡ at + 1 = omega arith in
+      let later = led text at within ends none in
+      let front = front-name b bs at within ends ((λ i. begins_no_name pair (is i) (it i)) ∙ begin) in
+      record {
+        names = later.first ∷ later.names;
+        within = omega arith;
+        named = ap (λ x. x && list_all is_name_piece later.names) (same-name later.parted front.2 front.3) ∙ later.named;
+        parted = later.parted ∙ ap (λ k. (later.first ∷ later.names) ++ slice_split separates (drop k text)) on;
+      }
+
+  -- so are those of a text that ends with a separator
+  pub names-ended : (text : List ℕ) (first second : ℕ) → 1 < length text → slice_index text 0 ≡ first → slice_index text 1 ≡ second → begins_no_name pair first second ≡ false
+      → separates (slice_index text (length text - 2 + 1)) ≡ true → (separates (slice_index text (length text - 2)) && begins_no_name pair (slice_index text (length text - 2 + 1)) (slice_index text (length text - 2 + 1))) ≡ false
+      → HoldsNowhere (begins_no_name_at pair text) 0 (length text - 2) → AreNamesBefore pair text (length text - 2 + 2)
+  names-ended text first second long is it begin ends filled none =
+      let to = length text - 2 in
+      let two : to + 1 + 1 ≡ to + 2 = omega arith in
+      subst (AreNamesBefore pair text) two
+      (names-before text first second (to + 1) (omega (arith, long)) is it begin ends
+      (λ k low high. ⊎_elim (none k low) (λ l. let here : k ≡ to = omega (arith, l, high) in ap (begins_no_name_at pair text) here ∙ by _ _ (separates (slice_index text to)) (separates (slice_index text (to + 1))) ends filled) (cases_lt k to)))
+    where
+      by : (x y before last : Bool) → last ≡ true → (before && (last || x)) ≡ false → (before && (last || y)) ≡ false
+      by x y true true e h = cc
+      by x y true false e h = cc
+      by x y false last e h = refl
 
 -- names are components
 pub names-components : (s : Separators) (text : List ℕ) → list_all is_name_piece (slice_split (is_one_of (backslash, backslash)) text) ≡ true → true ≡ list_all (is_component s) (slice_split (is_separator Backslash) text)

@@ -142,7 +142,7 @@ pushed-rows head name names is clean each =
     ∙ append_assoc head (name ++ slash ∷ []) (rows names)
 
 -- what holds of each element but the last
-all-front : {X : Type 0} (P : X → Type 0) (xs ys : List X) → AllByRecursion P (xs ++ ys) → AllByRecursion P xs
+pub all-front : {X : Type 0} (P : X → Type 0) (xs ys : List X) → AllByRecursion P (xs ++ ys) → AllByRecursion P xs
 all-front P [] ys each = tt
 all-front P (x ∷ xs) ys each = (each.0, all-front P xs ys each.1)
 

@@ -4,7 +4,7 @@ use Rattle.std.specs.Int.{bit_at, trailing_zeros}
 use Rattle.std.specs.Slice.Scan.{HoldsNowhere, IsFirstPlace, IsLastPlace, HoldsSomewhere}
 use Rattle.std.specs.Simd.Lanes.{mask_l}
 use Rattle.std.proofs.Math.Nat.{two-pow-succ, div-eq_of_lt}
-use Rattle.std.proofs.lemmas.Bool.{cases_lt, eqb-false}
+use Rattle.std.proofs.lemmas.Bool.{cases_lt, eqb-false, and_parts}
 use Rattle.std.proofs.lemmas.List.{get_or-map, get_or_past, length-map}
 use Rattle.std.proofs.lemmas.Nat.{and_mask}
 use Rattle.std.proofs.lemmas.Nat.Bits.{bit_at-zero, bit_at_or, bit_at_and, bit_at-trailing_zeros}
@@ -222,6 +222,30 @@ module _ (q : ℕ → Bool) (at n mask : ℕ) (marks : IsMask (λ k. q (at + k))
           hit = λ _. ap q (omega arith) ∙ found.1;
         },
       )
+
+-- where a test holds nowhere up to the end of a range
+pub place-none : (q : ℕ → Bool) (to : ℕ) → HoldsNowhere q 0 to → IsFirstPlace q 0 to to
+place-none q to none = record { low = omega arith; high = omega arith; before = none; hit = λ l. absurd (omega arith) }
+
+-- the first place within the front of a range is its first
+pub place-front : (q : ℕ → Bool) (n to place : ℕ) → n ≤ to → IsFirstPlace q 0 n place → place < n → IsFirstPlace q 0 to place
+place-front q n to place short found within = record { low = omega arith; high = omega arith; before = found.before; hit = λ _. found.hit within }
+
+-- so is the first within its end, where the test holds nowhere before it
+pub place-back : (q : ℕ → Bool) (from at to place : ℕ) → from ≤ at → HoldsNowhere q 0 at → IsFirstPlace q from to place → IsFirstPlace q 0 to place
+place-back q from at to place near none found = record {
+  low = omega arith;
+  high = found.high;
+  before = λ k low high. ⊎_elim (none k low) (λ l. found.before k (omega (arith, l, near)) high) (cases_lt k at);
+  hit = found.hit;
+}
+
+-- of the first block of a range and the last one, no mask marks a place
+pub both-none : (q : ℕ → Bool) (n to front back : ℕ) → n ≤ to → to ≤ n + n → IsMask (λ k. q (0 + k)) n front → IsMask (λ k. q (to - n + k)) n back → ((front == 0) && (back == 0)) ≡ true → HoldsNowhere q 0 to
+both-none q n to front back room near first last none =
+    let each = and_parts (front == 0) (back == 0) none in
+    let whole : to - n + n ≡ to = omega (arith, room) in
+    subst (HoldsNowhere q 0) whole (block-passed q (to - n) n back last (0 + n) (omega (arith, near)) (block-passed q 0 n front first 0 (omega arith) (λ k low high. absurd (omega (arith, high))) (eqb-true front 0 each.0)) (eqb-true back 0 each.1))
 
 -- what is told of n places from the first on, and of the last n, is told of all
 pub both-tell : (q : ℕ → Bool) (n last : ℕ) (front back : Bool) → last ≤ n → TellsWhether q 0 (0 + n) front → TellsWhether q last (last + n) back → TellsWhether q 0 (last + n) (front || back)

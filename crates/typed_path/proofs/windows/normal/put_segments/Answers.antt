@@ -1,10 +1,9 @@
-use Rattle.std.proofs.Common.{◌≡◌, ◌++◌, ◌∷◌, [], sym, ap, ◌∙◌, List, ℕ, None, Bool, IfOk, refl, subst, arith, Result, Ok, Err}
+use Rattle.std.proofs.Common.{◌≡◌, sym, ◌∙◌, List, ℕ, None, Bool, IfOk, refl, subst, arith, Result, Ok, Err}
 use Rattle.std.proofs.lemmas.Bool.{both_ways, not-true}
 use Rattle.typed_path.specs.declared.scan.separators.Separators.TheVariants.{Either}
-use Rattle.typed_path.specs.components.{drive, backslash}
+use Rattle.typed_path.specs.components.{drive}
 use Rattle.typed_path.specs.places.{HaveNoDisks}
 use Rattle.typed_path.proofs.lemmas.places.UnixRows.{standing-start, standing-step, standing-over, standing-end, standing-each}
-use Rattle.typed_path.proofs.lemmas.places.NamedRows.{windows-names}
 use Rattle.typed_path.proofs.windows.normal.put_segments.Goals as goal
 
 -- no drive is at the front
@@ -51,7 +50,5 @@ returns-clause-ok c =
     })
     c.put_segment-2.ensures.ok c.put_segment-2.ensures.plain
 
-pub returns-then-has_only_names-clause-ok : goal.returns-then-has_only_names-clause-ok
-returns-then-has_only_names-clause-ok c = λ told head size are.
-    windows-names c.args.text.now.items _ head c.args.path.now (not-true _ (sym c.is_free_of.ensures ∙ c.if-is_free_of.true)) (c.has_only_names.ensures c.if-has_only_names.true) are
-    (c.in_ok-push.ensures.items ∙ ap (λ t. t ++ backslash ∷ []) c.in_ok-put_turned.ensures.ok)
+pub put_undriven-requires-clause-free : goal.put_undriven-requires-clause-free
+put_undriven-requires-clause-free c = not-true _ (sym c.is_free_of.ensures ∙ c.if-is_free_of.true)

@@ -1,7 +1,7 @@
 use Rattle.std.proofs.Common.{◌-◌, ◌≤◌}
 use Rattle.std.specs.Slice.Scan.{HoldsNowhere}
 use Rattle.typed_path.specs.changes.{begins_no_name_at}
-use Rattle.typed_path.proofs.scan.lanes.has_names_behind.Given as goal
+use Rattle.typed_path.proofs.scan.lanes.first_no_name.Given as goal
 
 abbrev pub invariant-wholes : goal.invariant-wholes
 invariant-wholes l = record {
@@ -11,12 +11,3 @@ invariant-wholes l = record {
 
 abbrev pub decreases-wholes : goal.decreases-wholes
 decreases-wholes l = l.to - l.at
-
-abbrev pub invariant-bytes : goal.invariant-bytes
-invariant-bytes l = record {
-  within : l.at ≤ l.to;
-  passed : HoldsNowhere (begins_no_name_at l.pair l.text) 0 l.at;
-}
-
-abbrev pub decreases-bytes : goal.decreases-bytes
-decreases-bytes l = l.to - l.at
