@@ -98,16 +98,10 @@ impl Encoding for WindowsEncoding {
 
     #[inline(always)]
     fn order_behind_prefix(path: &[u8], other: &[u8]) -> Option<Ordering> {
-        let (Some((drive, body)), Some((other_drive, other_body))) = (
-            parted_drive(path),
-            parted_drive(other),
-        ) else {
-            return order_behind_marked(path, other);
-        };
-        if drive == other_drive {
-            return Some(compare_texts(body, other_body, Separators::Either));
+        match shared_drive(path, other) {
+            Some(end) => Some(compare_texts(&path[end..], &other[end..], Separators::Either)),
+            None => order_of_prefixed(path, other),
         }
-        order_of_drives(drive, other_drive)
     }
 
     fn valid(name: &[u8]) -> bool {
@@ -242,6 +236,20 @@ fn marked_prefix<'a>(path: &'a [u8], other: &[u8]) -> Option<Found<'a>>
         return None;
     }
     find_prefix(path)
+}
+
+/// The order of two paths with different drives, or with other prefixes. None says nothing.
+fn order_of_prefixed(path: &[u8], other: &[u8]) -> Option<Ordering>
+    ensures { IfSome result (λ order. path_cmp windows path.now other.now ≡ order) }
+{
+    let (Some((drive, _)), Some((other_drive, _))) = (parted_drive(path), parted_drive(other))
+    else {
+        return order_behind_marked(path, other);
+    };
+    if drive == other_drive {
+        return None;
+    }
+    order_of_drives(drive, other_drive)
 }
 
 /// The order of two paths that begin with such a prefix, or with different ones. None says nothing.

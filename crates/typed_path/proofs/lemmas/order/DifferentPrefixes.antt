@@ -1,16 +1,13 @@
--- Two Windows texts with different prefixes, in the order of these, and two with one drive or none.
+-- Two Windows texts with different prefixes, in the order of these.
 use Rattle.std.proofs.Common.{◌≡◌, ℕ, ◌==◌, List, ◌∷◌, [], true, false, ◌&&◌, Ordering, Less, Equal, Greater, refl, sym, ap, ap₂, ◌∙◌, eqb-true, Option, Some, None}
 use Rattle.std.specs.Option.{option_eq}
 use Rattle.std.specs.Ordering.{nat_cmp, is_eq, is_ne, ordering_then}
 use Rattle.std.proofs.lemmas.Map.Text.{is_eq-slice_cmp}
-use Rattle.typed_path.specs.declared.scan.separators.Separators.TheVariants.{Either}
-use Rattle.typed_path.specs.components.{windows, separators, kinds, parts, prefix, disk, Found, found, prefix_of, comps, comps_behind, body, IsPartedDrive}
+use Rattle.typed_path.specs.components.{windows, separators, kinds, parts, prefix, disk, Found, found, prefix_of, comps, comps_behind, IsPartedDrive}
 use Rattle.typed_path.specs.queries.{first_prefix}
-use Rattle.typed_path.specs.changes.{raw_length}
-use Rattle.typed_path.specs.order.{kind_cmp, left_cmp, path_cmp}
+use Rattle.typed_path.specs.order.{kind_cmp, path_cmp}
 use Rattle.typed_path.proofs.lemmas.components.Prefixes.{some_is}
 use Rattle.typed_path.proofs.lemmas.order.Comparisons.{prefixes-differ}
-use Rattle.typed_path.proofs.lemmas.order.SharedNames.{one-order}
 
 -- the components of a text begin with its prefix
 first-found : (t : List ℕ) (f : Found) → prefix_of windows t ≡ Some f → Some f.prefix ≡ first_prefix (kinds (parts (comps windows t)))
@@ -56,15 +53,3 @@ drives-order t u (Some d) None v w o own other differ is = let none = is.3 in cc
 drives-order t u (Some d) (Some e) v w o own other differ is =
     let order : kind_cmp (prefix (disk d)) (prefix (disk e)) ≡ o = ap₂ (λ x y. kind_cmp (prefix (disk x)) (prefix (disk y))) (some_is is.2) (some_is is.3) ∙ is.4 in
     prefixed-order t u (found (disk d) 2) (found (disk e) 2) o own.1 other.1 order (ap is_ne (sym order) ∙ drives-differ d e differ)
-
--- two texts with one drive, or none, are in the order of what stands behind it
-pub parted-order : (t u : List ℕ) (d e : Option ℕ) (v w : List ℕ) (o : Ordering) → IsPartedDrive t d v → IsPartedDrive u e w → d ≡ e
-    → left_cmp (body Either 0 v) (body Either 0 w) ≡ o → path_cmp windows t u ≡ o
-parted-order t u None None v w o own other same is =
-    one-order t u 0 Either (own.0, other.0, other.1 ∙ sym own.1, sym (ap raw_length own.1)) o
-    (ap₂ (λ x y. left_cmp (body Either 0 x) (body Either 0 y)) (sym own.2) (sym other.2) ∙ is)
-parted-order t u None (Some e) v w o own other same is = cc
-parted-order t u (Some d) None v w o own other same is = cc
-parted-order t u (Some d) (Some e) v w o own other same is =
-    one-order t u 2 Either (own.0, other.0, other.1 ∙ ap (λ k. Some (found (disk k) 2)) (sym (some_is same)) ∙ sym own.1, sym (ap raw_length own.1)) o
-    (ap₂ (λ x y. left_cmp (body Either 0 x) (body Either 0 y)) (sym own.2) (sym other.2) ∙ is)

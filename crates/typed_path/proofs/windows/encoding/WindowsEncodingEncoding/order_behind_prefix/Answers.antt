@@ -1,16 +1,16 @@
 use Rattle.std.proofs.Common.{sym, ◌∙◌}
-use Rattle.typed_path.proofs.lemmas.order.SharedNames.{if-told}
-use Rattle.typed_path.proofs.lemmas.order.DifferentPrefixes.{same-drive, drives-order, parted-order}
+use Rattle.std.proofs.lemmas.List.{take_rest}
+use Rattle.typed_path.specs.declared.scan.separators.Separators.TheVariants.{Either}
+use Rattle.typed_path.specs.components.{body}
+use Rattle.typed_path.specs.order.{left_cmp}
+use Rattle.typed_path.proofs.lemmas.order.SharedNames.{one-order}
 use Rattle.typed_path.proofs.windows.encoding.WindowsEncodingEncoding.order_behind_prefix.Goals as goal
 
-pub returns-then-eq : goal.returns-then-eq
-returns-then-eq c =
-    let p = c.in-Some-Some in
-    parted-order c.args.path.now c.args.other.now p.drive p.other_drive p.body.now p.other_body.now c.compare_texts.result p.ensures p.ensures'
-    (same-drive p.drive p.other_drive (sym c.eq.ensures ∙ c.if-eq.true)) (sym c.compare_texts.ensures)
-
-pub returns : goal.returns
-returns c =
-    let p = c.in-Some-Some in
-    if-told c.order_of_drives.result c.order_of_drives.ensures (λ o is.
-    drives-order c.args.path.now c.args.other.now p.drive p.other_drive p.body.now p.other_body.now o p.ensures p.ensures' (sym c.eq.ensures ∙ c.if-eq.false) is)
+pub returns-in-Some : goal.returns-in-Some
+returns-in-Some c =
+    let t = c.args.path.now in
+    let u = c.args.other.now in
+    let n = c.in-Some.end in
+    let s = Either in
+    one-order t u n s c.in-Some.ensures.one c.compare_texts.result
+    (sym (λ i. left_cmp (body s 0 (take_rest t n i)) (body s 0 (take_rest u n i))) ∙ sym c.compare_texts.ensures)
