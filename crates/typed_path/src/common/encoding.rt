@@ -139,7 +139,8 @@ pub trait Encoding: Sized {
         ensures { result ≡ has_root dialect (kinds (parts (items_left cursor.now))) };
 
     /// For encodings alone. What is left of a path behind a base, where the bytes of the two tell,
-    /// with no reading of either. None says nothing.
+    /// with no reading of either. None says nothing. It is read off `strip_by_bytes`, which the calls of paths
+    /// ask.
     fn behind<'a>(path: &'a [u8], base: &[u8]) -> Option<&'a [u8]>
         ensures { IfSome result (λ rest. stripped dialect path.now base.now ≡ Some rest.now) }
     {

@@ -169,7 +169,7 @@ pub fn bodies_behind<'a>(
     ensures { left_cmp (body_items result.0) (body_items result.1)
         ≡ left_cmp (body separators 0 text.now) (body separators 0 other.now) }
 {
-    let start = separators.last_in(&text[..shared]);
+    let start = last_start(&text[..shared], separators);
     if start == 0 {
         return (
             Body::new(text, 0, separators),
@@ -280,7 +280,8 @@ fn begins_with_name(text: &[u8], separators: Separators) -> bool
     }
 }
 
-/// Whether a segment with such a byte is a name: the byte is neither a separator nor a dot.
+/// Whether a byte tells of the segment that holds it that this is a name: it is neither a separator nor a
+/// dot.
 #[inline(always)]
 fn tells_name(byte: u8, separators: Separators) -> bool
     ensures { result ≡ tells_name separators byte }

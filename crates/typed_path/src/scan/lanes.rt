@@ -573,8 +573,8 @@ fn has_nul_or_dot_pair_before(text: &[u8], to: usize) -> bool
     has_nul_or_dot_pair_by_one(text, to)
 }
 
-/// Whether a text holds neither NUL nor two dots side by side. Without a root, a path of Unix that does
-/// not has no component that offends.
+/// Whether a text holds neither NUL nor two dots side by side. So no component offends of a path of Unix that
+/// has no root.
 pub fn has_no_nul_or_dot_pair(text: &[u8]) -> bool
     ensures { result ≡ has_no_nul_or_dot_pair text.now }
 {

@@ -380,6 +380,8 @@ const ENDED: u64 = 31 << 32;
 
 /// Which bytes of a block of 32 separate, with the first bytes of `..` or of a device behind them, as far
 /// as the block tells, or the marks of ends behind it.
+///
+/// The first byte is one of `.acnlp`, and the second one of `.opru`, by their low five bits.
 #[inline(always)]
 fn may_begins_at(text: &[u8], at: usize, behind: u64) -> u64
     requires in_range { at + 32 ≤ length text.now }

@@ -230,7 +230,6 @@ fn put_segments(text: &mut Vec<u8>, len: usize, path: &[u8]) -> Result<(), Alloc
     ensures capacity { vec_capacity text.old ≤ vec_capacity text.new }
     ensures succeeds { vec_len text.old + length path.now < vec_capacity text.old → IsOk result }
 {
-    text.reserve(path.len() + 1)?;
     let mut rest = path;
     'segments: while let Some(left) = put_names(text, rest)? {
         let Some((segment, behind)) = cut_at_separator(Separators::Slash, left) else {
@@ -259,6 +258,7 @@ fn put_names<'a>(text: &mut Vec<u8>, path: &'a [u8]) -> Result<Option<&'a [u8]>,
     ensures succeeds { vec_len text.old + length path.now < vec_capacity text.old → IsOk result }
 {
     let Some(names) = leading_names(path, (b'/', b'/')) else {
+        text.reserve(path.len() + 1)?;
         text.extend_from_slice(path)?;
         text.push(b'/')?;
         return Ok(None);

@@ -100,7 +100,7 @@ impl Encoding for WindowsEncoding {
     fn order_behind_prefix(path: &[u8], other: &[u8]) -> Option<Ordering> {
         match shared_drive(path, other) {
             Some(end) => Some(compare_texts(&path[end..], &other[end..], Separators::Either)),
-            None => order_of_prefixed(path, other),
+            None => order_by_prefixes(path, other),
         }
     }
 
@@ -152,7 +152,7 @@ impl Encoding for WindowsEncoding {
 /// Whether the first bytes of two paths tell that their first components are written otherwise. False says
 /// nothing.
 ///
-/// A component begins with the byte that it stands at, but for a root, which is written `\\` for either
+/// A component begins with the byte that it stands at, but for a root, which is written `\` for either
 /// separator. A name behind two separators belongs to a prefix.
 #[inline(always)]
 fn begin_apart(path: &[u8], other: &[u8]) -> bool
@@ -238,21 +238,23 @@ fn marked_prefix<'a>(path: &'a [u8], other: &[u8]) -> Option<Found<'a>>
     find_prefix(path)
 }
 
-/// The order of two paths with different drives, or with other prefixes. None says nothing.
-fn order_of_prefixed(path: &[u8], other: &[u8]) -> Option<Ordering>
+/// The order of two paths with different drives, or with prefixes that are marked. None says nothing.
+fn order_by_prefixes(path: &[u8], other: &[u8]) -> Option<Ordering>
     ensures { IfSome result (λ order. path_cmp windows path.now other.now ≡ order) }
 {
     let (Some((drive, _)), Some((other_drive, _))) = (parted_drive(path), parted_drive(other))
     else {
         return order_behind_marked(path, other);
     };
+    // One drive in both was looked for before.
     if drive == other_drive {
         return None;
     }
     order_of_drives(drive, other_drive)
 }
 
-/// The order of two paths that begin with such a prefix, or with different ones. None says nothing.
+/// The order of two paths that begin with one prefix, written alike and with a separator behind it, or with
+/// different ones. None says nothing.
 fn order_behind_marked(path: &[u8], other: &[u8]) -> Option<Ordering>
     ensures { IfSome result (λ order. path_cmp windows path.now other.now ≡ order) }
 {

@@ -196,7 +196,6 @@ fn put_undriven(text: &mut Vec<u8>, len: usize, path: &[u8]) -> Result<(), Alloc
     ensures capacity { vec_capacity text.old ≤ vec_capacity text.new }
     ensures succeeds { vec_len text.old + length path.now < vec_capacity text.old → IsOk result }
 {
-    text.reserve(path.len() + 1)?;
     let mut rest = path;
     'segments: while let Some(left) = put_names(text, rest)? {
         let Some((segment, behind)) = cut_at_separator(Separators::Either, left) else {

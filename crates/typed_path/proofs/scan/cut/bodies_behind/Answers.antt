@@ -18,7 +18,7 @@ returns c =
     let s = c.args.separators in
     let t = c.args.text.now in
     let u = c.args.other.now in
-    let n = c.last_in-start.result in
+    let n = c.last_start-start.result in
     let some : 0 < n = search rules in
     ap₂ left_cmp (c.inside.ensures.items ∙ later s n c.skip_blanks.result t c.skip_blanks.ensures.same) (c.inside-2.ensures.items ∙ later s n c.skip_blanks-2.result u c.skip_blanks-2.ensures.same)
-    ∙ behind-shared s t u c.args.shared n (c.requires, c.last_in-start.ensures.last, c.last_in-start.ensures.within) some
+    ∙ behind-shared s t u c.args.shared n (c.requires, c.last_start-start.ensures.last, c.last_start-start.ensures.within) some

@@ -9,7 +9,7 @@ use Rattle.typed_path.proofs.unix.encoding.put_names.Goals as goal
 
 pub returns-in_default-clause-ok : goal.returns-in_default-clause-ok
 returns-in_default-clause-ok c =
-    unix-whole c.args.text.now.items _ c.args.path.now c.in_default.ensures (c.in_ok-push.ensures.items ∙ ap (λ t. t ++ slash ∷ []) c.in_ok-extend_from_slice.ensures.items)
+    unix-whole c.args.text.now.items _ c.args.path.now c.in_default.ensures (c.in_ok-push.ensures.items ∙ ap (λ t. t ++ slash ∷ []) (c.in_ok-extend_from_slice.ensures.items ∙ ap (λ t. t ++ c.args.path.now) c.in_ok-reserve.ensures.items))
 
 pub returns-clause-ok : goal.returns-clause-ok
 returns-clause-ok c =

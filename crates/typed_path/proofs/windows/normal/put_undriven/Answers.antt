@@ -1,7 +1,7 @@
-use Rattle.std.proofs.Common.{◌≡◌, ◌≤◌, ap, arith, sym, ◌∙◌, List, [], ℕ, None, subst, take, length}
+use Rattle.std.proofs.Common.{◌≡◌, refl, arith, ◌∙◌, List, ℕ, None, subst}
 use Rattle.typed_path.specs.declared.scan.separators.Separators.TheVariants.{Either}
 use Rattle.typed_path.specs.components.{drive}
-use Rattle.typed_path.specs.places.{HaveNoDisks, AreRowsOf}
+use Rattle.typed_path.specs.places.{HaveNoDisks}
 use Rattle.typed_path.proofs.lemmas.places.UnixRows.{standing-start, standing-step, standing-over, standing-end, standing-each}
 use Rattle.typed_path.proofs.lemmas.places.NamedRows.{standing-put, standing-whole, whole-each, put-drives, free-pieces, kept-front}
 use Rattle.typed_path.proofs.windows.normal.put_undriven.Goals as goal
@@ -12,11 +12,11 @@ IsNoDrive name = drive name ≡ None
 
 pub segments-init : goal.segments-init
 segments-init c = record {
-  standing = λ head size are. standing-start Either IsNoDrive _ head c.args.path.now (subst (λ t. AreRowsOf Either t head []) (sym c.in_ok-reserve.ensures.items) are);
-  kept = ap (take c.args.len) c.in_ok-reserve.ensures.items;
-  long = subst (λ t. c.args.len ≤ length t) (sym c.in_ok-reserve.ensures.items) c.requires.within;
-  capacity = omega (arith, c.in_ok-reserve.ensures.capacity);
-  room = λ fits. omega (arith, fits, c.in_ok-reserve.ensures.capacity, c.in_ok-reserve.ensures.len);
+  standing = λ head size are. standing-start Either IsNoDrive _ head c.args.path.now are;
+  kept = refl;
+  long = c.requires.within;
+  capacity = omega arith;
+  room = λ fits. fits;
   drives = free-pieces c.args.path.now c.requires.free;
 }
 

@@ -1,7 +1,7 @@
 use Rattle.std.proofs.Common.{sym, ◌∙◌}
 use Rattle.typed_path.proofs.lemmas.order.SharedNames.{if-told}
 use Rattle.typed_path.proofs.lemmas.order.DifferentPrefixes.{drives-order}
-use Rattle.typed_path.proofs.windows.encoding.order_of_prefixed.Goals as goal
+use Rattle.typed_path.proofs.windows.encoding.order_by_prefixes.Goals as goal
 
 pub returns : goal.returns
 returns c =
