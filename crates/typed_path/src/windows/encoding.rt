@@ -5,17 +5,19 @@ ghost use Rattle.std.specs.Ordering.{is_ne};
 ghost use Rattle.typed_path.specs.components.{windows, kinds, parts, separators, is_separator, prefix_of, prefix, disk, Found as PrefixFound};
 ghost use Rattle.typed_path.specs.views.PieceViews.{found_of, prefix_view};
 ghost use Rattle.typed_path.specs.promises.{is_verbatim_unc_name};
-ghost use Rattle.typed_path.specs.queries.{is_absolute, has_root, is_disk, path_starts_with};
+ghost use Rattle.typed_path.specs.queries.{is_absolute, has_root, is_disk, path_starts_with, stripped};
 ghost use Rattle.typed_path.specs.order.{kind_cmp, path_cmp};
 ghost use Rattle.typed_path.specs.declared.scan.separators.Separators.{Separators};
 ghost use Rattle.typed_path.specs.views.CursorViews.{items_left};
-ghost use Rattle.typed_path.specs.changes.{begins_with_separator, has_only_valid_names, HaveOnePrefix};
+ghost use Rattle.typed_path.specs.changes.{begins_with_separator, has_only_valid_names, has_second_colon, fault, HaveOnePrefix};
+ghost use Rattle.typed_path.specs.declared.errors.CheckedPathError.TheVariants.{InvalidFilename};
 
 use crate::common::{Encoding, compare_prefixes, compare_texts};
 use crate::errors::CheckedPathError;
 use crate::scan::{
     Cursor, Found, Piece, Separators, WindowsPrefix, are_apart, base_end, byte_behind_two,
-    find_prefix, first_difference, has_stray_parent_or_device, has_valid_names, parted_drive,
+    find_prefix, first_difference, has_no_nul_or_dot_pair, has_stray_parent_or_device,
+    has_valid_names, parted_drive,
 };
 use crate::windows::normal::put_normal;
 use crate::windows::push::{prefix_len, push_at, push_next};
@@ -80,7 +82,9 @@ impl Encoding for WindowsEncoding {
         if begin_apart(path, base) {
             return Some(None);
         }
-        let (end, separators) = shared_prefix(path, base)?;
+        let Some((end, separators)) = shared_prefix(path, base) else {
+            return Some(Some(behind_rare(path, base)?));
+        };
         if path[..end] != base[..end] {
             return None;
         }
@@ -179,6 +183,26 @@ fn are_separators(first: u8, second: u8) -> bool
     Separators::Either.contains(first) && Separators::Either.contains(second)
 }
 
+/// What is left of a path behind a base, where the bytes of the two tell, and `shared_prefix` says nothing: a
+/// base of a few bytes, and one behind the verbatim prefix named `UNC`. None says nothing.
+fn behind_rare<'a>(path: &'a [u8], base: &[u8]) -> Option<&'a [u8]>
+    ensures { IfSome result (λ rest. stripped windows path.now base.now ≡ Some rest.now) }
+{
+    if base.len() >= PARTED && !matches!(path, [_, _, _, _, b'U', b'N', b'C', ..]) {
+        return None;
+    }
+    let (prefix, body) = path.split_at(prefix_len(path));
+    let (base_prefix, base_body) = base.split_at(prefix_len(base));
+    let separators = Separators::of_windows(path);
+    if prefix != base_prefix
+        || separators.is_verbatim() != Separators::of_windows(base).is_verbatim()
+    {
+        return None;
+    }
+    let end = base_end(body, base_body, separators)?;
+    Some(&body[end..])
+}
+
 /// How many bytes the prefix takes that two paths have both, as their bytes tell, and the separators of
 /// both. None says nothing.
 #[inline(always)]
@@ -227,12 +251,15 @@ fn shared_marked_prefix(path: &[u8], other: &[u8]) -> Option<(usize, Separators)
     Some((found.length, Separators::of_windows(path)))
 }
 
+/// How many bytes of two paths with marked prefixes are compared before one of these is read.
+const PARTED: usize = 6;
+
 /// The prefix of a path, where the bytes behind the first two are those of another path. None says nothing.
 #[inline(always)]
 fn marked_prefix<'a>(path: &'a [u8], other: &[u8]) -> Option<Found<'a>>
     ensures { IfSome result (λ found. prefix_of windows path.now ≡ Some (found_of found)) }
 {
-    if path.len() < 6 || other.len() < 6 || path[2..6] != other[2..6] {
+    if path.len() < PARTED || other.len() < PARTED || path[2..PARTED] != other[2..PARTED] {
         return None;
     }
     find_prefix(path)

@@ -12,16 +12,16 @@ use Rattle.typed_path.proofs.lemmas.order.SharedNames.{one-apart}
 use Rattle.typed_path.proofs.lemmas.queries.Bases.{stripped-behind_prefix, stripped-not}
 use Rattle.typed_path.proofs.windows.encoding.WindowsEncodingEncoding.strip_by_bytes.Goals as goal
 
-pub returns-in-Some : goal.returns-in-Some
-returns-in-Some c =
+pub returns-in-Some-base_end : goal.returns-in-Some-base_end
+returns-in-Some-base_end c =
     let t = c.args.path.now in
     let b = c.args.base.now in
     let s = separators windows t in
-    let n = c.in_ok-end.end in
-    let r = c.in_ok-end.separators in
-    let one = c.in_ok-end.ensures.one in
-    let end = c.in-Some.behind in
-    let told = c.in-Some.ensures in
+    let n = c.in-Some.end in
+    let r = c.in-Some.separators in
+    let one = c.in-Some.ensures.one in
+    let end = c.in-Some-base_end.behind in
+    let told = c.in-Some-base_end.ensures in
     let o = prefix_of windows t in
     let p = prefix_of windows b in
     let same : n ≡ raw_length p = one.3 ∙ ap raw_length (sym one.2) in
@@ -43,8 +43,8 @@ pub returns-then-are_apart : goal.returns-then-are_apart
 returns-then-are_apart c =
     let t = c.args.path.now in
     let u = c.args.base.now in
-    let n = c.in_ok-end.end in
-    let s = c.in_ok-end.separators in
+    let n = c.in-Some.end in
+    let s = c.in-Some.separators in
     stripped-not windows t u
-    (one-apart t u n s c.in_ok-end.ensures.one
+    (one-apart t u n s c.in-Some.ensures.one
     (sym (λ i. starts_with bytes_eq (texts (parts (body s 0 (take_rest t n i)))) (texts (parts (body s 0 (take_rest u n i))))) ∙ c.are_apart.ensures c.if-are_apart.true))
