@@ -120,6 +120,12 @@ abbrev pub begins_with_separator : List ℕ → Bool
 begins_with_separator [] = false
 begins_with_separator (b ∷ bytes) = is_separator Either b
 
+-- the second byte of a text is a `:`, as behind the letter of a drive
+abbrev pub has_second_colon : List ℕ → Bool
+has_second_colon [] = false
+has_second_colon (a ∷ []) = false
+has_second_colon (a ∷ b ∷ bytes) = b == colon
+
 -- no prefix, no root, no `..` and no invalid name is among the components of a path of Windows, as looks at its bytes tell
 abbrev pub has_only_valid_names : List ℕ → Bool
 has_only_valid_names path = not (begins_with_separator path) && not (list_any (is_stray Either) path) && not (has_parent_or_device path)

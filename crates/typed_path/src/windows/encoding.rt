@@ -144,10 +144,14 @@ impl Encoding for WindowsEncoding {
         put_normal(text, path)
     }
 
-    // Looks at its bytes tell of most paths that none of their components offends.
+    // Looks at its bytes tell of most paths that none of their components offends, and of most others that
+    // no more than a name does.
     fn check(path: &[u8]) -> Result<(), CheckedPathError> {
         if has_only_valid_names(path) {
             return Ok(());
+        }
+        if offends_by_names(path) {
+            return Err(CheckedPathError::InvalidFilename);
         }
         Cursor::of_windows(path).check()
     }
@@ -351,10 +355,38 @@ fn has_only_valid_names(path: &[u8]) -> bool
     ensures { result ≡ has_only_valid_names path.now }
 {
     // A drive is told at once.
-    if let [_, b':', ..] = path {
+    if has_second_colon(path) {
         return false;
     }
     !begins_with_separator(path) && !has_stray_parent_or_device(path)
+}
+
+/// How many bytes a path has at most of which all are looked at for what else may offend than names: so a
+/// long path that is refused at its front is refused there.
+const LOOK: usize = 1_024;
+
+/// Whether looks at the bytes of a path tell that a name of it offends, and nothing before that: a name or
+/// a `..` does, and it has no two dots side by side. False says nothing.
+#[inline(always)]
+fn offends_by_names(path: &[u8]) -> bool
+    requires { has_only_valid_names path.now ≡ false }
+    ensures { IsTrue result → fault windows path.now ≡ Some InvalidFilename }
+{
+    if has_second_colon(path) {
+        return false;
+    }
+    if begins_with_separator(path) {
+        return false;
+    }
+    path.len() <= LOOK && has_no_nul_or_dot_pair(path)
+}
+
+/// Whether the second byte of a text is a `:`, as behind the letter of a drive.
+#[inline(always)]
+fn has_second_colon(text: &[u8]) -> bool
+    ensures { result ≡ has_second_colon text.now }
+{
+    matches!(text, [_, b':', ..])
 }
 
 /// Whether a text begins with a separator.

@@ -13,7 +13,7 @@ use Rattle.typed_path.specs.components.{windows, dot, slash, backslash, colon, q
 use Rattle.std.specs.Slice.Scan.{HoldsNowhere}
 use Rattle.typed_path.specs.scan.{stands_at, IsFirstOf}
 use Rattle.typed_path.specs.queries.{is_reserved, is_valid, is_valid_name}
-use Rattle.typed_path.specs.changes.{is_in, fault, fault_behind, is_bare_device, is_numbered_device, may_be_reserved, is_stray, is_parent_or_device, begins_like_parent_or_device, may_end_stem, begins_with_parent_or_device, has_parent_or_device_behind, has_parent_or_device, begins_with_separator, has_only_valid_names}
+use Rattle.typed_path.specs.changes.{is_in, fault, fault_behind, is_bare_device, is_numbered_device, may_be_reserved, is_stray, is_parent_or_device, begins_like_parent_or_device, may_end_stem, begins_with_parent_or_device, has_parent_or_device_behind, has_parent_or_device, begins_with_separator, has_only_valid_names, has_second_colon, begins_with_nul_or_dot_pair, has_no_nul_or_dot_pair}
 use Rattle.typed_path.proofs.lemmas.components.Segments.{pieces, first_parts, later_parts, body_parts, parts-body}
 use Rattle.typed_path.proofs.lemmas.queries.ValidNames.{reserved-may, valid-found}
 use Rattle.typed_path.proofs.lemmas.changes.Faults.{parts_of-none}
@@ -282,6 +282,48 @@ none_reserved (p ∷ ps) e =
     let all = or_parts (is_parent_or_device p) (list_any is_parent_or_device ps) e in
     ap (λ b. b || list_any (is_reserved windows) ps) (or_parts (is_dot_dot p) (is_reserved windows p) all.0).1 ∙ none_reserved ps all.1
 
+-- nor is one `..`
+none_parents : (ps : List (List ℕ)) → list_any is_parent_or_device ps ≡ false → list_any is_dot_dot ps ≡ false
+none_parents [] e = refl
+none_parents (p ∷ ps) e =
+    let all = or_parts (is_parent_or_device p) (list_any is_parent_or_device ps) e in
+    ap (λ b. b || list_any is_dot_dot ps) (or_parts (is_dot_dot p) (is_reserved windows p) all.0).0 ∙ none_parents ps all.1
+
+-- where one of them is, and none is `..`, one stands for a device
+some_reserved : (ps : List (List ℕ)) → list_any is_dot_dot ps ≡ false → list_any (is_reserved windows) ps ≡ list_any is_parent_or_device ps
+some_reserved [] e = refl
+some_reserved (p ∷ ps) e =
+    let all = or_parts (is_dot_dot p) (list_any is_dot_dot ps) e in
+    ap (λ b. is_reserved windows p || b) (some_reserved ps all.1) ∙ ap (λ b. (b || is_reserved windows p) || list_any is_parent_or_device ps) (sym all.0)
+
+-- ---- texts without two dots side by side
+
+-- a byte put before the first of many pieces, the text of which begins with a byte
+put_onto : (x y : ℕ) (separates : Bool) (ps : List (List ℕ)) → (x == dot && y == dot) ≡ false
+    → list_any is_dot_dot (cond separates ([] ∷ ps) (onto_first y ps)) ≡ false → list_any is_dot_dot (onto_first x (cond separates ([] ∷ ps) (onto_first y ps))) ≡ false
+put_onto x y true ps apart none = none
+put_onto x y false [] apart none = ap (λ b. b || false) apart
+put_onto x y false ([] ∷ ps) apart none = ap (λ b. b || list_any is_dot_dot ps) apart ∙ none
+put_onto x y false ((z ∷ zs) ∷ ps) apart none = (or_parts (is_dot_dot (y ∷ z ∷ zs)) (list_any is_dot_dot ps) none).1
+
+-- no piece of such a text is `..`
+pub unpaired-pieces : (text : List ℕ) → has_no_nul_or_dot_pair text ≡ true → list_any is_dot_dot (pieces Either text) ≡ false
+unpaired-pieces [] e = refl
+unpaired-pieces (x ∷ []) e = by (is_separator Either x)
+  where
+    by : (separates : Bool) → list_any is_dot_dot (cond separates ([] ∷ [] ∷ []) ((x ∷ []) ∷ [])) ≡ false
+    by true = refl
+    by false = refl
+unpaired-pieces (x ∷ y ∷ ys) e =
+    let told = and_parts (not (begins_with_nul_or_dot_pair (x ∷ y ∷ ys))) (has_no_nul_or_dot_pair (y ∷ ys)) e in
+    let front = or_parts (x == 0) (x == dot && y == dot) (not-true _ told.0) in
+    by (is_separator Either x) (unpaired-pieces (y ∷ ys) told.1) (put_onto x y (is_separator Either y) (pieces Either ys) front.1 (unpaired-pieces (y ∷ ys) told.1))
+  where
+    by : (separates : Bool) → list_any is_dot_dot (pieces Either (y ∷ ys)) ≡ false → list_any is_dot_dot (onto_first x (pieces Either (y ∷ ys))) ≡ false
+        → list_any is_dot_dot (cond separates ([] ∷ pieces Either (y ∷ ys)) (onto_first x (pieces Either (y ∷ ys)))) ≡ false
+    by true later whole = later
+    by false later whole = whole
+
 -- ---- what the pieces tell of the components
 
 -- a `.` or a name
@@ -302,12 +344,25 @@ none_refused before (prefix p ∷ ks) valid plain = cc
 none_refused before (root ∷ ks) valid plain = cc
 none_refused before (parent ∷ ks) valid plain = cc
 
+-- a name that is not valid is what such a list is refused for
+name_refused : (before ks : List Kind) → is_valid windows ks ≡ false → list_all is_plain ks ≡ true → fault_behind windows before ks ≡ Some InvalidFilename
+name_refused before [] valid plain = cc
+name_refused before (current ∷ ks) valid plain = name_refused (before ++ current ∷ []) ks valid plain
+name_refused before (normal name ∷ ks) valid plain = by (is_valid_name windows name) valid (λ v. name_refused (before ++ normal name ∷ []) ks v plain)
+  where
+    by : (own : Bool) → (own && is_valid windows ks) ≡ false → (is_valid windows ks ≡ false → fault_behind windows (before ++ normal name ∷ []) ks ≡ Some InvalidFilename) → option_or (if own then None else Some InvalidFilename) (fault_behind windows (before ++ normal name ∷ []) ks) ≡ Some InvalidFilename
+    by true v later = later v
+    by false v later = refl
+name_refused before (prefix p ∷ ks) valid plain = cc
+name_refused before (root ∷ ks) valid plain = cc
+name_refused before (parent ∷ ks) valid plain = cc
+
 -- later pieces that are no `..` give names
-later_plain : (ps : List (List ℕ)) → list_any is_parent_or_device ps ≡ false → list_all is_plain (kinds (later_parts Either ps)) ≡ true
+later_plain : (ps : List (List ℕ)) → list_any is_dot_dot ps ≡ false → list_all is_plain (kinds (later_parts Either ps)) ≡ true
 later_plain [] e = refl
 later_plain (p ∷ ps) e =
-    let all = or_parts (is_parent_or_device p) (list_any is_parent_or_device ps) e in
-    by (length p == 0) (is_dot p) (is_dot_dot p) (or_parts (is_dot_dot p) (is_reserved windows p) all.0).0 (later_plain ps all.1)
+    let all = or_parts (is_dot_dot p) (list_any is_dot_dot ps) e in
+    by (length p == 0) (is_dot p) (is_dot_dot p) all.0 (later_plain ps all.1)
   where
     by : (empty dotted twice : Bool) → twice ≡ false → list_all is_plain (kinds (later_parts Either ps)) ≡ true
         → list_all is_plain (kinds ((if empty then [] else (if dotted then [] else (if twice then parent_part else name_part p) ∷ [])) ++ later_parts Either ps)) ≡ true
@@ -317,10 +372,10 @@ later_plain (p ∷ ps) e =
     by false false false t rest = rest
 
 -- so does the first one, where it is not empty
-first_plain : (x : ℕ) (p : List ℕ) (ps : List (List ℕ)) → list_any is_parent_or_device ((x ∷ p) ∷ ps) ≡ false → list_all is_plain (kinds (first_parts Either ((x ∷ p) ∷ ps))) ≡ true
+first_plain : (x : ℕ) (p : List ℕ) (ps : List (List ℕ)) → list_any is_dot_dot ((x ∷ p) ∷ ps) ≡ false → list_all is_plain (kinds (first_parts Either ((x ∷ p) ∷ ps))) ≡ true
 first_plain x p ps e =
-    let all = or_parts (is_parent_or_device (x ∷ p)) (list_any is_parent_or_device ps) e in
-    by (length (x ∷ p) == 0) (is_dot (x ∷ p)) (is_dot_dot (x ∷ p)) (ne_eqb (length (x ∷ p)) 0 (λ h. omega arith)) (or_parts (is_dot_dot (x ∷ p)) (is_reserved windows (x ∷ p)) all.0).0 (later_plain ps all.1)
+    let all = or_parts (is_dot_dot (x ∷ p)) (list_any is_dot_dot ps) e in
+    by (length (x ∷ p) == 0) (is_dot (x ∷ p)) (is_dot_dot (x ∷ p)) (ne_eqb (length (x ∷ p)) 0 (λ h. omega arith)) all.0 (later_plain ps all.1)
   where
     by : (empty dotted twice : Bool) → empty ≡ false → twice ≡ false → list_all is_plain (kinds (later_parts Either ps)) ≡ true
         → list_all is_plain (kinds ((if empty then root_part (root_text Either) else (if dotted then current_part else (if twice then parent_part else name_part (x ∷ p)))) ∷ later_parts Either ps)) ≡ true
@@ -330,14 +385,14 @@ first_plain x p ps e =
     by false false false filled t rest = rest
 
 -- a text that does not begin with a separator gives names and `.` alone
-body_plain : (text : List ℕ) → begins_with_separator text ≡ false → has_parent_or_device text ≡ false → list_all is_plain (kinds (body_parts Either text)) ≡ true
+body_plain : (text : List ℕ) → begins_with_separator text ≡ false → list_any is_dot_dot (pieces Either text) ≡ false → list_all is_plain (kinds (body_parts Either text)) ≡ true
 body_plain [] apart none = refl
 body_plain (x ∷ xs) apart none =
     let s = split (x ∷ xs) in
     let cut : pieces Either (x ∷ xs) ≡ (x ∷ before_first (is_separator Either) xs) ∷ s.more =
     s.cut ∙ ap (λ p. p ∷ s.more) (segment-byte x xs ∙ ap (λ b. cond b [] (x ∷ before_first (is_separator Either) xs)) apart) in
     ap (λ ps. list_all is_plain (kinds (first_parts Either ps))) cut
-    ∙ first_plain x (before_first (is_separator Either) xs) s.more (ap (list_any is_parent_or_device) (sym cut) ∙ any-pieces (x ∷ xs) ∙ none)
+    ∙ first_plain x (before_first (is_separator Either) xs) s.more (ap (list_any is_dot_dot) (sym cut) ∙ none)
 
 -- ---- no prefix
 
@@ -348,11 +403,17 @@ no_colon b bs e = false_from_ne_true _ (λ is. true≢false (sym (stray (eqb-tru
     stray : b ≡ colon → is_stray Either b ≡ true
     stray is = ap (is_stray Either) is
 
+-- nor is the second byte of a text one
+undriven : (text : List ℕ) → list_any (is_stray Either) text ≡ false → has_second_colon text ≡ false
+undriven [] allowed = refl
+undriven (a ∷ []) allowed = refl
+undriven (a ∷ b ∷ text) allowed = no_colon b text (or_parts (is_stray Either a) _ allowed).1
+
 -- so no prefix is read
-no_prefix : (text : List ℕ) → begins_with_separator text ≡ false → list_any (is_stray Either) text ≡ false → prefix_of windows text ≡ None
-no_prefix [] apart allowed = refl
-no_prefix (a ∷ []) apart allowed = refl
-no_prefix (a ∷ b ∷ text) apart allowed =
+no_prefix : (text : List ℕ) → begins_with_separator text ≡ false → has_second_colon text ≡ false → prefix_of windows text ≡ None
+no_prefix [] apart free = refl
+no_prefix (a ∷ []) apart free = refl
+no_prefix (a ∷ b ∷ text) apart free =
     rw (no_mark question, no_mark dot, no_two, no_drive) refl
   where
     no_mark : (sign : ℕ) → after_mark sign (a ∷ b ∷ text) ≡ None
@@ -367,7 +428,7 @@ no_prefix (a ∷ b ∷ text) apart allowed =
     no_two = ap (λ p. if (p && is_separator Either b) then Some text else None) apart
 
     no_drive : drive (a ∷ b ∷ text) ≡ None
-    no_drive = by (is_drive_letter a) (b == colon) (no_colon b text (or_parts (is_stray Either a) _ allowed).1)
+    no_drive = by (is_drive_letter a) (b == colon) free
       where
         by : (letter second : Bool) → second ≡ false → (if (letter && second) then Some (to_upper a) else None) ≡ None
         by true true e = cc
@@ -382,9 +443,23 @@ valid-no_fault path e =
     let apart = not-true (begins_with_separator path) looks.0 in
     let allowed = not-true (list_any (is_stray Either) path) looks.1 in
     let none = not-true (has_parent_or_device path) told.1 in
-    let read = parts_of-none path (no_prefix path apart allowed) in
+    let read = parts_of-none path (no_prefix path apart (undriven path allowed)) in
     let valid : is_valid windows (kinds (body_parts Either path)) ≡ true =
     ap (λ ps. is_valid windows (kinds ps)) (sym (parts-body Either 0 path))
     ∙ valid-found Either 0 path _ false refl allowed
     ∙ ap not (none_reserved (pieces Either path) (any-pieces path ∙ none)) in
-    ap (λ ps. fault_behind windows [] (kinds ps)) read ∙ none_refused [] (kinds (body_parts Either path)) valid (body_plain path apart none)
+    ap (λ ps. fault_behind windows [] (kinds ps)) read ∙ none_refused [] (kinds (body_parts Either path)) valid (body_plain path apart (none_parents (pieces Either path) (any-pieces path ∙ none)))
+
+-- a path of which they tell that a name is not valid or a segment is `..`, and which has no two dots side by side, is refused for a name
+pub invalid-name_fault : (path : List ℕ) → begins_with_separator path ≡ false → has_second_colon path ≡ false → has_only_valid_names path ≡ false → has_no_nul_or_dot_pair path ≡ true
+    → fault windows path ≡ Some InvalidFilename
+invalid-name_fault path apart free offends unpaired =
+    let read = parts_of-none path (no_prefix path apart free) in
+    let parents = unpaired-pieces path unpaired in
+    let valid : is_valid windows (kinds (body_parts Either path)) ≡ false =
+    ap (λ ps. is_valid windows (kinds ps)) (sym (parts-body Either 0 path))
+    ∙ valid-found Either 0 path _ _ refl refl
+    ∙ ap (λ b. not (list_any (is_stray Either) path) && not b) (some_reserved (pieces Either path) parents ∙ any-pieces path)
+    ∙ ap (λ b. (not b && not (list_any (is_stray Either) path)) && not (has_parent_or_device path)) (sym apart)
+    ∙ offends in
+    ap (λ ps. fault_behind windows [] (kinds ps)) read ∙ name_refused [] (kinds (body_parts Either path)) valid (body_plain path apart parents)
