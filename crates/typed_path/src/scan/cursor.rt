@@ -103,10 +103,9 @@ impl<'a> Cursor<'a> {
         ensures slice { slice_left result ≡ text.now }
         ensures dialect { dialect_of (cursor_separators result) ≡ windows }
     {
-        let separators = Separators::of_windows(text);
         match find_prefix(text) {
-            Some(found) => Cursor::with_prefix(text, found, separators),
-            None => Cursor::new(text, separators),
+            Some(found) => Cursor::with_prefix(text, found, Separators::of_windows(text)),
+            None => Cursor::new(text, Separators::Either),
         }
     }
 
@@ -425,6 +424,9 @@ impl<'a> Body<'a> {
 
     /// Judges the components that are left, from the front: the first one that offends is what a
     /// path of them is refused for when it is to be pushed.
+    ///
+    /// It stands in place, so that it is built for the separators of each encoding.
+    #[inline(always)]
     pub fn check(mut self) -> Result<(), CheckedPathError>
         ensures { error_of result ≡ fault_behind (dialect_of self.entry.separators) []
             (kinds (parts (body_items self.entry))) }

@@ -278,6 +278,7 @@ fn ends_blank(text: &[u8], separators: Separators) -> bool
 /// How many names are left behind a component that no parent has taken, where so many were left
 /// before it; or what the component is refused for. Of a name that is known to have allowed bytes
 /// the bytes are not looked at.
+#[inline(always)]
 pub fn depth_behind(
     step: Step<'_>,
     depth: usize,
