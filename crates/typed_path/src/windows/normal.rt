@@ -1,13 +1,13 @@
 //! The normal text of a Windows path.
 
-ghost use Rattle.std.specs.Prelude.{◌≡◌, ◌<◌, ◌≤◌, ◌+◌, ◌-◌, ◌++◌, ℕ, List, [], false, take, drop, length, map, IsTrue, IsSome, IfSome, IsOk, IfOk, OnOk, OnErr, MatchOption, None};
+ghost use Rattle.std.specs.Prelude.{◌≡◌, ◌<◌, ◌≤◌, ◌+◌, ◌-◌, ◌++◌, ℕ, List, [], false, take, drop, fold, length, map, IsTrue, IsSome, IfSome, IsOk, IfOk, OnOk, OnErr, MatchOption, None};
 ghost use Rattle.std.specs.List.{list_any, slice_split};
 ghost use Rattle.std.specs.Vec.{vec_len, vec_capacity};
 ghost use Rattle.typed_path.specs.declared.scan.separators.Separators.{Separators};
 ghost use Rattle.typed_path.specs.components.{windows, colon, is_separator, drive};
 ghost use Rattle.typed_path.specs.scan.{is_one_of};
 ghost use Rattle.typed_path.specs.changes.{push_windows, push_all, spells_anew};
-ghost use Rattle.typed_path.specs.places.{normal_text, rows_of, settled, AreRowsOf, ArePlainRows, ArePut, IsRowHead, IsPartedEither, TakesRows, HaveNoDisks, HasPlainNames, IsHeadOf};
+ghost use Rattle.typed_path.specs.places.{normal_text, names_left_of, rows_of, settled, AreRowsOf, ArePlainRows, ArePut, IsRowHead, IsPartedEither, TakesRows, HaveNoDisks, HasPlainNames, IsHeadOf};
 ghost use Rattle.typed_path.specs.views.PieceViews.{found_of};
 
 use crate::common::{
@@ -170,9 +170,59 @@ fn put_segments(text: &mut Vec<u8>, len: usize, path: &[u8]) -> Result<bool, All
         → IfOk result (λ plain. IsTrue plain) }
 {
     if LEAST <= path.len() && is_free_of((b':', b':'), path) {
-        put_undriven(text, len, path)?;
-        return Ok(true);
+        return put_undriven(text, len, path);
     }
+    put_one_by_one(text, len, path)
+}
+
+/// The same of a path in which no `:` stands, so that no name begins with a drive.
+///
+/// Names that stand side by side are put at once. Two such runs are looked for, so that one segment
+/// between names costs little; behind them, as where names and `..` take turns, a look for each run
+/// would cost more than the segments.
+fn put_undriven(text: &mut Vec<u8>, len: usize, path: &[u8]) -> Result<bool, AllocError>
+    requires within { len ≤ length text.old.items }
+    requires free { list_any (is_one_of (colon, colon)) path.now ≡ false }
+    ensures ok { IfOk result (λ plain. IsTrue plain → (head : List ℕ) → length head ≡ len
+        → AreRowsOf Separators.Either text.old.items head []
+        → ArePlainRows text.new.items head path.now) }
+    ensures kept { take len text.new.items ≡ take len text.old.items }
+    ensures long { len ≤ length text.new.items }
+    ensures capacity { vec_capacity text.old ≤ vec_capacity text.new }
+    ensures succeeds { vec_len text.old + length path.now < vec_capacity text.old → IsOk result }
+    ensures told { IfOk result (λ plain. IsTrue plain) }
+{
+    let Some(left) = put_names(text, path)? else {
+        return Ok(true);
+    };
+    let Some((segment, behind)) = cut_at_separator(Separators::Either, left) else {
+        return put_segment(text, len, left, left);
+    };
+    put_segment(text, len, segment, left)?;
+    let rest = behind_segment(segment, behind, Separators::Either);
+    let Some(last) = put_names(text, rest)? else {
+        return Ok(true);
+    };
+    put_one_by_one(text, len, last)
+}
+
+/// Settles the segments of a path one by one behind the names that stand, and answers whether none
+/// begins with a drive: false says nothing of what was put.
+fn put_one_by_one(text: &mut Vec<u8>, len: usize, path: &[u8]) -> Result<bool, AllocError>
+    requires { len ≤ length text.old.items }
+    ensures ok { IfOk result (λ plain. IsTrue plain
+        → (head whole : List ℕ) (names : List (List ℕ)) → length head ≡ len
+        → AreRowsOf Separators.Either text.old.items head names → HaveNoDisks names
+        → names_left_of Separators.Either whole
+        ≡ fold settled names (slice_split (is_separator Separators.Either) path.now)
+        → ArePlainRows text.new.items head whole) }
+    ensures kept { take len text.new.items ≡ take len text.old.items }
+    ensures long { len ≤ length text.new.items }
+    ensures capacity { vec_capacity text.old ≤ vec_capacity text.new }
+    ensures succeeds { vec_len text.old + length path.now < vec_capacity text.old → IsOk result }
+    ensures told { HaveNoDisks (slice_split (is_separator Separators.Either) path.now)
+        → IfOk result (λ plain. IsTrue plain) }
+{
     let mut rest = path;
     'segments: while let Some((segment, behind)) = cut_at_separator(Separators::Either, rest) {
         if !put_segment(text, len, segment, rest)? {
@@ -181,31 +231,6 @@ fn put_segments(text: &mut Vec<u8>, len: usize, path: &[u8]) -> Result<bool, All
         rest = behind_segment(segment, behind, Separators::Either);
     }
     put_segment(text, len, rest, rest)
-}
-
-/// The same of a path in which no `:` stands, so that no name begins with a drive. Names that stand side
-/// by side are put at once, and only what stands between them is settled by segments.
-fn put_undriven(text: &mut Vec<u8>, len: usize, path: &[u8]) -> Result<(), AllocError>
-    requires within { len ≤ length text.old.items }
-    requires free { list_any (is_one_of (colon, colon)) path.now ≡ false }
-    ensures ok { OnOk result ((head : List ℕ) → length head ≡ len
-        → AreRowsOf Separators.Either text.old.items head []
-        → ArePlainRows text.new.items head path.now) }
-    ensures kept { take len text.new.items ≡ take len text.old.items }
-    ensures long { len ≤ length text.new.items }
-    ensures capacity { vec_capacity text.old ≤ vec_capacity text.new }
-    ensures succeeds { vec_len text.old + length path.now < vec_capacity text.old → IsOk result }
-{
-    let mut rest = path;
-    'segments: while let Some(left) = put_names(text, rest)? {
-        let Some((segment, behind)) = cut_at_separator(Separators::Either, left) else {
-            put_segment(text, len, left, left)?;
-            return Ok(());
-        };
-        put_segment(text, len, segment, left)?;
-        rest = behind_segment(segment, behind, Separators::Either);
-    }
-    Ok(())
 }
 
 /// Puts the names that a path begins with behind a text, each with a separator behind it, and answers what

@@ -1,54 +1,11 @@
-use Rattle.std.proofs.Common.{◌≡◌, sym, ◌∙◌, List, ℕ, None, Bool, IfOk, refl, subst, arith, Result, Ok, Err}
-use Rattle.std.proofs.lemmas.Bool.{both_ways, not-true}
-use Rattle.typed_path.specs.declared.scan.separators.Separators.TheVariants.{Either}
-use Rattle.typed_path.specs.components.{drive}
-use Rattle.typed_path.specs.places.{HaveNoDisks}
-use Rattle.typed_path.proofs.lemmas.places.UnixRows.{standing-start, standing-step, standing-over, standing-end, standing-each}
+use Rattle.std.proofs.Common.{[], sym, ◌∙◌, refl}
+use Rattle.std.proofs.lemmas.Bool.{not-true}
+use Rattle.std.proofs.lemmas.Result.{IfOk-weaker}
 use Rattle.typed_path.proofs.windows.normal.put_segments.Goals as goal
-
--- no drive is at the front
-abbrev IsNoDrive : List ℕ → Type 0
-IsNoDrive name = drive name ≡ None
-
-pub segments-init : goal.segments-init
-segments-init c = record { standing = λ head size are. standing-start Either IsNoDrive _ head c.args.path.now are; kept = refl; long = c.requires; capacity = omega arith; room = λ fits. fits; drives = λ none. none }
-
-pub segments-preserved : goal.segments-preserved
-segments-preserved c = record {
-  standing = λ head size are.
-      standing-over Either IsNoDrive _ head c.in-Some.behind.now _ c.args.path.now c.behind_segment-rest.ensures.same
-      (standing-step Either IsNoDrive _ _ head _ c.in-Some.behind.now c.in-Some.segment.now c.args.path.now c.in-Some.ensures.pieces c.in-Some.ensures.open (c.in_ok-put_segment.ensures.plain c.if-not-branch.false)
-      (λ names. c.in_ok-put_segment.ensures.ok c.if-not-branch.false head names size) (c.segments.invariant.standing head size are));
-  kept = c.put_segment.ensures.kept ∙ c.segments.invariant.kept;
-  long = c.put_segment.ensures.long;
-  capacity = omega (arith, c.segments.invariant.capacity, c.put_segment.ensures.capacity);
-  room = λ fits. omega (arith, c.segments.invariant.room fits, c.put_segment.ensures.room, c.put_segment.ensures.capacity, c.in-Some.ensures.sizes, c.behind_segment-rest.ensures.shorter);
-  drives = λ none. c.behind_segment-rest.ensures.drives (subst HaveNoDisks c.in-Some.ensures.pieces (c.segments.invariant.drives none)).1;
-}
-
--- the segment that comes begins with no drive
-pub returns-then-not-branch-clause-told : goal.returns-then-not-branch-clause-told
-returns-then-not-branch-clause-told c = λ none.
-    absurd (both_ways _ c.if-not-branch.true (c.in_ok-put_segment.ensures.told (subst HaveNoDisks c.in-Some.ensures.pieces (c.segments.invariant.drives none)).0))
-
-pub returns-clause-told : goal.returns-clause-told
-returns-clause-told c = λ none. c.put_segment-2.ensures.told (subst HaveNoDisks c.in_default.ensures.pieces (c.segments.invariant.drives none)).0
-
--- what holds on success of two things holds of what follows from them
-on_ok : {E : Type 0} {P Q R : Bool → Type 0} (r : Result Bool E) → ((x : Bool) → P x → Q x → R x) → IfOk r P → IfOk r Q → IfOk r R
-on_ok (Ok x) f p q = f x p q
-on_ok (Err e) f p q = tt
-
-pub returns-clause-ok : goal.returns-clause-ok
-returns-clause-ok c =
-    on_ok c.put_segment-2.result
-    (λ x settles own done head size are.
-    let stands = c.segments.invariant.standing head size are in
-    record {
-      drives = standing-each Either IsNoDrive _ head _ c.args.path.now c.in_default.ensures.pieces (own done) stands;
-      is = standing-end Either IsNoDrive _ _ head _ c.args.path.now c.in_default.ensures.pieces (λ names. settles done head names size) stands;
-    })
-    c.put_segment-2.ensures.ok c.put_segment-2.ensures.plain
 
 pub put_undriven-requires-clause-free : goal.put_undriven-requires-clause-free
 put_undriven-requires-clause-free c = not-true _ (sym c.is_free_of.ensures ∙ c.if-is_free_of.true)
+
+-- no name stands behind the head at first
+pub returns-clause-ok : goal.returns-clause-ok
+returns-clause-ok c = IfOk-weaker c.put_one_by_one.result _ _ (λ plain rows done head size are. rows done head c.args.path.now [] size are tt refl) c.put_one_by_one.ensures.ok

@@ -1,14 +1,14 @@
-use Rattle.std.proofs.Common.{◌≡◌, ◌≤◌, ◌<◌, ◌+◌, vec_len, vec_capacity, ℕ, List, [], length, take, None}
+use Rattle.std.proofs.Common.{◌≡◌, ◌≤◌, ◌<◌, ◌+◌, vec_len, vec_capacity, ℕ, List, length, take, None}
 use Rattle.std.specs.List.{slice_split}
 use Rattle.typed_path.specs.declared.scan.separators.Separators.TheVariants.{Either}
 use Rattle.typed_path.specs.components.{is_separator, drive}
-use Rattle.typed_path.specs.places.{AreRowsOf, HaveNoDisks}
+use Rattle.typed_path.specs.places.{HaveNoDisks}
 use Rattle.typed_path.proofs.lemmas.places.UnixRows.{Standing}
-use Rattle.typed_path.proofs.windows.normal.put_segments.Given as goal
+use Rattle.typed_path.proofs.windows.normal.put_one_by_one.Given as goal
 
 abbrev pub invariant-segments : goal.invariant-segments
 invariant-segments l = record {
-  standing : (head : List ℕ) → length head ≡ l.len → AreRowsOf Either l.fn.text.items head [] → Standing Either (λ name. drive name ≡ None) l.text.items head l.rest l.path;
+  standing : (head whole : List ℕ) → length head ≡ l.len → Standing Either (λ name. drive name ≡ None) l.fn.text.items head l.path whole → Standing Either (λ name. drive name ≡ None) l.text.items head l.rest whole;
   kept : take l.len l.text.items ≡ take l.len l.fn.text.items;
   long : l.len ≤ length l.text.items;
   capacity : vec_capacity l.fn.text ≤ vec_capacity l.text;
