@@ -18,8 +18,8 @@ use crate::common::{Encoding, Path, PathBuf, cut_back, put_turned};
 use crate::errors::{AbsolutizeError, CheckedPathError, PathError};
 use crate::platform::{PlatformEncoding, PlatformPath, PlatformPathBuf};
 use crate::scan::{
-    Piece, PieceKind, Separators, Span, before_last_separator, find_prefix, has_forbidden,
-    has_no_blank_behind, has_reserved, is_dots, is_free_of,
+    Piece, PieceKind, Separators, Span, before_last_separator, begins_with_device, find_prefix,
+    has_forbidden, has_no_blank_behind, has_reserved, is_dots, is_free_of,
 };
 use crate::unix::{UnixEncoding, UnixPathBuf};
 use crate::windows::{WindowsEncoding, WindowsPathBuf, begins_with_separator};
@@ -251,9 +251,7 @@ fn turned<T: Encoding, U: Encoding>(path: &[u8]) -> Option<&[u8]>
 
 /// The same of a path of Unix on Windows, in which no byte separates there alone, and none marks a drive.
 fn turned_for_windows(path: &[u8]) -> Option<&[u8]>
-    ensures turned { IfSome result (λ text. CrossesTurned unix windows path.now text.now) }
-    ensures checked { IfSome result (λ text. list_any (is_forbidden_or (backslash, backslash)) text.now ≡ false
-        → list_any (is_reserved windows) (slice_split (is_separator Separators.Either) text.now) ≡ false → IsUnrefused unix windows path.now) }
+    ensures { IfSome result (λ text. CrossesTurned unix windows path.now text.now) }
 {
     let text = before_last_separator(path, Separators::Slash);
     if is_free_of((b':', b'\\'), text) && has_no_blank_behind(text, Separators::Either) {
@@ -365,17 +363,23 @@ pub fn convert_checked<T: Encoding, U: Encoding>(
     ensures kept { take start text.new.items ≡ take start text.old.items }
     ensures long { start ≤ length text.new.items }
 {
-    if let Some(turned) = turned_checked::<T, U>(path.as_bytes()) {
+    let allowed = allows_each::<T, U>(path.as_bytes());
+    if let Some(turned) = turned_checked::<T, U>(path.as_bytes(), allowed) {
         put_turned(text, turned, Separators::Either, separator_of::<U>())?;
         return Ok(());
     }
-    push_each_checked::<T, U>(text, start, path)
+    push_each_checked::<T, U>(text, start, path, allowed)
 }
 
 /// The text that a path is written as in another encoding once its separators are turned, where its
 /// bytes tell that no more of it changes, and that no component is refused. None says nothing.
+///
+/// Onto Windows none but a path is looked at of which the bytes are known to be allowed there: one look
+/// has told that, before any other.
 #[inline(always)]
-fn turned_checked<T: Encoding, U: Encoding>(path: &[u8]) -> Option<&[u8]>
+fn turned_checked<T: Encoding, U: Encoding>(path: &[u8], allowed: bool) -> Option<&[u8]>
+    requires { IsTrue allowed
+        → list_any (is_forbidden_or (backslash, backslash)) path.now ≡ false }
     ensures { IfSome result (λ text. converted_checked T.dialect U.dialect path.now
         ≡ Ok (turned Separators.Either (separator_of U.dialect) text.now)) }
 {
@@ -383,11 +387,10 @@ fn turned_checked<T: Encoding, U: Encoding>(path: &[u8]) -> Option<&[u8]>
         return None;
     }
     if have_one_label::<T, UnixEncoding>() && have_one_label::<U, WindowsEncoding>() {
-        let text = turned_for_windows(path)?;
-        if has_forbidden(text, (b'\\', b'\\')) || has_reserved(text, Separators::Either) {
-            return None;
+        if allowed {
+            return turned_for_windows_checked(path);
         }
-        return Some(text);
+        return None;
     }
     if have_one_label::<T, WindowsEncoding>() && have_one_label::<U, UnixEncoding>() {
         let text = turned_for_unix(path)?;
@@ -398,13 +401,31 @@ fn turned_checked<T: Encoding, U: Encoding>(path: &[u8]) -> Option<&[u8]>
     None
 }
 
-/// The same, component by component.
+/// The same of a path of Unix on Windows, whose bytes are allowed there: of these none separates there
+/// alone, and none marks a drive.
+fn turned_for_windows_checked(path: &[u8]) -> Option<&[u8]>
+    requires { list_any (is_forbidden_or (backslash, backslash)) path.now ≡ false }
+    ensures { IfSome result (λ text. converted_checked unix windows path.now
+        ≡ Ok (turned Separators.Either backslash text.now)) }
+{
+    let text = before_last_separator(path, Separators::Slash);
+    if has_no_blank_behind(text, Separators::Either) && !has_reserved(text, Separators::Either) {
+        return Some(text);
+    }
+    None
+}
+
+/// The same, component by component. Of a path whose names are known to have allowed bytes no name is
+/// looked through.
 fn push_each_checked<T: Encoding, U: Encoding>(
     text: &mut Vec<u8>,
     start: usize,
     path: Span<'_>,
+    allowed: bool,
 ) -> Result<(), PathError>
-    requires { length text.old.items ≡ start }
+    requires end { length text.old.items ≡ start }
+    requires allowed { IsTrue allowed
+        → AllowsOnWindows U.dialect (kinds (parts_of T.dialect (span_bytes path))) }
     ensures ok { OnOk result
         (converted_checked T.dialect U.dialect (span_bytes path.entry)
         ≡ Ok (drop start text.new.items)) }
@@ -415,7 +436,6 @@ fn push_each_checked<T: Encoding, U: Encoding>(
 {
     let cursor = T::cursor(path.as_bytes()).within(path);
     let mut known = push_prefix_checked::<U>(text, start, cursor.prefix_piece())?;
-    let allowed = allows_each::<T, U>(path.as_bytes());
     let mut body = cursor.body();
     'steps: while let Some(step) = body.front() {
         known = push_piece_checked::<U>(text, start, step.piece(), known, allowed)?;
@@ -434,9 +454,14 @@ const LOOK: usize = 4_096;
 /// Whether one look at the bytes of a path tells that each of its names has bytes that the other
 /// encoding, which is that of Windows, allows: then no name is looked through anew. False says
 /// nothing.
+///
+/// A path whose first name stands for a device is not looked through, as that name is refused.
 #[inline(always)]
 fn allows_each<T: Encoding, U: Encoding>(path: &[u8]) -> bool
-    ensures { IsTrue result → AllowsOnWindows U.dialect (kinds (parts_of T.dialect path.now)) }
+    ensures names { IsTrue result
+        → AllowsOnWindows U.dialect (kinds (parts_of T.dialect path.now)) }
+    ensures bytes { IsTrue result
+        → list_any (is_forbidden_or (backslash, backslash)) path.now ≡ false }
 {
     if !have_one_label::<T, UnixEncoding>() {
         return false;
@@ -444,7 +469,7 @@ fn allows_each<T: Encoding, U: Encoding>(path: &[u8]) -> bool
     if !have_one_label::<U, WindowsEncoding>() {
         return false;
     }
-    if LOOK < path.len() {
+    if LOOK < path.len() || begins_with_device(path) {
         return false;
     }
     !has_forbidden(path, (b'\\', b'\\'))

@@ -22,6 +22,7 @@ pub use prefix::{
     Found, WindowsPrefix, after_mark, byte_behind_two, drive, find_prefix, parted_drive,
 };
 pub use separators::{
-    Separators, has_reserved, has_stray_parent_or_device, has_valid_names, is_free_of,
+    Separators, begins_with_device, has_reserved, has_stray_parent_or_device, has_valid_names,
+    is_free_of,
 };
 pub use step::{Piece, PieceKind, Step, StepKind, is_dots, step_of};

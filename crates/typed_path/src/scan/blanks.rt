@@ -1,6 +1,7 @@
 //! Segments that count for nothing behind others, looked for by blocks.
 
-ghost use Rattle.std.specs.Prelude.{◌≡◌, ◌≤◌, ℕ, length, false, IsTrue};
+ghost use Rattle.std.specs.Prelude.{◌≡◌, ◌≤◌, ℕ, Bool, length, false, IsTrue};
+ghost use Rattle.std.specs.List.{list_any};
 ghost use Rattle.typed_path.specs.components.{body};
 ghost use Rattle.typed_path.specs.scan.{has_blank_behind, MarksNoBlank};
 
@@ -63,7 +64,8 @@ fn blanks_behind(separators: u64, ends: u64, dots: u64) -> u64
 /// component.
 #[inline(always)]
 pub fn before_last_separator(text: &[u8], separators: Separators) -> &[u8]
-    ensures { (at : ℕ) → body separators at text.now ≡ body separators at result.now }
+    ensures body { (at : ℕ) → body separators at text.now ≡ body separators at result.now }
+    ensures bytes { (p : ℕ → Bool) → list_any p text.now ≡ false → list_any p result.now ≡ false }
 {
     match text {
         [before @ .., last] if separators.contains(*last) && !before.is_empty() => before,

@@ -7,7 +7,10 @@ untrue : (b : Bool) → IsTrue (not b) → b ≡ false
 untrue false h = refl
 untrue true h = cc
 
-pub returns : goal.returns
-returns g c = λ told.
+pub returns-clause-names : goal.returns-clause-names
+returns-clause-names g c = λ told.
     allows-crossing g.T.Encoding.dialect g.U.Encoding.dialect c.args.path.now (sym c.have_one_label.ensures ∙ c.if-not-have_one_label.false) (sym c.have_one_label-2.ensures ∙ c.if-not-have_one_label-2.false)
     (sym c.has_forbidden.ensures ∙ untrue c.has_forbidden.result told)
+
+pub returns-clause-bytes : goal.returns-clause-bytes
+returns-clause-bytes g c = λ told. sym c.has_forbidden.ensures ∙ untrue c.has_forbidden.result told

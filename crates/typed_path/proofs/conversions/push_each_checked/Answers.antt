@@ -1,8 +1,8 @@
-use Rattle.std.proofs.Common.{◌≡◌, List, ℕ, ap, sym, refl, subst, ◌∙◌, Some, None, ◌∷◌, [], length, drop, arith, option_map, Ok}
+use Rattle.std.proofs.Common.{◌≡◌, List, ℕ, ap, sym, refl, ◌∙◌, Some, None, ◌∷◌, [], length, drop, arith, option_map, Ok}
 use Rattle.std.proofs.lemmas.List.{drop_all}
 use Rattle.std.specs.Option.{option_to_list}
-use Rattle.typed_path.specs.components.{kinds, comps, parts_of, parts}
-use Rattle.typed_path.specs.conversions.{AllowsOnWindows, push_checked_each}
+use Rattle.typed_path.specs.components.{comps, parts_of, parts}
+use Rattle.typed_path.specs.conversions.{push_checked_each}
 use Rattle.typed_path.specs.queries.{behind_prefix}
 use Rattle.typed_path.specs.views.BodyViews.{body_items}
 use Rattle.typed_path.specs.views.CursorViews.{items_left}
@@ -28,7 +28,7 @@ returns-in_err-known-clause-refused g c =
     let split = parts-prefixed (comps g.T.Encoding.dialect (span_bytes c.args.path)) (items_left c.within-cursor.result) (behind_prefix (items_left c.within-cursor.result)) (option_map part_of c.prefix_piece.result) (c.within-cursor.ensures ∙ ap parts (c.cursor.ensures.items ∙ ap (comps g.T.Encoding.dialect) c.as_bytes.ensures)) c.prefix_piece.ensures refl in
     λ f told.
     refused-whole e [] (option_to_list (option_map part_of c.prefix_piece.result)) _ (parts_of g.T.Encoding.dialect (span_bytes c.args.path)) split f
-    (ap (λ t. push_checked_each e (Ok t) (option_to_list (option_map part_of c.prefix_piece.result))) (sym (empty c.args.start c.args.text.now.items c.requires))
+    (ap (λ t. push_checked_each e (Ok t) (option_to_list (option_map part_of c.prefix_piece.result))) (sym (empty c.args.start c.args.text.now.items c.requires.end))
     ∙ c.in_err-known.ensures.refused f (refusal-passed c.push_prefix_checked.result c.from_residual.result _ c.from_residual.ensures.1 f told))
 
 pub steps-init : goal.steps-init
@@ -37,11 +37,11 @@ steps-init g c =
     let split = parts-prefixed (comps g.T.Encoding.dialect (span_bytes c.args.path)) (items_left c.within-cursor.result) (body_items c.body-body.result) (option_map part_of c.prefix_piece.result) (c.within-cursor.ensures ∙ ap parts (c.cursor.ensures.items ∙ ap (comps g.T.Encoding.dialect) c.as_bytes.ensures)) c.prefix_piece.ensures c.body-body.ensures in
     record {
       pushed = pushed-first e [] (option_to_list (option_map part_of c.prefix_piece.result)) (parts (body_items c.body-body.result)) (parts_of g.T.Encoding.dialect (span_bytes c.args.path)) split (drop c.args.start c.push_prefix_checked.new.text.items)
-          (ap (λ t. push_checked_each e (Ok t) (option_to_list (option_map part_of c.prefix_piece.result))) (sym (empty c.args.start c.args.text.now.items c.requires)) ∙ c.in_ok-known.ensures.ok);
+          (ap (λ t. push_checked_each e (Ok t) (option_to_list (option_map part_of c.prefix_piece.result))) (sym (empty c.args.start c.args.text.now.items c.requires.end)) ∙ c.in_ok-known.ensures.ok);
       kept = c.in_ok-known.ensures.kept;
       long = c.in_ok-known.ensures.long;
       allowed = λ told. allows-left e (option_to_list (option_map part_of c.prefix_piece.result)) (parts (body_items c.body-body.result)) (parts_of g.T.Encoding.dialect (span_bytes c.args.path)) split
-          (subst (λ t. AllowsOnWindows e (kinds (parts_of g.T.Encoding.dialect t))) c.as_bytes-2.ensures (c.allows_each-allowed.ensures told));
+          (c.requires.allowed told);
       known = c.in_ok-known.ensures.known;
     }
 

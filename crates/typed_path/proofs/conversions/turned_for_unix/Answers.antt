@@ -15,7 +15,7 @@ pub returns-then-has_no_blank_behind : goal.returns-then-has_no_blank_behind
 returns-then-has_no_blank_behind c =
     let path = c.args.path.now in
     let text = c.before_last_separator-text.result.now in
-    let read = parts_of-none path (sym c.in_default.ensures) ∙ body-same Either path text c.before_last_separator-text.ensures in
+    let read = parts_of-none path (sym c.in_default.ensures) ∙ body-same Either path text c.before_last_separator-text.ensures.body in
     record { turned = crosses-unix path text read (c.has_no_blank_behind.ensures c.if-has_no_blank_behind.true); checked = checked-unix path text read }
 
 pub slice_bounds-behind-count : goal.slice_bounds-behind-count
@@ -43,7 +43,7 @@ returns-then-has_no_blank_behind-2 c =
     let s = separators windows path in
     let w = separators-windows path in
     let without = c.is_rooted.ensures.slashless c.if-is_rooted.true in
-    let read = behind_read path _ text f c.of_windows.result c.of_windows.ensures is refl c.before_last_separator-text-2.ensures in
+    let read = behind_read path _ text f c.of_windows.result c.of_windows.ensures is refl c.before_last_separator-text-2.ensures.body in
     record {
       turned = crosses-rooted path text s (prefix_part f.prefix (take f.length path)) w read without (c.has_no_blank_behind-then-is_rooted.ensures c.if-has_no_blank_behind-2.true) (c.is_rooted.ensures.rooted c.if-is_rooted.true);
       checked = checked-rooted path text f is s w read without;

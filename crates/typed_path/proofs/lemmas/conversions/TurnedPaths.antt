@@ -19,6 +19,7 @@ use Rattle.typed_path.proofs.lemmas.conversions.CrossedPaths.{IsStep, a_parent, 
 use Rattle.typed_path.proofs.lemmas.components.Prefixes.{OfWindows}
 use Rattle.typed_path.proofs.lemmas.places.UnixRows.{take-ended}
 use Rattle.typed_path.proofs.lemmas.places.WindowsRows.{IsWithoutSlash, pieces-own}
+use Rattle.typed_path.proofs.lemmas.promises.UnixContained.{parts_of-unix}
 use Rattle.typed_path.proofs.lemmas.promises.WindowsStable.{push-first}
 use Rattle.typed_path.proofs.lemmas.promises.WindowsContained.{verbatim-none}
 use Rattle.typed_path.proofs.lemmas.scan.Blanks.{segment-byte}
@@ -453,3 +454,7 @@ crosses-rooted path (x ∷ xs) s p w read without none rooted =
 -- a body that is read alike without the separator at its end
 pub body-same : (s : Separators) (text other : List ℕ) → ((at : ℕ) → body s at text ≡ body s at other) → body_parts s text ≡ body_parts s other
 body-same s text other same = sym (parts-body s 0 text) ∙ ap parts (same 0) ∙ parts-body s 0 other
+
+-- so is a path of Unix
+pub read-unix : (path text : List ℕ) → ((at : ℕ) → body Slash at path ≡ body Slash at text) → parts_of unix path ≡ body_parts Slash text
+read-unix path text same = parts_of-unix path ∙ body-same Slash path text same

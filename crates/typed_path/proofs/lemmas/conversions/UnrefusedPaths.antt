@@ -5,11 +5,11 @@ use Rattle.std.proofs.lemmas.Bool.{and_parts, and_right, or_parts, false_from_ne
 use Rattle.std.proofs.lemmas.List.Elements.{All-nil, All-cons}
 use Rattle.typed_path.specs.declared.scan.separators.Separators.{Separators}
 use Rattle.typed_path.specs.declared.scan.separators.Separators.TheVariants.{Slash, Backslash, Either}
-use Rattle.typed_path.specs.components.{Dialect, unix, windows, dot, slash, backslash, colon, is_separator, is_dot, root_text, Part, current_part, root_part, drive, is_drive_letter, parts_of, separators, Found, prefix_of, prefix_part, Kind, prefix, root, current, parent, normal, kinds}
-use Rattle.typed_path.specs.changes.{push, push_all, fault, is_stray, is_forbidden_or}
+use Rattle.typed_path.specs.components.{body, Dialect, unix, windows, dot, slash, backslash, colon, question, is_separator, is_dot, root_text, Part, current_part, root_part, drive, is_drive_letter, parts_of, separators, Found, prefix_of, prefix_part, Kind, prefix, root, current, parent, normal, kinds}
+use Rattle.typed_path.specs.changes.{push, push_all, fault, is_stray, is_forbidden, is_forbidden_or}
 use Rattle.typed_path.specs.queries.{is_valid, is_valid_kind, is_disallowed, kind_has_allowed_bytes, is_reserved}
-use Rattle.typed_path.specs.conversions.{crossed, IsUnrefused, crossing_fault, push_checked_each, push_unless}
-use Rattle.typed_path.specs.scan.{is_one_of}
+use Rattle.typed_path.specs.conversions.{crossed, IsUnrefused, converted_checked, crossing_fault, push_checked_each, push_unless}
+use Rattle.typed_path.specs.scan.{is_one_of, has_blank_behind, turned}
 use Rattle.typed_path.proofs.lemmas.components.Segments.{pieces, named_part, later_parts, first_parts, body_parts, IsWritten, IsWrittenPart, each-written, body_parts-read, parts-body}
 use Rattle.typed_path.proofs.lemmas.components.WindowsNames.{fault_name}
 use Rattle.typed_path.proofs.lemmas.queries.ValidNames.{valid-found}
@@ -18,7 +18,7 @@ use Rattle.typed_path.proofs.lemmas.components.FirmPrefixes.{drive-letter}
 use Rattle.typed_path.proofs.lemmas.conversions.Crossings.{free-byte}
 use Rattle.typed_path.proofs.lemmas.components.Prefixes.{OfWindows, Read, of_disk, of_verbatim_unc, prefix-read}
 use Rattle.typed_path.proofs.lemmas.places.WindowsRows.{IsWithoutSlash, without_slash-behind}
-use Rattle.typed_path.proofs.lemmas.conversions.TurnedPaths.{pieces-slash}
+use Rattle.typed_path.proofs.lemmas.conversions.TurnedPaths.{pieces-slash, read-unix, crosses-windows}
 
 -- ---- checked pushes of what is not refused
 
@@ -42,10 +42,26 @@ valid-unrefused e s (p ∷ ps) written valid = let both = and_parts (is_valid_ki
 body-written : (s : Separators) (text : List ℕ) → AllByRecursion (IsWrittenPart s) (body_parts s text)
 body-written s text = each-written s (body_parts s text) (body_parts-read s text)
 
+-- a text without forbidden bytes has no `:`, and no `\`
+unmarked : (text : List ℕ) → list_any (is_forbidden_or (backslash, backslash)) text ≡ false → list_any (is_one_of (colon, backslash)) text ≡ false
+unmarked [] free = refl
+unmarked (b ∷ bs) free =
+    let each = or_parts (is_forbidden_or (backslash, backslash) b) (list_any (is_forbidden_or (backslash, backslash)) bs) free in
+    let both = or_parts (is_forbidden b) (is_one_of (backslash, backslash) b) each.0 in
+    let nul = or_parts _ (b == 0) both.0 in
+    let bar = or_parts _ (b == 124) nul.0 in
+    let less = or_parts _ (b == 60) bar.0 in
+    let more = or_parts _ (b == 62) less.0 in
+    let quote = or_parts _ (b == 34) more.0 in
+    let star = or_parts _ (b == 42) quote.0 in
+    let mark = or_parts (b == colon) (b == question) star.0 in
+    let own = or_parts (b == backslash) (b == backslash) both.1 in
+    rw (mark.0, own.0) (unmarked bs each.1)
+
 -- a path of Unix without forbidden bytes and devices is written on Windows by checked pushes as by others
-pub checked-windows : (path text : List ℕ) → parts_of unix path ≡ body_parts Slash text → list_any (is_one_of (colon, backslash)) text ≡ false → list_any (is_forbidden_or (backslash, backslash)) text ≡ false
+checked-windows : (path text : List ℕ) → parts_of unix path ≡ body_parts Slash text → list_any (is_forbidden_or (backslash, backslash)) text ≡ false
     → list_any (is_reserved windows) (pieces Either text) ≡ false → IsUnrefused unix windows path
-checked-windows path text read plain free none =
+checked-windows path text read free none =
     unrefused windows [] (parts_of unix path) (subst (AllByRecursion (λ p. crossing_fault windows p ≡ None)) (sym read) (valid-unrefused windows Slash (body_parts Slash text) (body-written Slash text) valid))
   where
     unstrayed : (b : ℕ) → is_forbidden_or (backslash, backslash) b ≡ false → is_stray Either b ≡ false
@@ -77,7 +93,14 @@ checked-windows path text read plain free none =
     same (b ∷ bs) f = ap (λ ps. kinds (first_parts Slash ps)) (sym (pieces-slash (b ∷ bs) f)) ∙ same-first (pieces Either (b ∷ bs))
 
     valid : is_valid windows (kinds (body_parts Slash text)) ≡ true
-    valid = ap (is_valid windows) (same text plain) ∙ own
+    valid = ap (is_valid windows) (same text (unmarked text free)) ∙ own
+
+-- so it is written there with its separators turned, where no segment counts for nothing
+pub checked-turned : (path text : List ℕ) → ((at : ℕ) → body Slash at path ≡ body Slash at text) → list_any (is_forbidden_or (backslash, backslash)) text ≡ false → has_blank_behind Either text ≡ false
+    → list_any (is_reserved windows) (pieces Either text) ≡ false → converted_checked unix windows path ≡ Ok (turned Either backslash text)
+checked-turned path text same free tight none =
+    let read = read-unix path text same in
+    checked-windows path text read free none ∙ ap Ok (crosses-windows path text read (unmarked text free) tight).is
 
 -- names that Unix allows are valid there
 valid-unix : (ks : List Kind) → AllByRecursion (λ k. kind_has_allowed_bytes unix k ≡ true) ks → is_valid unix ks ≡ true

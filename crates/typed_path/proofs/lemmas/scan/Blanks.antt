@@ -1,8 +1,8 @@
 -- Segments that count for nothing behind others: how marks tell that there is none, and what that tells of the pieces of a text.
-use Rattle.std.proofs.Common.{◌≡◌, ℕ, suc, ◌+◌, ◌-◌, ◌*◌, ◌^◌, ◌/◌, ◌%◌, ◌≤◌, ◌<◌, List, [], ◌∷◌, Bool, true, false, cond, not, ◌&&◌, ◌||◌, ◌==◌, w64, length, take, take_all, drop, ◌++◌, slice_index, refl, sym, ap, ◌∙◌, arith, bit_or, bit_and, shr-shr, subst, true≢false, drop-drop, inl, inr}
+use Rattle.std.proofs.Common.{◌≡◌, ℕ, zero, suc, ◌+◌, ◌-◌, ◌*◌, ◌^◌, ◌/◌, ◌%◌, ◌≤◌, ◌<◌, List, [], ◌∷◌, Bool, true, false, cond, not, ◌&&◌, ◌||◌, ◌==◌, w64, length, take, take_all, drop, ◌++◌, slice_index, refl, sym, ap, ◌∙◌, arith, bit_or, bit_and, shr-shr, subst, true≢false, drop-drop, inl, inr}
 use Rattle.std.specs.Int.{bit_at}
-use Rattle.std.specs.List.{before_first, position_or_len}
-use Rattle.std.proofs.lemmas.Bool.{and_parts, false_from_ne_true, cases_lt}
+use Rattle.std.specs.List.{before_first, list_any, position_or_len}
+use Rattle.std.proofs.lemmas.Bool.{and_parts, or_parts, false_from_ne_true, cases_lt}
 use Rattle.std.proofs.lemmas.List.{drop_more, drop_all, take_more}
 use Rattle.std.proofs.lemmas.Nat.Bits.{bit_at-zero, bit_at_or, bit_at_and, bit_at-lt, bit_at_set_same}
 use Rattle.typed_path.specs.declared.scan.separators.Separators.{Separators}
@@ -22,11 +22,11 @@ pub tells_none : (separators ends dots : ℕ) → bit_and separators (bit_or (en
 tells_none separators ends dots none k set =
     let behind = bit_and (dots / 2) (ends / 4) in
     let all = bit_at_and separators (bit_or (ends / 2) behind) k in
-    let zero = ap (λ m. bit_at m k) none ∙ bit_at-zero k in
+    let empty = ap (λ m. bit_at m k) none ∙ bit_at-zero k in
     let either = bit_at_or (ends / 2) behind k in
     let both = bit_at_and (dots / 2) (ends / 4) k in (
-      omega (arith, all, zero, either, set, shifted ends 1 k),
-      λ d. omega (arith, all, zero, either, both, set, d, shifted dots 1 k, shifted ends 2 k, bit_at-lt ends (2 + k)),
+      omega (arith, all, empty, either, set, shifted ends 1 k),
+      λ d. omega (arith, all, empty, either, both, set, d, shifted dots 1 k, shifted ends 2 k, bit_at-lt ends (2 + k)),
     )
 
 -- ---- what the first bytes of a text tell of its first segment
@@ -98,7 +98,7 @@ module _ (s : Separators) (text : List ℕ) (at n bound separators ends dots : �
       at_two = let same : suc (at + k) + 1 ≡ at + (2 + k) = omega arith in drop-drop 1 (suc (at + k)) text ∙ ap (λ m. drop m text) same
 
       unended : (m : ℕ) (t : List ℕ) → t ≡ drop (at + m) text → m < bound → bit_at ends m ≡ 0 → ends_segment s t ≡ false
-      unended m t is within zero = false_from_ne_true _ (λ e. let set = ended m within (ap (ends_segment s) (sym is) ∙ e) in absurd (omega (arith, set, zero)))
+      unended m t is within unset = false_from_ne_true _ (λ e. let set = ended m within (ap (ends_segment s) (sym is) ∙ e) in absurd (omega (arith, set, unset)))
 
       clean : is_separator s (slice_index text (at + k)) ≡ true → begins_blank s (drop (suc (at + k)) text) ≡ false
       clean separates =
@@ -161,3 +161,9 @@ last-separator s at text some separates filled = by (take (length text - 1) text
     by : (front : List ℕ) → take (length text - 1) text ≡ front → body s at text ≡ body s at front
     by [] e = absurd (true≢false (sym (ap (λ t. length t == 0) e) ∙ filled))
     by (u ∷ us) e = ap (body s at) (whole ∙ ap (λ t. t ++ last ∷ []) e) ∙ body_from-separator s at last separates Body u us
+
+-- what no byte of a text is, none of its first bytes is
+pub free-first : (p : ℕ → Bool) (text : List ℕ) (n : ℕ) → list_any p text ≡ false → list_any p (take n text) ≡ false
+free-first p text zero free = refl
+free-first p [] (suc n) free = refl
+free-first p (b ∷ bs) (suc n) free = let both = or_parts (p b) (list_any p bs) free in ap (λ x. x || list_any p (take n bs)) both.0 ∙ free-first p bs n both.1
