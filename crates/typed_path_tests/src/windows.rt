@@ -2,8 +2,8 @@
 
 use std::str;
 use typed_path::{
-    Component, ParseError, TypedPath, Utf8TypedPath, Utf8WindowsPath, WindowsComponent,
-    WindowsComponents, WindowsPath, WindowsPrefix, WindowsPrefixComponent,
+    Component, Encoding, ParseError, TypedPath, Utf8TypedPath, Utf8WindowsPath, WindowsComponent,
+    WindowsComponents, WindowsEncoding, WindowsPath, WindowsPrefix, WindowsPrefixComponent,
 };
 
 /// The components of a text.
@@ -328,6 +328,24 @@ fn slices_left(rt: HostRuntime) {
         }
         assert!(rt; components.as_bytes() == left);
         assert!(rt; components.has_prefix() == (fronts == 0 && backs < 5));
+    }
+}
+
+// No clause says of which bases the bytes tell.
+#[test]
+fn bases_told_by_bytes(rt: HostRuntime) {
+    const ROWS: &[(&[u8], &[u8], Option<&[u8]>)] = &[
+        (br"C:\a\b", br"C:\a", Some(b"b")),
+        (br"\\s\h\a\b", br"\\s\h\a", Some(b"b")),
+        (br"\\?\UNC\\a\b", br"\\?\UNC\\a", Some(b"b")),
+        (br"\\?\\a\b", br"\\?\\", Some(br"a\b")),
+        (br"\\.\\a\b", br"\\.\\", Some(br"a\b")),
+        (br"\\s\\a\b", br"\\s\\", Some(br"a\b")),
+        (br"\\s\h\a\b", br"\\s\h", None),
+        (br"\\s\h\a\b", br"\\s\h/a", None),
+    ];
+    for &(path, base, behind) in ROWS {
+        assert!(rt; WindowsEncoding::behind(path, base) == behind);
     }
 }
 
