@@ -341,6 +341,10 @@ fn bases_told_by_bytes(rt: HostRuntime) {
         (br"\\?\\a\b", br"\\?\\", Some(br"a\b")),
         (br"\\.\\a\b", br"\\.\\", Some(br"a\b")),
         (br"\\s\\a\b", br"\\s\\", Some(br"a\b")),
+        (br"\\?\C:a\b\c", br"\\?\C:a\b", Some(b"c")),
+        (br"\\\aaa\b\c", br"\\\aaa\b", Some(b"c")),
+        (b"//s/h//aaa/b", b"//s/h//aaa", Some(b"b")),
+        (b"//?/UNC//aaa/b", b"//?/UNC//aaa", Some(b"b")),
         (br"\\s\h\a\b", br"\\s\h", None),
         (br"\\s\h\a\b", br"\\s\h/a", None),
     ];

@@ -187,15 +187,22 @@ fn are_separators(first: u8, second: u8) -> bool
     Separators::Either.contains(first) && Separators::Either.contains(second)
 }
 
-/// What is left of a path behind a base, where the bytes of the two tell, and `shared_prefix` says nothing: a
-/// base of a few bytes, and one behind the verbatim prefix named `UNC`. None says nothing.
+/// What is left of a path behind a base, where the bytes of the two tell, and `shared_prefix` says nothing, as
+/// of a base of a few bytes, of one behind the verbatim prefix named `UNC`, or behind a verbatim drive
+/// without a root. None says nothing.
+///
+/// Both prefixes are read, but none where the bytes behind the first two differ, nor that of a base which
+/// does not begin with the prefix of the path.
 fn behind_rare<'a>(path: &'a [u8], base: &[u8]) -> Option<&'a [u8]>
     ensures { IfSome result (λ rest. stripped windows path.now base.now ≡ Some rest.now) }
 {
-    if base.len() >= PARTED && !matches!(path, [_, _, _, _, b'U', b'N', b'C', ..]) {
+    if PARTED <= path.len() && PARTED <= base.len() && path[2..PARTED] != base[2..PARTED] {
         return None;
     }
     let (prefix, body) = path.split_at(prefix_len(path));
+    if !base.starts_with(prefix) {
+        return None;
+    }
     let (base_prefix, base_body) = base.split_at(prefix_len(base));
     let separators = Separators::of_windows(path);
     if prefix != base_prefix
