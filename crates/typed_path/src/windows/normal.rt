@@ -175,11 +175,14 @@ fn put_segments(text: &mut Vec<u8>, len: usize, path: &[u8]) -> Result<bool, All
     put_one_by_one(text, len, path)
 }
 
+/// How many runs of names are put at once before what is left of a path is settled by segments.
+const RUNS: usize = 2;
+
 /// The same of a path in which no `:` stands, so that no name begins with a drive.
 ///
-/// Names that stand side by side are put at once. Two such runs are looked for, so that one segment
-/// between names costs little; behind them, as where names and `..` take turns, a look for each run
-/// would cost more than the segments.
+/// Names that stand side by side are put at once, up to so many runs of them; where names and `..` take
+/// turns, a look for each run would cost more than the segments. A look that finds no name costs little,
+/// and does not count, so that each `..` of `..\..\a\b` is settled before its names are put.
 fn put_undriven(text: &mut Vec<u8>, len: usize, path: &[u8]) -> Result<bool, AllocError>
     requires within { len ≤ length text.old.items }
     requires free { list_any (is_one_of (colon, colon)) path.now ≡ false }
@@ -192,18 +195,22 @@ fn put_undriven(text: &mut Vec<u8>, len: usize, path: &[u8]) -> Result<bool, All
     ensures succeeds { vec_len text.old + length path.now < vec_capacity text.old → IsOk result }
     ensures told { IfOk result (λ plain. IsTrue plain) }
 {
-    let Some(left) = put_names(text, path)? else {
-        return Ok(true);
-    };
-    let Some((segment, behind)) = cut_at_separator(Separators::Either, left) else {
-        return put_segment(text, len, left, left);
-    };
-    put_segment(text, len, segment, left)?;
-    let rest = behind_segment(segment, behind, Separators::Either);
-    let Some(last) = put_names(text, rest)? else {
-        return Ok(true);
-    };
-    put_one_by_one(text, len, last)
+    let mut rest = path;
+    let mut runs = 0;
+    'segments: while let Some(left) = put_names(text, rest)? {
+        if left.len() < rest.len() {
+            runs += 1;
+        }
+        let Some((segment, behind)) = cut_at_separator(Separators::Either, left) else {
+            return put_segment(text, len, left, left);
+        };
+        put_segment(text, len, segment, left)?;
+        rest = behind_segment(segment, behind, Separators::Either);
+        if runs == RUNS {
+            return put_one_by_one(text, len, rest);
+        }
+    }
+    Ok(true)
 }
 
 /// Settles the segments of a path one by one behind the names that stand, and answers whether none
