@@ -468,17 +468,20 @@ fn begins_with_parent_or_device(text: &[u8]) -> bool
     may_end_stem(text) && is_parent_or_device(first_segment(text))
 }
 
-/// Whether the first name of a path of Unix, behind its root too, stands for a device on Windows. It is
-/// refused there, so little else of such a path needs a look.
+/// Whether the first bytes of a path of Unix, or those behind its root, are the name of a device of Windows,
+/// which ends there. So that path is refused there, and little else of it needs a look.
 #[inline(always)]
 pub fn begins_with_device(path: &[u8]) -> bool
-    ensures { IsTrue result → has_parent_or_device path.now ≡ true }
+    ensures { IsTrue result → (may_be_reserved (before_first (is_separator Separators.Either) path.now)
+        || may_be_reserved (before_first (is_separator Separators.Either) (drop 1 path.now))) ≡ true }
 {
     let names = match path {
         [b'/', names @ ..] => names,
         _ => path,
     };
-    !names.starts_with(b".") && begins_with_parent_or_device(names)
+    begins_like_parent_or_device(names)
+        && may_end_stem(names)
+        && may_be_reserved(first_segment(names))
 }
 
 /// Whether the first two bytes of a text are, but for higher bits, one of `.acnlp` and one of `.opru`, as
