@@ -7,7 +7,7 @@ ghost use Rattle.typed_path.specs.declared.errors.CheckedPathError.{CheckedPathE
 ghost use Rattle.typed_path.specs.components.{parts_of, kinds, unix, windows, is_separator, is_verbatim, separators, backslash};
 ghost use Rattle.std.specs.List.{list_any, slice_split};
 ghost use Rattle.typed_path.specs.declared.scan.separators.Separators.{Separators};
-ghost use Rattle.typed_path.specs.conversions.{AllowsOnWindows, CrossesTurned, IsUnrefused, separator_of, same_dialect, converted, converted_checked, FitsConverted, crossed, crossed_all, is_never_refused, crossing_fault, push_checked_each, platform, absolute_from};
+ghost use Rattle.typed_path.specs.conversions.{AllowsCrossing, CrossesTurned, IsUnrefused, separator_of, same_dialect, converted, converted_checked, FitsConverted, crossed, crossed_all, is_never_refused, crossing_fault, push_checked_each, platform, absolute_from};
 ghost use Rattle.typed_path.specs.changes.{refusal, error_of, fault, FitsEach, IsKnown, begins_with_separator, is_forbidden_or};
 ghost use Rattle.typed_path.specs.queries.{is_reserved};
 ghost use Rattle.typed_path.specs.scan.{is_one_of, turned};
@@ -368,6 +368,7 @@ pub fn convert_checked<T: Encoding, U: Encoding>(
         put_turned(text, turned, Separators::Either, separator_of::<U>())?;
         return Ok(());
     }
+    let allowed = allowed || allows_on_unix::<T, U>(path.as_bytes());
     push_each_checked::<T, U>(text, start, path, allowed)
 }
 
@@ -425,7 +426,7 @@ fn push_each_checked<T: Encoding, U: Encoding>(
 ) -> Result<(), PathError>
     requires end { length text.old.items ≡ start }
     requires allowed { IsTrue allowed
-        → AllowsOnWindows U.dialect (kinds (parts_of T.dialect (span_bytes path))) }
+        → AllowsCrossing U.dialect (kinds (parts_of T.dialect (span_bytes path))) }
     ensures ok { OnOk result
         (converted_checked T.dialect U.dialect (span_bytes path.entry)
         ≡ Ok (drop start text.new.items)) }
@@ -459,7 +460,7 @@ const LOOK: usize = 4_096;
 #[inline(always)]
 fn allows_each<T: Encoding, U: Encoding>(path: &[u8]) -> bool
     ensures names { IsTrue result
-        → AllowsOnWindows U.dialect (kinds (parts_of T.dialect path.now)) }
+        → AllowsCrossing U.dialect (kinds (parts_of T.dialect path.now)) }
     ensures bytes { IsTrue result
         → list_any (is_forbidden_or (backslash, backslash)) path.now ≡ false }
 {
@@ -473,6 +474,24 @@ fn allows_each<T: Encoding, U: Encoding>(path: &[u8]) -> bool
         return false;
     }
     !has_forbidden(path, (b'\\', b'\\'))
+}
+
+/// The same of a path of Windows on Unix. A name there may have all bytes but NUL and `/`, which
+/// separates in each path that is not read verbatim.
+#[inline(always)]
+fn allows_on_unix<T: Encoding, U: Encoding>(path: &[u8]) -> bool
+    ensures { IsTrue result → AllowsCrossing U.dialect (kinds (parts_of T.dialect path.now)) }
+{
+    if !have_one_label::<T, WindowsEncoding>() {
+        return false;
+    }
+    if !have_one_label::<U, UnixEncoding>() {
+        return false;
+    }
+    if LOOK < path.len() || Separators::of_windows(path).is_verbatim() {
+        return false;
+    }
+    is_free_of((b'\0', b'\0'), path)
 }
 
 /// Pushes the prefix of a path, where it has one, onto the path at the end of a text, which is one of
@@ -512,7 +531,7 @@ fn push_piece_checked<U: Encoding>(
 ) -> Result<Option<usize>, PathError>
     requires within { start ≤ length text.old.items }
     requires allowed { IsTrue allowed
-        → AllowsOnWindows U.dialect ((part_of piece).kind ∷ []) }
+        → AllowsCrossing U.dialect ((part_of piece).kind ∷ []) }
     ensures ok { IsKnown U.dialect known (drop start text.old.items) → OnOk result
         (push_checked_each U.dialect (Ok (drop start text.old.items)) (part_of piece.entry ∷ [])
         ≡ Ok (drop start text.new.items)) }
@@ -535,10 +554,10 @@ fn push_piece_checked<U: Encoding>(
 /// name that is known to have allowed bytes the bytes are not looked at.
 #[inline(always)]
 fn check_component<U: Encoding>(piece: Piece<'_>, allowed: bool) -> Result<(), CheckedPathError>
-    requires { IsTrue allowed → AllowsOnWindows U.dialect ((part_of piece).kind ∷ []) }
+    requires { IsTrue allowed → AllowsCrossing U.dialect ((part_of piece).kind ∷ []) }
     ensures { error_of result ≡ crossing_fault U.dialect (part_of piece.entry) }
 {
-    if allowed && is_free_name(piece) {
+    if allowed && is_free_name::<U>(piece) {
         return Ok(());
     }
     if is_never_refused(piece) || is_name::<U>(piece.text) {
@@ -556,19 +575,30 @@ fn is_name<U: Encoding>(text: &[u8]) -> bool
     !is_dots(text) && U::valid(text)
 }
 
-/// Whether a component of bytes that Windows allows is a name that stands for no device.
+/// Whether a component of bytes that an encoding allows is a name that stands for no device there.
 #[inline(always)]
-fn is_free_name(piece: Piece<'_>) -> bool
-    ensures { IsTrue result → AllowsOnWindows windows ((part_of piece.entry).kind ∷ [])
-        → crossing_fault windows (part_of piece.entry) ≡ None }
+fn is_free_name<U: Encoding>(piece: Piece<'_>) -> bool
+    ensures { IsTrue result → AllowsCrossing U.dialect ((part_of piece.entry).kind ∷ [])
+        → crossing_fault U.dialect (part_of piece.entry) ≡ None }
 {
     if is_dots(piece.text) {
         return false;
     }
     match piece.kind {
-        PieceKind::Normal => !Separators::Either.is_reserved(piece.text),
+        PieceKind::Normal => !is_device_of::<U>(piece.text),
         _ => false,
     }
+}
+
+/// Whether a name stands for a device in an encoding. On Unix none does.
+#[inline(always)]
+fn is_device_of<U: Encoding>(name: &[u8]) -> bool
+    ensures { result ≡ is_reserved U.dialect name.now }
+{
+    if have_one_label::<U, UnixEncoding>() {
+        return false;
+    }
+    Separators::Either.is_reserved(name)
 }
 
 /// Whether a component is never refused: a root, and every prefix that becomes one, `.` or `..`.

@@ -75,9 +75,9 @@ converted_checked d e t = push_checked_each e (Ok []) (parts_of d t)
 abbrev pub IsUnrefused : Dialect → Dialect → List ℕ → Type 0
 IsUnrefused d e path = converted_checked d e path ≡ Ok (crossed_all e (parts_of d path))
 
--- each component that crosses to Windows has bytes that a name may have there
-abbrev pub AllowsOnWindows : Dialect → List Kind → Type 0
-AllowsOnWindows e ks = (e ≡ windows) × AllByRecursion (λ k. kind_has_allowed_bytes windows k ≡ true) ks
+-- each component that crosses to a dialect has bytes that a name may have there
+abbrev pub AllowsCrossing : Dialect → List Kind → Type 0
+AllowsCrossing e ks = AllByRecursion (λ k. kind_has_allowed_bytes e k ≡ true) ks
 
 -- the dialect of the machine
 abbrev pub platform : Dialect

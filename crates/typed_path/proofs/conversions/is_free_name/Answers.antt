@@ -9,6 +9,6 @@ untrue false h = refl
 untrue true h = cc
 
 pub returns-in-Normal : goal.returns-in-Normal
-returns-in-Normal c = λ told allows.
+returns-in-Normal g c = λ told allows.
     let text = c.args.piece.text.now in
-    free-name (kind_view c.args.piece.kind text) text (ap (λ k. kind_view k text) c.in-Normal.is) (sym c.is_dots.ensures ∙ c.if-is_dots.false) (sym c.is_reserved.ensures ∙ untrue c.is_reserved.result told) allows
+    free-name g.U.Encoding.dialect (kind_view c.args.piece.kind text) text (ap (λ k. kind_view k text) c.in-Normal.is) (sym c.is_dots.ensures ∙ c.if-is_dots.false) (sym c.is_device_of.ensures ∙ untrue c.is_device_of.result told) allows

@@ -14,7 +14,7 @@ use Rattle.typed_path.specs.declared.scan.separators.Separators.TheVariants.{Sla
 use Rattle.typed_path.specs.declared.errors.CheckedPathError.TheVariants.{InvalidFilename}
 use Rattle.typed_path.specs.changes.{is_forbidden, is_forbidden_or, refusal, push, push_all, push_windows, FitsEach, fault, fault_behind}
 use Rattle.typed_path.specs.components.{slash, colon, question, is_empty, is_dot, is_dot_dot, Dialect, windows, backslash, is_separator, unix, Part, Kind, prefix, normal, kinds, parts_of}
-use Rattle.typed_path.specs.conversions.{AllowsOnWindows, same_dialect, crossed, crossing_fault, push_unless, push_checked_each, crossed_all, converted_checked}
+use Rattle.typed_path.specs.conversions.{AllowsCrossing, same_dialect, crossed, crossing_fault, push_unless, push_checked_each, crossed_all, converted_checked}
 use Rattle.typed_path.specs.queries.{is_disallowed, has_allowed_bytes, kind_has_allowed_bytes, have_allowed_bytes, is_reserved, is_valid_name, is_valid_kind, is_valid}
 use Rattle.typed_path.specs.promises.{lack_backslash, CrossesWhereAllowed}
 use Rattle.typed_path.proofs.lemmas.lists.Lists.{IsUnseparated}
@@ -278,32 +278,28 @@ free-bytes (b ∷ bs) free =
 
 -- so one look at a Unix text tells that its names are allowed on Windows
 pub allows-crossing : (d e : Dialect) (text : List ℕ) → same_dialect d unix ≡ true → same_dialect e windows ≡ true → list_any (is_forbidden_or (backslash, backslash)) text ≡ false
-    → AllowsOnWindows e (kinds (parts_of d text))
-allows-crossing unix windows text from to free = (refl, allowed-unix text (free-bytes text free))
+    → AllowsCrossing e (kinds (parts_of d text))
+allows-crossing unix windows text from to free = allowed-unix text (free-bytes text free)
 allows-crossing windows e text from to free = cc
 allows-crossing unix unix text from to free = cc
 
 -- a name that is allowed and stands for no device is not refused as it crosses
-pub free-name : (k : Kind) (text : List ℕ) → k ≡ normal text → (is_empty text || is_dot text || is_dot_dot text) ≡ false → is_reserved windows text ≡ false
-    → AllowsOnWindows windows (k ∷ []) → crossing_fault windows (record { kind = k; text = text }) ≡ None
-free-name k text named no_dots device allows =
-    let own = subst (λ l. AllowsOnWindows windows (l ∷ [])) named allows in
-    subst (λ l. crossing_fault windows (record { kind = l; text = text }) ≡ None) (sym named) (fault_name windows text no_dots (rw (own.1.0, device) refl))
-
--- what is not refused does not offend as it crosses
-pub crossing-free : (e : Dialect) (p : Part) → AllowsOnWindows e (p.kind ∷ []) → (AllowsOnWindows windows (p.kind ∷ []) → crossing_fault windows p ≡ None) → crossing_fault e p ≡ None
-crossing-free e p allows free = subst (λ d. crossing_fault d p ≡ None) (sym allows.0) (free (refl, allows.1))
+pub free-name : (e : Dialect) (k : Kind) (text : List ℕ) → k ≡ normal text → (is_empty text || is_dot text || is_dot_dot text) ≡ false → is_reserved e text ≡ false
+    → AllowsCrossing e (k ∷ []) → crossing_fault e (record { kind = k; text = text }) ≡ None
+free-name e k text named no_dots device allows =
+    let own = subst (λ l. AllowsCrossing e (l ∷ [])) named allows in
+    subst (λ l. crossing_fault e (record { kind = l; text = text }) ≡ None) (sym named) (fault_name e text no_dots (rw (own.0, device) refl))
 
 -- of components that are allowed, the first one and the others are
-pub allows-taken : (e : Dialect) (p : Part) (qs ps : List Part) → ps ≡ (p ∷ []) ++ qs → AllowsOnWindows e (kinds ps) → AllowsOnWindows e (p.kind ∷ []) × AllowsOnWindows e (kinds qs)
+pub allows-taken : (e : Dialect) (p : Part) (qs ps : List Part) → ps ≡ (p ∷ []) ++ qs → AllowsCrossing e (kinds ps) → AllowsCrossing e (p.kind ∷ []) × AllowsCrossing e (kinds qs)
 allows-taken e p qs ps split allows =
-    let own = subst (λ rs. AllowsOnWindows e (kinds rs)) split allows in
-    ((own.0, (own.1.0, tt)), (own.0, own.1.1))
+    let own = subst (λ rs. AllowsCrossing e (kinds rs)) split allows in
+    ((own.0, tt), own.1)
 
 -- what is left behind the first of them
-pub allows-left : (e : Dialect) (first qs ps : List Part) → ps ≡ first ++ qs → AllowsOnWindows e (kinds ps) → AllowsOnWindows e (kinds qs)
-allows-left e first qs ps split allows = by first (subst (λ rs. AllowsOnWindows e (kinds rs)) split allows)
+pub allows-left : (e : Dialect) (first qs ps : List Part) → ps ≡ first ++ qs → AllowsCrossing e (kinds ps) → AllowsCrossing e (kinds qs)
+allows-left e first qs ps split allows = by first (subst (λ rs. AllowsCrossing e (kinds rs)) split allows)
   where
-    by : (rs : List Part) → AllowsOnWindows e (kinds (rs ++ qs)) → AllowsOnWindows e (kinds qs)
+    by : (rs : List Part) → AllowsCrossing e (kinds (rs ++ qs)) → AllowsCrossing e (kinds qs)
     by [] own = own
-    by (r ∷ rs) own = by rs (own.0, own.1.1)
+    by (r ∷ rs) own = by rs own.1

@@ -1,14 +1,14 @@
 -- Paths of which looks at their bytes tell that no component is refused as it crosses.
-use Rattle.std.proofs.Common.{All, not, Ok, take, ◌≡◌, ℕ, ◌==◌, ◌||◌, ◌&&◌, Bool, true, false, if◌then◌else◌, List, [], ◌∷◌, map, length, refl, sym, ap, ◌∙◌, subst, eqb-true, true≢false, Some, None}
+use Rattle.std.proofs.Common.{All, Option, not, Ok, take, drop, ◌≡◌, ℕ, ◌==◌, ◌||◌, ◌&&◌, Bool, true, false, if◌then◌else◌, List, [], ◌∷◌, map, length, refl, sym, ap, ◌∙◌, subst, eqb-true, true≢false, Some, None}
 use Rattle.std.specs.List.{AllByRecursion, list_any}
 use Rattle.std.proofs.lemmas.Bool.{and_parts, and_right, or_parts, false_from_ne_true, both_ways}
 use Rattle.std.proofs.lemmas.List.Elements.{All-nil, All-cons}
 use Rattle.typed_path.specs.declared.scan.separators.Separators.{Separators}
 use Rattle.typed_path.specs.declared.scan.separators.Separators.TheVariants.{Slash, Backslash, Either}
-use Rattle.typed_path.specs.components.{body, Dialect, unix, windows, dot, slash, backslash, colon, question, is_separator, is_dot, root_text, Part, current_part, root_part, drive, is_drive_letter, parts_of, separators, Found, prefix_of, prefix_part, Kind, prefix, root, current, parent, normal, kinds}
+use Rattle.typed_path.specs.components.{body, Dialect, unix, windows, dot, slash, backslash, colon, question, is_separator, is_dot, root_text, is_verbatim, Part, current_part, root_part, drive, is_drive_letter, parts_of, separators, Found, prefix_of, prefix_part, Kind, prefix, root, current, parent, normal, kinds}
 use Rattle.typed_path.specs.changes.{push, push_all, fault, is_stray, is_forbidden, is_forbidden_or}
 use Rattle.typed_path.specs.queries.{is_valid, is_valid_kind, is_disallowed, kind_has_allowed_bytes, is_reserved}
-use Rattle.typed_path.specs.conversions.{crossed, IsUnrefused, converted_checked, crossing_fault, push_checked_each, push_unless}
+use Rattle.typed_path.specs.conversions.{AllowsCrossing, same_dialect, crossed, IsUnrefused, converted_checked, crossing_fault, push_checked_each, push_unless}
 use Rattle.typed_path.specs.scan.{is_one_of, has_blank_behind, turned}
 use Rattle.typed_path.proofs.lemmas.components.Segments.{pieces, named_part, later_parts, first_parts, body_parts, IsWritten, IsWrittenPart, each-written, body_parts-read, parts-body}
 use Rattle.typed_path.proofs.lemmas.components.WindowsNames.{fault_name}
@@ -16,8 +16,10 @@ use Rattle.typed_path.proofs.lemmas.queries.ValidNames.{valid-found}
 use Rattle.typed_path.proofs.lemmas.queries.FileNames.{allowed-pieces, allowed-kinds, allowed-first_parts}
 use Rattle.typed_path.proofs.lemmas.components.FirmPrefixes.{drive-letter}
 use Rattle.typed_path.proofs.lemmas.conversions.Crossings.{free-byte}
-use Rattle.typed_path.proofs.lemmas.components.Prefixes.{OfWindows, Read, of_disk, of_verbatim_unc, prefix-read}
+use Rattle.typed_path.proofs.lemmas.components.Prefixes.{OfWindows, Read, of_disk, of_verbatim_unc, prefix-read, separators-windows}
 use Rattle.typed_path.proofs.lemmas.places.WindowsRows.{IsWithoutSlash, without_slash-behind}
+use Rattle.typed_path.proofs.lemmas.changes.Faults.{parts_of-none, parts_of-some}
+use Rattle.typed_path.proofs.lemmas.scan.Blanks.{free-behind}
 use Rattle.typed_path.proofs.lemmas.conversions.TurnedPaths.{pieces-slash, read-unix, crosses-windows}
 
 -- ---- checked pushes of what is not refused
@@ -134,12 +136,28 @@ disallowed-separates s w (b ∷ bs) without free =
     own Either w without d e h = slashed (b == slash) d (b == backslash) e h
     own Backslash w without d e h = absurd (true≢false (sym (unslashed-none (b == slash) d (or_parts (b == slash) (list_any (is_separator Slash) bs) (without refl)).0 e h)))
 
--- so the names of its body are not refused on Unix
+-- so the names of its body are allowed on Unix
+body-allowed : (s : Separators) → OfWindows s → (text : List ℕ) → IsWithoutSlash s text → list_any (is_one_of (0, 0)) text ≡ false → AllowsCrossing unix (kinds (body_parts s text))
+body-allowed s w [] without free = tt
+body-allowed s w (b ∷ bs) without free =
+    allowed-kinds unix (body_parts s (b ∷ bs)) (allowed-first_parts s unix (pieces s (b ∷ bs)) (allowed-pieces s unix (b ∷ bs) (disallowed-separates s w (b ∷ bs) without free)))
+
+-- and so are all of a path that is not read verbatim
+pub allows-unix : (d e : Dialect) (path : List ℕ) → same_dialect d windows ≡ true → same_dialect e unix ≡ true → is_verbatim (separators windows path) ≡ false → list_any (is_one_of (0, 0)) path ≡ false
+    → AllowsCrossing e (kinds (parts_of d path))
+allows-unix unix e path from to plain free = cc
+allows-unix windows windows path from to plain free = cc
+allows-unix windows unix path from to plain free = by (prefix_of windows path) refl
+  where
+    by : (o : Option Found) → prefix_of windows path ≡ o → AllowsCrossing unix (kinds (parts_of windows path))
+    by None e = subst (λ ps. AllowsCrossing unix (kinds ps)) (sym (parts_of-none path e)) (body-allowed Either refl path (λ verbatim. absurd (true≢false (sym verbatim))) free)
+    by (Some f) e =
+        subst (λ ps. AllowsCrossing unix (kinds ps)) (sym (parts_of-some path f e))
+        (refl, body-allowed (separators windows path) (separators-windows path) (drop f.length path) (λ verbatim. absurd (true≢false (sym verbatim ∙ plain))) (free-behind (is_one_of (0, 0)) path f.length free))
+
+-- names of its body are not refused there
 body-unrefused : (s : Separators) → OfWindows s → (text : List ℕ) → IsWithoutSlash s text → list_any (is_one_of (0, 0)) text ≡ false → AllByRecursion (λ p. crossing_fault unix p ≡ None) (body_parts s text)
-body-unrefused s w [] without free = tt
-body-unrefused s w (b ∷ bs) without free =
-    valid-unrefused unix s (body_parts s (b ∷ bs)) (body-written s (b ∷ bs))
-    (valid-unix (kinds (body_parts s (b ∷ bs))) (allowed-kinds unix (body_parts s (b ∷ bs)) (allowed-first_parts s unix (pieces s (b ∷ bs)) (allowed-pieces s unix (b ∷ bs) (disallowed-separates s w (b ∷ bs) without free)))))
+body-unrefused s w text without free = valid-unrefused unix s (body_parts s text) (body-written s text) (valid-unix (kinds (body_parts s text)) (body-allowed s w text without free))
 
 -- nor is a prefix
 prefix-unrefused : (path : List ℕ) (f : Found) → prefix_of windows path ≡ Some f → crossing_fault unix (prefix_part f.prefix (take f.length path)) ≡ None

@@ -167,3 +167,9 @@ pub free-first : (p : ℕ → Bool) (text : List ℕ) (n : ℕ) → list_any p t
 free-first p text zero free = refl
 free-first p [] (suc n) free = refl
 free-first p (b ∷ bs) (suc n) free = let both = or_parts (p b) (list_any p bs) free in ap (λ x. x || list_any p (take n bs)) both.0 ∙ free-first p bs n both.1
+
+-- nor any of the others
+pub free-behind : (p : ℕ → Bool) (text : List ℕ) (n : ℕ) → list_any p text ≡ false → list_any p (drop n text) ≡ false
+free-behind p text zero free = free
+free-behind p [] (suc n) free = refl
+free-behind p (b ∷ bs) (suc n) free = free-behind p bs n (or_parts (p b) (list_any p bs) free).1
