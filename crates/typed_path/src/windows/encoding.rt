@@ -9,8 +9,7 @@ ghost use Rattle.typed_path.specs.queries.{is_absolute, has_root, is_disk, path_
 ghost use Rattle.typed_path.specs.order.{kind_cmp, path_cmp};
 ghost use Rattle.typed_path.specs.declared.scan.separators.Separators.{Separators};
 ghost use Rattle.typed_path.specs.views.CursorViews.{items_left};
-ghost use Rattle.typed_path.specs.changes.{begins_with_separator, has_only_valid_names, has_second_colon, fault, HaveOnePrefix};
-ghost use Rattle.typed_path.specs.declared.errors.CheckedPathError.TheVariants.{InvalidFilename};
+ghost use Rattle.typed_path.specs.changes.{begins_with_separator, has_only_valid_names, has_second_colon, has_no_nul_or_dot_pair, fault, error_of, HaveOnePrefix};
 
 use crate::common::{Encoding, compare_prefixes, compare_texts};
 use crate::errors::CheckedPathError;
@@ -144,14 +143,14 @@ impl Encoding for WindowsEncoding {
         put_normal(text, path)
     }
 
-    // Looks at its bytes tell of most paths that none of their components offends, and of most others that
-    // no more than a name does.
+    // Most paths are of names alone, as looks at their bytes tell, and then others judge these. A path with
+    // a `..` is read at once.
     fn check(path: &[u8]) -> Result<(), CheckedPathError> {
-        if has_only_valid_names(path) {
-            return Ok(());
+        if has_names_alone(path) {
+            return judged_by_names(path);
         }
-        if offends_by_names(path) {
-            return Err(CheckedPathError::InvalidFilename);
+        if LOOK < path.len() && has_only_valid_names(path) {
+            return Ok(());
         }
         Cursor::of_windows(path).check()
     }
@@ -368,16 +367,17 @@ fn has_only_valid_names(path: &[u8]) -> bool
     !begins_with_separator(path) && !has_stray_parent_or_device(path)
 }
 
-/// How many bytes a path has at most of which all are looked at for what else may offend than names: so a
+/// How many bytes a path has at most of which all are looked at for two dots before a name is judged: so a
 /// long path that is refused at its front is refused there.
 const LOOK: usize = 1_024;
 
-/// Whether looks at the bytes of a path tell that a name of it offends, and nothing before that: a name or
-/// a `..` does, and it has no two dots side by side. False says nothing.
+/// Whether looks at the bytes of a path tell that each of its components is a name or a `.`. False says
+/// nothing.
 #[inline(always)]
-fn offends_by_names(path: &[u8]) -> bool
-    requires { has_only_valid_names path.now ≡ false }
-    ensures { IsTrue result → fault windows path.now ≡ Some InvalidFilename }
+fn has_names_alone(path: &[u8]) -> bool
+    ensures relative { IsTrue result → begins_with_separator path.now ≡ false }
+    ensures undriven { IsTrue result → has_second_colon path.now ≡ false }
+    ensures unpaired { IsTrue result → has_no_nul_or_dot_pair path.now ≡ true }
 {
     if has_second_colon(path) {
         return false;
@@ -386,6 +386,20 @@ fn offends_by_names(path: &[u8]) -> bool
         return false;
     }
     path.len() <= LOOK && has_no_nul_or_dot_pair(path)
+}
+
+/// Judges a path of names and `.` alone: where one offends, a name does, and looks at the bytes tell.
+#[inline(always)]
+fn judged_by_names(path: &[u8]) -> Result<(), CheckedPathError>
+    requires relative { begins_with_separator path.now ≡ false }
+    requires undriven { has_second_colon path.now ≡ false }
+    requires unpaired { has_no_nul_or_dot_pair path.now ≡ true }
+    ensures { error_of result ≡ fault windows path.now }
+{
+    if has_stray_parent_or_device(path) {
+        return Err(CheckedPathError::InvalidFilename);
+    }
+    Ok(())
 }
 
 /// Whether the second byte of a text is a `:`, as behind the letter of a drive.

@@ -450,6 +450,16 @@ valid-no_fault path e =
     ∙ ap not (none_reserved (pieces Either path) (any-pieces path ∙ none)) in
     ap (λ ps. fault_behind windows [] (kinds ps)) read ∙ none_refused [] (kinds (body_parts Either path)) valid (body_plain path apart (none_parents (pieces Either path) (any-pieces path ∙ none)))
 
+-- of a path that does not begin with a separator the other looks tell
+pub relative-valid : (path : List ℕ) → begins_with_separator path ≡ false → has_only_valid_names path ≡ not (list_any (is_stray Either) path || has_parent_or_device path)
+relative-valid path apart =
+    ap (λ b. (not b && not (list_any (is_stray Either) path)) && not (has_parent_or_device path)) apart
+    ∙ by (list_any (is_stray Either) path) (has_parent_or_device path)
+  where
+    by : (stray found : Bool) → ((true && not stray) && not found) ≡ not (stray || found)
+    by true found = refl
+    by false found = refl
+
 -- a path of which they tell that a name is not valid or a segment is `..`, and which has no two dots side by side, is refused for a name
 pub invalid-name_fault : (path : List ℕ) → begins_with_separator path ≡ false → has_second_colon path ≡ false → has_only_valid_names path ≡ false → has_no_nul_or_dot_pair path ≡ true
     → fault windows path ≡ Some InvalidFilename

@@ -33,6 +33,12 @@ pub returns-then-has_only_valid_names-clause-contained : goal.returns-then-has_o
 returns-then-has_only_valid_names-clause-contained c =
     let path = c.args.path.now in λ base. contained base path (valid-no_fault path (sym c.has_only_valid_names.ensures ∙ c.if-has_only_valid_names.true))
 
+pub returns-then-has_names_alone-clause-prefix : goal.returns-then-has_names_alone-clause-prefix
+returns-then-has_names_alone-clause-prefix c = kept c.judged_by_names.result c.args.path.now c.judged_by_names.ensures
+
+pub returns-then-has_names_alone-clause-contained : goal.returns-then-has_names_alone-clause-contained
+returns-then-has_names_alone-clause-contained c = within c.judged_by_names.result c.args.path.now c.judged_by_names.ensures
+
 pub returns-clause-prefix : goal.returns-clause-prefix
 returns-clause-prefix c = kept c.check.result c.args.path.now (judged c)
 
