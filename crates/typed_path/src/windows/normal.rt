@@ -178,11 +178,24 @@ fn put_segments(text: &mut Vec<u8>, len: usize, path: &[u8]) -> Result<bool, All
 /// How many runs of names are put at once before what is left of a path is settled by segments.
 const RUNS: usize = 2;
 
+/// How many bytes a run of names has at least that counts as one.
+const LONG: usize = 12;
+
+/// How many runs a run of so many bytes counts as: a short one is the last that is looked for.
+#[inline(always)]
+fn runs_of(len: usize) -> usize
+    ensures least { 1 ≤ result }
+    ensures most { result ≤ 2 }
+{
+    if len < LONG { RUNS } else { 1 }
+}
+
 /// The same of a path in which no `:` stands, so that no name begins with a drive.
 ///
-/// Names that stand side by side are put at once, up to so many runs of them; where names and `..` take
-/// turns, a look for each run would cost more than the segments. A look that finds no name costs little,
-/// and does not count, so that each `..` of `..\..\a\b` is settled before its names are put.
+/// Names that stand side by side are put at once, up to so many runs of them, or to a short one; where
+/// names and `..` take turns, a look for each run would cost more than the segments. A look that finds no
+/// name costs little, and does not count, so that each `..` of `..\..\a\b` is settled before its names
+/// are put.
 fn put_undriven(text: &mut Vec<u8>, len: usize, path: &[u8]) -> Result<bool, AllocError>
     requires within { len ≤ length text.old.items }
     requires free { list_any (is_one_of (colon, colon)) path.now ≡ false }
@@ -199,14 +212,14 @@ fn put_undriven(text: &mut Vec<u8>, len: usize, path: &[u8]) -> Result<bool, All
     let mut runs = 0;
     'segments: while let Some(left) = put_names(text, rest)? {
         if left.len() < rest.len() {
-            runs += 1;
+            runs += runs_of(rest.len() - left.len());
         }
         let Some((segment, behind)) = cut_at_separator(Separators::Either, left) else {
             return put_segment(text, len, left, left);
         };
         put_segment(text, len, segment, left)?;
         rest = behind_segment(segment, behind, Separators::Either);
-        if runs == RUNS {
+        if RUNS <= runs {
             return put_one_by_one(text, len, rest);
         }
     }
