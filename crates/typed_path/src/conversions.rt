@@ -470,7 +470,7 @@ fn allows_each<T: Encoding, U: Encoding>(path: &[u8]) -> bool
     if !have_one_label::<U, WindowsEncoding>() {
         return false;
     }
-    if LOOK < path.len() || begins_with_device(path) {
+    if LOOK < path.len() || (LEAST <= path.len() && begins_with_device(path)) {
         return false;
     }
     !has_forbidden(path, (b'\\', b'\\'))
