@@ -190,16 +190,16 @@ fn are_separators(first: u8, second: u8) -> bool
 /// of a base of a few bytes, of one behind the verbatim prefix named `UNC`, or behind a verbatim drive
 /// without a root. None says nothing.
 ///
-/// Both prefixes are read, but none where the bytes behind the first two differ, nor that of a base which
-/// does not begin with the prefix of the path.
+/// No prefix is read where the path does not begin with the bytes of the base, and that of the path alone
+/// where the base ends with it.
 fn behind_rare<'a>(path: &'a [u8], base: &[u8]) -> Option<&'a [u8]>
     ensures { IfSome result (λ rest. stripped windows path.now base.now ≡ Some rest.now) }
 {
-    if PARTED <= path.len() && PARTED <= base.len() && path[2..PARTED] != base[2..PARTED] {
+    if !path.starts_with(base) {
         return None;
     }
     let (prefix, body) = path.split_at(prefix_len(path));
-    if !base.starts_with(prefix) {
+    if base.len() <= prefix.len() {
         return None;
     }
     let (base_prefix, base_body) = base.split_at(prefix_len(base));

@@ -178,22 +178,27 @@ fn put_segments(text: &mut Vec<u8>, len: usize, path: &[u8]) -> Result<bool, All
 /// How many runs of names are put at once before what is left of a path is settled by segments.
 const RUNS: usize = 2;
 
-/// How many bytes a run of names has at least that counts as one.
+/// How many bytes a run of names has at least that counts as one, whatever stands behind it.
 const LONG: usize = 12;
 
-/// How many runs a run of so many bytes counts as: a short one is the last that is looked for.
+/// How many runs a run of so many bytes counts as, by the segment behind it: a short one before a `..` is
+/// the last that is looked for.
 #[inline(always)]
-fn runs_of(len: usize) -> usize
+fn runs_of(len: usize, segment: &[u8]) -> usize
     ensures least { 1 ≤ result }
     ensures most { result ≤ 2 }
 {
-    if len < LONG { RUNS } else { 1 }
+    if len < LONG && matches!(segment, [b'.', b'.']) {
+        RUNS
+    } else {
+        1
+    }
 }
 
 /// The same of a path in which no `:` stands, so that no name begins with a drive.
 ///
-/// Names that stand side by side are put at once, up to so many runs of them, or to a short one; where
-/// names and `..` take turns, a look for each run would cost more than the segments. A look that finds no
+/// Names that stand side by side are put at once, up to so many runs of them, or to a short one before a
+/// `..`; where names and `..` take turns, a look for each run would cost more than the segments. A look that finds no
 /// name costs little, and does not count, so that each `..` of `..\..\a\b` is settled before its names
 /// are put.
 fn put_undriven(text: &mut Vec<u8>, len: usize, path: &[u8]) -> Result<bool, AllocError>
@@ -211,13 +216,13 @@ fn put_undriven(text: &mut Vec<u8>, len: usize, path: &[u8]) -> Result<bool, All
     let mut rest = path;
     let mut runs = 0;
     'segments: while let Some(left) = put_names(text, rest)? {
-        if left.len() < rest.len() {
-            runs += runs_of(rest.len() - left.len());
-        }
         let Some((segment, behind)) = cut_at_separator(Separators::Either, left) else {
             return put_segment(text, len, left, left);
         };
         put_segment(text, len, segment, left)?;
+        if left.len() < rest.len() {
+            runs += runs_of(rest.len() - left.len(), segment);
+        }
         rest = behind_segment(segment, behind, Separators::Either);
         if RUNS <= runs {
             return put_one_by_one(text, len, rest);
@@ -228,6 +233,7 @@ fn put_undriven(text: &mut Vec<u8>, len: usize, path: &[u8]) -> Result<bool, All
 
 /// Settles the segments of a path one by one behind the names that stand, and answers whether none
 /// begins with a drive: false says nothing of what was put.
+#[inline(always)]
 fn put_one_by_one(text: &mut Vec<u8>, len: usize, path: &[u8]) -> Result<bool, AllocError>
     requires { len ≤ length text.old.items }
     ensures ok { IfOk result (λ plain. IsTrue plain
