@@ -5,7 +5,7 @@ ghost use Rattle.std.specs.Option.{option_to_list};
 ghost use Rattle.std.specs.Vec.{vec_capacity};
 ghost use Rattle.typed_path.specs.declared.errors.CheckedPathError.{CheckedPathError};
 ghost use Rattle.typed_path.specs.components.{parts_of, kinds, unix, windows, is_separator, is_verbatim, separators, backslash};
-ghost use Rattle.std.specs.List.{list_any, slice_split};
+ghost use Rattle.std.specs.List.{list_any};
 ghost use Rattle.typed_path.specs.declared.scan.separators.Separators.{Separators};
 ghost use Rattle.typed_path.specs.conversions.{AllowsCrossing, CrossesTurned, IsUnrefused, separator_of, same_dialect, converted, converted_checked, FitsConverted, crossed, crossed_all, is_never_refused, crossing_fault, push_checked_each, platform, absolute_from};
 ghost use Rattle.typed_path.specs.changes.{refusal, error_of, fault, FitsEach, IsKnown, begins_with_separator, is_forbidden_or};
@@ -444,8 +444,8 @@ fn push_each_checked<T: Encoding, U: Encoding>(
     Ok(())
 }
 
-/// How many bytes a path has at least that is looked at before its components are pushed: of a shorter one
-/// a look by blocks tells nothing.
+/// How many bytes a path has at least that is looked at for blank segments, or for a device in front: of a
+/// shorter one a look by blocks tells nothing.
 const LEAST: usize = 8;
 
 /// How many bytes a path has at most of which all are looked at before its first component is judged: so
@@ -456,7 +456,8 @@ const LOOK: usize = 4_096;
 /// encoding, which is that of Windows, allows: then no name is looked through anew. False says
 /// nothing.
 ///
-/// A path whose first name stands for a device is not looked through, as that name is refused.
+/// A path that begins, behind its root, with what may be the name of a device is not looked through, as that
+/// name is refused.
 #[inline(always)]
 fn allows_each<T: Encoding, U: Encoding>(path: &[u8]) -> bool
     ensures names { IsTrue result

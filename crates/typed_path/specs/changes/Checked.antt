@@ -1,5 +1,5 @@
 -- What a checked call was refused for.
-use Rattle.std.specs.Prelude.{◌≡◌, ◌==◌, ◌/◌, ◌%◌, ◌^◌, ℕ, List, [], ◌∷◌, Bool, true, false, not, ◌&&◌, ◌||◌, ◌+◌, ◌<◌, min, max, drop, slice_index, Result, Ok, Err, Option, Some, None}
+use Rattle.std.specs.Prelude.{if◌then◌else◌, ◌≡◌, ◌==◌, ◌/◌, ◌%◌, ◌^◌, ℕ, List, [], ◌∷◌, Bool, true, false, not, ◌&&◌, ◌||◌, ◌+◌, ◌<◌, min, max, drop, slice_index, Result, Ok, Err, Option, Some, None}
 use Rattle.std.specs.Int.{bit_at}
 use Rattle.std.specs.List.{All, before_first, list_any}
 use Rattle.typed_path.specs.declared.scan.separators.Separators.{Separators}
@@ -7,7 +7,7 @@ use Rattle.typed_path.specs.declared.scan.separators.Separators.TheVariants.{Eit
 use Rattle.typed_path.specs.declared.errors.CheckedPathError.{CheckedPathError}
 use Rattle.typed_path.specs.declared.errors.PathError.{PathError}
 use Rattle.typed_path.specs.declared.errors.PathError.TheVariants.{Checked, OutOfMemory}
-use Rattle.typed_path.specs.components.Dialects.{windows, dot, colon, question, dialect_of, is_separator}
+use Rattle.typed_path.specs.components.Dialects.{windows, dot, slash, colon, question, dialect_of, is_separator}
 use Rattle.typed_path.specs.components.Comps.{is_dot_dot}
 use Rattle.typed_path.specs.scan.Masks.{is_one_of}
 use Rattle.typed_path.specs.queries.Queries.{is_disallowed, is_reserved}
@@ -119,6 +119,11 @@ has_parent_or_device text = begins_with_parent_or_device text || has_parent_or_d
 abbrev pub begins_with_separator : List ℕ → Bool
 begins_with_separator [] = false
 begins_with_separator (b ∷ bytes) = is_separator Either b
+
+-- a path of Unix without its root
+abbrev pub behind_root : List ℕ → List ℕ
+behind_root [] = []
+behind_root (b ∷ bytes) = if b == slash then bytes else b ∷ bytes
 
 -- the second byte of a text is a `:`, as behind the letter of a drive
 abbrev pub has_second_colon : List ℕ → Bool

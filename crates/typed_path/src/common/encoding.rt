@@ -144,6 +144,9 @@ pub trait Encoding: Sized {
     fn behind<'a>(path: &'a [u8], base: &[u8]) -> Option<&'a [u8]>
         ensures { IfSome result (λ rest. stripped dialect path.now base.now ≡ Some rest.now) }
     {
+        if path.len() < base.len() {
+            return None;
+        }
         Self::strip_by_bytes(path, base)?
     }
 

@@ -9,7 +9,7 @@ ghost use Rattle.std.specs.Str.{str_eq_ignore_ascii_case};
 ghost use Rattle.typed_path.specs.scan.{TellsWhether, is_one_of};
 ghost use Rattle.typed_path.specs.components.{windows, slash, backslash, separators, is_separator, is_verbatim, root_text, dialect_of, body, kinds, parts};
 ghost use Rattle.typed_path.specs.queries.{has_allowed_bytes, is_reserved, is_valid_name, is_valid, is_a_dot};
-ghost use Rattle.typed_path.specs.changes.{AreMayBegins, BeginsNone, TellsBegins, SeparatesDisallowed, is_stray, is_bare_device, is_numbered_device, may_be_reserved, is_parent_or_device, begins_like_parent_or_device, begins_with_parent_or_device, is_in, ends_stem, may_end_stem, has_parent_or_device, has_parent_or_device_behind};
+ghost use Rattle.typed_path.specs.changes.{AreMayBegins, BeginsNone, TellsBegins, SeparatesDisallowed, is_stray, is_bare_device, is_numbered_device, may_be_reserved, is_parent_or_device, begins_like_parent_or_device, begins_with_parent_or_device, is_in, ends_stem, may_end_stem, has_parent_or_device, has_parent_or_device_behind, behind_root};
 
 use crate::constants::windows::RESERVED_DEVICE_NAMES;
 use crate::scan::cut::cut_at_separator;
@@ -468,20 +468,29 @@ fn begins_with_parent_or_device(text: &[u8]) -> bool
     may_end_stem(text) && is_parent_or_device(first_segment(text))
 }
 
-/// Whether the first bytes of a path of Unix, or those behind its root, are the name of a device of Windows,
-/// which ends there. So that path is refused there, and little else of it needs a look.
+/// Whether a path of Unix begins, behind its root, with what may be the name of a device of Windows. False
+/// says nothing.
 #[inline(always)]
 pub fn begins_with_device(path: &[u8]) -> bool
-    ensures { IsTrue result → (may_be_reserved (before_first (is_separator Separators.Either) path.now)
-        || may_be_reserved (before_first (is_separator Separators.Either) (drop 1 path.now))) ≡ true }
+    ensures { IsTrue result
+        → may_be_reserved (before_first (is_separator Separators.Either) (behind_root path.now))
+        ≡ true }
 {
-    let names = match path {
-        [b'/', names @ ..] => names,
-        _ => path,
-    };
+    let names = behind_root(path);
     begins_like_parent_or_device(names)
         && may_end_stem(names)
         && may_be_reserved(first_segment(names))
+}
+
+/// A path of Unix without its root.
+#[inline(always)]
+fn behind_root(path: &[u8]) -> &[u8]
+    ensures { result.now ≡ behind_root path.now }
+{
+    match path {
+        [b'/', names @ ..] => names,
+        _ => path,
+    }
 }
 
 /// Whether the first two bytes of a text are, but for higher bits, one of `.acnlp` and one of `.opru`, as

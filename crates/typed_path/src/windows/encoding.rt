@@ -82,7 +82,7 @@ impl Encoding for WindowsEncoding {
             return Some(None);
         }
         let Some((end, separators)) = shared_prefix(path, base) else {
-            return Some(Some(behind_rare(path, base)?));
+            return behind_rare(path, base).map(Some);
         };
         if path[..end] != base[..end] {
             return None;
@@ -143,8 +143,8 @@ impl Encoding for WindowsEncoding {
         put_normal(text, path)
     }
 
-    // Most paths are of names alone, as looks at their bytes tell, and then others judge these. A path with
-    // a `..` is read at once.
+    // Most paths are of names alone, as looks at their bytes tell, and then other looks judge these. A path of
+    // at most `LOOK` bytes that has a `..` is read at once.
     fn check(path: &[u8]) -> Result<(), CheckedPathError> {
         if has_names_alone(path) {
             return judged_by_names(path);
@@ -186,11 +186,10 @@ fn are_separators(first: u8, second: u8) -> bool
     Separators::Either.contains(first) && Separators::Either.contains(second)
 }
 
-/// What is left of a path behind a base, where the bytes of the two tell, and `shared_prefix` says nothing, as
-/// of a base of a few bytes, of one behind the verbatim prefix named `UNC`, or behind a verbatim drive
-/// without a root. None says nothing.
+/// What is left of a path behind a base of which `shared_prefix` says nothing. None says nothing.
 ///
-/// No prefix is read where the path does not begin with the bytes of the base, and that of the path alone
+/// Such are bases of a few bytes, those behind the verbatim prefix named `UNC`, and those behind a verbatim
+/// drive without a root. No prefix is read where the path does not begin with the bytes of the base, and that of the path alone
 /// where the base ends with it.
 fn behind_rare<'a>(path: &'a [u8], base: &[u8]) -> Option<&'a [u8]>
     ensures { IfSome result (λ rest. stripped windows path.now base.now ≡ Some rest.now) }
@@ -261,7 +260,7 @@ fn shared_marked_prefix(path: &[u8], other: &[u8]) -> Option<(usize, Separators)
     Some((found.length, Separators::of_windows(path)))
 }
 
-/// How many bytes of two paths with marked prefixes are compared before one of these is read.
+/// Where the bytes end that are compared of two paths with marked prefixes before one of these is read.
 const PARTED: usize = 6;
 
 /// The prefix of a path, where the bytes behind the first two are those of another path. None says nothing.
@@ -368,7 +367,7 @@ fn has_only_valid_names(path: &[u8]) -> bool
 }
 
 /// How many bytes a path has at most of which all are looked at for two dots before a name is judged: so a
-/// long path that is refused at its front is refused there.
+/// long path that has a byte at its front that no name may have is refused there.
 const LOOK: usize = 1_024;
 
 /// Whether looks at the bytes of a path tell that each of its components is a name or a `.`. False says

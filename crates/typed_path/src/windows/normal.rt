@@ -175,32 +175,12 @@ fn put_segments(text: &mut Vec<u8>, len: usize, path: &[u8]) -> Result<bool, All
     put_one_by_one(text, len, path)
 }
 
-/// How many runs of names are put at once before what is left of a path is settled by segments.
-const RUNS: usize = 2;
-
-/// How many bytes a run of names has at least that counts as one, whatever stands behind it.
-const LONG: usize = 12;
-
-/// How many runs a run of so many bytes counts as, by the segment behind it: a short one before a `..` is
-/// the last that is looked for.
-#[inline(always)]
-fn runs_of(len: usize, segment: &[u8]) -> usize
-    ensures least { 1 ≤ result }
-    ensures most { result ≤ 2 }
-{
-    if len < LONG && matches!(segment, [b'.', b'.']) {
-        RUNS
-    } else {
-        1
-    }
-}
-
 /// The same of a path in which no `:` stands, so that no name begins with a drive.
 ///
-/// Names that stand side by side are put at once, up to so many runs of them, or to a short one before a
-/// `..`; where names and `..` take turns, a look for each run would cost more than the segments. A look that finds no
-/// name costs little, and does not count, so that each `..` of `..\..\a\b` is settled before its names
-/// are put.
+/// Names that stand side by side are put at once, up to two runs of them, or to a short one before a `..`;
+/// where names and `..` take turns, a look for each run would cost more than the segments. A look that
+/// finds no name costs little, and does not count, so that each `..` of `..\..\a\b` is settled before its
+/// names are put.
 fn put_undriven(text: &mut Vec<u8>, len: usize, path: &[u8]) -> Result<bool, AllocError>
     requires within { len ≤ length text.old.items }
     requires free { list_any (is_one_of (colon, colon)) path.now ≡ false }
@@ -229,6 +209,25 @@ fn put_undriven(text: &mut Vec<u8>, len: usize, path: &[u8]) -> Result<bool, All
         }
     }
     Ok(true)
+}
+
+/// How many runs of names are put at once before what is left of a path is settled by segments.
+const RUNS: usize = 2;
+
+/// How many bytes a run of names has at least for which a look pays where a `..` stands behind it.
+const LONG: usize = 12;
+
+/// How many runs a run of so many bytes counts as, by the segment behind it: a short one before a `..` is
+/// the last that is looked for. The number decides only which way is taken.
+#[inline(always)]
+fn runs_of(len: usize, segment: &[u8]) -> usize
+    ensures { result ≤ 2 }
+{
+    if len < LONG && matches!(segment, [b'.', b'.']) {
+        RUNS
+    } else {
+        1
+    }
 }
 
 /// Settles the segments of a path one by one behind the names that stand, and answers whether none
