@@ -14,8 +14,8 @@ ghost use Rattle.typed_path.specs.changes.{AreMayBegins, BeginsNone, TellsBegins
 use crate::constants::windows::RESERVED_DEVICE_NAMES;
 use crate::scan::cut::cut_at_separator;
 use crate::scan::lanes::{
-    first_between, has_forbidden, is_forbidden_in_block, is_one_of, last_between, low_bits_at,
-    lowest, marks_at,
+    first_between, has_forbidden, has_no_nul_or_dot_pair, is_forbidden_in_block, is_one_of,
+    last_between, low_bits_at, lowest, marks_at,
 };
 use memchr::memchr;
 
@@ -274,14 +274,14 @@ fn is_same_aside_case(text: &[u8], other: &[u8]) -> bool
     text.eq_ignore_ascii_case(other)
 }
 
-/// Whether a segment of a text stands for a device. Of most texts of Windows that are not read verbatim one
-/// look tells that none does.
+/// Whether a segment of a text stands for a device. Of most texts of Windows that are not read verbatim two
+/// looks tell: one that no segment is `..`, and one for devices and these.
 pub fn has_reserved(text: &[u8], separators: Separators) -> bool
     ensures { result ≡ list_any (is_reserved (dialect_of separators))
         (slice_split (is_separator separators) text.now) }
 {
-    if separators.is_same(Separators::Either) && !has_parent_or_device(text) {
-        return false;
+    if separators.is_same(Separators::Either) && has_no_nul_or_dot_pair(text) {
+        return has_parent_or_device(text);
     }
     let mut rest = text;
     'segments: while let Some((segment, behind)) = cut_at_separator(separators, rest) {

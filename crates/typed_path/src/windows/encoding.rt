@@ -89,6 +89,10 @@ impl Encoding for WindowsEncoding {
         }
         let body = &path[end..];
         let wanted = &base[end..];
+        // Bytes tell nothing where the separators in front are others.
+        if begin_with_other_separators(body, wanted) {
+            return None;
+        }
         if let Some(behind) = base_end(body, wanted, separators) {
             return Some(Some(&body[behind..]));
         }
@@ -173,6 +177,17 @@ fn begin_apart(path: &[u8], other: &[u8]) -> bool
     }
     match (byte_behind_two(path), byte_behind_two(other)) {
         (Some(own), Some(other)) => other != own,
+        _ => false,
+    }
+}
+
+/// Whether two texts begin with separators that differ.
+#[inline(always)]
+fn begin_with_other_separators(text: &[u8], other: &[u8]) -> bool
+    ensures { IsTrue result → begins_with_separator text.now ≡ true }
+{
+    match (text, other) {
+        ([own, ..], [wanted, ..]) => own != wanted && are_separators(*own, *wanted),
         _ => false,
     }
 }
@@ -295,10 +310,14 @@ fn order_behind_marked(path: &[u8], other: &[u8]) -> Option<Ordering>
     ensures { IfSome result (λ order. path_cmp windows path.now other.now ≡ order) }
 {
     let found = marked_prefix(path, other)?;
+    let end = found.length;
+    // One that ends with the prefix mostly has the same one.
+    if path.len() <= end || other.len() <= end {
+        return None;
+    }
     if !begins_with_prefix(other, path, found) {
         return order_of_prefixes(found.kind, other);
     }
-    let end = found.length;
     let separators = Separators::of_windows(path);
     Some(compare_texts(&path[end..], &other[end..], separators))
 }
@@ -381,7 +400,7 @@ fn has_names_alone(path: &[u8]) -> bool
     if has_second_colon(path) {
         return false;
     }
-    if begins_with_separator(path) {
+    if begins_with_separator(path) || begins_with_two_dots(path) {
         return false;
     }
     path.len() <= LOOK && has_no_nul_or_dot_pair(path)
@@ -399,6 +418,14 @@ fn judged_by_names(path: &[u8]) -> Result<(), CheckedPathError>
         return Err(CheckedPathError::InvalidFilename);
     }
     Ok(())
+}
+
+/// Whether the first two bytes of a text are dots.
+#[inline(always)]
+fn begins_with_two_dots(text: &[u8]) -> bool
+    ensures { IsTrue result → has_no_nul_or_dot_pair text.now ≡ false }
+{
+    matches!(text, [b'.', b'.', ..])
 }
 
 /// Whether the second byte of a text is a `:`, as behind the letter of a drive.

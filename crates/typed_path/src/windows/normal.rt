@@ -15,7 +15,7 @@ use crate::common::{
 };
 use crate::scan::{
     Cursor, Found, PieceKind, Separators, StepKind, WindowsPrefix, cut_at_separator, drive,
-    find_prefix, is_free_of, leading_names, step_of,
+    find_prefix, has_no_nul_or_dot_pair, is_free_of, leading_names, step_of,
 };
 use crate::windows::push::{is_separated, push_at, push_next};
 use std::alloc::AllocError;
@@ -169,7 +169,7 @@ fn put_segments(text: &mut Vec<u8>, len: usize, path: &[u8]) -> Result<bool, All
     ensures told { HaveNoDisks (slice_split (is_separator Separators.Either) path.now)
         → IfOk result (λ plain. IsTrue plain) }
 {
-    if LEAST <= path.len() && is_free_of((b':', b':'), path) {
+    if LEAST <= path.len() && has_no_nul_or_dot_pair(path) && is_free_of((b':', b':'), path) {
         return put_undriven(text, len, path);
     }
     put_one_by_one(text, len, path)
@@ -177,10 +177,9 @@ fn put_segments(text: &mut Vec<u8>, len: usize, path: &[u8]) -> Result<bool, All
 
 /// The same of a path in which no `:` stands, so that no name begins with a drive.
 ///
-/// Names that stand side by side are put at once, up to two runs of them, or to a short one before a `..`;
-/// where names and `..` take turns, a look for each run would cost more than the segments. A look that
-/// finds no name costs little, and does not count, so that each `..` of `..\..\a\b` is settled before its
-/// names are put.
+/// Names that stand side by side are put at once, up to two runs of them; where each name has two separators
+/// behind it, a look for each run would cost more than the segments. A look that finds no name costs little,
+/// and does not count.
 fn put_undriven(text: &mut Vec<u8>, len: usize, path: &[u8]) -> Result<bool, AllocError>
     requires within { len ≤ length text.old.items }
     requires free { list_any (is_one_of (colon, colon)) path.now ≡ false }
@@ -201,10 +200,10 @@ fn put_undriven(text: &mut Vec<u8>, len: usize, path: &[u8]) -> Result<bool, All
         };
         put_segment(text, len, segment, left)?;
         if left.len() < rest.len() {
-            runs += runs_of(rest.len() - left.len(), segment);
+            runs += 1;
         }
         rest = behind_segment(segment, behind, Separators::Either);
-        if RUNS <= runs {
+        if runs == RUNS {
             return put_one_by_one(text, len, rest);
         }
     }
@@ -213,22 +212,6 @@ fn put_undriven(text: &mut Vec<u8>, len: usize, path: &[u8]) -> Result<bool, All
 
 /// How many runs of names are put at once before what is left of a path is settled by segments.
 const RUNS: usize = 2;
-
-/// How many bytes a run of names has at least for which a look pays where a `..` stands behind it.
-const LONG: usize = 12;
-
-/// How many runs a run of so many bytes counts as, by the segment behind it: a short one before a `..` is
-/// the last that is looked for. The number decides only which way is taken.
-#[inline(always)]
-fn runs_of(len: usize, segment: &[u8]) -> usize
-    ensures { result ≤ 2 }
-{
-    if len < LONG && matches!(segment, [b'.', b'.']) {
-        RUNS
-    } else {
-        1
-    }
-}
 
 /// Settles the segments of a path one by one behind the names that stand, and answers whether none
 /// begins with a drive: false says nothing of what was put.

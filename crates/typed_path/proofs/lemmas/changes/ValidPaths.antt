@@ -276,7 +276,7 @@ pub any-pieces : (text : List ℕ) → list_any is_parent_or_device (pieces Eith
 any-pieces text = let s = split text in ap (list_any is_parent_or_device) s.cut ∙ ap (λ b. begins_with_parent_or_device text || b) s.told
 
 -- where no piece is one of them, none stands for a device
-pub none_reserved : (ps : List (List ℕ)) → list_any is_parent_or_device ps ≡ false → list_any (is_reserved windows) ps ≡ false
+none_reserved : (ps : List (List ℕ)) → list_any is_parent_or_device ps ≡ false → list_any (is_reserved windows) ps ≡ false
 none_reserved [] e = refl
 none_reserved (p ∷ ps) e =
     let all = or_parts (is_parent_or_device p) (list_any is_parent_or_device ps) e in
@@ -290,7 +290,7 @@ none_parents (p ∷ ps) e =
     ap (λ b. b || list_any is_dot_dot ps) (or_parts (is_dot_dot p) (is_reserved windows p) all.0).0 ∙ none_parents ps all.1
 
 -- where one of them is, and none is `..`, one stands for a device
-some_reserved : (ps : List (List ℕ)) → list_any is_dot_dot ps ≡ false → list_any (is_reserved windows) ps ≡ list_any is_parent_or_device ps
+pub some_reserved : (ps : List (List ℕ)) → list_any is_dot_dot ps ≡ false → list_any (is_reserved windows) ps ≡ list_any is_parent_or_device ps
 some_reserved [] e = refl
 some_reserved (p ∷ ps) e =
     let all = or_parts (is_dot_dot p) (list_any is_dot_dot ps) e in

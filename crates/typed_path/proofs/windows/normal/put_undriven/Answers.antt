@@ -48,8 +48,8 @@ segments-preserved c =
       capacity = omega (arith, c.segments.invariant.capacity, c.put_names.ensures.capacity, c.put_segment-in-Some.ensures.capacity);
       room = λ fits. omega (arith, c.segments.invariant.room fits, room, c.put_names.ensures.capacity, c.put_segment-in-Some.ensures.room, c.put_segment-in-Some.ensures.capacity, c.in-Some-cut_at_separator.ensures.sizes, c.behind_segment-rest.ensures.shorter);
       few = elim c.if-left-rest.branch [
-        | then-left-rest w ↦ omega (arith, c.segments.invariant.few, w.runs-is, c.if-runs-ge-RUNS.false)
-        | else-left-rest w ↦ omega (arith, c.segments.invariant.few, w.runs-is, c.if-runs-ge-RUNS.false)
+        | then-left-rest w ↦ omega (arith, c.segments.invariant.few, w.runs-is, c.if-runs-eq-RUNS.false)
+        | else-left-rest w ↦ omega (arith, c.segments.invariant.few, w.runs-is, c.if-runs-eq-RUNS.false)
       ];
       drives = c.behind_segment-rest.ensures.drives drives.1;
     }
@@ -81,8 +81,8 @@ returns-in_default-cut_at_separator-clause-told c =
     let put = rw c.in-Some.is at c.in_ok-left.ensures.ok in
     c.put_segment.ensures.told (subst HaveNoDisks c.in_default-cut_at_separator.ensures.pieces (put-drives _ _ _ _ put c.segments.invariant.drives)).0
 
-pub returns-then-runs-ge-RUNS-clause-ok : goal.returns-then-runs-ge-RUNS-clause-ok
-returns-then-runs-ge-RUNS-clause-ok c =
+pub returns-then-runs-eq-RUNS-clause-ok : goal.returns-then-runs-eq-RUNS-clause-ok
+returns-then-runs-eq-RUNS-clause-ok c =
     let put = rw c.in-Some.is at c.in_ok-left.ensures.ok in
     let drives = subst HaveNoDisks c.in-Some-cut_at_separator.ensures.pieces (put-drives _ _ _ _ put c.segments.invariant.drives) in
     IfOk-weaker c.put_one_by_one.result _ _
@@ -93,7 +93,7 @@ returns-then-runs-ge-RUNS-clause-ok c =
     puts done head c.args.path.now stands.names size stands.rows stands.each stands.left)
     c.put_one_by_one.ensures.ok
 
-pub returns-then-runs-ge-RUNS-clause-told : goal.returns-then-runs-ge-RUNS-clause-told
-returns-then-runs-ge-RUNS-clause-told c =
+pub returns-then-runs-eq-RUNS-clause-told : goal.returns-then-runs-eq-RUNS-clause-told
+returns-then-runs-eq-RUNS-clause-told c =
     let put = rw c.in-Some.is at c.in_ok-left.ensures.ok in
     c.put_one_by_one.ensures.told (c.behind_segment-rest.ensures.drives (subst HaveNoDisks c.in-Some-cut_at_separator.ensures.pieces (put-drives _ _ _ _ put c.segments.invariant.drives)).1)
