@@ -274,14 +274,20 @@ fn is_same_aside_case(text: &[u8], other: &[u8]) -> bool
     text.eq_ignore_ascii_case(other)
 }
 
+/// How many bytes a text has at least of which looks tell whether a segment stands for a device: those of a
+/// shorter one are asked at once.
+const LEAST: usize = 8;
+
 /// Whether a segment of a text stands for a device. Of most texts of Windows that are not read verbatim two
 /// looks tell: one that no segment is `..`, and one for devices and these.
 pub fn has_reserved(text: &[u8], separators: Separators) -> bool
     ensures { result ≡ list_any (is_reserved (dialect_of separators))
         (slice_split (is_separator separators) text.now) }
 {
-    if separators.is_same(Separators::Either) && has_no_nul_or_dot_pair(text) {
-        return has_parent_or_device(text);
+    if separators.is_same(Separators::Either) {
+        if LEAST <= text.len() && has_no_nul_or_dot_pair(text) {
+            return has_parent_or_device(text);
+        }
     }
     let mut rest = text;
     'segments: while let Some((segment, behind)) = cut_at_separator(separators, rest) {

@@ -157,6 +157,8 @@ const LEAST: usize = 16;
 
 /// Puts the names that are left of a path behind the first bytes of a text, and answers whether
 /// each one that came is put so by a push too: false says nothing of what was put.
+///
+/// Names that stand side by side are put at once, but where two dots do: there names and `..` may take turns.
 fn put_segments(text: &mut Vec<u8>, len: usize, path: &[u8]) -> Result<bool, AllocError>
     requires { len ≤ length text.old.items }
     ensures ok { IfOk result (λ plain. IsTrue plain → (head : List ℕ) → length head ≡ len
