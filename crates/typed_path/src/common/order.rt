@@ -24,7 +24,7 @@ use crate::common::path::Path;
 use crate::common::path_buf::PathBuf;
 use crate::scan::{
     Body, Separators, Step, StepKind, WindowsPrefix, bodies_behind, bodies_behind_shared,
-    first_difference, order_behind,
+    first_difference, order_behind, order_of_fronts,
 };
 use std::cmp::Ordering;
 use std::hash::{Hash, Hasher};
@@ -58,6 +58,11 @@ pub(crate) fn compare_texts(text: &[u8], other: &[u8], separators: Separators) -
     ensures { result ≡ left_cmp (body separators 0 text.now) (body separators 0 other.now) }
 {
     let shared = first_difference(text, other);
+    if shared == 0 {
+        if let Some(order) = order_of_fronts(text, other, separators) {
+            return order;
+        }
+    }
     match order_behind(text, other, shared, separators) {
         Some(order) => order,
         None => {

@@ -213,6 +213,34 @@ pub fn order_behind(
     order_of_ends(&text[shared..], &other[shared..], separators)
 }
 
+/// The order of two texts that are read from their beginnings, where one is empty, or one begins with a root
+/// and the other does not. None says nothing.
+#[inline(always)]
+pub fn order_of_fronts(text: &[u8], other: &[u8], separators: Separators) -> Option<Ordering>
+    ensures { IfSome result (λ order.
+        left_cmp (body separators 0 text.now) (body separators 0 other.now) ≡ order) }
+{
+    let Some((own, _)) = text.split_first() else {
+        return if other.is_empty() {
+            None
+        } else {
+            Some(Ordering::Less)
+        };
+    };
+    let Some((wanted, _)) = other.split_first() else {
+        return Some(Ordering::Greater);
+    };
+    let rooted = separators.contains(*own);
+    if rooted == separators.contains(*wanted) {
+        return None;
+    }
+    if rooted {
+        Some(Ordering::Less)
+    } else {
+        Some(Ordering::Greater)
+    }
+}
+
 /// Whether the bytes of two texts tell that they differ in a name in one place. False says nothing. It is
 /// told how many bytes the two begin with.
 #[inline(always)]

@@ -73,6 +73,9 @@ impl Encoding for UnixEncoding {
 
     #[inline]
     fn strip_by_bytes<'a>(path: &'a [u8], base: &[u8]) -> Option<Option<&'a [u8]>> {
+        if base.is_empty() {
+            return None;
+        }
         if let Some(end) = base_end(path, base, Separators::Slash) {
             return Some(Some(&path[end..]));
         }

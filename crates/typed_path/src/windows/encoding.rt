@@ -78,6 +78,9 @@ impl Encoding for WindowsEncoding {
     // Where the first bytes tell that the two begin otherwise, no prefix is read.
     #[inline]
     fn strip_by_bytes<'a>(path: &'a [u8], base: &[u8]) -> Option<Option<&'a [u8]>> {
+        if base.is_empty() {
+            return None;
+        }
         if begin_apart(path, base) {
             return Some(None);
         }
@@ -309,6 +312,10 @@ fn order_by_prefixes(path: &[u8], other: &[u8]) -> Option<Ordering>
 fn order_behind_marked(path: &[u8], other: &[u8]) -> Option<Ordering>
     ensures { IfSome result (λ order. path_cmp windows path.now other.now ≡ order) }
 {
+    // The same prefix is mostly there where the separators in front are others.
+    if begin_with_other_separators(path, other) {
+        return None;
+    }
     let found = marked_prefix(path, other)?;
     let end = found.length;
     // One that ends with the prefix mostly has the same one.
