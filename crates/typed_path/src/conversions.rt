@@ -267,6 +267,9 @@ fn turned_for_unix(path: &[u8]) -> Option<&[u8]>
     ensures checked { IfSome result (λ text. list_any (is_one_of (0, 0)) text.now ≡ false
         → IsUnrefused windows unix path.now) }
 {
+    if is_short_behind_mark(path) {
+        return None;
+    }
     let Some(found) = find_prefix(path) else {
         let text = before_last_separator(path, Separators::Either);
         if has_no_blank_behind(text, Separators::Either) {
@@ -281,6 +284,19 @@ fn turned_for_unix(path: &[u8]) -> Option<&[u8]>
     }
     None
 }
+
+/// Whether a path begins with two separators, as each with a prefix but a drive does, and little can stand behind
+/// the prefix: such a path is read at once.
+#[inline(always)]
+fn is_short_behind_mark(path: &[u8]) -> bool
+    ensures { IsTrue result → length path.now < 32 }
+{
+    path.len() < MARKED && matches!(path, [b'/' | b'\\', b'/' | b'\\', ..])
+}
+
+/// How many bytes a path with two separators in front has at least whose prefix is read before its components
+/// are pushed.
+const MARKED: usize = 32;
 
 /// Whether a root stands at the front of what is behind the prefix of a path of Windows, and no name
 /// there holds a `/`.

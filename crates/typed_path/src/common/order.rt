@@ -24,7 +24,7 @@ use crate::common::path::Path;
 use crate::common::path_buf::PathBuf;
 use crate::scan::{
     Body, Separators, Step, StepKind, WindowsPrefix, bodies_behind, bodies_behind_shared,
-    first_difference, order_behind, order_of_fronts,
+    first_difference, order_behind, order_of_beginning, order_of_fronts,
 };
 use std::cmp::Ordering;
 use std::hash::{Hash, Hasher};
@@ -66,6 +66,9 @@ pub(crate) fn compare_texts(text: &[u8], other: &[u8], separators: Separators) -
     match order_behind(text, other, shared, separators) {
         Some(order) => order,
         None => {
+            if let Some(order) = order_of_beginning(text, other, shared, separators) {
+                return order;
+            }
             let (rest, wanted) = bodies_behind(text, other, shared, separators);
             compare_each(rest, wanted)
         }

@@ -5,7 +5,7 @@ ghost use Rattle.std.specs.Prelude.{◌≡◌, ◌≢◌, ◌≤◌, ◌<◌, �
 ghost use Rattle.std.specs.List.{slice_split, position_or_len, before_first, starts_with, IsAfterLastMatch};
 ghost use Rattle.std.specs.Slice.Scan.{IsFirstPlace};
 ghost use Rattle.std.specs.Str.{bytes_eq};
-ghost use Rattle.std.specs.Ordering.{is_ne};
+ghost use Rattle.std.specs.Ordering.{is_ne, ordering_reverse};
 ghost use Rattle.typed_path.specs.components.{is_separator, body, later_body, parts, texts};
 ghost use Rattle.typed_path.specs.scan.{is_clean, begins_with_name, tells_name, differs_at, PartWithinNames};
 ghost use Rattle.typed_path.specs.declared.scan.cursor.Begin.{Begin};
@@ -239,6 +239,60 @@ pub fn order_of_fronts(text: &[u8], other: &[u8], separators: Separators) -> Opt
     } else {
         Some(Ordering::Greater)
     }
+}
+
+/// Whether one of two texts that are read from their beginnings begins with a root, and the other with
+/// something else.
+#[inline(always)]
+pub fn have_other_roots(text: &[u8], other: &[u8], separators: Separators) -> bool
+    ensures { IsTrue result → starts_with bytes_eq (texts (parts (body separators 0 text.now)))
+        (texts (parts (body separators 0 other.now))) ≡ false }
+{
+    let Some((own, _)) = text.split_first() else {
+        return false;
+    };
+    let Some((wanted, _)) = other.split_first() else {
+        return false;
+    };
+    separators.contains(*own) != separators.contains(*wanted)
+}
+
+/// The order of a text and one that it begins with, as of what lies in a directory and that, where no component
+/// reaches over the end of it. None says nothing.
+#[inline(always)]
+fn order_of_longer(text: &[u8], beginning: &[u8], separators: Separators) -> Option<Ordering>
+    ensures longer { IfSome result (λ order.
+        left_cmp (body separators 0 text.now) (body separators 0 beginning.now) ≡ order) }
+    ensures shorter { IfSome result (λ order.
+        left_cmp (body separators 0 beginning.now) (body separators 0 text.now)
+        ≡ ordering_reverse order) }
+{
+    let end = base_end(text, beginning, separators)?;
+    if end == text.len() {
+        return Some(Ordering::Equal);
+    }
+    Some(Ordering::Greater)
+}
+
+/// The order of two texts of which one begins with the other, where no component reaches over the end of that.
+/// None says nothing. It is told how many bytes the two begin with.
+#[inline(always)]
+pub fn order_of_beginning(
+    text: &[u8],
+    other: &[u8],
+    shared: usize,
+    separators: Separators,
+) -> Option<Ordering>
+    ensures { IfSome result (λ order.
+        left_cmp (body separators 0 text.now) (body separators 0 other.now) ≡ order) }
+{
+    if shared == other.len() {
+        return order_of_longer(text, other, separators);
+    }
+    if shared == text.len() {
+        return Some(order_of_longer(other, text, separators)?.reverse());
+    }
+    None
 }
 
 /// Whether the bytes of two texts tell that they differ in a name in one place. False says nothing. It is

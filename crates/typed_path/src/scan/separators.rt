@@ -274,9 +274,9 @@ fn is_same_aside_case(text: &[u8], other: &[u8]) -> bool
     text.eq_ignore_ascii_case(other)
 }
 
-/// How many bytes a text has at least of which looks tell whether a segment stands for a device: those of a
-/// shorter one are asked at once.
-const LEAST: usize = 8;
+/// How many bytes a text has at least of which looks by blocks tell whether a segment stands for a device: the
+/// segments of a shorter one are asked at once.
+const LEAST: usize = 32;
 
 /// Whether a segment of a text stands for a device. Of most texts of Windows that are not read verbatim two
 /// looks tell: one that no segment is `..`, and one for devices and these.

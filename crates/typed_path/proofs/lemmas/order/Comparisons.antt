@@ -1,9 +1,9 @@
 -- Paths compared and fed to a hasher, component by component, with their prefixes first.
-use Rattle.std.proofs.Common.{◌≡◌, ℕ, List, [], ◌∷◌, ◌++◌, Bool, true, false, not, ◌&&◌, drop, Ordering, Less, Equal, Greater, is_eq, refl, sym, ap, ap₂, ◌∙◌, ◌↔◌, Option, Some, None, flat_map, ◌≢◌, ◌+◌, ◌≤◌, length, fold, sum_by, subst, arith, zero-le, append_assoc, append-nil, option_map, is_some, if◌then◌else◌}
+use Rattle.std.proofs.Common.{◌≡◌, ℕ, List, [], ◌∷◌, ◌++◌, Bool, true, false, not, ◌&&◌, drop, Ordering, Less, Equal, Greater, is_eq, refl, sym, ap, ap₂, ◌∙◌, ◌↔◌, Option, Some, None, flat_map, ◌≢◌, ◌+◌, ◌≤◌, length, fold, sum_by, subst, arith, ◌<◌, length-drop, zero-le, append_assoc, append-nil, option_map, is_some, if◌then◌else◌}
 use Rattle.std.specs.Ordering.{is_ne, ordering_then, ordering_reverse}
 use Rattle.std.specs.Str.{bytes_eq}
 use Rattle.std.specs.Cmp.Lexicographic.{slice_cmp, texts_ties}
-use Rattle.std.proofs.lemmas.List.{map-append}
+use Rattle.std.proofs.lemmas.List.{map-append, drop_all}
 use Rattle.std.proofs.lemmas.Option.{same_Some}
 use Rattle.std.proofs.lemmas.Cmp.{tied_itself}
 use Rattle.std.proofs.Math.Bool.{and-false, and-true, and_assoc, and_comm}
@@ -12,16 +12,17 @@ use Rattle.std.specs.Cmp.{Equal-is}
 use Rattle.std.specs.Hash.{HashWrites, usize}
 use Rattle.std.proofs.lemmas.Grind.{flat_map-append}
 use Rattle.std.proofs.lemmas.List.Sums.{fold-append, sum_by-cons}
+use Rattle.typed_path.specs.declared.scan.cursor.Begin.TheVariants.{Inside}
 use Rattle.typed_path.specs.declared.scan.separators.Separators.{Separators}
-use Rattle.typed_path.specs.components.{normal, Kind, Part, Placed, parts, kinds, prefix, root, current, parent, Prefix, end_of, Dialect, separators, parts_of, comps, Found, prefix_of}
-use Rattle.typed_path.specs.scan.{but_last, first_part, last_part, AreInOrder}
+use Rattle.typed_path.specs.components.{body, later_body, normal, Kind, Part, Placed, parts, kinds, prefix, root, current, parent, Prefix, end_of, Dialect, separators, parts_of, comps, Found, prefix_of}
+use Rattle.typed_path.specs.scan.{is_clean, but_last, first_part, last_part, AreInOrder}
 use Rattle.typed_path.specs.order.{bytes_cmp, kind_cmp, kinds_cmp, left_cmp, left_same, IsSame, path_cmp, are_same_prefixes, kind_cmp_total, exact_kinds, exact_lists, kinds_cmp_total}
 use Rattle.typed_path.specs.order.Words.{writes_of, path_words, kind_fed, kind_length, kinds_fed, kinds_words, prefix_words, words_before}
 use Rattle.typed_path.specs.promises.{count, words_by_kind, fed_length, fed, HashAlike}
 use Rattle.typed_path.specs.queries.{first_prefix, is_prefix, behind_prefix}
 use Rattle.typed_path.proofs.lemmas.scan.Steps.{last_pushed, last_part-push}
 use Rattle.typed_path.proofs.lemmas.lists.Lists.{AllByRecursion-weaker, flat_map-through, sum_by-through}
-use Rattle.typed_path.proofs.lemmas.components.Segments.{IsWritten, IsWrittenPart, body_parts, body_parts-read, each-written, parts_behind, parts-comps_behind}
+use Rattle.typed_path.proofs.lemmas.components.Segments.{body_from-starts, IsWritten, IsWrittenPart, body_parts, body_parts-read, each-written, parts_behind, parts-comps_behind}
 use Rattle.typed_path.proofs.lemmas.components.Cuts.{comps-laid_out}
 
 -- Two paths compared component by component, from either end.
@@ -165,6 +166,32 @@ cmp-behind front us vs cs ds first second =
     sym (cmp-shared (kinds (parts front)) (kinds (parts us)) (kinds (parts vs)))
     ∙ ap₂ kinds_cmp (sym (kinds-append front us)) (sym (kinds-append front vs))
     ∙ ap₂ left_cmp (sym first) (sym second)
+
+-- a text whose components begin with all those of another
+module _ (s : Separators) (t u : List ℕ) (n : ℕ) (items : body s 0 t ≡ body s 0 u ++ later_body s (0 + n) (drop n t)) where
+  longer-behind : left_cmp (later_body s (0 + n) (drop n t)) [] ≡ left_cmp (body s 0 t) (body s 0 u)
+  longer-behind = cmp-behind (body s 0 u) (later_body s (0 + n) (drop n t)) [] (body s 0 t) (body s 0 u) items (sym (append-nil (body s 0 u)))
+
+  shorter-behind : left_cmp [] (later_body s (0 + n) (drop n t)) ≡ left_cmp (body s 0 u) (body s 0 t)
+  shorter-behind = cmp-behind (body s 0 u) [] (later_body s (0 + n) (drop n t)) (body s 0 u) (body s 0 t) (sym (append-nil (body s 0 u))) items
+
+  -- it is the same where nothing stands behind
+  pub longer-same : n ≡ length t → (left_cmp (body s 0 t) (body s 0 u) ≡ Equal) × (left_cmp (body s 0 u) (body s 0 t) ≡ Equal)
+  longer-same e =
+      let none : drop n t ≡ [] = drop_all n t (omega (arith, e)) in
+      (sym longer-behind ∙ ap (λ r. left_cmp (later_body s (0 + n) r) []) none, sym shorter-behind ∙ ap (λ r. left_cmp [] (later_body s (0 + n) r)) none)
+
+  -- and comes later where something does
+  pub longer-more : n < length t → is_clean Inside s (drop n t) ≡ true → (left_cmp (body s 0 t) (body s 0 u) ≡ Greater) × (left_cmp (body s 0 u) (body s 0 t) ≡ Less)
+  longer-more some clean =
+      let told = by (drop n t) (subst (λ k. 0 < k) (sym (length-drop n t)) (omega (arith, some))) clean in
+      (sym longer-behind ∙ told.0, sym shorter-behind ∙ told.1)
+    where
+      by : (r : List ℕ) → 0 < length r → is_clean Inside s r ≡ true → (left_cmp (later_body s (0 + n) r) [] ≡ Greater) × (left_cmp [] (later_body s (0 + n) r) ≡ Less)
+      by [] filled h = absurd (omega (arith, filled))
+      by (b ∷ bs) filled h =
+          let starts = body_from-starts Inside s (0 + n) b bs h in
+          (ap (λ cs. left_cmp cs []) starts.2, ap (λ cs. left_cmp [] cs) starts.2)
 
 -- The order of paths is total, it tells apart exactly what equality does, and equal paths hash equally.
 
