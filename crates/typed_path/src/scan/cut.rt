@@ -232,12 +232,34 @@ pub fn order_of_fronts(text: &[u8], other: &[u8], separators: Separators) -> Opt
     };
     let rooted = separators.contains(*own);
     if rooted == separators.contains(*wanted) {
-        return None;
+        return order_of_dots(text, other, separators);
     }
     if rooted {
         Some(Ordering::Less)
     } else {
         Some(Ordering::Greater)
+    }
+}
+
+/// The order of two texts that begin with no separator, where one begins with a dot and the other with a greater
+/// byte, so with a name. None says nothing.
+#[inline(always)]
+fn order_of_dots(text: &[u8], other: &[u8], separators: Separators) -> Option<Ordering>
+    ensures { IfSome result (λ order.
+        left_cmp (body separators 0 text.now) (body separators 0 other.now) ≡ order) }
+{
+    let (own, _) = text.split_first()?;
+    let (wanted, _) = other.split_first()?;
+    if separators.contains(*own) {
+        return None;
+    }
+    if separators.contains(*wanted) {
+        return None;
+    }
+    match own.cmp(wanted) {
+        Ordering::Less if *own == b'.' => Some(Ordering::Less),
+        Ordering::Greater if *wanted == b'.' => Some(Ordering::Greater),
+        _ => None,
     }
 }
 

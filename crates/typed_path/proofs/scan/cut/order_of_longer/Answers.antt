@@ -1,4 +1,4 @@
-use Rattle.std.proofs.Common.{◌≡◌, ◌<◌, arith, sym, subst}
+use Rattle.std.proofs.Common.{arith}
 use Rattle.typed_path.proofs.lemmas.order.Comparisons.{longer-same, longer-more}
 use Rattle.typed_path.proofs.scan.cut.order_of_longer.Goals as goal
 

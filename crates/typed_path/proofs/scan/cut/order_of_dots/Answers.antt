@@ -1,0 +1,18 @@
+use Rattle.std.proofs.Common.{rules, ◌≡◌, ◌∷◌, Greater, sym, ◌∙◌}
+use Rattle.std.specs.Ordering.{nat_cmp}
+use Rattle.typed_path.specs.components.{dot, body}
+use Rattle.typed_path.specs.order.{left_cmp}
+use Rattle.typed_path.proofs.lemmas.order.Fronts.{dot-greater}
+use Rattle.typed_path.proofs.scan.cut.order_of_dots.Goals as goal
+
+pub returns-in-Greater : goal.returns-in-Greater
+returns-in-Greater c =
+    let s = c.args.separators in
+    let a = c.in_ok-own.own.now in
+    let b = c.in_ok-wanted.wanted.now in
+    let own : c.args.text.now ≡ a ∷ c.in_ok-own.field-0-1.now = search rules in
+    let other : c.args.other.now ≡ b ∷ c.in_ok-wanted.field-0-1.now = search rules in
+    let dotted : b ≡ dot = search rules in
+    let greater : nat_cmp a b ≡ Greater = search rules in
+    (λ i. left_cmp (body s 0 (own i)) (body s 0 (other i)))
+    ∙ dot-greater s a b c.in_ok-own.field-0-1.now c.in_ok-wanted.field-0-1.now (sym c.contains.ensures ∙ c.if-contains.false) (sym c.contains-2.ensures ∙ c.if-contains-2.false) dotted greater
