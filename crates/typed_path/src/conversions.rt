@@ -1,6 +1,6 @@
 //! Paths in another encoding, with and without checks, and paths made absolute.
 
-ghost use Rattle.std.specs.Prelude.{◌≡◌, ◌≤◌, ◌+◌, ◌++◌, ℕ, [], ◌∷◌, map, option_map, take, drop, length, IsTrue, IsOk, IfSome, IfOk, OnOk, OnErr, Result, Ok, Err, Some, None, true, false};
+ghost use Rattle.std.specs.Prelude.{◌<◌, ◌≡◌, ◌≤◌, ◌+◌, ◌++◌, ℕ, [], ◌∷◌, map, option_map, take, drop, length, IsTrue, IsOk, IfSome, IfOk, OnOk, OnErr, Result, Ok, Err, Some, None, true, false};
 ghost use Rattle.std.specs.Option.{option_to_list};
 ghost use Rattle.std.specs.Vec.{vec_capacity};
 ghost use Rattle.typed_path.specs.declared.errors.CheckedPathError.{CheckedPathError};
