@@ -264,17 +264,17 @@ fn order_of_dots(text: &[u8], other: &[u8], separators: Separators) -> Option<Or
 }
 
 /// Whether one of two texts that are read from their beginnings begins with a root, and the other with
-/// something else.
+/// something else; or whether the first alone is empty.
 #[inline(always)]
 pub fn have_other_roots(text: &[u8], other: &[u8], separators: Separators) -> bool
     ensures { IsTrue result → starts_with bytes_eq (texts (parts (body separators 0 text.now)))
         (texts (parts (body separators 0 other.now))) ≡ false }
 {
-    let Some((own, _)) = text.split_first() else {
-        return false;
-    };
     let Some((wanted, _)) = other.split_first() else {
         return false;
+    };
+    let Some((own, _)) = text.split_first() else {
+        return true;
     };
     separators.contains(*own) != separators.contains(*wanted)
 }

@@ -280,6 +280,7 @@ const LEAST: usize = 32;
 
 /// Whether a segment of a text stands for a device. Of most texts of Windows that are not read verbatim two
 /// looks tell: one that no segment is `..`, and one for devices and these.
+#[inline(always)]
 pub fn has_reserved(text: &[u8], separators: Separators) -> bool
     ensures { result ≡ list_any (is_reserved (dialect_of separators))
         (slice_split (is_separator separators) text.now) }

@@ -153,7 +153,7 @@ fn put_rows(text: &mut Vec<u8>, head: RowHead<'_>) -> Result<bool, AllocError>
 }
 
 /// How many bytes a path has at least that is looked at as a whole before its segments are cut.
-const LEAST: usize = 16;
+const LEAST: usize = 32;
 
 /// Puts the names that are left of a path behind the first bytes of a text, and answers whether
 /// each one that came is put so by a push too: false says nothing of what was put.
