@@ -1,4 +1,4 @@
--- What is looked at before a name is compared with those of devices.
+-- Which names stand for devices, told by their first bytes alone.
 use Rattle.std.specs.Prelude.{ℕ, List, [], ◌∷◌, Bool, false, ◌||◌, ◌&&◌, ◌==◌, nat_le, if◌then◌else◌}
 use Rattle.std.specs.Char.{to_ascii_lowercase}
 use Rattle.typed_path.specs.components.Dialects.{dot}

@@ -5,13 +5,11 @@ ghost use Rattle.std.specs.Prelude.{◌≡◌, ◌≤◌, ◌<◌, ◌+◌, ◌-
 ghost use Rattle.std.specs.Int.{bit_at};
 ghost use Rattle.std.specs.List.{position_or_len, list_any, before_first, IsAfterLastMatch, slice_split};
 ghost use Rattle.std.specs.Char.{to_ascii_lowercase};
-ghost use Rattle.std.specs.Str.{str_eq_ignore_ascii_case};
 ghost use Rattle.typed_path.specs.scan.{TellsWhether, is_one_of};
 ghost use Rattle.typed_path.specs.components.{windows, slash, backslash, separators, is_separator, is_verbatim, root_text, dialect_of, body, kinds, parts};
-ghost use Rattle.typed_path.specs.queries.{has_allowed_bytes, is_reserved, is_valid_name, is_valid, is_a_dot};
+ghost use Rattle.typed_path.specs.queries.{has_allowed_bytes, is_reserved, is_valid_name, is_valid};
 ghost use Rattle.typed_path.specs.changes.{AreMayBegins, BeginsNone, TellsBegins, SeparatesDisallowed, is_stray, is_bare_device, is_numbered_device, may_be_reserved, is_parent_or_device, begins_like_parent_or_device, begins_with_parent_or_device, is_in, ends_stem, may_end_stem, has_parent_or_device, has_parent_or_device_behind, behind_root};
 
-use crate::constants::windows::RESERVED_DEVICE_NAMES;
 use crate::scan::cut::cut_at_separator;
 use crate::scan::lanes::{
     first_between, has_forbidden, has_no_nul_or_dot_pair, is_forbidden_in_block, is_one_of,
@@ -117,15 +115,13 @@ impl Separators {
 
     /// Whether a name of such a text stands for a device.
     #[inline(always)]
-    #[tactic(auto, using(crate::proofs::lemmas::queries::ValidNames::unlike_device))]
+    #[tactic(auto, using(crate::proofs::lemmas::queries::ValidNames::devices_told))]
     pub fn is_reserved(self, name: &[u8]) -> bool
         ensures { result ≡ is_reserved (dialect_of self) name.now }
     {
         match self {
             Separators::Slash => false,
-            Separators::Backslash | Separators::Either => {
-                may_be_reserved(name) && is_device(name)
-            }
+            Separators::Backslash | Separators::Either => may_be_reserved(name),
         }
     }
 
@@ -190,7 +186,7 @@ pub fn is_free_of(pair: (u8, u8), text: &[u8]) -> bool
 }
 
 /// Whether the first bytes of a name are, ASCII case aside, the name of a device, with a dot or the end
-/// behind them. The list of devices decides of such a name; no other one is compared with it.
+/// behind them. This tells whether it stands for one, so no name is compared with the list of devices.
 #[inline(always)]
 fn may_be_reserved(name: &[u8]) -> bool
     ensures { result ≡ may_be_reserved name.now }
@@ -245,33 +241,6 @@ fn is_numbered_device(first: u8, second: u8, third: u8, last: u8) -> bool
         ),
         (b'c', b'o', b'm') | (b'l', b'p', b't')
     ) && matches!(last.to_ascii_lowercase(), b'0'..=b'9')
-}
-
-/// Whether the bytes of a name before its first dot are, ASCII case aside, the name of a device.
-fn is_device(name: &[u8]) -> bool
-    ensures { result ≡ is_reserved windows name.now }
-{
-    let stem = before_dot(name);
-    RESERVED_DEVICE_NAMES
-        .iter()
-        .any(|device| is_same_aside_case(stem, device))
-}
-
-/// What stands before the first dot of a name, or the whole where it has none.
-fn before_dot(name: &[u8]) -> &[u8]
-    ensures { result.now ≡ before_first is_a_dot name.now }
-{
-    match memchr(b'.', name) {
-        Some(at) => &name[..at],
-        None => name,
-    }
-}
-
-/// Whether two texts are one, ASCII case aside.
-fn is_same_aside_case(text: &[u8], other: &[u8]) -> bool
-    ensures { result ≡ str_eq_ignore_ascii_case text.now other.now }
-{
-    text.eq_ignore_ascii_case(other)
 }
 
 /// How many bytes a text has at least of which looks by blocks tell whether a segment stands for a device: the

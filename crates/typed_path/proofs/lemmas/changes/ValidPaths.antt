@@ -15,7 +15,7 @@ use Rattle.typed_path.specs.scan.{stands_at, IsFirstOf}
 use Rattle.typed_path.specs.queries.{is_reserved, is_valid, is_valid_name}
 use Rattle.typed_path.specs.changes.{is_in, fault, fault_behind, is_bare_device, is_numbered_device, may_be_reserved, is_stray, is_parent_or_device, begins_like_parent_or_device, may_end_stem, begins_with_parent_or_device, has_parent_or_device_behind, has_parent_or_device, begins_with_separator, has_only_valid_names, has_second_colon, begins_with_nul_or_dot_pair, has_no_nul_or_dot_pair}
 use Rattle.typed_path.proofs.lemmas.components.Segments.{pieces, first_parts, later_parts, body_parts, parts-body}
-use Rattle.typed_path.proofs.lemmas.queries.ValidNames.{reserved-may, valid-found}
+use Rattle.typed_path.proofs.lemmas.queries.ValidNames.{reserved-may, one_of_two, valid-found}
 use Rattle.typed_path.proofs.lemmas.changes.Faults.{parts_of-none}
 
 -- ---- what `..` and devices begin with
@@ -39,12 +39,6 @@ letter set k b e small capital =
     (λ beyond. ap (is_in set) (sym ((lowercase_is b).2 (omega (arith, beyond))) ∙ is) ∙ small)
     (cases_lt b 91))
     (cases_lt b 65)
-
--- one of some tests holds
-module _ (goal : Bool) where
-  one_of_two : (p q : Bool) → (p ≡ true → goal ≡ true) → (q ≡ true → goal ≡ true) → (p || q) ≡ true → goal ≡ true
-  one_of_two true q f g e = f refl
-  one_of_two false q f g e = g e
 
 both_in : (a b : ℕ) → is_in 86026 a ≡ true → is_in 2473984 b ≡ true → (is_in 86026 a && is_in 2473984 b) ≡ true
 both_in a b e f = ap (λ x. x && is_in 2473984 b) e ∙ f

@@ -1,13 +1,12 @@
 -- Names are valid where no byte strays and none stands for a device.
-use Rattle.std.proofs.Common.{◌≡◌, ℕ, suc, Bool, true, false, ◌||◌, ◌&&◌, ◌==◌, cond, not, List, [], ◌∷◌, ◌+◌, take, length, arith, refl, sym, ap, subst, ◌∙◌, true≢false, if◌then◌else◌, ◌++◌, drop, slice_index, Option, Some, None, is_some, eqb-true, ne_eqb, take_all}
+use Rattle.std.proofs.Common.{◌≡◌, ◌≤◌, ◌<◌, nat_le, ℕ, zero, suc, Bool, true, false, ◌||◌, ◌&&◌, ◌==◌, cond, not, List, [], ◌∷◌, ◌+◌, take, length, arith, refl, sym, ap, subst, ◌∙◌, true≢false, if◌then◌else◌, ◌++◌, drop, slice_index, Option, Some, None, is_some, eqb-true, ne_eqb}
 use Rattle.std.specs.List.{list_any, before_first, position_or_len, AllByRecursion, onto_first, list_all}
-use Rattle.std.specs.Str.{str_eq_ignore_ascii_case, str_to_ascii_lowercase}
+use Rattle.std.specs.Str.{bytes_eq, str_eq_ignore_ascii_case, str_to_ascii_lowercase}
 use Rattle.std.specs.Char.{to_ascii_lowercase}
 use Rattle.std.proofs.lemmas.Slice.Eq.{bytes_eq-Decides}
-use Rattle.std.proofs.lemmas.Bool.{false_from_ne_true, and_parts}
+use Rattle.std.proofs.lemmas.Bool.{false_from_ne_true, and_parts, leb-true, eqb-false}
 use Rattle.std.proofs.lemmas.List.{get_or_default}
-use Rattle.std.proofs.lemmas.List.Sums.{position_or_len_is}
-use Rattle.memchr.specs.Find.{Nowhere, NoneBefore, Passes, IsFirstByte, is_byte}
+use Rattle.memchr.specs.Find.{IsFirstByte, is_byte}
 use Rattle.std.proofs.lemmas.List.Folds.{list_any_at, list_any_none}
 use Rattle.typed_path.specs.declared.scan.separators.Separators.{Separators}
 use Rattle.typed_path.specs.declared.scan.separators.Separators.TheVariants.{Slash}
@@ -122,24 +121,137 @@ reserved-may (a ∷ b ∷ c ∷ d ∷ e ∷ rest) h =
     by false false false false true more like = like
     by false false false false false more like = cc
 
--- so one that may not stands for none
-pub unlike_device : (name : List ℕ) → may_be_reserved name ≡ false → is_reserved windows name ≡ false
-unlike_device name unlike = by (is_reserved windows name) refl
+-- whether a text in small letters is the name of a device, by the list of them
+abbrev named : List ℕ → Bool
+named small = list_any (λ device. bytes_eq small (str_to_ascii_lowercase device)) reserved_names
+
+-- a byte that is no dot in small letters is none
+undotted : (k a : ℕ) → (to_ascii_lowercase a == k) ≡ true → (k == dot) ≡ false → (a == dot) ≡ false
+undotted k a e other = by (a == dot) refl
   where
-    by : (reserved : Bool) → is_reserved windows name ≡ reserved → is_reserved windows name ≡ false
-    by true is = absurd (true≢false (sym (reserved-may name is) ∙ unlike))
+    by : (p : Bool) → (a == dot) ≡ p → (a == dot) ≡ false
     by false is = is
+    by true is =
+        let same : to_ascii_lowercase a ≡ k = eqb-true _ _ e in
+        absurd (true≢false (ap (λ x. x == dot) (sym (ap to_ascii_lowercase (eqb-true a dot is)) ∙ same) ∙ other))
 
--- what stands before the first dot of a name, by the search for it
-pub before_dot-at : (name : List ℕ) (n : ℕ) → NoneBefore (Passes is_a_dot name) 0 (length name) n → Passes is_a_dot name n → take n name ≡ before_first is_a_dot name
-before_dot-at name n none passes =
-    let within = none.high in
-    ap (λ m. take m name) (sym (position_or_len_is is_a_dot name n 0 (omega arith) (λ k below. false_from_ne_true _ (λ e. none.before k (omega arith) below e)) (λ more. passes)))
+-- three letters of a name, and what stands behind them before its first dot, are looked for in the list
+reserved-letters : (k l m a b c : ℕ) (more : List ℕ) → (k == dot) ≡ false → (l == dot) ≡ false → (m == dot) ≡ false
+    → ((to_ascii_lowercase a == k && to_ascii_lowercase b == l) && to_ascii_lowercase c == m) ≡ true
+    → is_reserved windows (a ∷ b ∷ c ∷ more) ≡ named (k ∷ l ∷ m ∷ str_to_ascii_lowercase (before_first is_a_dot more))
+reserved-letters k l m a b c more first second third e =
+    let all = and_parts (to_ascii_lowercase a == k && to_ascii_lowercase b == l) (to_ascii_lowercase c == m) e in
+    let both = and_parts (to_ascii_lowercase a == k) (to_ascii_lowercase b == l) all.0 in
+    ap (λ t. named (str_to_ascii_lowercase t)) stem
+    ∙ ap (λ p. named (str_to_ascii_lowercase (cond p [] (a ∷ cond (b == dot) [] (b ∷ cond (c == dot) [] (c ∷ rest)))))) (undotted k a both.0 first)
+    ∙ ap (λ p. named (str_to_ascii_lowercase (a ∷ cond p [] (b ∷ cond (c == dot) [] (c ∷ rest))))) (undotted l b both.1 second)
+    ∙ ap (λ p. named (str_to_ascii_lowercase (a ∷ b ∷ cond p [] (c ∷ rest)))) (undotted m c all.1 third)
+    ∙ ap (λ x. named (x ∷ to_ascii_lowercase b ∷ to_ascii_lowercase c ∷ str_to_ascii_lowercase rest)) (eqb-true _ _ both.0)
+    ∙ ap (λ x. named (k ∷ x ∷ to_ascii_lowercase c ∷ str_to_ascii_lowercase rest)) (eqb-true _ _ both.1)
+    ∙ ap (λ x. named (k ∷ l ∷ x ∷ str_to_ascii_lowercase rest)) (eqb-true _ _ all.1)
+  where
+    rest : List ℕ
+    rest = before_first is_a_dot more
 
-pub before_dot-nowhere : (name : List ℕ) → Nowhere (Passes is_a_dot name) 0 (length name) → name ≡ before_first is_a_dot name
-before_dot-nowhere name nowhere =
-    sym (take_all (length name) name (omega arith))
-    ∙ ap (λ m. take m name) (sym (position_or_len_is is_a_dot name (length name) 0 (omega arith) (λ k below. false_from_ne_true _ (λ e. nowhere k (omega arith) below e)) (λ more. absurd (omega arith))))
+    stem : before_first is_a_dot (a ∷ b ∷ c ∷ more) ≡ cond (a == dot) [] (a ∷ cond (b == dot) [] (b ∷ cond (c == dot) [] (c ∷ rest)))
+    stem =
+        stem-byte a (b ∷ c ∷ more)
+        ∙ ap (λ t. cond (a == dot) [] (a ∷ t)) (stem-byte b (c ∷ more) ∙ ap (λ t. cond (b == dot) [] (b ∷ t)) (stem-byte c more))
+
+-- what holds of each number of a row holds of one between them
+abbrev holds_along : (ℕ → Bool) → ℕ → ℕ → Bool
+holds_along holds from zero = true
+holds_along holds from (suc n) = holds from && holds_along holds (suc from) n
+
+one_along : (holds : ℕ → Bool) (from n d : ℕ) → holds_along holds from n ≡ true → from ≤ d → d < from + n → holds d ≡ true
+one_along holds from zero d all low high = absurd (omega (arith, low, high))
+one_along holds from (suc n) d all low high = by (d == from) refl (one_along holds (suc from) n d each.1)
+  where
+    each : (holds from ≡ true) × (holds_along holds (suc from) n ≡ true)
+    each = and_parts (holds from) (holds_along holds (suc from) n) all
+
+    by : (p : Bool) → (d == from) ≡ p → (suc from ≤ d → d < suc from + n → holds d ≡ true) → holds d ≡ true
+    by true is later = ap holds (eqb-true d from is) ∙ each.0
+    by false is later = let other = eqb-false d from is in later (omega (arith, low, other)) (omega (arith, high))
+
+-- one of some tests holds
+module _ (goal : Bool) where
+  pub one_of_two : (p q : Bool) → (p ≡ true → goal ≡ true) → (q ≡ true → goal ≡ true) → (p || q) ≡ true → goal ≡ true
+  one_of_two true q f g e = f refl
+  one_of_two false q f g e = g e
+
+-- three letters with nothing behind them before the first dot
+bare-reserved : (a b c : ℕ) (more : List ℕ) → before_first is_a_dot more ≡ []
+    → is_bare_device (to_ascii_lowercase a) (to_ascii_lowercase b) (to_ascii_lowercase c) ≡ true → is_reserved windows (a ∷ b ∷ c ∷ more) ≡ true
+bare-reserved a b c more none =
+    one_of_two goal _ _ (one_of_two goal _ _ (one_of_two goal _ _ (one 99 111 110 refl refl refl refl) (one 112 114 110 refl refl refl refl)) (one 97 117 120 refl refl refl refl)) (one 110 117 108 refl refl refl refl)
+  where
+    goal : Bool
+    goal = is_reserved windows (a ∷ b ∷ c ∷ more)
+
+    one : (k l m : ℕ) → (k == dot) ≡ false → (l == dot) ≡ false → (m == dot) ≡ false → named (k ∷ l ∷ m ∷ []) ≡ true
+        → ((to_ascii_lowercase a == k && to_ascii_lowercase b == l) && to_ascii_lowercase c == m) ≡ true → goal ≡ true
+    one k l m first second third listed e =
+        reserved-letters k l m a b c more first second third e ∙ ap (λ t. named (k ∷ l ∷ m ∷ str_to_ascii_lowercase t)) none ∙ listed
+
+-- three letters with a digit behind them
+numbered-reserved : (a b c d : ℕ) (more : List ℕ) → before_first is_a_dot more ≡ d ∷ []
+    → is_numbered_device (to_ascii_lowercase a) (to_ascii_lowercase b) (to_ascii_lowercase c) (to_ascii_lowercase d) ≡ true → is_reserved windows (a ∷ b ∷ c ∷ more) ≡ true
+numbered-reserved a b c d more digit h =
+    one_of_two goal _ _ (one 99 111 109 refl refl refl refl) (one 108 112 116 refl refl refl refl) both.0
+  where
+    goal : Bool
+    goal = is_reserved windows (a ∷ b ∷ c ∷ more)
+
+    both : ((((to_ascii_lowercase a == 99 && to_ascii_lowercase b == 111) && to_ascii_lowercase c == 109) || ((to_ascii_lowercase a == 108 && to_ascii_lowercase b == 112) && to_ascii_lowercase c == 116)) ≡ true)
+        × ((nat_le 48 (to_ascii_lowercase d) && nat_le (to_ascii_lowercase d) 57) ≡ true)
+    both = and_parts _ (nat_le 48 (to_ascii_lowercase d) && nat_le (to_ascii_lowercase d) 57) h
+
+    range : (nat_le 48 (to_ascii_lowercase d) ≡ true) × (nat_le (to_ascii_lowercase d) 57 ≡ true)
+    range = and_parts (nat_le 48 (to_ascii_lowercase d)) (nat_le (to_ascii_lowercase d) 57) both.1
+
+    one : (k l m : ℕ) → (k == dot) ≡ false → (l == dot) ≡ false → (m == dot) ≡ false → holds_along (λ x. named (k ∷ l ∷ m ∷ x ∷ [])) 48 10 ≡ true
+        → ((to_ascii_lowercase a == k && to_ascii_lowercase b == l) && to_ascii_lowercase c == m) ≡ true → goal ≡ true
+    one k l m first second third listed e =
+        reserved-letters k l m a b c more first second third e
+        ∙ ap (λ t. named (k ∷ l ∷ m ∷ str_to_ascii_lowercase t)) digit
+        ∙ one_along (λ x. named (k ∷ l ∷ m ∷ x ∷ [])) 48 10 (to_ascii_lowercase d) listed (leb-true _ _ range.0) (omega (arith, leb-true _ _ range.1))
+
+-- so a name that begins like a device, with a dot or its end behind that, stands for one
+may-reserved : (name : List ℕ) → may_be_reserved name ≡ true → is_reserved windows name ≡ true
+may-reserved [] h = cc
+may-reserved (a ∷ []) h = cc
+may-reserved (a ∷ b ∷ []) h = cc
+may-reserved (a ∷ b ∷ c ∷ []) h = bare-reserved a b c [] refl h
+may-reserved (a ∷ b ∷ c ∷ d ∷ []) h = by (d == dot) refl h
+  where
+    by : (s : Bool) → (d == dot) ≡ s
+        → cond s (is_bare_device (to_ascii_lowercase a) (to_ascii_lowercase b) (to_ascii_lowercase c)) (is_numbered_device (to_ascii_lowercase a) (to_ascii_lowercase b) (to_ascii_lowercase c) (to_ascii_lowercase d)) ≡ true
+        → is_reserved windows (a ∷ b ∷ c ∷ d ∷ []) ≡ true
+    by true is like = bare-reserved a b c (d ∷ []) (stem-byte d [] ∙ ap (λ p. cond p [] (d ∷ [])) is) like
+    by false is like = numbered-reserved a b c d (d ∷ []) (stem-byte d [] ∙ ap (λ p. cond p [] (d ∷ [])) is) like
+may-reserved (a ∷ b ∷ c ∷ d ∷ e ∷ rest) h = by (d == dot) (e == dot) refl refl h
+  where
+    stem : before_first is_a_dot (d ∷ e ∷ rest) ≡ cond (d == dot) [] (d ∷ cond (e == dot) [] (e ∷ before_first is_a_dot rest))
+    stem = stem-byte d (e ∷ rest) ∙ ap (λ t. cond (d == dot) [] (d ∷ t)) (stem-byte e rest)
+
+    by : (s t : Bool) → (d == dot) ≡ s → (e == dot) ≡ t
+        → cond s (is_bare_device (to_ascii_lowercase a) (to_ascii_lowercase b) (to_ascii_lowercase c)) (t && is_numbered_device (to_ascii_lowercase a) (to_ascii_lowercase b) (to_ascii_lowercase c) (to_ascii_lowercase d)) ≡ true
+        → is_reserved windows (a ∷ b ∷ c ∷ d ∷ e ∷ rest) ≡ true
+    by true t is ends like = bare-reserved a b c (d ∷ e ∷ rest) (stem ∙ ap (λ p. cond p [] (d ∷ cond (e == dot) [] (e ∷ before_first is_a_dot rest))) is) like
+    by false true is ends like =
+        numbered-reserved a b c d (d ∷ e ∷ rest)
+        (stem ∙ ap (λ p. cond p [] (d ∷ cond (e == dot) [] (e ∷ before_first is_a_dot rest))) is ∙ ap (λ q. d ∷ cond q [] (e ∷ before_first is_a_dot rest)) ends) like
+    by false false is ends like = cc
+
+-- both ways: the first bytes of a name tell whether it stands for a device
+pub devices_told : (name : List ℕ) → may_be_reserved name ≡ is_reserved windows name
+devices_told name = by (may_be_reserved name) (is_reserved windows name) (may-reserved name) (reserved-may name)
+  where
+    by : (may is : Bool) → (may ≡ true → is ≡ true) → (is ≡ true → may ≡ true) → may ≡ is
+    by true is to from = sym (to refl)
+    by false true to from = from refl
+    by false false to from = refl
 
 -- The names of a text are valid where no byte strays and no segment stands for a device.
 
