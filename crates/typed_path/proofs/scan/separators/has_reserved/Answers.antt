@@ -1,4 +1,4 @@
-use Rattle.std.proofs.Common.{◌≡◌, sym, subst, true, ◌∙◌}
+use Rattle.std.proofs.Common.{◌≡◌, sym, subst, ◌∙◌}
 use Rattle.std.specs.List.{list_any, slice_split}
 use Rattle.typed_path.specs.components.{is_separator, dialect_of}
 use Rattle.typed_path.specs.queries.{is_reserved}

@@ -1,4 +1,4 @@
-use Rattle.std.proofs.Common.{◌≡◌, true, false, not, sym, ap, ◌∙◌}
+use Rattle.std.proofs.Common.{not, sym, ap, ◌∙◌}
 use Rattle.typed_path.proofs.lemmas.changes.ValidPaths.{valid-no_fault, invalid-name_fault, relative-valid}
 use Rattle.typed_path.proofs.windows.encoding.judged_by_names.Goals as goal
 
