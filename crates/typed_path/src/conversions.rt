@@ -285,11 +285,12 @@ fn turned_for_unix(path: &[u8]) -> Option<&[u8]>
     None
 }
 
-/// Whether a path begins with two separators, as each with a prefix but a drive does, and little can stand behind
-/// the prefix: such a path is read at once.
+/// Whether a path of few bytes begins with two separators, as each with a prefix but a drive does, so that little
+/// can stand behind the prefix: such a path is read at once.
 #[inline(always)]
 fn is_short_behind_mark(path: &[u8]) -> bool
-    ensures { IsTrue result → length path.now < 32 }
+    ensures short { IsTrue result → length path.now < 32 }
+    ensures marked { IsTrue result → begins_with_separator path.now ≡ true }
 {
     path.len() < MARKED && matches!(path, [b'/' | b'\\', b'/' | b'\\', ..])
 }

@@ -4,7 +4,9 @@
 //! Prefixes come first, so that the loops over the other components hold none. The loops stand in
 //! functions that are generic over the encoding, which build each step in for its separators.
 
-ghost use Rattle.std.specs.Prelude.{◌≡◌, ◌&&◌, List, ◌∷◌, None, option_map, fold, refl};
+ghost use Rattle.std.specs.Prelude.{◌≡◌, ◌&&◌, List, ◌∷◌, None, option_map, fold, refl, length, min};
+ghost use Rattle.std.specs.Slice.Scan.{IsFirstPlace};
+ghost use Rattle.typed_path.specs.scan.{differs_at};
 ghost use Rattle.std.specs.List.{flat_map};
 ghost use Rattle.std.specs.Ordering.{is_eq, on, as_partial_cmp};
 ghost use Rattle.std.specs.Cmp.{eq_by_cmp_equiv, on_total, partial_equiv_from_equiv, partial_order_from_total};
@@ -58,21 +60,31 @@ pub(crate) fn compare_texts(text: &[u8], other: &[u8], separators: Separators) -
     ensures { result ≡ left_cmp (body separators 0 text.now) (body separators 0 other.now) }
 {
     let shared = first_difference(text, other);
+    match order_behind(text, other, shared, separators) {
+        Some(order) => order,
+        None => compare_from(text, other, shared, separators),
+    }
+}
+
+/// The same of two texts that do not part within names, by their first bytes, or where one begins with the
+/// other; all others are read. It is told how many bytes the two begin with.
+///
+/// It stands apart so that the order of most texts is told in place.
+fn compare_from(text: &[u8], other: &[u8], shared: usize, separators: Separators) -> Ordering
+    requires { IsFirstPlace (differs_at text.now other.now) 0
+        (min (length text.now) (length other.now)) shared }
+    ensures { result ≡ left_cmp (body separators 0 text.now) (body separators 0 other.now) }
+{
     if shared == 0 {
         if let Some(order) = order_of_fronts(text, other, separators) {
             return order;
         }
     }
-    match order_behind(text, other, shared, separators) {
-        Some(order) => order,
-        None => {
-            if let Some(order) = order_of_beginning(text, other, shared, separators) {
-                return order;
-            }
-            let (rest, wanted) = bodies_behind(text, other, shared, separators);
-            compare_each(rest, wanted)
-        }
+    if let Some(order) = order_of_beginning(text, other, shared, separators) {
+        return order;
     }
+    let (rest, wanted) = bodies_behind(text, other, shared, separators);
+    compare_each(rest, wanted)
 }
 
 /// Whether two texts have the same components: the prefix first, then the last component, in which

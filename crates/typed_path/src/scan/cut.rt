@@ -213,8 +213,8 @@ pub fn order_behind(
     order_of_ends(&text[shared..], &other[shared..], separators)
 }
 
-/// The order of two texts that are read from their beginnings, where one is empty, or one begins with a root
-/// and the other does not. None says nothing.
+/// The order of two texts that are read from their beginnings, where one alone is empty, or begins with a root,
+/// or where one begins with a dot and the other with a greater byte. None says nothing.
 #[inline(always)]
 pub fn order_of_fronts(text: &[u8], other: &[u8], separators: Separators) -> Option<Ordering>
     ensures { IfSome result (λ order.
@@ -264,7 +264,7 @@ fn order_of_dots(text: &[u8], other: &[u8], separators: Separators) -> Option<Or
 }
 
 /// Whether one of two texts that are read from their beginnings begins with a root, and the other with
-/// something else; or whether the first alone is empty.
+/// something else; or whether the first alone is empty. False says nothing.
 #[inline(always)]
 pub fn have_other_roots(text: &[u8], other: &[u8], separators: Separators) -> bool
     ensures { IsTrue result → starts_with bytes_eq (texts (parts (body separators 0 text.now)))
@@ -279,8 +279,8 @@ pub fn have_other_roots(text: &[u8], other: &[u8], separators: Separators) -> bo
     separators.contains(*own) != separators.contains(*wanted)
 }
 
-/// The order of a text and one that it begins with, as of what lies in a directory and that, where no component
-/// reaches over the end of it. None says nothing.
+/// The order of a text and one that it begins with, as of a path in a directory and that directory, where no
+/// component reaches over the end of it. None says nothing.
 #[inline(always)]
 fn order_of_longer(text: &[u8], beginning: &[u8], separators: Separators) -> Option<Ordering>
     ensures longer { IfSome result (λ order.

@@ -247,8 +247,8 @@ fn is_numbered_device(first: u8, second: u8, third: u8, last: u8) -> bool
 /// segments of a shorter one are asked at once.
 const LEAST: usize = 32;
 
-/// Whether a segment of a text stands for a device. Of most texts of Windows that are not read verbatim two
-/// looks tell: one that no segment is `..`, and one for devices and these.
+/// Whether a segment of a text stands for a device. Of most texts of Windows of 32 bytes and more that are not
+/// read verbatim two looks tell: one that no segment is `..`, and one for devices and these.
 #[inline(always)]
 pub fn has_reserved(text: &[u8], separators: Separators) -> bool
     ensures { result ≡ list_any (is_reserved (dialect_of separators))

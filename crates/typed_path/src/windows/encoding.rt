@@ -312,7 +312,7 @@ fn order_by_prefixes(path: &[u8], other: &[u8]) -> Option<Ordering>
 fn order_behind_marked(path: &[u8], other: &[u8]) -> Option<Ordering>
     ensures { IfSome result (λ order. path_cmp windows path.now other.now ≡ order) }
 {
-    // The same prefix is mostly there where the separators in front are others.
+    // Where the separators in front are others the prefix is mostly the same, which tells no order.
     if begin_with_other_separators(path, other) {
         return None;
     }
