@@ -207,8 +207,8 @@ fn are_separators(first: u8, second: u8) -> bool
 /// What is left of a path behind a base of which `shared_prefix` says nothing. None says nothing.
 ///
 /// Such are bases of a few bytes, those behind the verbatim prefix named `UNC`, and those behind a verbatim
-/// drive without a root. No prefix is read where the path does not begin with the bytes of the base, and that of the path alone
-/// where the base ends with it.
+/// drive without a root. No prefix is read where the path does not begin with the bytes of the base, and that
+/// of the path alone where the base ends with it.
 fn behind_rare<'a>(path: &'a [u8], base: &[u8]) -> Option<&'a [u8]>
     ensures { IfSome result (λ rest. stripped windows path.now base.now ≡ Some rest.now) }
 {
