@@ -3,9 +3,11 @@
 -- Readings: a reading from both ends, step by step, and the slice that it leaves
 -- Steps: a step from either end, of a list, an iterator and a cursor
 -- Searches: what masks say of places, and searches of a range put together from what was seen of it
+-- Tables: tables that bytes are looked up in by their low bits
 -- Blanks: segments that count for nothing behind others: how marks tell that there is none, and what that tells of the pieces of a text
 pub mod LastComponent
 pub mod Readings
 pub mod Steps
 pub mod Searches
+pub mod Tables
 pub mod Blanks

@@ -84,9 +84,9 @@ abbrev pub may_end_stem : List ℕ → Bool
 may_end_stem (a ∷ b ∷ c ∷ d ∷ e ∷ bytes) = b == dot || ends_stem d || ends_stem e
 may_end_stem bytes = true
 
--- the low five bits of a byte are one of five numbers
-abbrev pub is_low : ℕ × ℕ × ℕ × ℕ × ℕ → ℕ → Bool
-is_low of b = (((b % 32 == of.0 || b % 32 == of.1) || b % 32 == of.2) || b % 32 == of.3) || b % 32 == of.4
+-- the low five bits of a byte are what a table holds at the low four
+abbrev pub is_low : List ℕ → ℕ → Bool
+is_low table b = slice_index table (b % 16) == b % 32
 
 -- the bits of a mask: those of separators behind which stand the first letter, then the second, and then a dot or the end of a stem
 abbrev pub AreMayBegins : ℕ → ℕ → ℕ → ℕ → ℕ → ℕ → Type 0

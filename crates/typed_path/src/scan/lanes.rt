@@ -4,7 +4,7 @@
 //! likewise, and of what stands between the bytes of a pair, how much at the front is names. Of two texts
 //! the first place is found at which they differ.
 
-ghost use Rattle.std.specs.Prelude.{◌≡◌, ◌≢◌, ◌≤◌, ◌<◌, ◌+◌, ◌-◌, ◌^◌, ◌==◌, ℕ, Bool, true, IsTrue, MatchOption, length, min, slice_index};
+ghost use Rattle.std.specs.Prelude.{◌≡◌, ◌≢◌, ◌≤◌, ◌<◌, ◌+◌, ◌-◌, ◌%◌, ◌^◌, ◌==◌, ℕ, Bool, true, IsTrue, MatchOption, length, min, map, take, drop, slice_index};
 ghost use Rattle.std.specs.Int.{bit_at};
 ghost use Rattle.std.specs.List.{list_any, list_all, slice_split};
 ghost use Rattle.std.specs.Slice.Scan.{HoldsNowhere, IsFirstPlace};
@@ -399,24 +399,68 @@ fn forbidden_at<const N: usize>(text: &[u8], at: usize, pair: (u8, u8)) -> u64
         | (block.simd_eq(Simd::splat(pair.0)) | block.simd_eq(Simd::splat(pair.1)))).to_bitmask()
 }
 
-/// Which bytes of a block are, in their low five bits, one of five numbers. Letters of either case are one.
+/// The bytes that no name of Windows may have, and that separate in no text, each at the place of its low four
+/// bits; and those of them whose place another one takes. Both stand twice, so that each half of a block has a
+/// table. Elsewhere stands a byte whose place is another.
+const FORBIDDEN: [u8; 32] = [
+    b'\0', 0, b'"', 0, 0, 0, 0, 0, 0, 0, b':', 0, b'<', 0, b'>', b'?', b'\0', 0, b'"', 0, 0, 0, 0,
+    0, 0, 0, b':', 0, b'<', 0, b'>', b'?',
+];
+
+const ALSO_FORBIDDEN: [u8; 32] = [
+    1, 0, 0, 0, 0, 0, 0, 0, 0, 0, b'*', 0, b'|', 0, 0, 0, 1, 0, 0, 0, 0, 0, 0, 0, 0, 0, b'*', 0,
+    b'|', 0, 0, 0,
+];
+
+/// What a table holds at the low four bits of each byte of a block.
 #[inline(always)]
-pub fn low_bits_at<const N: usize>(text: &[u8], at: usize, of: (u8, u8, u8, u8, u8)) -> u64
-    requires lanes { (0 < N) × (N ≤ 64) }
-    requires in_range { at + N ≤ length text.now }
-    ensures { IsMask (λ k. is_low of (slice_index text.now (at + k))) N result }
+fn at_low_bits(table: u8x32, block: u8x32) -> u8x32
+    requires twice { drop 16 table ≡ take 16 table }
+    ensures { result ≡ map (λ b. slice_index table (b % 16)) block }
 {
-    let low = Simd::<u8, N>::from_slice(&text[at..]) & Simd::splat(31);
-    (low.simd_eq(Simd::splat(of.0))
-        | low.simd_eq(Simd::splat(of.1))
-        | low.simd_eq(Simd::splat(of.2))
-        | low.simd_eq(Simd::splat(of.3))
-        | low.simd_eq(Simd::splat(of.4))).to_bitmask()
+    table.swizzle_dyn_within::<16>(block & u8x32::splat(15))
+}
+
+/// Which bytes of a block of 32 are those that no name of Windows may have, and that separate in no text, or
+/// one of a pair: two tables are asked, and no byte is compared with each of them.
+#[inline(always)]
+fn forbidden_in_32_at(text: &[u8], at: usize, pair: (u8, u8)) -> u64
+    requires { at + 32 ≤ length text.now }
+    ensures { IsMask (λ k. forbidden_at pair text.now (at + k)) 32 result }
+{
+    let block = u8x32::from_slice(&text[at..]);
+    (at_low_bits(u8x32::from_array(FORBIDDEN), block).simd_eq(block)
+        | at_low_bits(u8x32::from_array(ALSO_FORBIDDEN), block).simd_eq(block)
+        | (block.simd_eq(Simd::splat(pair.0)) | block.simd_eq(Simd::splat(pair.1)))).to_bitmask()
+}
+
+/// Which bytes of a block of 32 have those low five bits that a table holds at their low four. Letters of either
+/// case are one.
+#[inline(always)]
+pub fn low_bits_at(text: &[u8], at: usize, table: u8x32) -> u64
+    requires in_range { at + 32 ≤ length text.now }
+    requires twice { drop 16 table ≡ take 16 table }
+    ensures { IsMask (λ k. is_low table (slice_index text.now (at + k))) 32 result }
+{
+    let block = u8x32::from_slice(&text[at..]);
+    at_low_bits(table, block)
+        .simd_eq(block & u8x32::splat(31))
+        .to_bitmask()
+}
+
+/// Whether a block of 32 bytes has a byte that no name of Windows may have, and that separates in no text, or
+/// one of a pair.
+#[inline(always)]
+pub fn is_forbidden_in_32(text: &[u8], at: usize, pair: (u8, u8)) -> bool
+    requires { at + 32 ≤ length text.now }
+    ensures { TellsWhether (forbidden_at pair text.now) at (at + 32) result }
+{
+    forbidden_in_32_at(text, at, pair) != 0
 }
 
 /// Whether a block has such a byte.
 #[inline(always)]
-pub fn is_forbidden_in_block<const N: usize>(text: &[u8], at: usize, pair: (u8, u8)) -> bool
+fn is_forbidden_in_block<const N: usize>(text: &[u8], at: usize, pair: (u8, u8)) -> bool
     requires lanes { (0 < N) × (N ≤ 64) }
     requires in_range { at + N ≤ length text.now }
     ensures { TellsWhether (forbidden_at pair text.now) at (at + N) result }
@@ -471,13 +515,13 @@ pub fn has_forbidden(text: &[u8], pair: (u8, u8)) -> bool
     let len = text.len();
     let mut at = 0;
     while 32 <= len - at {
-        if is_forbidden_in_block::<32>(text, at, pair) {
+        if is_forbidden_in_32(text, at, pair) {
             return true;
         }
         at += 32;
     }
     if 32 <= len {
-        return is_forbidden_in_block::<32>(text, len - 32, pair);
+        return is_forbidden_in_32(text, len - 32, pair);
     }
     if 16 <= len {
         return has_forbidden_in_two::<16>(text, pair);

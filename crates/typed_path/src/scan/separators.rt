@@ -12,10 +12,11 @@ ghost use Rattle.typed_path.specs.changes.{AreMayBegins, BeginsNone, TellsBegins
 
 use crate::scan::cut::cut_at_separator;
 use crate::scan::lanes::{
-    first_between, has_forbidden, has_no_nul_or_dot_pair, is_forbidden_in_block, is_one_of,
+    first_between, has_forbidden, has_no_nul_or_dot_pair, is_forbidden_in_32, is_one_of,
     last_between, low_bits_at, lowest, marks_at,
 };
 use memchr::memchr;
+use std::simd::prelude::*;
 
 /// The separators of one text, and with them the way in which it is read.
 #[derive(Clone, Copy, Debug)]
@@ -345,7 +346,7 @@ fn has_stray_at(text: &[u8], at: usize) -> bool
     ensures { TellsWhether (λ k. is_stray Separators.Either (slice_index text.now k)) at (at + 32)
         result }
 {
-    is_forbidden_in_block::<32>(text, at, (b':', b':'))
+    is_forbidden_in_32(text, at, (b':', b':'))
 }
 
 /// The bits of the places of a block behind which five more bytes of it stand.
@@ -353,6 +354,19 @@ const LOOKED: u64 = (1 << 27) - 1;
 
 /// The bits of the places behind the last block of a text, where each stem ends.
 const ENDED: u64 = 31 << 32;
+
+/// The low five bits of `.acnlp`, with which `..` and the devices begin, each at the place of its low four; twice,
+/// as a block of 32 asks for it. Elsewhere stand bits whose place is another.
+const FIRSTS: [u8; 32] = [
+    16, 1, 0, 3, 0, 0, 0, 0, 0, 0, 0, 0, 12, 0, 14, 0, 16, 1, 0, 3, 0, 0, 0, 0, 0, 0, 0, 0, 12, 0,
+    14, 0,
+];
+
+/// The same of `.opru`, which stand second.
+const SECONDS: [u8; 32] = [
+    16, 0, 18, 0, 0, 21, 0, 0, 0, 0, 0, 0, 0, 0, 14, 15, 16, 0, 18, 0, 0, 21, 0, 0, 0, 0, 0, 0, 0,
+    0, 14, 15,
+];
 
 /// Which bytes of a block of 32 separate, with the first bytes of `..` or of a device behind them, as far
 /// as the block tells, or the marks of ends behind it.
@@ -369,8 +383,8 @@ fn may_begins_at(text: &[u8], at: usize, behind: u64) -> u64
 {
     let separators = marks_at::<32>(text, at, (b'/', b'\\'));
     let dots = marks_at::<32>(text, at, (b'.', b'.'));
-    let firsts = low_bits_at::<32>(text, at, (1, 3, 12, 14, 16));
-    let seconds = low_bits_at::<32>(text, at, (14, 15, 16, 18, 21));
+    let firsts = low_bits_at(text, at, u8x32::from_array(FIRSTS));
+    let seconds = low_bits_at(text, at, u8x32::from_array(SECONDS));
     may_begins(
         separators,
         firsts,

@@ -5,9 +5,11 @@ use Rattle.std.proofs.lemmas.Bool.{and_parts, false_from_ne_true, cases_lt}
 use Rattle.std.proofs.lemmas.List.{drop_more}
 use Rattle.std.proofs.lemmas.Nat.Bits.{bit_at-zero, bit_at_or, bit_at_and, bit_at-lt, bit_at_mask_above, bit_at_mask_inside}
 use Rattle.typed_path.specs.declared.scan.separators.Separators.TheVariants.{Either}
+use Rattle.typed_path.specs.declared.scan.separators.TheConstants.{FIRSTS, SECONDS}
 use Rattle.typed_path.specs.components.{dot, slash, backslash, is_separator}
 use Rattle.typed_path.specs.scan.{IsMask, stands_at}
 use Rattle.typed_path.specs.changes.{AreMayBegins, BeginsNone, TellsBegins, is_in, is_low, ends_stem, begins_like_parent_or_device, may_end_stem, begins_with_parent_or_device, has_parent_or_device_behind}
+use Rattle.typed_path.proofs.lemmas.scan.Tables.{all-under, under}
 use Rattle.typed_path.proofs.lemmas.changes.ValidPaths.{unlike-none, unended-none}
 
 -- Marks of separators behind which `..` or a device may stand: what the bytes behind them tell, and the search by such marks.
@@ -57,34 +59,21 @@ begun t is = (by (begins_like_parent_or_device t) refl (unlike-none t), by (may_
     by true e f = e
     by false e f = absurd (true≢false (sym is ∙ f e))
 
--- a test of all numbers below another
-abbrev all-under : (ℕ → Bool) → ℕ → Bool
-all-under p zero = true
-all-under p (suc n) = p n && all-under p n
-
-under : (p : ℕ → Bool) (n : ℕ) → all-under p n ≡ true → (m : ℕ) → m < n → p m ≡ true
-under p zero e m l = absurd (omega arith)
-under p (suc n) e m l =
-    let both = and_parts (p n) (all-under p n) e in
-    elim (cases_lt m n) [
-      | inl low ↦ under p n both.1 m low
-      | inr high ↦ let same : m ≡ n = omega arith in ap p same ∙ both.0
-    ]
-
--- the bytes of a set are those whose low bits are one of five numbers
-abbrev low : ℕ × ℕ × ℕ × ℕ × ℕ → ℕ → Bool
-low of m = (((m == of.0 || m == of.1) || m == of.2) || m == of.3) || m == of.4
-
-low-of : (set : ℕ) (of : ℕ × ℕ × ℕ × ℕ × ℕ) → all-under (λ m. not (set / 2 ^ m % 2 == 1) || low of m) 32 ≡ true → (b : ℕ) → is_in set b ≡ true → is_low of b ≡ true
-low-of set of all b e =
+-- the bytes of a set are those whose low bits a table holds
+low-of : (set : ℕ) (table : List ℕ) → all-under (λ m. not (set / 2 ^ m % 2 == 1) || get_or table (m % 16) 0 == m) 32 ≡ true → (b : ℕ) → is_in set b ≡ true → is_low table b ≡ true
+low-of set table all b e =
     let short : b % 32 < 32 = omega arith in
-    sym (ap (λ t. not t || low of (b % 32)) e) ∙ under (λ m. not (set / 2 ^ m % 2 == 1) || low of m) 32 all (b % 32) short
+    let place : b % 16 ≡ b % 32 % 16 = omega arith in
+    let held = λ (m : ℕ). get_or table (m % 16) 0 == m in
+    ap (λ n. get_or table n 0 == b % 32) place
+    ∙ sym (ap (λ t. not t || held (b % 32)) e)
+    ∙ under (λ m. not (set / 2 ^ m % 2 == 1) || held m) 32 all (b % 32) short
 
-first-low : (b : ℕ) → is_in 86026 b ≡ true → is_low (1, 3, 12, 14, 16) b ≡ true
-first-low = low-of 86026 (1, 3, 12, 14, 16) refl
+first-low : (b : ℕ) → is_in 86026 b ≡ true → is_low FIRSTS b ≡ true
+first-low = low-of 86026 FIRSTS refl
 
-second-low : (b : ℕ) → is_in 2473984 b ≡ true → is_low (14, 15, 16, 18, 21) b ≡ true
-second-low = low-of 2473984 (14, 15, 16, 18, 21) refl
+second-low : (b : ℕ) → is_in 2473984 b ≡ true → is_low SECONDS b ≡ true
+second-low = low-of 2473984 SECONDS refl
 
 -- ---- a block of 32 bytes, by its marks
 
@@ -105,7 +94,7 @@ of-set p n mask k marks set = elim (cases_lt k n) [
 
 module _ (text : List ℕ) (at separators firsts seconds dots behind mask : ℕ)
     (separated : IsMask (λ k. stands_at (slash, backslash) text (at + k)) 32 separators) (dotted : IsMask (λ k. stands_at (dot, dot) text (at + k)) 32 dots)
-    (first : IsMask (λ k. is_low (1, 3, 12, 14, 16) (get_or text (at + k) 0)) 32 firsts) (second : IsMask (λ k. is_low (14, 15, 16, 18, 21) (get_or text (at + k) 0)) 32 seconds)
+    (first : IsMask (λ k. is_low FIRSTS (get_or text (at + k) 0)) 32 firsts) (second : IsMask (λ k. is_low SECONDS (get_or text (at + k) 0)) 32 seconds)
     (together : AreMayBegins separators firsts seconds dots (bit_or (bit_or separators dots) behind) mask) where
   abbrev ends : ℕ
   ends = bit_or (bit_or separators dots) behind
@@ -155,8 +144,8 @@ module _ (text : List ℕ) (at separators firsts seconds dots behind mask : ℕ)
         let one = within t 0 (1 + k) e (omega arith) (omega arith) (omega arith) in
         let two = within t 1 (2 + k) e (omega arith) (omega arith) (omega arith) in
         mark s
-        (set-of _ 32 firsts (1 + k) first one (ap (is_low (1, 3, 12, 14, 16)) (sym (byte t 0 (1 + k) e (omega arith))) ∙ first-low a both.0))
-        (set-of _ 32 seconds (2 + k) second two (ap (is_low (14, 15, 16, 18, 21)) (sym (byte t 1 (2 + k) e (omega arith))) ∙ second-low b both.1))
+        (set-of _ 32 firsts (1 + k) first one (ap (is_low FIRSTS) (sym (byte t 0 (1 + k) e (omega arith))) ∙ first-low a both.0))
+        (set-of _ 32 seconds (2 + k) second two (ap (is_low SECONDS) (sym (byte t 1 (2 + k) e (omega arith))) ∙ second-low b both.1))
         (ending rest e stem two)
       where
         past : (t : List ℕ) → t ≡ drop (at + k + 1) text → length t ≤ 4 → bit_at ends (5 + k) ≡ 1

@@ -54,20 +54,6 @@ lanes-or p q xs e f = ap₂ (zip2 bit_or) e f ∙ by xs
 pub lanes-of : (y at n : ℕ) (text : List ℕ) → at + n ≤ length text → zip2 (λ a b. lane (eqb a b)) (chunk at n text) (replicate n y) ≡ map (λ x. lane (eqb x y)) (chunk at n text)
 lanes-of y at n text fits = zip2_splat (λ a b. lane (eqb a b)) (chunk at n text) n y (length-chunk at n text fits)
 
--- lanes of a block where a byte has given low bits
-pub lanes-low : (y at n : ℕ) (text : List ℕ) → at + n ≤ length text
-    → zip2 (λ a b. lane (eqb a b)) (zip2 bit_and (chunk at n text) (replicate n 31)) (replicate n y) ≡ map (λ x. lane (eqb (x % 32) y)) (chunk at n text)
-lanes-low y at n text fits =
-    let xs = chunk at n text in
-    let long = length-chunk at n text fits in
-    ap (λ l. zip2 (λ a b. lane (eqb a b)) l (replicate n y)) (zip2_splat bit_and xs n 31 long)
-    ∙ zip2_splat (λ a b. lane (eqb a b)) (map (λ x. bit_and x 31) xs) n y (length-map xs (λ x. bit_and x 31) ∙ long)
-    ∙ low xs
-  where
-    low : (ys : List ℕ) → map (λ x. lane (eqb x y)) (map (λ x. bit_and x 31) ys) ≡ map (λ x. lane (eqb (x % 32) y)) ys
-    low [] = refl
-    low (z ∷ zs) = ap₂ ◌∷◌ (ap (λ m. lane (eqb m y)) (and_mask z 5)) (low zs)
-
 -- the mask of such lanes
 pub mask-lanes : (p : ℕ → Bool) (at n : ℕ) (text : List ℕ) {z : List ℕ} → at + n ≤ length text → n ≤ 64 → z ≡ map (λ x. lane (p x)) (chunk at n text)
     → IsMask (λ k. p (get_or text (at + k) 0)) n (mask_l (map (top 7) z) % 2 ^ 64)

@@ -1,15 +1,17 @@
+use Rattle.std.proofs.Common.{arith, ◌%◌, eqb, get_or, ap₂, ◌∙◌}
+use Rattle.std.proofs.lemmas.Simd.{length-chunk}
 use Rattle.typed_path.specs.changes.{is_low}
-use Rattle.typed_path.proofs.lemmas.scan.Searches.{lanes-or, lanes-low, mask-lanes}
+use Rattle.typed_path.proofs.lemmas.scan.Searches.{lane, mask-lanes}
+use Rattle.typed_path.proofs.lemmas.scan.Tables.{lanes-made, low-bits}
 use Rattle.typed_path.proofs.scan.lanes.low_bits_at.Goals as goal
-use lib.Lanes.{chunk}
+use lib.Lanes.{chunk, zip2}
 
 pub returns : goal.returns
-returns g c =
+returns c =
     let text = c.args.text.now in
     let at = c.args.at in
-    let n = g.row.N in
-    let of = c.args.of in
+    let table = c.args.table in
     let fits = c.requires.in_range in
-    let xs = chunk at n text in
-    mask-lanes (is_low of) at n text fits c.requires.lanes.1
-    (lanes-or _ _ xs (lanes-or _ _ xs (lanes-or _ _ xs (lanes-or _ _ xs (lanes-low of.0 at n text fits) (lanes-low of.1 at n text fits)) (lanes-low of.2 at n text fits)) (lanes-low of.3 at n text fits)) (lanes-low of.4 at n text fits))
+    let xs = chunk at 32 text in
+    mask-lanes (is_low table) at 32 text fits (omega arith)
+    (ap₂ (zip2 (λ a b. lane (eqb a b))) c.at_low_bits.ensures (low-bits 32 5 xs (length-chunk at 32 text fits)) ∙ lanes-made (λ x. get_or table (x % 16) 0) (λ x. x % 32) xs)
