@@ -150,14 +150,18 @@ impl Encoding for WindowsEncoding {
         put_normal(text, path)
     }
 
-    // Most paths are of names alone, as looks at their bytes tell, and then other looks judge these. A path of
-    // at most `LOOK` bytes that has a `..` is read at once.
+    // Most paths are of valid names alone, as one look at their bytes tells. Of the others, and of short ones, a look
+    // for two dots tells whether a name can offend alone; those of which it does not tell are read.
     fn check(path: &[u8]) -> Result<(), CheckedPathError> {
-        if has_names_alone(path) {
+        if LEAST <= path.len() {
+            if has_only_valid_names(path) {
+                return Ok(());
+            }
+            if has_names_alone(path) {
+                return Err(CheckedPathError::InvalidFilename);
+            }
+        } else if has_names_alone(path) {
             return judged_by_names(path);
-        }
-        if LOOK < path.len() && has_only_valid_names(path) {
-            return Ok(());
         }
         Cursor::of_windows(path).check()
     }
@@ -391,6 +395,10 @@ fn has_only_valid_names(path: &[u8]) -> bool
     }
     !begins_with_separator(path) && !has_stray_parent_or_device(path)
 }
+
+/// How many bytes a path has at least whose names are looked at by blocks, before two dots are looked for: the
+/// segments of a shorter one are asked one by one.
+const LEAST: usize = 32;
 
 /// How many bytes a path has at most of which all are looked at for two dots before a name is judged: so a
 /// long path that has a byte at its front that no name may have is refused there.

@@ -4,7 +4,7 @@ use Rattle.typed_path.specs.changes.{error_of, push, fault, fault_behind}
 use Rattle.typed_path.specs.views.CursorViews.{items_left}
 use Rattle.typed_path.specs.components.{windows, kinds, parts}
 use Rattle.typed_path.specs.promises.{LiesWithin, HasPrefixOf}
-use Rattle.typed_path.proofs.lemmas.changes.ValidPaths.{valid-no_fault}
+use Rattle.typed_path.proofs.lemmas.changes.ValidPaths.{valid-no_fault, invalid-name_fault}
 use Rattle.typed_path.proofs.lemmas.promises.WindowsContained.{contained, keeps}
 use Rattle.typed_path.proofs.windows.encoding.WindowsEncodingEncoding.check.Goals as goal
 
@@ -33,11 +33,17 @@ pub returns-then-has_only_valid_names-clause-contained : goal.returns-then-has_o
 returns-then-has_only_valid_names-clause-contained c =
     let path = c.args.path.now in λ base. contained base path (valid-no_fault path (sym c.has_only_valid_names.ensures ∙ c.if-has_only_valid_names.true))
 
-pub returns-then-has_names_alone-clause-prefix : goal.returns-then-has_names_alone-clause-prefix
-returns-then-has_names_alone-clause-prefix c = kept c.judged_by_names.result c.args.path.now c.judged_by_names.ensures
+pub returns-then-has_names_alone-clause-refused : goal.returns-then-has_names_alone-clause-refused
+returns-then-has_names_alone-clause-refused c =
+    let told = c.has_names_alone.ensures in
+    let holds = c.if-has_names_alone.true in
+    sym (invalid-name_fault c.args.path.now (told.relative holds) (told.undriven holds) (sym c.has_only_valid_names.ensures ∙ c.if-has_only_valid_names.false) (told.unpaired holds))
 
-pub returns-then-has_names_alone-clause-contained : goal.returns-then-has_names_alone-clause-contained
-returns-then-has_names_alone-clause-contained c = within c.judged_by_names.result c.args.path.now c.judged_by_names.ensures
+pub returns-then-has_names_alone-2-clause-prefix : goal.returns-then-has_names_alone-2-clause-prefix
+returns-then-has_names_alone-2-clause-prefix c = kept c.judged_by_names.result c.args.path.now c.judged_by_names.ensures
+
+pub returns-then-has_names_alone-2-clause-contained : goal.returns-then-has_names_alone-2-clause-contained
+returns-then-has_names_alone-2-clause-contained c = within c.judged_by_names.result c.args.path.now c.judged_by_names.ensures
 
 pub returns-clause-prefix : goal.returns-clause-prefix
 returns-clause-prefix c = kept c.check.result c.args.path.now (judged c)
