@@ -263,10 +263,10 @@ fn order_of_dots(text: &[u8], other: &[u8], separators: Separators) -> Option<Or
     }
 }
 
-/// Whether one of two texts that are read from their beginnings begins with a root, and the other with
-/// something else; or whether the first alone is empty. False says nothing.
+/// Whether two texts that are read from their beginnings begin with bytes that differ, and do not both separate; or
+/// whether the first alone is empty. So their first components are written otherwise. False says nothing.
 #[inline(always)]
-pub fn have_other_roots(text: &[u8], other: &[u8], separators: Separators) -> bool
+pub fn begin_otherwise(text: &[u8], other: &[u8], separators: Separators) -> bool
     ensures { IsTrue result → starts_with bytes_eq (texts (parts (body separators 0 text.now)))
         (texts (parts (body separators 0 other.now))) ≡ false }
 {
@@ -276,7 +276,7 @@ pub fn have_other_roots(text: &[u8], other: &[u8], separators: Separators) -> bo
     let Some((own, _)) = text.split_first() else {
         return true;
     };
-    separators.contains(*own) != separators.contains(*wanted)
+    own != wanted && !(separators.contains(*own) && separators.contains(*wanted))
 }
 
 /// The order of a text and one that it begins with, as of a path in a directory and that directory, where no

@@ -1,6 +1,6 @@
 //! The encoding of Windows paths.
 
-ghost use Rattle.std.specs.Prelude.{◌≡◌, ◌≤◌, ◌&&◌, ℕ, true, false, length, codes, Some, IfSome, IsTrue};
+ghost use Rattle.std.specs.Prelude.{◌≡◌, ◌≤◌, ◌&&◌, ℕ, true, false, length, take, codes, Some, IfSome, IsTrue};
 ghost use Rattle.std.specs.Ordering.{is_ne};
 ghost use Rattle.typed_path.specs.components.{windows, kinds, parts, separators, is_separator, prefix_of, prefix, disk, Found as PrefixFound};
 ghost use Rattle.typed_path.specs.views.PieceViews.{found_of, prefix_view};
@@ -84,12 +84,9 @@ impl Encoding for WindowsEncoding {
         if begin_apart(path, base) {
             return Some(None);
         }
-        let Some((end, separators)) = shared_prefix(path, base) else {
+        let Some((end, separators)) = shared_written_prefix(path, base) else {
             return behind_rare(path, base).map(Some);
         };
-        if path[..end] != base[..end] {
-            return None;
-        }
         let body = &path[end..];
         let wanted = &base[end..];
         // Bytes tell nothing where the separators in front are others.
@@ -234,17 +231,31 @@ fn behind_rare<'a>(path: &'a [u8], base: &[u8]) -> Option<&'a [u8]>
     Some(&body[end..])
 }
 
-/// How many bytes the prefix takes that two paths have both, as their bytes tell, and the separators of
-/// both. None says nothing.
+/// How many bytes the prefix takes that two paths begin with, written alike, as their bytes tell, and the
+/// separators of both. None says nothing.
 #[inline(always)]
-fn shared_prefix(path: &[u8], other: &[u8]) -> Option<(usize, Separators)>
+fn shared_written_prefix(path: &[u8], other: &[u8]) -> Option<(usize, Separators)>
     ensures one { IfSome result (λ shared. HaveOnePrefix path.now other.now shared.0 shared.1) }
+    ensures alike { IfSome result (λ shared. take shared.0 path.now ≡ take shared.0 other.now) }
     ensures within { IfSome result
         (λ shared. (shared.0 ≤ length path.now) × (shared.0 ≤ length other.now)) }
 {
     match shared_drive(path, other) {
-        Some(end) => Some((end, Separators::Either)),
+        Some(end) if begin_alike(path, other, end) => Some((end, Separators::Either)),
+        Some(_) => None,
         None => shared_marked_prefix(path, other),
+    }
+}
+
+/// Whether two paths with one drive, or none, that takes so many bytes write it alike. False says nothing.
+#[inline(always)]
+fn begin_alike(path: &[u8], other: &[u8], end: usize) -> bool
+    ensures { IsTrue result → take end path.now ≡ take end other.now }
+{
+    match (end, path, other) {
+        (0, _, _) => true,
+        (2, [a, b, ..], [c, d, ..]) => a == c && b == d,
+        _ => false,
     }
 }
 
@@ -272,6 +283,7 @@ fn shared_drive(path: &[u8], other: &[u8]) -> Option<usize>
 #[inline(always)]
 fn shared_marked_prefix(path: &[u8], other: &[u8]) -> Option<(usize, Separators)>
     ensures one { IfSome result (λ shared. HaveOnePrefix path.now other.now shared.0 shared.1) }
+    ensures alike { IfSome result (λ shared. take shared.0 path.now ≡ take shared.0 other.now) }
     ensures within { IfSome result
         (λ shared. (shared.0 ≤ length path.now) × (shared.0 ≤ length other.now)) }
 {
@@ -361,6 +373,8 @@ fn begins_with_prefix(text: &[u8], path: &[u8], found: Found<'_>) -> bool
     requires { prefix_of windows path.now ≡ Some (found_of found) }
     ensures prefix { IsTrue result → prefix_of windows text.now ≡ Some (found_of found.entry) }
     ensures separators { IsTrue result → separators windows text.now ≡ separators windows path.now }
+    ensures alike { IsTrue result
+        → take found.entry.length path.now ≡ take found.entry.length text.now }
     ensures within { IsTrue result
         → (found.entry.length ≤ length path.now) × (found.entry.length ≤ length text.now) }
 {

@@ -23,3 +23,6 @@ returns-then-contains-clause-prefix c = λ same. (shared c same).1
 
 pub returns-then-contains-clause-separators : goal.returns-then-contains-clause-separators
 returns-then-contains-clause-separators c = λ same. (shared c same).0
+
+pub returns-then-contains-clause-alike : goal.returns-then-contains-clause-alike
+returns-then-contains-clause-alike c = λ same. (bytes_decides (take (found_of c.args.found).length c.args.path.now) (take (found_of c.args.found).length c.args.text.now)).0 (sym c.eq.ensures ∙ same)

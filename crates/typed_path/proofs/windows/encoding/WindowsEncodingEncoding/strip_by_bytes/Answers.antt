@@ -1,6 +1,4 @@
 use Rattle.std.proofs.Common.{◌≡◌, ◌<◌, ◌+◌, ◌++◌, ◌-◌, ℕ, Some, true, length, take, drop, refl, ap, sym, subst, ◌∙◌}
-use Rattle.std.proofs.lemmas.Bool.{not-false}
-use Rattle.std.specs.Cmp.Lexicographic.{bytes_decides}
 use Rattle.std.proofs.lemmas.List.{take_rest}
 use Rattle.typed_path.specs.declared.scan.cursor.Begin.TheVariants.{Inside}
 use Rattle.typed_path.specs.changes.{raw_length}
@@ -28,7 +26,7 @@ returns-in-Some-base_end c =
     let behind : take (length t - n) (drop n t) ≡ drop (raw_length o) t = take_rest t n ∙ ap (λ k. drop k t) one.3 in
     let wanted : take (length b - n) (drop n b) ≡ drop (raw_length p) b = take_rest b n ∙ ap (λ k. drop k b) same in
     let raw : take (raw_length o) t ≡ take (raw_length p) b =
-    sym (ap (λ k. take k t) one.3) ∙ (bytes_decides (take n t) (take n b)).0 (not-false _ (sym c.ne.ensures ∙ c.if-ne.false)) ∙ ap (λ k. take k b) same in
+    sym (ap (λ k. take k t) one.3) ∙ c.in-Some.ensures.alike ∙ ap (λ k. take k b) same in
     let read : r ≡ s = sym one.0 in
     let some : 0 < length (drop (raw_length p) b) = subst (λ w. 0 < length w) wanted told.some in
     let items : (at : ℕ) → body s at (drop (raw_length o) t) ≡ body s at (drop (raw_length p) b) ++ later_body s (at + end) (drop end (drop (raw_length o) t)) = λ at. sym (λ i. body (read i) at (behind i)) ∙ told.items at ∙ (λ i. body (read i) at (wanted i) ++ later_body (read i) (at + end) (drop end (behind i))) in
