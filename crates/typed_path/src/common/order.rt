@@ -172,7 +172,7 @@ fn take_same_last(rest: &mut Body<'_>, wanted: &mut Body<'_>) -> bool
 
 /// The order of a list that begins with a prefix and one that has none: it comes first, but for the
 /// empty list.
-fn order_of_prefixed(mut bare: Body<'_>) -> Ordering
+pub(crate) fn order_of_prefixed(mut bare: Body<'_>) -> Ordering
     ensures { (p : Prefix) (ks : List Kind)
         → None ≡ first_prefix (kinds (parts (body_items bare.entry)))
         → result ≡ kinds_cmp (prefix p ∷ ks) (kinds (parts (body_items bare.entry))) }

@@ -1,8 +1,8 @@
 //! The encoding of Windows paths.
 
-ghost use Rattle.std.specs.Prelude.{◌≡◌, ◌≤◌, ◌&&◌, ℕ, true, false, length, take, codes, Some, IfSome, IsTrue};
-ghost use Rattle.std.specs.Ordering.{is_ne};
-ghost use Rattle.typed_path.specs.components.{windows, kinds, parts, separators, is_separator, prefix_of, prefix, disk, Found as PrefixFound};
+ghost use Rattle.std.specs.Prelude.{◌≡◌, ◌≤◌, ◌&&◌, ℕ, true, false, length, take, codes, Some, None, IfSome, IsTrue};
+ghost use Rattle.typed_path.specs.components.{windows, kinds, parts, separators, is_separator, prefix_of, prefix, disk, comps};
+ghost use Rattle.typed_path.specs.views.BodyViews.{body_items};
 ghost use Rattle.typed_path.specs.views.PieceViews.{found_of, prefix_view};
 ghost use Rattle.typed_path.specs.promises.{is_verbatim_unc_name};
 ghost use Rattle.typed_path.specs.queries.{is_absolute, has_root, is_disk, path_starts_with, stripped};
@@ -11,10 +11,10 @@ ghost use Rattle.typed_path.specs.declared.scan.separators.Separators.{Separator
 ghost use Rattle.typed_path.specs.views.CursorViews.{items_left};
 ghost use Rattle.typed_path.specs.changes.{begins_with_separator, has_only_valid_names, has_second_colon, has_no_nul_or_dot_pair, fault, error_of, HaveOnePrefix};
 
-use crate::common::{Encoding, compare_prefixes, compare_texts};
+use crate::common::{Encoding, compare_prefixes, compare_texts, order_of_prefixed};
 use crate::errors::CheckedPathError;
 use crate::scan::{
-    Cursor, Found, Piece, Separators, WindowsPrefix, are_apart, base_end, byte_behind_two,
+    Body, Cursor, Found, Piece, Separators, WindowsPrefix, are_apart, base_end, byte_behind_two,
     find_prefix, first_difference, has_no_nul_or_dot_pair, has_stray_parent_or_device,
     has_valid_names, parted_drive,
 };
@@ -323,38 +323,58 @@ fn order_by_prefixes(path: &[u8], other: &[u8]) -> Option<Ordering>
     order_of_drives(drive, other_drive)
 }
 
-/// The order of two paths that begin with one prefix, written alike and with a separator behind it, or with
-/// different ones. None says nothing.
+/// The order of two paths of which one at least begins with two separators. None says nothing.
+///
+/// The prefix of one alone is read where the other begins with it.
 fn order_behind_marked(path: &[u8], other: &[u8]) -> Option<Ordering>
     ensures { IfSome result (λ order. path_cmp windows path.now other.now ≡ order) }
 {
-    // Where the separators in front are others the prefix is mostly the same, which tells no order.
-    if begin_with_other_separators(path, other) {
-        return None;
+    let Some(found) = find_prefix(path) else {
+        find_prefix(other)?;
+        return Some(order_of_prefixed(whole(path)).reverse());
+    };
+    if begins_with_prefix(other, path, found) {
+        let end = found.length;
+        let separators = Separators::of_windows(path);
+        return Some(compare_texts(&path[end..], &other[end..], separators));
     }
-    let found = marked_prefix(path, other)?;
-    let end = found.length;
-    // One that ends with the prefix mostly has the same one.
-    if path.len() <= end || other.len() <= end {
-        return None;
+    match find_prefix(other) {
+        Some(others) => order_of_prefixes(path, found, other, others),
+        None => Some(order_of_prefixed(whole(other))),
     }
-    if !begins_with_prefix(other, path, found) {
-        return order_of_prefixes(found.kind, other);
-    }
-    let separators = Separators::of_windows(path);
-    Some(compare_texts(&path[end..], &other[end..], separators))
 }
 
-/// The order of a prefix and that of a text, where they differ.
-fn order_of_prefixes(own: WindowsPrefix<'_>, text: &[u8]) -> Option<Ordering>
-    ensures { IfSome result (λ order. (found : PrefixFound)
-        × (prefix_of windows text.now ≡ Some found)
-        × (kind_cmp (prefix (prefix_view own.entry)) (prefix found.prefix) ≡ order)
-        × (is_ne order ≡ true)) }
+/// A reading of a path without a prefix.
+#[inline(always)]
+fn whole(path: &[u8]) -> Body<'_>
+    ensures { prefix_of windows path.now ≡ None → body_items result ≡ comps windows path.now }
 {
-    let found = find_prefix(text)?;
-    let order = compare_prefixes(own, found.kind);
-    if order.is_ne() { Some(order) } else { None }
+    Body::new(path, 0, Separators::of_windows(path))
+}
+
+/// The order of two paths with prefixes that were found, where these differ, or where one set of bytes separates in
+/// both paths. None says nothing.
+#[inline(always)]
+fn order_of_prefixes(
+    path: &[u8],
+    found: Found<'_>,
+    other: &[u8],
+    others: Found<'_>,
+) -> Option<Ordering>
+    requires own { prefix_of windows path.now ≡ Some (found_of found) }
+    requires others { prefix_of windows other.now ≡ Some (found_of others) }
+    requires within { (found.length ≤ length path.now) × (others.length ≤ length other.now) }
+    ensures { IfSome result (λ order. path_cmp windows path.now other.now ≡ order) }
+{
+    let order = compare_prefixes(found.kind, others.kind);
+    if order.is_ne() {
+        return Some(order);
+    }
+    let separators = Separators::of_windows(path);
+    if !separators.is_same(Separators::of_windows(other)) {
+        return None;
+    }
+    Some(compare_texts(&path[found.length..], &other[others.length..], separators))
 }
 
 /// The order of two drives, where both are there.

@@ -264,7 +264,7 @@ kinds-prefixed (c ∷ cs) p e = by c.part.kind e
     by (normal name) h = cc
 
 -- nothing stands before any other list
-bare : (cs : List Placed) → None ≡ first_prefix (kinds (parts cs)) → behind_prefix cs ≡ cs
+pub bare : (cs : List Placed) → None ≡ first_prefix (kinds (parts cs)) → behind_prefix cs ≡ cs
 bare [] e = refl
 bare (c ∷ cs) e = by c.part.kind e
   where

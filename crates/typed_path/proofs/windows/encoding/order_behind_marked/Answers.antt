@@ -1,28 +1,52 @@
-use Rattle.std.proofs.Common.{sym, ap, ◌∙◌}
+use Rattle.std.proofs.Common.{sym, ap, ◌∙◌, None, refl}
 use Rattle.std.proofs.lemmas.List.{take_rest}
-use Rattle.typed_path.specs.components.{body}
+use Rattle.typed_path.specs.components.{windows, body, comps, prefix_of}
 use Rattle.typed_path.specs.changes.{raw_length, HaveOnePrefix}
 use Rattle.typed_path.specs.order.{left_cmp}
+use Rattle.typed_path.specs.views.BodyViews.{body_items}
 use Rattle.typed_path.specs.views.PieceViews.{found_of}
-use Rattle.typed_path.proofs.lemmas.order.SharedNames.{one-order, if-told}
-use Rattle.typed_path.proofs.lemmas.order.DifferentPrefixes.{prefixed-order}
+use Rattle.typed_path.proofs.lemmas.components.Prefixes.{prefix-fits}
+use Rattle.typed_path.proofs.lemmas.order.Comparisons.{prefixed-bare, bare-prefixed}
+use Rattle.typed_path.proofs.lemmas.order.DifferentPrefixes.{first-found, bare-found, behind-bare}
+use Rattle.typed_path.proofs.lemmas.order.SharedNames.{one-order}
 use Rattle.typed_path.proofs.windows.encoding.order_behind_marked.Goals as goal
 
-pub returns-then-not-begins_with_prefix : goal.returns-then-not-begins_with_prefix
-returns-then-not-begins_with_prefix c =
-    if-told c.order_of_prefixes.result c.order_of_prefixes.ensures (λ o is.
-    prefixed-order c.args.path.now c.args.other.now (found_of c.in_ok-found.found) is.0 o c.in_ok-found.ensures is.1 is.2 is.3)
-
-pub returns : goal.returns
-returns c =
+-- the other alone has a prefix
+pub returns-in_default : goal.returns-in_default
+returns-in_default c =
     let t = c.args.path.now in
     let u = c.args.other.now in
-    let n = c.in_ok-found.found.length in
+    let none = sym c.in_default.ensures in
+    let others = c.in_ok-find_prefix.ensures in
+    sym (c.reverse.ensures
+    ∙ bare-prefixed (comps windows u) (comps windows t) (body_items c.whole.result) (found_of c.in_ok-find_prefix.field-0).prefix c.order_of_prefixed.result
+    (first-found u (found_of c.in_ok-find_prefix.field-0) (sym others)) (bare-found t none) (behind-bare t (body_items c.whole.result) none (c.whole.ensures none)) c.order_of_prefixed.ensures)
+
+pub returns-then-begins_with_prefix : goal.returns-then-begins_with_prefix
+returns-then-begins_with_prefix c =
+    let t = c.args.path.now in
+    let u = c.args.other.now in
+    let n = c.in-Some.found.length in
     let s = c.of_windows-separators.result in
     let told = c.begins_with_prefix.ensures in
-    let begins = c.if-not-begins_with_prefix.false in
+    let begins = c.if-begins_with_prefix.true in
     let read = c.of_windows-separators.ensures in
-    let found = c.in_ok-found.ensures in
-    let one : HaveOnePrefix t u n s = (sym read, told.separators begins ∙ sym read, told.prefix begins ∙ sym found, sym (ap raw_length found)) in
+    let found = c.in-Some.ensures in
+    let one : HaveOnePrefix t u n s = (sym read, told.separators begins ∙ sym read, told.prefix begins ∙ found, ap raw_length found) in
     one-order t u n s one c.compare_texts.result
     (sym (λ i. left_cmp (body s 0 (take_rest t n i)) (body s 0 (take_rest u n i))) ∙ sym c.compare_texts.ensures)
+
+pub order_of_prefixes-requires-clause-within : goal.order_of_prefixes-requires-clause-within
+order_of_prefixes-requires-clause-within c = (
+  (prefix-fits windows c.args.path.now (found_of c.in-Some.found) (sym c.in-Some.ensures)).fits,
+  (prefix-fits windows c.args.other.now (found_of c.in-Some-find_prefix.others) (sym c.in-Some-find_prefix.ensures)).fits,
+)
+
+-- the first alone has one
+pub returns-in-None : goal.returns-in-None
+returns-in-None c =
+    let t = c.args.path.now in
+    let u = c.args.other.now in
+    let none = sym c.in-None.ensures in
+    sym (prefixed-bare (comps windows t) (comps windows u) (body_items c.whole-in-None.result) (found_of c.in-Some.found).prefix c.order_of_prefixed-in-None.result
+    (first-found t (found_of c.in-Some.found) (sym c.in-Some.ensures)) (bare-found u none) (behind-bare u (body_items c.whole-in-None.result) none (c.whole-in-None.ensures none)) c.order_of_prefixed-in-None.ensures)
