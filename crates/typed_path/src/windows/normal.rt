@@ -157,8 +157,6 @@ const LEAST: usize = 32;
 
 /// Puts the names that are left of a path behind the first bytes of a text, and answers whether
 /// each one that came is put so by a push too: false says nothing of what was put.
-///
-/// Names that stand side by side are put at once, but where two dots do: there names and `..` may take turns.
 fn put_segments(text: &mut Vec<u8>, len: usize, path: &[u8]) -> Result<bool, AllocError>
     requires { len ≤ length text.old.items }
     ensures ok { IfOk result (λ plain. IsTrue plain → (head : List ℕ) → length head ≡ len
@@ -171,7 +169,7 @@ fn put_segments(text: &mut Vec<u8>, len: usize, path: &[u8]) -> Result<bool, All
     ensures told { HaveNoDisks (slice_split (is_separator Separators.Either) path.now)
         → IfOk result (λ plain. IsTrue plain) }
 {
-    if LEAST <= path.len() && has_no_nul_or_dot_pair(path) && is_free_of((b':', b':'), path) {
+    if LEAST <= path.len() && is_free_of((b':', b':'), path) {
         return put_undriven(text, len, path);
     }
     put_one_by_one(text, len, path)
@@ -179,9 +177,9 @@ fn put_segments(text: &mut Vec<u8>, len: usize, path: &[u8]) -> Result<bool, All
 
 /// The same of a path in which no `:` stands, so that no name begins with a drive.
 ///
-/// Names that stand side by side are put at once, up to two runs of them; where each name has two separators
-/// behind it, a look for each run would cost more than the segments. A look that finds no name costs little,
-/// and does not count.
+/// Names that stand side by side are put at once, while they take some bytes: where each name has two separators
+/// behind it, a look for those that follow would cost more than the segments. So it would where two dots stand
+/// side by side, as there names and `..` may take turns; these are looked for once, behind the first names.
 fn put_undriven(text: &mut Vec<u8>, len: usize, path: &[u8]) -> Result<bool, AllocError>
     requires within { len ≤ length text.old.items }
     requires free { list_any (is_one_of (colon, colon)) path.now ≡ false }
@@ -195,25 +193,23 @@ fn put_undriven(text: &mut Vec<u8>, len: usize, path: &[u8]) -> Result<bool, All
     ensures told { IfOk result (λ plain. IsTrue plain) }
 {
     let mut rest = path;
-    let mut runs = 0;
+    let mut is_unpaired = false;
     'segments: while let Some(left) = put_names(text, rest)? {
+        if rest.len() < left.len() + RUN || !(is_unpaired || has_no_nul_or_dot_pair(left)) {
+            return put_one_by_one(text, len, left);
+        }
+        is_unpaired = true;
         let Some((segment, behind)) = cut_at_separator(Separators::Either, left) else {
             return put_segment(text, len, left, left);
         };
         put_segment(text, len, segment, left)?;
-        if left.len() < rest.len() {
-            runs += 1;
-        }
         rest = behind_segment(segment, behind, Separators::Either);
-        if runs == RUNS {
-            return put_one_by_one(text, len, rest);
-        }
     }
     Ok(true)
 }
 
-/// How many runs of names are put at once before what is left of a path is settled by segments.
-const RUNS: usize = 2;
+/// How many bytes names take at least that are put at once before others are looked for.
+const RUN: usize = 16;
 
 /// Settles the segments of a path one by one behind the names that stand, and answers whether none
 /// begins with a drive: false says nothing of what was put.

@@ -7,7 +7,6 @@ use Rattle.typed_path.proofs.lemmas.components.Segments.{pieces}
 use Rattle.typed_path.proofs.lemmas.places.UnixRows.{Standing, standing-start, standing-step, standing-over, standing-end, standing-each}
 use Rattle.typed_path.proofs.lemmas.places.NamedRows.{standing-put, standing-whole, whole-each, put-drives, free-pieces, kept-front}
 use Rattle.typed_path.proofs.windows.normal.put_undriven.Goals as goal
-use Rattle.typed_path.proofs.windows.normal.put_undriven.Goals.{then-left-rest, else-left-rest}
 
 -- no drive is at the front
 abbrev IsNoDrive : List ℕ → Type 0
@@ -29,7 +28,6 @@ segments-init c = record {
   long = c.requires.within;
   capacity = omega arith;
   room = λ fits. fits;
-  few = omega arith;
   drives = free-pieces c.args.path.now c.requires.free;
 }
 
@@ -47,10 +45,6 @@ segments-preserved c =
       long = c.put_segment-in-Some.ensures.long;
       capacity = omega (arith, c.segments.invariant.capacity, c.put_names.ensures.capacity, c.put_segment-in-Some.ensures.capacity);
       room = λ fits. omega (arith, c.segments.invariant.room fits, room, c.put_names.ensures.capacity, c.put_segment-in-Some.ensures.room, c.put_segment-in-Some.ensures.capacity, c.in-Some-cut_at_separator.ensures.sizes, c.behind_segment-rest.ensures.shorter);
-      few = elim c.if-left-rest.branch [
-        | then-left-rest w ↦ omega (arith, c.segments.invariant.few, w.runs-is, c.if-runs-eq-RUNS.false)
-        | else-left-rest w ↦ omega (arith, c.segments.invariant.few, w.runs-is, c.if-runs-eq-RUNS.false)
-      ];
       drives = c.behind_segment-rest.ensures.drives drives.1;
     }
 
@@ -81,19 +75,16 @@ returns-in_default-cut_at_separator-clause-told c =
     let put = rw c.in-Some.is at c.in_ok-left.ensures.ok in
     c.put_segment.ensures.told (subst HaveNoDisks c.in_default-cut_at_separator.ensures.pieces (put-drives _ _ _ _ put c.segments.invariant.drives)).0
 
-pub returns-then-runs-eq-RUNS-clause-ok : goal.returns-then-runs-eq-RUNS-clause-ok
-returns-then-runs-eq-RUNS-clause-ok c =
+pub returns-then-rest-left-clause-ok : goal.returns-then-rest-left-clause-ok
+returns-then-rest-left-clause-ok c =
     let put = rw c.in-Some.is at c.in_ok-left.ensures.ok in
-    let drives = subst HaveNoDisks c.in-Some-cut_at_separator.ensures.pieces (put-drives _ _ _ _ put c.segments.invariant.drives) in
     IfOk-weaker c.put_one_by_one.result _ _
     (λ plain puts done head size are.
-    let stands = turn-standing _ _ _ head c.segments.rest.now c.in-Some.left.now c.in-Some-cut_at_separator.segment.now c.in-Some-cut_at_separator.behind.now c.behind_segment-rest.result.now c.args.path.now c.segments.invariant.drives (c.segments.invariant.standing head size are) put
-    c.in-Some-cut_at_separator.ensures.pieces c.in-Some-cut_at_separator.ensures.open drives.0
-    (λ names. c.in_ok-put_segment.ensures.ok (c.in_ok-put_segment.ensures.told drives.0) head names size) c.behind_segment-rest.ensures.same in
+    let stands = standing-put Either IsNoDrive _ _ head c.segments.rest.now c.args.path.now c.segments.invariant.drives (c.segments.invariant.standing head size are) c.in-Some.left.now put in
     puts done head c.args.path.now stands.names size stands.rows stands.each stands.left)
     c.put_one_by_one.ensures.ok
 
-pub returns-then-runs-eq-RUNS-clause-told : goal.returns-then-runs-eq-RUNS-clause-told
-returns-then-runs-eq-RUNS-clause-told c =
+pub returns-then-rest-left-clause-told : goal.returns-then-rest-left-clause-told
+returns-then-rest-left-clause-told c =
     let put = rw c.in-Some.is at c.in_ok-left.ensures.ok in
-    c.put_one_by_one.ensures.told (c.behind_segment-rest.ensures.drives (subst HaveNoDisks c.in-Some-cut_at_separator.ensures.pieces (put-drives _ _ _ _ put c.segments.invariant.drives)).1)
+    c.put_one_by_one.ensures.told (put-drives _ _ _ _ put c.segments.invariant.drives)

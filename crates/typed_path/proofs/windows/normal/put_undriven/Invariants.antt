@@ -13,7 +13,6 @@ invariant-segments l = record {
   long : l.len ≤ length l.text.items;
   capacity : vec_capacity l.fn.text ≤ vec_capacity l.text;
   room : vec_len l.fn.text + length l.path < vec_capacity l.fn.text → vec_len l.text + length l.rest < vec_capacity l.text;
-  few : l.runs < 2;
   drives : HaveNoDisks (slice_split (is_separator Either) l.rest);
 }
 
