@@ -22,7 +22,7 @@ use crate::scan::{
     has_forbidden, has_no_blank_behind, has_reserved, is_dots, is_free_of,
 };
 use crate::unix::{UnixEncoding, UnixPathBuf};
-use crate::windows::{WindowsEncoding, WindowsPathBuf, begins_with_separator};
+use crate::windows::{WindowsEncoding, WindowsPathBuf, begins_with_separator, has_second_colon};
 use std::alloc::{AllocError, Global};
 
 impl<'a, T: Encoding> Path<'a, T> {
@@ -461,8 +461,8 @@ fn push_each_checked<T: Encoding, U: Encoding>(
     Ok(())
 }
 
-/// How many bytes a path has at least that is looked at for blank segments, or for a device in front: of a
-/// shorter one a look by blocks tells nothing.
+/// How many bytes a path has at least that is looked at as a whole: of a shorter one a look by blocks tells
+/// nothing, and each of its names is looked through as fast.
 const LEAST: usize = 8;
 
 /// How many bytes a path has at most of which all are looked at before its first component is judged: so
@@ -473,8 +473,8 @@ const LOOK: usize = 4_096;
 /// encoding, which is that of Windows, allows: then no name is looked through anew. False says
 /// nothing.
 ///
-/// A path that begins, behind its root, with what may be the name of a device is not looked through, as that
-/// name is refused.
+/// A path that begins with a drive, or behind its root with what may be the name of a device, is not looked through, as
+/// its first component is refused.
 #[inline(always)]
 fn allows_each<T: Encoding, U: Encoding>(path: &[u8]) -> bool
     ensures names { IsTrue result
@@ -488,7 +488,10 @@ fn allows_each<T: Encoding, U: Encoding>(path: &[u8]) -> bool
     if !have_one_label::<U, WindowsEncoding>() {
         return false;
     }
-    if LOOK < path.len() || (LEAST <= path.len() && begins_with_device(path)) {
+    if LOOK < path.len() || has_second_colon(path) {
+        return false;
+    }
+    if path.len() < LEAST || begins_with_device(path) {
         return false;
     }
     !has_forbidden(path, (b'\\', b'\\'))

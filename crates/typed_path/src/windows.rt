@@ -8,7 +8,7 @@ mod push;
 use crate::common::{Path, PathBuf};
 pub use crate::scan::WindowsPrefix;
 pub use component::{WindowsComponent, WindowsComponents, WindowsPrefixComponent};
-pub use encoding::{WindowsEncoding, begins_with_separator};
+pub use encoding::{WindowsEncoding, begins_with_separator, has_second_colon};
 
 /// A path that is written as on Windows.
 pub type WindowsPath<'a> = Path<'a, WindowsEncoding>;

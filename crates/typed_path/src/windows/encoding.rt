@@ -479,7 +479,7 @@ fn begins_with_two_dots(text: &[u8]) -> bool
 
 /// Whether the second byte of a text is a `:`, as behind the letter of a drive.
 #[inline(always)]
-fn has_second_colon(text: &[u8]) -> bool
+pub fn has_second_colon(text: &[u8]) -> bool
     ensures { result ≡ has_second_colon text.now }
 {
     matches!(text, [_, b':', ..])
