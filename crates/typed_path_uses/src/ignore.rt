@@ -82,12 +82,12 @@ fn fits_next<T: Encoding>(wanted: Piece<'_>, rest: &mut Components<'_, T>) -> bo
     }
 }
 
-/// Whether the components of a pattern fit those of a path, each the one in its place.
-fn fits_path<T: Encoding>(pattern: Path<'_, T>, path: Path<'_, T>) -> bool
+/// Whether the components of a pattern fit those that are left of a path, each the one in its place.
+fn fits_rest<T: Encoding>(pattern: Path<'_, T>, path: Components<'_, T>) -> bool
     ensures { result ≡ ignore_spec.fits (kinds (parts_of T.dialect (path_bytes pattern.entry)))
-        (kinds (parts_of T.dialect (path_bytes path.entry))) }
+        (kinds (components_parts path.entry)) }
 {
-    let mut rest = path.components();
+    let mut rest = path;
     'pieces: for wanted in pattern.components() {
         if !fits_next(wanted, &mut rest) {
             return false;
@@ -96,12 +96,20 @@ fn fits_path<T: Encoding>(pattern: Path<'_, T>, path: Path<'_, T>) -> bool
     rest.next().is_none()
 }
 
+/// Whether a rule fits what is left of a path, which is a folder or not.
+fn rule_fits_rest<T: Encoding>(rule: Rule<'_>, path: Components<'_, T>, is_folder: bool) -> bool
+    ensures { result ≡ rule_fits T.dialect (kinds (components_parts path.entry)) is_folder
+        rule.entry }
+{
+    (!rule.is_folder || is_folder) && fits_rest(Path::new(rule.pattern), path)
+}
+
 /// Whether a rule fits a path, which is a folder or not.
 pub fn fits<T: Encoding>(rule: Rule<'_>, path: Path<'_, T>, is_folder: bool) -> bool
     ensures { result ≡ rule_fits T.dialect (kinds (parts_of T.dialect (path_bytes path.entry)))
         is_folder rule.entry }
 {
-    (!rule.is_folder || is_folder) && fits_path(Path::new(rule.pattern), path)
+    rule_fits_rest(rule, path.components(), is_folder)
 }
 
 /// Whether a path is ignored: the last rule that fits it decides, and where none does it is not.
@@ -113,9 +121,11 @@ pub fn is_ignored<T: Encoding>(rules: &[Rule<'_>], path: Path<'_, T>, is_folder:
         → IsLastThatFits (rule_fits T.dialect (kinds (parts_of T.dialect (path_bytes path.entry)))
         is_folder) rules.now rule → result ≡ not rule.is_back }
 {
+    // The path is read from its beginning for each rule, but its prefix is looked for once.
+    let components = path.components();
     let mut ignored = false;
     'rules: for rule in rules {
-        if fits(*rule, path, is_folder) {
+        if rule_fits_rest(*rule, components, is_folder) {
             ignored = !rule.is_back;
         }
     }
