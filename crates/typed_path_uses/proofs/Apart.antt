@@ -1,5 +1,5 @@
 -- Keys that are not equal are those of paths that are not of one file.
-use Rattle.std.proofs.Common.{◌≡◌, List, Bool, true, false, not, refl, sym, ap, ◌∙◌}
+use Rattle.std.proofs.Common.{◌≡◌, List, Bool, true, false, not, sym, ap, ◌∙◌}
 use Rattle.std.proofs.lemmas.Bool.{not-true, not-false}
 use Rattle.std.specs.Cmp.{Equal-is, eq_by_cmp_equiv}
 use Rattle.std.specs.Ordering.{is_eq}

@@ -1,5 +1,5 @@
 -- Tables that bytes are looked up in by their low bits, a block of them at once.
-use Rattle.std.proofs.Common.{◌≡◌, ℕ, zero, suc, ◌+◌, ◌-◌, ◌*◌, ◌^◌, ◌/◌, ◌%◌, ◌≤◌, ◌<◌, List, [], ◌∷◌, Bool, true, false, ◌&&◌, ◌||◌, ◌==◌, w8, length, map, take, drop, get_or, refl, sym, ap, ap₂, eqb, replicate, ◌∙◌, arith, bit_and, inl, inr, ltb, ltb-true, get_or-take, get_or-drop}
+use Rattle.std.proofs.Common.{◌≡◌, ℕ, zero, suc, ◌+◌, ◌-◌, ◌*◌, ◌^◌, ◌/◌, ◌%◌, ◌≤◌, ◌<◌, List, [], ◌∷◌, Bool, true, false, ◌&&◌, ◌||◌, w8, length, map, take, drop, get_or, refl, sym, ap, ap₂, eqb, replicate, ◌∙◌, arith, bit_and, inl, inr, ltb, ltb-true, get_or-take, get_or-drop}
 use Rattle.std.proofs.lemmas.Bool.{cases_lt, ne_eqb, and_parts, false≢true}
 use Rattle.std.proofs.lemmas.List.{get_or-map, length-map, ext_get_or}
 use Rattle.std.proofs.lemmas.Nat.{and_mask}

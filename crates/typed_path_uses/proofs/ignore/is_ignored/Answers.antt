@@ -18,5 +18,5 @@ returns-clause-last g c =
     let path = kinds (parts_of d (path_bytes c.args.path)) in
     let answer : c.rules.ignored ≡ is_ignored d (kinds (components_parts c.components-components.result)) c.args.is_folder c.args.rules.now = grind (arith, common_steps) in
     λ rule is.
-        answer ∙ ap (λ cs. is_ignored d (kinds (parts cs)) c.args.is_folder c.args.rules.now) c.components-components.ensures.items
-        ∙ fitting-decides (rule_fits d path c.args.is_folder) c.args.rules.now rule is
+    answer ∙ ap (λ cs. is_ignored d (kinds (parts cs)) c.args.is_folder c.args.rules.now) c.components-components.ensures.items
+    ∙ fitting-decides (rule_fits d path c.args.is_folder) c.args.rules.now rule is

@@ -3,7 +3,7 @@ use Rattle.typed_path.specs.changes.{is_forbidden_or}
 use Rattle.typed_path.specs.scan.{is_one_of}
 use Rattle.typed_path.specs.declared.scan.lanes.TheConstants.{FORBIDDEN, ALSO_FORBIDDEN}
 use Rattle.typed_path.proofs.lemmas.scan.Searches.{lane, lanes-or, lanes-of, mask-lanes}
-use Rattle.typed_path.proofs.lemmas.scan.Tables.{holds, lanes-held, forbidden-held}
+use Rattle.typed_path.proofs.lemmas.scan.Tables.{lanes-held, forbidden-held}
 use Rattle.typed_path.proofs.scan.lanes.forbidden_in_32_at.Goals as goal
 use lib.Lanes.{chunk, zip2}
 

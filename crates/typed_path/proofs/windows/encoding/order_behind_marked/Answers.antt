@@ -1,6 +1,6 @@
-use Rattle.std.proofs.Common.{sym, ap, ◌∙◌, None, refl}
+use Rattle.std.proofs.Common.{sym, ap, ◌∙◌}
 use Rattle.std.proofs.lemmas.List.{take_rest}
-use Rattle.typed_path.specs.components.{windows, body, comps, prefix_of}
+use Rattle.typed_path.specs.components.{windows, body, comps}
 use Rattle.typed_path.specs.changes.{raw_length, HaveOnePrefix}
 use Rattle.typed_path.specs.order.{left_cmp}
 use Rattle.typed_path.specs.views.BodyViews.{body_items}
