@@ -82,12 +82,12 @@ fn fits_next<T: Encoding>(wanted: Piece<'_>, rest: &mut Components<'_, T>) -> bo
     }
 }
 
-/// Whether the components of a pattern fit those that are left of a path, each the one in its place.
-fn fits_rest<T: Encoding>(pattern: Path<'_, T>, path: Components<'_, T>) -> bool
+/// Whether the components of a pattern fit those of a path, each the one in its place.
+fn fits_path<T: Encoding>(pattern: Path<'_, T>, path: Path<'_, T>) -> bool
     ensures { result ≡ ignore_spec.fits (kinds (parts_of T.dialect (path_bytes pattern.entry)))
-        (kinds (components_parts path.entry)) }
+        (kinds (parts_of T.dialect (path_bytes path.entry))) }
 {
-    let mut rest = path;
+    let mut rest = path.components();
     'pieces: for wanted in pattern.components() {
         if !fits_next(wanted, &mut rest) {
             return false;
@@ -96,20 +96,12 @@ fn fits_rest<T: Encoding>(pattern: Path<'_, T>, path: Components<'_, T>) -> bool
     rest.next().is_none()
 }
 
-/// Whether a rule fits what is left of a path, which is a folder or not.
-fn rule_fits_rest<T: Encoding>(rule: Rule<'_>, path: Components<'_, T>, is_folder: bool) -> bool
-    ensures { result ≡ rule_fits T.dialect (kinds (components_parts path.entry)) is_folder
-        rule.entry }
-{
-    (!rule.is_folder || is_folder) && fits_rest(Path::new(rule.pattern), path)
-}
-
 /// Whether a rule fits a path, which is a folder or not.
 pub fn fits<T: Encoding>(rule: Rule<'_>, path: Path<'_, T>, is_folder: bool) -> bool
     ensures { result ≡ rule_fits T.dialect (kinds (parts_of T.dialect (path_bytes path.entry)))
         is_folder rule.entry }
 {
-    rule_fits_rest(rule, path.components(), is_folder)
+    (!rule.is_folder || is_folder) && fits_path(Path::new(rule.pattern), path)
 }
 
 /// Whether a path is ignored: the last rule that fits it decides, and where none does it is not.
@@ -121,11 +113,9 @@ pub fn is_ignored<T: Encoding>(rules: &[Rule<'_>], path: Path<'_, T>, is_folder:
         → IsLastThatFits (rule_fits T.dialect (kinds (parts_of T.dialect (path_bytes path.entry)))
         is_folder) rules.now rule → result ≡ not rule.is_back }
 {
-    // The path is read from its beginning for each rule, but its prefix is looked for once.
-    let components = path.components();
     let mut ignored = false;
     'rules: for rule in rules {
-        if rule_fits_rest(*rule, components, is_folder) {
+        if fits(*rule, path, is_folder) {
             ignored = !rule.is_back;
         }
     }

@@ -1,7 +1,7 @@
 use Rattle.std.proofs.Common.{rules}
 use Rattle.typed_path.specs.views.PathViews.{components_items, components_parts}
 use Rattle.typed_path_uses.proofs.RulesLeft.{end-answer}
-use Rattle.typed_path_uses.proofs.ignore.fits_rest.Goals as goal
+use Rattle.typed_path_uses.proofs.ignore.fits_path.Goals as goal
 
 pub returns : goal.returns
 returns g c =
