@@ -461,8 +461,8 @@ fn push_each_checked<T: Encoding, U: Encoding>(
     Ok(())
 }
 
-/// How many bytes a path has at least that is looked at as a whole: of a shorter one a look by blocks tells
-/// nothing, and each of its names is looked through as fast.
+/// How many bytes a path has at least for looks by blocks to tell of blank segments. The names of a shorter one
+/// that crosses to Windows are looked through one by one.
 const LEAST: usize = 8;
 
 /// How many bytes a path has at most of which all are looked at before its first component is judged: so
@@ -473,8 +473,8 @@ const LOOK: usize = 4_096;
 /// encoding, which is that of Windows, allows: then no name is looked through anew. False says
 /// nothing.
 ///
-/// A path that begins with a drive, or behind its root with what may be the name of a device, is not looked through, as
-/// its first component is refused.
+/// A path whose second byte is `:`, or that begins, behind its root, with what may be the name of a device, is not
+/// looked through, as it is refused at its front.
 #[inline(always)]
 fn allows_each<T: Encoding, U: Encoding>(path: &[u8]) -> bool
     ensures names { IsTrue result

@@ -11,8 +11,8 @@ mod step;
 pub use blanks::{before_last_separator, has_no_blank_behind};
 pub use cursor::{Begin, Body, Cursor, Span};
 pub use cut::{
-    are_apart, base_end, begin_otherwise, bodies_behind, bodies_behind_shared, cut_at,
-    cut_at_separator, order_behind, order_of_beginning, order_of_fronts, text_behind,
+    are_apart, base_end, bodies_behind, bodies_behind_shared, cut_at, cut_at_separator,
+    have_other_fronts, order_behind, order_of_beginning, order_of_fronts, text_behind,
 };
 pub use lanes::{
     first_between, first_difference, has_forbidden, has_no_nul_or_dot_pair, has_only_names,
@@ -22,7 +22,7 @@ pub use prefix::{
     Found, WindowsPrefix, after_mark, byte_behind_two, drive, find_prefix, parted_drive,
 };
 pub use separators::{
-    Separators, begins_with_device, has_reserved, has_stray_parent_or_device, has_valid_names,
-    is_free_of,
+    LEAST, Separators, begins_with_device, has_reserved, has_stray_parent_or_device,
+    has_valid_names, is_free_of,
 };
 pub use step::{Piece, PieceKind, Step, StepKind, is_dots, step_of};

@@ -158,8 +158,8 @@ pub trait Encoding: Sized {
         None
     }
 
-    /// For encodings alone. The order of two paths that begin with one prefix, as their bytes tell, or with
-    /// none, or with prefixes that differ. None says nothing.
+    /// For encodings alone. The order of two paths by their prefixes, where these differ or one path alone has
+    /// one, and else by what stands behind them, as its bytes tell. None says nothing.
     fn order_behind_prefix(path: &[u8], other: &[u8]) -> Option<Ordering>
         ensures { IfSome result (λ order. path_cmp dialect path.now other.now ≡ order) }
     {

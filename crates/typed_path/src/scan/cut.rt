@@ -266,7 +266,7 @@ fn order_of_dots(text: &[u8], other: &[u8], separators: Separators) -> Option<Or
 /// Whether two texts that are read from their beginnings begin with bytes that differ, and do not both separate; or
 /// whether the first alone is empty. So their first components are written otherwise. False says nothing.
 #[inline(always)]
-pub fn begin_otherwise(text: &[u8], other: &[u8], separators: Separators) -> bool
+pub fn have_other_fronts(text: &[u8], other: &[u8], separators: Separators) -> bool
     ensures { IsTrue result → starts_with bytes_eq (texts (parts (body separators 0 text.now)))
         (texts (parts (body separators 0 other.now))) ≡ false }
 {

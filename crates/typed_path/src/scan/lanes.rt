@@ -400,13 +400,13 @@ fn forbidden_at<const N: usize>(text: &[u8], at: usize, pair: (u8, u8)) -> u64
 }
 
 /// The bytes that no name of Windows may have, and that separate in no text, each at the place of its low four
-/// bits; and those of them whose place another one takes. Both stand twice, so that each half of a block has a
-/// table. Elsewhere stands a byte whose place is another.
+/// bits; twice, so that each half of a block has a table. Elsewhere stands a byte whose place is another.
 const FORBIDDEN: [u8; 32] = [
     b'\0', 0, b'"', 0, 0, 0, 0, 0, 0, 0, b':', 0, b'<', 0, b'>', b'?', b'\0', 0, b'"', 0, 0, 0, 0,
     0, 0, 0, b':', 0, b'<', 0, b'>', b'?',
 ];
 
+/// Those of these bytes at whose place another one stands in that table.
 const ALSO_FORBIDDEN: [u8; 32] = [
     1, 0, 0, 0, 0, 0, 0, 0, 0, 0, b'*', 0, b'|', 0, 0, 0, 1, 0, 0, 0, 0, 0, 0, 0, 0, 0, b'*', 0,
     b'|', 0, 0, 0,
@@ -422,7 +422,7 @@ fn at_low_bits(table: u8x32, block: u8x32) -> u8x32
 }
 
 /// Which bytes of a block of 32 are those that no name of Windows may have, and that separate in no text, or
-/// one of a pair: two tables are asked, and no byte is compared with each of them.
+/// one of a pair. Two tables are asked of each byte, which is compared with what they hold alone.
 #[inline(always)]
 fn forbidden_in_32_at(text: &[u8], at: usize, pair: (u8, u8)) -> u64
     requires { at + 32 ≤ length text.now }

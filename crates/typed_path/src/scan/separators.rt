@@ -246,7 +246,7 @@ fn is_numbered_device(first: u8, second: u8, third: u8, last: u8) -> bool
 
 /// How many bytes a text has at least of which looks by blocks tell whether a segment stands for a device: the
 /// segments of a shorter one are asked at once.
-const LEAST: usize = 32;
+pub const LEAST: usize = 32;
 
 /// Whether a segment of a text stands for a device. Of most texts of Windows of 32 bytes and more that are not
 /// read verbatim two looks tell: one that no segment is `..`, and one for devices and these.

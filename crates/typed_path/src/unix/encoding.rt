@@ -13,8 +13,8 @@ use crate::common::{
 };
 use crate::errors::CheckedPathError;
 use crate::scan::{
-    Cursor, Piece, Separators, StepKind, are_apart, base_end, begin_otherwise, cut_at_separator,
-    first_difference, has_no_nul_or_dot_pair, has_valid_names, leading_names, step_of,
+    Cursor, Piece, Separators, StepKind, are_apart, base_end, cut_at_separator, first_difference,
+    has_no_nul_or_dot_pair, has_valid_names, have_other_fronts, leading_names, step_of,
 };
 use std::alloc::AllocError;
 use std::cmp::Ordering;
@@ -76,7 +76,7 @@ impl Encoding for UnixEncoding {
         if base.is_empty() {
             return None;
         }
-        if begin_otherwise(path, base, Separators::Slash) {
+        if have_other_fronts(path, base, Separators::Slash) {
             return Some(None);
         }
         if let Some(end) = base_end(path, base, Separators::Slash) {

@@ -14,9 +14,9 @@ ghost use Rattle.typed_path.specs.changes.{begins_with_separator, has_only_valid
 use crate::common::{Encoding, compare_prefixes, compare_texts, order_of_prefixed};
 use crate::errors::CheckedPathError;
 use crate::scan::{
-    Body, Cursor, Found, Piece, Separators, WindowsPrefix, are_apart, base_end, byte_behind_two,
-    find_prefix, first_difference, has_no_nul_or_dot_pair, has_stray_parent_or_device,
-    has_valid_names, parted_drive,
+    Body, Cursor, Found, LEAST, Piece, Separators, WindowsPrefix, are_apart, base_end,
+    byte_behind_two, find_prefix, first_difference, has_no_nul_or_dot_pair,
+    has_stray_parent_or_device, has_valid_names, parted_drive,
 };
 use crate::windows::normal::put_normal;
 use crate::windows::push::{prefix_len, push_at, push_next};
@@ -205,7 +205,7 @@ fn are_separators(first: u8, second: u8) -> bool
     Separators::Either.contains(first) && Separators::Either.contains(second)
 }
 
-/// What is left of a path behind a base of which `shared_prefix` says nothing. None says nothing.
+/// What is left of a path behind a base of which `shared_written_prefix` says nothing. None says nothing.
 ///
 /// Such are bases of a few bytes, those behind the verbatim prefix named `UNC`, and those behind a verbatim
 /// drive without a root. No prefix is read where the path does not begin with the bytes of the base, and that
@@ -308,7 +308,8 @@ fn marked_prefix<'a>(path: &'a [u8], other: &[u8]) -> Option<Found<'a>>
     find_prefix(path)
 }
 
-/// The order of two paths with different drives, or with prefixes that are marked. None says nothing.
+/// The order of two paths with different drives, or of which one at least begins with two separators. None says
+/// nothing.
 fn order_by_prefixes(path: &[u8], other: &[u8]) -> Option<Ordering>
     ensures { IfSome result (λ order. path_cmp windows path.now other.now ≡ order) }
 {
@@ -339,7 +340,7 @@ fn order_behind_marked(path: &[u8], other: &[u8]) -> Option<Ordering>
         return Some(compare_texts(&path[end..], &other[end..], separators));
     }
     match find_prefix(other) {
-        Some(others) => order_of_prefixes(path, found, other, others),
+        Some(others) => order_by_both_prefixes(path, found, other, others),
         None => Some(order_of_prefixed(whole(other))),
     }
 }
@@ -355,7 +356,7 @@ fn whole(path: &[u8]) -> Body<'_>
 /// The order of two paths with prefixes that were found, where these differ, or where one set of bytes separates in
 /// both paths. None says nothing.
 #[inline(always)]
-fn order_of_prefixes(
+fn order_by_both_prefixes(
     path: &[u8],
     found: Found<'_>,
     other: &[u8],
@@ -430,12 +431,8 @@ fn has_only_valid_names(path: &[u8]) -> bool
     !begins_with_separator(path) && !has_stray_parent_or_device(path)
 }
 
-/// How many bytes a path has at least whose names are looked at by blocks, before two dots are looked for: the
-/// segments of a shorter one are asked one by one.
-const LEAST: usize = 32;
-
-/// How many bytes a path has at most of which all are looked at for two dots before a name is judged: so a
-/// long path that has a byte at its front that no name may have is refused there.
+/// How many bytes a path has at most of which all are looked at for two dots: so a long path that has a byte at
+/// its front that no name may have is refused there.
 const LOOK: usize = 1_024;
 
 /// Whether looks at the bytes of a path tell that each of its components is a name or a `.`. False says

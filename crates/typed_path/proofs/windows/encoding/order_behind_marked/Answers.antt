@@ -36,8 +36,8 @@ returns-then-begins_with_prefix c =
     one-order t u n s one c.compare_texts.result
     (sym (λ i. left_cmp (body s 0 (take_rest t n i)) (body s 0 (take_rest u n i))) ∙ sym c.compare_texts.ensures)
 
-pub order_of_prefixes-requires-clause-within : goal.order_of_prefixes-requires-clause-within
-order_of_prefixes-requires-clause-within c = (
+pub order_by_both_prefixes-requires-clause-within : goal.order_by_both_prefixes-requires-clause-within
+order_by_both_prefixes-requires-clause-within c = (
   (prefix-fits windows c.args.path.now (found_of c.in-Some.found) (sym c.in-Some.ensures)).fits,
   (prefix-fits windows c.args.other.now (found_of c.in-Some-find_prefix.others) (sym c.in-Some-find_prefix.ensures)).fits,
 )

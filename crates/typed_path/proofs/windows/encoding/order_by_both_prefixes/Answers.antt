@@ -4,7 +4,7 @@ use Rattle.typed_path.specs.components.{body}
 use Rattle.typed_path.specs.order.{left_cmp}
 use Rattle.typed_path.specs.views.PieceViews.{found_of}
 use Rattle.typed_path.proofs.lemmas.order.DifferentPrefixes.{prefixed-order, alike-order}
-use Rattle.typed_path.proofs.windows.encoding.order_of_prefixes.Goals as goal
+use Rattle.typed_path.proofs.windows.encoding.order_by_both_prefixes.Goals as goal
 
 pub returns-then-is_ne : goal.returns-then-is_ne
 returns-then-is_ne c =
