@@ -89,11 +89,12 @@ pub fn text_behind<'a>(beginning: &[u8], text: &'a [u8]) -> Option<&'a [u8]>
 }
 
 /// How many bytes of a text stand before the component behind a base, where the bytes tell: the
-/// text begins with those of the base, and no component reaches over its end.
-///
-/// The bytes beside that end are looked at first: of most texts they tell that it is not so.
+/// text begins with those of the base, and no component reaches over its end. It is told how many bytes the two
+/// begin with.
 #[inline(always)]
-pub fn base_end(text: &[u8], base: &[u8], separators: Separators) -> Option<usize>
+pub fn base_end(text: &[u8], base: &[u8], shared: usize, separators: Separators) -> Option<usize>
+    requires { IsFirstPlace (differs_at text.now base.now) 0
+        (min (length text.now) (length base.now)) shared }
     ensures within { IfSome result (λ n. n ≤ length text.now) }
     ensures some { IfSome result (λ n. 0 < length base.now) }
     ensures items { IfSome result (λ n. (at : ℕ) → body separators at text.now
@@ -101,24 +102,32 @@ pub fn base_end(text: &[u8], base: &[u8], separators: Separators) -> Option<usiz
     ensures clean { IfSome result (λ n.
         is_clean Begin.Inside separators (drop n text.now) ≡ true) }
 {
-    if !holds_last_byte(text, base) {
+    if shared != base.len() {
+        return None;
+    }
+    end_behind(text, base, separators)
+}
+
+/// The same of a text that begins with the bytes of the base.
+#[inline(always)]
+fn end_behind(text: &[u8], base: &[u8], separators: Separators) -> Option<usize>
+    requires begins { take (length base.now) text.now ≡ base.now }
+    requires long { length base.now ≤ length text.now }
+    ensures within { IfSome result (λ n. n ≤ length text.now) }
+    ensures some { IfSome result (λ n. 0 < length base.now) }
+    ensures items { IfSome result (λ n. (at : ℕ) → body separators at text.now
+        ≡ body separators at base.now ++ later_body separators (at + n) (drop n text.now)) }
+    ensures clean { IfSome result (λ n.
+        is_clean Begin.Inside separators (drop n text.now) ≡ true) }
+{
+    if base.is_empty() {
         return None;
     }
     let rest = &text[base.len()..];
-    if !is_border(base, rest, separators) || !text.starts_with(base) {
+    if !is_border(base, rest, separators) {
         return None;
     }
     Some(base.len() + skip_blanks(rest, separators))
-}
-
-/// Whether a beginning is not empty, and a text is as long and holds its last byte in its place.
-#[inline(always)]
-fn holds_last_byte(text: &[u8], beginning: &[u8]) -> bool
-    ensures some { IsTrue result → 0 < length beginning.now }
-    ensures long { IsTrue result → length beginning.now ≤ length text.now }
-{
-    let len = beginning.len();
-    0 < len && len <= text.len() && text[len - 1] == beginning[len - 1]
 }
 
 /// Whether no component reaches over the border between two texts: one of them has a separator
@@ -283,13 +292,15 @@ pub fn have_other_fronts(text: &[u8], other: &[u8], separators: Separators) -> b
 /// component reaches over the end of it. None says nothing.
 #[inline(always)]
 fn order_of_longer(text: &[u8], beginning: &[u8], separators: Separators) -> Option<Ordering>
+    requires begins { take (length beginning.now) text.now ≡ beginning.now }
+    requires long { length beginning.now ≤ length text.now }
     ensures longer { IfSome result (λ order.
         left_cmp (body separators 0 text.now) (body separators 0 beginning.now) ≡ order) }
     ensures shorter { IfSome result (λ order.
         left_cmp (body separators 0 beginning.now) (body separators 0 text.now)
         ≡ ordering_reverse order) }
 {
-    let end = base_end(text, beginning, separators)?;
+    let end = end_behind(text, beginning, separators)?;
     if end == text.len() {
         return Some(Ordering::Equal);
     }
@@ -305,6 +316,8 @@ pub fn order_of_beginning(
     shared: usize,
     separators: Separators,
 ) -> Option<Ordering>
+    requires { IsFirstPlace (differs_at text.now other.now) 0
+        (min (length text.now) (length other.now)) shared }
     ensures { IfSome result (λ order.
         left_cmp (body separators 0 text.now) (body separators 0 other.now) ≡ order) }
 {

@@ -79,10 +79,10 @@ impl Encoding for UnixEncoding {
         if have_other_fronts(path, base, Separators::Slash) {
             return Some(None);
         }
-        if let Some(end) = base_end(path, base, Separators::Slash) {
+        let shared = first_difference(path, base);
+        if let Some(end) = base_end(path, base, shared, Separators::Slash) {
             return Some(Some(&path[end..]));
         }
-        let shared = first_difference(path, base);
         if are_apart(path, base, shared, Separators::Slash) {
             return Some(None);
         }

@@ -75,28 +75,36 @@ impl Encoding for WindowsEncoding {
         rooted(cursor)
     }
 
-    // Where the first bytes tell that the two begin otherwise, no prefix is read.
+    // Where the first bytes tell that the two begin otherwise, no prefix is read. Where these are one, a prefix that
+    // both have is looked for first.
     #[inline]
     fn strip_by_bytes<'a>(path: &'a [u8], base: &[u8]) -> Option<Option<&'a [u8]>> {
-        if base.is_empty() {
+        let ([own, ..], [wanted, ..]) = (path, base) else {
             return None;
-        }
-        if begin_apart(path, base) {
-            return Some(None);
+        };
+        if own != wanted {
+            return if begin_apart(path, base) {
+                Some(None)
+            } else {
+                None
+            };
         }
         let Some((end, separators)) = shared_written_prefix(path, base) else {
+            if begin_apart(path, base) {
+                return Some(None);
+            }
             return behind_rare(path, base).map(Some);
         };
         let body = &path[end..];
         let wanted = &base[end..];
+        let shared = first_difference(body, wanted);
+        if let Some(behind) = base_end(body, wanted, shared, separators) {
+            return Some(Some(&body[behind..]));
+        }
         // Bytes tell nothing where the separators in front are others.
         if begin_with_other_separators(body, wanted) {
             return None;
         }
-        if let Some(behind) = base_end(body, wanted, separators) {
-            return Some(Some(&body[behind..]));
-        }
-        let shared = first_difference(body, wanted);
         if are_apart(body, wanted, shared, separators) {
             return Some(None);
         }
@@ -227,7 +235,8 @@ fn behind_rare<'a>(path: &'a [u8], base: &[u8]) -> Option<&'a [u8]>
     {
         return None;
     }
-    let end = base_end(body, base_body, separators)?;
+    let shared = first_difference(body, base_body);
+    let end = base_end(body, base_body, shared, separators)?;
     Some(&body[end..])
 }
 

@@ -319,6 +319,17 @@ tells-parted s t u k parting before b is tells =
     let named = last-named s t u k n parted before b is tells in
     (n, parted, named.0, named.1)
 
+-- two texts begin with the bytes before the first place at which they differ
+alike-shared : (t u : List ℕ) (k : ℕ) → IsFirstPlace (differs_at t u) 0 (min (length t) (length u)) k → take k t ≡ take k u
+alike-shared t u k place = alike-front k t u (omega (arith, place.high)) (omega (arith, place.high)) (λ i l. same-byte (get_or t i 0) (get_or u i 0) (place.before i (omega arith) l))
+
+-- and where that is the end of one of them, the other begins with it
+pub shared-begins : (t u : List ℕ) (k : ℕ) → IsFirstPlace (differs_at t u) 0 (min (length t) (length u)) k → k ≡ length u → (take (length u) t ≡ u) × (length u ≤ length t)
+shared-begins t u k place whole = (
+  sym (ap (λ n. take n t) whole) ∙ alike-shared t u k place ∙ take_all k u (omega (arith, whole)),
+  omega (arith, place.high, whole),
+)
+
 -- one text is in order with itself
 pub itself-order : (s : Separators) (t u : List ℕ) (k : ℕ) → IsFirstPlace (differs_at t u) 0 (min (length t) (length u)) k → k ≡ length t → k ≡ length u → left_cmp (body s 0 t) (body s 0 u) ≡ Equal
 itself-order s t u k parting whole whole' =
