@@ -12,7 +12,9 @@ mod writing;
 pub use component::Component;
 pub use components::{Ancestors, Components, Iter, ReadAs, Reading, Reversed, Values};
 pub use encoding::Encoding;
-pub(crate) use order::{compare, compare_prefixes, compare_texts, is_same, order_of_prefixed};
+pub(crate) use order::{
+    compare, compare_parted, compare_prefixes, compare_texts, is_same, order_of_prefixed,
+};
 pub use path::Path;
 pub use path_buf::PathBuf;
 pub use texts::Display;

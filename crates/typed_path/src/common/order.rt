@@ -59,7 +59,21 @@ pub(crate) fn compare<T: Encoding>(path: &[u8], other: &[u8]) -> Ordering
 pub(crate) fn compare_texts(text: &[u8], other: &[u8], separators: Separators) -> Ordering
     ensures { result ≡ left_cmp (body separators 0 text.now) (body separators 0 other.now) }
 {
-    let shared = first_difference(text, other);
+    compare_parted(text, other, first_difference(text, other), separators)
+}
+
+/// The same where it is told how many bytes the two begin with.
+#[inline(always)]
+pub(crate) fn compare_parted(
+    text: &[u8],
+    other: &[u8],
+    shared: usize,
+    separators: Separators,
+) -> Ordering
+    requires { IsFirstPlace (differs_at text.now other.now) 0
+        (min (length text.now) (length other.now)) shared }
+    ensures { result ≡ left_cmp (body separators 0 text.now) (body separators 0 other.now) }
+{
     match order_behind(text, other, shared, separators) {
         Some(order) => order,
         None => compare_from(text, other, shared, separators),

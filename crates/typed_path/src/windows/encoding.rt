@@ -1,6 +1,6 @@
 //! The encoding of Windows paths.
 
-ghost use Rattle.std.specs.Prelude.{◌≡◌, ◌≤◌, ◌&&◌, ℕ, true, false, length, take, codes, Some, None, IfSome, IsTrue};
+ghost use Rattle.std.specs.Prelude.{◌≡◌, ◌≤◌, ◌&&◌, ℕ, true, false, length, min, codes, Some, None, IfSome, IsTrue};
 ghost use Rattle.typed_path.specs.components.{windows, kinds, parts, separators, is_separator, prefix_of, prefix, disk, comps};
 ghost use Rattle.typed_path.specs.views.BodyViews.{body_items};
 ghost use Rattle.typed_path.specs.views.PieceViews.{found_of, prefix_view};
@@ -10,8 +10,10 @@ ghost use Rattle.typed_path.specs.order.{kind_cmp, path_cmp};
 ghost use Rattle.typed_path.specs.declared.scan.separators.Separators.{Separators};
 ghost use Rattle.typed_path.specs.views.CursorViews.{items_left};
 ghost use Rattle.typed_path.specs.changes.{begins_with_separator, has_only_valid_names, has_second_colon, has_no_nul_or_dot_pair, fault, error_of, HaveOnePrefix};
+ghost use Rattle.std.specs.Slice.Scan.{IsFirstPlace};
+ghost use Rattle.typed_path.specs.scan.{differs_at};
 
-use crate::common::{Encoding, compare_prefixes, compare_texts, order_of_prefixed};
+use crate::common::{Encoding, compare_parted, compare_prefixes, compare_texts, order_of_prefixed};
 use crate::errors::CheckedPathError;
 use crate::scan::{
     Body, Cursor, Found, LEAST, Piece, Separators, WindowsPrefix, are_apart, base_end,
@@ -89,7 +91,8 @@ impl Encoding for WindowsEncoding {
                 None
             };
         }
-        let Some((end, separators)) = shared_written_prefix(path, base) else {
+        let shared = first_difference(path, base);
+        let Some((end, separators)) = shared_written_prefix(path, base, shared) else {
             if begin_apart(path, base) {
                 return Some(None);
             }
@@ -97,7 +100,7 @@ impl Encoding for WindowsEncoding {
         };
         let body = &path[end..];
         let wanted = &base[end..];
-        let shared = first_difference(body, wanted);
+        let shared = shared - end;
         if let Some(behind) = base_end(body, wanted, shared, separators) {
             return Some(Some(&body[behind..]));
         }
@@ -241,30 +244,18 @@ fn behind_rare<'a>(path: &'a [u8], base: &[u8]) -> Option<&'a [u8]>
 }
 
 /// How many bytes the prefix takes that two paths begin with, written alike, as their bytes tell, and the
-/// separators of both. None says nothing.
+/// separators of both. None says nothing. It is told how many bytes the two begin with.
 #[inline(always)]
-fn shared_written_prefix(path: &[u8], other: &[u8]) -> Option<(usize, Separators)>
-    ensures one { IfSome result (λ shared. HaveOnePrefix path.now other.now shared.0 shared.1) }
-    ensures alike { IfSome result (λ shared. take shared.0 path.now ≡ take shared.0 other.now) }
-    ensures within { IfSome result
-        (λ shared. (shared.0 ≤ length path.now) × (shared.0 ≤ length other.now)) }
+fn shared_written_prefix(path: &[u8], other: &[u8], shared: usize) -> Option<(usize, Separators)>
+    requires { IsFirstPlace (differs_at path.now other.now) 0
+        (min (length path.now) (length other.now)) shared }
+    ensures one { IfSome result (λ found. HaveOnePrefix path.now other.now found.0 found.1) }
+    ensures begun { IfSome result (λ found. found.0 ≤ shared) }
 {
     match shared_drive(path, other) {
-        Some(end) if begin_alike(path, other, end) => Some((end, Separators::Either)),
+        Some(end) if end <= shared => Some((end, Separators::Either)),
         Some(_) => None,
-        None => shared_marked_prefix(path, other),
-    }
-}
-
-/// Whether two paths with one drive, or none, that takes so many bytes write it alike. False says nothing.
-#[inline(always)]
-fn begin_alike(path: &[u8], other: &[u8], end: usize) -> bool
-    ensures { IsTrue result → take end path.now ≡ take end other.now }
-{
-    match (end, path, other) {
-        (0, _, _) => true,
-        (2, [a, b, ..], [c, d, ..]) => a == c && b == d,
-        _ => false,
+        None => shared_marked_prefix(path, other, shared),
     }
 }
 
@@ -285,37 +276,30 @@ fn shared_drive(path: &[u8], other: &[u8]) -> Option<usize>
 }
 
 /// How many bytes the prefix takes that two paths begin with, written alike and with a separator behind it,
-/// and the separators of both. None says nothing.
+/// and the separators of both. None says nothing. It is told how many bytes the two begin with.
 ///
-/// The prefix of the first alone is read, and of neither where the bytes behind the first two differ, as
-/// those of most prefixes do that differ.
+/// The prefix of the first alone is read, and of neither where they part in the first bytes, as most do of which
+/// the prefixes differ.
 #[inline(always)]
-fn shared_marked_prefix(path: &[u8], other: &[u8]) -> Option<(usize, Separators)>
-    ensures one { IfSome result (λ shared. HaveOnePrefix path.now other.now shared.0 shared.1) }
-    ensures alike { IfSome result (λ shared. take shared.0 path.now ≡ take shared.0 other.now) }
-    ensures within { IfSome result
-        (λ shared. (shared.0 ≤ length path.now) × (shared.0 ≤ length other.now)) }
+fn shared_marked_prefix(path: &[u8], other: &[u8], shared: usize) -> Option<(usize, Separators)>
+    requires { IsFirstPlace (differs_at path.now other.now) 0
+        (min (length path.now) (length other.now)) shared }
+    ensures one { IfSome result (λ found. HaveOnePrefix path.now other.now found.0 found.1) }
+    ensures begun { IfSome result (λ found. found.0 ≤ shared) }
 {
-    let found = marked_prefix(path, other)?;
-    if !begins_with_prefix(other, path, found) {
+    if shared < PARTED {
+        return None;
+    }
+    let found = find_prefix(path)?;
+    if !begins_with_prefix(other, path, shared, found) {
         return None;
     }
     Some((found.length, Separators::of_windows(path)))
 }
 
-/// Where the bytes end that are compared of two paths with marked prefixes before one of these is read.
+/// How many bytes two paths with marked prefixes begin with at least before one of these is read to take a base
+/// off.
 const PARTED: usize = 6;
-
-/// The prefix of a path, where the bytes behind the first two are those of another path. None says nothing.
-#[inline(always)]
-fn marked_prefix<'a>(path: &'a [u8], other: &[u8]) -> Option<Found<'a>>
-    ensures { IfSome result (λ found. prefix_of windows path.now ≡ Some (found_of found)) }
-{
-    if path.len() < PARTED || other.len() < PARTED || path[2..PARTED] != other[2..PARTED] {
-        return None;
-    }
-    find_prefix(path)
-}
 
 /// The order of two paths with different drives, or of which one at least begins with two separators. None says
 /// nothing.
@@ -343,10 +327,11 @@ fn order_behind_marked(path: &[u8], other: &[u8]) -> Option<Ordering>
         find_prefix(other)?;
         return Some(order_of_prefixed(whole(path)).reverse());
     };
-    if begins_with_prefix(other, path, found) {
+    let shared = first_difference(path, other);
+    if begins_with_prefix(other, path, shared, found) {
         let end = found.length;
         let separators = Separators::of_windows(path);
-        return Some(compare_texts(&path[end..], &other[end..], separators));
+        return Some(compare_parted(&path[end..], &other[end..], shared - end, separators));
     }
     match find_prefix(other) {
         Some(others) => order_by_both_prefixes(path, found, other, others),
@@ -397,22 +382,24 @@ fn order_of_drives(drive: Option<u8>, other: Option<u8>) -> Option<Ordering>
 }
 
 /// Whether a text begins with the prefix of a path and a separator behind it, which is its own prefix
-/// then. False says nothing.
+/// then. False says nothing. It is told how many bytes the path and the text begin with.
 #[inline(always)]
-fn begins_with_prefix(text: &[u8], path: &[u8], found: Found<'_>) -> bool
-    requires { prefix_of windows path.now ≡ Some (found_of found) }
+fn begins_with_prefix(text: &[u8], path: &[u8], shared: usize, found: Found<'_>) -> bool
+    requires place { IsFirstPlace (differs_at path.now text.now) 0
+        (min (length path.now) (length text.now)) shared }
+    requires found { prefix_of windows path.now ≡ Some (found_of found) }
     ensures prefix { IsTrue result → prefix_of windows text.now ≡ Some (found_of found.entry) }
     ensures separators { IsTrue result → separators windows text.now ≡ separators windows path.now }
-    ensures alike { IsTrue result
-        → take found.entry.length path.now ≡ take found.entry.length text.now }
-    ensures within { IsTrue result
-        → (found.entry.length ≤ length path.now) × (found.entry.length ≤ length text.now) }
+    ensures begun { IsTrue result → found.entry.length ≤ shared }
 {
     let end = found.length;
-    if !stays_before_parted(found.kind) || path.len() <= end || text.len() <= end {
+    if shared < end || path.len() <= end || text.len() <= end {
         return false;
     }
-    Separators::of_windows(path).contains(text[end]) && path[..end] == text[..end]
+    if !stays_before_parted(found.kind) {
+        return false;
+    }
+    Separators::of_windows(path).contains(text[end])
 }
 
 /// Whether a prefix stays what it is, whatever is put apart in the place of what stands behind it. False

@@ -323,6 +323,23 @@ tells-parted s t u k parting before b is tells =
 alike-shared : (t u : List ℕ) (k : ℕ) → IsFirstPlace (differs_at t u) 0 (min (length t) (length u)) k → take k t ≡ take k u
 alike-shared t u k place = alike-front k t u (omega (arith, place.high)) (omega (arith, place.high)) (λ i l. same-byte (get_or t i 0) (get_or u i 0) (place.before i (omega arith) l))
 
+-- and so with those before any place up to there
+pub alike-before : (t u : List ℕ) (k n : ℕ) → IsFirstPlace (differs_at t u) 0 (min (length t) (length u)) k → n ≤ k → take n t ≡ take n u
+alike-before t u k n place low = alike-front n t u (omega (arith, place.high)) (omega (arith, place.high)) (λ i l. same-byte (get_or t i 0) (get_or u i 0) (place.before i (omega arith) (omega arith)))
+
+-- behind such a place they differ first at the same byte
+pub parted-behind : (t u : List ℕ) (k n : ℕ) → IsFirstPlace (differs_at t u) 0 (min (length t) (length u)) k → n ≤ k
+    → IsFirstPlace (differs_at (drop n t) (drop n u)) 0 (min (length (drop n t)) (length (drop n u))) (k - n)
+parted-behind t u k n place low = record {
+  low = omega arith;
+  high = omega (arith, place.high, length-drop n t, length-drop n u);
+  before = λ i h l. moved i ∙ place.before (n + i) (omega arith) (omega arith);
+  hit = λ l. moved (k - n) ∙ ap (differs_at t u) (omega arith) ∙ place.hit (omega (arith, l, length-drop n t, length-drop n u));
+}
+  where
+    moved : (i : ℕ) → differs_at (drop n t) (drop n u) i ≡ differs_at t u (n + i)
+    moved i = ap₂ (λ a b. not (a == b)) (get_or-drop n t i 0) (get_or-drop n u i 0)
+
 -- and where that is the end of one of them, the other begins with it
 pub shared-begins : (t u : List ℕ) (k : ℕ) → IsFirstPlace (differs_at t u) 0 (min (length t) (length u)) k → k ≡ length u → (take (length u) t ≡ u) × (length u ≤ length t)
 shared-begins t u k place whole = (

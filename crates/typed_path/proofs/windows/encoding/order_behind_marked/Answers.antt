@@ -1,6 +1,8 @@
-use Rattle.std.proofs.Common.{sym, ap, ◌∙◌}
+use Rattle.std.proofs.Common.{sym, ap, ◌∙◌, ◌-◌, min, length, take, drop, subst}
+use Rattle.std.specs.Slice.Scan.{IsFirstPlace}
 use Rattle.std.proofs.lemmas.List.{take_rest}
 use Rattle.typed_path.specs.components.{windows, body, comps}
+use Rattle.typed_path.specs.scan.{differs_at}
 use Rattle.typed_path.specs.changes.{raw_length, HaveOnePrefix}
 use Rattle.typed_path.specs.order.{left_cmp}
 use Rattle.typed_path.specs.views.BodyViews.{body_items}
@@ -8,7 +10,7 @@ use Rattle.typed_path.specs.views.PieceViews.{found_of}
 use Rattle.typed_path.proofs.lemmas.components.Prefixes.{prefix-fits}
 use Rattle.typed_path.proofs.lemmas.order.Comparisons.{prefixed-bare, bare-prefixed}
 use Rattle.typed_path.proofs.lemmas.order.DifferentPrefixes.{first-found, bare-found, behind-bare}
-use Rattle.typed_path.proofs.lemmas.order.SharedNames.{one-order}
+use Rattle.typed_path.proofs.lemmas.order.SharedNames.{one-order, parted-behind}
 use Rattle.typed_path.proofs.windows.encoding.order_behind_marked.Goals as goal
 
 -- the other alone has a prefix
@@ -22,6 +24,16 @@ returns-in_default c =
     ∙ bare-prefixed (comps windows u) (comps windows t) (body_items c.whole.result) (found_of c.in_ok-find_prefix.field-0).prefix c.order_of_prefixed.result
     (first-found u (found_of c.in_ok-find_prefix.field-0) (sym others)) (bare-found t none) (behind-bare t (body_items c.whole.result) none (c.whole.ensures none)) c.order_of_prefixed.ensures)
 
+-- what stands behind the prefix differs first at the same byte
+pub compare_parted-requires : goal.compare_parted-requires
+compare_parted-requires c =
+    let t = c.args.path.now in
+    let u = c.args.other.now in
+    let n = c.in-Some.found.length in
+    let k = c.first_difference-shared.result in
+    subst (λ v. IsFirstPlace (differs_at v (take (length u - n) (drop n u))) 0 (min (length v) (length (take (length u - n) (drop n u)))) (k - n)) (sym (take_rest t n))
+    (subst (λ w. IsFirstPlace (differs_at (drop n t) w) 0 (min (length (drop n t)) (length w)) (k - n)) (sym (take_rest u n)) (parted-behind t u k n c.first_difference-shared.ensures (c.begins_with_prefix.ensures.begun c.if-begins_with_prefix.true)))
+
 pub returns-then-begins_with_prefix : goal.returns-then-begins_with_prefix
 returns-then-begins_with_prefix c =
     let t = c.args.path.now in
@@ -33,8 +45,8 @@ returns-then-begins_with_prefix c =
     let read = c.of_windows-separators.ensures in
     let found = c.in-Some.ensures in
     let one : HaveOnePrefix t u n s = (sym read, told.separators begins ∙ sym read, told.prefix begins ∙ found, ap raw_length found) in
-    one-order t u n s one c.compare_texts.result
-    (sym (λ i. left_cmp (body s 0 (take_rest t n i)) (body s 0 (take_rest u n i))) ∙ sym c.compare_texts.ensures)
+    one-order t u n s one c.compare_parted.result
+    (sym (λ i. left_cmp (body s 0 (take_rest t n i)) (body s 0 (take_rest u n i))) ∙ sym c.compare_parted.ensures)
 
 pub order_by_both_prefixes-requires-clause-within : goal.order_by_both_prefixes-requires-clause-within
 order_by_both_prefixes-requires-clause-within c = (

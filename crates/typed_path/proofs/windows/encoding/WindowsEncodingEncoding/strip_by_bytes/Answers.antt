@@ -6,7 +6,7 @@ use Rattle.typed_path.specs.components.{body, parts, texts, later_body, windows,
 use Rattle.typed_path.specs.scan.{is_clean}
 use Rattle.std.specs.List.{starts_with}
 use Rattle.std.specs.Str.{bytes_eq}
-use Rattle.typed_path.proofs.lemmas.order.SharedNames.{one-apart}
+use Rattle.typed_path.proofs.lemmas.order.SharedNames.{alike-before, one-apart}
 use Rattle.typed_path.proofs.lemmas.queries.Bases.{stripped-behind_prefix, stripped-not}
 use Rattle.typed_path.proofs.windows.encoding.WindowsEncodingEncoding.strip_by_bytes.Goals as goal
 
@@ -26,7 +26,7 @@ returns-in-Some-base_end c =
     let behind : take (length t - n) (drop n t) ≡ drop (raw_length o) t = take_rest t n ∙ ap (λ k. drop k t) one.3 in
     let wanted : take (length b - n) (drop n b) ≡ drop (raw_length p) b = take_rest b n ∙ ap (λ k. drop k b) same in
     let raw : take (raw_length o) t ≡ take (raw_length p) b =
-    sym (ap (λ k. take k t) one.3) ∙ c.in-Some.ensures.alike ∙ ap (λ k. take k b) same in
+    sym (ap (λ k. take k t) one.3) ∙ alike-before t b c.first_difference-shared.result n c.first_difference-shared.ensures c.in-Some.ensures.begun ∙ ap (λ k. take k b) same in
     let read : r ≡ s = sym one.0 in
     let some : 0 < length (drop (raw_length p) b) = subst (λ w. 0 < length w) wanted told.some in
     let items : (at : ℕ) → body s at (drop (raw_length o) t) ≡ body s at (drop (raw_length p) b) ++ later_body s (at + end) (drop end (drop (raw_length o) t)) = λ at. sym (λ i. body (read i) at (behind i)) ∙ told.items at ∙ (λ i. body (read i) at (wanted i) ++ later_body (read i) (at + end) (drop end (behind i))) in
