@@ -4,7 +4,7 @@
 //! Prefixes come first, so that the loops over the other components hold none. The loops stand in
 //! functions that are generic over the encoding, which build each step in for its separators.
 
-ghost use Rattle.std.specs.Prelude.{◌≡◌, ◌&&◌, List, ◌∷◌, None, option_map, fold, refl, length, min};
+ghost use Rattle.std.specs.Prelude.{◌≡◌, ◌&&◌, List, ◌∷◌, None, option_map, fold, refl, length, min, IfSome};
 ghost use Rattle.std.specs.Slice.Scan.{IsFirstPlace};
 ghost use Rattle.typed_path.specs.scan.{differs_at};
 ghost use Rattle.std.specs.List.{flat_map};
@@ -98,7 +98,33 @@ fn compare_from(text: &[u8], other: &[u8], shared: usize, separators: Separators
         return order;
     }
     let (rest, wanted) = bodies_behind(text, other, shared, separators);
-    compare_each(rest, wanted)
+    match order_of_insides(&rest, &wanted) {
+        Some(order) => order,
+        None => compare_each(rest, wanted),
+    }
+}
+
+/// The order of what two readings with the same separators have left behind components that were passed over,
+/// where its bytes tell. None says nothing.
+#[inline(always)]
+fn order_of_insides(rest: &Body<'_>, wanted: &Body<'_>) -> Option<Ordering>
+    ensures { IfSome result (λ order. left_cmp (body_items rest.now) (body_items wanted.now)
+        ≡ order) }
+{
+    let separators = rest.separators;
+    if rest.is_whole() || !separators.is_same(wanted.separators) {
+        return None;
+    }
+    let text = rest.as_bytes();
+    let other = wanted.as_bytes();
+    if let Some(order) = order_of_fronts(text, other, separators) {
+        return Some(order);
+    }
+    let shared = first_difference(text, other);
+    if let Some(order) = order_behind(text, other, shared, separators) {
+        return Some(order);
+    }
+    order_of_beginning(text, other, shared, separators)
 }
 
 /// Whether two texts have the same components: the prefix first, then the last component, in which

@@ -120,6 +120,21 @@ same-byte a b h = by (a == b) refl h
     by true e h = eqb-true a b e
     by false e h = cc
 
+-- what is left of a reading has the components of its slice, read from its beginning
+clean-kinds : (begin : Begin) (s : Separators) (at : ℕ) (v : List ℕ) → is_clean begin s v ≡ true → kinds (parts (body_from begin s at v)) ≡ kinds (parts (body s 0 v))
+clean-kinds Body s at [] clean = refl
+clean-kinds Inside s at [] clean = refl
+clean-kinds begin s at (b ∷ bs) clean =
+    ap (λ cs. kinds (parts cs)) (body_from-first begin s at b bs clean ∙ sym (body_from-first Body s at b bs refl))
+    ∙ ap kinds (parts-body s at (b ∷ bs) ∙ sym (parts-body s 0 (b ∷ bs)))
+
+left-kinds : (b : Reading) (s : Separators) (text : List ℕ) → s ≡ b.separators → text ≡ body_slice b → kinds (parts (body_items b)) ≡ kinds (parts (body s 0 text))
+left-kinds b s text same slice = clean-kinds b.begin b.separators b.from (body_slice b) b.starts_clean ∙ sym (λ i. kinds (parts (body (same i) 0 (slice i))))
+
+-- and two with the same separators compare as their slices do
+pub left-order : (b d : Reading) (t u : List ℕ) → t ≡ body_slice b → u ≡ body_slice d → b.separators ≡ d.separators → left_cmp (body_items b) (body_items d) ≡ left_cmp (body b.separators 0 t) (body b.separators 0 u)
+left-order b d t u own other same = ap₂ kinds_cmp (left-kinds b b.separators t refl own) (left-kinds d b.separators u same other)
+
 -- a whole body has the components of its slice, wherever that stands
 pub whole-body : (b : Reading) (s : Separators) (text : List ℕ) → s ≡ b.separators → text ≡ body_slice b → b.begin ≡ Begin.Body → kinds (parts (body s 0 text)) ≡ kinds (parts (body_items b))
 whole-body b s text same slice begins =
