@@ -80,8 +80,9 @@ pub(crate) fn compare_parted(
     }
 }
 
-/// The same of two texts that do not part within names, by their first bytes, or where one begins with the
-/// other; all others are read. It is told how many bytes the two begin with.
+/// The same of two texts that do not part within names, by their first bytes, where one begins with the other, or by
+/// the bytes that stand behind what both begin with; all others are read. It is told how many bytes the two begin
+/// with.
 ///
 /// It stands apart so that the order of most texts is told in place.
 fn compare_from(text: &[u8], other: &[u8], shared: usize, separators: Separators) -> Ordering

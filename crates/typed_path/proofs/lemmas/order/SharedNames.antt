@@ -334,11 +334,7 @@ tells-parted s t u k parting before b is tells =
     let named = last-named s t u k n parted before b is tells in
     (n, parted, named.0, named.1)
 
--- two texts begin with the bytes before the first place at which they differ
-alike-shared : (t u : List ℕ) (k : ℕ) → IsFirstPlace (differs_at t u) 0 (min (length t) (length u)) k → take k t ≡ take k u
-alike-shared t u k place = alike-front k t u (omega (arith, place.high)) (omega (arith, place.high)) (λ i l. same-byte (get_or t i 0) (get_or u i 0) (place.before i (omega arith) l))
-
--- and so with those before any place up to there
+-- two texts begin with the bytes before any place up to the first at which they differ
 pub alike-before : (t u : List ℕ) (k n : ℕ) → IsFirstPlace (differs_at t u) 0 (min (length t) (length u)) k → n ≤ k → take n t ≡ take n u
 alike-before t u k n place low = alike-front n t u (omega (arith, place.high)) (omega (arith, place.high)) (λ i l. same-byte (get_or t i 0) (get_or u i 0) (place.before i (omega arith) (omega arith)))
 
@@ -358,7 +354,7 @@ parted-behind t u k n place low = record {
 -- and where that is the end of one of them, the other begins with it
 pub shared-begins : (t u : List ℕ) (k : ℕ) → IsFirstPlace (differs_at t u) 0 (min (length t) (length u)) k → k ≡ length u → (take (length u) t ≡ u) × (length u ≤ length t)
 shared-begins t u k place whole = (
-  sym (ap (λ n. take n t) whole) ∙ alike-shared t u k place ∙ take_all k u (omega (arith, whole)),
+  sym (ap (λ n. take n t) whole) ∙ alike-before t u k k place (omega arith) ∙ take_all k u (omega (arith, whole)),
   omega (arith, place.high, whole),
 )
 

@@ -1,4 +1,4 @@
-use Rattle.std.proofs.Common.{◌≡◌, ◌<◌, length, true, refl, sym, ap, ◌∙◌, arith, get_or}
+use Rattle.std.proofs.Common.{◌≡◌, true, refl, sym, ap, ◌∙◌, arith, get_or}
 use Rattle.typed_path.specs.components.{is_separator, separators, windows, prefix_of}
 use Rattle.std.specs.Prelude.{Some}
 use Rattle.typed_path.specs.views.PieceViews.{found_of}
