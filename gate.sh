@@ -1,7 +1,7 @@
 #!/usr/bin/env bash
 # The gate: `rt ci` proves every crate and its tests from nothing, tries each must-fail edit, and runs the
 # tests and the programs; then the programs that it built are refused memory, and their transfers fail.
-# What shows in a second is looked at first, and progress.py says how far the rest is.
+# What shows in some seconds is looked at first, and progress.py says how far the rest is.
 set -uo pipefail
 cd "$(dirname "$0")" || exit 2
 
@@ -18,17 +18,27 @@ trap 'kill -- $(jobs -p | sed "s/^/-/") 2> /dev/null; rm -rf "$room"' EXIT
 ./progress.py "$room" &
 progress=$!
 
+# Lays out a copy of the files, and names those that do not stay as they are.
+look_at_layout() {
+    local copy=$room/copy trees tree crate said
+    shopt -s nullglob
+    trees=(crates/*/{src,specs,proofs})
+    mkdir "$copy"
+    cp -r --parents "${trees[@]}" "$copy"
+    for crate in "$copy"/crates/*; do
+        said=$(cd "$crate" && rt fmt 2>&1) || echo "${said//"$copy/"/}"
+    done
+    for tree in "${trees[@]}"; do
+        diff -rq "$tree" "$copy/$tree"
+    done | sed -nE 's/^Files (.*) and .* differ$/\1 is not laid out: run rt fmt in the folder of its crate/p'
+}
+
 # Says what is wrong, of that which would fail the gate in the end and shows at once.
 look() {
-    local rattle files said
     command -v cc > /dev/null || echo "there is no cc, which refusals/run.sh needs: install a C compiler"
-    command -v rt > /dev/null || echo "there is no rt"
-    rattle=$(dirname "$(rt doc)")/bin/rattle
-    shopt -s globstar nullglob
-    files=(crates/*/{src,specs,proofs}/**/*.{rt,antt})
-    said=$("$rattle" fmt --check "${files[@]}" 2>&1)
-    [[ $? -eq 1 ]] && echo "$said" && echo "run rt fmt in the folder of that crate"
-    crates/typed_path/mutants/try.py --list crates/typed_path/must-fail | grep ': NOT APPLIED, '
+    command -v rt > /dev/null || { echo "there is no rt" && return; }
+    look_at_layout
+    crates/typed_path/mutants/try.py --list crates/typed_path/must-fail | sed -n '/: NOT APPLIED, /p'
 }
 
 # Runs one part, shows what it says but for its last line, and adds up what that counts.
@@ -45,13 +55,13 @@ part() {
     fi
 }
 
-wrong=$(look 2> /dev/null)
-if [[ -n $wrong ]]; then
-    echo "$wrong"
-    failed=1
-else
+look > "$room/wrong" 2>&1 &
+if wait $! && [[ ! -s $room/wrong ]]; then
     part rt ci
     part refusals/run.sh
+else
+    cat "$room/wrong"
+    failed=1
 fi
 kill "$progress" 2> /dev/null
 wait "$progress" 2> /dev/null
