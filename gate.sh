@@ -15,7 +15,7 @@ room=$(mktemp -d)
 # Each part is a group of processes, which ends where the gate does.
 set -m
 trap 'kill -- $(jobs -p | sed "s/^/-/") 2> /dev/null; rm -rf "$room"' EXIT
-./progress.py "$room" &
+./progress.py "$room/rt" &
 progress=$!
 
 # Lays out a copy of the files, and names those that do not stay as they are.
@@ -44,6 +44,7 @@ look() {
 # Runs one part, shows what it says but for its last line, and adds up what that counts.
 part() {
     local log=$room/${1##*/}
+    echo "gate.sh: $*"
     "$@" 2>&1 | tee "$log" | sed -u -E '/^[0-9]+ passed, [0-9]+ failed$/d' &
     wait $!
     if [[ $(tail -n 1 "$log") =~ ^([0-9]+)\ passed,\ ([0-9]+)\ failed$ ]]; then
