@@ -19,7 +19,8 @@ pub use lanes::{
     leading_names,
 };
 pub use prefix::{
-    Found, WindowsPrefix, after_mark, byte_behind_two, drive, find_prefix, parted_drive,
+    Found, WindowsPrefix, after_mark, begins_with_two, byte_behind_two, drive, find_prefix,
+    parted_drive,
 };
 pub use separators::{
     LEAST, Separators, begins_with_device, has_reserved, has_stray_parent_or_device,

@@ -1,9 +1,12 @@
-//! Pushes and conversions onto bases of Windows that are read verbatim: rows of known answers.
+//! Pushes and conversions onto bases of Windows that are read verbatim, or get a verbatim prefix by the push: rows
+//! of known answers.
 
 use crate::conversions::converts_as;
 use std::alloc::{AllocError, Global};
 use std::test::Fail;
-use typed_path::{CheckedPathError, UnixEncoding, WindowsEncoding, WindowsPath, WindowsPathBuf};
+use typed_path::{
+    CheckedPathError, Encoding, UnixEncoding, WindowsEncoding, WindowsPath, WindowsPathBuf,
+};
 
 /// Whether two paths make what a row says of a base, pushed one by one and in one call. A row is the
 /// base, a path, the base with it, the other path, and the base with both, parted by blanks.
@@ -98,6 +101,47 @@ fn pushes_onto_verbatim_bases(rt: HostRuntime) -> Result<(), Fail> {
     ];
     for &row in ROWS {
         assert!(rt; pushes_as(rt.alloc(), row)?, "the row {row:?}");
+    }
+    Ok(())
+}
+
+// No clause says of which paths something is known.
+#[test]
+fn known_of_pushed_paths(rt: HostRuntime) -> Result<(), Fail> {
+    // A base, a path, the base with it, and what is known of that.
+    const ROWS: &[(&[u8], &[u8], &[u8], Option<usize>)] = &[
+        (br"\\?\", b"x", br"\\?\x", Some(5)),
+        (br"\\?", b"x", br"\\?\x", Some(5)),
+        (b"//?/", b"x", br"//?/\x", Some(4)),
+        (b"//?", b"x", br"//?\x", Some(5)),
+        (br"\\", br"?\x", br"\\?\x", Some(5)),
+        (b"//", b"?/x", br"//\?/x", None),
+        (br"/\", b"?/x", br"/\?/x", Some(5)),
+        (b"/", br"?\x", br"/\?\x", Some(5)),
+        (br"\", br"?\x", br"\?\x", None),
+        (br"\\?\", br"x\y", br"\\?\x\y", Some(5)),
+        (br"\\?\", b"x/y", br"\\?\x/y", Some(7)),
+        (b"//?/", b"x/y", br"//?/\x/y", None),
+        (br"\\?\", b"x/./", br"\\?\x/./", Some(8)),
+        (br"\\?\", br"x\.", br"\\?\x\.", Some(5)),
+        (br"\\?\", br"x\\y", br"\\?\x\\y", None),
+        (br"\\?\", b"UNC", br"\\?\UNC", Some(7)),
+        (br"\\?\", br"UNC\s", br"\\?\UNC\s", Some(9)),
+        (br"\\?\x", b"y", br"\\?\x\y", Some(5)),
+        (br"\\.\", b"x", br"\\.\x", None),
+        (br"\\", b"x", br"\\x", None),
+        (br"\\s", b"x", br"\\s\x", None),
+        (b"C:", br"?\x", br"C:?\x", None),
+        (b"", br"?\x", br"?\x", None),
+        (b"a", b"x", br"a\x", None),
+    ];
+    let mut text = Vec::new(rt.alloc());
+    for &(base, path, pushed, known) in ROWS {
+        text.clear();
+        text.extend_from_slice(base)?;
+        let next = WindowsEncoding::push_next(&mut text, 0, path, None)?;
+        assert_eq!(rt; text.as_slice(), pushed, "{path:?} on {base:?}");
+        assert_eq!(rt; next, known, "{path:?} on {base:?}");
     }
     Ok(())
 }

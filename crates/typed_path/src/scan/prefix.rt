@@ -232,7 +232,7 @@ fn disk(text: &[u8]) -> Option<Found<'_>>
 
 /// Whether a text begins with two separators, as each prefix but a drive alone does.
 #[inline(always)]
-fn begins_with_two(text: &[u8]) -> bool
+pub fn begins_with_two(text: &[u8]) -> bool
     ensures { result ≡ is_some (after_two text.now) }
 {
     matches!(text, [a, b, ..] if separates(*a) && separates(*b))

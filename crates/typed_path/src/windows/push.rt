@@ -15,8 +15,8 @@ ghost use Rattle.typed_path.specs.views.PieceViews.{part_of};
 
 use crate::common::{put_over, turn_behind};
 use crate::scan::{
-    Cursor, Piece, PieceKind, Separators, after_mark, cut_at_separator, drive, find_prefix,
-    has_only_names, is_dots,
+    Cursor, Piece, PieceKind, Separators, after_mark, begins_with_two, cut_at_separator, drive,
+    find_prefix, has_only_names, is_dots,
 };
 use std::alloc::{AllocError, Global};
 
@@ -107,8 +107,9 @@ pub fn has_verbatim_kind(path: &[u8]) -> bool
 ///
 /// So paths are pushed one by one, and a verbatim one is not read anew for each.
 ///
-/// Most paths that are pushed so are names, and most bases have no verbatim kind, as the first bytes
-/// of the two tell: such a path is put behind at once, and neither is read.
+/// Most paths that are pushed so are names, and most bases, of which nothing is known then, neither have a
+/// verbatim kind nor get one, as the first bytes of the two tell: such a path is put behind at once, and neither
+/// is read.
 #[inline]
 pub fn push_next(
     text: &mut Vec<u8>,
@@ -128,7 +129,7 @@ pub fn push_next(
         → FitsPush windows room (drop start text.old.items) other.now
         → IsOk result }
 {
-    if is_plain(other) && !has_verbatim_kind(&text[start..]) {
+    if known.is_none() && is_plain(other) && stays_unmarked(&text[start..]) {
         put_behind(text, start, other)?;
         return Ok(None);
     }
@@ -144,6 +145,19 @@ fn is_plain(path: &[u8]) -> bool
     match path {
         [first, ..] => !Separators::Either.contains(*first) && drive(path).is_none(),
         [] => false,
+    }
+}
+
+/// Whether the first bytes of a path tell that it has no verbatim kind, nor gets one from a plain path that is
+/// put behind it, as `/` and two separators do from `?\x`. False says nothing.
+#[inline(always)]
+fn stays_unmarked(path: &[u8]) -> bool
+    ensures { IsTrue result → has_any_verbatim_prefix (kinds (parts_of windows path.now)) ≡ false }
+{
+    match path {
+        [_, _, third, ..] if *third != b'?' => true,
+        b"/" => false,
+        _ => !begins_with_two(path),
     }
 }
 

@@ -1,5 +1,5 @@
 -- What a push of Windows asks of its base, and what stands behind a prefix that is written anew.
-use Rattle.std.proofs.Common.{ne_eqb, ◌≡◌, ℕ, ◌+◌, ◌-◌, ◌<◌, ◌≤◌, ◌==◌, ◌||◌, Bool, true, false, if◌then◌else◌, List, [], ◌∷◌, ◌++◌, length, take, drop, slice_index, Option, Some, None, refl, sym, ap, subst, ◌∙◌, append-nil, arith, suc, not, append_assoc, length-append, option_and_then, ◌&&◌, slice_range, eq-eqb, eqb-true, length-drop, length-take-le, take-take}
+use Rattle.std.proofs.Common.{ne_eqb, ◌≡◌, ℕ, ◌+◌, ◌-◌, ◌<◌, ◌≤◌, ◌==◌, ◌||◌, Bool, true, false, if◌then◌else◌, List, [], ◌∷◌, ◌++◌, length, take, drop, slice_index, Option, Some, None, is_some, refl, sym, ap, subst, ◌∙◌, append-nil, arith, suc, not, append_assoc, length-append, option_and_then, ◌&&◌, slice_range, eq-eqb, eqb-true, length-drop, length-take-le, take-take}
 use Rattle.std.specs.Option.{option_or}
 use Rattle.std.proofs.lemmas.Bool.{false_from_ne_true, both_ways}
 use Rattle.std.proofs.Math.Seq.{take-add, take-append_seam, drop-append-add}
@@ -140,6 +140,33 @@ verbatim-marked t = by (prefix_of windows t) refl ∙ verbatim_found-marked t
     by : (o : Option Found) → prefix_of windows t ≡ o → has_any_verbatim_prefix (kinds (parts_of windows t)) ≡ is_verbatim_found (prefix_of windows t)
     by None e = ap (λ ps. has_any_verbatim_prefix (kinds ps)) (parts_of-none t e) ∙ read-no_verbatim Either (body_parts Either t) (body_parts-read Either t) ∙ sym (ap is_verbatim_found e)
     by (Some f) e = ap (λ ps. has_any_verbatim_prefix (kinds ps)) (parts_of-some t f e) ∙ sym (ap is_verbatim_found e)
+
+-- and a text that does not begin with two separators has none of these kinds
+pub unmarked-two : (t : List ℕ) → is_some (after_two t) ≡ false → has_any_verbatim_prefix (kinds (parts_of windows t)) ≡ false
+unmarked-two t none = verbatim-marked t ∙ by t none
+  where
+    test : (x y z w : Bool) (behind rest : List ℕ) → is_some (if (x && y) then Some behind else None) ≡ false → is_marked (if (x && y && z && w) then Some rest else None) ≡ false
+    test true true z w behind rest e = cc
+    test true false z w behind rest e = refl
+    test false y z w behind rest e = refl
+
+    by : (t : List ℕ) → is_some (after_two t) ≡ false → is_marked (after_mark question t) ≡ false
+    by (a ∷ b ∷ c ∷ d ∷ rest) e = test (is_separator Either a) (is_separator Either b) (c == question) (is_separator Either d) (c ∷ d ∷ rest) rest e
+    by t e = refl
+
+-- nor has one of which the third byte is no `?`
+pub unmarked-third : (t : List ℕ) → 3 ≤ length t → (slice_index t 2 == question) ≡ false → has_any_verbatim_prefix (kinds (parts_of windows t)) ≡ false
+unmarked-third t long other = verbatim-marked t ∙ by t long other
+  where
+    test : (x y z w : Bool) (rest : List ℕ) → z ≡ false → is_marked (if (x && y && z && w) then Some rest else None) ≡ false
+    test true true false w rest e = refl
+    test true true true w rest e = cc
+    test true false z w rest e = refl
+    test false y z w rest e = refl
+
+    by : (t : List ℕ) → 3 ≤ length t → (slice_index t 2 == question) ≡ false → is_marked (after_mark question t) ≡ false
+    by (a ∷ b ∷ c ∷ d ∷ rest) long e = test (is_separator Either a) (is_separator Either b) (c == question) (is_separator Either d) rest e
+    by t long e = refl
 
 -- a drive alone is two bytes
 drive_read : (t : List ℕ) (f : Found) → Read (separators windows t) t f → is_disk_alone (prefix f.prefix ∷ kinds (body_parts (separators windows t) (drop f.length t))) ≡ true → length t ≡ 2
