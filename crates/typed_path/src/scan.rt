@@ -11,7 +11,7 @@ mod step;
 pub use blanks::{before_last_separator, has_no_blank_behind};
 pub use cursor::{Begin, Body, Cursor, Span};
 pub use cut::{
-    are_apart, base_end, bodies_behind, bodies_behind_shared, cut_at, cut_at_separator,
+    are_apart, base_end, bodies_behind, bodies_behind_shared, cut_at, cut_at_separator, end_behind,
     have_other_fronts, order_behind, order_of_beginning, order_of_fronts, text_behind,
 };
 pub use lanes::{

@@ -139,23 +139,20 @@ pub trait Encoding: Sized {
         ensures { result ≡ has_root dialect (kinds (parts (items_left cursor.now))) };
 
     /// For encodings alone. What is left of a path behind a base, where the bytes of the two tell,
-    /// with no reading of either. None says nothing. It is read off `strip_by_bytes`, which the calls of paths
-    /// ask.
+    /// with no reading of either. None says nothing.
     fn behind<'a>(path: &'a [u8], base: &[u8]) -> Option<&'a [u8]>
         ensures { IfSome result (λ rest. stripped dialect path.now base.now ≡ Some rest.now) }
     {
-        if path.len() < base.len() {
-            return None;
-        }
-        Self::strip_by_bytes(path, base)?
+        None
     }
 
     /// For encodings alone. What is left of a path behind a base, or none where it does not begin with
     /// the base's components, where the bytes of the two tell, with no reading of either. None says nothing.
+    /// An encoding that does not write it is asked for the first alone, by `behind`.
     fn strip_by_bytes<'a>(path: &'a [u8], base: &[u8]) -> Option<Option<&'a [u8]>>
         ensures { IfSome result (λ told. stripped dialect path.now base.now ≡ option_copied told) }
     {
-        None
+        Self::behind(path, base).map(Some)
     }
 
     /// For encodings alone. The order of two paths by their prefixes, where these differ or one path alone has

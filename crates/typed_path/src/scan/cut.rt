@@ -110,7 +110,7 @@ pub fn base_end(text: &[u8], base: &[u8], shared: usize, separators: Separators)
 
 /// The same of a text that begins with the bytes of the base.
 #[inline(always)]
-fn end_behind(text: &[u8], base: &[u8], separators: Separators) -> Option<usize>
+pub fn end_behind(text: &[u8], base: &[u8], separators: Separators) -> Option<usize>
     requires begins { take (length base.now) text.now ≡ base.now }
     requires long { length base.now ≤ length text.now }
     ensures within { IfSome result (λ n. n ≤ length text.now) }

@@ -13,8 +13,9 @@ use crate::common::{
 };
 use crate::errors::CheckedPathError;
 use crate::scan::{
-    Cursor, Piece, Separators, StepKind, are_apart, base_end, cut_at_separator, first_difference,
-    has_no_nul_or_dot_pair, has_valid_names, have_other_fronts, leading_names, step_of,
+    Cursor, Piece, Separators, StepKind, are_apart, base_end, cut_at_separator, end_behind,
+    first_difference, has_no_nul_or_dot_pair, has_valid_names, have_other_fronts, leading_names,
+    step_of,
 };
 use std::alloc::AllocError;
 use std::cmp::Ordering;
@@ -69,6 +70,15 @@ impl Encoding for UnixEncoding {
 
     fn rooted(cursor: &Cursor<'_>) -> bool {
         cursor.begins_with_root()
+    }
+
+    #[inline]
+    fn behind<'a>(path: &'a [u8], base: &[u8]) -> Option<&'a [u8]> {
+        if !path.starts_with(base) {
+            return None;
+        }
+        let end = end_behind(path, base, Separators::Slash)?;
+        Some(&path[end..])
     }
 
     #[inline]

@@ -17,7 +17,7 @@ use crate::common::{Encoding, compare_parted, compare_prefixes, compare_texts, o
 use crate::errors::CheckedPathError;
 use crate::scan::{
     Body, Cursor, Found, LEAST, Piece, Separators, WindowsPrefix, are_apart, base_end,
-    byte_behind_two, find_prefix, first_difference, has_no_nul_or_dot_pair,
+    byte_behind_two, end_behind, find_prefix, first_difference, has_no_nul_or_dot_pair,
     has_stray_parent_or_device, has_valid_names, parted_drive,
 };
 use crate::windows::normal::put_normal;
@@ -77,6 +77,11 @@ impl Encoding for WindowsEncoding {
         rooted(cursor)
     }
 
+    #[inline]
+    fn behind<'a>(path: &'a [u8], base: &[u8]) -> Option<&'a [u8]> {
+        behind(path, base)
+    }
+
     // Where the first bytes tell that the two begin otherwise, no prefix is read. Where these are one, a prefix that
     // both have is looked for first.
     #[inline]
@@ -96,7 +101,7 @@ impl Encoding for WindowsEncoding {
             if begin_apart(path, base) {
                 return Some(None);
             }
-            return behind_rare(path, base).map(Some);
+            return behind(path, base).map(Some);
         };
         let body = &path[end..];
         let wanted = &base[end..];
@@ -216,12 +221,13 @@ fn are_separators(first: u8, second: u8) -> bool
     Separators::Either.contains(first) && Separators::Either.contains(second)
 }
 
-/// What is left of a path behind a base of which `shared_written_prefix` says nothing. None says nothing.
+/// What is left of a path behind a base, where the path begins with the bytes of the base, and both have one
+/// prefix. None says nothing.
 ///
-/// Such are bases of a few bytes, those behind the verbatim prefix named `UNC`, and those behind a verbatim
-/// drive without a root. No prefix is read where the path does not begin with the bytes of the base, and that
-/// of the path alone where the base ends with it.
-fn behind_rare<'a>(path: &'a [u8], base: &[u8]) -> Option<&'a [u8]>
+/// No prefix is read where the path does not begin with these bytes, and that of the path alone where the base
+/// ends with it. Bases of which `shared_written_prefix` says nothing are few: those of a few bytes, those
+/// behind the verbatim prefix named `UNC`, and those behind a verbatim drive without a root.
+fn behind<'a>(path: &'a [u8], base: &[u8]) -> Option<&'a [u8]>
     ensures { IfSome result (λ rest. stripped windows path.now base.now ≡ Some rest.now) }
 {
     if !path.starts_with(base) {
@@ -233,13 +239,12 @@ fn behind_rare<'a>(path: &'a [u8], base: &[u8]) -> Option<&'a [u8]>
     }
     let (base_prefix, base_body) = base.split_at(prefix_len(base));
     let separators = Separators::of_windows(path);
-    if prefix != base_prefix
+    if prefix.len() != base_prefix.len()
         || separators.is_verbatim() != Separators::of_windows(base).is_verbatim()
     {
         return None;
     }
-    let shared = first_difference(body, base_body);
-    let end = base_end(body, base_body, shared, separators)?;
+    let end = end_behind(body, base_body, separators)?;
     Some(&body[end..])
 }
 

@@ -2,7 +2,8 @@
 use Rattle.std.proofs.Common.{◌≡◌, ℕ, zero, suc, ◌+◌, ◌<◌, ◌≤◌, List, [], ◌∷◌, Bool, true, false, ◌&&◌, cond, length, drop, replicate, refl, sym, ap, ◌∙◌, arith, ◌-◌, ◌++◌, take, append_assoc, length-take, Some, None, Option, drop-drop, length-drop, length-append}
 use Rattle.std.specs.List.{starts_with, ends_with}
 use Rattle.std.specs.Str.{bytes_eq}
-use Rattle.std.proofs.lemmas.List.{map-append, drop-append-le, drop_all, length-map}
+use Rattle.std.proofs.Math.Seq.{take-append_seam}
+use Rattle.std.proofs.lemmas.List.{map-append, drop-append-le, take-append-le, drop_all, length-map}
 use Rattle.std.proofs.lemmas.Option.{same_Some}
 use Rattle.std.proofs.Math.Bool.{and-false, and-true, and_assoc}
 use lib.Pointwise.{pointwise}
@@ -219,6 +220,18 @@ body-begun s at (u ∷ us) rest more x some e separates =
     ∙ ap (λ cs. cs ++ later_body s (at + length (u ∷ us) + 1) more) (body_from-separator s at x separates Body u us)
     ∙ ap (λ cs. body s at (u ∷ us) ++ cs) (sym (later_body-separator s (at + length (u ∷ us)) x more separates))
     ∙ ap (λ r. body s at (u ∷ us) ++ later_body s (at + length (u ∷ us)) r) (sym e)
+
+-- what stands before a place in a text that begins with another stands there in that, and what stands behind it
+-- begins with what does there
+module _ (n : ℕ) (text base : List ℕ) (begun : text ≡ base ++ drop (length base) text) (low : n ≤ length base) where
+  pub front-begun : take n text ≡ take n base
+  front-begun = ap (take n) begun ∙ take-append-le n base (drop (length base) text) low
+
+  pub behind-begun : take (length (drop n base)) (drop n text) ≡ drop n base
+  behind-begun =
+      ap (λ t. take (length (drop n base)) (drop n t)) begun
+      ∙ ap (take (length (drop n base))) (drop-append-le n base (drop (length base) text) low)
+      ∙ take-append_seam (drop n base) (drop (length base) text)
 
 -- a text that is not empty has a component
 pub filled : (s : Separators) (at : ℕ) (b : List ℕ) → 0 < length b → 0 < length (body s at b)
