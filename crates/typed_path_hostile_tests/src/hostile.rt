@@ -1,6 +1,6 @@
 //! Calls of paths on every short text, beside slow answers that are read off the slow component list.
 
-use crate::slow::{BYTES, Part, SHORT, parts_of};
+use crate::slow::{Part, SHORT, parts_of, put_numbered};
 use std::alloc::{AllocError, Global};
 use std::test::Fail;
 use typed_path::{
@@ -226,24 +226,13 @@ fn is_answered_alike<T: Encoding>(
     )
 }
 
-/// Makes a text the one of a number among those of so many bytes.
-fn put_numbered(text: &mut Vec<u8>, length: usize, number: usize) -> Result<(), AllocError> {
-    text.clear();
-    let mut rest = number;
-    for _ in 0..length {
-        text.push(BYTES.get(rest % 7).copied().unwrap_or(b'a'))?;
-        rest /= 7;
-    }
-    Ok(())
-}
-
 #[test]
 fn calls_on_every_short_text(rt: HostRuntime) -> Result<(), Fail> {
     let alloc = rt.alloc();
     let mut text = Vec::new(alloc);
     for (length, count) in SHORT {
         for number in 0..count {
-            put_numbered(&mut text, length, number)?;
+            put_numbered(&mut text, b"", length, number)?;
             let unix = is_answered_alike::<UnixEncoding>(alloc, false, text.as_slice())?;
             let windows = is_answered_alike::<WindowsEncoding>(alloc, true, text.as_slice())?;
             assert!(rt; unix && windows, "{:?}", text.as_slice());
@@ -283,10 +272,10 @@ fn every_pair_of_short_texts(rt: HostRuntime) -> Result<(), Fail> {
     let (mut text, mut other) = (Vec::new(alloc), Vec::new(alloc));
     for (length, count) in [(0, 1), (1, 7), (2, 49), (3, 343)] {
         for number in 0..count {
-            put_numbered(&mut text, length, number)?;
+            put_numbered(&mut text, b"", length, number)?;
             for (length, count) in [(0, 1), (1, 7), (2, 49), (3, 343)] {
                 for number in 0..count {
-                    put_numbered(&mut other, length, number)?;
+                    put_numbered(&mut other, b"", length, number)?;
                     let (one, two) = (text.as_slice(), other.as_slice());
                     let unix = are_compared_alike::<UnixEncoding>(alloc, false, one, two)?;
                     let windows = are_compared_alike::<WindowsEncoding>(alloc, true, one, two)?;

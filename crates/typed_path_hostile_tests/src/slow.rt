@@ -7,7 +7,7 @@ use typed_path::{
 };
 
 /// The bytes that the short texts are made of.
-pub const BYTES: [u8; 7] = [b'/', b'\\', b'.', b'?', b':', b'a', b'C'];
+const BYTES: [u8; 7] = [b'/', b'\\', b'.', b'?', b':', b'a', b'C'];
 
 /// The separators of Windows texts that are not read verbatim.
 const BOTH: &[u8] = br"\/";
@@ -21,7 +21,7 @@ pub struct Part<'a> {
 }
 
 /// What separates a text: `/` on Unix, and on Windows both, or `\` alone behind `\\?\`.
-fn separators(windows: bool, text: &[u8]) -> &'static [u8] {
+pub fn separators(windows: bool, text: &[u8]) -> &'static [u8] {
     if !windows {
         b"/"
     } else if text.starts_with(br"\\?\") {
@@ -95,7 +95,7 @@ fn verbatim<'a>(text: &'a [u8], own: &[u8]) -> Option<(WindowsPrefix<'a>, &'a [u
 }
 
 /// The prefix of a Windows text, and what stands behind it: the first of six cases.
-fn prefix(text: &[u8]) -> Option<(WindowsPrefix<'_>, &[u8])> {
+pub fn prefix(text: &[u8]) -> Option<(WindowsPrefix<'_>, &[u8])> {
     if let Some(behind) = behind_mark(text, b'?') {
         if let Some(found) = verbatim(behind, separators(true, text)) {
             return Some(found);
@@ -248,6 +248,23 @@ fn is_read_alike<T: Encoding>(
     )
 }
 
+/// Makes a text a beginning, and behind it the text of a number among those of so many bytes.
+pub fn put_numbered(
+    text: &mut Vec<u8>,
+    begin: &[u8],
+    length: usize,
+    number: usize,
+) -> Result<(), AllocError> {
+    text.clear();
+    text.extend_from_slice(begin)?;
+    let mut rest = number;
+    for _ in 0..length {
+        text.push(BYTES.get(rest % 7).copied().unwrap_or(b'a'))?;
+        rest /= 7;
+    }
+    Ok(())
+}
+
 /// Whether this is so of all texts of so many bytes behind a beginning.
 fn are_read_alike<T: Encoding>(
     alloc: Global,
@@ -258,13 +275,7 @@ fn are_read_alike<T: Encoding>(
 ) -> Result<bool, AllocError> {
     let mut text = Vec::new(alloc);
     for number in 0..count {
-        text.clear();
-        text.extend_from_slice(begin)?;
-        let mut rest = number;
-        for _ in 0..length {
-            text.push(BYTES.get(rest % 7).copied().unwrap_or(b'a'))?;
-            rest /= 7;
-        }
+        put_numbered(&mut text, begin, length, number)?;
         if !is_read_alike::<T>(alloc, windows, text.as_slice())? {
             return Ok(false);
         }

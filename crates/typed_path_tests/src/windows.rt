@@ -331,28 +331,6 @@ fn slices_left(rt: HostRuntime) {
     }
 }
 
-// No clause says of which bases the bytes tell.
-#[test]
-fn bases_told_by_bytes(rt: HostRuntime) {
-    const ROWS: &[(&[u8], &[u8], Option<&[u8]>)] = &[
-        (br"C:\a\b", br"C:\a", Some(b"b")),
-        (br"\\s\h\a\b", br"\\s\h\a", Some(b"b")),
-        (br"\\?\UNC\\a\b", br"\\?\UNC\\a", Some(b"b")),
-        (br"\\?\\a\b", br"\\?\\", Some(br"a\b")),
-        (br"\\.\\a\b", br"\\.\\", Some(br"a\b")),
-        (br"\\s\\a\b", br"\\s\\", Some(br"a\b")),
-        (br"\\?\C:a\b\c", br"\\?\C:a\b", Some(b"c")),
-        (br"\\\aaa\b\c", br"\\\aaa\b", Some(b"c")),
-        (b"//s/h//aaa/b", b"//s/h//aaa", Some(b"b")),
-        (b"//?/UNC//aaa/b", b"//?/UNC//aaa", Some(b"b")),
-        (br"\\s\h\a\b", br"\\s\h", None),
-        (br"\\s\h\a\b", br"\\s\h/a", None),
-    ];
-    for &(path, base, behind) in ROWS {
-        assert!(rt; WindowsEncoding::behind(path, base) == behind);
-    }
-}
-
 #[test]
 fn single_texts(rt: HostRuntime) {
     const NONE: &str = "no component found";
