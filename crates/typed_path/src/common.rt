@@ -19,6 +19,6 @@ pub use path::Path;
 pub use path_buf::PathBuf;
 pub use texts::Display;
 pub use writing::{
-    append_first, behind_segment, cut_back, drop_name, drop_separator, put_over, put_turned,
-    turn_behind,
+    append_first, behind_segment, cut_back, drop_name, drop_separator, has_room, put_over,
+    put_turned, turn_behind,
 };

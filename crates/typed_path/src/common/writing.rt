@@ -1,7 +1,7 @@
 //! Names in a text: split at their last dot, put behind it where its memory is found first, and
 //! taken off its end.
 
-ghost use Rattle.std.specs.Prelude.{◌≡◌, ◌<◌, ◌≤◌, ◌+◌, ◌-◌, ◌++◌, ℕ, List, fold, take, drop, length, option_copied, IfSome, IsOk, OnOk, OnErr};
+ghost use Rattle.std.specs.Prelude.{◌≡◌, ◌<◌, ◌≤◌, ◌+◌, ◌-◌, ◌++◌, ℕ, List, fold, take, drop, length, option_copied, IfSome, IsOk, IsTrue, OnOk, OnErr};
 ghost use Rattle.std.specs.List.{slice_split};
 ghost use Rattle.typed_path.specs.components.{is_separator};
 ghost use Rattle.std.specs.Vec.{vec_len, vec_capacity};
@@ -78,6 +78,15 @@ pub fn put_over(
         path.push(*byte)?;
     }
     path.extend_from_slice(other)
+}
+
+/// Whether there is room behind a text for another one and a byte more.
+#[inline(always)]
+pub fn has_room(text: &Vec<u8>, other: &[u8]) -> bool
+    ensures room { IsTrue result → vec_len text.now + length other.now < vec_capacity text.now }
+    ensures told { vec_len text.now + length other.now < vec_capacity text.now → IsTrue result }
+{
+    other.len() < text.capacity() - text.len()
 }
 
 /// How many bytes are put as one block.

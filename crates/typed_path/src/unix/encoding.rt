@@ -9,7 +9,7 @@ ghost use Rattle.typed_path.specs.places.{normal_text, rows, settled, names_left
 
 use crate::common::{
     Encoding, append_first, behind_segment, compare_texts, cut_back, drop_name, drop_separator,
-    put_over,
+    has_room, put_over,
 };
 use crate::errors::CheckedPathError;
 use crate::scan::{
@@ -259,6 +259,8 @@ fn put_segments(text: &mut Vec<u8>, len: usize, path: &[u8]) -> Result<(), Alloc
 
 /// Puts the names that a path begins with behind a text, each with a separator behind it, and answers what
 /// is left; none where all of it was put.
+///
+/// Where there is no room for all of the path, no name is put: segments ask for less memory at once.
 #[inline(always)]
 fn put_names<'a>(text: &mut Vec<u8>, path: &'a [u8]) -> Result<Option<&'a [u8]>, AllocError>
     ensures ok { IfOk result (λ left. MatchOption left
@@ -273,8 +275,10 @@ fn put_names<'a>(text: &mut Vec<u8>, path: &'a [u8]) -> Result<Option<&'a [u8]>,
     ensures capacity { vec_capacity text.old ≤ vec_capacity text.new }
     ensures succeeds { vec_len text.old + length path.now < vec_capacity text.old → IsOk result }
 {
+    if !has_room(text, path) {
+        return Ok(Some(path));
+    }
     let Some(names) = leading_names(path, (b'/', b'/')) else {
-        text.reserve(path.len() + 1)?;
         text.extend_from_slice(path)?;
         text.push(b'/')?;
         return Ok(None);

@@ -11,7 +11,7 @@ ghost use Rattle.typed_path.specs.places.{normal_text, names_left_of, rows_of, s
 ghost use Rattle.typed_path.specs.views.PieceViews.{found_of};
 
 use crate::common::{
-    append_first, behind_segment, cut_back, drop_name, drop_separator, put_turned,
+    append_first, behind_segment, cut_back, drop_name, drop_separator, has_room, put_turned,
 };
 use crate::scan::{
     Cursor, Found, PieceKind, Separators, StepKind, WindowsPrefix, cut_at_separator, drive,
@@ -157,6 +157,9 @@ const LEAST: usize = 32;
 
 /// Puts the names that are left of a path behind the first bytes of a text, and answers whether
 /// each one that came is put so by a push too: false says nothing of what was put.
+///
+/// Where there is no room for all of the path, its segments are put one by one: they ask for less memory at
+/// once than names that stand side by side.
 fn put_segments(text: &mut Vec<u8>, len: usize, path: &[u8]) -> Result<bool, AllocError>
     requires { len ≤ length text.old.items }
     ensures ok { IfOk result (λ plain. IsTrue plain → (head : List ℕ) → length head ≡ len
@@ -169,7 +172,7 @@ fn put_segments(text: &mut Vec<u8>, len: usize, path: &[u8]) -> Result<bool, All
     ensures told { HaveNoDisks (slice_split (is_separator Separators.Either) path.now)
         → IfOk result (λ plain. IsTrue plain) }
 {
-    if LEAST <= path.len() && is_free_of((b':', b':'), path) {
+    if LEAST <= path.len() && has_room(text, path) && is_free_of((b':', b':'), path) {
         return put_undriven(text, len, path);
     }
     put_one_by_one(text, len, path)

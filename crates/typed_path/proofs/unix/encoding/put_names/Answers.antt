@@ -1,4 +1,4 @@
-use Rattle.std.proofs.Common.{◌++◌, ◌∷◌, [], ap, sym, subst, ◌∙◌}
+use Rattle.std.proofs.Common.{◌++◌, ◌∷◌, [], append-nil, ap, refl, sym, subst, ◌∙◌}
 use Rattle.std.proofs.lemmas.List.{take_rest}
 use Rattle.typed_path.specs.declared.scan.separators.Separators.TheVariants.{Slash}
 use Rattle.typed_path.specs.components.{slash}
@@ -7,9 +7,13 @@ use Rattle.typed_path.proofs.lemmas.components.Segments.{pieces}
 use Rattle.typed_path.proofs.lemmas.places.NamedRows.{unix-before, unix-whole}
 use Rattle.typed_path.proofs.unix.encoding.put_names.Goals as goal
 
+-- where no name is put, all of the path is left
+pub returns-then-not-has_room-clause-ok : goal.returns-then-not-has_room-clause-ok
+returns-then-not-has_room-clause-ok c = record { names = []; named = refl; parted = refl; is = sym (append-nil c.args.text.now.items) }
+
 pub returns-in_default-clause-ok : goal.returns-in_default-clause-ok
 returns-in_default-clause-ok c =
-    unix-whole c.args.text.now.items _ c.args.path.now c.in_default.ensures (c.in_ok-push.ensures.items ∙ ap (λ t. t ++ slash ∷ []) (c.in_ok-extend_from_slice.ensures.items ∙ ap (λ t. t ++ c.args.path.now) c.in_ok-reserve.ensures.items))
+    unix-whole c.args.text.now.items _ c.args.path.now c.in_default.ensures (c.in_ok-push.ensures.items ∙ ap (λ t. t ++ slash ∷ []) c.in_ok-extend_from_slice.ensures.items)
 
 pub returns-clause-ok : goal.returns-clause-ok
 returns-clause-ok c =
