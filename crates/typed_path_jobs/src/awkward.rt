@@ -8,7 +8,7 @@ use std::alloc::{AllocError, Global};
 use std::hash::{DefaultHasher, Hash, Hasher};
 use typed_path::{
     Encoding, Path, PathBuf, UnixEncoding, UnixPath, Utf8UnixPath, Utf8WindowsPath,
-    WindowsEncoding, WindowsPath, WindowsPathBuf,
+    WindowsEncoding, WindowsPath,
 };
 
 /// Names of one byte.
@@ -72,7 +72,7 @@ const WINDOWS: &[&[u8]] = &[
     br"Program Files\",
 ];
 
-/// A path of so many names, which are drawn.
+/// A path of so many names, which are drawn, with letters before the last that no other path has.
 fn path_of(
     alloc: Global,
     random: &mut Random,
@@ -80,9 +80,11 @@ fn path_of(
     count: usize,
 ) -> Result<Texts, AllocError> {
     let mut texts = Texts::new(alloc);
-    for _ in 0..count {
+    for _ in 1..count {
         texts.put(random.pick(names))?;
     }
+    texts.put_letters(random)?;
+    texts.put(random.pick(names))?;
     texts.end()?;
     Ok(texts)
 }
@@ -121,14 +123,15 @@ fn handle<T: Encoding, U: Encoding>(
 
 /// Pushes names one by one onto a verbatim base, and pops until nothing is left.
 fn push_and_pop(alloc: Global, random: &mut Random, digest: &mut Digest) -> Result<(), AllocError> {
-    let base = path_of(alloc, random, WINDOWS, 8)?;
-    let mut path = WindowsPathBuf::from_bytes(alloc, br"\\?\C:\")?;
-    path.push(WindowsPath::new(base.get(0)))?;
+    let base = path_of(alloc, random, WINDOWS, 1)?;
+    let names = path_of(alloc, random, WINDOWS, 8)?;
+    let mut path = WindowsPath::new(br"\\?\C:\").join(alloc, WindowsPath::new(base.get(0)))?;
+    path.push(WindowsPath::new(names.get(0)))?;
     for _ in 0..40 {
         path.push(WindowsPath::new(random.pick(WINDOWS)))?;
     }
     digest.bytes(path.as_path().as_bytes());
-    for _ in 0..60 {
+    for _ in 0..49 {
         digest.flag(path.pop());
     }
     Ok(())

@@ -12,6 +12,9 @@ use typed_path_uses::{note, noted};
 /// How many of a thousand paths are looked up in another writing.
 const OFTEN: usize = 250;
 
+/// How many of a thousand paths are there in another writing too.
+const DOUBLES: usize = 10;
+
 /// Sorts paths, and drops those that are there already.
 fn sort<T: Encoding>(
     alloc: Global,
@@ -33,32 +36,26 @@ fn sort<T: Encoding>(
     Ok(())
 }
 
-/// Keys as they are looked up: some with a doubled separator before their last name.
-fn wanted(
-    alloc: Global,
-    random: &mut Random,
-    separator: u8,
-    names: &[&[u8]],
-) -> Result<Texts, AllocError> {
-    let mut texts = Texts::new(alloc);
-    for _ in 0..names.len() {
-        let name = random.pick(names);
-        let detour = if random.chance(OFTEN) {
-            name.iter().rposition(|byte| *byte == separator)
-        } else {
-            None
-        };
-        match detour {
-            Some(at) => {
-                texts.put(name.get(..at).unwrap_or(b""))?;
-                texts.put(&[separator])?;
-                texts.put(name.get(at..).unwrap_or(b""))?;
-            }
-            None => texts.put(name)?,
+/// Puts a path in another writing: with its last separator doubled.
+fn put_otherwise(texts: &mut Texts, separator: &[u8], path: &[u8]) -> Result<(), AllocError> {
+    let at = path
+        .iter()
+        .rposition(|byte| separator.contains(byte))
+        .unwrap_or(0);
+    texts.put(path.get(..at).unwrap_or(b""))?;
+    texts.put(separator)?;
+    texts.put(path.get(at..).unwrap_or(b""))
+}
+
+/// Puts names into an order that is drawn.
+fn shuffle(random: &mut Random, names: &mut Vec<&[u8]>) {
+    let count = names.len();
+    for index in 0..count {
+        let other = random.below(count);
+        if index < names.len() && other < names.len() {
+            names.swap(index, other);
         }
-        texts.end()?;
     }
-    Ok(texts)
 }
 
 /// Notes a number at each path, in a map by order and in one by hash, and looks paths up in both.
@@ -74,20 +71,18 @@ fn look_up<T: Encoding>(
     for name in names {
         number = number.wrapping_add(1);
         let path = PathBuf::<T>::from_bytes(alloc, name)?;
-        if note(&mut notes, path, number).is_err() {
-            return Err(AllocError);
-        }
-        numbers.insert(PathBuf::<T>::from_bytes(alloc, name)?, number)?;
+        numbers.insert(path.clone()?, number)?;
+        note(&mut notes, path, number)?;
     }
     for name in wanted {
-        let path = PathBuf::<T>::from_bytes(alloc, name)?;
+        let path = Path::<T>::new(name).to_path_buf(alloc)?;
         digest.take(u64::from(noted(&notes, &path).unwrap_or(0)));
         digest.take(u64::from(numbers.get(&path).copied().unwrap_or(0)));
     }
     Ok(())
 }
 
-/// Takes the files of one tree as keys.
+/// Takes the files of one tree as keys, and some of them in another writing too.
 fn keys_of<T: Encoding>(
     alloc: Global,
     random: &mut Random,
@@ -96,13 +91,28 @@ fn keys_of<T: Encoding>(
     count: usize,
     digest: &mut Digest,
 ) -> Result<(), AllocError> {
-    let mut tree = Tree::new(alloc, random, style, roots, 600)?;
-    let names = tree.files(alloc, random, count)?;
-    let list = names.list(alloc)?;
-    sort::<T>(alloc, &list, digest)?;
-    let separator = style.separator.first().copied().unwrap_or(b'/');
-    let wanted = wanted(alloc, random, separator, &list)?;
-    look_up::<T>(alloc, &list, &wanted.list(alloc)?, digest)
+    let tree = Tree::new(alloc, random, style, roots, 600)?;
+    let files = tree.files(alloc, random, count)?;
+    let mut names = Texts::new(alloc);
+    let mut keys = Texts::new(alloc);
+    for path in &files.list(alloc)? {
+        names.put(path)?;
+        names.end()?;
+        if random.chance(DOUBLES) {
+            put_otherwise(&mut names, style.separator, path)?;
+            names.end()?;
+        }
+        if random.chance(OFTEN) {
+            put_otherwise(&mut keys, style.separator, path)?;
+        } else {
+            keys.put(path)?;
+        }
+        keys.end()?;
+    }
+    let mut wanted = keys.list(alloc)?;
+    shuffle(random, &mut wanted);
+    sort::<T>(alloc, &names.list(alloc)?, digest)?;
+    look_up::<T>(alloc, &names.list(alloc)?, &wanted, digest)
 }
 
 /// Takes so many thousands of paths of one tree of each system as keys.

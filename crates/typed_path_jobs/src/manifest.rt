@@ -4,7 +4,9 @@ use crate::digest::Digest;
 use crate::random::Random;
 use crate::tree::{Tree, unix, windows};
 use std::alloc::{AllocError, Global};
-use typed_path::{Encoding, Path, PlatformPath, UnixPath, WindowsPath};
+use typed_path::{
+    Encoding, Path, PlatformPath, UnixEncoding, UnixPath, WindowsEncoding, WindowsPath,
+};
 use typed_path_uses::entry_on_windows;
 
 /// How many entries a manifest has.
@@ -65,11 +67,10 @@ pub fn manifest(
 ) -> Result<(), AllocError> {
     for _ in 0..manifests {
         let roots: &[&[u8]] = &[b"/", b"", b"./"];
-        let mut tree = Tree::new(alloc, random, unix(OFTEN), roots, 200)?;
-        let entries = tree.files(alloc, random, ENTRIES)?;
-        let list = entries.list(alloc)?;
-        tidy::<typed_path::UnixEncoding>(alloc, &list, digest)?;
-        to_windows(alloc, &list, digest)?;
+        let tree = Tree::new(alloc, random, unix(OFTEN), roots, 200)?;
+        let mut entries = tree.files(alloc, random, ENTRIES)?;
+        tidy::<UnixEncoding>(alloc, &entries.list(alloc)?, digest)?;
+        to_windows(alloc, &entries.renewed(alloc, random)?, digest)?;
         let roots: &[&[u8]] = &[
             br"C:\",
             b"",
@@ -78,11 +79,10 @@ pub fn manifest(
             br"D:\",
             br"\",
         ];
-        let mut tree = Tree::new(alloc, random, windows(OFTEN), roots, 200)?;
-        let entries = tree.files(alloc, random, ENTRIES)?;
-        let list = entries.list(alloc)?;
-        tidy::<typed_path::WindowsEncoding>(alloc, &list, digest)?;
-        to_unix(alloc, &list, digest)?;
+        let tree = Tree::new(alloc, random, windows(OFTEN), roots, 200)?;
+        let mut entries = tree.files(alloc, random, ENTRIES)?;
+        tidy::<WindowsEncoding>(alloc, &entries.list(alloc)?, digest)?;
+        to_unix(alloc, &entries.renewed(alloc, random)?, digest)?;
     }
     Ok(())
 }

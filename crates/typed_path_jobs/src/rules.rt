@@ -3,26 +3,16 @@
 use crate::digest::Digest;
 use crate::random::Random;
 use crate::texts::Texts;
-use crate::tree::{Style, Tree, unix, windows};
+use crate::tree::{FOLDERS, Style, Tree, unix, windows};
 use std::alloc::{AllocError, Global};
 use typed_path::{Encoding, Path, PathType, TypedPath, UnixEncoding, UnixPath, WindowsEncoding};
 use typed_path_uses::{Rule, is_ignored, listing};
 
-/// How many paths the rules are asked of before others are made.
+/// How many paths are asked of a tree, before they are named anew.
 const PATHS: usize = 1_000;
 
-/// How many rules of each kind there are.
+/// How many rules there are, and how many folders the paths are compared with.
 const RULES: usize = 12;
-
-/// What rules name: folders of the tree, or their ends.
-fn folders(alloc: Global, random: &mut Random, tree: &Tree) -> Result<Texts, AllocError> {
-    let mut texts = Texts::new(alloc);
-    for _ in 0..RULES {
-        texts.put(tree.folder(random))?;
-        texts.end()?;
-    }
-    Ok(texts)
-}
 
 /// Lines of rules: a folder with any one name behind it, some taken back.
 fn lines(alloc: Global, random: &mut Random, tree: &Tree, any: &[u8]) -> Result<Texts, AllocError> {
@@ -58,30 +48,25 @@ fn ask<T: Encoding>(path: Path<'_, T>, digest: &mut Digest) {
     digest.flag(path.is_valid());
 }
 
-/// Asks whether a path lies below folders, and what it is there, and whether it ends as they do.
-fn compare<T: Encoding>(path: Path<'_, T>, folders: &[&[u8]], digest: &mut Digest) {
-    for folder in folders {
-        let folder = Path::new(folder);
-        digest.flag(path.starts_with(folder));
-        if let Ok(rest) = path.strip_prefix(folder) {
-            digest.bytes(rest.as_bytes());
-        }
-        let name = folder.file_name().unwrap_or(b"");
-        digest.flag(
-            path.parent()
-                .is_some_and(|parent| parent.ends_with(Path::new(name))),
-        );
-    }
+/// Asks whether a path lies below a folder, and what it is there; and whether it ends as that, or else
+/// in a name.
+fn compare<T: Encoding>(path: Path<'_, T>, folder: &[u8], name: &[u8], digest: &mut Digest) {
+    digest.flag(path.starts_with(Path::new(folder)));
+    let end = match path.strip_prefix(Path::new(folder)) {
+        Ok(rest) => rest,
+        Err(_) => Path::new(name),
+    };
+    digest.bytes(end.as_bytes());
+    digest.flag(path.ends_with(end));
+    digest.some(path.file_name());
+    digest.some(path.parent().map(|parent| parent.as_bytes()));
 }
 
 /// Asks a path whose dialect is known when the program runs.
-fn ask_typed(path: TypedPath<'_>, folders: &[&[u8]], digest: &mut Digest) {
+fn ask_typed(path: TypedPath<'_>, digest: &mut Digest) {
     digest.some(path.file_name());
     digest.some(path.extension());
     digest.some(path.parent().map(|parent| parent.as_bytes()));
-    for folder in folders {
-        digest.flag(path.starts_with(folder));
-    }
     for component in path.components() {
         digest.take(component.as_bytes().len() as u64);
     }
@@ -96,7 +81,7 @@ fn rules<'a>(alloc: Global, lines: &[&'a [u8]]) -> Result<Vec<Rule<'a>>, AllocEr
     Ok(rules)
 }
 
-/// Asks the paths of one tree.
+/// Asks the paths of one tree, named anew for each question that the others hold too.
 fn rules_of<T: Encoding>(
     alloc: Global,
     random: &mut Random,
@@ -104,16 +89,27 @@ fn rules_of<T: Encoding>(
     roots: &[&[u8]],
     digest: &mut Digest,
 ) -> Result<(), AllocError> {
-    let mut tree = Tree::new(alloc, random, style, roots, 200)?;
-    let folders = folders(alloc, random, &tree)?;
-    let folders = folders.list(alloc)?;
+    let tree = Tree::new(alloc, random, style, roots, 200)?;
     let lines = lines(alloc, random, &tree, any)?;
     let rules = rules(alloc, &lines.list(alloc)?)?;
-    let paths = tree.files(alloc, random, PATHS)?;
-    for path in &paths.list(alloc)? {
+    let mut paths = tree.files(alloc, random, PATHS)?;
+    for _ in 0..RULES {
+        let folder = tree.folder(random);
+        let name = random.pick(FOLDERS);
+        for path in &paths.renewed(alloc, random)? {
+            compare(Path::<T>::new(path), folder, name, digest);
+        }
+        for path in &paths.renewed(alloc, random)? {
+            digest.flag(TypedPath::new(path, kind).starts_with(folder));
+        }
+    }
+    for path in &paths.renewed(alloc, random)? {
         ask(Path::<T>::new(path), digest);
-        compare(Path::<T>::new(path), &folders, digest);
-        ask_typed(TypedPath::new(path, kind), &folders, digest);
+    }
+    for path in &paths.renewed(alloc, random)? {
+        ask_typed(TypedPath::new(path, kind), digest);
+    }
+    for path in &paths.renewed(alloc, random)? {
         digest.flag(is_ignored(&rules, Path::<T>::new(path), false));
         digest.bytes(listing(alloc, UnixPath::new(path))?.as_slice());
     }

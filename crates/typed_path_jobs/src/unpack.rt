@@ -5,7 +5,7 @@ use crate::random::Random;
 use crate::texts::Texts;
 use crate::tree::{Style, Tree, unix, windows};
 use std::alloc::{AllocError, Global};
-use typed_path::{Encoding, Path, PathType, TypedPath, UnixEncoding, WindowsEncoding};
+use typed_path::{Encoding, Path, TypedPath, UnixEncoding, WindowsEncoding};
 use typed_path_uses::{typed_target, unpacked};
 
 /// What some names begin with that lead elsewhere or are nowhere allowed.
@@ -36,7 +36,7 @@ const OFTEN: usize = 30;
 
 /// The names of an archive: some hostile, some with a detour.
 fn names(alloc: Global, random: &mut Random, style: Style) -> Result<Texts, AllocError> {
-    let mut tree = Tree::new(alloc, random, style, &[b"", b"./"], 200)?;
+    let tree = Tree::new(alloc, random, style, &[b"", b"./"], 200)?;
     let mut texts = Texts::new(alloc);
     for _ in 0..NAMES {
         if random.chance(OFTEN) {
@@ -68,13 +68,12 @@ fn unpack_onto<T: Encoding>(
 /// Puts each name below a base whose dialect is known when the program runs.
 fn targets(
     alloc: Global,
-    base: &[u8],
-    kind: PathType,
+    base: TypedPath<'_>,
     names: &[&[u8]],
     digest: &mut Digest,
 ) -> Result<(), AllocError> {
     for name in names {
-        match typed_target(alloc, TypedPath::new(base, kind), name) {
+        match typed_target(alloc, base, name) {
             Ok(target) => digest.bytes(target.as_bytes()),
             Err(refusal) => digest.refusal(refusal)?,
         }
@@ -84,7 +83,7 @@ fn targets(
 
 /// A verbatim base, as a canonical path of Windows is.
 fn verbatim(alloc: Global, random: &mut Random) -> Result<Texts, AllocError> {
-    let mut tree = Tree::new(
+    let tree = Tree::new(
         alloc,
         random,
         windows(0),
@@ -94,7 +93,7 @@ fn verbatim(alloc: Global, random: &mut Random) -> Result<Texts, AllocError> {
     tree.files(alloc, random, 1)
 }
 
-/// Unpacks so many archives.
+/// Unpacks so many archives, onto each base one with names of its own.
 pub fn unpack(
     alloc: Global,
     archives: u64,
@@ -102,14 +101,16 @@ pub fn unpack(
     digest: &mut Digest,
 ) -> Result<(), AllocError> {
     for _ in 0..archives {
-        let names = names(alloc, random, unix(20))?;
-        let list = names.list(alloc)?;
+        let mut names = names(alloc, random, unix(20))?;
+        unpack_onto::<UnixEncoding>(alloc, b"/srv/files", &names.list(alloc)?, digest)?;
+        let base = br"C:\dist\files";
+        unpack_onto::<WindowsEncoding>(alloc, base, &names.renewed(alloc, random)?, digest)?;
         let base = verbatim(alloc, random)?;
-        unpack_onto::<UnixEncoding>(alloc, b"/srv/files", &list, digest)?;
-        unpack_onto::<WindowsEncoding>(alloc, br"C:\dist\files", &list, digest)?;
-        unpack_onto::<WindowsEncoding>(alloc, base.get(0), &list, digest)?;
-        targets(alloc, b"/var/www", PathType::Unix, &list, digest)?;
-        targets(alloc, br"D:\www", PathType::Windows, &list, digest)?;
+        unpack_onto::<WindowsEncoding>(alloc, base.get(0), &names.renewed(alloc, random)?, digest)?;
+        let base = TypedPath::unix(b"/var/www");
+        targets(alloc, base, &names.renewed(alloc, random)?, digest)?;
+        let base = TypedPath::windows(br"D:\www");
+        targets(alloc, base, &names.renewed(alloc, random)?, digest)?;
     }
     Ok(())
 }
