@@ -97,10 +97,10 @@ fn handle<T: Encoding, U: Encoding>(
 ) -> Result<(), AllocError> {
     let path = Path::<T>::new(bytes);
     for piece in path.components() {
-        digest.take(piece.text.len() as u64);
+        digest.piece(piece);
     }
     for text in path.iter().rev() {
-        digest.take(text.len() as u64);
+        digest.bytes(text);
     }
     let normal = path.normalize(alloc)?;
     digest.bytes(normal.as_path().as_bytes());
@@ -129,10 +129,11 @@ fn push_and_pop(alloc: Global, random: &mut Random, digest: &mut Digest) -> Resu
     path.push(WindowsPath::new(names.get(0)))?;
     for _ in 0..40 {
         path.push(WindowsPath::new(random.pick(WINDOWS)))?;
+        digest.bytes(path.as_path().as_bytes());
     }
-    digest.bytes(path.as_path().as_bytes());
     for _ in 0..49 {
         digest.flag(path.pop());
+        digest.bytes(path.as_path().as_bytes());
     }
     Ok(())
 }
@@ -143,7 +144,7 @@ fn handle_text(alloc: Global, bytes: &[u8], digest: &mut Digest) -> Result<(), A
         return Ok(());
     };
     for text in path.iter() {
-        digest.take(text.len() as u64);
+        digest.bytes(text.as_bytes());
     }
     digest.bytes(path.normalize(alloc)?.as_path().as_str().as_bytes());
     digest.bytes(
@@ -163,7 +164,7 @@ fn handle_text(alloc: Global, bytes: &[u8], digest: &mut Digest) -> Result<(), A
 /// Handles bytes that are no text.
 fn handle_bytes(alloc: Global, bytes: &[u8], digest: &mut Digest) -> Result<(), AllocError> {
     let path = UnixPath::new(bytes);
-    digest.flag(path.to_str().is_some());
+    digest.some(path.to_str().map(|text| text.as_bytes()));
     let mut owned = PathBuf::<UnixEncoding>::from_bytes(alloc, bytes)?;
     digest.flag(owned.set_extension(b"\xFF")?);
     digest.bytes(owned.as_path().as_bytes());

@@ -1,7 +1,10 @@
 //! A number that hangs on all results of a job, in their order.
 
 use std::alloc::AllocError;
-use typed_path::{AbsolutizeError, CheckedPathError, PathError};
+use typed_path::{
+    AbsolutizeError, CheckedPathError, PathError, Piece, PieceKind, Typed, TypedComponent,
+    TypedPath, UnixComponent, WindowsComponent, WindowsPrefix,
+};
 
 /// The number of the results so far.
 #[derive(Clone, Copy)]
@@ -54,6 +57,71 @@ impl Digest {
             Some(bytes) => self.bytes(bytes),
             None => self.take(1),
         }
+    }
+
+    /// Takes in a number that may be there, and is not 0.
+    #[inline]
+    pub fn noted(&mut self, number: Option<u32>) {
+        self.take(u64::from(number.unwrap_or(0)));
+    }
+
+    /// Takes a path of either dialect in.
+    #[inline]
+    pub fn typed(&mut self, path: TypedPath<'_>) {
+        self.flag(matches!(path, Typed::Unix(_)));
+        self.bytes(path.as_bytes());
+    }
+
+    /// Takes a component in: what it is, and its text.
+    #[inline]
+    pub fn piece(&mut self, piece: Piece<'_>) {
+        match piece.kind {
+            PieceKind::Prefix(prefix) => self.prefix(prefix),
+            PieceKind::RootDir => self.take(7),
+            PieceKind::CurDir => self.take(8),
+            PieceKind::ParentDir => self.take(9),
+            PieceKind::Normal => self.take(10),
+        }
+        self.bytes(piece.text);
+    }
+
+    /// Takes a component of either dialect in.
+    #[inline]
+    pub fn component(&mut self, component: TypedComponent<'_>) {
+        let kind = match component {
+            Typed::Unix(UnixComponent::RootDir) | Typed::Windows(WindowsComponent::RootDir) => {
+                PieceKind::RootDir
+            }
+            Typed::Unix(UnixComponent::CurDir) | Typed::Windows(WindowsComponent::CurDir) => {
+                PieceKind::CurDir
+            }
+            Typed::Unix(UnixComponent::ParentDir) | Typed::Windows(WindowsComponent::ParentDir) => {
+                PieceKind::ParentDir
+            }
+            Typed::Unix(UnixComponent::Normal(_)) | Typed::Windows(WindowsComponent::Normal(_)) => {
+                PieceKind::Normal
+            }
+            Typed::Windows(WindowsComponent::Prefix(prefix)) => PieceKind::Prefix(prefix.kind()),
+        };
+        self.piece(Piece {
+            kind,
+            text: component.as_bytes(),
+        });
+    }
+
+    /// Takes a prefix in: which it is, and its names or its letter.
+    fn prefix(&mut self, prefix: WindowsPrefix<'_>) {
+        let (kind, name, share): (u64, &[u8], &[u8]) = match prefix {
+            WindowsPrefix::Verbatim(name) => (11, name, b""),
+            WindowsPrefix::VerbatimUNC(server, share) => (12, server, share),
+            WindowsPrefix::VerbatimDisk(letter) => (u64::from(letter) + 256, b"", b""),
+            WindowsPrefix::DeviceNS(name) => (13, name, b""),
+            WindowsPrefix::UNC(server, share) => (14, server, share),
+            WindowsPrefix::Disk(letter) => (u64::from(letter) + 512, b"", b""),
+        };
+        self.take(kind);
+        self.bytes(name);
+        self.bytes(share);
     }
 
     /// Takes in what a path is refused for.

@@ -71,13 +71,13 @@ fn look_up<T: Encoding>(
     for name in names {
         number = number.wrapping_add(1);
         let path = PathBuf::<T>::from_bytes(alloc, name)?;
-        numbers.insert(path.clone()?, number)?;
-        note(&mut notes, path, number)?;
+        digest.noted(numbers.insert(path.clone()?, number)?);
+        digest.noted(note(&mut notes, path, number)?);
     }
     for name in wanted {
         let path = Path::<T>::new(name).to_path_buf(alloc)?;
-        digest.take(u64::from(noted(&notes, &path).unwrap_or(0)));
-        digest.take(u64::from(numbers.get(&path).copied().unwrap_or(0)));
+        digest.noted(noted(&notes, &path));
+        digest.noted(numbers.get(&path).copied());
     }
     Ok(())
 }

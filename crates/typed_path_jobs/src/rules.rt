@@ -37,13 +37,13 @@ fn ask<T: Encoding>(path: Path<'_, T>, digest: &mut Digest) {
     digest.flag(path.has_root());
     digest.some(path.parent().map(|parent| parent.as_bytes()));
     for above in path.ancestors() {
-        digest.take(above.as_bytes().len() as u64);
+        digest.bytes(above.as_bytes());
     }
     for piece in path.components() {
-        digest.take(piece.text.len() as u64);
+        digest.piece(piece);
     }
     for text in path.iter().rev() {
-        digest.take(text.len() as u64);
+        digest.bytes(text);
     }
     digest.flag(path.is_valid());
 }
@@ -66,9 +66,11 @@ fn compare<T: Encoding>(path: Path<'_, T>, folder: &[u8], name: &[u8], digest: &
 fn ask_typed(path: TypedPath<'_>, digest: &mut Digest) {
     digest.some(path.file_name());
     digest.some(path.extension());
-    digest.some(path.parent().map(|parent| parent.as_bytes()));
+    if let Some(parent) = path.parent() {
+        digest.typed(parent);
+    }
     for component in path.components() {
-        digest.take(component.as_bytes().len() as u64);
+        digest.component(component);
     }
 }
 

@@ -60,6 +60,7 @@ fn unpack_onto<T: Encoding>(
         digest.bytes(target.as_path().as_bytes());
     }
     for refused in &unpacking.refused {
+        digest.bytes(refused.name);
         digest.fault(refused.fault);
     }
     Ok(())
@@ -74,7 +75,7 @@ fn targets(
 ) -> Result<(), AllocError> {
     for name in names {
         match typed_target(alloc, base, name) {
-            Ok(target) => digest.bytes(target.as_bytes()),
+            Ok(target) => digest.typed(target.to_path()),
             Err(refusal) => digest.refusal(refusal)?,
         }
     }
