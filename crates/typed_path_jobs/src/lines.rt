@@ -7,11 +7,11 @@ use crate::tree::{Tree, unix, windows};
 use std::alloc::{AllocError, Global};
 use typed_path::{StdSink, StdSource, answer_lines, exit_status};
 
-/// How many paths an input has lines on.
-const PATHS: usize = 300;
+/// How many lines an input has on paths of each system.
+const LINES: usize = 1_800;
 
-/// How many lines each of them has, of different commands.
-const LINES: usize = 6;
+/// How many inputs are told apart by their letters alone, before other lines are made.
+const RENEWALS: u64 = 32;
 
 /// The commands, each with its tab.
 const COMMANDS: &[&[u8]] = &[
@@ -36,87 +36,44 @@ const BAD: &[&[u8]] = &[
     b"convert\tunix\t",
 ];
 
-/// Where paths lie, and where the names lie that are joined to them.
-#[derive(Clone, Copy)]
-struct Places<'a> {
-    bases: &'a Tree,
-    names: &'a [&'a [u8]],
-    dialect: &'static [u8],
-}
-
-/// Puts one line of a command.
+/// Puts one line, on a path of a tree, or on one that is joined to a folder there.
 fn put_line(
     random: &mut Random,
-    places: Places<'_>,
-    command: usize,
-    path: &[u8],
+    (tree, joined): (&Tree, &Tree),
+    dialect: &[u8],
     texts: &mut Texts,
 ) -> Result<(), AllocError> {
+    let mut place = tree;
     if random.chance(30) {
         texts.put(random.pick(BAD))?;
     } else {
-        texts.put(COMMANDS.get(command).copied().unwrap_or(b""))?;
-        if command < 6 {
-            texts.put(places.dialect)?;
+        let command = random.pick(COMMANDS);
+        texts.put(command)?;
+        if command != b"derive\t".as_slice() {
+            texts.put(dialect)?;
         }
-        if command == 2 || command == 3 {
-            texts.put(places.bases.folder(random))?;
+        if command.starts_with(b"join") {
+            texts.put(tree.folder(random))?;
             texts.put(b"\t")?;
-            texts.put(random.pick(places.names))?;
-            return texts.put(b"\n");
+            place = joined;
         }
-        if command == 4 || command == 5 {
+        if command.starts_with(b"convert") {
             texts.put(random.pick(DIALECTS))?;
         }
     }
-    texts.put(path)?;
+    place.put_file(random, texts)?;
     texts.put(b"\n")
-}
-
-/// Puts lines on paths, of commands in an order that is drawn for each.
-fn put_lines(
-    random: &mut Random,
-    places: Places<'_>,
-    paths: &[&[u8]],
-    texts: &mut Texts,
-) -> Result<(), AllocError> {
-    for path in paths {
-        let mut command = random.below(7);
-        let step = random.below(6).wrapping_add(1);
-        for _ in 0..LINES {
-            put_line(random, places, command, path, texts)?;
-            command = command.wrapping_add(step) % 7;
-        }
-    }
-    Ok(())
-}
-
-/// Puts the lines on the paths of files of a tree.
-fn put_part(
-    alloc: Global,
-    random: &mut Random,
-    tree: &mut Tree,
-    (names, dialect): (&[&[u8]], &'static [u8]),
-    texts: &mut Texts,
-) -> Result<(), AllocError> {
-    let paths = tree.files(alloc, random, PATHS)?;
-    let places = Places {
-        bases: tree,
-        names,
-        dialect,
-    };
-    put_lines(random, places, &paths.list(alloc)?, texts)
 }
 
 /// An input of lines, half of them on paths of each system.
 fn input(alloc: Global, random: &mut Random) -> Result<Texts, AllocError> {
-    let mut below = Tree::new(alloc, random, unix(50), &[b"", b"", b"", b"../", b"/"], 50)?;
-    let names = below.files(alloc, random, PATHS)?;
-    let names = names.list(alloc)?;
+    let joined = Tree::new(alloc, random, unix(50), &[b"", b"", b"", b"../", b"/"], 50)?;
     let mut texts = Texts::new(alloc);
     let roots: &[&[u8]] = &[b"/", b"", b"./", b"../"];
-    let mut tree = Tree::new(alloc, random, unix(100), roots, 100)?;
-    put_part(alloc, random, &mut tree, (&names, b"unix\t"), &mut texts)?;
+    let tree = Tree::new(alloc, random, unix(100), roots, 100)?;
+    for _ in 0..LINES {
+        put_line(random, (&tree, &joined), b"unix\t", &mut texts)?;
+    }
     let roots: &[&[u8]] = &[
         br"C:\",
         b"",
@@ -125,8 +82,10 @@ fn input(alloc: Global, random: &mut Random) -> Result<Texts, AllocError> {
         b"d:/",
         br"..\",
     ];
-    let mut tree = Tree::new(alloc, random, windows(100), roots, 100)?;
-    put_part(alloc, random, &mut tree, (&names, b"windows\t"), &mut texts)?;
+    let tree = Tree::new(alloc, random, windows(100), roots, 100)?;
+    for _ in 0..LINES {
+        put_line(random, (&tree, &joined), b"windows\t", &mut texts)?;
+    }
     Ok(texts)
 }
 
@@ -137,10 +96,15 @@ pub fn answer(
     random: &mut Random,
     digest: &mut Digest,
 ) -> Result<(), AllocError> {
-    for _ in 0..inputs {
-        let input = input(alloc, random)?;
+    let mut lines = Texts::new(alloc);
+    for number in 0..inputs {
+        if number % RENEWALS == 0 {
+            lines = input(alloc, random)?;
+        } else {
+            lines.renew(random);
+        }
         let mut replies = Vec::new(alloc);
-        let mut reader = StdSource::new(input.bytes());
+        let mut reader = StdSource::new(lines.bytes());
         let mut writer = StdSink::new(&mut replies);
         let outcome = answer_lines(alloc, &mut reader, &mut writer);
         digest.take(u64::from(exit_status(&outcome)));
