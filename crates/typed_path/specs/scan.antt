@@ -12,4 +12,4 @@ pub use Rattle.typed_path.specs.scan.Left.{Side, answer, back, but_last, cut_to,
 pub use Rattle.typed_path.specs.scan.Masks.{IsBehindLastOf, IsFirstOf, IsMask, TellsWhether, differs_at, is_one_of, stands_at}
 pub use Rattle.typed_path.specs.scan.Pending.{pending}
 pub use Rattle.typed_path.specs.scan.Reading.{AreInOrder, IsLaidOut, IsWhole, answer_of, answers_after, backs, fronts, items_after, items_behind, slice_after, slice_behind}
-pub use Rattle.typed_path.specs.scan.Steps.{IsParting, LeavesBack, LeavesFront, PartWithinNames, begins_with_name, body_from, counts, end_from, first_part, is_clean, is_trimmed, last_part, tells_name}
+pub use Rattle.typed_path.specs.scan.Steps.{IsParting, LeavesBack, LeavesFront, PartWithinNames, begins_with_name, body_from, counts, dots_rank, end_from, first_part, is_clean, is_trimmed, last_part, tells_name}

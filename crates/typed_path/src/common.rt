@@ -13,7 +13,8 @@ pub use component::Component;
 pub use components::{Ancestors, Components, Iter, ReadAs, Reading, Reversed, Values};
 pub use encoding::Encoding;
 pub(crate) use order::{
-    compare, compare_parted, compare_prefixes, compare_texts, is_same, order_of_prefixed,
+    compare, compare_each, compare_parted, compare_prefixes, compare_texts, is_same,
+    order_of_prefixed,
 };
 pub use path::Path;
 pub use path_buf::PathBuf;

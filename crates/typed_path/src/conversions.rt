@@ -1,25 +1,26 @@
 //! Paths in another encoding, with and without checks, and paths made absolute.
 
-ghost use Rattle.std.specs.Prelude.{◌<◌, ◌≡◌, ◌≤◌, ◌+◌, ◌++◌, ℕ, [], ◌∷◌, map, option_map, take, drop, length, IsTrue, IsOk, IfSome, IfOk, OnOk, OnErr, Result, Ok, Err, Some, None, true, false};
+ghost use Rattle.std.specs.Prelude.{◌<◌, ◌≡◌, ◌≤◌, ◌+◌, ◌++◌, ℕ, [], ◌∷◌, map, option_map, take, drop, length, IsTrue, IsOk, IfSome, IfOk, OnOk, OnErr, Result, Ok, Err, Some, None, true, false, if◌then◌else◌};
 ghost use Rattle.std.specs.Option.{option_to_list};
 ghost use Rattle.std.specs.Vec.{vec_capacity};
 ghost use Rattle.typed_path.specs.declared.errors.CheckedPathError.{CheckedPathError};
-ghost use Rattle.typed_path.specs.components.{parts_of, kinds, unix, windows, is_separator, is_verbatim, separators, backslash};
+ghost use Rattle.typed_path.specs.components.{parts_of, kinds, unix, windows, is_separator, is_verbatim, separators, slash, backslash};
 ghost use Rattle.std.specs.List.{list_any};
 ghost use Rattle.typed_path.specs.declared.scan.separators.Separators.{Separators};
 ghost use Rattle.typed_path.specs.conversions.{AllowsCrossing, CrossesTurned, IsUnrefused, separator_of, same_dialect, converted, converted_checked, FitsConverted, crossed, crossed_all, is_never_refused, crossing_fault, push_checked_each, platform, absolute_from};
 ghost use Rattle.typed_path.specs.changes.{refusal, error_of, fault, FitsEach, IsKnown, begins_with_separator, is_forbidden_or};
-ghost use Rattle.typed_path.specs.queries.{is_reserved};
+ghost use Rattle.typed_path.specs.queries.{is_disk};
 ghost use Rattle.typed_path.specs.scan.{is_one_of, turned};
 ghost use Rattle.typed_path.specs.views.SpanViews.{span_bytes};
-ghost use Rattle.typed_path.specs.views.PieceViews.{part_of};
+ghost use Rattle.typed_path.specs.views.PieceViews.{part_of, prefix_view};
 
 use crate::common::{Encoding, Path, PathBuf, cut_back, put_turned};
 use crate::errors::{AbsolutizeError, CheckedPathError, PathError};
 use crate::platform::{PlatformEncoding, PlatformPath, PlatformPathBuf};
 use crate::scan::{
-    Piece, PieceKind, Separators, Span, before_last_separator, begins_with_device, find_prefix,
-    has_forbidden, has_no_blank_behind, has_reserved, is_dots, is_free_of,
+    Piece, PieceKind, Separators, Span, WindowsPrefix, before_last_separator,
+    begins_with_long_name, find_prefix, has_forbidden_or_device, has_no_blank_behind, is_dots,
+    is_free_of,
 };
 use crate::unix::{UnixEncoding, UnixPathBuf};
 use crate::windows::{WindowsEncoding, WindowsPathBuf, begins_with_separator, has_second_colon};
@@ -237,7 +238,7 @@ fn separator_of<U: Encoding>() -> u8
 fn turned<T: Encoding, U: Encoding>(path: &[u8]) -> Option<&[u8]>
     ensures { IfSome result (λ text. CrossesTurned T.dialect U.dialect path.now text.now) }
 {
-    if path.len() < LEAST {
+    if path.len() < SHORT || begins_with_long_name(path) {
         return None;
     }
     if have_one_label::<T, UnixEncoding>() && have_one_label::<U, WindowsEncoding>() {
@@ -248,6 +249,9 @@ fn turned<T: Encoding, U: Encoding>(path: &[u8]) -> Option<&[u8]>
     }
     None
 }
+
+/// How many bytes a path has at least that is looked at before it crosses.
+const SHORT: usize = 3;
 
 /// The same of a path of Unix on Windows, in which no byte separates there alone, and none marks a drive.
 fn turned_for_windows(path: &[u8]) -> Option<&[u8]>
@@ -261,15 +265,10 @@ fn turned_for_windows(path: &[u8]) -> Option<&[u8]>
 }
 
 /// The same of a path of Windows on Unix, which has no prefix, or a root behind it: pushed onto what the
-/// prefix is written as, that replaces it.
+/// prefix is written as, that replaces it. A prefix alone, but for a drive, is written as the root.
 fn turned_for_unix(path: &[u8]) -> Option<&[u8]>
-    ensures turned { IfSome result (λ text. CrossesTurned windows unix path.now text.now) }
-    ensures checked { IfSome result (λ text. list_any (is_one_of (0, 0)) text.now ≡ false
-        → IsUnrefused windows unix path.now) }
+    ensures { IfSome result (λ text. CrossesTurned windows unix path.now text.now) }
 {
-    if is_short_behind_mark(path) {
-        return None;
-    }
     let Some(found) = find_prefix(path) else {
         let text = before_last_separator(path, Separators::Either);
         if has_no_blank_behind(text, Separators::Either) {
@@ -278,26 +277,26 @@ fn turned_for_unix(path: &[u8]) -> Option<&[u8]>
         return None;
     };
     let behind = &path[found.length..];
+    if behind.is_empty() {
+        return Some(prefix_alone(path, found.kind));
+    }
     let text = before_last_separator(behind, Separators::of_windows(path));
-    if is_rooted(path, text) && has_no_blank_behind(text, Separators::Either) {
+    if is_rooted(path, text) && (text.len() == 1 || has_no_blank_behind(text, Separators::Either)) {
         return Some(text);
     }
     None
 }
 
-/// Whether a path of few bytes begins with two separators, as each with a prefix but a drive does, so that little
-/// can stand behind the prefix: such a path is read at once.
+/// What a prefix alone is written as on Unix: a drive as it stands, and every other one as the root.
 #[inline(always)]
-fn is_short_behind_mark(path: &[u8]) -> bool
-    ensures short { IsTrue result → length path.now < 32 }
-    ensures marked { IsTrue result → begins_with_separator path.now ≡ true }
+fn prefix_alone<'a>(path: &'a [u8], prefix: WindowsPrefix<'a>) -> &'a [u8]
+    ensures { result.now ≡ (if is_disk (prefix_view prefix.entry) then path.now else slash ∷ []) }
 {
-    path.len() < MARKED && matches!(path, [b'/' | b'\\', b'/' | b'\\', ..])
+    match prefix {
+        WindowsPrefix::Disk(_) => path,
+        _ => b"/",
+    }
 }
-
-/// How many bytes a path with two separators in front has at least whose prefix is read before its components
-/// are pushed.
-const MARKED: usize = 32;
 
 /// Whether a root stands at the front of what is behind the prefix of a path of Windows, and no name
 /// there holds a `/`.
@@ -364,8 +363,7 @@ fn put_prefix<U: Encoding>(
 /// Pushes the components of a path onto the empty path at the end of a text, as they are written in
 /// another encoding, by checked pushes, and ends at the first that is refused.
 ///
-/// Where the bytes of the path tell that none is, and that no more than its separators changes, it is
-/// copied at once.
+/// Where looks at the bytes of the path tell that none is, it is written as without checks.
 pub fn convert_checked<T: Encoding, U: Encoding>(
     text: &mut Vec<u8>,
     start: usize,
@@ -380,70 +378,65 @@ pub fn convert_checked<T: Encoding, U: Encoding>(
     ensures kept { take start text.new.items ≡ take start text.old.items }
     ensures long { start ≤ length text.new.items }
 {
-    let allowed = allows_each::<T, U>(path.as_bytes());
-    if let Some(turned) = turned_checked::<T, U>(path.as_bytes(), allowed) {
-        put_turned(text, turned, Separators::Either, separator_of::<U>())?;
-        return Ok(());
+    if is_unrefused::<T, U>(path.as_bytes()) {
+        return Ok(put_converted::<T, U>(text, path)?);
     }
-    let allowed = allowed || allows_on_unix::<T, U>(path.as_bytes());
-    push_each_checked::<T, U>(text, start, path, allowed)
+    push_each_checked::<T, U>(text, start, path)
 }
 
-/// The text that a path is written as in another encoding once its separators are turned, where its
-/// bytes tell that no more of it changes, and that no component is refused. None says nothing.
-///
-/// Onto Windows none but a path is looked at of which the bytes are known to be allowed there: one look
-/// has told that, before any other.
+/// Whether looks at the bytes of a path tell that it is of the other system, and that none of its components is
+/// refused as it crosses. False says nothing.
 #[inline(always)]
-fn turned_checked<T: Encoding, U: Encoding>(path: &[u8], allowed: bool) -> Option<&[u8]>
-    requires { IsTrue allowed
-        → list_any (is_forbidden_or (backslash, backslash)) path.now ≡ false }
-    ensures { IfSome result (λ text. converted_checked T.dialect U.dialect path.now
-        ≡ Ok (turned Separators.Either (separator_of U.dialect) text.now)) }
+fn is_unrefused<T: Encoding, U: Encoding>(path: &[u8]) -> bool
+    ensures { IsTrue result → (same_dialect T.dialect U.dialect ≡ false)
+        × IsUnrefused T.dialect U.dialect path.now }
 {
-    if path.len() < LEAST || LOOK < path.len() {
-        return None;
-    }
     if have_one_label::<T, UnixEncoding>() && have_one_label::<U, WindowsEncoding>() {
-        if allowed {
-            return turned_for_windows_checked(path);
-        }
-        return None;
+        return is_unrefused_on_windows(path);
     }
     if have_one_label::<T, WindowsEncoding>() && have_one_label::<U, UnixEncoding>() {
-        let text = turned_for_unix(path)?;
-        if is_free_of((b'\0', b'\0'), text) {
-            return Some(text);
-        }
+        return is_unrefused_on_unix(path);
     }
-    None
+    false
 }
 
-/// The same of a path of Unix on Windows, whose bytes are allowed there: of these none separates there
-/// alone, and none marks a drive.
-fn turned_for_windows_checked(path: &[u8]) -> Option<&[u8]>
-    requires { list_any (is_forbidden_or (backslash, backslash)) path.now ≡ false }
-    ensures { IfSome result (λ text. converted_checked unix windows path.now
-        ≡ Ok (turned Separators.Either backslash text.now)) }
+/// The same of a path of Unix on Windows: one look tells that no name there has a byte that none may have, or stands
+/// for a device, and it ends where one does.
+///
+/// A path of a few bytes is read at once, and so is one whose second byte is `:`.
+#[inline(always)]
+fn is_unrefused_on_windows(path: &[u8]) -> bool
+    ensures { IsTrue result → IsUnrefused unix windows path.now }
 {
-    let text = before_last_separator(path, Separators::Slash);
-    if has_no_blank_behind(text, Separators::Either) && !has_reserved(text, Separators::Either) {
-        return Some(text);
+    if path.len() < LEAST || has_second_colon(path) {
+        return false;
     }
-    None
+    !has_forbidden_or_device(path)
 }
 
-/// The same, component by component. Of a path whose names are known to have allowed bytes no name is
-/// looked through.
+/// How many bytes a path of Unix has at least that is looked at as a whole before it crosses to Windows by checked
+/// pushes.
+const LEAST: usize = 8;
+
+/// The same of a path of Windows on Unix. A name there may have all bytes but NUL and `/`, which separates in each
+/// path that is not read verbatim.
+#[inline(always)]
+fn is_unrefused_on_unix(path: &[u8]) -> bool
+    ensures { IsTrue result → IsUnrefused windows unix path.now }
+{
+    if path.len() < SHORT || Separators::of_windows(path).is_verbatim() {
+        return false;
+    }
+    is_free_of((b'\0', b'\0'), path)
+}
+
+/// The same as without looks, component by component.
 fn push_each_checked<T: Encoding, U: Encoding>(
     text: &mut Vec<u8>,
     start: usize,
     path: Span<'_>,
-    allowed: bool,
 ) -> Result<(), PathError>
-    requires end { length text.old.items ≡ start }
-    requires allowed { IsTrue allowed
-        → AllowsCrossing U.dialect (kinds (parts_of T.dialect (span_bytes path))) }
+    requires { length text.old.items ≡ start }
     ensures ok { OnOk result
         (converted_checked T.dialect U.dialect (span_bytes path.entry)
         ≡ Ok (drop start text.new.items)) }
@@ -456,63 +449,9 @@ fn push_each_checked<T: Encoding, U: Encoding>(
     let mut known = push_prefix_checked::<U>(text, start, cursor.prefix_piece())?;
     let mut body = cursor.body();
     'steps: while let Some(step) = body.front() {
-        known = push_piece_checked::<U>(text, start, step.piece(), known, allowed)?;
+        known = push_piece_checked::<U>(text, start, step.piece(), known)?;
     }
     Ok(())
-}
-
-/// How many bytes a path has at least for looks by blocks to tell of blank segments. The names of a shorter one
-/// that crosses to Windows are looked through one by one.
-const LEAST: usize = 8;
-
-/// How many bytes a path has at most of which all are looked at before its first component is judged: so
-/// a long path that is refused at its front is refused there.
-const LOOK: usize = 4_096;
-
-/// Whether one look at the bytes of a path tells that each of its names has bytes that the other
-/// encoding, which is that of Windows, allows: then no name is looked through anew. False says
-/// nothing.
-///
-/// A path whose second byte is `:`, or that begins, behind its root, with what may be the name of a device, is not
-/// looked through, as it is refused at its front.
-#[inline(always)]
-fn allows_each<T: Encoding, U: Encoding>(path: &[u8]) -> bool
-    ensures names { IsTrue result
-        → AllowsCrossing U.dialect (kinds (parts_of T.dialect path.now)) }
-    ensures bytes { IsTrue result
-        → list_any (is_forbidden_or (backslash, backslash)) path.now ≡ false }
-{
-    if !have_one_label::<T, UnixEncoding>() {
-        return false;
-    }
-    if !have_one_label::<U, WindowsEncoding>() {
-        return false;
-    }
-    if LOOK < path.len() || has_second_colon(path) {
-        return false;
-    }
-    if path.len() < LEAST || begins_with_device(path) {
-        return false;
-    }
-    !has_forbidden(path, (b'\\', b'\\'))
-}
-
-/// The same of a path of Windows on Unix. A name there may have all bytes but NUL and `/`, which
-/// separates in each path that is not read verbatim.
-#[inline(always)]
-fn allows_on_unix<T: Encoding, U: Encoding>(path: &[u8]) -> bool
-    ensures { IsTrue result → AllowsCrossing U.dialect (kinds (parts_of T.dialect path.now)) }
-{
-    if !have_one_label::<T, WindowsEncoding>() {
-        return false;
-    }
-    if !have_one_label::<U, UnixEncoding>() {
-        return false;
-    }
-    if LOOK < path.len() || Separators::of_windows(path).is_verbatim() {
-        return false;
-    }
-    is_free_of((b'\0', b'\0'), path)
 }
 
 /// Pushes the prefix of a path, where it has one, onto the path at the end of a text, which is one of
@@ -534,25 +473,22 @@ fn push_prefix_checked<U: Encoding>(
     ensures long { start ≤ length text.new.items }
 {
     match prefix {
-        Some(piece) => push_piece_checked::<U>(text, start, piece, None, false),
+        Some(piece) => push_piece_checked::<U>(text, start, piece, None),
         None => Ok(None),
     }
 }
 
 /// Pushes a component onto the path at the end of a text, which is one of another encoding, and of
 /// which something may be known, by a checked push, and answers what is known of what stands there
-/// then. Of a component that is known to have allowed bytes they are not looked at.
+/// then.
 #[inline(always)]
 fn push_piece_checked<U: Encoding>(
     text: &mut Vec<u8>,
     start: usize,
     piece: Piece<'_>,
     known: Option<usize>,
-    allowed: bool,
 ) -> Result<Option<usize>, PathError>
-    requires within { start ≤ length text.old.items }
-    requires allowed { IsTrue allowed
-        → AllowsCrossing U.dialect ((part_of piece).kind ∷ []) }
+    requires { start ≤ length text.old.items }
     ensures ok { IsKnown U.dialect known (drop start text.old.items) → OnOk result
         (push_checked_each U.dialect (Ok (drop start text.old.items)) (part_of piece.entry ∷ [])
         ≡ Ok (drop start text.new.items)) }
@@ -566,21 +502,16 @@ fn push_piece_checked<U: Encoding>(
     ensures long { IsKnown U.dialect known (drop start text.old.items)
         → start ≤ length text.new.items }
 {
-    check_component::<U>(piece, allowed)?;
+    check_component::<U>(piece)?;
     Ok(U::push_next(text, start, piece.crossed(U::root_text()), known)?)
 }
 
 /// Judges a component that is to be pushed onto a path of another encoding. A root, `.` or `..` is
-/// never refused, and most others are names that the encoding allows, which need no reading. Of a
-/// name that is known to have allowed bytes the bytes are not looked at.
+/// never refused, and most others are names that the encoding allows, which need no reading.
 #[inline(always)]
-fn check_component<U: Encoding>(piece: Piece<'_>, allowed: bool) -> Result<(), CheckedPathError>
-    requires { IsTrue allowed → AllowsCrossing U.dialect ((part_of piece).kind ∷ []) }
+fn check_component<U: Encoding>(piece: Piece<'_>) -> Result<(), CheckedPathError>
     ensures { error_of result ≡ crossing_fault U.dialect (part_of piece.entry) }
 {
-    if allowed && is_free_name::<U>(piece) {
-        return Ok(());
-    }
     if is_never_refused(piece) || is_name::<U>(piece.text) {
         Ok(())
     } else {
@@ -594,32 +525,6 @@ fn is_name<U: Encoding>(text: &[u8]) -> bool
     ensures { IsTrue result → fault U.dialect text.now ≡ None }
 {
     !is_dots(text) && U::valid(text)
-}
-
-/// Whether a component of bytes that an encoding allows is a name that stands for no device there.
-#[inline(always)]
-fn is_free_name<U: Encoding>(piece: Piece<'_>) -> bool
-    ensures { IsTrue result → AllowsCrossing U.dialect ((part_of piece.entry).kind ∷ [])
-        → crossing_fault U.dialect (part_of piece.entry) ≡ None }
-{
-    if is_dots(piece.text) {
-        return false;
-    }
-    match piece.kind {
-        PieceKind::Normal => !is_device_of::<U>(piece.text),
-        _ => false,
-    }
-}
-
-/// Whether a name stands for a device in an encoding. On Unix none does.
-#[inline(always)]
-fn is_device_of<U: Encoding>(name: &[u8]) -> bool
-    ensures { result ≡ is_reserved U.dialect name.now }
-{
-    if have_one_label::<U, UnixEncoding>() {
-        return false;
-    }
-    Separators::Either.is_reserved(name)
 }
 
 /// Whether a component is never refused: a root, and every prefix that becomes one, `.` or `..`.

@@ -8,22 +8,21 @@ mod prefix;
 mod separators;
 mod step;
 
-pub use blanks::{before_last_separator, has_no_blank_behind};
+pub use blanks::{before_last_separator, begins_with_long_name, has_no_blank_behind};
 pub use cursor::{Begin, Body, Cursor, Span};
 pub use cut::{
-    are_apart, base_end, bodies_behind, bodies_behind_shared, cut_at, cut_at_separator, end_behind,
+    are_apart, base_end, bodies_behind_shared, cut_at, cut_at_separator, end_behind,
     have_other_fronts, order_behind, order_of_beginning, order_of_fronts, text_behind,
+    texts_behind,
 };
 pub use lanes::{
-    first_between, first_difference, has_forbidden, has_no_nul_or_dot_pair, has_only_names,
-    leading_names,
+    first_between, first_difference, has_no_nul_or_dot_pair, has_only_names, leading_short_names,
 };
 pub use prefix::{
     Found, WindowsPrefix, after_mark, begins_with_two, byte_behind_two, drive, find_prefix,
     parted_drive,
 };
 pub use separators::{
-    LEAST, Separators, begins_with_device, has_reserved, has_stray_parent_or_device,
-    has_valid_names, is_free_of,
+    Look, Separators, has_forbidden_or_device, has_valid_names, is_free_of, look_at_path,
 };
 pub use step::{Piece, PieceKind, Step, StepKind, is_dots, step_of};

@@ -1,7 +1,7 @@
 -- What changes a path.
 -- Faults: a path judged component by component, and what holds of one that is not refused
--- ValidPaths: paths of Windows of which looks at their bytes tell that they have no fault
--- MayBegins: marks of separators behind which `..` or a device may stand, and the search by them
+-- ValidPaths: paths of Windows of which looks at their bytes tell that they have no fault, or which
+-- MayBegins: marks of separators behind which a device may stand, and the search by them
 -- Joins: a text put behind another, a list merged into another, and lists spelled and read again
 -- WindowsPushes: what a push of Windows asks of its base, and what stands behind a prefix that is written anew
 -- SpelledTexts: a text of Windows that is spelled as it is read, and what a push writes anew

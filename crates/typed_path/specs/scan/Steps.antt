@@ -1,5 +1,5 @@
 -- What is left of a text, by where it begins.
-use Rattle.std.specs.Prelude.{◌≡◌, ◌≤◌, ℕ, min, drop, take, List, [], ◌∷◌, Bool, true, not, ◌||◌, ◌&&◌, ◌==◌, nat_lt, length, Option, option_map}
+use Rattle.std.specs.Prelude.{◌≡◌, ◌≤◌, ℕ, min, drop, take, List, [], ◌∷◌, Bool, true, not, ◌||◌, ◌&&◌, ◌==◌, if◌then◌else◌, nat_lt, length, Option, option_map}
 use Rattle.std.specs.Option.{unwrap_or}
 use Rattle.std.specs.List.{before_first, after_last, IsAfterLastMatch}
 use Rattle.std.specs.Slice.Scan.{IsFirstPlace}
@@ -8,7 +8,7 @@ use Rattle.typed_path.specs.declared.scan.cursor.Begin.{Begin}
 use Rattle.typed_path.specs.declared.scan.cursor.Begin.TheVariants.{Body, Inside}
 use Rattle.typed_path.specs.components.Dialects.{dot, is_separator, is_verbatim}
 use Rattle.typed_path.specs.components.Parts.{Part, Placed, end_of}
-use Rattle.typed_path.specs.components.Comps.{body, later_body, is_dot}
+use Rattle.typed_path.specs.components.Comps.{body, later_body, is_dot, is_dot_dot}
 use Rattle.typed_path.specs.scan.Masks.{differs_at}
 use Rattle.typed_path.specs.scan.Left.{first_of, last_of, but_last, slice_after_front, slice_after_back}
 use Rattle.typed_path.specs.changes.Spelled.{is_name_piece}
@@ -27,6 +27,10 @@ abbrev pub is_clean : Begin → Separators → List ℕ → Bool
 is_clean Body s text = true
 is_clean Inside s [] = true
 is_clean Inside s (b ∷ bs) = counts s (before_first (is_separator s) (b ∷ bs))
+
+-- the rank of a segment that is not empty: `.` comes before `..`, and that before names
+abbrev pub dots_rank : List ℕ → ℕ
+dots_rank segment = if is_dot segment then 0 else (if is_dot_dot segment then 1 else 2)
 
 -- a segment that holds such a byte is a name: it neither separates nor is a dot
 abbrev pub tells_name : Separators → ℕ → Bool

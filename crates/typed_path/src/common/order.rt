@@ -25,8 +25,8 @@ use crate::common::encoding::Encoding;
 use crate::common::path::Path;
 use crate::common::path_buf::PathBuf;
 use crate::scan::{
-    Body, Separators, Step, StepKind, WindowsPrefix, bodies_behind, bodies_behind_shared,
-    first_difference, order_behind, order_of_beginning, order_of_fronts,
+    Body, Separators, Step, StepKind, WindowsPrefix, bodies_behind_shared, first_difference,
+    order_behind, order_of_beginning, order_of_fronts, texts_behind,
 };
 use std::cmp::Ordering;
 use std::hash::{Hash, Hasher};
@@ -80,9 +80,9 @@ pub(crate) fn compare_parted(
     }
 }
 
-/// The same of two texts that do not part within names, by their first bytes, where one begins with the other, or by
-/// the bytes that stand behind what both begin with; all others are read. It is told how many bytes the two begin
-/// with.
+/// The same of two texts that do not part within names: by their first bytes, or where one begins with the other, and
+/// else behind the last separator that both begin with, as long as there is one; all others are read. It is told how
+/// many bytes the two begin with.
 ///
 /// It stands apart so that the order of most texts is told in place.
 fn compare_from(text: &[u8], other: &[u8], shared: usize, separators: Separators) -> Ordering
@@ -90,40 +90,46 @@ fn compare_from(text: &[u8], other: &[u8], shared: usize, separators: Separators
         (min (length text.now) (length other.now)) shared }
     ensures { result ≡ left_cmp (body separators 0 text.now) (body separators 0 other.now) }
 {
-    if shared == 0 {
-        if let Some(order) = order_of_fronts(text, other, separators) {
+    let mut rest = text;
+    let mut wanted = other;
+    let mut shared = shared;
+    'detours: loop {
+        if let Some(order) = order_of_borders(rest, wanted, shared, separators) {
+            return order;
+        }
+        let Some((own, others)) = texts_behind(rest, wanted, shared, separators) else {
+            return compare_each(
+                Body::new(rest, 0, separators),
+                Body::new(wanted, 0, separators),
+            );
+        };
+        rest = own;
+        wanted = others;
+        shared = first_difference(rest, wanted);
+        if let Some(order) = order_behind(rest, wanted, shared, separators) {
             return order;
         }
     }
-    if let Some(order) = order_of_beginning(text, other, shared, separators) {
-        return order;
-    }
-    let (rest, wanted) = bodies_behind(text, other, shared, separators);
-    match order_of_insides(&rest, &wanted) {
-        Some(order) => order,
-        None => compare_each(rest, wanted),
-    }
 }
 
-/// The order of what two readings with the same separators have left behind components that were passed over,
-/// where its bytes tell. None says nothing.
+/// The order of two texts by their first bytes, or where one begins with the other, as their bytes tell. None says
+/// nothing. It is told how many bytes the two begin with.
 #[inline(always)]
-fn order_of_insides(rest: &Body<'_>, wanted: &Body<'_>) -> Option<Ordering>
-    ensures { IfSome result (λ order. left_cmp (body_items rest.now) (body_items wanted.now)
-        ≡ order) }
+fn order_of_borders(
+    text: &[u8],
+    other: &[u8],
+    shared: usize,
+    separators: Separators,
+) -> Option<Ordering>
+    requires { IsFirstPlace (differs_at text.now other.now) 0
+        (min (length text.now) (length other.now)) shared }
+    ensures { IfSome result (λ order.
+        left_cmp (body separators 0 text.now) (body separators 0 other.now) ≡ order) }
 {
-    let separators = rest.separators;
-    if rest.is_whole() || !separators.is_same(wanted.separators) {
-        return None;
-    }
-    let text = rest.as_bytes();
-    let other = wanted.as_bytes();
-    if let Some(order) = order_of_fronts(text, other, separators) {
-        return Some(order);
-    }
-    let shared = first_difference(text, other);
-    if let Some(order) = order_behind(text, other, shared, separators) {
-        return Some(order);
+    if shared <= 2 {
+        if let Some(order) = order_of_fronts(text, other, separators) {
+            return Some(order);
+        }
     }
     order_of_beginning(text, other, shared, separators)
 }
@@ -180,7 +186,7 @@ fn compare_components<T: Encoding>(path: &[u8], other: &[u8]) -> Ordering
 
 /// The order of what two readings have left, component by component.
 #[inline(always)]
-fn compare_each(mut rest: Body<'_>, mut wanted: Body<'_>) -> Ordering
+pub(crate) fn compare_each(mut rest: Body<'_>, mut wanted: Body<'_>) -> Ordering
     ensures { result ≡ left_cmp (body_items rest.entry) (body_items wanted.entry) }
 {
     'steps: while let Some(step) = wanted.front() {

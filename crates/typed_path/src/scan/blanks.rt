@@ -3,13 +3,13 @@
 ghost use Rattle.std.specs.Prelude.{◌≡◌, ◌≤◌, ℕ, Bool, length, false, IsTrue};
 ghost use Rattle.std.specs.List.{list_any};
 ghost use Rattle.typed_path.specs.components.{body};
-ghost use Rattle.typed_path.specs.scan.{has_blank_behind, MarksNoBlank};
+ghost use Rattle.typed_path.specs.scan.{begins_blank, has_blank_behind, MarksNoBlank};
 
 use crate::scan::lanes::marks_at;
 use crate::scan::separators::Separators;
 
 /// Whether the bytes of a text tell that none of its segments but the first is empty or `.`. False says
-/// nothing, as of each text of a few bytes.
+/// nothing.
 #[inline(always)]
 pub fn has_no_blank_behind(text: &[u8], separators: Separators) -> bool
     ensures { IsTrue result → has_blank_behind separators text.now ≡ false }
@@ -24,7 +24,35 @@ pub fn has_no_blank_behind(text: &[u8], separators: Separators) -> bool
     if 8 <= len {
         return has_no_blank_in_blocks::<8>(text, separators);
     }
-    false
+    has_no_blank_by_one(text, separators)
+}
+
+/// The same, byte by byte.
+#[inline(always)]
+fn has_no_blank_by_one(text: &[u8], separators: Separators) -> bool
+    ensures { IsTrue result → has_blank_behind separators text.now ≡ false }
+{
+    let mut left = text;
+    'bytes: while let [first, rest @ ..] = left {
+        if separators.contains(*first) && begins_blank(rest, separators) {
+            return false;
+        }
+        left = rest;
+    }
+    true
+}
+
+/// Whether the first segment of a text is empty or `.`.
+#[inline(always)]
+fn begins_blank(text: &[u8], separators: Separators) -> bool
+    ensures { result ≡ begins_blank separators text.now }
+{
+    match text {
+        [] | [b'.'] => true,
+        [first, ..] if separators.contains(*first) => true,
+        [b'.', second, ..] => separators.contains(*second),
+        _ => false,
+    }
 }
 
 /// The same by blocks of N bytes. Behind a separator two bytes are looked at, so a block begins two bytes
@@ -71,4 +99,11 @@ pub fn before_last_separator(text: &[u8], separators: Separators) -> &[u8]
         [before @ .., last] if separators.contains(*last) && !before.is_empty() => before,
         _ => text,
     }
+}
+
+/// Whether a text goes on behind 64 bytes of which none separates on Windows: a look at the whole of it would cost more
+/// than its name. It only chooses between two ways to one answer.
+#[inline(always)]
+pub fn begins_with_long_name(text: &[u8]) -> bool {
+    64 < text.len() && marks_at::<64>(text, 0, (b'/', b'\\')) == 0
 }

@@ -5,9 +5,9 @@ ghost use Rattle.std.specs.Prelude.{◌≡◌, ◌≢◌, ◌≤◌, ◌<◌, �
 ghost use Rattle.std.specs.List.{slice_split, position_or_len, before_first, starts_with, IsAfterLastMatch};
 ghost use Rattle.std.specs.Slice.Scan.{IsFirstPlace};
 ghost use Rattle.std.specs.Str.{bytes_eq};
-ghost use Rattle.std.specs.Ordering.{is_ne, ordering_reverse};
-ghost use Rattle.typed_path.specs.components.{is_separator, body, later_body, parts, texts};
-ghost use Rattle.typed_path.specs.scan.{is_clean, begins_with_name, tells_name, differs_at, PartWithinNames};
+ghost use Rattle.std.specs.Ordering.{is_ne, nat_cmp, ordering_reverse};
+ghost use Rattle.typed_path.specs.components.{is_separator, is_dot, body, later_body, parts, texts};
+ghost use Rattle.typed_path.specs.scan.{is_clean, begins_with_name, tells_name, differs_at, dots_rank, PartWithinNames};
 ghost use Rattle.typed_path.specs.declared.scan.cursor.Begin.{Begin};
 ghost use Rattle.typed_path.specs.order.{left_cmp, bytes_cmp};
 ghost use Rattle.typed_path.specs.views.BodyViews.{body_items};
@@ -167,7 +167,7 @@ pub fn bodies_behind_shared<'a>(rest: Body<'a>, wanted: Body<'a>) -> (Body<'a>, 
 /// Two readings, behind the last separator that two texts begin with, which compare as the texts do. It
 /// is told how many bytes the two begin with.
 #[inline(always)]
-pub fn bodies_behind<'a>(
+fn bodies_behind<'a>(
     text: &'a [u8],
     other: &'a [u8],
     shared: usize,
@@ -191,6 +191,48 @@ pub fn bodies_behind<'a>(
         Body::inside(text, from, separators),
         Body::inside(other, other_from, separators),
     )
+}
+
+/// What two texts hold behind the last separator that both begin with, and behind the blanks there: the one is in
+/// order with the other, and begins with it, as the texts do. None where they begin with no separator. It is told how
+/// many bytes the two begin with.
+#[inline(always)]
+pub fn texts_behind<'a>(
+    text: &'a [u8],
+    other: &'a [u8],
+    shared: usize,
+    separators: Separators,
+) -> Option<(&'a [u8], &'a [u8])>
+    requires { IsFirstPlace (differs_at text.now other.now) 0
+        (min (length text.now) (length other.now)) shared }
+    ensures order { IfSome result (λ behind.
+        left_cmp (body separators 0 behind.0.now) (body separators 0 behind.1.now)
+        ≡ left_cmp (body separators 0 text.now) (body separators 0 other.now)) }
+    ensures begins { IfSome result (λ behind.
+        starts_with bytes_eq (texts (parts (body separators 0 behind.0.now)))
+        (texts (parts (body separators 0 behind.1.now)))
+        ≡ starts_with bytes_eq (texts (parts (body separators 0 text.now)))
+        (texts (parts (body separators 0 other.now)))) }
+    ensures shorter { IfSome result (λ behind. length behind.0.now < length text.now) }
+{
+    let start = last_start(&text[..shared], separators);
+    if start == 0 {
+        return None;
+    }
+    Some((
+        behind_blanks(&text[start..], separators),
+        behind_blanks(&other[start..], separators),
+    ))
+}
+
+/// What stands behind the blanks that a text begins with which stands behind a component.
+#[inline(always)]
+fn behind_blanks(text: &[u8], separators: Separators) -> &[u8]
+    ensures same { (at : ℕ) → parts (body separators 0 result.now)
+        ≡ parts (later_body separators at text.now) }
+    ensures shorter { length result.now ≤ length text.now }
+{
+    &text[skip_blanks(text, separators)..]
 }
 
 /// The order of two texts that are read from their beginnings, where the bytes tell: the texts are one,
@@ -223,7 +265,8 @@ pub fn order_behind(
 }
 
 /// The order of two texts that are read from their beginnings, where one alone is empty, or begins with a root,
-/// or where one begins with a dot and the other with a greater byte. None says nothing.
+/// or where one begins with a dot and the other with a greater byte, or both with dots of another rank. None says
+/// nothing.
 #[inline(always)]
 pub fn order_of_fronts(text: &[u8], other: &[u8], separators: Separators) -> Option<Ordering>
     ensures { IfSome result (λ order.
@@ -251,7 +294,7 @@ pub fn order_of_fronts(text: &[u8], other: &[u8], separators: Separators) -> Opt
 }
 
 /// The order of two texts that begin with no separator, where one begins with a dot and the other with a greater
-/// byte, so with a name. None says nothing.
+/// byte, so with a name, or where both begin with dots of another rank. None says nothing.
 #[inline(always)]
 fn order_of_dots(text: &[u8], other: &[u8], separators: Separators) -> Option<Ordering>
     ensures { IfSome result (λ order.
@@ -268,7 +311,44 @@ fn order_of_dots(text: &[u8], other: &[u8], separators: Separators) -> Option<Or
     match own.cmp(wanted) {
         Ordering::Less if *own == b'.' => Some(Ordering::Less),
         Ordering::Greater if *wanted == b'.' => Some(Ordering::Greater),
+        Ordering::Equal if *own == b'.' => order_of_ranks(text, other, separators),
         _ => None,
+    }
+}
+
+/// The order of two texts that begin with no separator, where their first segments are of two ranks: `.`, `..` and
+/// names. None says nothing.
+#[inline(always)]
+fn order_of_ranks(text: &[u8], other: &[u8], separators: Separators) -> Option<Ordering>
+    ensures { IfSome result (λ order. (is_ne order ≡ true)
+        × (nat_cmp (dots_rank (before_first (is_separator separators) text.now))
+        (dots_rank (before_first (is_separator separators) other.now)) ≡ order)) }
+{
+    let order = front_rank(text, separators).cmp(&front_rank(other, separators));
+    if order.is_ne() { Some(order) } else { None }
+}
+
+/// The rank of the first segment of a text: that of `.`, of `..`, or of all others. No more than three bytes tell.
+#[inline(always)]
+fn front_rank(text: &[u8], separators: Separators) -> u8
+    ensures { result ≡ dots_rank (before_first (is_separator separators) text.now) }
+{
+    match text {
+        _ if begins_with_dot(text, separators) => 0,
+        [b'.', behind @ ..] if begins_with_dot(behind, separators) => 1,
+        _ => 2,
+    }
+}
+
+/// Whether the first segment of a text is `.`.
+#[inline(always)]
+fn begins_with_dot(text: &[u8], separators: Separators) -> bool
+    ensures { result ≡ is_dot (before_first (is_separator separators) text.now) }
+{
+    match text {
+        [b'.'] => true,
+        [b'.', behind, ..] => separators.contains(*behind),
+        _ => false,
     }
 }
 
@@ -330,8 +410,9 @@ pub fn order_of_beginning(
     None
 }
 
-/// Whether the bytes of two texts tell that they differ in a name in one place. False says nothing. It is
-/// told how many bytes the two begin with.
+/// Whether the bytes of two texts tell that they differ in a component in one place: in a name, in their first
+/// components, or behind the last separator that both begin with. False says nothing. It is told how many bytes the
+/// two begin with.
 #[inline(always)]
 pub fn are_apart(text: &[u8], other: &[u8], shared: usize, separators: Separators) -> bool
     requires { IsFirstPlace (differs_at text.now other.now) 0
@@ -341,7 +422,40 @@ pub fn are_apart(text: &[u8], other: &[u8], shared: usize, separators: Separator
 {
     match order_behind(text, other, shared, separators) {
         Some(order) => order.is_ne(),
+        None if shared == 0 => have_other_fronts(text, other, separators),
+        None if shared <= 2 => begin_with_other_dots(text, other, separators),
+        None => part_at_dots(text, other, shared, separators),
+    }
+}
+
+/// Whether two texts part where a dot stands in the other, or behind one, and what they hold behind the last separator
+/// that both begin with, and behind the blanks there, begins otherwise. False says nothing.
+#[inline(always)]
+fn part_at_dots(text: &[u8], other: &[u8], shared: usize, separators: Separators) -> bool
+    requires { IsFirstPlace (differs_at text.now other.now) 0
+        (min (length text.now) (length other.now)) shared }
+    ensures { IsTrue result → starts_with bytes_eq (texts (parts (body separators 0 text.now)))
+        (texts (parts (body separators 0 other.now))) ≡ false }
+{
+    if !matches!(&text[..shared], [.., b'.']) && !matches!(&other[shared..], [b'.', ..]) {
+        return false;
+    }
+    match texts_behind(text, other, shared, separators) {
+        Some((own, wanted)) => have_other_fronts(own, wanted, separators),
         None => false,
+    }
+}
+
+/// Whether two texts that are read from their beginnings begin with a dot, and their first segments are of two ranks:
+/// `.`, `..` and names. False says nothing.
+#[inline(always)]
+fn begin_with_other_dots(text: &[u8], other: &[u8], separators: Separators) -> bool
+    ensures { IsTrue result → starts_with bytes_eq (texts (parts (body separators 0 text.now)))
+        (texts (parts (body separators 0 other.now))) ≡ false }
+{
+    match (text, other) {
+        ([b'.', ..], [b'.', ..]) => order_of_ranks(text, other, separators).is_some(),
+        _ => false,
     }
 }
 
@@ -386,14 +500,17 @@ fn ends_with_name(text: &[u8], separators: Separators) -> bool
     }
 }
 
-/// Whether a text begins with a name, as its first byte tells. False says nothing.
+/// Whether a text begins with a name, as its first byte tells, or where that is a dot, those behind it. False says
+/// nothing.
 #[inline(always)]
 fn begins_with_name(text: &[u8], separators: Separators) -> bool
     ensures { IsTrue result → begins_with_name separators text.now ≡ true }
 {
-    match text.split_first() {
-        Some((first, _)) => tells_name(*first, separators),
-        None => false,
+    match text {
+        [b'.', b'.', third, ..] => !separators.contains(*third),
+        [b'.', second, ..] => tells_name(*second, separators),
+        [first, ..] => tells_name(*first, separators),
+        [] => false,
     }
 }
 

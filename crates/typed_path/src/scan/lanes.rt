@@ -1,14 +1,14 @@
-//! Bytes found by blocks of 32, of 16, of 8 and of 4. What is looked for is a pair, which is one
+//! Bytes found by blocks of 64, of 32, of 16, of 8 and of 4. What is looked for is a pair, which is one
 //! byte twice where no other is: so one and two are looked for in the same way. Of the bytes that no
 //! name of Windows may have, it is only told whether a text has one, of NUL and two dots side by side
 //! likewise, and of what stands between the bytes of a pair, how much at the front is names. Of two texts
 //! the first place is found at which they differ.
 
-ghost use Rattle.std.specs.Prelude.{◌≡◌, ◌≢◌, ◌≤◌, ◌<◌, ◌+◌, ◌-◌, ◌%◌, ◌^◌, ◌==◌, ℕ, Bool, true, IsTrue, MatchOption, length, min, map, take, drop, slice_index};
+ghost use Rattle.std.specs.Prelude.{◌≡◌, ◌≢◌, ◌≤◌, ◌<◌, ◌+◌, ◌-◌, ◌%◌, ◌^◌, ◌==◌, ℕ, Bool, true, false, IsTrue, MatchOption, length, min, map, take, drop, slice_index};
 ghost use Rattle.std.specs.Int.{bit_at};
 ghost use Rattle.std.specs.List.{list_any, list_all, slice_split};
 ghost use Rattle.std.specs.Slice.Scan.{HoldsNowhere, IsFirstPlace};
-ghost use Rattle.typed_path.specs.changes.{is_forbidden, is_forbidden_or, forbidden_at, is_low, begins_no_name, begins_no_name_at, is_name_piece, is_nul_or_dot_pair, nul_or_dot_pair_at, has_no_nul_or_dot_pair, AreNamesBefore};
+ghost use Rattle.typed_path.specs.changes.{is_forbidden, is_forbidden_or, forbidden_at, is_letter_of, begins_no_name, begins_no_name_at, is_name_piece, is_nul_or_dot_pair, nul_or_dot_pair_at, has_no_nul_or_dot_pair, AreNamesBefore};
 ghost use Rattle.typed_path.specs.scan.{IsMask, TellsWhether, is_one_of, stands_at, differs_at, IsFirstOf, IsBehindLastOf};
 
 use std::simd::prelude::*;
@@ -337,6 +337,8 @@ fn first_difference_by_one(text: &[u8], other: &[u8], to: usize) -> usize
 
 /// The first place at which two texts differ, or the length of the shorter one where they are alike up
 /// to there.
+///
+/// While they are alike, and go on for two blocks of 64, one of them is compared at once.
 #[inline(always)]
 pub fn first_difference(text: &[u8], other: &[u8]) -> usize
     ensures { IsFirstPlace (differs_at text.now other.now) 0
@@ -344,7 +346,10 @@ pub fn first_difference(text: &[u8], other: &[u8]) -> usize
 {
     let len = text.len().min(other.len());
     let mut at = 0;
-    while 32 <= len - at {
+    'pairs: while 128 <= len - at && !differs_in_block::<64>(text, other, at) {
+        at += 64;
+    }
+    'wholes: while 32 <= len - at {
         let found = first_difference_in_block::<32>(text, other, at);
         if found < at + 32 {
             return found;
@@ -434,19 +439,21 @@ fn forbidden_in_32_at(text: &[u8], at: usize, pair: (u8, u8)) -> u64
         | (block.simd_eq(Simd::splat(pair.0)) | block.simd_eq(Simd::splat(pair.1)))).to_bitmask()
 }
 
-/// Which bytes of a block of 32 have those low five bits that a table holds at their low four. Letters of either
-/// case are one.
+/// Which bytes of a block of 32 are letters that a table holds as capitals at their low four bits.
 #[inline(always)]
-pub fn low_bits_at(text: &[u8], at: usize, table: u8x32) -> u64
+pub fn letters_at(text: &[u8], at: usize, table: u8x32) -> u64
     requires in_range { at + 32 ≤ length text.now }
     requires twice { drop 16 table ≡ take 16 table }
-    ensures { IsMask (λ k. is_low table (slice_index text.now (at + k))) 32 result }
+    ensures { IsMask (λ k. is_letter_of table (slice_index text.now (at + k))) 32 result }
 {
     let block = u8x32::from_slice(&text[at..]);
     at_low_bits(table, block)
-        .simd_eq(block & u8x32::splat(31))
+        .simd_eq(block & u8x32::splat(CAPITAL))
         .to_bitmask()
 }
+
+/// All bits of a byte but that by which a small letter differs from its capital.
+const CAPITAL: u8 = 0xDF;
 
 /// Whether a block of 32 bytes has a byte that no name of Windows may have, and that separates in no text, or
 /// one of a pair.
@@ -695,13 +702,16 @@ fn first_no_name_by_one(text: &[u8], to: usize, pair: (u8, u8)) -> usize
     at
 }
 
-/// The first such byte before a place of a text, or that place.
+/// The first such byte before a place of a text, or that place. It is told of bytes at the front that none is such a
+/// one.
 #[inline(always)]
-fn first_no_name(text: &[u8], to: usize, pair: (u8, u8)) -> usize
-    requires { to + 2 ≤ length text.now }
+fn first_no_name(text: &[u8], from: usize, to: usize, pair: (u8, u8)) -> usize
+    requires room { to + 2 ≤ length text.now }
+    requires ordered { from ≤ to }
+    requires passed { HoldsNowhere (begins_no_name_at pair text.now) 0 from }
     ensures { IsFirstPlace (begins_no_name_at pair text.now) 0 to result }
 {
-    let mut at = 0;
+    let mut at = from;
     'wholes: while 32 <= to - at {
         let found = first_no_name_in_block::<32>(text, at, pair);
         if found < at + 32 {
@@ -744,8 +754,55 @@ pub fn leading_names(text: &[u8], pair: (u8, u8)) -> Option<usize>
     if begins_no_name(pair, *first, *second) {
         return Some(0);
     }
+    names_behind(text, 0, pair)
+}
+
+/// The same of a text of 34 bytes and more only where its names are short: none are told where fewer than three
+/// separators stand in its first 32 bytes, or before the first of them with no name behind it. Names put one by one
+/// cost less then than a look for those that follow.
+#[inline(always)]
+pub fn leading_short_names(text: &[u8], pair: (u8, u8)) -> Option<usize>
+    ensures { MatchOption result
+        (list_all is_name_piece (slice_split (is_one_of pair) text.now) ≡ true)
+        (λ place. AreNamesBefore pair text.now place) }
+{
+    if text.len() < 34 {
+        return leading_names(text, pair);
+    }
+    let [first, second, ..] = text else {
+        return Some(0);
+    };
+    if begins_no_name(pair, *first, *second) {
+        return Some(0);
+    }
+    let ends = marks_at::<32>(text, 0, pair);
+    if ends.count_ones() < 3 {
+        return Some(0);
+    }
+    let others = no_names_at::<32>(text, 0, pair);
+    if others == 0 {
+        return names_behind(text, 32, pair);
+    }
+    let run = lowest(others);
+    if (ends & ((1 << run) - 1)).count_ones() < 3 {
+        return Some(0);
+    }
+    Some(run + 1)
+}
+
+/// How many bytes at the front of a text of two bytes and more, which begins with a name, are names. It is told of
+/// bytes at the front that none has a piece behind it that is no name.
+#[inline(always)]
+fn names_behind(text: &[u8], from: usize, pair: (u8, u8)) -> Option<usize>
+    requires size { from + 2 ≤ length text.now }
+    requires first { begins_no_name pair (slice_index text.now 0) (slice_index text.now 1) ≡ false }
+    requires passed { HoldsNowhere (begins_no_name_at pair text.now) 0 from }
+    ensures { MatchOption result
+        (list_all is_name_piece (slice_split (is_one_of pair) text.now) ≡ true)
+        (λ place. AreNamesBefore pair text.now place) }
+{
     let to = text.len() - 2;
-    let found = first_no_name(text, to, pair);
+    let found = first_no_name(text, from, to, pair);
     if found < to {
         return Some(found + 1);
     }

@@ -1,19 +1,20 @@
 //! Which bytes separate the components of a text, how such a byte is found, and which names stand
 //! between them.
 
-ghost use Rattle.std.specs.Prelude.{◌≡◌, ◌≤◌, ◌<◌, ◌+◌, ◌-◌, ◌*◌, ◌^◌, ◌==◌, ◌||◌, ◌&&◌, ℕ, not, length, true, drop, slice_range, slice_index, IsTrue};
+ghost use Rattle.std.specs.Prelude.{◌≡◌, ◌≤◌, ◌<◌, ◌+◌, ◌-◌, ◌*◌, ◌^◌, ◌==◌, ◌||◌, ◌&&◌, ℕ, not, length, true, drop, slice_range, slice_index, false, IsTrue, IsFalse};
 ghost use Rattle.std.specs.Int.{bit_at};
 ghost use Rattle.std.specs.List.{position_or_len, list_any, before_first, IsAfterLastMatch, slice_split};
 ghost use Rattle.std.specs.Char.{to_ascii_lowercase};
 ghost use Rattle.typed_path.specs.scan.{TellsWhether, is_one_of};
 ghost use Rattle.typed_path.specs.components.{windows, slash, backslash, separators, is_separator, is_verbatim, root_text, dialect_of, body, kinds, parts};
 ghost use Rattle.typed_path.specs.queries.{has_allowed_bytes, is_reserved, is_valid_name, is_valid};
-ghost use Rattle.typed_path.specs.changes.{AreMayBegins, BeginsNone, TellsBegins, SeparatesDisallowed, is_stray, is_bare_device, is_numbered_device, may_be_reserved, is_parent_or_device, begins_like_parent_or_device, begins_with_parent_or_device, is_in, ends_stem, may_end_stem, has_parent_or_device, has_parent_or_device_behind, behind_root};
+ghost use Rattle.std.specs.Slice.Scan.{HoldsNowhere};
+ghost use Rattle.typed_path.specs.changes.{AreMayBegins, BeginsNone, TellsBegins, SeparatesDisallowed, is_stray, is_bare_device, is_numbered_device, may_be_reserved, is_forbidden_or, has_stray_of, stray_of_at, dot_pair_at, has_dot_pair, begins_like_device, begins_with_device, is_in, ends_stem, may_end_stem, has_device, has_device_behind};
 
 use crate::scan::cut::cut_at_separator;
 use crate::scan::lanes::{
     first_between, has_forbidden, has_no_nul_or_dot_pair, is_forbidden_in_32, is_one_of,
-    last_between, low_bits_at, lowest, marks_at,
+    last_between, letters_at, lowest, marks_at,
 };
 use memchr::memchr;
 use std::simd::prelude::*;
@@ -244,21 +245,18 @@ fn is_numbered_device(first: u8, second: u8, third: u8, last: u8) -> bool
     ) && matches!(last.to_ascii_lowercase(), b'0'..=b'9')
 }
 
-/// How many bytes a text has at least of which looks by blocks tell whether a segment stands for a device: the
-/// segments of a shorter one are asked at once.
-pub const LEAST: usize = 32;
+/// How many bytes a text has at least that is looked at by blocks for segments that stand for a device.
+const LEAST: usize = 32;
 
-/// Whether a segment of a text stands for a device. Of most texts of Windows of 32 bytes and more that are not
-/// read verbatim two looks tell: one that no segment is `..`, and one for devices and these.
+/// Whether a segment of a text stands for a device. One look tells of texts of Windows that are not read verbatim,
+/// but for those of a few bytes.
 #[inline(always)]
 pub fn has_reserved(text: &[u8], separators: Separators) -> bool
     ensures { result ≡ list_any (is_reserved (dialect_of separators))
         (slice_split (is_separator separators) text.now) }
 {
-    if separators.is_same(Separators::Either) {
-        if LEAST <= text.len() && has_no_nul_or_dot_pair(text) {
-            return has_parent_or_device(text);
-        }
+    if LEAST <= text.len() && separators.is_same(Separators::Either) {
+        return has_device(text);
     }
     let mut rest = text;
     'segments: while let Some((segment, behind)) = cut_at_separator(separators, rest) {
@@ -285,68 +283,146 @@ pub fn has_valid_names(text: &[u8], separators: Separators) -> bool
     }
 }
 
-/// Whether a segment of a text of Windows that is not read verbatim is `..` or stands for a device.
-pub fn has_parent_or_device(text: &[u8]) -> bool
-    ensures { result ≡ has_parent_or_device text.now }
+/// Whether a segment of a text of Windows that is not read verbatim stands for a device.
+fn has_device(text: &[u8]) -> bool
+    ensures { result ≡ has_device text.now }
 {
-    has_parent_device_or(false, text)
+    !matches!(look_for(false, None, text), Look::Clean)
 }
 
-/// Whether a byte of such a text strays, or a segment is `..` or stands for a device.
-pub fn has_stray_parent_or_device(text: &[u8]) -> bool
-    ensures { result
-        ≡ (list_any (is_stray Separators.Either) text.now || has_parent_or_device text.now) }
+/// Whether such a text has a byte that no name of Windows may have, or a `\`, or a segment that stands for a device.
+pub fn has_forbidden_or_device(text: &[u8]) -> bool
+    ensures { result ≡ (list_any (is_forbidden_or (backslash, backslash)) text.now
+        || has_device text.now) }
 {
-    has_parent_device_or(true, text)
+    !matches!(look_for(false, Some((b'\\', b'\\')), text), Look::Clean)
 }
 
-/// Whether a segment of such a text is `..` or stands for a device, or, where that is asked for, whether a
-/// byte strays.
+/// Looks at a path of Windows that is not read verbatim for bytes that stray, for two dots side by side, and for
+/// segments that stand for devices, up to the first block that has one.
+pub fn look_at_path(path: &[u8]) -> Look
+    ensures clean { result ≡ Look.Clean → (list_any (is_stray Separators.Either) path.now ≡ false)
+        × (has_device path.now ≡ false) × (has_dot_pair path.now ≡ false) }
+    ensures offence { (n : ℕ) → result ≡ Look.Offence n → (n ≤ length path.now)
+        × ((list_any (is_stray Separators.Either) path.now || has_device path.now) ≡ true) }
+    ensures whole { result ≡ Look.Offence (length path.now) → has_dot_pair path.now ≡ false }
+{
+    look_for(true, Some((b':', b':')), path)
+}
+
+/// What a look at a text of Windows found.
+#[derive(Clone, Copy, Debug)]
+pub enum Look {
+    /// Nothing that was looked for.
+    Clean,
+    /// Two dots side by side; in a text of a few bytes NUL too.
+    Dots,
+    /// One of the others, and how many bytes had been looked at: where two dots are asked for, none stand side by side up
+    /// to there.
+    Offence(usize),
+}
+
+/// Looks at a text of Windows that is not read verbatim for segments that stand for devices, and, where these are
+/// asked for, for two dots side by side, and for bytes that no name may have or that are one of a pair.
 ///
-/// The separators of a block are found at once, and with them behind which of these such a segment may
-/// stand, as few others begin and end so: of these alone the segments are looked at.
+/// The separators of a block are found at once, and with them behind which of these a device may stand, as few
+/// segments begin and end so: of these alone the segments are looked at.
 #[inline(always)]
-fn has_parent_device_or(strays: bool, text: &[u8]) -> bool
-    ensures { result ≡ ((strays && list_any (is_stray Separators.Either) text.now)
-        || has_parent_or_device text.now) }
+fn look_for(dots: bool, strays: Option<(u8, u8)>, text: &[u8]) -> Look
+    ensures clean { result ≡ Look.Clean → (has_stray_of strays text.now ≡ false)
+        × (has_device text.now ≡ false) × (IsTrue dots → has_dot_pair text.now ≡ false) }
+    ensures dots { result ≡ Look.Dots → IsTrue dots }
+    ensures offence { (n : ℕ) → result ≡ Look.Offence n → (n ≤ length text.now)
+        × ((has_stray_of strays text.now || has_device text.now) ≡ true) }
+    ensures whole { IsTrue dots → result ≡ Look.Offence (length text.now)
+        → has_dot_pair text.now ≡ false }
 {
-    if begins_with_parent_or_device(text) {
-        return true;
-    }
     let len = text.len();
-    if len < 32 {
-        if strays && Separators::Either.has_stray(text) {
-            return true;
-        }
-        return has_parent_or_device_behind(text);
+    if len < LEAST {
+        return look_by_segments(dots, strays, text);
+    }
+    if begins_with_device(text) {
+        return Look::Offence(0);
     }
     let mut at = 0;
     'wholes: while 32 < len - at {
-        if strays && has_stray_at(text, at) {
-            return true;
+        if dots && has_dot_pair_at(text, at) {
+            return Look::Dots;
+        }
+        if has_stray_at(strays, text, at) {
+            return Look::Offence(at + 32);
         }
         let marks = may_begins_at(text, at, 0) & LOOKED;
-        if has_parent_or_device_at(text, at, at + 27, marks) {
-            return true;
+        if has_device_at(text, at, at + 27, marks) {
+            return Look::Offence(at + 32);
         }
         at += 27;
     }
-    if strays && has_stray_at(text, len - 32) {
-        return true;
+    if dots && has_dot_pair_at(text, len - 32) {
+        return Look::Dots;
+    }
+    if has_stray_at(strays, text, len - 32) {
+        return Look::Offence(len);
     }
     let outside = 32 - (len - at);
     let marks = may_begins_at(text, len - 32, ENDED);
-    has_parent_or_device_at(text, at, len, marks >> outside)
+    if has_device_at(text, at, len, marks >> outside) {
+        return Look::Offence(len);
+    }
+    Look::Clean
 }
 
-/// Whether a byte of a block of 32 strays in such a text.
+/// The same of a text of a few bytes, segment by segment.
 #[inline(always)]
-fn has_stray_at(text: &[u8], at: usize) -> bool
-    requires in_range { at + 32 ≤ length text.now }
-    ensures { TellsWhether (λ k. is_stray Separators.Either (slice_index text.now k)) at (at + 32)
-        result }
+fn look_by_segments(dots: bool, strays: Option<(u8, u8)>, text: &[u8]) -> Look
+    ensures clean { result ≡ Look.Clean → (has_stray_of strays text.now ≡ false)
+        × (has_device text.now ≡ false) × (IsTrue dots → has_dot_pair text.now ≡ false) }
+    ensures dots { result ≡ Look.Dots → IsTrue dots }
+    ensures offence { (n : ℕ) → result ≡ Look.Offence n → (n ≤ length text.now)
+        × ((has_stray_of strays text.now || has_device text.now) ≡ true) }
+    ensures whole { IsTrue dots → result ≡ Look.Offence (length text.now)
+        → has_dot_pair text.now ≡ false }
 {
-    is_forbidden_in_32(text, at, (b':', b':'))
+    if dots && !has_no_nul_or_dot_pair(text) {
+        return Look::Dots;
+    }
+    if has_stray_of(strays, text) || begins_with_device(text) || has_device_behind(text) {
+        return Look::Offence(text.len());
+    }
+    Look::Clean
+}
+
+/// Whether two dots stand side by side in a block of 32 bytes of a text.
+#[inline(always)]
+fn has_dot_pair_at(text: &[u8], at: usize) -> bool
+    requires in_range { at + 32 ≤ length text.now }
+    ensures { IsFalse result → HoldsNowhere (dot_pair_at text.now) at (at + 31) }
+{
+    let dots = marks_at::<32>(text, at, (b'.', b'.'));
+    dots & (dots >> 1) != 0
+}
+
+/// Whether a byte of a text is one that no name of Windows may have, or one of a pair, where such are asked for.
+#[inline(always)]
+fn has_stray_of(strays: Option<(u8, u8)>, text: &[u8]) -> bool
+    ensures { result ≡ has_stray_of strays text.now }
+{
+    match strays {
+        Some(pair) => has_forbidden(text, pair),
+        None => false,
+    }
+}
+
+/// The same of a block of 32.
+#[inline(always)]
+fn has_stray_at(strays: Option<(u8, u8)>, text: &[u8], at: usize) -> bool
+    requires in_range { at + 32 ≤ length text.now }
+    ensures { TellsWhether (stray_of_at strays text.now) at (at + 32) result }
+{
+    match strays {
+        Some(pair) => is_forbidden_in_32(text, at, pair),
+        None => false,
+    }
 }
 
 /// The bits of the places of a block behind which five more bytes of it stand.
@@ -355,23 +431,21 @@ const LOOKED: u64 = (1 << 27) - 1;
 /// The bits of the places behind the last block of a text, where each stem ends.
 const ENDED: u64 = 31 << 32;
 
-/// The low five bits of `.acnlp`, with which `..` and the devices begin, each at the place of its low four; twice,
-/// as a block of 32 asks for it. Elsewhere stand bits whose place is another.
+/// The letters with which names of devices begin, as capitals, each at the place of its low four bits; twice, as a
+/// block of 32 asks for it. Elsewhere stands a byte whose place is another.
 const FIRSTS: [u8; 32] = [
-    16, 1, 0, 3, 0, 0, 0, 0, 0, 0, 0, 0, 12, 0, 14, 0, 16, 1, 0, 3, 0, 0, 0, 0, 0, 0, 0, 0, 12, 0,
-    14, 0,
+    b'P', b'A', 0, b'C', 0, 0, 0, 0, 0, 0, 0, 0, b'L', 0, b'N', 0, b'P', b'A', 0, b'C', 0, 0, 0, 0,
+    0, 0, 0, 0, b'L', 0, b'N', 0,
 ];
 
-/// The same of `.opru`, which stand second.
+/// The same of those that stand second.
 const SECONDS: [u8; 32] = [
-    16, 0, 18, 0, 0, 21, 0, 0, 0, 0, 0, 0, 0, 0, 14, 15, 16, 0, 18, 0, 0, 21, 0, 0, 0, 0, 0, 0, 0,
-    0, 14, 15,
+    b'P', 0, b'R', 0, 0, b'U', 0, 0, 0, 0, 0, 0, 0, 0, 0, b'O', b'P', 0, b'R', 0, 0, b'U', 0, 0, 0,
+    0, 0, 0, 0, 0, 0, b'O',
 ];
 
-/// Which bytes of a block of 32 separate, with the first bytes of `..` or of a device behind them, as far
-/// as the block tells, or the marks of ends behind it.
-///
-/// The first byte is one of `.acnlp`, and the second one of `.opru`, by their low five bits.
+/// Which bytes of a block of 32 separate, with the first bytes of a device behind them, as far as the block tells, or
+/// the marks of ends behind it.
 #[inline(always)]
 fn may_begins_at(text: &[u8], at: usize, behind: u64) -> u64
     requires in_range { at + 32 ≤ length text.now }
@@ -383,29 +457,23 @@ fn may_begins_at(text: &[u8], at: usize, behind: u64) -> u64
 {
     let separators = marks_at::<32>(text, at, (b'/', b'\\'));
     let dots = marks_at::<32>(text, at, (b'.', b'.'));
-    let firsts = low_bits_at(text, at, u8x32::from_array(FIRSTS));
-    let seconds = low_bits_at(text, at, u8x32::from_array(SECONDS));
-    may_begins(
-        separators,
-        firsts,
-        seconds,
-        dots,
-        separators | dots | behind,
-    )
+    let firsts = letters_at(text, at, u8x32::from_array(FIRSTS));
+    let seconds = letters_at(text, at, u8x32::from_array(SECONDS));
+    may_begins(separators, firsts, seconds, separators | dots | behind)
 }
 
-/// Marks of separators behind which such bytes stand, by those of all separators, of first and second
-/// letters, of dots and of what ends a stem.
+/// Marks of separators behind which such bytes stand, by those of all separators, of first and second letters and of
+/// what ends a stem.
 #[inline(always)]
-fn may_begins(separators: u64, firsts: u64, seconds: u64, dots: u64, ends: u64) -> u64
-    ensures { AreMayBegins separators firsts seconds dots ends result }
+fn may_begins(separators: u64, firsts: u64, seconds: u64, ends: u64) -> u64
+    ensures { AreMayBegins separators firsts seconds ends result }
 {
-    separators & ((firsts >> 1) & ((seconds >> 2) & ((dots >> 2) | ((ends >> 4) | (ends >> 5)))))
+    separators & ((firsts >> 1) & ((seconds >> 2) & ((ends >> 4) | (ends >> 5))))
 }
 
-/// Whether a segment behind a separator of such a text is `..` or stands for a device.
-fn has_parent_or_device_behind(text: &[u8]) -> bool
-    ensures { result ≡ has_parent_or_device_behind text.now }
+/// Whether a segment behind a separator of such a text stands for a device.
+fn has_device_behind(text: &[u8]) -> bool
+    ensures { result ≡ has_device_behind text.now }
 {
     let len = text.len();
     let mut at = 0;
@@ -414,7 +482,7 @@ fn has_parent_or_device_behind(text: &[u8]) -> bool
         if found == len {
             return false;
         }
-        if begins_with_parent_or_device(&text[found + 1..]) {
+        if begins_with_device(&text[found + 1..]) {
             return true;
         }
         at = found + 1;
@@ -422,23 +490,23 @@ fn has_parent_or_device_behind(text: &[u8]) -> bool
     false
 }
 
-/// Whether a segment behind a separator of a range is `..` or stands for a device. The marks tell behind
-/// which bytes of the range one may stand.
+/// Whether a segment behind a separator of a range stands for a device. The marks tell behind which bytes of the range
+/// one may stand.
 #[inline(always)]
-fn has_parent_or_device_at(text: &[u8], from: usize, to: usize, marks: u64) -> bool
+fn has_device_at(text: &[u8], from: usize, to: usize, marks: u64) -> bool
     requires ordered { from ≤ to }
     requires short { to ≤ from + 32 }
     requires in_range { to ≤ length text.now }
     requires marked { TellsBegins text.now from (to - from) marks }
-    ensures { has_parent_or_device_behind (drop from text.now)
-        ≡ (result || has_parent_or_device_behind (drop to text.now)) }
+    ensures { has_device_behind (drop from text.now)
+        ≡ (result || has_device_behind (drop to text.now)) }
 {
     let mut at = from;
     let mut left = marks;
     'marks: while left != 0 {
         let behind = lowest(left) + 1;
         at += behind;
-        if begins_with_parent_or_device(&text[at..]) {
+        if begins_with_device(&text[at..]) {
             return true;
         }
         left >>= behind;
@@ -446,51 +514,25 @@ fn has_parent_or_device_at(text: &[u8], from: usize, to: usize, marks: u64) -> b
     false
 }
 
-/// Whether the first segment of such a text is `..` or stands for a device. Most begin otherwise, which
-/// their first bytes tell.
+/// Whether the first segment of such a text stands for a device. Most begin otherwise, which their first bytes tell.
 #[inline(always)]
-fn begins_with_parent_or_device(text: &[u8]) -> bool
-    ensures { result ≡ begins_with_parent_or_device text.now }
+fn begins_with_device(text: &[u8]) -> bool
+    ensures { result ≡ begins_with_device text.now }
 {
-    if !begins_like_parent_or_device(text) {
+    if !begins_like_device(text) {
         return false;
     }
-    may_end_stem(text) && is_parent_or_device(first_segment(text))
+    may_end_stem(text) && Separators::Either.is_reserved(first_segment(text))
 }
 
-/// Whether a path of Unix begins, behind its root, with what may be the name of a device of Windows. False
-/// says nothing.
+/// Whether the first two bytes of a text are, but for higher bits, one of `acnlp` and one of `opru`, as each device
+/// begins.
 #[inline(always)]
-pub fn begins_with_device(path: &[u8]) -> bool
-    ensures { IsTrue result
-        → may_be_reserved (before_first (is_separator Separators.Either) (behind_root path.now))
-        ≡ true }
-{
-    let names = behind_root(path);
-    begins_like_parent_or_device(names)
-        && may_end_stem(names)
-        && may_be_reserved(first_segment(names))
-}
-
-/// A path of Unix without its root.
-#[inline(always)]
-fn behind_root(path: &[u8]) -> &[u8]
-    ensures { result.now ≡ behind_root path.now }
-{
-    match path {
-        [b'/', names @ ..] => names,
-        _ => path,
-    }
-}
-
-/// Whether the first two bytes of a text are, but for higher bits, one of `.acnlp` and one of `.opru`, as
-/// `..` begins and each device.
-#[inline(always)]
-fn begins_like_parent_or_device(text: &[u8]) -> bool
-    ensures { result ≡ begins_like_parent_or_device text.now }
+fn begins_like_device(text: &[u8]) -> bool
+    ensures { result ≡ begins_like_device text.now }
 {
     match text {
-        [a, b, ..] => is_in(86_026, *a) & is_in(2_473_984, *b),
+        [a, b, ..] => is_in(86_026, *a) & is_in(2_457_600, *b),
         _ => false,
     }
 }
@@ -503,14 +545,13 @@ fn is_in(set: u32, byte: u8) -> bool
     (set >> (byte % 32)) % 2 == 1
 }
 
-/// Whether a text that goes on has a dot as its second byte, or a stem of three bytes or of four that
-/// ends.
+/// Whether a text has a stem of three bytes or of four that ends, or is too short to tell.
 #[inline(always)]
 fn may_end_stem(text: &[u8]) -> bool
     ensures { result ≡ may_end_stem text.now }
 {
     match text {
-        [_, b, _, d, e, ..] => (*b == b'.') | ends_stem(*d) | ends_stem(*e),
+        [_, _, _, d, e, ..] => ends_stem(*d) | ends_stem(*e),
         _ => true,
     }
 }
@@ -528,11 +569,4 @@ fn first_segment(text: &[u8]) -> &[u8]
     ensures { result.now ≡ before_first (is_separator Separators.Either) text.now }
 {
     &text[..Separators::Either.first_in(text)]
-}
-
-/// Whether a segment is `..` or stands for a device.
-fn is_parent_or_device(segment: &[u8]) -> bool
-    ensures { result ≡ is_parent_or_device segment.now }
-{
-    matches!(segment, [b'.', b'.']) || Separators::Either.is_reserved(segment)
 }

@@ -1,10 +1,11 @@
 //! The encoding of Unix paths: how one is pushed, judged and brought into its normal text.
 
-ghost use Rattle.std.specs.Prelude.{false, ◌≡◌, ◌≤◌, ◌+◌, ◌++◌, ℕ, take, slice_range, length, IfOk, IfSome, IsNone, IsOk, MatchOption, OnOk, OnErr, ◌<◌, ◌-◌, List, [], codes, Some};
+ghost use Rattle.std.specs.Prelude.{false, true, ◌≡◌, ◌≤◌, ◌+◌, ◌++◌, ℕ, take, slice_range, length, IfOk, IfSome, IsNone, IsOk, MatchOption, OnOk, OnErr, ◌<◌, ◌-◌, List, [], codes, fold, Some};
 ghost use Rattle.std.specs.Vec.{vec_capacity, vec_len};
-ghost use Rattle.std.specs.List.{slice_split};
+ghost use Rattle.std.specs.List.{list_all, slice_split};
 ghost use Rattle.typed_path.specs.components.{unix, slash, is_separator};
-ghost use Rattle.typed_path.specs.changes.{push_unix, ended_with, FitsPush};
+ghost use Rattle.typed_path.specs.changes.{push_unix, ended_with, is_name_piece, AreNamesBefore, FitsPush};
+ghost use Rattle.typed_path.specs.scan.{is_one_of};
 ghost use Rattle.typed_path.specs.places.{normal_text, rows, settled, names_left, AreRows, ArePut, IsParted};
 
 use crate::common::{
@@ -14,8 +15,8 @@ use crate::common::{
 use crate::errors::CheckedPathError;
 use crate::scan::{
     Cursor, Piece, Separators, StepKind, are_apart, base_end, cut_at_separator, end_behind,
-    first_difference, has_no_nul_or_dot_pair, has_valid_names, have_other_fronts, leading_names,
-    step_of,
+    first_difference, has_no_nul_or_dot_pair, has_valid_names, have_other_fronts,
+    leading_short_names, step_of,
 };
 use std::alloc::AllocError;
 use std::cmp::Ordering;
@@ -235,8 +236,9 @@ fn split_root(path: &[u8]) -> (&[u8], &[u8])
     }
 }
 
-/// Puts the names that are left of a path behind the first bytes of a text. Names that stand side by side
-/// are put at once, and only what stands between them is settled by segments.
+/// Puts the names that are left of a path behind the first bytes of a text. Where some stand side by side they are put
+/// at once; all others are settled segment by segment, and so are all where there is no room for the whole path, as
+/// segments ask for less memory at once.
 fn put_segments(text: &mut Vec<u8>, len: usize, path: &[u8]) -> Result<(), AllocError>
     requires { len ≤ length text.old.items }
     ensures ok { OnOk result ((head : List ℕ) → length head ≡ len → AreRows text.old.items head []
@@ -247,22 +249,55 @@ fn put_segments(text: &mut Vec<u8>, len: usize, path: &[u8]) -> Result<(), Alloc
     ensures succeeds { vec_len text.old + length path.now < vec_capacity text.old → IsOk result }
 {
     let mut rest = path;
-    'segments: while let Some(left) = put_names(text, rest)? {
+    'segments: loop {
+        let names = leading_short_names(rest, (b'/', b'/'));
+        if matches!(names, Some(0)) || !has_room(text, rest) {
+            return put_one_by_one(text, len, rest);
+        }
+        let Some(left) = put_names(text, rest, names)? else {
+            return Ok(());
+        };
         let Some((segment, behind)) = cut_at_separator(Separators::Slash, left) else {
             return put_segment(text, len, left, left);
         };
         put_segment(text, len, segment, left)?;
         rest = behind_segment(segment, behind, Separators::Slash);
     }
-    Ok(())
 }
 
-/// Puts the names that a path begins with behind a text, each with a separator behind it, and answers what
-/// is left; none where all of it was put.
-///
-/// Where there is no room for all of the path, no name is put: segments ask for less memory at once.
+/// Settles the segments of a path one by one behind the names that stand.
 #[inline(always)]
-fn put_names<'a>(text: &mut Vec<u8>, path: &'a [u8]) -> Result<Option<&'a [u8]>, AllocError>
+fn put_one_by_one(text: &mut Vec<u8>, len: usize, path: &[u8]) -> Result<(), AllocError>
+    requires { len ≤ length text.old.items }
+    ensures ok { OnOk result ((head whole : List ℕ) (names : List (List ℕ)) → length head ≡ len
+        → AreRows text.old.items head names
+        → names_left whole
+        ≡ fold settled names (slice_split (is_separator Separators.Slash) path.now)
+        → text.new.items ≡ head ++ rows (names_left whole)) }
+    ensures kept { take len text.new.items ≡ take len text.old.items }
+    ensures long { len ≤ length text.new.items }
+    ensures capacity { vec_capacity text.old ≤ vec_capacity text.new }
+    ensures succeeds { vec_len text.old + length path.now < vec_capacity text.old → IsOk result }
+{
+    let mut rest = path;
+    'segments: while let Some((segment, behind)) = cut_at_separator(Separators::Slash, rest) {
+        put_segment(text, len, segment, rest)?;
+        rest = behind_segment(segment, behind, Separators::Slash);
+    }
+    put_segment(text, len, rest, rest)
+}
+
+/// Puts the names that a path is told to begin with behind a text, each with a separator behind it, and answers what
+/// is left; none where all of it was put.
+#[inline(always)]
+fn put_names<'a>(
+    text: &mut Vec<u8>,
+    path: &'a [u8],
+    names: Option<usize>,
+) -> Result<Option<&'a [u8]>, AllocError>
+    requires { MatchOption names
+        (list_all is_name_piece (slice_split (is_one_of (slash, slash)) path.now) ≡ true)
+        (λ place. AreNamesBefore (slash, slash) path.now place) }
     ensures ok { IfOk result (λ left. MatchOption left
         (ArePut Separators.Slash text.old.items text.new.items
         (slice_split (is_separator Separators.Slash) path.now) [])
@@ -275,10 +310,7 @@ fn put_names<'a>(text: &mut Vec<u8>, path: &'a [u8]) -> Result<Option<&'a [u8]>,
     ensures capacity { vec_capacity text.old ≤ vec_capacity text.new }
     ensures succeeds { vec_len text.old + length path.now < vec_capacity text.old → IsOk result }
 {
-    if !has_room(text, path) {
-        return Ok(Some(path));
-    }
-    let Some(names) = leading_names(path, (b'/', b'/')) else {
+    let Some(names) = names else {
         text.extend_from_slice(path)?;
         text.push(b'/')?;
         return Ok(None);

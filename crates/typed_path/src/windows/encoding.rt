@@ -9,16 +9,19 @@ ghost use Rattle.typed_path.specs.queries.{is_absolute, has_root, is_disk, path_
 ghost use Rattle.typed_path.specs.order.{kind_cmp, path_cmp};
 ghost use Rattle.typed_path.specs.declared.scan.separators.Separators.{Separators};
 ghost use Rattle.typed_path.specs.views.CursorViews.{items_left};
-ghost use Rattle.typed_path.specs.changes.{begins_with_separator, has_only_valid_names, has_second_colon, has_no_nul_or_dot_pair, fault, error_of, HaveOnePrefix};
+ghost use Rattle.typed_path.specs.changes.{begins_with_separator, has_second_colon, has_no_nul_or_dot_pair, fault, error_of, HaveOnePrefix};
+ghost use Rattle.typed_path.specs.declared.errors.CheckedPathError.TheVariants.{InvalidFilename};
 ghost use Rattle.std.specs.Slice.Scan.{IsFirstPlace};
 ghost use Rattle.typed_path.specs.scan.{differs_at};
 
-use crate::common::{Encoding, compare_parted, compare_prefixes, compare_texts, order_of_prefixed};
+use crate::common::{
+    Encoding, compare_each, compare_parted, compare_prefixes, compare_texts, order_of_prefixed,
+};
 use crate::errors::CheckedPathError;
 use crate::scan::{
-    Body, Cursor, Found, LEAST, Piece, Separators, WindowsPrefix, are_apart, base_end,
+    Body, Cursor, Found, Look, Piece, Separators, WindowsPrefix, are_apart, base_end,
     byte_behind_two, end_behind, find_prefix, first_difference, has_no_nul_or_dot_pair,
-    has_stray_parent_or_device, has_valid_names, parted_drive,
+    has_valid_names, look_at_path, parted_drive,
 };
 use crate::windows::normal::put_normal;
 use crate::windows::push::{prefix_len, push_at, push_next};
@@ -96,6 +99,10 @@ impl Encoding for WindowsEncoding {
                 None
             };
         }
+        // The components tell at once where one alone has a drive.
+        if has_second_colon(path) != has_second_colon(base) {
+            return None;
+        }
         let shared = first_difference(path, base);
         let Some((end, separators)) = shared_written_prefix(path, base, shared) else {
             if begin_apart(path, base) {
@@ -163,20 +170,12 @@ impl Encoding for WindowsEncoding {
         put_normal(text, path)
     }
 
-    // Most paths are of valid names alone, as one look at their bytes tells. Of the others, and of short ones, a look
-    // for two dots tells whether a name can offend alone; those of which it does not tell are read.
+    // Looks at the bytes tell of most paths; the others are read.
     fn check(path: &[u8]) -> Result<(), CheckedPathError> {
-        if LEAST <= path.len() {
-            if has_only_valid_names(path) {
-                return Ok(());
-            }
-            if has_names_alone(path) {
-                return Err(CheckedPathError::InvalidFilename);
-            }
-        } else if has_names_alone(path) {
-            return judged_by_names(path);
+        match judged_by_looks(path) {
+            Some(judged) => judged,
+            None => Cursor::of_windows(path).check(),
         }
-        Cursor::of_windows(path).check()
     }
 }
 
@@ -306,7 +305,7 @@ fn shared_marked_prefix(path: &[u8], other: &[u8], shared: usize) -> Option<(usi
 /// off.
 const PARTED: usize = 6;
 
-/// The order of two paths with different drives, or of which one at least begins with two separators. None says
+/// The order of two paths of which the prefixes differ, or one at least begins with two separators. None says
 /// nothing.
 fn order_by_prefixes(path: &[u8], other: &[u8]) -> Option<Ordering>
     ensures { IfSome result (λ order. path_cmp windows path.now other.now ≡ order) }
@@ -315,11 +314,13 @@ fn order_by_prefixes(path: &[u8], other: &[u8]) -> Option<Ordering>
     else {
         return order_behind_marked(path, other);
     };
-    // One drive in both was looked for before.
-    if drive == other_drive {
-        return None;
+    match (drive, other_drive) {
+        // One drive in both was looked for before.
+        (Some(own), Some(wanted)) if own != wanted => Some(own.cmp(&wanted)),
+        (Some(_), None) => Some(order_of_prefixed(whole(other))),
+        (None, Some(_)) => Some(order_of_prefixed(whole(path)).reverse()),
+        _ => None,
     }
-    order_of_drives(drive, other_drive)
 }
 
 /// The order of two paths of which one at least begins with two separators. None says nothing.
@@ -338,10 +339,10 @@ fn order_behind_marked(path: &[u8], other: &[u8]) -> Option<Ordering>
         let separators = Separators::of_windows(path);
         return Some(compare_parted(&path[end..], &other[end..], shared - end, separators));
     }
-    match find_prefix(other) {
+    Some(match find_prefix(other) {
         Some(others) => order_by_both_prefixes(path, found, other, others),
-        None => Some(order_of_prefixed(whole(other))),
-    }
+        None => order_of_prefixed(whole(other)),
+    })
 }
 
 /// A reading of a path without a prefix.
@@ -352,38 +353,31 @@ fn whole(path: &[u8]) -> Body<'_>
     Body::new(path, 0, Separators::of_windows(path))
 }
 
-/// The order of two paths with prefixes that were found, where these differ, or where one set of bytes separates in
-/// both paths. None says nothing.
-#[inline(always)]
+/// The order of two paths with prefixes that were found.
 fn order_by_both_prefixes(
     path: &[u8],
     found: Found<'_>,
     other: &[u8],
     others: Found<'_>,
-) -> Option<Ordering>
+) -> Ordering
     requires own { prefix_of windows path.now ≡ Some (found_of found) }
     requires others { prefix_of windows other.now ≡ Some (found_of others) }
     requires within { (found.length ≤ length path.now) × (others.length ≤ length other.now) }
-    ensures { IfSome result (λ order. path_cmp windows path.now other.now ≡ order) }
+    ensures { path_cmp windows path.now other.now ≡ result }
 {
     let order = compare_prefixes(found.kind, others.kind);
     if order.is_ne() {
-        return Some(order);
+        return order;
     }
-    let separators = Separators::of_windows(path);
-    if !separators.is_same(Separators::of_windows(other)) {
-        return None;
+    let own = Separators::of_windows(path);
+    let wanted = Separators::of_windows(other);
+    if own.is_same(wanted) {
+        return compare_texts(&path[found.length..], &other[others.length..], own);
     }
-    Some(compare_texts(&path[found.length..], &other[others.length..], separators))
-}
-
-/// The order of two drives, where both are there.
-#[inline(always)]
-fn order_of_drives(drive: Option<u8>, other: Option<u8>) -> Option<Ordering>
-    ensures { IfSome result (λ order. (a : ℕ) × (b : ℕ) × (drive ≡ Some a) × (other ≡ Some b)
-        × (kind_cmp (prefix (disk a)) (prefix (disk b)) ≡ order)) }
-{
-    Some(drive?.cmp(&other?))
+    compare_each(
+        Body::new(path, found.length, own),
+        Body::new(other, others.length, wanted),
+    )
 }
 
 /// Whether a text begins with the prefix of a path and a separator behind it, which is its own prefix
@@ -420,59 +414,44 @@ fn stays_before_parted(prefix: WindowsPrefix<'_>) -> bool
     )
 }
 
-/// Whether looks at the bytes of a path tell that each of its components is a valid name or a `.`: it
-/// begins with no separator, so with no prefix but a drive; and it has no `:`, so no drive.
-fn has_only_valid_names(path: &[u8]) -> bool
-    ensures { result ≡ has_only_valid_names path.now }
+/// What a path is judged by looks at its bytes. None says nothing.
+///
+/// Most paths are of valid names and `.` alone, as one look tells. Where it finds a byte or a name that offends, that is
+/// what the path is refused for, where no two dots stand side by side up to its end; so no more of a path is looked at
+/// than up to the end of the name in which the block of its first offence ends.
+fn judged_by_looks(path: &[u8]) -> Option<Result<(), CheckedPathError>>
+    ensures { IfSome result (λ judged. error_of judged ≡ fault windows path.now) }
 {
-    // A drive is told at once.
-    if has_second_colon(path) {
-        return false;
+    if has_second_colon(path) || begins_with_separator(path) {
+        return None;
     }
-    !begins_with_separator(path) && !has_stray_parent_or_device(path)
+    match look_at_path(path) {
+        Look::Clean => Some(Ok(())),
+        Look::Dots => None,
+        Look::Offence(looked) if looked == path.len() => {
+            Some(Err(CheckedPathError::InvalidFilename))
+        }
+        Look::Offence(looked) => {
+            let (_, behind) = path.split_at(looked);
+            let end = looked + Separators::Either.first_in(behind);
+            if is_refused_for_name(&path[..end]) {
+                Some(Err(CheckedPathError::InvalidFilename))
+            } else {
+                None
+            }
+        }
+    }
 }
 
-/// How many bytes a path has at most of which all are looked at for two dots: so a long path that has a byte at
-/// its front that no name may have is refused there.
-const LOOK: usize = 1_024;
-
-/// Whether looks at the bytes of a path tell that each of its components is a name or a `.`. False says
-/// nothing.
+/// Whether looks at the bytes of a path that begins with neither a drive nor a separator tell that it is refused for a
+/// name. False says nothing.
 #[inline(always)]
-fn has_names_alone(path: &[u8]) -> bool
-    ensures relative { IsTrue result → begins_with_separator path.now ≡ false }
-    ensures undriven { IsTrue result → has_second_colon path.now ≡ false }
-    ensures unpaired { IsTrue result → has_no_nul_or_dot_pair path.now ≡ true }
-{
-    if has_second_colon(path) {
-        return false;
-    }
-    if begins_with_separator(path) || begins_with_two_dots(path) {
-        return false;
-    }
-    path.len() <= LOOK && has_no_nul_or_dot_pair(path)
-}
-
-/// Judges a path of names and `.` alone: where one offends, a name does, and looks at the bytes tell.
-#[inline(always)]
-fn judged_by_names(path: &[u8]) -> Result<(), CheckedPathError>
+fn is_refused_for_name(path: &[u8]) -> bool
     requires relative { begins_with_separator path.now ≡ false }
     requires undriven { has_second_colon path.now ≡ false }
-    requires unpaired { has_no_nul_or_dot_pair path.now ≡ true }
-    ensures { error_of result ≡ fault windows path.now }
+    ensures { IsTrue result → fault windows path.now ≡ Some InvalidFilename }
 {
-    if has_stray_parent_or_device(path) {
-        return Err(CheckedPathError::InvalidFilename);
-    }
-    Ok(())
-}
-
-/// Whether the first two bytes of a text are dots.
-#[inline(always)]
-fn begins_with_two_dots(text: &[u8]) -> bool
-    ensures { IsTrue result → has_no_nul_or_dot_pair text.now ≡ false }
-{
-    matches!(text, [b'.', b'.', ..])
+    has_no_nul_or_dot_pair(path) && matches!(look_at_path(path), Look::Offence(_))
 }
 
 /// Whether the second byte of a text is a `:`, as behind the letter of a drive.

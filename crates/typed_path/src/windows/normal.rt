@@ -1,12 +1,12 @@
 //! The normal text of a Windows path.
 
-ghost use Rattle.std.specs.Prelude.{◌≡◌, ◌<◌, ◌≤◌, ◌+◌, ◌-◌, ◌++◌, ℕ, List, [], false, take, drop, fold, length, map, IsTrue, IsSome, IfSome, IsOk, IfOk, OnOk, OnErr, MatchOption, None};
-ghost use Rattle.std.specs.List.{list_any, slice_split};
+ghost use Rattle.std.specs.Prelude.{◌≡◌, ◌<◌, ◌≤◌, ◌+◌, ◌-◌, ◌++◌, ℕ, List, [], false, true, take, drop, fold, length, map, IsTrue, IsSome, IfSome, IsOk, IfOk, OnOk, OnErr, MatchOption, None};
+ghost use Rattle.std.specs.List.{list_all, list_any, slice_split};
 ghost use Rattle.std.specs.Vec.{vec_len, vec_capacity};
 ghost use Rattle.typed_path.specs.declared.scan.separators.Separators.{Separators};
-ghost use Rattle.typed_path.specs.components.{windows, colon, is_separator, drive};
+ghost use Rattle.typed_path.specs.components.{windows, slash, backslash, colon, is_separator, drive};
 ghost use Rattle.typed_path.specs.scan.{is_one_of};
-ghost use Rattle.typed_path.specs.changes.{push_windows, push_all, spells_anew};
+ghost use Rattle.typed_path.specs.changes.{push_windows, push_all, spells_anew, is_name_piece, AreNamesBefore};
 ghost use Rattle.typed_path.specs.places.{normal_text, names_left_of, rows_of, settled, AreRowsOf, ArePlainRows, ArePut, IsRowHead, IsPartedEither, TakesRows, HaveNoDisks, HasPlainNames, IsHeadOf};
 ghost use Rattle.typed_path.specs.views.PieceViews.{found_of};
 
@@ -15,7 +15,7 @@ use crate::common::{
 };
 use crate::scan::{
     Cursor, Found, PieceKind, Separators, StepKind, WindowsPrefix, cut_at_separator, drive,
-    find_prefix, has_no_nul_or_dot_pair, is_free_of, leading_names, step_of,
+    find_prefix, is_free_of, leading_short_names, step_of,
 };
 use crate::windows::push::{is_separated, push_at, push_next};
 use std::alloc::AllocError;
@@ -153,7 +153,7 @@ fn put_rows(text: &mut Vec<u8>, head: RowHead<'_>) -> Result<bool, AllocError>
 }
 
 /// How many bytes a path has at least that is looked at as a whole before its segments are cut.
-const LEAST: usize = 32;
+const LEAST: usize = 34;
 
 /// Puts the names that are left of a path behind the first bytes of a text, and answers whether
 /// each one that came is put so by a push too: false says nothing of what was put.
@@ -172,20 +172,28 @@ fn put_segments(text: &mut Vec<u8>, len: usize, path: &[u8]) -> Result<bool, All
     ensures told { HaveNoDisks (slice_split (is_separator Separators.Either) path.now)
         → IfOk result (λ plain. IsTrue plain) }
 {
-    if LEAST <= path.len() && has_room(text, path) && is_free_of((b':', b':'), path) {
-        return put_undriven(text, len, path);
+    if LEAST <= path.len() && has_room(text, path) {
+        let names = leading_short_names(path, (b'/', b'\\'));
+        if !matches!(names, Some(0)) && is_free_of((b':', b':'), path) {
+            return put_undriven(text, len, path, names);
+        }
     }
     put_one_by_one(text, len, path)
 }
 
-/// The same of a path in which no `:` stands, so that no name begins with a drive.
-///
-/// Names that stand side by side are put at once, while they take some bytes: where each name has two separators
-/// behind it, a look for those that follow would cost more than the segments. So it would where two dots stand
-/// side by side, as there names and `..` may take turns; these are looked for once, behind the first names.
-fn put_undriven(text: &mut Vec<u8>, len: usize, path: &[u8]) -> Result<bool, AllocError>
+/// The same of a path in which no `:` stands, so that no name begins with a drive. Where some names stand side by side
+/// they are put at once; it is told which do at the front.
+fn put_undriven(
+    text: &mut Vec<u8>,
+    len: usize,
+    path: &[u8],
+    names: Option<usize>,
+) -> Result<bool, AllocError>
     requires within { len ≤ length text.old.items }
     requires free { list_any (is_one_of (colon, colon)) path.now ≡ false }
+    requires names { MatchOption names
+        (list_all is_name_piece (slice_split (is_separator Separators.Either) path.now) ≡ true)
+        (λ place. AreNamesBefore (slash, backslash) path.now place) }
     ensures ok { IfOk result (λ plain. IsTrue plain → (head : List ℕ) → length head ≡ len
         → AreRowsOf Separators.Either text.old.items head []
         → ArePlainRows text.new.items head path.now) }
@@ -196,23 +204,20 @@ fn put_undriven(text: &mut Vec<u8>, len: usize, path: &[u8]) -> Result<bool, All
     ensures told { IfOk result (λ plain. IsTrue plain) }
 {
     let mut rest = path;
-    let mut is_unpaired = false;
-    'segments: while let Some(left) = put_names(text, rest)? {
-        if rest.len() < left.len() + RUN || !(is_unpaired || has_no_nul_or_dot_pair(left)) {
-            return put_one_by_one(text, len, left);
-        }
-        is_unpaired = true;
+    let mut names = names;
+    'segments: while let Some(left) = put_names(text, rest, names)? {
         let Some((segment, behind)) = cut_at_separator(Separators::Either, left) else {
             return put_segment(text, len, left, left);
         };
         put_segment(text, len, segment, left)?;
         rest = behind_segment(segment, behind, Separators::Either);
+        names = leading_short_names(rest, (b'/', b'\\'));
+        if matches!(names, Some(0)) {
+            return put_one_by_one(text, len, rest);
+        }
     }
     Ok(true)
 }
-
-/// How many bytes names take at least that are put at once before others are looked for.
-const RUN: usize = 16;
 
 /// Settles the segments of a path one by one behind the names that stand, and answers whether none
 /// begins with a drive: false says nothing of what was put.
@@ -242,10 +247,17 @@ fn put_one_by_one(text: &mut Vec<u8>, len: usize, path: &[u8]) -> Result<bool, A
     put_segment(text, len, rest, rest)
 }
 
-/// Puts the names that a path begins with behind a text, each with a separator behind it, and answers what
+/// Puts the names that a path is told to begin with behind a text, each with a separator behind it, and answers what
 /// is left; none where all of it was put.
 #[inline(always)]
-fn put_names<'a>(text: &mut Vec<u8>, path: &'a [u8]) -> Result<Option<&'a [u8]>, AllocError>
+fn put_names<'a>(
+    text: &mut Vec<u8>,
+    path: &'a [u8],
+    names: Option<usize>,
+) -> Result<Option<&'a [u8]>, AllocError>
+    requires { MatchOption names
+        (list_all is_name_piece (slice_split (is_separator Separators.Either) path.now) ≡ true)
+        (λ place. AreNamesBefore (slash, backslash) path.now place) }
     ensures ok { IfOk result (λ left. MatchOption left
         (ArePut Separators.Either text.old.items text.new.items
         (slice_split (is_separator Separators.Either) path.now) [])
@@ -258,7 +270,7 @@ fn put_names<'a>(text: &mut Vec<u8>, path: &'a [u8]) -> Result<Option<&'a [u8]>,
     ensures capacity { vec_capacity text.old ≤ vec_capacity text.new }
     ensures succeeds { vec_len text.old + length path.now < vec_capacity text.old → IsOk result }
 {
-    let Some(names) = leading_names(path, (b'/', b'\\')) else {
+    let Some(names) = names else {
         put_turned(text, path, Separators::Either, b'\\')?;
         text.push(b'\\')?;
         return Ok(None);

@@ -8,7 +8,7 @@ use Rattle.typed_path.specs.views.BodyViews.{body_items}
 use Rattle.typed_path.specs.views.CursorViews.{items_left}
 use Rattle.typed_path.specs.views.SpanViews.{span_bytes}
 use Rattle.typed_path.specs.views.PieceViews.{part_of, step_part}
-use Rattle.typed_path.proofs.lemmas.conversions.Crossings.{allows-taken, allows-left, pushed-first, refused-whole, pushed-all, refusal-passed}
+use Rattle.typed_path.proofs.lemmas.conversions.Crossings.{pushed-first, refused-whole, pushed-all, refusal-passed}
 use Rattle.typed_path.proofs.lemmas.scan.Steps.{parts-prefixed, yields_first, fewer}
 use Rattle.typed_path.proofs.conversions.push_each_checked.Goals as goal
 
@@ -28,7 +28,7 @@ returns-in_err-known-clause-refused g c =
     let split = parts-prefixed (comps g.T.Encoding.dialect (span_bytes c.args.path)) (items_left c.within-cursor.result) (behind_prefix (items_left c.within-cursor.result)) (option_map part_of c.prefix_piece.result) (c.within-cursor.ensures ∙ ap parts (c.cursor.ensures.items ∙ ap (comps g.T.Encoding.dialect) c.as_bytes.ensures)) c.prefix_piece.ensures refl in
     λ f told.
     refused-whole e [] (option_to_list (option_map part_of c.prefix_piece.result)) _ (parts_of g.T.Encoding.dialect (span_bytes c.args.path)) split f
-    (ap (λ t. push_checked_each e (Ok t) (option_to_list (option_map part_of c.prefix_piece.result))) (sym (empty c.args.start c.args.text.now.items c.requires.end))
+    (ap (λ t. push_checked_each e (Ok t) (option_to_list (option_map part_of c.prefix_piece.result))) (sym (empty c.args.start c.args.text.now.items c.requires))
     ∙ c.in_err-known.ensures.refused f (refusal-passed c.push_prefix_checked.result c.from_residual.result _ c.from_residual.ensures.1 f told))
 
 pub steps-init : goal.steps-init
@@ -37,11 +37,9 @@ steps-init g c =
     let split = parts-prefixed (comps g.T.Encoding.dialect (span_bytes c.args.path)) (items_left c.within-cursor.result) (body_items c.body-body.result) (option_map part_of c.prefix_piece.result) (c.within-cursor.ensures ∙ ap parts (c.cursor.ensures.items ∙ ap (comps g.T.Encoding.dialect) c.as_bytes.ensures)) c.prefix_piece.ensures c.body-body.ensures in
     record {
       pushed = pushed-first e [] (option_to_list (option_map part_of c.prefix_piece.result)) (parts (body_items c.body-body.result)) (parts_of g.T.Encoding.dialect (span_bytes c.args.path)) split (drop c.args.start c.push_prefix_checked.new.text.items)
-          (ap (λ t. push_checked_each e (Ok t) (option_to_list (option_map part_of c.prefix_piece.result))) (sym (empty c.args.start c.args.text.now.items c.requires.end)) ∙ c.in_ok-known.ensures.ok);
+          (ap (λ t. push_checked_each e (Ok t) (option_to_list (option_map part_of c.prefix_piece.result))) (sym (empty c.args.start c.args.text.now.items c.requires)) ∙ c.in_ok-known.ensures.ok);
       kept = c.in_ok-known.ensures.kept;
       long = c.in_ok-known.ensures.long;
-      allowed = λ told. allows-left e (option_to_list (option_map part_of c.prefix_piece.result)) (parts (body_items c.body-body.result)) (parts_of g.T.Encoding.dialect (span_bytes c.args.path)) split
-          (c.requires.allowed told);
       known = c.in_ok-known.ensures.known;
     }
 
@@ -70,7 +68,6 @@ steps-preserved g c =
           ∙ c.steps.invariant.pushed;
       kept = c.in_ok-known-2.ensures.kept c.steps.invariant.known ∙ c.steps.invariant.kept;
       long = c.in_ok-known-2.ensures.long c.steps.invariant.known;
-      allowed = λ told. (allows-taken e (step_part c.in-Some.step) (parts (body_items c.front.new.self)) old taken (c.steps.invariant.allowed told)).1;
       known = c.in_ok-known-2.ensures.known c.steps.invariant.known;
     }
 

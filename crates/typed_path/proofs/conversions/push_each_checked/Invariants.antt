@@ -1,7 +1,7 @@
-use Rattle.std.proofs.Common.{IsTrue, ◌≡◌, ◌≤◌, length, take, drop, Ok}
-use Rattle.typed_path.specs.components.{kinds, parts}
+use Rattle.std.proofs.Common.{◌≡◌, ◌≤◌, length, take, drop, Ok}
+use Rattle.typed_path.specs.components.{parts}
 use Rattle.typed_path.specs.changes.{IsKnown}
-use Rattle.typed_path.specs.conversions.{AllowsCrossing, push_checked_each, converted_checked}
+use Rattle.typed_path.specs.conversions.{push_checked_each, converted_checked}
 use Rattle.typed_path.specs.views.BodyViews.{body_items}
 use Rattle.typed_path.specs.views.SpanViews.{span_bytes}
 use Rattle.typed_path.proofs.conversions.push_each_checked.Given as goal
@@ -15,6 +15,5 @@ invariant-steps g l = record {
       ≡ converted_checked g.T.Encoding.dialect g.U.Encoding.dialect (span_bytes l.path);
   kept : take l.start l.text.items ≡ take l.start l.fn.text.items;
   long : l.start ≤ length l.text.items;
-  allowed : IsTrue l.allowed → AllowsCrossing g.U.Encoding.dialect (kinds (parts (body_items l.body)));
   known : IsKnown g.U.Encoding.dialect l.known (drop l.start l.text.items);
 }

@@ -1,5 +1,5 @@
--- Paths of Windows of which looks at their bytes tell that they have no fault: the search for `..` and for devices, and what it tells of the components.
-use Rattle.std.proofs.Common.{nat_le, ⊎_elim, ◌≡◌, ℕ, zero, suc, ◌+◌, ◌-◌, ◌≤◌, ◌<◌, Bool, true, false, take, subst, eqb-true, ne_eqb, if◌then◌else◌, cond, not, ◌&&◌, ◌||◌, ◌==◌, List, [], ◌∷◌, ◌++◌, length, drop, refl, sym, ap, ◌∙◌, arith, Some, None, true≢false}
+-- Paths of Windows of which looks at their bytes tell what they are refused for: the search for devices and for two dots, and what it tells of the components.
+use Rattle.std.proofs.Common.{nat_le, ⊎_elim, ◌≡◌, ℕ, zero, suc, ◌+◌, ◌-◌, ◌≤◌, ◌<◌, Bool, true, false, take, subst, eqb-true, ne_eqb, if◌then◌else◌, cond, not, ◌&&◌, ◌||◌, ◌==◌, List, [], ◌∷◌, ◌++◌, length, drop, get_or, refl, sym, ap, ap₂, ◌∙◌, arith, Option, Some, None, true≢false, ◌⊎◌, inl, inr, append-nil}
 use Rattle.std.specs.List.{list_any, list_all, before_first, position_or_len, onto_first}
 use Rattle.std.specs.Option.{option_or}
 use Rattle.std.specs.Char.{to_ascii_lowercase}
@@ -7,18 +7,21 @@ use Rattle.std.proofs.lemmas.Bool.{and_parts, or_parts, false_from_ne_true, not-
 use Rattle.std.proofs.lemmas.List.{drop_more, drop_all}
 use Rattle.std.proofs.lemmas.Bool.{cases_lt}
 use Rattle.std.proofs.lemmas.Str.Ascii.{lowercase_is}
+use Rattle.typed_path.specs.declared.errors.CheckedPathError.{CheckedPathError}
 use Rattle.typed_path.specs.declared.errors.CheckedPathError.TheVariants.{InvalidFilename}
+use Rattle.typed_path.specs.declared.scan.cursor.Begin.TheVariants.{Body}
 use Rattle.typed_path.specs.declared.scan.separators.Separators.TheVariants.{Either}
-use Rattle.typed_path.specs.components.{windows, dot, slash, backslash, colon, question, is_separator, is_dot, is_dot_dot, root_text, Kind, prefix, root, current, parent, normal, kinds, current_part, root_part, parent_part, name_part, prefix_of, after_mark, after_two, drive, is_drive_letter, to_upper}
-use Rattle.std.specs.Slice.Scan.{HoldsNowhere}
+use Rattle.typed_path.specs.components.{windows, dot, slash, backslash, colon, question, is_separator, is_dot, is_dot_dot, root_text, Kind, prefix, root, current, parent, normal, kinds, parts, Placed, body, later_body, current_part, root_part, parent_part, name_part, parts_of, prefix_of, after_mark, after_two, drive, is_drive_letter, to_upper}
+use Rattle.std.specs.Slice.Scan.{HoldsNowhere, HoldsSomewhere}
 use Rattle.typed_path.specs.scan.{stands_at, IsFirstOf}
 use Rattle.typed_path.specs.queries.{is_reserved, is_valid, is_valid_name}
-use Rattle.typed_path.specs.changes.{is_in, fault, fault_behind, is_bare_device, is_numbered_device, may_be_reserved, is_stray, is_parent_or_device, begins_like_parent_or_device, may_end_stem, begins_with_parent_or_device, has_parent_or_device_behind, has_parent_or_device, begins_with_separator, has_only_valid_names, has_second_colon, begins_with_nul_or_dot_pair, has_no_nul_or_dot_pair}
-use Rattle.typed_path.proofs.lemmas.components.Segments.{pieces, first_parts, later_parts, body_parts, parts-body}
+use Rattle.typed_path.specs.changes.{is_in, fault, fault_behind, offence, is_bare_device, is_numbered_device, may_be_reserved, is_stray, begins_like_device, may_end_stem, begins_with_device, has_device_behind, has_device, dot_pair_at, has_dot_pair, is_forbidden_or, has_stray_of, stray_of_at, begins_with_separator, has_second_colon, begins_with_nul_or_dot_pair, has_no_nul_or_dot_pair}
+use Rattle.typed_path.proofs.lemmas.components.Segments.{pieces, first_parts, later_parts, body_parts, parts-body, body_from-append, body_from-separator}
 use Rattle.typed_path.proofs.lemmas.queries.ValidNames.{reserved-may, one_of_two, valid-found}
 use Rattle.typed_path.proofs.lemmas.changes.Faults.{parts_of-none}
+use Rattle.typed_path.proofs.lemmas.scan.Searches.{any-told, any-somewhere}
 
--- ---- what `..` and devices begin with
+-- ---- what devices begin with
 
 -- what stands before the first separator, byte by byte
 segment-byte : (b : ℕ) (bs : List ℕ) → before_first (is_separator Either) (b ∷ bs) ≡ cond (is_separator Either b) [] (b ∷ before_first (is_separator Either) bs)
@@ -28,212 +31,219 @@ segment-byte b bs = by (is_separator Either b) (position_or_len (is_separator Ei
     by true n = refl
     by false n = let more : suc n ≡ 1 + n = omega arith in subst (λ m. take m (b ∷ bs) ≡ b ∷ take n bs) more refl
 
--- a letter and its capital name the same bit of a set
-letter : (set k b : ℕ) → (to_ascii_lowercase b == k) ≡ true → is_in set k ≡ true → is_in set (k - 32) ≡ true → is_in set b ≡ true
-letter set k b e small capital =
+-- a letter passes a test that it passes as a small one and as a capital
+letter : (p : ℕ → Bool) (k b : ℕ) → (to_ascii_lowercase b == k) ≡ true → p k ≡ true → p (k - 32) ≡ true → p b ≡ true
+letter p k b e small capital =
     let is : to_ascii_lowercase b ≡ k = eqb-true _ _ e in
     ⊎_elim
-    (λ under. ap (is_in set) (sym ((lowercase_is b).1 under) ∙ is) ∙ small)
+    (λ under. ap p (sym ((lowercase_is b).1 under) ∙ is) ∙ small)
     (λ over. ⊎_elim
-    (λ upper. let same : b ≡ k - 32 = omega (arith, (lowercase_is b).0 (omega arith, omega arith), is) in ap (is_in set) same ∙ capital)
-    (λ beyond. ap (is_in set) (sym ((lowercase_is b).2 (omega (arith, beyond))) ∙ is) ∙ small)
+    (λ upper. let same : b ≡ k - 32 = omega (arith, (lowercase_is b).0 (omega arith, omega arith), is) in ap p same ∙ capital)
+    (λ beyond. ap p (sym ((lowercase_is b).2 (omega (arith, beyond))) ∙ is) ∙ small)
     (cases_lt b 91))
     (cases_lt b 65)
 
-both_in : (a b : ℕ) → is_in 86026 a ≡ true → is_in 2473984 b ≡ true → (is_in 86026 a && is_in 2473984 b) ≡ true
-both_in a b e f = ap (λ x. x && is_in 2473984 b) e ∙ f
+both : (p q : ℕ → Bool) (a b : ℕ) → p a ≡ true → q b ≡ true → (p a && q b) ≡ true
+both p q a b e f = ap (λ x. x && q b) e ∙ f
 
--- what a device begins with
-letters_in : (k l a b : ℕ) (third : Bool) → is_in 86026 k ≡ true → is_in 86026 (k - 32) ≡ true → is_in 2473984 l ≡ true → is_in 2473984 (l - 32) ≡ true
-    → ((to_ascii_lowercase a == k && to_ascii_lowercase b == l) && third) ≡ true → (is_in 86026 a && is_in 2473984 b) ≡ true
-letters_in k l a b third small capital other_small other_capital e =
-    let both = (and_parts (to_ascii_lowercase a == k && to_ascii_lowercase b == l) third e).0 in
-    let each = and_parts (to_ascii_lowercase a == k) (to_ascii_lowercase b == l) both in
-    both_in a b (letter 86026 k a each.0 small capital) (letter 2473984 l b each.1 other_small other_capital)
+all-at : (p : ℕ → Bool) (xs : List ℕ) → list_all p xs ≡ true → (i : ℕ) → i < length xs → p (get_or xs i 0) ≡ true
+all-at p [] e i l = absurd (omega (arith, l))
+all-at p (x ∷ xs) e zero l = (and_parts (p x) (list_all p xs) e).0
+all-at p (x ∷ xs) e (suc i) l = all-at p xs (and_parts (p x) (list_all p xs) e).1 i (omega (arith, l))
 
-bare_in : (a b c : ℕ) → is_bare_device (to_ascii_lowercase a) (to_ascii_lowercase b) c ≡ true → (is_in 86026 a && is_in 2473984 b) ≡ true
-bare_in a b c e =
-    let g = is_in 86026 a && is_in 2473984 b in
-    one_of_two g _ _ (one_of_two g _ _ (one_of_two g _ _ (letters_in 99 111 a b _ refl refl refl refl) (letters_in 112 114 a b _ refl refl refl refl)) (letters_in 97 117 a b _ refl refl refl refl)) (letters_in 110 117 a b _ refl refl refl refl) e
+-- the letters with which devices begin, and those that stand second, each small and as a capital
+abbrev pub first_letters : List ℕ
+first_letters = 97 ∷ 65 ∷ 99 ∷ 67 ∷ 108 ∷ 76 ∷ 110 ∷ 78 ∷ 112 ∷ 80 ∷ []
 
-numbered_in : (a b c d : ℕ) → is_numbered_device (to_ascii_lowercase a) (to_ascii_lowercase b) c d ≡ true → (is_in 86026 a && is_in 2473984 b) ≡ true
-numbered_in a b c d e =
-    one_of_two (is_in 86026 a && is_in 2473984 b) _ _ (letters_in 99 111 a b _ refl refl refl refl) (letters_in 108 112 a b _ refl refl refl refl) (and_parts _ (nat_le 48 d && nat_le d 57) e).0
+abbrev pub second_letters : List ℕ
+second_letters = 111 ∷ 79 ∷ 112 ∷ 80 ∷ 114 ∷ 82 ∷ 117 ∷ 85 ∷ []
 
--- a segment that is `..` or stands for a device begins as one of them
-like : (segment : List ℕ) → is_parent_or_device segment ≡ true → begins_like_parent_or_device segment ≡ true
-like segment e = by (is_dot_dot segment) (is_reserved windows segment) refl refl e
-  where
-    dotted : (text : List ℕ) → is_dot_dot text ≡ true → begins_like_parent_or_device text ≡ true
-    dotted [] h = cc
-    dotted (a ∷ []) h = cc
-    dotted (a ∷ b ∷ []) h =
-        let each = and_parts (a == dot) (b == dot) h in
-        both_in a b (ap (is_in 86026) (eqb-true a dot each.0)) (ap (is_in 2473984) (eqb-true b dot each.1))
-    dotted (a ∷ b ∷ c ∷ text) h = cc
+-- the first two bytes of a device pass each two tests that these letters pass, and that 0 does not
+module _ (p q : ℕ → Bool) (ps : list_all p first_letters ≡ true) (qs : list_all q second_letters ≡ true) (p0 : p 0 ≡ false) (q0 : q 0 ≡ false) where
+  f : (i : ℕ) → i < 10 → p (get_or first_letters i 0) ≡ true
+  f = all-at p first_letters ps
 
-    device : (text : List ℕ) → may_be_reserved text ≡ true → begins_like_parent_or_device text ≡ true
-    device [] h = cc
-    device (a ∷ []) h = cc
-    device (a ∷ b ∷ []) h = cc
-    device (a ∷ b ∷ c ∷ []) h = bare_in a b (to_ascii_lowercase c) h
-    device (a ∷ b ∷ c ∷ d ∷ []) h = stem (d == dot) h
-      where
-        stem : (s : Bool) → cond s (is_bare_device (to_ascii_lowercase a) (to_ascii_lowercase b) (to_ascii_lowercase c)) (is_numbered_device (to_ascii_lowercase a) (to_ascii_lowercase b) (to_ascii_lowercase c) (to_ascii_lowercase d)) ≡ true
-            → (is_in 86026 a && is_in 2473984 b) ≡ true
-        stem true i = bare_in a b (to_ascii_lowercase c) i
-        stem false i = numbered_in a b (to_ascii_lowercase c) (to_ascii_lowercase d) i
-    device (a ∷ b ∷ c ∷ d ∷ e ∷ text) h = stem (d == dot) (e == dot) h
-      where
-        stem : (s t : Bool) → cond s (is_bare_device (to_ascii_lowercase a) (to_ascii_lowercase b) (to_ascii_lowercase c)) (t && is_numbered_device (to_ascii_lowercase a) (to_ascii_lowercase b) (to_ascii_lowercase c) (to_ascii_lowercase d)) ≡ true
-            → (is_in 86026 a && is_in 2473984 b) ≡ true
-        stem true t i = bare_in a b (to_ascii_lowercase c) i
-        stem false true i = numbered_in a b (to_ascii_lowercase c) (to_ascii_lowercase d) i
-        stem false false i = cc
+  g : (i : ℕ) → i < 8 → q (get_or second_letters i 0) ≡ true
+  g = all-at q second_letters qs
 
-    by : (dots reserved : Bool) → is_dot_dot segment ≡ dots → is_reserved windows segment ≡ reserved → (dots || reserved) ≡ true → begins_like_parent_or_device segment ≡ true
-    by true reserved is held h = dotted segment is
-    by false true is held h = device segment (reserved-may segment held)
-    by false false is held h = cc
+  letters_in : (k l a b : ℕ) (third : Bool) → p k ≡ true → p (k - 32) ≡ true → q l ≡ true → q (l - 32) ≡ true
+      → ((to_ascii_lowercase a == k && to_ascii_lowercase b == l) && third) ≡ true → (p a && q b) ≡ true
+  letters_in k l a b third small capital other_small other_capital e =
+      let two = (and_parts (to_ascii_lowercase a == k && to_ascii_lowercase b == l) third e).0 in
+      let each = and_parts (to_ascii_lowercase a == k) (to_ascii_lowercase b == l) two in
+      both p q a b (letter p k a each.0 small capital) (letter q l b each.1 other_small other_capital)
 
--- so does the text that it stands in front of
-front-like : (text : List ℕ) → begins_like_parent_or_device (before_first (is_separator Either) text) ≡ true → begins_like_parent_or_device text ≡ true
-front-like [] e = e
-front-like (a ∷ []) e = by (is_separator Either a) (sym (ap begins_like_parent_or_device (segment-byte a [])) ∙ e)
-  where
-    by : (p : Bool) → begins_like_parent_or_device (cond p [] (a ∷ [])) ≡ true → false ≡ true
-    by true h = h
-    by false h = h
-front-like (a ∷ b ∷ rest) e = by (is_separator Either a) (is_separator Either b) (before_first (is_separator Either) rest) (sym (ap begins_like_parent_or_device stem) ∙ e)
-  where
-    stem : before_first (is_separator Either) (a ∷ b ∷ rest) ≡ cond (is_separator Either a) [] (a ∷ cond (is_separator Either b) [] (b ∷ before_first (is_separator Either) rest))
-    stem = segment-byte a (b ∷ rest) ∙ ap (λ t. cond (is_separator Either a) [] (a ∷ t)) (segment-byte b rest)
+  bare_in : (a b c : ℕ) → is_bare_device (to_ascii_lowercase a) (to_ascii_lowercase b) c ≡ true → (p a && q b) ≡ true
+  bare_in a b c e =
+      let r = p a && q b in
+      one_of_two r _ _ (one_of_two r _ _ (one_of_two r _ _
+      (letters_in 99 111 a b _ (f 2 (omega arith)) (f 3 (omega arith)) (g 0 (omega arith)) (g 1 (omega arith)))
+      (letters_in 112 114 a b _ (f 8 (omega arith)) (f 9 (omega arith)) (g 4 (omega arith)) (g 5 (omega arith))))
+      (letters_in 97 117 a b _ (f 0 (omega arith)) (f 1 (omega arith)) (g 6 (omega arith)) (g 7 (omega arith))))
+      (letters_in 110 117 a b _ (f 6 (omega arith)) (f 7 (omega arith)) (g 6 (omega arith)) (g 7 (omega arith))) e
 
-    by : (p q : Bool) (more : List ℕ) → begins_like_parent_or_device (cond p [] (a ∷ cond q [] (b ∷ more))) ≡ true
-        → (is_in 86026 a && is_in 2473984 b) ≡ true
-    by true q more h = cc
-    by false true more h = cc
-    by false false more h = h
+  numbered_in : (a b c d : ℕ) → is_numbered_device (to_ascii_lowercase a) (to_ascii_lowercase b) c d ≡ true → (p a && q b) ≡ true
+  numbered_in a b c d e =
+      one_of_two (p a && q b) _ _
+      (letters_in 99 111 a b _ (f 2 (omega arith)) (f 3 (omega arith)) (g 0 (omega arith)) (g 1 (omega arith)))
+      (letters_in 108 112 a b _ (f 4 (omega arith)) (f 5 (omega arith)) (g 2 (omega arith)) (g 3 (omega arith)))
+      (and_parts _ (nat_le 48 d && nat_le d 57) e).0
 
--- what a segment is that is one of them
-module _ (segment : List ℕ) (goal : Bool) (dots : is_dot_dot segment ≡ true → goal ≡ true) (device : may_be_reserved segment ≡ true → goal ≡ true) where
-  by_kind : is_parent_or_device segment ≡ true → goal ≡ true
-  by_kind e = by (is_dot_dot segment) (is_reserved windows segment) refl refl e
+  device : (text : List ℕ) → may_be_reserved text ≡ true → (p (get_or text 0 0) && q (get_or text 1 0)) ≡ true
+  device [] h = cc
+  device (a ∷ []) h = cc
+  device (a ∷ b ∷ []) h = cc
+  device (a ∷ b ∷ c ∷ []) h = bare_in a b (to_ascii_lowercase c) h
+  device (a ∷ b ∷ c ∷ d ∷ []) h = stem (d == dot) h
     where
-      by : (twice reserved : Bool) → is_dot_dot segment ≡ twice → is_reserved windows segment ≡ reserved → (twice || reserved) ≡ true → goal ≡ true
-      by true reserved is held h = dots is
-      by false true is held h = device (reserved-may segment held)
-      by false false is held h = cc
-
--- a text of five bytes or more
-module _ (a b c d e : ℕ) (rest : List ℕ) where
-  stem : before_first (is_separator Either) (a ∷ b ∷ c ∷ d ∷ e ∷ rest)
-      ≡ cond (is_separator Either a) [] (a ∷ cond (is_separator Either b) [] (b ∷ cond (is_separator Either c) [] (c ∷ cond (is_separator Either d) [] (d ∷ cond (is_separator Either e) [] (e ∷ before_first (is_separator Either) rest)))))
-  stem =
-      segment-byte a (b ∷ c ∷ d ∷ e ∷ rest)
-      ∙ ap (λ t. cond (is_separator Either a) [] (a ∷ t)) (segment-byte b (c ∷ d ∷ e ∷ rest)
-      ∙ ap (λ t. cond (is_separator Either b) [] (b ∷ t)) (segment-byte c (d ∷ e ∷ rest)
-      ∙ ap (λ t. cond (is_separator Either c) [] (c ∷ t)) (segment-byte d (e ∷ rest)
-      ∙ ap (λ t. cond (is_separator Either d) [] (d ∷ t)) (segment-byte e rest))))
-
-  -- what is told of it, by which of its bytes separate
-  abbrev ends : Bool → Bool → Bool
-  ends s t = (b == dot || (d == dot || s)) || (e == dot || t)
-
-  no : (goal : Bool) → false ≡ true → goal ≡ true
-  no goal i = absurd (true≢false (sym i))
-
-  second : (x y : Bool) → x ≡ true → ((x || y) || (e == dot || false)) ≡ true
-  second true y i = refl
-  second false y i = cc
-
-  third : (x y z : Bool) → ((x || (y || true)) || z) ≡ true
-  third true y z = refl
-  third false true z = refl
-  third false false z = refl
-
-  fourth : (x y : Bool) → (x || (y || true)) ≡ true
-  fourth true y = refl
-  fourth false true = refl
-  fourth false false = refl
-
-  dotted : (x y z v w : Bool) → cond y v (z && w) ≡ true → ((x || (y || false)) || (z || false)) ≡ true
-  dotted true y z v w i = refl
-  dotted false true z v w i = refl
-  dotted false false true v w i = refl
-  dotted false false false v w i = cc
-
-  long-ends : begins_with_parent_or_device (a ∷ b ∷ c ∷ d ∷ e ∷ rest) ≡ true → may_end_stem (a ∷ b ∷ c ∷ d ∷ e ∷ rest) ≡ true
-  long-ends h =
-      by (is_separator Either a) (is_separator Either b) (is_separator Either c) (is_separator Either d) (is_separator Either e) (before_first (is_separator Either) rest)
-      (sym (ap is_parent_or_device stem) ∙ h)
+      stem : (s : Bool) → cond s (is_bare_device (to_ascii_lowercase a) (to_ascii_lowercase b) (to_ascii_lowercase c)) (is_numbered_device (to_ascii_lowercase a) (to_ascii_lowercase b) (to_ascii_lowercase c) (to_ascii_lowercase d)) ≡ true
+          → (p a && q b) ≡ true
+      stem true i = bare_in a b (to_ascii_lowercase c) i
+      stem false i = numbered_in a b (to_ascii_lowercase c) (to_ascii_lowercase d) i
+  device (a ∷ b ∷ c ∷ d ∷ e ∷ text) h = stem (d == dot) (e == dot) h
     where
-      by : (p q r s t : Bool) (more : List ℕ)
-          → is_parent_or_device (cond p [] (a ∷ cond q [] (b ∷ cond r [] (c ∷ cond s [] (d ∷ cond t [] (e ∷ more)))))) ≡ true → ends s t ≡ true
-      by true q r s t more i = by_kind [] (ends s t) (no _) (no _) i
-      by false true r s t more i = by_kind (a ∷ []) (ends s t) (no _) (no _) i
-      by false false true s t more i =
-          by_kind (a ∷ b ∷ []) (ends s t) (λ j. ap (λ x. (x || (d == dot || s)) || (e == dot || t)) (and_parts (a == dot) (b == dot) j).1) (no _) i
-      by false false false true t more i = by_kind (a ∷ b ∷ c ∷ []) (ends true t) (no _) (λ j. third (b == dot) (d == dot) (e == dot || t)) i
-      by false false false false true more i = by_kind (a ∷ b ∷ c ∷ d ∷ []) (ends false true) (no _) (λ j. fourth (b == dot || (d == dot || false)) (e == dot)) i
-      by false false false false false more i =
-          by_kind (a ∷ b ∷ c ∷ d ∷ e ∷ more) (ends false false) (no _)
-          (λ j. dotted (b == dot) (d == dot) (e == dot) _ _ j) i
+      stem : (s t : Bool) → cond s (is_bare_device (to_ascii_lowercase a) (to_ascii_lowercase b) (to_ascii_lowercase c)) (t && is_numbered_device (to_ascii_lowercase a) (to_ascii_lowercase b) (to_ascii_lowercase c) (to_ascii_lowercase d)) ≡ true
+          → (p a && q b) ≡ true
+      stem true t i = bare_in a b (to_ascii_lowercase c) i
+      stem false true i = numbered_in a b (to_ascii_lowercase c) (to_ascii_lowercase d) i
+      stem false false i = cc
 
--- so its stem may end where its first segment is one of them
-stem-ends : (text : List ℕ) → begins_with_parent_or_device text ≡ true → may_end_stem text ≡ true
+  -- so do those of a text that such a segment stands in front of
+  front : (text : List ℕ) → (p (get_or (before_first (is_separator Either) text) 0 0) && q (get_or (before_first (is_separator Either) text) 1 0)) ≡ true
+      → (p (get_or text 0 0) && q (get_or text 1 0)) ≡ true
+  front [] e = e
+  front (a ∷ []) e = by (is_separator Either a) (sym (ap (λ t. p (get_or t 0 0) && q (get_or t 1 0)) (segment-byte a [])) ∙ e)
+    where
+      by : (separates : Bool) → (p (get_or (cond separates [] (a ∷ [])) 0 0) && q (get_or (cond separates [] (a ∷ [])) 1 0)) ≡ true → (p a && q 0) ≡ true
+      by true h = absurd (true≢false (sym (and_parts (p 0) (q 0) h).0 ∙ p0))
+      by false h = h
+  front (a ∷ b ∷ rest) e =
+      by (is_separator Either a) (is_separator Either b) (before_first (is_separator Either) rest)
+      (sym (ap (λ t. p (get_or t 0 0) && q (get_or t 1 0)) (segment-byte a (b ∷ rest) ∙ ap (λ t. cond (is_separator Either a) [] (a ∷ t)) (segment-byte b rest))) ∙ e)
+    where
+      by : (first second : Bool) (more : List ℕ)
+          → (p (get_or (cond first [] (a ∷ cond second [] (b ∷ more))) 0 0) && q (get_or (cond first [] (a ∷ cond second [] (b ∷ more))) 1 0)) ≡ true
+          → (p a && q b) ≡ true
+      by true second more h = absurd (true≢false (sym (and_parts (p 0) (q 0) h).0 ∙ p0))
+      by false true more h = absurd (true≢false (sym (and_parts (p a) (q 0) h).1 ∙ q0))
+      by false false more h = h
+
+  pub device-front : (text : List ℕ) → may_be_reserved (before_first (is_separator Either) text) ≡ true → (p (get_or text 0 0) && q (get_or text 1 0)) ≡ true
+  device-front text h = front text (device (before_first (is_separator Either) text) h)
+
+-- a text that a device stands in front of begins as one
+front-like : (text : List ℕ) → begins_with_device text ≡ true → begins_like_device text ≡ true
+front-like text e = held text (device-front (is_in 86026) (is_in 2457600) refl refl refl refl text (reserved-may (before_first (is_separator Either) text) e))
+  where
+    held : (t : List ℕ) → (is_in 86026 (get_or t 0 0) && is_in 2457600 (get_or t 1 0)) ≡ true → begins_like_device t ≡ true
+    held [] h = h
+    held (a ∷ []) h = absurd (true≢false (sym (and_parts (is_in 86026 a) (is_in 2457600 0) h).1))
+    held (a ∷ b ∷ rest) h = h
+
+-- a device of five bytes or more has a dot behind three bytes or four
+long-stem : (a b c d e : ℕ) (more : List ℕ) → may_be_reserved (a ∷ b ∷ c ∷ d ∷ e ∷ more) ≡ true → ((d == dot) || (e == dot)) ≡ true
+long-stem a b c d e more h = by (d == dot) (e == dot) _ _ h
+  where
+    by : (y z v w : Bool) → cond y v (z && w) ≡ true → (y || z) ≡ true
+    by true z v w i = refl
+    by false true v w i = refl
+    by false false v w i = cc
+
+-- so its stem may end where the first segment of a text is one
+pub stem-ends : (text : List ℕ) → begins_with_device text ≡ true → may_end_stem text ≡ true
 stem-ends [] h = refl
 stem-ends (a ∷ []) h = refl
 stem-ends (a ∷ b ∷ []) h = refl
 stem-ends (a ∷ b ∷ c ∷ []) h = refl
 stem-ends (a ∷ b ∷ c ∷ d ∷ []) h = refl
-stem-ends (a ∷ b ∷ c ∷ d ∷ e ∷ rest) h = long-ends a b c d e rest h
+stem-ends (a ∷ b ∷ c ∷ d ∷ e ∷ rest) h =
+    by (is_separator Either a) (is_separator Either b) (is_separator Either c) (is_separator Either d) (is_separator Either e) (before_first (is_separator Either) rest)
+    (sym (ap may_be_reserved stem) ∙ reserved-may (before_first (is_separator Either) (a ∷ b ∷ c ∷ d ∷ e ∷ rest)) h)
+  where
+    stem : before_first (is_separator Either) (a ∷ b ∷ c ∷ d ∷ e ∷ rest)
+        ≡ cond (is_separator Either a) [] (a ∷ cond (is_separator Either b) [] (b ∷ cond (is_separator Either c) [] (c ∷ cond (is_separator Either d) [] (d ∷ cond (is_separator Either e) [] (e ∷ before_first (is_separator Either) rest)))))
+    stem =
+        segment-byte a (b ∷ c ∷ d ∷ e ∷ rest)
+        ∙ ap (λ t. cond (is_separator Either a) [] (a ∷ t)) (segment-byte b (c ∷ d ∷ e ∷ rest)
+        ∙ ap (λ t. cond (is_separator Either b) [] (b ∷ t)) (segment-byte c (d ∷ e ∷ rest)
+        ∙ ap (λ t. cond (is_separator Either c) [] (c ∷ t)) (segment-byte d (e ∷ rest)
+        ∙ ap (λ t. cond (is_separator Either d) [] (d ∷ t)) (segment-byte e rest))))
 
--- a text whose first stem is longer has no such segment in front
-pub unended-none : (text : List ℕ) → may_end_stem text ≡ false → begins_with_parent_or_device text ≡ false
+    fourth : (x y : Bool) → ((x || y) || true) ≡ true
+    fourth true y = refl
+    fourth false true = refl
+    fourth false false = refl
+
+    third : (x y : Bool) → ((x || true) || y) ≡ true
+    third true y = refl
+    third false y = refl
+
+    whole : (x y s t : Bool) → (x || y) ≡ true → ((x || s) || (y || t)) ≡ true
+    whole true y s t i = refl
+    whole false true true t i = refl
+    whole false true false t i = refl
+    whole false false s t i = cc
+
+    -- what is told of it, by which of its bytes separate
+    by : (p q r s t : Bool) (more : List ℕ)
+        → may_be_reserved (cond p [] (a ∷ cond q [] (b ∷ cond r [] (c ∷ cond s [] (d ∷ cond t [] (e ∷ more)))))) ≡ true
+        → ((d == dot || s) || (e == dot || t)) ≡ true
+    by true q r s t more i = cc
+    by false true r s t more i = cc
+    by false false true s t more i = cc
+    by false false false true t more i = third (d == dot) (e == dot || t)
+    by false false false false true more i = ended (d == dot) (e == dot)
+      where
+        ended : (x y : Bool) → ((x || false) || (y || true)) ≡ true
+        ended true y = refl
+        ended false true = refl
+        ended false false = refl
+    by false false false false false more i = whole (d == dot) (e == dot) false false (long-stem a b c d e more i)
+
+-- a text whose first stem is longer has no device in front
+pub unended-none : (text : List ℕ) → may_end_stem text ≡ false → begins_with_device text ≡ false
 unended-none text unended = false_from_ne_true _ (λ is. true≢false (sym (stem-ends text is) ∙ unended))
 
--- so a text that begins otherwise has no such segment in front
-pub unlike-none : (text : List ℕ) → begins_like_parent_or_device text ≡ false → begins_with_parent_or_device text ≡ false
-unlike-none text unlike =
-    false_from_ne_true _ (λ is. true≢false (sym (front-like text (like (before_first (is_separator Either) text) is)) ∙ unlike))
+-- nor has one that begins otherwise
+pub unlike-none : (text : List ℕ) → begins_like_device text ≡ false → begins_with_device text ≡ false
+unlike-none text unlike = false_from_ne_true _ (λ is. true≢false (sym (front-like text is) ∙ unlike))
 
 -- ---- the search for them
 
 -- what stands behind bytes that do not separate, tells
 free-front : (n at : ℕ) (text : List ℕ) → at + n ≤ length text → ((k : ℕ) → at ≤ k → k < at + n → stands_at (slash, backslash) text k ≡ false)
-    → has_parent_or_device_behind (drop at text) ≡ has_parent_or_device_behind (drop (at + n) text)
-free-front zero at text within free = let here : at ≡ at + zero = omega arith in ap (λ k. has_parent_or_device_behind (drop k text)) here
+    → has_device_behind (drop at text) ≡ has_device_behind (drop (at + n) text)
+free-front zero at text within free = let here : at ≡ at + zero = omega arith in ap (λ k. has_device_behind (drop k text)) here
 free-front (suc n) at text within free =
     let on : at + 1 + n ≡ at + suc n = omega arith in
-    ap has_parent_or_device_behind (drop_more text at 0 (omega arith))
-    ∙ ap (λ s. (s && begins_with_parent_or_device (drop (at + 1) text)) || has_parent_or_device_behind (drop (at + 1) text)) (free at (omega arith) (omega arith))
+    ap has_device_behind (drop_more text at 0 (omega arith))
+    ∙ ap (λ s. (s && begins_with_device (drop (at + 1) text)) || has_device_behind (drop (at + 1) text)) (free at (omega arith) (omega arith))
     ∙ free-front n (at + 1) text (omega arith) (λ k low high. free k (omega arith) (omega arith))
-    ∙ ap (λ k. has_parent_or_device_behind (drop k text)) on
+    ∙ ap (λ k. has_device_behind (drop k text)) on
 
 -- nothing stands behind the end
-pub behind-end : (text : List ℕ) (at : ℕ) → length text ≤ at → has_parent_or_device_behind (drop at text) ≡ false
-behind-end text at past = ap has_parent_or_device_behind (drop_all at text past)
+pub behind-end : (text : List ℕ) (at : ℕ) → length text ≤ at → has_device_behind (drop at text) ≡ false
+behind-end text at past = ap has_device_behind (drop_all at text past)
 
 -- a range without a separator tells nothing
-pub behind-range : (text : List ℕ) (at to : ℕ) → at ≤ to → to ≤ length text → HoldsNowhere (stands_at (slash, backslash) text) at to → has_parent_or_device_behind (drop at text) ≡ has_parent_or_device_behind (drop to text)
+pub behind-range : (text : List ℕ) (at to : ℕ) → at ≤ to → to ≤ length text → HoldsNowhere (stands_at (slash, backslash) text) at to → has_device_behind (drop at text) ≡ has_device_behind (drop to text)
 behind-range text at to ordered within none =
     let there : at + (to - at) ≡ to = omega (arith, ordered) in
     free-front (to - at) at text (omega (arith, ordered, within)) (λ k low high. none k low (omega (arith, ordered, high)))
-    ∙ ap (λ k. has_parent_or_device_behind (drop k text)) there
+    ∙ ap (λ k. has_device_behind (drop k text)) there
 
 module _ (text : List ℕ) (at to found : ℕ) (within : to ≤ length text) (first : IsFirstOf (slash, backslash) text at to found) where
   -- what stands before the first separator tells nothing
-  pub behind-from : has_parent_or_device_behind (drop at text) ≡ has_parent_or_device_behind (drop found text)
+  pub behind-from : has_device_behind (drop at text) ≡ has_device_behind (drop found text)
   behind-from = behind-range text at found first.low (omega (arith, within, first.high)) first.before
 
   -- a separator tells of the segment behind it, and then of those behind that
-  pub behind-separator : found < to → has_parent_or_device_behind (drop at text)
-      ≡ (begins_with_parent_or_device (drop (found + 1) text) || has_parent_or_device_behind (drop (found + 1) text))
+  pub behind-separator : found < to → has_device_behind (drop at text)
+      ≡ (begins_with_device (drop (found + 1) text) || has_device_behind (drop (found + 1) text))
   behind-separator short =
       behind-from
-      ∙ ap has_parent_or_device_behind (drop_more text found 0 (omega (arith, short, within)))
-      ∙ ap (λ s. (s && begins_with_parent_or_device (drop (found + 1) text)) || has_parent_or_device_behind (drop (found + 1) text)) (first.hit short)
+      ∙ ap has_device_behind (drop_more text found 0 (omega (arith, short, within)))
+      ∙ ap (λ s. (s && begins_with_device (drop (found + 1) text)) || has_device_behind (drop (found + 1) text)) (first.hit short)
 
 -- ---- what the search tells of the pieces
 
@@ -241,7 +251,7 @@ module _ (text : List ℕ) (at to found : ℕ) (within : to ≤ length text) (fi
 record Split (text : List ℕ) : Type 0 where
   more : List (List ℕ)
   cut : pieces Either text ≡ before_first (is_separator Either) text ∷ more
-  told : list_any is_parent_or_device more ≡ has_parent_or_device_behind text
+  told : list_any (is_reserved windows) more ≡ has_device_behind text
 
 split : (text : List ℕ) → Split text
 split [] = record { more = []; cut = refl; told = refl }
@@ -252,9 +262,9 @@ split (x ∷ xs) = by (is_separator Either x) refl (split xs)
       more = pieces Either xs;
       cut = ap (λ s. cond s ([] ∷ pieces Either xs) (onto_first x (pieces Either xs))) e ∙ ap (λ s. s ∷ pieces Either xs) (sym (segment-byte x xs ∙ ap (λ s. cond s [] (x ∷ before_first (is_separator Either) xs)) e));
       told =
-          ap (list_any is_parent_or_device) rest.cut
-          ∙ ap (λ b. is_parent_or_device (before_first (is_separator Either) xs) || b) rest.told
-          ∙ ap (λ s. (s && begins_with_parent_or_device xs) || has_parent_or_device_behind xs) (sym e);
+          ap (list_any (is_reserved windows)) rest.cut
+          ∙ ap (λ b. is_reserved windows (before_first (is_separator Either) xs) || b) rest.told
+          ∙ ap (λ s. (s && begins_with_device xs) || has_device_behind xs) (sym e);
     }
     by false e rest = record {
       more = rest.more;
@@ -262,35 +272,43 @@ split (x ∷ xs) = by (is_separator Either x) refl (split xs)
           ap (λ s. cond s ([] ∷ pieces Either xs) (onto_first x (pieces Either xs))) e
           ∙ ap (onto_first x) rest.cut
           ∙ ap (λ s. s ∷ rest.more) (sym (segment-byte x xs ∙ ap (λ s. cond s [] (x ∷ before_first (is_separator Either) xs)) e));
-      told = rest.told ∙ ap (λ s. (s && begins_with_parent_or_device xs) || has_parent_or_device_behind xs) (sym e);
+      told = rest.told ∙ ap (λ s. (s && begins_with_device xs) || has_device_behind xs) (sym e);
     }
 
 -- so of all pieces
-pub any-pieces : (text : List ℕ) → list_any is_parent_or_device (pieces Either text) ≡ has_parent_or_device text
-any-pieces text = let s = split text in ap (list_any is_parent_or_device) s.cut ∙ ap (λ b. begins_with_parent_or_device text || b) s.told
-
--- where no piece is one of them, none stands for a device
-none_reserved : (ps : List (List ℕ)) → list_any is_parent_or_device ps ≡ false → list_any (is_reserved windows) ps ≡ false
-none_reserved [] e = refl
-none_reserved (p ∷ ps) e =
-    let all = or_parts (is_parent_or_device p) (list_any is_parent_or_device ps) e in
-    ap (λ b. b || list_any (is_reserved windows) ps) (or_parts (is_dot_dot p) (is_reserved windows p) all.0).1 ∙ none_reserved ps all.1
-
--- nor is one `..`
-none_parents : (ps : List (List ℕ)) → list_any is_parent_or_device ps ≡ false → list_any is_dot_dot ps ≡ false
-none_parents [] e = refl
-none_parents (p ∷ ps) e =
-    let all = or_parts (is_parent_or_device p) (list_any is_parent_or_device ps) e in
-    ap (λ b. b || list_any is_dot_dot ps) (or_parts (is_dot_dot p) (is_reserved windows p) all.0).0 ∙ none_parents ps all.1
-
--- where one of them is, and none is `..`, one stands for a device
-pub some_reserved : (ps : List (List ℕ)) → list_any is_dot_dot ps ≡ false → list_any (is_reserved windows) ps ≡ list_any is_parent_or_device ps
-some_reserved [] e = refl
-some_reserved (p ∷ ps) e =
-    let all = or_parts (is_dot_dot p) (list_any is_dot_dot ps) e in
-    ap (λ b. is_reserved windows p || b) (some_reserved ps all.1) ∙ ap (λ b. (b || is_reserved windows p) || list_any is_parent_or_device ps) (sym all.0)
+pub any-pieces : (text : List ℕ) → list_any (is_reserved windows) (pieces Either text) ≡ has_device text
+any-pieces text = let s = split text in ap (list_any (is_reserved windows)) s.cut ∙ ap (λ b. begins_with_device text || b) s.told
 
 -- ---- texts without two dots side by side
+
+-- where NUL and two dots are looked for, and neither is there, no two dots are
+pub unpaired-dots : (text : List ℕ) → has_no_nul_or_dot_pair text ≡ true → has_dot_pair text ≡ false
+unpaired-dots [] e = refl
+unpaired-dots (a ∷ []) e = refl
+unpaired-dots (a ∷ b ∷ bytes) e =
+    let told = and_parts (not (begins_with_nul_or_dot_pair (a ∷ b ∷ bytes))) (has_no_nul_or_dot_pair (b ∷ bytes)) e in
+    let front = or_parts (a == 0) (a == dot && b == dot) (not-true _ told.0) in
+    ap (λ p. p || has_dot_pair (b ∷ bytes)) front.1 ∙ unpaired-dots (b ∷ bytes) told.1
+
+-- nor where no place of a text holds them
+pub nowhere-dots : (text : List ℕ) → HoldsNowhere (dot_pair_at text) 0 (length text - 1) → has_dot_pair text ≡ false
+nowhere-dots [] none = refl
+nowhere-dots (a ∷ []) none = refl
+nowhere-dots (a ∷ b ∷ bytes) none =
+    ap (λ p. p || has_dot_pair (b ∷ bytes)) (none 0 (omega arith) (omega arith))
+    ∙ nowhere-dots (b ∷ bytes) (λ k low high.
+    let next : suc (k + 1) ≡ suc k + 1 = omega arith in
+    ap (λ n. get_or (b ∷ bytes) k 0 == dot && get_or (a ∷ b ∷ bytes) n 0 == dot) next ∙ none (suc k) (omega arith) (omega (arith, high)))
+
+-- bytes that are looked for and stand nowhere are not in a text
+pub nowhere-strays : (strays : Option (ℕ × ℕ)) (text : List ℕ) → HoldsNowhere (stray_of_at strays text) 0 (length text) → has_stray_of strays text ≡ false
+nowhere-strays None text none = refl
+nowhere-strays (Some pair) text none = sym (any-told (is_forbidden_or pair) text 0 (length text) false none (λ k below. absurd (omega (arith, below))) refl)
+
+-- and where they stand in a part of it they are
+pub somewhere-strays : (strays : Option (ℕ × ℕ)) (text : List ℕ) (from to : ℕ) → to ≤ length text → HoldsSomewhere (stray_of_at strays text) from to → has_stray_of strays text ≡ true
+somewhere-strays None text from to within some = absurd (true≢false (sym some.3))
+somewhere-strays (Some pair) text from to within some = any-somewhere (is_forbidden_or pair) text from to within some
 
 -- a byte put before the first of many pieces, the text of which begins with a byte
 put_onto : (x y : ℕ) (separates : Bool) (ps : List (List ℕ)) → (x == dot && y == dot) ≡ false
@@ -300,8 +318,8 @@ put_onto x y false [] apart none = ap (λ b. b || false) apart
 put_onto x y false ([] ∷ ps) apart none = ap (λ b. b || list_any is_dot_dot ps) apart ∙ none
 put_onto x y false ((z ∷ zs) ∷ ps) apart none = (or_parts (is_dot_dot (y ∷ z ∷ zs)) (list_any is_dot_dot ps) none).1
 
--- no piece of such a text is `..`
-pub unpaired-pieces : (text : List ℕ) → has_no_nul_or_dot_pair text ≡ true → list_any is_dot_dot (pieces Either text) ≡ false
+-- no piece of a text without two dots side by side is `..`
+pub unpaired-pieces : (text : List ℕ) → has_dot_pair text ≡ false → list_any is_dot_dot (pieces Either text) ≡ false
 unpaired-pieces [] e = refl
 unpaired-pieces (x ∷ []) e = by (is_separator Either x)
   where
@@ -309,9 +327,8 @@ unpaired-pieces (x ∷ []) e = by (is_separator Either x)
     by true = refl
     by false = refl
 unpaired-pieces (x ∷ y ∷ ys) e =
-    let told = and_parts (not (begins_with_nul_or_dot_pair (x ∷ y ∷ ys))) (has_no_nul_or_dot_pair (y ∷ ys)) e in
-    let front = or_parts (x == 0) (x == dot && y == dot) (not-true _ told.0) in
-    by (is_separator Either x) (unpaired-pieces (y ∷ ys) told.1) (put_onto x y (is_separator Either y) (pieces Either ys) front.1 (unpaired-pieces (y ∷ ys) told.1))
+    let told = or_parts (x == dot && y == dot) (has_dot_pair (y ∷ ys)) e in
+    by (is_separator Either x) (unpaired-pieces (y ∷ ys) told.1) (put_onto x y (is_separator Either y) (pieces Either ys) told.0 (unpaired-pieces (y ∷ ys) told.1))
   where
     by : (separates : Bool) → list_any is_dot_dot (pieces Either (y ∷ ys)) ≡ false → list_any is_dot_dot (onto_first x (pieces Either (y ∷ ys))) ≡ false
         → list_any is_dot_dot (cond separates ([] ∷ pieces Either (y ∷ ys)) (onto_first x (pieces Either (y ∷ ys)))) ≡ false
@@ -429,41 +446,66 @@ no_prefix (a ∷ b ∷ text) apart free =
         by true false e = refl
         by false second e = refl
 
--- a path that only has valid names, as its bytes tell, is not refused
-pub valid-no_fault : (path : List ℕ) → has_only_valid_names path ≡ true → fault windows path ≡ None
-valid-no_fault path e =
-    let told = and_parts (not (begins_with_separator path) && not (list_any (is_stray Either) path)) (not (has_parent_or_device path)) e in
-    let looks = and_parts (not (begins_with_separator path)) (not (list_any (is_stray Either) path)) told.0 in
-    let apart = not-true (begins_with_separator path) looks.0 in
-    let allowed = not-true (list_any (is_stray Either) path) looks.1 in
-    let none = not-true (has_parent_or_device path) told.1 in
-    let read = parts_of-none path (no_prefix path apart (undriven path allowed)) in
-    let valid : is_valid windows (kinds (body_parts Either path)) ≡ true =
-    ap (λ ps. is_valid windows (kinds ps)) (sym (parts-body Either 0 path))
-    ∙ valid-found Either 0 path _ false refl allowed
-    ∙ ap not (none_reserved (pieces Either path) (any-pieces path ∙ none)) in
-    ap (λ ps. fault_behind windows [] (kinds ps)) read ∙ none_refused [] (kinds (body_parts Either path)) valid (body_plain path apart (none_parents (pieces Either path) (any-pieces path ∙ none)))
+-- a path without a prefix or a root, with no two dots side by side, is refused for a name where a byte strays or a segment is a device, and else not
+module _ (path : List ℕ) (apart : begins_with_separator path ≡ false) (free : has_second_colon path ≡ false) (unpaired : has_dot_pair path ≡ false) where
+  read : parts_of windows path ≡ body_parts Either path
+  read = parts_of-none path (no_prefix path apart free)
 
--- of a path that does not begin with a separator the other looks tell
-pub relative-valid : (path : List ℕ) → begins_with_separator path ≡ false → has_only_valid_names path ≡ not (list_any (is_stray Either) path || has_parent_or_device path)
-relative-valid path apart =
-    ap (λ b. (not b && not (list_any (is_stray Either) path)) && not (has_parent_or_device path)) apart
-    ∙ by (list_any (is_stray Either) path) (has_parent_or_device path)
+  plain : list_all is_plain (kinds (body_parts Either path)) ≡ true
+  plain = body_plain path apart (unpaired-pieces path unpaired)
+
+  valid : is_valid windows (kinds (body_parts Either path)) ≡ (not (list_any (is_stray Either) path) && not (has_device path))
+  valid =
+      ap (λ ps. is_valid windows (kinds ps)) (sym (parts-body Either 0 path))
+      ∙ valid-found Either 0 path _ _ refl refl
+      ∙ ap (λ b. not (list_any (is_stray Either) path) && not b) (any-pieces path)
+
+  pub looked-valid : list_any (is_stray Either) path ≡ false → has_device path ≡ false → fault windows path ≡ None
+  looked-valid allowed none =
+      ap (λ ps. fault_behind windows [] (kinds ps)) read
+      ∙ none_refused [] (kinds (body_parts Either path)) (valid ∙ ap₂ (λ b c. not b && not c) allowed none) plain
+
+  pub looked-refused : (list_any (is_stray Either) path || has_device path) ≡ true → fault windows path ≡ Some InvalidFilename
+  looked-refused told =
+      ap (λ ps. fault_behind windows [] (kinds ps)) read
+      ∙ name_refused [] (kinds (body_parts Either path)) (valid ∙ by (list_any (is_stray Either) path) (has_device path) told) plain
+    where
+      by : (stray found : Bool) → (stray || found) ≡ true → (not stray && not found) ≡ false
+      by true found e = refl
+      by false true e = refl
+      by false false e = cc
+
+-- what a list is refused for is what it is refused for where more follows
+fault-front : (before ks ls : List Kind) (e : CheckedPathError) → fault_behind windows before ks ≡ Some e → fault_behind windows before (ks ++ ls) ≡ Some e
+fault-front before [] ls e is = cc
+fault-front before (k ∷ ks) ls e is = by (offence windows before k) is (fault-front (before ++ k ∷ []) ks ls e)
   where
-    by : (stray found : Bool) → ((true && not stray) && not found) ≡ not (stray || found)
-    by true found = refl
-    by false found = refl
+    by : (o : Option CheckedPathError) → option_or o (fault_behind windows (before ++ k ∷ []) ks) ≡ Some e → (fault_behind windows (before ++ k ∷ []) ks ≡ Some e → fault_behind windows (before ++ k ∷ []) (ks ++ ls) ≡ Some e)
+        → option_or o (fault_behind windows (before ++ k ∷ []) (ks ++ ls)) ≡ Some e
+    by None h later = later h
+    by (Some f) h later = h
 
--- a path of which they tell that a name is not valid or a segment is `..`, and which has no two dots side by side, is refused for a name
-pub invalid-name_fault : (path : List ℕ) → begins_with_separator path ≡ false → has_second_colon path ≡ false → has_only_valid_names path ≡ false → has_no_nul_or_dot_pair path ≡ true
-    → fault windows path ≡ Some InvalidFilename
-invalid-name_fault path apart free offends unpaired =
-    let read = parts_of-none path (no_prefix path apart free) in
-    let parents = unpaired-pieces path unpaired in
-    let valid : is_valid windows (kinds (body_parts Either path)) ≡ false =
-    ap (λ ps. is_valid windows (kinds ps)) (sym (parts-body Either 0 path))
-    ∙ valid-found Either 0 path _ _ refl refl
-    ∙ ap (λ b. not (list_any (is_stray Either) path) && not b) (some_reserved (pieces Either path) parents ∙ any-pieces path)
-    ∙ ap (λ b. (not b && not (list_any (is_stray Either) path)) && not (has_parent_or_device path)) (sym apart)
-    ∙ offends in
-    ap (λ ps. fault_behind windows [] (kinds ps)) read ∙ name_refused [] (kinds (body_parts Either path)) valid (body_plain path apart parents)
+-- the kinds of two lists put together
+kinds-append : (cs ds : List Placed) → kinds (parts (cs ++ ds)) ≡ kinds (parts cs) ++ kinds (parts ds)
+kinds-append [] ds = refl
+kinds-append (c ∷ cs) ds = ap (λ ks. c.part.kind ∷ ks) (kinds-append cs ds)
+
+-- so a path without a prefix is refused for what the segments in front of it are
+pub front-refused : (front rest : List ℕ) (e : CheckedPathError) → (rest ≡ []) ⊎ (begins_with_separator rest ≡ true) → begins_with_separator (front ++ rest) ≡ false → has_second_colon (front ++ rest) ≡ false
+    → fault windows front ≡ Some e → fault windows (front ++ rest) ≡ Some e
+front-refused front rest e (inl none) apart free is = ap (λ r. fault windows (front ++ r)) none ∙ ap (fault windows) (append-nil front) ∙ is
+front-refused [] rest e (inr ended) apart free is = absurd (true≢false (sym ended ∙ apart))
+front-refused (a ∷ front) [] e (inr ended) apart free is = cc
+front-refused (a ∷ front) (x ∷ rest) e (inr ended) apart free is =
+    let own = parts_of-none (a ∷ front) (no_prefix (a ∷ front) apart (shorter front free)) in
+    let whole = parts_of-none (a ∷ front ++ x ∷ rest) (no_prefix (a ∷ front ++ x ∷ rest) apart free) in
+    ap (λ ps. fault_behind windows [] (kinds ps)) (whole ∙ sym (parts-body Either 0 (a ∷ front ++ x ∷ rest)) ∙ ap parts split)
+    ∙ ap (fault_behind windows []) (kinds-append (body Either 0 (a ∷ front)) (later_body Either (0 + length (a ∷ front) + 1) rest))
+    ∙ fault-front [] (kinds (parts (body Either 0 (a ∷ front)))) _ e (ap (λ ps. fault_behind windows [] (kinds ps)) (parts-body Either 0 (a ∷ front) ∙ sym own) ∙ is)
+  where
+    shorter : (f : List ℕ) → has_second_colon (a ∷ f ++ x ∷ rest) ≡ false → has_second_colon (a ∷ f) ≡ false
+    shorter [] h = refl
+    shorter (b ∷ f) h = h
+
+    split : body Either 0 (a ∷ front ++ x ∷ rest) ≡ body Either 0 (a ∷ front) ++ later_body Either (0 + length (a ∷ front) + 1) rest
+    split = body_from-append Either 0 x ended Body (a ∷ front) rest ∙ ap (λ cs. cs ++ later_body Either (0 + length (a ∷ front) + 1) rest) (body_from-separator Either 0 x ended Body a front)

@@ -1,14 +1,15 @@
 -- Paths of which a conversion changes no more than the separators.
-use Rattle.std.proofs.Common.{take, get_or, ◌≡◌, ℕ, ◌-◌, ◌≤◌, ◌<◌, ◌==◌, ◌||◌, ◌&&◌, Bool, true, false, if◌then◌else◌, cond, List, [], ◌∷◌, ◌++◌, map, length, fold, flat_map, slice_index, refl, sym, ap, ap₂, ◌∙◌, subst, append_assoc, arith, eqb-true, true≢false, length-append, Some, None}
+use Rattle.std.proofs.Common.{take, drop, not, take_all, get_or, ◌≡◌, ℕ, ◌-◌, ◌≤◌, ◌<◌, ◌==◌, ◌||◌, ◌&&◌, Bool, true, false, if◌then◌else◌, cond, List, [], ◌∷◌, ◌++◌, map, length, fold, flat_map, slice_index, refl, sym, ap, ap₂, ◌∙◌, subst, append_assoc, arith, eqb-true, true≢false, length-append, Some, None}
 use Rattle.std.specs.Prelude.{⊤}
 use Rattle.std.specs.List.{AllByRecursion, list_any, onto_first, before_first}
 use Rattle.std.proofs.lemmas.Bool.{and_parts, and_right, or_parts, false_from_ne_true, both_ways, cond-false, eqb-false}
-use Rattle.std.proofs.lemmas.List.{length-map}
+use Rattle.std.proofs.lemmas.List.{length-map, drop_all}
 use Rattle.std.proofs.lemmas.List.Elements.{All-head}
 use Rattle.typed_path.specs.declared.scan.separators.Separators.{Separators}
-use Rattle.typed_path.specs.declared.scan.separators.Separators.TheVariants.{Slash, Either}
-use Rattle.typed_path.specs.components.{Dialect, unix, windows, dot, slash, backslash, colon, is_separator, is_dot, is_dot_dot, root_text, root_of, Part, current_part, parent_part, name_part, root_part, drive, is_drive_letter, to_upper, parts_of, is_verbatim, body, parts}
+use Rattle.typed_path.specs.declared.scan.separators.Separators.TheVariants.{Slash, Backslash, Either}
+use Rattle.typed_path.specs.components.{Dialect, unix, windows, dot, slash, backslash, colon, is_separator, is_dot, is_dot_dot, root_text, root_of, Part, current_part, parent_part, name_part, root_part, drive, is_drive_letter, to_upper, parts_of, is_verbatim, body, parts, Found, prefix_of, prefix_part, separators}
 use Rattle.typed_path.specs.changes.{ended_with, push_all, push_unix, push_windows, spells_anew, FitsEach, begins_with_separator}
+use Rattle.typed_path.specs.queries.{is_disk}
 use Rattle.typed_path.specs.conversions.{crossed, crossed_all, CrossesTurned}
 use Rattle.typed_path.specs.scan.{is_one_of, is_blank, begins_blank, has_blank_behind, turned}
 use Rattle.typed_path.proofs.lemmas.lists.Lists.{IsUnseparated, slice_split-some, slice_split-unseparated, AllByRecursion-weaker}
@@ -16,9 +17,11 @@ use Rattle.typed_path.proofs.lemmas.components.Segments.{pieces, named_part, fir
 use Rattle.typed_path.proofs.lemmas.components.WindowsNames.{IsPlain, ended_with-append}
 use Rattle.typed_path.proofs.lemmas.changes.WindowsPushes.{fits-plain}
 use Rattle.typed_path.proofs.lemmas.conversions.CrossedPaths.{IsStep, a_parent, a_plain, IsBare, step-read, bare-next, push-step, bare-root, bare-current, bare-parent, bare-name}
-use Rattle.typed_path.proofs.lemmas.components.Prefixes.{OfWindows}
+use Rattle.typed_path.proofs.lemmas.components.Prefixes.{OfWindows, Read, of_disk, of_verbatim_unc, of_verbatim_disk, of_verbatim, of_device, of_unc, prefix-read}
+use Rattle.typed_path.proofs.lemmas.components.FirmPrefixes.{drive-letter}
+use Rattle.typed_path.proofs.lemmas.changes.Faults.{parts_of-some}
 use Rattle.typed_path.proofs.lemmas.places.UnixRows.{take-ended}
-use Rattle.typed_path.proofs.lemmas.places.WindowsRows.{IsWithoutSlash, pieces-own}
+use Rattle.typed_path.proofs.lemmas.places.WindowsRows.{IsWithoutSlash, pieces-own, separates-own}
 use Rattle.typed_path.proofs.lemmas.promises.UnixContained.{parts_of-unix}
 use Rattle.typed_path.proofs.lemmas.promises.WindowsStable.{push-first}
 use Rattle.typed_path.proofs.lemmas.promises.WindowsContained.{verbatim-none}
@@ -450,6 +453,56 @@ crosses-rooted path (x ∷ xs) s p w read without none rooted =
       is = whole;
       fits = body-fits s w x xs without tight.0 tight.1 tight.2 tight.3 (parts_of windows path) whole _ _ (ap (map (crossed unix)) read);
     }
+
+-- one with a root and nothing else behind its prefix
+pub crosses-root : (path text : List ℕ) (s : Separators) (p : Part) → OfWindows s → parts_of windows path ≡ p ∷ body_parts s text → IsWithoutSlash s text → length text ≡ 1 → begins_with_separator text ≡ true → CrossesTurned windows unix path text
+crosses-root path [] s p w read without one rooted = absurd (true≢false (sym rooted))
+crosses-root path (x ∷ y ∷ xs) s p w read without one rooted = absurd (omega (arith, one))
+crosses-root path (x ∷ []) s p w read without one rooted =
+    let listed : map (crossed unix) (parts_of windows path) ≡ crossed unix p ∷ (slash ∷ []) ∷ [] =
+    ap (map (crossed unix)) read
+    ∙ ap (λ c. crossed unix p ∷ map (crossed unix) (first_parts s (cond c ([] ∷ [] ∷ []) (onto_first x ([] ∷ []))))) (separates-own s w x [] without rooted) in
+    record {
+      is = ap (push_all unix []) listed ∙ sym (ap (λ c. (if c then slash else x) ∷ []) rooted);
+      fits = λ room fits. fits-unix room [] (crossed unix p) ((slash ∷ []) ∷ []) (subst (FitsEach unix room []) listed fits);
+    }
+
+-- a drive alone has no separator
+drive-turned : (path : List ℕ) (f : Found) → Read (separators windows path) path f → is_disk f.prefix ≡ true → length path ≡ f.length → turned Either slash path ≡ path
+drive-turned [] _ (of_disk letter of) disk whole = cc
+drive-turned (a ∷ []) _ (of_disk letter of) disk whole = cc
+drive-turned (a ∷ b ∷ []) _ (of_disk letter of) disk whole =
+    let own = drive-letter a b [] letter of in
+    ap₂ (λ c d. (if c then slash else a) ∷ (if d then slash else b) ∷ []) (ap₂ (λ c d. c || d) (letter_is a slash refl own.0) (letter_is a backslash refl own.0)) (ap (is_separator Either) own.1)
+  where
+    letter_is : (a c : ℕ) → is_drive_letter c ≡ false → is_drive_letter a ≡ true → (a == c) ≡ false
+    letter_is a c other own = false_from_ne_true _ (λ h. both_ways (is_drive_letter a) (ap is_drive_letter (eqb-true a c h) ∙ other) own)
+drive-turned (a ∷ b ∷ c ∷ text) _ (of_disk letter of) disk whole = absurd (omega (arith, whole))
+drive-turned path _ (of_verbatim_unc rest mark server) disk whole = cc
+drive-turned path _ (of_verbatim_disk rest letter mark of) disk whole = cc
+drive-turned path _ (of_verbatim rest mark some no_unc no_drive) disk whole = cc
+drive-turned path _ (of_device rest mark some) disk whole = cc
+drive-turned path _ (of_unc rest mark some no_verbatim no_device) disk whole = cc
+
+-- a prefix alone is written as the root, or as it stands where it is a drive
+pub crosses-prefix : (path : List ℕ) (f : Found) → prefix_of windows path ≡ Some f → length path ≡ f.length → CrossesTurned windows unix path (if is_disk f.prefix then path else slash ∷ [])
+crosses-prefix path f is whole = by (is_disk f.prefix) refl
+  where
+    read : parts_of windows path ≡ prefix_part f.prefix path ∷ []
+    read =
+        parts_of-some path f is
+        ∙ ap₂ (λ raw rest. prefix_part f.prefix raw ∷ body_parts (separators windows path) rest) (take_all f.length path (omega (arith, whole))) (drop_all f.length path (omega (arith, whole)))
+
+    by : (disk : Bool) → is_disk f.prefix ≡ disk → CrossesTurned windows unix path (if disk then path else slash ∷ [])
+    by true e =
+        let listed : map (crossed unix) (parts_of windows path) ≡ path ∷ [] = ap (map (crossed unix)) read ∙ ap (λ d. (if not d then slash ∷ [] else path) ∷ []) e in
+        record {
+          is = ap (push_all unix []) listed ∙ push_unix-first path ∙ sym (drive-turned path f (prefix-read path f is) e whole);
+          fits = λ room fits. let long = fits-unix room [] path [] (subst (FitsEach unix room []) listed fits) in omega (arith, long, ap length (push_unix-first path));
+        }
+    by false e =
+        let listed : map (crossed unix) (parts_of windows path) ≡ (slash ∷ []) ∷ [] = ap (map (crossed unix)) read ∙ ap (λ d. (if not d then slash ∷ [] else path) ∷ []) e in
+        record { is = ap (push_all unix []) listed; fits = λ room fits. fits-unix room [] (slash ∷ []) [] (subst (FitsEach unix room []) listed fits) }
 
 -- a body that is read alike without the separator at its end
 pub body-same : (s : Separators) (text other : List ℕ) → ((at : ℕ) → body s at text ≡ body s at other) → body_parts s text ≡ body_parts s other

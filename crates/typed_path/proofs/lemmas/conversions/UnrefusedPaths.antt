@@ -6,7 +6,7 @@ use Rattle.std.proofs.lemmas.List.Elements.{All-nil, All-cons}
 use Rattle.typed_path.specs.declared.scan.separators.Separators.{Separators}
 use Rattle.typed_path.specs.declared.scan.separators.Separators.TheVariants.{Slash, Backslash, Either}
 use Rattle.typed_path.specs.components.{body, Dialect, unix, windows, dot, slash, backslash, colon, question, is_separator, is_dot, root_text, is_verbatim, Part, current_part, root_part, drive, is_drive_letter, parts_of, separators, Found, prefix_of, prefix_part, Kind, prefix, root, current, parent, normal, kinds}
-use Rattle.typed_path.specs.changes.{push, push_all, fault, is_stray, is_forbidden, is_forbidden_or}
+use Rattle.typed_path.specs.changes.{push, push_all, fault, has_device, is_stray, is_forbidden, is_forbidden_or}
 use Rattle.typed_path.specs.queries.{is_valid, is_valid_kind, is_disallowed, kind_has_allowed_bytes, is_reserved}
 use Rattle.typed_path.specs.conversions.{AllowsCrossing, same_dialect, crossed, IsUnrefused, converted_checked, crossing_fault, push_checked_each, push_unless}
 use Rattle.typed_path.specs.scan.{is_one_of, has_blank_behind, turned}
@@ -19,8 +19,9 @@ use Rattle.typed_path.proofs.lemmas.conversions.Crossings.{free-byte}
 use Rattle.typed_path.proofs.lemmas.components.Prefixes.{OfWindows, Read, of_disk, of_verbatim_unc, prefix-read, separators-windows}
 use Rattle.typed_path.proofs.lemmas.places.WindowsRows.{IsWithoutSlash, without_slash-behind}
 use Rattle.typed_path.proofs.lemmas.changes.Faults.{parts_of-none, parts_of-some}
+use Rattle.typed_path.proofs.lemmas.changes.ValidPaths.{any-pieces}
 use Rattle.typed_path.proofs.lemmas.scan.Blanks.{free-behind}
-use Rattle.typed_path.proofs.lemmas.conversions.TurnedPaths.{pieces-slash, read-unix, crosses-windows}
+use Rattle.typed_path.proofs.lemmas.conversions.TurnedPaths.{pieces-slash, read-unix}
 
 -- ---- checked pushes of what is not refused
 
@@ -97,12 +98,9 @@ checked-windows path text read free none =
     valid : is_valid windows (kinds (body_parts Slash text)) ≡ true
     valid = ap (is_valid windows) (same text (unmarked text free)) ∙ own
 
--- so it is written there with its separators turned, where no segment counts for nothing
-pub checked-turned : (path text : List ℕ) → ((at : ℕ) → body Slash at path ≡ body Slash at text) → list_any (is_forbidden_or (backslash, backslash)) text ≡ false → has_blank_behind Either text ≡ false
-    → list_any (is_reserved windows) (pieces Either text) ≡ false → converted_checked unix windows path ≡ Ok (turned Either backslash text)
-checked-turned path text same free tight none =
-    let read = read-unix path text same in
-    checked-windows path text read free none ∙ ap Ok (crosses-windows path text read (unmarked text free) tight).is
+-- so none of its components is refused where looks at the whole path tell that
+pub unrefused-windows : (path : List ℕ) → list_any (is_forbidden_or (backslash, backslash)) path ≡ false → has_device path ≡ false → IsUnrefused unix windows path
+unrefused-windows path free none = checked-windows path path (read-unix path path (λ at. refl)) free (any-pieces path ∙ none)
 
 -- names that Unix allows are valid there
 valid-unix : (ks : List Kind) → AllByRecursion (λ k. kind_has_allowed_bytes unix k ≡ true) ks → is_valid unix ks ≡ true
@@ -142,19 +140,6 @@ body-allowed s w [] without free = tt
 body-allowed s w (b ∷ bs) without free =
     allowed-kinds unix (body_parts s (b ∷ bs)) (allowed-first_parts s unix (pieces s (b ∷ bs)) (allowed-pieces s unix (b ∷ bs) (disallowed-separates s w (b ∷ bs) without free)))
 
--- and so are all of a path that is not read verbatim
-pub allows-unix : (d e : Dialect) (path : List ℕ) → same_dialect d windows ≡ true → same_dialect e unix ≡ true → is_verbatim (separators windows path) ≡ false → list_any (is_one_of (0, 0)) path ≡ false
-    → AllowsCrossing e (kinds (parts_of d path))
-allows-unix unix e path from to plain free = cc
-allows-unix windows windows path from to plain free = cc
-allows-unix windows unix path from to plain free = by (prefix_of windows path) refl
-  where
-    by : (o : Option Found) → prefix_of windows path ≡ o → AllowsCrossing unix (kinds (parts_of windows path))
-    by None e = subst (λ ps. AllowsCrossing unix (kinds ps)) (sym (parts_of-none path e)) (body-allowed Either refl path (λ verbatim. absurd (true≢false (sym verbatim))) free)
-    by (Some f) e =
-        subst (λ ps. AllowsCrossing unix (kinds ps)) (sym (parts_of-some path f e))
-        (refl, body-allowed (separators windows path) (separators-windows path) (drop f.length path) (λ verbatim. absurd (true≢false (sym verbatim ∙ plain))) (free-behind (is_one_of (0, 0)) path f.length free))
-
 -- names of its body are not refused there
 body-unrefused : (s : Separators) → OfWindows s → (text : List ℕ) → IsWithoutSlash s text → list_any (is_one_of (0, 0)) text ≡ false → AllByRecursion (λ p. crossing_fault unix p ≡ None) (body_parts s text)
 body-unrefused s w text without free = valid-unrefused unix s (body_parts s text) (body-written s text) (valid-unix (kinds (body_parts s text)) (body-allowed s w text without free))
@@ -176,13 +161,16 @@ prefix-unrefused path f is = by path f (prefix-read path f is)
     by path _ (of_verbatim_unc rest mark server) = refl
     by path f read = cc
 
--- a path of Windows without NUL is written on Unix by checked pushes as by others
-pub checked-unix : (path text : List ℕ) → parts_of windows path ≡ body_parts Either text → list_any (is_one_of (0, 0)) text ≡ false → IsUnrefused windows unix path
-checked-unix path text read free =
-    unrefused unix [] (parts_of windows path) (subst (AllByRecursion (λ p. crossing_fault unix p ≡ None)) (sym read) (body-unrefused Either refl text (λ verbatim. absurd (true≢false (sym verbatim))) free))
-
-pub checked-rooted : (path text : List ℕ) (f : Found) → prefix_of windows path ≡ Some f → (s : Separators) → OfWindows s → parts_of windows path ≡ prefix_part f.prefix (take f.length path) ∷ body_parts s text → IsWithoutSlash s text
-    → list_any (is_one_of (0, 0)) text ≡ false → IsUnrefused windows unix path
-checked-rooted path text f is s w read without free =
-    unrefused unix [] (parts_of windows path)
-    (subst (AllByRecursion (λ p. crossing_fault unix p ≡ None)) (sym read) (prefix-unrefused path f is, body-unrefused s w text without free))
+-- no component is refused there of a path of Windows without NUL that is not read verbatim
+pub unrefused-unix : (path : List ℕ) → is_verbatim (separators windows path) ≡ false → list_any (is_one_of (0, 0)) path ≡ false → IsUnrefused windows unix path
+unrefused-unix path plain free = by (prefix_of windows path) refl
+  where
+    by : (o : Option Found) → prefix_of windows path ≡ o → IsUnrefused windows unix path
+    by None e =
+        unrefused unix [] (parts_of windows path)
+        (subst (AllByRecursion (λ p. crossing_fault unix p ≡ None)) (sym (parts_of-none path e)) (body-unrefused Either refl path (λ verbatim. absurd (true≢false (sym verbatim))) free))
+    by (Some f) e =
+        let s = separators windows path in
+        unrefused unix [] (parts_of windows path)
+        (subst (AllByRecursion (λ p. crossing_fault unix p ≡ None)) (sym (parts_of-some path f e))
+        (prefix-unrefused path f e, body-unrefused s (separators-windows path) (drop f.length path) (λ verbatim. absurd (true≢false (sym verbatim ∙ plain))) (free-behind (is_one_of (0, 0)) path f.length free)))

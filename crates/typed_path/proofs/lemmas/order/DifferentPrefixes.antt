@@ -24,16 +24,16 @@ prefixed-order t u f g o own other is differ =
     sym (prefixes-differ (comps windows t) (comps windows u) f.prefix g.prefix o (first-found t f own) (first-found u g other) (sym is) differ)
 
 -- two texts with prefixes that are not told apart are in the order of what stands behind these
-pub alike-order : (t u : List ℕ) (f g : Found) (s : Separators) (r o : Ordering) → prefix_of windows t ≡ Some f → prefix_of windows u ≡ Some g → separators windows t ≡ s → separators windows u ≡ s
-    → kind_cmp (prefix f.prefix) (prefix g.prefix) ≡ r → is_ne r ≡ false → left_cmp (body s 0 (drop f.length t)) (body s 0 (drop g.length u)) ≡ o → path_cmp windows t u ≡ o
-alike-order t u f g s r o own other read read' is alike behind =
+pub alike-order : (t u : List ℕ) (f g : Found) (s v : Separators) (r o : Ordering) → prefix_of windows t ≡ Some f → prefix_of windows u ≡ Some g → separators windows t ≡ s → separators windows u ≡ v
+    → kind_cmp (prefix f.prefix) (prefix g.prefix) ≡ r → is_ne r ≡ false → left_cmp (body s 0 (drop f.length t)) (body v 0 (drop g.length u)) ≡ o → path_cmp windows t u ≡ o
+alike-order t u f g s v r o own other read read' is alike behind =
     sym (prefixes-alike (comps windows t) (comps windows u) f.prefix g.prefix r (first-found t f own) (first-found u g other) (sym is) alike)
     ∙ ap₂ left_cmp (ap behind_prefix (ap₂ (λ k p. comps_behind k t p) read own)) (ap behind_prefix (ap₂ (λ k p. comps_behind k u p) read' other))
-    ∙ ap₂ kinds_cmp (moved f.length (drop f.length t)) (moved g.length (drop g.length u))
+    ∙ ap₂ kinds_cmp (moved s f.length (drop f.length t)) (moved v g.length (drop g.length u))
     ∙ behind
   where
-    moved : (n : ℕ) (v : List ℕ) → kinds (parts (body s n v)) ≡ kinds (parts (body s 0 v))
-    moved n v = ap kinds (parts-body s n v ∙ sym (parts-body s 0 v))
+    moved : (s : Separators) (n : ℕ) (v : List ℕ) → kinds (parts (body s n v)) ≡ kinds (parts (body s 0 v))
+    moved s n v = ap kinds (parts-body s n v ∙ sym (parts-body s 0 v))
 
 -- what stands behind a prefix begins with none
 body-bare : (s : Separators) (u : List ℕ) → first_prefix (kinds (parts (body s 0 u))) ≡ None
@@ -84,10 +84,6 @@ same-drive (Some d) None same = cc
 same-drive (Some d) (Some e) same = ap Some (eqb-true d e same)
 
 -- two texts with different drives are in the order of these
-pub drives-order : (t u : List ℕ) (d e : Option ℕ) (v w : List ℕ) (o : Ordering) → IsPartedDrive t d v → IsPartedDrive u e w → option_eq (λ x y. x == y) d e ≡ false
-    → (a : ℕ) × (b : ℕ) × (d ≡ Some a) × (e ≡ Some b) × (kind_cmp (prefix (disk a)) (prefix (disk b)) ≡ o) → path_cmp windows t u ≡ o
-drives-order t u None e v w o own other differ is = let none = is.2 in cc
-drives-order t u (Some d) None v w o own other differ is = let none = is.3 in cc
-drives-order t u (Some d) (Some e) v w o own other differ is =
-    let order : kind_cmp (prefix (disk d)) (prefix (disk e)) ≡ o = ap₂ (λ x y. kind_cmp (prefix (disk x)) (prefix (disk y))) (some_is is.2) (some_is is.3) ∙ is.4 in
-    prefixed-order t u (found (disk d) 2) (found (disk e) 2) o own.1 other.1 order (ap is_ne (sym order) ∙ drives-differ d e differ)
+pub drives-order : (t u : List ℕ) (d e : ℕ) (v w : List ℕ) → IsPartedDrive t (Some d) v → IsPartedDrive u (Some e) w → (d == e) ≡ false → path_cmp windows t u ≡ nat_cmp d e
+drives-order t u d e v w own other differ =
+    prefixed-order t u (found (disk d) 2) (found (disk e) 2) (nat_cmp d e) own.1 other.1 (drives-cmp d e) (ap is_ne (sym (drives-cmp d e)) ∙ drives-differ d e differ)

@@ -1,13 +1,18 @@
--- Two texts of which one begins with a dot and the other with a name that begins later, in the order of these.
-use Rattle.std.proofs.Common.{◌≡◌, ℕ, List, [], ◌∷◌, Bool, true, false, cond, length, ◌==◌, if◌then◌else◌, Greater, refl, sym, ap, ◌∙◌, arith, ne_eqb, eqb-true, ap₂, Equal}
-use Rattle.std.specs.List.{onto_first}
-use Rattle.std.specs.Ordering.{nat_cmp, ordering_then}
-use Rattle.std.proofs.lemmas.Bool.{and_parts}
+-- Two texts of which one begins with a dot and the other with a name that begins later, or both with dots of another rank, in the order of these.
+use Rattle.std.proofs.Common.{◌≡◌, ℕ, ◌+◌, List, [], ◌∷◌, ◌++◌, drop, Bool, true, false, not, ◌&&◌, cond, length, ◌==◌, if◌then◌else◌, Greater, refl, sym, ap, ◌∙◌, arith, ne_eqb, eqb-true, ap₂, Ordering, Equal}
+use Rattle.std.specs.List.{onto_first, before_first, position_or_len, starts_with}
+use Rattle.std.specs.Str.{bytes_eq}
+use Rattle.std.specs.Ordering.{nat_cmp, is_ne, ordering_then}
+use Rattle.std.proofs.lemmas.Bool.{and_parts, both_ways, false_from_ne_true}
+use Rattle.std.proofs.lemmas.Slice.Eq.{bytes_eq-Decides}
 use Rattle.typed_path.specs.declared.scan.separators.Separators.{Separators}
-use Rattle.typed_path.specs.components.{dot, is_separator, root_text, is_dot, is_dot_dot, Kind, current, parent, normal, kinds, body, root_part, current_part, parent_part, name_part}
+use Rattle.typed_path.specs.declared.scan.cursor.Begin.TheVariants.{Body}
+use Rattle.typed_path.specs.components.{dot, is_separator, root_text, is_empty, is_dot, is_dot_dot, Kind, current, parent, normal, kinds, parts, texts, Placed, component, body, later_body, root_part, current_part, parent_part, name_part}
+use Rattle.typed_path.specs.scan.{dots_rank}
 use Rattle.typed_path.specs.order.{left_cmp, kinds_cmp, bytes_cmp}
-use Rattle.typed_path.proofs.lemmas.components.Segments.{pieces, first_parts, later_parts, body_parts, parts-body}
+use Rattle.typed_path.proofs.lemmas.components.Segments.{body_from-first, pieces, first_parts, later_parts, body_parts, parts-body}
 use Rattle.typed_path.proofs.lemmas.lists.Lists.{slice_split-some}
+use Rattle.typed_path.proofs.lemmas.order.SharedNames.{before_first-cons}
 
 -- what stands at the front of a text that begins with a byte that does not separate
 data IsFront (b : ℕ) : Kind → Type 0 where
@@ -81,3 +86,75 @@ module _ (s : Separators) (a b : ℕ) (xs ys : List ℕ) (own : is_separator s a
       let f = begins s a xs own in
       let g = begins s b ys other in
       read s (a ∷ xs) (b ∷ ys) _ _ f.is g.is ∙ fronts-greater a b f.head g.head f.rest g.rest dotted greater f.front g.front
+
+-- two lists of which the first components are of two ranks are in the order of these
+ranked : (d dd e ee : Bool) (p q : List ℕ) (cs ds : List Placed) (o : Ordering) → nat_cmp (cond d 0 (cond dd 1 2)) (cond e 0 (cond ee 1 2)) ≡ o → is_ne o ≡ true
+    → left_cmp (cond d (component current_part 0) (cond dd (component parent_part 0) (component (name_part p) 0)) ++ cs)
+    (cond e (component current_part 0) (cond ee (component parent_part 0) (component (name_part q) 0)) ++ ds) ≡ o
+ranked true dd true ee p q cs ds o h n = let no = ap is_ne h ∙ n in cc
+ranked true dd false true p q cs ds o h n = h
+ranked true dd false false p q cs ds o h n = h
+ranked false true true ee p q cs ds o h n = h
+ranked false true false true p q cs ds o h n = let no = ap is_ne h ∙ n in cc
+ranked false true false false p q cs ds o h n = h
+ranked false false true ee p q cs ds o h n = h
+ranked false false false true p q cs ds o h n = h
+ranked false false false false p q cs ds o h n = let no = ap is_ne h ∙ n in cc
+
+-- bytes of which one list passes a test and the other does not
+unlike : (f : List ℕ → Bool) (x y : List ℕ) (b : Bool) → f x ≡ b → f y ≡ not b → bytes_eq x y ≡ false
+unlike f x y true own other = false_from_ne_true (bytes_eq x y) (λ h. both_ways (f x) (ap f ((bytes_eq-Decides x y).0 h) ∙ other) own)
+unlike f x y false own other = false_from_ne_true (bytes_eq x y) (λ h. both_ways (f y) (sym (ap f ((bytes_eq-Decides x y).0 h)) ∙ own) other)
+
+-- and they are written otherwise
+ranked-apart : (d dd e ee : Bool) (p q : List ℕ) (cs ds : List Placed) (o : Ordering) → is_dot p ≡ d → is_dot_dot p ≡ dd → is_dot q ≡ e → is_dot_dot q ≡ ee
+    → nat_cmp (cond d 0 (cond dd 1 2)) (cond e 0 (cond ee 1 2)) ≡ o → is_ne o ≡ true
+    → starts_with bytes_eq (texts (parts (cond d (component current_part 0) (cond dd (component parent_part 0) (component (name_part p) 0)) ++ cs)))
+    (texts (parts (cond e (component current_part 0) (cond ee (component parent_part 0) (component (name_part q) 0)) ++ ds))) ≡ false
+ranked-apart true dd true ee p q cs ds o i j k l h n = let no = ap is_ne h ∙ n in cc
+ranked-apart true dd false true p q cs ds o i j k l h n = refl
+ranked-apart true dd false false p q cs ds o i j k l h n = ap (λ r. r && starts_with bytes_eq (texts (parts cs)) (texts (parts ds))) (unlike is_dot q (dot ∷ []) false k refl)
+ranked-apart false true true ee p q cs ds o i j k l h n = refl
+ranked-apart false true false true p q cs ds o i j k l h n = let no = ap is_ne h ∙ n in cc
+ranked-apart false true false false p q cs ds o i j k l h n = ap (λ r. r && starts_with bytes_eq (texts (parts cs)) (texts (parts ds))) (unlike is_dot_dot q (dot ∷ dot ∷ []) false l refl)
+ranked-apart false false true ee p q cs ds o i j k l h n = ap (λ r. r && starts_with bytes_eq (texts (parts cs)) (texts (parts ds))) (unlike is_dot (dot ∷ []) p true refl i)
+ranked-apart false false false true p q cs ds o i j k l h n = ap (λ r. r && starts_with bytes_eq (texts (parts cs)) (texts (parts ds))) (unlike is_dot_dot (dot ∷ dot ∷ []) p true refl j)
+ranked-apart false false false false p q cs ds o i j k l h n = let no = ap is_ne h ∙ n in cc
+
+module _ (s : Separators) where
+  -- a text that begins with a byte that does not separate has a first segment, and so a first component that is no root
+  unrooted : (b : ℕ) (bs : List ℕ) → is_separator s b ≡ false → (cs : List Placed)
+      × (let p = before_first (is_separator s) (b ∷ bs) in
+      body s 0 (b ∷ bs) ≡ cond (is_dot p) (component current_part 0) (cond (is_dot_dot p) (component parent_part 0) (component (name_part p) 0)) ++ cs)
+  unrooted b bs e =
+      let p = before_first (is_separator s) (b ∷ bs) in
+      let n = position_or_len (is_separator s) (b ∷ bs) in
+      let rest = later_body s (0 + n) (drop n (b ∷ bs)) in
+      let filled : is_empty p ≡ false = ap is_empty (before_first-cons (is_separator s) b bs e) ∙ ne_eqb (length (b ∷ before_first (is_separator s) bs)) 0 (λ h. omega arith) in (
+        rest,
+        body_from-first Body s 0 b bs refl
+            ∙ ap (λ c. cond c (component (root_part (root_text s)) 0) (cond (is_dot p) (component current_part 0) (cond (is_dot_dot p) (component parent_part 0) (component (name_part p) 0))) ++ rest) filled,
+      )
+
+  -- so two such texts are in the order of the ranks of their first segments, where these differ
+  pub ranks-order : (a b : ℕ) (xs ys : List ℕ) (o : Ordering) → is_separator s a ≡ false → is_separator s b ≡ false
+      → nat_cmp (dots_rank (before_first (is_separator s) (a ∷ xs))) (dots_rank (before_first (is_separator s) (b ∷ ys))) ≡ o → is_ne o ≡ true
+      → left_cmp (body s 0 (a ∷ xs)) (body s 0 (b ∷ ys)) ≡ o
+  ranks-order a b xs ys o own other h n =
+      let p = before_first (is_separator s) (a ∷ xs) in
+      let q = before_first (is_separator s) (b ∷ ys) in
+      let f = unrooted a xs own in
+      let g = unrooted b ys other in
+      ap₂ left_cmp f.1 g.1 ∙ ranked (is_dot p) (is_dot_dot p) (is_dot q) (is_dot_dot q) p q f.0 g.0 o h n
+
+  -- and the one does not begin with the other
+  pub ranks-apart : (a b : ℕ) (xs ys : List ℕ) (o : Ordering) → is_separator s a ≡ false → is_separator s b ≡ false
+      → nat_cmp (dots_rank (before_first (is_separator s) (a ∷ xs))) (dots_rank (before_first (is_separator s) (b ∷ ys))) ≡ o → is_ne o ≡ true
+      → starts_with bytes_eq (texts (parts (body s 0 (a ∷ xs)))) (texts (parts (body s 0 (b ∷ ys)))) ≡ false
+  ranks-apart a b xs ys o own other h n =
+      let p = before_first (is_separator s) (a ∷ xs) in
+      let q = before_first (is_separator s) (b ∷ ys) in
+      let f = unrooted a xs own in
+      let g = unrooted b ys other in
+      ap₂ (λ cs ds. starts_with bytes_eq (texts (parts cs)) (texts (parts ds))) f.1 g.1
+      ∙ ranked-apart (is_dot p) (is_dot_dot p) (is_dot q) (is_dot_dot q) p q f.0 g.0 o refl refl refl refl h n

@@ -121,19 +121,13 @@ same-byte a b h = by (a == b) refl h
     by false e h = cc
 
 -- what is left of a reading has the components of its slice, read from its beginning
-clean-kinds : (begin : Begin) (s : Separators) (at : ℕ) (v : List ℕ) → is_clean begin s v ≡ true → kinds (parts (body_from begin s at v)) ≡ kinds (parts (body s 0 v))
-clean-kinds Body s at [] clean = refl
-clean-kinds Inside s at [] clean = refl
-clean-kinds begin s at (b ∷ bs) clean =
-    ap (λ cs. kinds (parts cs)) (body_from-first begin s at b bs clean ∙ sym (body_from-first Body s at b bs refl))
-    ∙ ap kinds (parts-body s at (b ∷ bs) ∙ sym (parts-body s 0 (b ∷ bs)))
-
-left-kinds : (b : Reading) (s : Separators) (text : List ℕ) → s ≡ b.separators → text ≡ body_slice b → kinds (parts (body_items b)) ≡ kinds (parts (body s 0 text))
-left-kinds b s text same slice = clean-kinds b.begin b.separators b.from (body_slice b) b.starts_clean ∙ sym (λ i. kinds (parts (body (same i) 0 (slice i))))
-
--- and two with the same separators compare as their slices do
-pub left-order : (b d : Reading) (t u : List ℕ) → t ≡ body_slice b → u ≡ body_slice d → b.separators ≡ d.separators → left_cmp (body_items b) (body_items d) ≡ left_cmp (body b.separators 0 t) (body b.separators 0 u)
-left-order b d t u own other same = ap₂ kinds_cmp (left-kinds b b.separators t refl own) (left-kinds d b.separators u same other)
+pub clean-parts : (begin : Begin) (s : Separators) (at : ℕ) (v : List ℕ) → is_clean begin s v ≡ true → parts (body_from begin s at v) ≡ parts (body s 0 v)
+clean-parts Body s at [] clean = refl
+clean-parts Inside s at [] clean = refl
+clean-parts begin s at (b ∷ bs) clean =
+    ap parts (body_from-first begin s at b bs clean ∙ sym (body_from-first Body s at b bs refl))
+    ∙ parts-body s at (b ∷ bs)
+    ∙ sym (parts-body s 0 (b ∷ bs))
 
 -- a whole body has the components of its slice, wherever that stands
 pub whole-body : (b : Reading) (s : Separators) (text : List ℕ) → s ≡ b.separators → text ≡ body_slice b → b.begin ≡ Begin.Body → kinds (parts (body s 0 text)) ≡ kinds (parts (body_items b))
@@ -141,11 +135,6 @@ whole-body b s text same slice begins =
     ap kinds (parts-body s 0 text ∙ sym (parts-body s b.from text))
     ∙ ap₂ (λ begin r. kinds (parts (body_from begin r b.from text))) (sym begins) same
     ∙ ap (λ t. kinds (parts (body_from b.begin b.separators b.from t))) slice
-
--- what holds of an order that may be told
-pub if-told : {P Q : Ordering → Type 0} (o : Option Ordering) → IfSome o P → ((r : Ordering) → P r → Q r) → IfSome o Q
-if-told None holds f = tt
-if-told (Some r) holds f = f r holds
 
 -- two texts with the same components in front, and then names in a given order
 pub record Parted (s : Separators) (t u : List ℕ) (o : Ordering) : Type 0 where
@@ -172,6 +161,11 @@ begins-apart [] (g ∷ gs) c d cs ds e h = absurd (omega (arith, e))
 begins-apart (f ∷ fs) [] c d cs ds e h = absurd (omega (arith, e))
 begins-apart (f ∷ fs) (g ∷ gs) c d cs ds e h =
     ap (λ b. bytes_eq g.part.text f.part.text && b) (begins-apart fs gs c d cs ds (omega (arith, e)) h) ∙ and-false (bytes_eq g.part.text f.part.text)
+
+-- behind the same components a list begins with another as it does without them
+begins-behind : (fs cs ds : List Placed) → begins (fs ++ cs) (fs ++ ds) ≡ begins cs ds
+begins-behind [] cs ds = refl
+begins-behind (f ∷ fs) cs ds = ap (λ b. b && begins (fs ++ cs) (fs ++ ds)) ((bytes_decides f.part.text f.part.text).1 refl) ∙ begins-behind fs cs ds
 
 -- names that are in an order are not one
 unlike : (a b : List ℕ) (o : Ordering) → bytes_cmp a b ≡ o → is_ne o ≡ true → bytes_eq b a ≡ false
@@ -232,6 +226,11 @@ module _ (s : Separators) (t u : List ℕ) (k n : ℕ) (parted : IsParting s t u
   pub behind-shared : 0 < n → left_cmp (later_body s n (drop n t)) (later_body s n (drop n u)) ≡ left_cmp (body s 0 t) (body s 0 u)
   behind-shared h =
       cmp-behind (body s 0 (take n t)) (later_body s n (drop n t)) (later_body s n (drop n u)) (body s 0 t) (body s 0 u) (own-at (n - 1) (omega (arith, h))) (other-at (n - 1) (omega (arith, h)))
+
+  -- and the one begins with the other as what stands there does
+  pub begins-shared : 0 < n → begins (later_body s n (drop n t)) (later_body s n (drop n u)) ≡ begins (body s 0 t) (body s 0 u)
+  begins-shared h =
+      sym (ap₂ begins (own-at (n - 1) (omega (arith, h))) (other-at (n - 1) (omega (arith, h))) ∙ begins-behind (body s 0 (take n t)) (later_body s n (drop n t)) (later_body s n (drop n u)))
 
   -- what both hold of the segments in which they part, which separates nowhere
   abbrev mid : List ℕ

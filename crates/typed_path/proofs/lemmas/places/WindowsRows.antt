@@ -176,7 +176,7 @@ pieces-own Backslash w text h = pieces-either text (h refl)
 pieces-own Either w text h = refl
 
 -- a byte of it that separates in the one separates in the other
-separates-own : (s : Separators) → OfWindows s → (b : ℕ) (bs : List ℕ) → IsWithoutSlash s (b ∷ bs) → is_separator Either b ≡ true → is_separator s b ≡ true
+pub separates-own : (s : Separators) → OfWindows s → (b : ℕ) (bs : List ℕ) → IsWithoutSlash s (b ∷ bs) → is_separator Either b ≡ true → is_separator s b ≡ true
 separates-own Slash w b bs h separates = cc
 separates-own Backslash w b bs h separates = by (is_separator Slash b) (or_parts (is_separator Slash b) (list_any (is_separator Slash) bs) (h refl)).0 separates
   where

@@ -3,7 +3,8 @@ use Rattle.std.specs.List.{before_first}
 use Rattle.std.proofs.lemmas.List.{take_rest}
 use Rattle.typed_path.specs.components.{is_separator}
 use Rattle.typed_path.specs.order.{bytes_cmp}
-use Rattle.typed_path.proofs.lemmas.order.SharedNames.{Parted, names-parted, parted-cmp, parted-begins, itself-order, if-told}
+use Rattle.std.proofs.lemmas.Option.{IfSome_then}
+use Rattle.typed_path.proofs.lemmas.order.SharedNames.{Parted, names-parted, parted-cmp, parted-begins, itself-order}
 use Rattle.typed_path.proofs.scan.cut.order_behind.Goals as goal
 
 pub returns-then-shared-other-clause-order : goal.returns-then-shared-other-clause-order
@@ -24,7 +25,7 @@ parted c o is =
     (ap₂ (λ x y. bytes_cmp (before_first (is_separator s) x) (before_first (is_separator s) y)) (sym (take_rest t k)) (sym (take_rest u k)) ∙ is)
 
 pub returns-clause-order : goal.returns-clause-order
-returns-clause-order c = if-told c.order_of_ends.result c.order_of_ends.ensures (λ o h. parted-cmp c.args.separators c.args.text.now c.args.other.now o (parted c o h.1) h.0)
+returns-clause-order c = IfSome_then c.order_of_ends.result c.order_of_ends.ensures (λ o h. parted-cmp c.args.separators c.args.text.now c.args.other.now o (parted c o h.1) h.0)
 
 pub returns-clause-apart : goal.returns-clause-apart
-returns-clause-apart c = if-told c.order_of_ends.result c.order_of_ends.ensures (λ o h differ. parted-begins c.args.separators c.args.text.now c.args.other.now o (parted c o h.1) h.0)
+returns-clause-apart c = IfSome_then c.order_of_ends.result c.order_of_ends.ensures (λ o h differ. parted-begins c.args.separators c.args.text.now c.args.other.now o (parted c o h.1) h.0)

@@ -18,15 +18,23 @@ segments-preserved c =
           (standing-step Slash (λ name. ⊤) _ _ head _ c.in-Some-cut_at_separator.behind.now c.in-Some-cut_at_separator.segment.now path c.in-Some-cut_at_separator.ensures.pieces c.in-Some-cut_at_separator.ensures.open tt
           (λ names. c.in_ok-put_segment.ensures.ok head names size)
           (standing-put Slash (λ name. ⊤) _ _ head c.segments.rest.now path (any-names (pieces Slash c.segments.rest.now)) (c.segments.invariant.standing head size are) c.in-Some.left.now put));
-      kept = c.put_segment-in-Some.ensures.kept ∙ kept-front c.args.len c.segments.text.items _ c.segments.invariant.long c.put_names.ensures.front ∙ c.segments.invariant.kept;
-      long = c.put_segment-in-Some.ensures.long;
-      capacity = omega (arith, c.segments.invariant.capacity, c.put_names.ensures.capacity, c.put_segment-in-Some.ensures.capacity);
-      room = λ fits. omega (arith, c.segments.invariant.room fits, room, c.put_names.ensures.capacity, c.put_segment-in-Some.ensures.room, c.put_segment-in-Some.ensures.capacity, c.in-Some-cut_at_separator.ensures.sizes, c.behind_segment-rest.ensures.shorter);
+      kept = c.put_segment-in-segments.ensures.kept ∙ kept-front c.args.len c.segments.text.items _ c.segments.invariant.long c.put_names.ensures.front ∙ c.segments.invariant.kept;
+      long = c.put_segment-in-segments.ensures.long;
+      capacity = omega (arith, c.segments.invariant.capacity, c.put_names.ensures.capacity, c.put_segment-in-segments.ensures.capacity);
+      room = λ fits. omega (arith, c.segments.invariant.room fits, room, c.put_names.ensures.capacity, c.put_segment-in-segments.ensures.room, c.put_segment-in-segments.ensures.capacity, c.in-Some-cut_at_separator.ensures.sizes, c.behind_segment-rest.ensures.shorter);
     }
 
-pub returns-clause-ok : goal.returns-clause-ok
-returns-clause-ok c = λ head size are.
-    standing-whole Slash (λ name. ⊤) _ _ head c.segments.rest.now c.args.path.now (any-names (pieces Slash c.segments.rest.now)) (c.segments.invariant.standing head size are) (rw c.in_default.is at c.in_ok-left.ensures.ok)
+pub returns-then-matches-clause-ok : goal.returns-then-matches-clause-ok
+returns-then-matches-clause-ok c =
+    on_ok_weaker c.put_one_by_one.result
+    (λ puts head size are.
+    let stands = c.segments.invariant.standing head size are in
+    puts head c.args.path.now stands.names size stands.rows stands.left)
+    c.put_one_by_one.ensures.ok
+
+pub returns-in_default-2-clause-ok : goal.returns-in_default-2-clause-ok
+returns-in_default-2-clause-ok c = λ head size are.
+    standing-whole Slash (λ name. ⊤) _ _ head c.segments.rest.now c.args.path.now (any-names (pieces Slash c.segments.rest.now)) (c.segments.invariant.standing head size are) (rw c.in_default-2.is at c.in_ok-left.ensures.ok)
 
 pub returns-in_default-cut_at_separator-clause-ok : goal.returns-in_default-cut_at_separator-clause-ok
 returns-in_default-cut_at_separator-clause-ok c =

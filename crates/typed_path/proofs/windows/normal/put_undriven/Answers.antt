@@ -29,6 +29,7 @@ segments-init c = record {
   capacity = omega arith;
   room = λ fits. fits;
   drives = free-pieces c.args.path.now c.requires.free;
+  names = c.requires.names;
 }
 
 pub segments-preserved : goal.segments-preserved
@@ -46,6 +47,7 @@ segments-preserved c =
       capacity = omega (arith, c.segments.invariant.capacity, c.put_names.ensures.capacity, c.put_segment-in-Some.ensures.capacity);
       room = λ fits. omega (arith, c.segments.invariant.room fits, room, c.put_names.ensures.capacity, c.put_segment-in-Some.ensures.room, c.put_segment-in-Some.ensures.capacity, c.in-Some-cut_at_separator.ensures.sizes, c.behind_segment-rest.ensures.shorter);
       drives = c.behind_segment-rest.ensures.drives drives.1;
+      names = c.leading_short_names-names.ensures;
     }
 
 pub returns-clause-ok : goal.returns-clause-ok
@@ -75,16 +77,23 @@ returns-in_default-cut_at_separator-clause-told c =
     let put = rw c.in-Some.is at c.in_ok-left.ensures.ok in
     c.put_segment.ensures.told (subst HaveNoDisks c.in_default-cut_at_separator.ensures.pieces (put-drives _ _ _ _ put c.segments.invariant.drives)).0
 
-pub returns-then-rest-left-clause-ok : goal.returns-then-rest-left-clause-ok
-returns-then-rest-left-clause-ok c =
+pub put_names-requires : goal.put_names-requires
+put_names-requires c = c.segments.invariant.names
+
+pub returns-then-matches-clause-ok : goal.returns-then-matches-clause-ok
+returns-then-matches-clause-ok c =
     let put = rw c.in-Some.is at c.in_ok-left.ensures.ok in
+    let drives = subst HaveNoDisks c.in-Some-cut_at_separator.ensures.pieces (put-drives _ _ _ _ put c.segments.invariant.drives) in
     IfOk-weaker c.put_one_by_one.result _ _
     (λ plain puts done head size are.
-    let stands = standing-put Either IsNoDrive _ _ head c.segments.rest.now c.args.path.now c.segments.invariant.drives (c.segments.invariant.standing head size are) c.in-Some.left.now put in
+    let stands = turn-standing _ _ _ head c.segments.rest.now c.in-Some.left.now c.in-Some-cut_at_separator.segment.now c.in-Some-cut_at_separator.behind.now c.behind_segment-rest.result.now c.args.path.now c.segments.invariant.drives (c.segments.invariant.standing head size are) put
+    c.in-Some-cut_at_separator.ensures.pieces c.in-Some-cut_at_separator.ensures.open drives.0
+    (λ names. c.in_ok-put_segment.ensures.ok (c.in_ok-put_segment.ensures.told drives.0) head names size) c.behind_segment-rest.ensures.same in
     puts done head c.args.path.now stands.names size stands.rows stands.each stands.left)
     c.put_one_by_one.ensures.ok
 
-pub returns-then-rest-left-clause-told : goal.returns-then-rest-left-clause-told
-returns-then-rest-left-clause-told c =
+pub returns-then-matches-clause-told : goal.returns-then-matches-clause-told
+returns-then-matches-clause-told c =
     let put = rw c.in-Some.is at c.in_ok-left.ensures.ok in
-    c.put_one_by_one.ensures.told (put-drives _ _ _ _ put c.segments.invariant.drives)
+    let drives = subst HaveNoDisks c.in-Some-cut_at_separator.ensures.pieces (put-drives _ _ _ _ put c.segments.invariant.drives) in
+    c.put_one_by_one.ensures.told (c.behind_segment-rest.ensures.drives drives.1)
