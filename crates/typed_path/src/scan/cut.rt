@@ -482,8 +482,9 @@ fn last_start(text: &[u8], separators: Separators) -> usize
     ensures within { result ≤ length text.now }
     ensures last { IsAfterLastMatch (is_separator separators) text.now result }
 {
-    match text.last() {
-        Some(byte) if separators.contains(*byte) => text.len(),
+    match text {
+        [.., last] if separators.contains(*last) => text.len(),
+        [_] => 0,
         _ => separators.last_in(text),
     }
 }

@@ -422,7 +422,7 @@ fn stays_before_parted(prefix: WindowsPrefix<'_>) -> bool
 fn judged_by_looks(path: &[u8]) -> Option<Result<(), CheckedPathError>>
     ensures { IfSome result (λ judged. error_of judged ≡ fault windows path.now) }
 {
-    if has_second_colon(path) || begins_with_separator(path) {
+    if has_second_colon(path) || begins_with_separator(path) || begins_with_two_dots(path) {
         return None;
     }
     match look_at_path(path) {
@@ -452,6 +452,14 @@ fn is_refused_for_name(path: &[u8]) -> bool
     ensures { IsTrue result → fault windows path.now ≡ Some InvalidFilename }
 {
     has_no_nul_or_dot_pair(path) && matches!(look_at_path(path), Look::Offence(_))
+}
+
+/// Whether the first two bytes of a text are dots.
+#[inline(always)]
+fn begins_with_two_dots(text: &[u8]) -> bool
+    ensures { IsTrue result → has_no_nul_or_dot_pair text.now ≡ false }
+{
+    matches!(text, [b'.', b'.', ..])
 }
 
 /// Whether the second byte of a text is a `:`, as behind the letter of a drive.
