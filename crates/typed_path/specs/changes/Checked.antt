@@ -1,5 +1,5 @@
 -- What a checked call was refused for.
-use Rattle.std.specs.Prelude.{if◌then◌else◌, ◌≡◌, ◌==◌, ◌/◌, ◌%◌, ◌^◌, ℕ, List, [], ◌∷◌, Bool, true, false, not, ◌&&◌, ◌||◌, ◌+◌, ◌<◌, min, max, drop, slice_index, Result, Ok, Err, Option, Some, None}
+use Rattle.std.specs.Prelude.{◌≡◌, ◌==◌, ◌/◌, ◌%◌, ◌^◌, ℕ, List, [], ◌∷◌, Bool, true, false, not, ◌&&◌, ◌||◌, ◌+◌, ◌<◌, min, max, drop, slice_index, Result, Ok, Err, Option, Some, None}
 use Rattle.std.specs.Int.{bit_at}
 use Rattle.std.specs.Int.Bits.{bit_and}
 use Rattle.std.specs.List.{All, before_first, list_any}
@@ -8,8 +8,7 @@ use Rattle.typed_path.specs.declared.scan.separators.Separators.TheVariants.{Eit
 use Rattle.typed_path.specs.declared.errors.CheckedPathError.{CheckedPathError}
 use Rattle.typed_path.specs.declared.errors.PathError.{PathError}
 use Rattle.typed_path.specs.declared.errors.PathError.TheVariants.{Checked, OutOfMemory}
-use Rattle.typed_path.specs.components.Dialects.{windows, dot, slash, colon, question, dialect_of, is_separator}
-use Rattle.typed_path.specs.components.Comps.{is_dot_dot}
+use Rattle.typed_path.specs.components.Dialects.{windows, dot, colon, question, dialect_of, is_separator}
 use Rattle.typed_path.specs.scan.Masks.{is_one_of}
 use Rattle.typed_path.specs.queries.Queries.{is_disallowed, is_reserved}
 

@@ -1,5 +1,5 @@
 -- Marks of separators behind which a device may stand: what the bytes behind them tell, and the search by such marks.
-use Rattle.std.proofs.Common.{◌≡◌, ℕ, zero, suc, ◌+◌, ◌-◌, ◌*◌, ◌^◌, ◌/◌, ◌%◌, ◌≤◌, ◌<◌, List, [], ◌∷◌, Bool, true, false, cond, not, ◌&&◌, ◌||◌, ◌==◌, min, max, length, drop, get_or, refl, sym, ap, ◌∙◌, arith, bit_or, bit_and, shr-shr, subst, true≢false, ◌⊎◌, inl, inr, get_or-drop, length-drop}
+use Rattle.std.proofs.Common.{◌≡◌, ℕ, zero, suc, ◌+◌, ◌-◌, ◌*◌, ◌^◌, ◌/◌, ◌%◌, ◌≤◌, ◌<◌, List, [], ◌∷◌, Bool, true, false, cond, ◌&&◌, ◌||◌, ◌==◌, min, max, length, drop, get_or, refl, sym, ap, ◌∙◌, arith, bit_or, bit_and, shr-shr, subst, true≢false, ◌⊎◌, inl, inr, get_or-drop, length-drop}
 use Rattle.std.specs.Int.{bit_at}
 use Rattle.std.specs.List.{before_first}
 use Rattle.std.proofs.lemmas.Bool.{and_parts, false_from_ne_true, cases_lt}

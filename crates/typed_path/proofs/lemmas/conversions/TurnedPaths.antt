@@ -1,12 +1,12 @@
 -- Paths of which a conversion changes no more than the separators.
-use Rattle.std.proofs.Common.{take, drop, not, take_all, get_or, ◌≡◌, ℕ, ◌-◌, ◌≤◌, ◌<◌, ◌==◌, ◌||◌, ◌&&◌, Bool, true, false, if◌then◌else◌, cond, List, [], ◌∷◌, ◌++◌, map, length, fold, flat_map, slice_index, refl, sym, ap, ap₂, ◌∙◌, subst, append_assoc, arith, eqb-true, true≢false, length-append, Some, None}
+use Rattle.std.proofs.Common.{take, not, take_all, get_or, ◌≡◌, ℕ, ◌-◌, ◌≤◌, ◌<◌, ◌==◌, ◌||◌, ◌&&◌, Bool, true, false, if◌then◌else◌, cond, List, [], ◌∷◌, ◌++◌, map, length, fold, flat_map, slice_index, refl, sym, ap, ap₂, ◌∙◌, subst, append_assoc, arith, eqb-true, true≢false, length-append, Some, None}
 use Rattle.std.specs.Prelude.{⊤}
 use Rattle.std.specs.List.{AllByRecursion, list_any, onto_first, before_first}
 use Rattle.std.proofs.lemmas.Bool.{and_parts, and_right, or_parts, false_from_ne_true, both_ways, cond-false, eqb-false}
 use Rattle.std.proofs.lemmas.List.{length-map, drop_all}
 use Rattle.std.proofs.lemmas.List.Elements.{All-head}
 use Rattle.typed_path.specs.declared.scan.separators.Separators.{Separators}
-use Rattle.typed_path.specs.declared.scan.separators.Separators.TheVariants.{Slash, Backslash, Either}
+use Rattle.typed_path.specs.declared.scan.separators.Separators.TheVariants.{Slash, Either}
 use Rattle.typed_path.specs.components.{Dialect, unix, windows, dot, slash, backslash, colon, is_separator, is_dot, is_dot_dot, root_text, root_of, Part, current_part, parent_part, name_part, root_part, drive, is_drive_letter, to_upper, parts_of, is_verbatim, body, parts, Found, prefix_of, prefix_part, separators}
 use Rattle.typed_path.specs.changes.{ended_with, push_all, push_unix, push_windows, spells_anew, FitsEach, begins_with_separator}
 use Rattle.typed_path.specs.queries.{is_disk}

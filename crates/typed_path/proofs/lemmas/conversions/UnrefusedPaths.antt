@@ -5,11 +5,11 @@ use Rattle.std.proofs.lemmas.Bool.{and_parts, and_right, or_parts, false_from_ne
 use Rattle.std.proofs.lemmas.List.Elements.{All-nil, All-cons}
 use Rattle.typed_path.specs.declared.scan.separators.Separators.{Separators}
 use Rattle.typed_path.specs.declared.scan.separators.Separators.TheVariants.{Slash, Backslash, Either}
-use Rattle.typed_path.specs.components.{body, Dialect, unix, windows, dot, slash, backslash, colon, question, is_separator, is_dot, root_text, is_verbatim, Part, current_part, root_part, drive, is_drive_letter, parts_of, separators, Found, prefix_of, prefix_part, Kind, prefix, root, current, parent, normal, kinds}
+use Rattle.typed_path.specs.components.{Dialect, unix, windows, dot, slash, backslash, colon, question, is_separator, is_dot, root_text, is_verbatim, Part, current_part, root_part, drive, is_drive_letter, parts_of, separators, Found, prefix_of, prefix_part, Kind, prefix, root, current, parent, normal, kinds}
 use Rattle.typed_path.specs.changes.{push, push_all, fault, has_device, is_stray, is_forbidden, is_forbidden_or}
 use Rattle.typed_path.specs.queries.{is_valid, is_valid_kind, is_disallowed, kind_has_allowed_bytes, is_reserved}
-use Rattle.typed_path.specs.conversions.{AllowsCrossing, same_dialect, crossed, IsUnrefused, converted_checked, crossing_fault, push_checked_each, push_unless}
-use Rattle.typed_path.specs.scan.{is_one_of, has_blank_behind, turned}
+use Rattle.typed_path.specs.conversions.{AllowsCrossing, crossed, IsUnrefused, crossing_fault, push_checked_each, push_unless}
+use Rattle.typed_path.specs.scan.{is_one_of}
 use Rattle.typed_path.proofs.lemmas.components.Segments.{pieces, named_part, later_parts, first_parts, body_parts, IsWritten, IsWrittenPart, each-written, body_parts-read, parts-body}
 use Rattle.typed_path.proofs.lemmas.components.WindowsNames.{fault_name}
 use Rattle.typed_path.proofs.lemmas.queries.ValidNames.{valid-found}

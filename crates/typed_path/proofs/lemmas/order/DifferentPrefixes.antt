@@ -9,7 +9,6 @@ use Rattle.typed_path.specs.declared.scan.separators.Separators.{Separators}
 use Rattle.typed_path.specs.declared.scan.cursor.Begin.TheVariants.{Body}
 use Rattle.typed_path.specs.queries.{first_prefix, behind_prefix}
 use Rattle.typed_path.specs.order.{kind_cmp, kinds_cmp, left_cmp, path_cmp}
-use Rattle.typed_path.proofs.lemmas.components.Prefixes.{some_is}
 use Rattle.typed_path.proofs.lemmas.components.Segments.{body_from-first, parts-body}
 use Rattle.typed_path.proofs.lemmas.order.Comparisons.{bare, prefixes-alike, prefixes-differ}
 

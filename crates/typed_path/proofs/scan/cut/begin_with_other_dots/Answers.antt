@@ -1,4 +1,4 @@
-use Rattle.std.proofs.Common.{rules, ◌≡◌, ◌∷◌, drop, Bool, true, false, Option, Some, None, Ordering, IsTrue, sym, ap, ◌∙◌, refl}
+use Rattle.std.proofs.Common.{rules, ◌≡◌, ◌∷◌, drop, true, false, Option, Some, None, Ordering, sym, ◌∙◌, refl}
 use Rattle.std.specs.Prelude.{IfSome}
 use Rattle.std.specs.Option.{is_some}
 use Rattle.std.specs.List.{before_first, starts_with}

@@ -1,4 +1,4 @@
-use Rattle.std.proofs.Common.{◌≡◌, ◌||◌, false, sym, ap₂, ◌∙◌}
+use Rattle.std.proofs.Common.{◌||◌, sym, ap₂, ◌∙◌}
 use Rattle.std.proofs.lemmas.Bool.{both_ways}
 use Rattle.typed_path.proofs.lemmas.changes.ValidPaths.{unpaired-dots}
 use Rattle.typed_path.proofs.scan.separators.look_by_segments.Goals as goal

@@ -1,10 +1,10 @@
-use Rattle.std.proofs.Common.{◌≡◌, ◌≤◌, ◌<◌, true, false, ◌||◌, Bool, List, ℕ, sym, ap, ◌∙◌, ◌+◌, ◌-◌, ◌/◌, ◌^◌, bit_and, drop, length, subst, arith, refl, IsTrue, inl, inr}
+use Rattle.std.proofs.Common.{◌≡◌, ◌≤◌, true, false, ◌||◌, Bool, List, ℕ, sym, ap, ◌∙◌, ◌+◌, ◌-◌, ◌/◌, ◌^◌, bit_and, drop, length, subst, arith, refl, inl, inr}
 use Rattle.std.specs.Slice.Scan.{HoldsNowhere}
 use Rattle.std.proofs.lemmas.Bool.{both_ways, cases_lt}
 use Rattle.std.proofs.Math.Bool.{or-false, or-true}
-use Rattle.typed_path.specs.changes.{TellsBegins, has_device, has_device_behind, has_dot_pair, has_stray_of, dot_pair_at}
+use Rattle.typed_path.specs.changes.{TellsBegins, has_device_behind, has_dot_pair, dot_pair_at}
 use Rattle.typed_path.proofs.lemmas.changes.MayBegins.{block-front, tells-later}
-use Rattle.typed_path.proofs.lemmas.changes.ValidPaths.{behind-end, nowhere-dots, nowhere-strays, somewhere-strays}
+use Rattle.typed_path.proofs.lemmas.changes.ValidPaths.{behind-end, nowhere-dots, nowhere-strays}
 use Rattle.typed_path.proofs.scan.separators.look_for.Goals as goal
 use Rattle.typed_path.proofs.scan.separators.look_for.Goals.{else-dots-via-then-dots+else-has_dot_pair_at, else-dots-via-else-dots, else-dots-2-via-then-dots-2+else-has_dot_pair_at-2, else-dots-2-via-else-dots-2}
 

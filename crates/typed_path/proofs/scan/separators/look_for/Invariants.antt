@@ -1,4 +1,4 @@
-use Rattle.std.proofs.Common.{◌≡◌, ◌≤◌, ◌-◌, true, length, drop}
+use Rattle.std.proofs.Common.{◌≡◌, ◌≤◌, ◌-◌, true, drop}
 use Rattle.std.specs.Slice.Scan.{HoldsNowhere}
 use Rattle.typed_path.specs.changes.{has_device, has_device_behind, stray_of_at, dot_pair_at}
 use Rattle.typed_path.proofs.scan.separators.look_for.Given as goal

@@ -1,8 +1,7 @@
-use Rattle.std.proofs.Common.{◌≡◌, ◌∙◌, List, ℕ, refl, arith}
+use Rattle.std.proofs.Common.{◌∙◌, refl, arith}
 use Rattle.std.specs.Prelude.{⊤}
 use Rattle.std.proofs.lemmas.Result.{on_ok_weaker}
 use Rattle.typed_path.specs.declared.scan.separators.Separators.TheVariants.{Slash}
-use Rattle.typed_path.proofs.lemmas.components.Segments.{pieces}
 use Rattle.typed_path.proofs.lemmas.places.UnixRows.{standing-step, standing-over, standing-end}
 use Rattle.typed_path.proofs.lemmas.places.NamedRows.{any-names}
 use Rattle.typed_path.proofs.unix.encoding.put_one_by_one.Goals as goal

@@ -1,6 +1,6 @@
 use Rattle.std.proofs.Common.{sym, ap, ap₂, ◌∙◌}
 use Rattle.std.proofs.lemmas.List.{take_rest}
-use Rattle.typed_path.specs.components.{body, kinds, parts}
+use Rattle.typed_path.specs.components.{body, kinds}
 use Rattle.typed_path.specs.order.{left_cmp, kinds_cmp}
 use Rattle.typed_path.specs.views.PieceViews.{found_of}
 use Rattle.typed_path.proofs.lemmas.components.Segments.{parts-body}

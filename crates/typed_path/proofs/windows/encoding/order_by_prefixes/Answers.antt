@@ -1,4 +1,4 @@
-use Rattle.std.proofs.Common.{◌≡◌, Some, None, Option, ℕ, sym, ap, subst, ◌∙◌}
+use Rattle.std.proofs.Common.{sym, subst, ◌∙◌}
 use Rattle.typed_path.specs.components.{windows, comps, disk, IsPartedDrive}
 use Rattle.typed_path.specs.views.BodyViews.{body_items}
 use Rattle.typed_path.proofs.lemmas.order.Comparisons.{prefixed-bare, bare-prefixed}
