@@ -4,6 +4,7 @@ mod blanks;
 mod cursor;
 mod cut;
 mod lanes;
+mod names;
 mod prefix;
 mod separators;
 mod step;
@@ -15,9 +16,8 @@ pub use cut::{
     have_other_fronts, order_behind, order_of_beginning, order_of_fronts, text_behind,
     texts_behind,
 };
-pub use lanes::{
-    first_between, first_difference, has_no_nul_or_dot_pair, has_only_names, leading_short_names,
-};
+pub use lanes::{first_between, first_difference, has_no_nul_or_dot_pair};
+pub use names::{has_only_names, leading_short_names};
 pub use prefix::{
     Found, WindowsPrefix, after_mark, begins_with_two, byte_behind_two, drive, find_prefix,
     parted_drive,

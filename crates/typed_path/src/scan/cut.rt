@@ -1,13 +1,13 @@
 //! Texts cut at a byte, at a separator, behind a beginning, behind a base, and behind what two of them
 //! share; and the order of two texts from where they part.
 
-ghost use Rattle.std.specs.Prelude.{◌≡◌, ◌≢◌, ◌≤◌, ◌<◌, ◌+◌, ◌==◌, List, ℕ, [], min, ◌∷◌, ◌++◌, take, length, MatchOption, IfSome, true, false, drop, IsTrue};
+ghost use Rattle.std.specs.Prelude.{◌≡◌, ◌≢◌, ◌≤◌, ◌<◌, ◌+◌, ◌==◌, ◌⊎◌, List, ℕ, [], min, ◌∷◌, ◌++◌, take, length, MatchOption, IfSome, true, false, drop, IsTrue};
 ghost use Rattle.std.specs.List.{slice_split, position_or_len, before_first, starts_with, IsAfterLastMatch};
 ghost use Rattle.std.specs.Slice.Scan.{IsFirstPlace};
 ghost use Rattle.std.specs.Str.{bytes_eq};
 ghost use Rattle.std.specs.Ordering.{is_ne, nat_cmp, ordering_reverse};
 ghost use Rattle.typed_path.specs.components.{is_separator, is_dot, body, later_body, parts, texts};
-ghost use Rattle.typed_path.specs.scan.{is_clean, begins_with_name, tells_name, differs_at, dots_rank, PartWithinNames};
+ghost use Rattle.typed_path.specs.scan.{is_clean, begins_with_name, tells_name, differs_at, dots_rank, IsParting, PartWithinNames};
 ghost use Rattle.typed_path.specs.declared.scan.cursor.Begin.{Begin};
 ghost use Rattle.typed_path.specs.order.{left_cmp, bytes_cmp};
 ghost use Rattle.typed_path.specs.views.BodyViews.{body_items};
@@ -249,11 +249,8 @@ pub fn order_behind(
 ) -> Option<Ordering>
     requires { IsFirstPlace (differs_at text.now other.now) 0
         (min (length text.now) (length other.now)) shared }
-    ensures order { IfSome result (λ order.
+    ensures { IfSome result (λ order.
         left_cmp (body separators 0 text.now) (body separators 0 other.now) ≡ order) }
-    ensures apart { IfSome result (λ order. is_ne order ≡ true
-        → starts_with bytes_eq (texts (parts (body separators 0 text.now)))
-        (texts (parts (body separators 0 other.now))) ≡ false) }
 {
     if shared == text.len() && shared == other.len() {
         return Some(Ordering::Equal);
@@ -420,16 +417,37 @@ pub fn are_apart(text: &[u8], other: &[u8], shared: usize, separators: Separator
     ensures { IsTrue result → starts_with bytes_eq (texts (parts (body separators 0 text.now)))
         (texts (parts (body separators 0 other.now))) ≡ false }
 {
-    match order_behind(text, other, shared, separators) {
-        Some(order) => order.is_ne(),
-        None if shared == 0 => have_other_fronts(text, other, separators),
-        None if shared <= 2 => begin_with_other_dots(text, other, separators),
-        None => part_at_dots(text, other, shared, separators),
+    if shared == 0 {
+        return have_other_fronts(text, other, separators);
     }
+    if part_in_one_segment(text, other, shared, separators) {
+        return order_of_ends(&text[shared..], &other[shared..], separators).is_some();
+    }
+    part_at_dots(text, other, shared, separators)
 }
 
-/// Whether two texts part where a dot stands in the other, or behind one, and what they hold behind the last separator
-/// that both begin with, and behind the blanks there, begins otherwise. False says nothing.
+/// Whether the bytes of two texts tell that the segments in which they part are components: names, or the first of
+/// each text. False says nothing.
+#[inline(always)]
+fn part_in_one_segment(text: &[u8], other: &[u8], shared: usize, separators: Separators) -> bool
+    requires shared { IsFirstPlace (differs_at text.now other.now) 0
+        (min (length text.now) (length other.now)) shared }
+    requires some { 0 < shared }
+    ensures { IsTrue result → PartWithinNames separators text.now other.now shared
+        ⊎ IsParting separators text.now other.now shared 0 }
+{
+    let front = &text[..shared];
+    if ends_with_name(front, separators) {
+        return true;
+    }
+    let start = last_start(front, separators);
+    start == 0
+        || (begins_with_name(&text[start..], separators)
+            && begins_with_name(&other[start..], separators))
+}
+
+/// Whether two texts part where two dots stand in the first or a dot in the other, or behind one, and what they hold
+/// behind the last separator that both begin with, and behind the blanks there, begins otherwise. False says nothing.
 #[inline(always)]
 fn part_at_dots(text: &[u8], other: &[u8], shared: usize, separators: Separators) -> bool
     requires { IsFirstPlace (differs_at text.now other.now) 0
@@ -437,25 +455,15 @@ fn part_at_dots(text: &[u8], other: &[u8], shared: usize, separators: Separators
     ensures { IsTrue result → starts_with bytes_eq (texts (parts (body separators 0 text.now)))
         (texts (parts (body separators 0 other.now))) ≡ false }
 {
-    if !matches!(&text[..shared], [.., b'.']) && !matches!(&other[shared..], [b'.', ..]) {
+    let parts_at_dots = matches!(&text[..shared], [.., b'.'])
+        || matches!(&text[shared..], [b'.', b'.', ..])
+        || matches!(&other[shared..], [b'.', ..]);
+    if !parts_at_dots {
         return false;
     }
     match texts_behind(text, other, shared, separators) {
         Some((own, wanted)) => have_other_fronts(own, wanted, separators),
         None => false,
-    }
-}
-
-/// Whether two texts that are read from their beginnings begin with a dot, and their first segments are of two ranks:
-/// `.`, `..` and names. False says nothing.
-#[inline(always)]
-fn begin_with_other_dots(text: &[u8], other: &[u8], separators: Separators) -> bool
-    ensures { IsTrue result → starts_with bytes_eq (texts (parts (body separators 0 text.now)))
-        (texts (parts (body separators 0 other.now))) ≡ false }
-{
-    match (text, other) {
-        ([b'.', ..], [b'.', ..]) => order_of_ranks(text, other, separators).is_some(),
-        _ => false,
     }
 }
 

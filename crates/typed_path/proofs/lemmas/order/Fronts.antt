@@ -1,18 +1,17 @@
 -- Two texts of which one begins with a dot and the other with a name that begins later, or both with dots of another rank, in the order of these.
-use Rattle.std.proofs.Common.{◌≡◌, ℕ, ◌+◌, List, [], ◌∷◌, ◌++◌, drop, Bool, true, false, not, ◌&&◌, cond, length, ◌==◌, if◌then◌else◌, Greater, refl, sym, ap, ◌∙◌, arith, ne_eqb, eqb-true, ap₂, Ordering, Equal}
+use Rattle.std.proofs.Common.{◌≡◌, ◌<◌, ℕ, ◌+◌, List, get_or-take, length-take-le, [], ◌∷◌, ◌++◌, drop, Bool, true, false, not, ◌&&◌, cond, length, ◌==◌, if◌then◌else◌, Greater, refl, sym, ap, ◌∙◌, arith, ne_eqb, eqb-true, ap₂, Ordering, Equal}
 use Rattle.std.specs.List.{onto_first, before_first, position_or_len, starts_with}
 use Rattle.std.specs.Str.{bytes_eq}
 use Rattle.std.specs.Ordering.{nat_cmp, is_ne, ordering_then}
-use Rattle.std.proofs.lemmas.Bool.{and_parts, both_ways, false_from_ne_true}
-use Rattle.std.proofs.lemmas.Slice.Eq.{bytes_eq-Decides}
+use Rattle.std.proofs.lemmas.Bool.{and_parts}
 use Rattle.typed_path.specs.declared.scan.separators.Separators.{Separators}
 use Rattle.typed_path.specs.declared.scan.cursor.Begin.TheVariants.{Body}
 use Rattle.typed_path.specs.components.{dot, is_separator, root_text, is_empty, is_dot, is_dot_dot, Kind, current, parent, normal, kinds, parts, texts, Placed, component, body, later_body, root_part, current_part, parent_part, name_part}
-use Rattle.typed_path.specs.scan.{dots_rank}
+use Rattle.typed_path.specs.scan.{dots_rank, IsParting}
 use Rattle.typed_path.specs.order.{left_cmp, kinds_cmp, bytes_cmp}
 use Rattle.typed_path.proofs.lemmas.components.Segments.{body_from-first, pieces, first_parts, later_parts, body_parts, parts-body}
 use Rattle.typed_path.proofs.lemmas.lists.Lists.{slice_split-some}
-use Rattle.typed_path.proofs.lemmas.order.SharedNames.{before_first-cons}
+use Rattle.typed_path.proofs.lemmas.order.SharedNames.{before_first-cons, ends-order, same-byte, unlike}
 
 -- what stands at the front of a text that begins with a byte that does not separate
 data IsFront (b : ℕ) : Kind → Type 0 where
@@ -101,25 +100,23 @@ ranked false false true ee p q cs ds o h n = h
 ranked false false false true p q cs ds o h n = h
 ranked false false false false p q cs ds o h n = let no = ap is_ne h ∙ n in cc
 
--- bytes of which one list passes a test and the other does not
-unlike : (f : List ℕ → Bool) (x y : List ℕ) (b : Bool) → f x ≡ b → f y ≡ not b → bytes_eq x y ≡ false
-unlike f x y true own other = false_from_ne_true (bytes_eq x y) (λ h. both_ways (f x) (ap f ((bytes_eq-Decides x y).0 h) ∙ other) own)
-unlike f x y false own other = false_from_ne_true (bytes_eq x y) (λ h. both_ways (f y) (sym (ap f ((bytes_eq-Decides x y).0 h)) ∙ own) other)
+-- a segment that is `.` or `..`, by its bytes
+one-dot : (p : List ℕ) → is_dot p ≡ true → p ≡ dot ∷ []
+one-dot [] h = cc
+one-dot (a ∷ []) h = ap (λ x. x ∷ []) (eqb-true a dot h)
+one-dot (a ∷ b ∷ p) h = cc
 
--- and they are written otherwise
-ranked-apart : (d dd e ee : Bool) (p q : List ℕ) (cs ds : List Placed) (o : Ordering) → is_dot p ≡ d → is_dot_dot p ≡ dd → is_dot q ≡ e → is_dot_dot q ≡ ee
-    → nat_cmp (cond d 0 (cond dd 1 2)) (cond e 0 (cond ee 1 2)) ≡ o → is_ne o ≡ true
-    → starts_with bytes_eq (texts (parts (cond d (component current_part 0) (cond dd (component parent_part 0) (component (name_part p) 0)) ++ cs)))
-    (texts (parts (cond e (component current_part 0) (cond ee (component parent_part 0) (component (name_part q) 0)) ++ ds))) ≡ false
-ranked-apart true dd true ee p q cs ds o i j k l h n = let no = ap is_ne h ∙ n in cc
-ranked-apart true dd false true p q cs ds o i j k l h n = refl
-ranked-apart true dd false false p q cs ds o i j k l h n = ap (λ r. r && starts_with bytes_eq (texts (parts cs)) (texts (parts ds))) (unlike is_dot q (dot ∷ []) false k refl)
-ranked-apart false true true ee p q cs ds o i j k l h n = refl
-ranked-apart false true false true p q cs ds o i j k l h n = let no = ap is_ne h ∙ n in cc
-ranked-apart false true false false p q cs ds o i j k l h n = ap (λ r. r && starts_with bytes_eq (texts (parts cs)) (texts (parts ds))) (unlike is_dot_dot q (dot ∷ dot ∷ []) false l refl)
-ranked-apart false false true ee p q cs ds o i j k l h n = ap (λ r. r && starts_with bytes_eq (texts (parts cs)) (texts (parts ds))) (unlike is_dot (dot ∷ []) p true refl i)
-ranked-apart false false false true p q cs ds o i j k l h n = ap (λ r. r && starts_with bytes_eq (texts (parts cs)) (texts (parts ds))) (unlike is_dot_dot (dot ∷ dot ∷ []) p true refl j)
-ranked-apart false false false false p q cs ds o i j k l h n = let no = ap is_ne h ∙ n in cc
+two-dots : (p : List ℕ) → is_dot_dot p ≡ true → p ≡ dot ∷ dot ∷ []
+two-dots [] h = cc
+two-dots (a ∷ []) h = cc
+two-dots (a ∷ b ∷ []) h = let both = and_parts (a == dot) (b == dot) h in ap₂ (λ x y. x ∷ y ∷ []) (eqb-true a dot both.0) (eqb-true b dot both.1)
+two-dots (a ∷ b ∷ c ∷ p) h = cc
+
+-- the first component of a list is written as its segment
+first-text : (d dd : Bool) (p : List ℕ) (cs : List Placed) → is_dot p ≡ d → is_dot_dot p ≡ dd → texts (parts (cond d (component current_part 0) (cond dd (component parent_part 0) (component (name_part p) 0)) ++ cs)) ≡ p ∷ texts (parts cs)
+first-text true dd p cs i j = ap (λ x. x ∷ texts (parts cs)) (sym (one-dot p i))
+first-text false true p cs i j = ap (λ x. x ∷ texts (parts cs)) (sym (two-dots p j))
+first-text false false p cs i j = refl
 
 module _ (s : Separators) where
   -- a text that begins with a byte that does not separate has a first segment, and so a first component that is no root
@@ -147,14 +144,18 @@ module _ (s : Separators) where
       let g = unrooted b ys other in
       ap₂ left_cmp f.1 g.1 ∙ ranked (is_dot p) (is_dot_dot p) (is_dot q) (is_dot_dot q) p q f.0 g.0 o h n
 
-  -- and the one does not begin with the other
-  pub ranks-apart : (a b : ℕ) (xs ys : List ℕ) (o : Ordering) → is_separator s a ≡ false → is_separator s b ≡ false
-      → nat_cmp (dots_rank (before_first (is_separator s) (a ∷ xs))) (dots_rank (before_first (is_separator s) (b ∷ ys))) ≡ o → is_ne o ≡ true
-      → starts_with bytes_eq (texts (parts (body s 0 (a ∷ xs)))) (texts (parts (body s 0 (b ∷ ys)))) ≡ false
-  ranks-apart a b xs ys o own other h n =
+  -- two texts that part in their first segments do not begin with one component
+  pub firsts-apart : (t u : List ℕ) (k : ℕ) (o : Ordering) → IsParting s t u k 0 → 0 < k → bytes_cmp (before_first (is_separator s) (drop k t)) (before_first (is_separator s) (drop k u)) ≡ o → is_ne o ≡ true
+      → starts_with bytes_eq (texts (parts (body s 0 t))) (texts (parts (body s 0 u))) ≡ false
+  firsts-apart [] u k o parted some is ne = absurd (omega (arith, some, parted.0.high))
+  firsts-apart (a ∷ xs) [] k o parted some is ne = absurd (omega (arith, some, parted.0.high))
+  firsts-apart (a ∷ xs) (b ∷ ys) k o parted some is ne =
+      let own : is_separator s a ≡ false = ap (is_separator s) (sym (get_or-take k (a ∷ xs) 0 0 some)) ∙ parted.1.0 0 0 (omega arith) (omega (arith, some, length-take-le k (a ∷ xs) (omega (arith, parted.0.high)))) in
+      let other : is_separator s b ≡ false = ap (is_separator s) (sym (same-byte a b (parted.0.before 0 (omega arith) some))) ∙ own in
       let p = before_first (is_separator s) (a ∷ xs) in
       let q = before_first (is_separator s) (b ∷ ys) in
       let f = unrooted a xs own in
       let g = unrooted b ys other in
       ap₂ (λ cs ds. starts_with bytes_eq (texts (parts cs)) (texts (parts ds))) f.1 g.1
-      ∙ ranked-apart (is_dot p) (is_dot_dot p) (is_dot q) (is_dot_dot q) p q f.0 g.0 o refl refl refl refl h n
+      ∙ ap₂ (starts_with bytes_eq) (first-text (is_dot p) (is_dot_dot p) p f.0 refl refl) (first-text (is_dot q) (is_dot_dot q) q g.0 refl refl)
+      ∙ ap (λ r. r && starts_with bytes_eq (texts (parts f.0)) (texts (parts g.0))) (unlike p q o (ends-order s (a ∷ xs) (b ∷ ys) k 0 parted ∙ is) ne)

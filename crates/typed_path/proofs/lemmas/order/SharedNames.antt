@@ -112,7 +112,7 @@ alike-front (suc k) (x ∷ t) [] fits fits' same = absurd (omega (arith, fits'))
 alike-front (suc k) (x ∷ t) (y ∷ u) fits fits' same =
     ap₂ (λ a xs. a ∷ xs) (same 0 (omega arith)) (alike-front k t u (omega (arith, fits)) (omega (arith, fits')) (λ i l. same (suc i) (omega (arith, l))))
 
-same-byte : (a b : ℕ) → not (a == b) ≡ false → a ≡ b
+pub same-byte : (a b : ℕ) → not (a == b) ≡ false → a ≡ b
 same-byte a b h = by (a == b) refl h
   where
     by : (same : Bool) → (a == b) ≡ same → not same ≡ false → a ≡ b
@@ -167,7 +167,7 @@ begins-behind [] cs ds = refl
 begins-behind (f ∷ fs) cs ds = ap (λ b. b && begins (fs ++ cs) (fs ++ ds)) ((bytes_decides f.part.text f.part.text).1 refl) ∙ begins-behind fs cs ds
 
 -- names that are in an order are not one
-unlike : (a b : List ℕ) (o : Ordering) → bytes_cmp a b ≡ o → is_ne o ≡ true → bytes_eq b a ≡ false
+pub unlike : (a b : List ℕ) (o : Ordering) → bytes_cmp a b ≡ o → is_ne o ≡ true → bytes_eq b a ≡ false
 unlike a b o is differ = by (bytes_eq b a) refl o is differ
   where
     by : (same : Bool) → bytes_eq b a ≡ same → (o : Ordering) → bytes_cmp a b ≡ o → is_ne o ≡ true → same ≡ false
@@ -279,7 +279,13 @@ module _ (s : Separators) (t u : List ℕ) (k n : ℕ) (parted : IsParting s t u
           ∙ ap is_name_piece (append_assoc (drop n before) (b ∷ []) rest)
           ∙ holds-name (drop n before) b rest (not-true _ both.1)
 
-  -- where they are, the texts are in the order of their ends
+  -- these are in the order of their ends
+  pub ends-order : bytes_cmp (before_first (is_separator s) (drop n t)) (before_first (is_separator s) (drop n u)) ≡ bytes_cmp (before_first (is_separator s) (drop k t)) (before_first (is_separator s) (drop k u))
+  ends-order =
+      ap₂ bytes_cmp own-piece other-piece
+      ∙ bytes-shared mid (before_first (is_separator s) (drop k t)) (before_first (is_separator s) (drop k u))
+
+  -- where they are names, the texts are in the order of their ends
   pub names-parted : (o : Ordering) → begins_with_name s (drop n t) ≡ true → begins_with_name s (drop n u) ≡ true
       → bytes_cmp (before_first (is_separator s) (drop k t)) (before_first (is_separator s) (drop k u)) ≡ o
       → Parted s t u o
@@ -287,10 +293,7 @@ module _ (s : Separators) (t u : List ℕ) (k n : ℕ) (parted : IsParting s t u
       by n refl
     where
       named : bytes_cmp (before_first (is_separator s) (drop n t)) (before_first (is_separator s) (drop n u)) ≡ o
-      named =
-          ap₂ bytes_cmp own-piece other-piece
-          ∙ bytes-shared mid (before_first (is_separator s) (drop k t)) (before_first (is_separator s) (drop k u))
-          ∙ is
+      named = ends-order ∙ is
 
       by : (m : ℕ) → n ≡ m → Parted s t u o
       by zero e =

@@ -3,8 +3,8 @@ use Rattle.std.proofs.lemmas.Bool.{and_parts}
 use Rattle.typed_path.specs.scan.{is_one_of}
 use Rattle.typed_path.specs.changes.{begins_no_name}
 use Rattle.typed_path.proofs.lemmas.changes.NamePieces.{names-told, names-before, names-ended}
-use Rattle.typed_path.proofs.scan.lanes.names_behind.Goals as goal
-use Rattle.typed_path.proofs.scan.lanes.names_behind.Goals.{else-is_one_of-via-then-is_one_of+else-begins_no_name, else-is_one_of-via-else-is_one_of}
+use Rattle.typed_path.proofs.scan.names.names_behind.Goals as goal
+use Rattle.typed_path.proofs.scan.names.names_behind.Goals.{else-is_one_of-via-then-is_one_of+else-begins_no_name, else-is_one_of-via-else-is_one_of}
 
 -- of two tests not both hold
 second : {x y : Bool} (b : Bool) → y ≡ x → y ≡ false → (b && x) ≡ false

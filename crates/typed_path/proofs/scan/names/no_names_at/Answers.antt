@@ -2,7 +2,7 @@ use Rattle.std.proofs.Common.{◌≡◌, ◌+◌, ◌&&◌, ℕ, arith, slice_in
 use Rattle.typed_path.specs.scan.{stands_at}
 use Rattle.typed_path.specs.changes.{begins_no_name}
 use Rattle.typed_path.proofs.lemmas.scan.Searches.{mask-and, mask-or, mask-alike}
-use Rattle.typed_path.proofs.scan.lanes.no_names_at.Goals as goal
+use Rattle.typed_path.proofs.scan.names.no_names_at.Goals as goal
 
 pub returns : goal.returns
 returns g c =

@@ -2,7 +2,7 @@ use Rattle.std.proofs.Common.{◌≡◌, ◌+◌, ◌-◌, subst, arith}
 use Rattle.std.specs.Slice.Scan.{IsFirstPlace}
 use Rattle.typed_path.specs.changes.{begins_no_name_at}
 use Rattle.typed_path.proofs.lemmas.scan.Searches.{both-none, place-none, place-front, place-back}
-use Rattle.typed_path.proofs.scan.lanes.first_no_name_in_two.Goals as goal
+use Rattle.typed_path.proofs.scan.names.first_no_name_in_two.Goals as goal
 
 pub returns-then-first-last : goal.returns-then-first-last
 returns-then-first-last g c =

@@ -1,5 +1,5 @@
 use Rattle.typed_path.specs.changes.{begins_no_name_at}
-use Rattle.typed_path.proofs.scan.lanes.first_no_name_in_block.Goals as goal
+use Rattle.typed_path.proofs.scan.names.first_no_name_in_block.Goals as goal
 
 pub first_marked-requires-clause-beyond : goal.first_marked-requires-clause-beyond
 first_marked-requires-clause-beyond g c = c.no_names_at.ensures.beyond

@@ -2,8 +2,8 @@ use Rattle.std.proofs.Common.{◌≡◌, ◌&&◌, Bool, true, false, sym, ap, �
 use Rattle.std.proofs.lemmas.Bool.{cases_lt}
 use Rattle.typed_path.specs.scan.{stands_at}
 use Rattle.typed_path.specs.changes.{begins_no_name_at}
-use Rattle.typed_path.proofs.scan.lanes.first_no_name_by_one.Goals as goal
-use Rattle.typed_path.proofs.scan.lanes.first_no_name_by_one.Goals.{then-is_one_of, else-is_one_of}
+use Rattle.typed_path.proofs.scan.names.first_no_name_by_one.Goals as goal
+use Rattle.typed_path.proofs.scan.names.first_no_name_by_one.Goals.{then-is_one_of, else-is_one_of}
 
 neither : (x y : Bool) → x ≡ false → x && y ≡ false
 neither true y e = cc
