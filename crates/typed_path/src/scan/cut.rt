@@ -492,7 +492,7 @@ fn last_start(text: &[u8], separators: Separators) -> usize
 {
     match text {
         [.., last] if separators.contains(*last) => text.len(),
-        [_] => 0,
+        [] | [_] => 0,
         _ => separators.last_in(text),
     }
 }

@@ -1,5 +1,5 @@
 -- Two texts of which one begins with a dot and the other with a name that begins later, or both with dots of another rank, in the order of these.
-use Rattle.std.proofs.Common.{◌≡◌, ◌<◌, ℕ, ◌+◌, List, get_or-take, length-take-le, [], ◌∷◌, ◌++◌, drop, Bool, true, false, not, ◌&&◌, cond, length, ◌==◌, if◌then◌else◌, Greater, refl, sym, ap, ◌∙◌, arith, ne_eqb, eqb-true, ap₂, Ordering, Equal}
+use Rattle.std.proofs.Common.{◌≡◌, ◌<◌, ℕ, ◌+◌, List, get_or-take, length-take-le, [], ◌∷◌, ◌++◌, drop, Bool, true, false, ◌&&◌, cond, length, ◌==◌, if◌then◌else◌, Greater, refl, sym, ap, ◌∙◌, arith, ne_eqb, eqb-true, ap₂, Ordering, Equal}
 use Rattle.std.specs.List.{onto_first, before_first, position_or_len, starts_with}
 use Rattle.std.specs.Str.{bytes_eq}
 use Rattle.std.specs.Ordering.{nat_cmp, is_ne, ordering_then}

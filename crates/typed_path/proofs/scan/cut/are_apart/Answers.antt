@@ -1,4 +1,4 @@
-use Rattle.std.proofs.Common.{◌≡◌, ◌<◌, ◌-◌, ◌⊎◌, true, false, take, drop, length, Option, Some, None, Ordering, sym, ap₂, ◌∙◌, inl, inr, arith}
+use Rattle.std.proofs.Common.{◌≡◌, ◌-◌, true, false, take, drop, length, Option, Some, None, Ordering, sym, ap₂, ◌∙◌, inl, inr, arith}
 use Rattle.std.specs.Prelude.{IfSome}
 use Rattle.std.specs.Option.{is_some}
 use Rattle.std.specs.List.{before_first, starts_with}
