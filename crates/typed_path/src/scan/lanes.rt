@@ -1,14 +1,13 @@
 //! Bytes found by blocks of 64, of 32, of 16, of 8 and of 4. What is looked for is a pair, which is one
 //! byte twice where no other is: so one and two are looked for in the same way. Of the bytes that no
-//! name of Windows may have, it is only told whether a text has one, of NUL and two dots side by side
-//! likewise, and of what stands between the bytes of a pair, how much at the front is names. Of two texts
-//! the first place is found at which they differ.
+//! name of Windows may have, it is only told whether a text has one, and of NUL and two dots side by side
+//! likewise. Of two texts the first place is found at which they differ.
 
-ghost use Rattle.std.specs.Prelude.{◌≡◌, ◌≢◌, ◌≤◌, ◌<◌, ◌+◌, ◌-◌, ◌%◌, ◌^◌, ◌==◌, ℕ, Bool, true, false, IsTrue, MatchOption, length, min, map, take, drop, slice_index};
+ghost use Rattle.std.specs.Prelude.{◌≡◌, ◌≢◌, ◌≤◌, ◌<◌, ◌+◌, ◌-◌, ◌%◌, ◌^◌, ◌==◌, ℕ, Bool, true, false, length, min, map, take, drop, slice_index};
 ghost use Rattle.std.specs.Int.{bit_at};
-ghost use Rattle.std.specs.List.{list_any, list_all, slice_split};
+ghost use Rattle.std.specs.List.{list_any};
 ghost use Rattle.std.specs.Slice.Scan.{HoldsNowhere, IsFirstPlace};
-ghost use Rattle.typed_path.specs.changes.{is_forbidden, is_forbidden_or, forbidden_at, is_letter_of, begins_no_name, begins_no_name_at, is_name_piece, is_nul_or_dot_pair, nul_or_dot_pair_at, has_no_nul_or_dot_pair, AreNamesBefore};
+ghost use Rattle.typed_path.specs.changes.{is_forbidden, is_forbidden_or, forbidden_at, is_letter_of, is_nul_or_dot_pair, nul_or_dot_pair_at, has_no_nul_or_dot_pair};
 ghost use Rattle.typed_path.specs.scan.{IsMask, TellsWhether, is_one_of, stands_at, differs_at, IsFirstOf, IsBehindLastOf};
 
 use std::simd::prelude::*;

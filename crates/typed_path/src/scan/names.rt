@@ -1,8 +1,8 @@
 //! What stands between the bytes of a pair: how much at the front of a text is names, by blocks.
 
-ghost use Rattle.std.specs.Prelude.{◌≡◌, ◌≢◌, ◌≤◌, ◌<◌, ◌+◌, ◌-◌, ◌%◌, ◌^◌, ◌==◌, ℕ, Bool, true, false, IsTrue, MatchOption, length, min, map, take, drop, slice_index};
+ghost use Rattle.std.specs.Prelude.{◌≡◌, ◌≤◌, ◌<◌, ◌+◌, ◌-◌, ◌==◌, ℕ, true, false, IsTrue, MatchOption, length, slice_index};
 ghost use Rattle.std.specs.Int.{bit_at};
-ghost use Rattle.std.specs.List.{list_any, list_all, slice_split};
+ghost use Rattle.std.specs.List.{list_all, slice_split};
 ghost use Rattle.std.specs.Slice.Scan.{HoldsNowhere, IsFirstPlace};
 ghost use Rattle.typed_path.specs.changes.{begins_no_name, begins_no_name_at, is_name_piece, AreNamesBefore};
 ghost use Rattle.typed_path.specs.scan.{IsMask, is_one_of, stands_at};
