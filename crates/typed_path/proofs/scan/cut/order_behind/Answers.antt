@@ -26,4 +26,3 @@ parted c o is =
 
 pub returns : goal.returns
 returns c = IfSome_then c.order_of_ends.result c.order_of_ends.ensures (λ o h. parted-cmp c.args.separators c.args.text.now c.args.other.now o (parted c o h.1) h.0)
-
