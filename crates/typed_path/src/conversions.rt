@@ -408,7 +408,7 @@ fn is_unrefused<T: Encoding, U: Encoding>(path: &[u8]) -> bool
 fn is_unrefused_on_windows(path: &[u8]) -> bool
     ensures { IsTrue result → IsUnrefused unix windows path.now }
 {
-    if path.len() < LEAST || has_second_colon(path) {
+    if path.len() < SHORTEST_LOOKED_AT || has_second_colon(path) {
         return false;
     }
     !has_forbidden_or_device(path)
@@ -416,7 +416,7 @@ fn is_unrefused_on_windows(path: &[u8]) -> bool
 
 /// How many bytes a path of Unix has at least that is looked at as a whole before it crosses to Windows by checked
 /// pushes.
-const LEAST: usize = 8;
+const SHORTEST_LOOKED_AT: usize = 8;
 
 /// The same of a path of Windows on Unix. A name there may have all bytes but NUL and `/`, which separates in each
 /// path that is not read verbatim.

@@ -13,12 +13,12 @@ abbrev pub is_numbered_device : ℕ → ℕ → ℕ → ℕ → Bool
 is_numbered_device a b c d = (((a == 99 && b == 111) && c == 109) || ((a == 108 && b == 112) && c == 116)) && (nat_le 48 d && nat_le d 57)
 
 -- the first bytes of a name are, ASCII case aside, the name of a device, with a dot or its end behind them
-abbrev pub may_be_reserved : List ℕ → Bool
-may_be_reserved (a ∷ b ∷ c ∷ d ∷ e ∷ name) =
+abbrev pub is_device : List ℕ → Bool
+is_device (a ∷ b ∷ c ∷ d ∷ e ∷ name) =
     if d == dot then is_bare_device (to_ascii_lowercase a) (to_ascii_lowercase b) (to_ascii_lowercase c)
     else (e == dot && is_numbered_device (to_ascii_lowercase a) (to_ascii_lowercase b) (to_ascii_lowercase c) (to_ascii_lowercase d))
-may_be_reserved (a ∷ b ∷ c ∷ d ∷ []) =
+is_device (a ∷ b ∷ c ∷ d ∷ []) =
     if d == dot then is_bare_device (to_ascii_lowercase a) (to_ascii_lowercase b) (to_ascii_lowercase c)
     else is_numbered_device (to_ascii_lowercase a) (to_ascii_lowercase b) (to_ascii_lowercase c) (to_ascii_lowercase d)
-may_be_reserved (a ∷ b ∷ c ∷ []) = is_bare_device (to_ascii_lowercase a) (to_ascii_lowercase b) (to_ascii_lowercase c)
-may_be_reserved name = false
+is_device (a ∷ b ∷ c ∷ []) = is_bare_device (to_ascii_lowercase a) (to_ascii_lowercase b) (to_ascii_lowercase c)
+is_device name = false

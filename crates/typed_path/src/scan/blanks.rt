@@ -2,7 +2,7 @@
 
 ghost use Rattle.std.specs.Prelude.{◌≡◌, ◌≤◌, ℕ, Bool, length, false, IsTrue};
 ghost use Rattle.std.specs.List.{list_any};
-ghost use Rattle.typed_path.specs.components.{body};
+ghost use Rattle.typed_path.specs.components.{body, later_body, parts};
 ghost use Rattle.typed_path.specs.scan.{begins_blank, has_blank_behind, MarksNoBlank};
 
 use crate::scan::lanes::marks_at;
@@ -93,7 +93,10 @@ fn blanks_behind(separators: u64, ends: u64, dots: u64) -> u64
 #[inline(always)]
 pub fn before_last_separator(text: &[u8], separators: Separators) -> &[u8]
     ensures body { (at : ℕ) → body separators at text.now ≡ body separators at result.now }
+    ensures later { parts (later_body separators 0 result.now)
+        ≡ parts (later_body separators 0 text.now) }
     ensures bytes { (p : ℕ → Bool) → list_any p text.now ≡ false → list_any p result.now ≡ false }
+    ensures short { length result.now ≤ length text.now }
 {
     match text {
         [before @ .., last] if separators.contains(*last) && !before.is_empty() => before,

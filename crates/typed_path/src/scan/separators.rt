@@ -9,7 +9,7 @@ ghost use Rattle.typed_path.specs.scan.{TellsWhether, is_one_of};
 ghost use Rattle.typed_path.specs.components.{windows, slash, backslash, separators, is_separator, is_verbatim, root_text, dialect_of, body, kinds, parts};
 ghost use Rattle.typed_path.specs.queries.{has_allowed_bytes, is_reserved, is_valid_name, is_valid};
 ghost use Rattle.std.specs.Slice.Scan.{HoldsNowhere};
-ghost use Rattle.typed_path.specs.changes.{AreMayBegins, BeginsNone, TellsBegins, SeparatesDisallowed, is_stray, is_bare_device, is_numbered_device, may_be_reserved, is_forbidden_or, has_stray_of, stray_of_at, dot_pair_at, has_dot_pair, begins_like_device, begins_with_device, is_in, ends_stem, may_end_stem, has_device, has_device_behind};
+ghost use Rattle.typed_path.specs.changes.{AreMayBegins, BeginsNone, TellsBegins, SeparatesDisallowed, is_stray, is_bare_device, is_numbered_device, is_device, is_forbidden_or, has_stray_of, stray_of_at, dot_pair_at, has_dot_pair, begins_like_device, begins_with_device, is_in, ends_stem, may_end_stem, has_device, has_device_behind};
 
 use crate::scan::cut::cut_at_separator;
 use crate::scan::lanes::{
@@ -123,7 +123,7 @@ impl Separators {
     {
         match self {
             Separators::Slash => false,
-            Separators::Backslash | Separators::Either => may_be_reserved(name),
+            Separators::Backslash | Separators::Either => is_device(name),
         }
     }
 
@@ -190,8 +190,8 @@ pub fn is_free_of(pair: (u8, u8), text: &[u8]) -> bool
 /// Whether the first bytes of a name are, ASCII case aside, the name of a device, with a dot or the end
 /// behind them. This tells whether it stands for one, so no name is compared with the list of devices.
 #[inline(always)]
-fn may_be_reserved(name: &[u8]) -> bool
-    ensures { result ≡ may_be_reserved name.now }
+fn is_device(name: &[u8]) -> bool
+    ensures { result ≡ is_device name.now }
 {
     match name {
         [a, b, c, d, e, ..] => {
@@ -246,7 +246,7 @@ fn is_numbered_device(first: u8, second: u8, third: u8, last: u8) -> bool
 }
 
 /// How many bytes a text has at least that is looked at by blocks for segments that stand for a device.
-const LEAST: usize = 32;
+const ONE_BLOCK: usize = 32;
 
 /// Whether a segment of a text stands for a device. One look tells of texts of Windows that are not read verbatim,
 /// but for those of a few bytes.
@@ -255,7 +255,7 @@ pub fn has_reserved(text: &[u8], separators: Separators) -> bool
     ensures { result ≡ list_any (is_reserved (dialect_of separators))
         (slice_split (is_separator separators) text.now) }
 {
-    if LEAST <= text.len() && separators.is_same(Separators::Either) {
+    if ONE_BLOCK <= text.len() && separators.is_same(Separators::Either) {
         return has_device(text);
     }
     let mut rest = text;
@@ -338,7 +338,7 @@ fn look_for(dots: bool, strays: Option<(u8, u8)>, text: &[u8]) -> Look
         → has_dot_pair text.now ≡ false }
 {
     let len = text.len();
-    if len < LEAST {
+    if len < ONE_BLOCK {
         return look_by_segments(dots, strays, text);
     }
     if begins_with_device(text) {

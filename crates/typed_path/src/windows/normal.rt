@@ -153,7 +153,7 @@ fn put_rows(text: &mut Vec<u8>, head: RowHead<'_>) -> Result<bool, AllocError>
 }
 
 /// How many bytes a path has at least that is looked at as a whole before its segments are cut.
-const LEAST: usize = 34;
+const ONE_BLOCK_AND_TWO: usize = 34;
 
 /// Puts the names that are left of a path behind the first bytes of a text, and answers whether
 /// each one that came is put so by a push too: false says nothing of what was put.
@@ -172,7 +172,7 @@ fn put_segments(text: &mut Vec<u8>, len: usize, path: &[u8]) -> Result<bool, All
     ensures told { HaveNoDisks (slice_split (is_separator Separators.Either) path.now)
         → IfOk result (λ plain. IsTrue plain) }
 {
-    if LEAST <= path.len() && has_room(text, path) {
+    if ONE_BLOCK_AND_TWO <= path.len() && has_room(text, path) {
         let names = leading_short_names(path, (b'/', b'\\'));
         if !matches!(names, Some(0)) && is_free_of((b':', b':'), path) {
             return put_undriven(text, len, path, names);

@@ -15,8 +15,8 @@ ghost use Rattle.typed_path.specs.views.PieceViews.{part_of};
 
 use crate::common::{put_over, turn_behind};
 use crate::scan::{
-    Cursor, Piece, PieceKind, Separators, after_mark, begins_with_two, cut_at_separator, drive,
-    find_prefix, has_only_names, is_dots,
+    Cursor, Piece, PieceKind, Separators, after_mark, before_last_separator, begins_with_two,
+    cut_at_separator, drive, find_prefix, has_only_names, is_dots,
 };
 use std::alloc::{AllocError, Global};
 
@@ -472,7 +472,7 @@ fn names_alone(path: &[u8]) -> Option<&[u8]>
     if Separators::Either.contains(*first) {
         return None;
     }
-    let names = before_separator(behind_dot(path));
+    let names = before_last_separator(behind_dot(path), Separators::Either);
     if !has_only_names(names, (b'/', b'\\')) {
         return None;
     }
@@ -490,19 +490,6 @@ fn behind_dot(path: &[u8]) -> &[u8]
         [first, mark, behind @ ..] if (*first == b'.') & Separators::Either.contains(*mark) => {
             behind
         }
-        _ => path,
-    }
-}
-
-/// What stands before a separator at the end of a path, or the path.
-#[inline(always)]
-fn before_separator(path: &[u8]) -> &[u8]
-    ensures same { parts (later_body Separators.Either 0 result.now)
-        ≡ parts (later_body Separators.Either 0 path.now) }
-    ensures short { length result.now ≤ length path.now }
-{
-    match path {
-        [before @ .., mark] if Separators::Either.contains(*mark) => before,
         _ => path,
     }
 }

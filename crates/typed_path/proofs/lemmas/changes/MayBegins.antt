@@ -10,7 +10,7 @@ use Rattle.typed_path.specs.declared.scan.separators.TheConstants.{FIRSTS, SECON
 use Rattle.typed_path.specs.components.{dot, slash, backslash, is_separator}
 use Rattle.typed_path.specs.scan.{IsMask, stands_at}
 use Rattle.typed_path.specs.changes.{dot_pair_at, AreMayBegins, BeginsNone, TellsBegins, is_letter_of, ends_stem, may_end_stem, begins_with_device, has_device_behind}
-use Rattle.typed_path.proofs.lemmas.queries.ValidNames.{reserved-may}
+use Rattle.typed_path.proofs.lemmas.queries.ValidNames.{reserved-device}
 use Rattle.typed_path.proofs.lemmas.changes.ValidPaths.{device-front, stem-ends}
 
 -- Marks of separators behind which a device may stand: what the bytes behind them tell, and the search by such marks.
@@ -142,7 +142,7 @@ module _ (text : List ℕ) (at separators firsts seconds dots behind mask : ℕ)
     block-none : bit_at mask k ≡ 0 → BeginsNone text (at + k)
     block-none clear = false_from_ne_true _ (λ h.
         let each = and_parts (is_separator Either (get_or text (at + k) 0)) (begins_with_device (drop (at + k + 1) text)) h in
-        let letters = device-front (is_letter_of FIRSTS) (is_letter_of SECONDS) refl refl refl refl (drop (at + k + 1) text) (reserved-may (before_first (is_separator Either) (drop (at + k + 1) text)) each.1) in
+        let letters = device-front (is_letter_of FIRSTS) (is_letter_of SECONDS) refl refl refl refl (drop (at + k + 1) text) (reserved-device (before_first (is_separator Either) (drop (at + k + 1) text)) each.1) in
         absurd (omega (arith, clear, made (set-of _ 32 separators k separated inside each.0) letters (stem-ends (drop (at + k + 1) text) each.1))))
 
   -- all places of a block but the last five

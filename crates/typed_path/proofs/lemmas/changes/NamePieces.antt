@@ -238,11 +238,11 @@ later-dot mark rest is =
     ∙ sym (ap (later_parts Either) (slice_split-cons_no (is_separator Either) dot (mark ∷ rest) refl ∙ ap (onto_first dot) (slice_split-cons_yes (is_separator Either) mark rest is)))
     ∙ sym (parts-later_body Either 0 (dot ∷ mark ∷ rest))
 
-pub later-end : (mark : ℕ) (rest : List ℕ) → is_separator Either mark ≡ true → parts (later_body Either 0 rest) ≡ parts (later_body Either 0 (rest ++ mark ∷ []))
-later-end mark rest is =
-    parts-later_body Either 0 rest
-    ∙ sym (ap (later_parts Either) (slice_split-append (is_separator Either) rest mark [] is) ∙ flat_map-append (later_part Either) (slice_split (is_separator Either) rest) ([] ∷ []) ∙ append-nil (later_parts Either (slice_split (is_separator Either) rest)))
-    ∙ sym (parts-later_body Either 0 (rest ++ mark ∷ []))
+pub later-end : (s : Separators) (mark : ℕ) (rest : List ℕ) → is_separator s mark ≡ true → parts (later_body s 0 rest) ≡ parts (later_body s 0 (rest ++ mark ∷ []))
+later-end s mark rest is =
+    parts-later_body s 0 rest
+    ∙ sym (ap (later_parts s) (slice_split-append (is_separator s) rest mark [] is) ∙ flat_map-append (later_part s) (slice_split (is_separator s) rest) ([] ∷ []) ∙ append-nil (later_parts s (slice_split (is_separator s) rest)))
+    ∙ sym (parts-later_body s 0 (rest ++ mark ∷ []))
 
 pub dot-cut : (path : List ℕ) → 2 ≤ length path → (slice_index path 0 == dot && is_separator Either (slice_index path 1)) ≡ true → parts (later_body Either 0 (take (length path - 2) (drop 2 path))) ≡ parts (later_body Either 0 path)
 dot-cut [] long is = absurd (omega (arith, long))
@@ -251,12 +251,12 @@ dot-cut (a ∷ b ∷ rest) long is =
     let each = and_parts (a == dot) (is_separator Either b) is in
     ap (λ t. parts (later_body Either 0 t)) (take_all (length (a ∷ b ∷ rest) - 2) rest (omega arith)) ∙ later-dot b rest each.1 ∙ ap (λ x. parts (later_body Either 0 (x ∷ b ∷ rest))) (sym (eqb-true a dot each.0))
 
-pub end-cut : (path : List ℕ) → 1 ≤ length path → is_separator Either (slice_index path (length path - 1)) ≡ true → parts (later_body Either 0 (take (length path - 1) path)) ≡ parts (later_body Either 0 path)
-end-cut path long is =
+pub end-cut : (s : Separators) (path : List ℕ) → 1 ≤ length path → is_separator s (slice_index path (length path - 1)) ≡ true → parts (later_body s 0 (take (length path - 1) path)) ≡ parts (later_body s 0 path)
+end-cut s path long is =
     let before = length path - 1 in
     let whole : before + 1 ≡ length path = omega (arith, long) in
-    later-end (slice_index path before) (take before path) is
-    ∙ ap (λ t. parts (later_body Either 0 t)) (sym (take_more path before 0 (omega (arith, long))) ∙ take_all (before + 1) path (omega (arith, whole)))
+    later-end s (slice_index path before) (take before path) is
+    ∙ ap (λ t. parts (later_body s 0 t)) (sym (take_more path before 0 (omega (arith, long))) ∙ take_all (before + 1) path (omega (arith, whole)))
 
 -- a first piece that is not empty is merged as a later one
 merged-first : (ps qs : List Part) (piece : List ℕ) → (length piece == 0) ≡ false → merged ps (first_part Either piece ∷ qs) ≡ merged ps (later_part Either piece ++ qs)

@@ -15,9 +15,9 @@ use Rattle.typed_path.specs.components.{windows, dot, slash, backslash, colon, q
 use Rattle.std.specs.Slice.Scan.{HoldsNowhere, HoldsSomewhere}
 use Rattle.typed_path.specs.scan.{stands_at, IsFirstOf}
 use Rattle.typed_path.specs.queries.{is_reserved, is_valid, is_valid_name}
-use Rattle.typed_path.specs.changes.{is_in, fault, fault_behind, offence, is_bare_device, is_numbered_device, may_be_reserved, is_stray, begins_like_device, may_end_stem, begins_with_device, has_device_behind, has_device, dot_pair_at, has_dot_pair, is_forbidden_or, has_stray_of, stray_of_at, begins_with_separator, has_second_colon, begins_with_nul_or_dot_pair, has_no_nul_or_dot_pair}
+use Rattle.typed_path.specs.changes.{is_in, fault, fault_behind, offence, is_bare_device, is_numbered_device, is_device, is_stray, begins_like_device, may_end_stem, begins_with_device, has_device_behind, has_device, dot_pair_at, has_dot_pair, is_forbidden_or, has_stray_of, stray_of_at, begins_with_separator, has_second_colon, begins_with_nul_or_dot_pair, has_no_nul_or_dot_pair}
 use Rattle.typed_path.proofs.lemmas.components.Segments.{pieces, first_parts, later_parts, body_parts, parts-body, body_from-append, body_from-separator}
-use Rattle.typed_path.proofs.lemmas.queries.ValidNames.{reserved-may, one_of_two, valid-found}
+use Rattle.typed_path.proofs.lemmas.queries.ValidNames.{reserved-device, one_of_two, valid-found}
 use Rattle.typed_path.proofs.lemmas.changes.Faults.{parts_of-none}
 use Rattle.typed_path.proofs.lemmas.scan.Searches.{any-told, any-somewhere}
 
@@ -89,7 +89,7 @@ module _ (p q : ℕ → Bool) (ps : list_all p first_letters ≡ true) (qs : lis
       (letters_in 108 112 a b _ (f 4 (omega arith)) (f 5 (omega arith)) (g 2 (omega arith)) (g 3 (omega arith)))
       (and_parts _ (nat_le 48 d && nat_le d 57) e).0
 
-  device : (text : List ℕ) → may_be_reserved text ≡ true → (p (get_or text 0 0) && q (get_or text 1 0)) ≡ true
+  device : (text : List ℕ) → is_device text ≡ true → (p (get_or text 0 0) && q (get_or text 1 0)) ≡ true
   device [] h = cc
   device (a ∷ []) h = cc
   device (a ∷ b ∷ []) h = cc
@@ -128,12 +128,12 @@ module _ (p q : ℕ → Bool) (ps : list_all p first_letters ≡ true) (qs : lis
       by false true more h = absurd (true≢false (sym (and_parts (p a) (q 0) h).1 ∙ q0))
       by false false more h = h
 
-  pub device-front : (text : List ℕ) → may_be_reserved (before_first (is_separator Either) text) ≡ true → (p (get_or text 0 0) && q (get_or text 1 0)) ≡ true
+  pub device-front : (text : List ℕ) → is_device (before_first (is_separator Either) text) ≡ true → (p (get_or text 0 0) && q (get_or text 1 0)) ≡ true
   device-front text h = front text (device (before_first (is_separator Either) text) h)
 
 -- a text that a device stands in front of begins as one
 front-like : (text : List ℕ) → begins_with_device text ≡ true → begins_like_device text ≡ true
-front-like text e = held text (device-front (is_in 86026) (is_in 2457600) refl refl refl refl text (reserved-may (before_first (is_separator Either) text) e))
+front-like text e = held text (device-front (is_in 86026) (is_in 2457600) refl refl refl refl text (reserved-device (before_first (is_separator Either) text) e))
   where
     held : (t : List ℕ) → (is_in 86026 (get_or t 0 0) && is_in 2457600 (get_or t 1 0)) ≡ true → begins_like_device t ≡ true
     held [] h = h
@@ -141,7 +141,7 @@ front-like text e = held text (device-front (is_in 86026) (is_in 2457600) refl r
     held (a ∷ b ∷ rest) h = h
 
 -- a device of five bytes or more has a dot behind three bytes or four
-long-stem : (a b c d e : ℕ) (more : List ℕ) → may_be_reserved (a ∷ b ∷ c ∷ d ∷ e ∷ more) ≡ true → ((d == dot) || (e == dot)) ≡ true
+long-stem : (a b c d e : ℕ) (more : List ℕ) → is_device (a ∷ b ∷ c ∷ d ∷ e ∷ more) ≡ true → ((d == dot) || (e == dot)) ≡ true
 long-stem a b c d e more h = by (d == dot) (e == dot) _ _ h
   where
     by : (y z v w : Bool) → cond y v (z && w) ≡ true → (y || z) ≡ true
@@ -158,7 +158,7 @@ stem-ends (a ∷ b ∷ c ∷ []) h = refl
 stem-ends (a ∷ b ∷ c ∷ d ∷ []) h = refl
 stem-ends (a ∷ b ∷ c ∷ d ∷ e ∷ rest) h =
     by (is_separator Either a) (is_separator Either b) (is_separator Either c) (is_separator Either d) (is_separator Either e) (before_first (is_separator Either) rest)
-    (sym (ap may_be_reserved stem) ∙ reserved-may (before_first (is_separator Either) (a ∷ b ∷ c ∷ d ∷ e ∷ rest)) h)
+    (sym (ap is_device stem) ∙ reserved-device (before_first (is_separator Either) (a ∷ b ∷ c ∷ d ∷ e ∷ rest)) h)
   where
     stem : before_first (is_separator Either) (a ∷ b ∷ c ∷ d ∷ e ∷ rest)
         ≡ cond (is_separator Either a) [] (a ∷ cond (is_separator Either b) [] (b ∷ cond (is_separator Either c) [] (c ∷ cond (is_separator Either d) [] (d ∷ cond (is_separator Either e) [] (e ∷ before_first (is_separator Either) rest)))))
@@ -186,7 +186,7 @@ stem-ends (a ∷ b ∷ c ∷ d ∷ e ∷ rest) h =
 
     -- what is told of it, by which of its bytes separate
     by : (p q r s t : Bool) (more : List ℕ)
-        → may_be_reserved (cond p [] (a ∷ cond q [] (b ∷ cond r [] (c ∷ cond s [] (d ∷ cond t [] (e ∷ more)))))) ≡ true
+        → is_device (cond p [] (a ∷ cond q [] (b ∷ cond r [] (c ∷ cond s [] (d ∷ cond t [] (e ∷ more)))))) ≡ true
         → ((d == dot || s) || (e == dot || t)) ≡ true
     by true q r s t more i = cc
     by false true r s t more i = cc

@@ -12,7 +12,7 @@ use Rattle.typed_path.specs.declared.scan.separators.Separators.{Separators}
 use Rattle.typed_path.specs.declared.scan.separators.Separators.TheVariants.{Slash}
 use Rattle.typed_path.specs.components.{windows, dot, Dialect, unix, slash, dialect_of, separators, is_separator, is_verbatim, root_text, Part, kinds, parts, root_part, current_part, parent_part, name_part, Found, prefix_of, is_dot, is_dot_dot, body, comps_behind, parts_of}
 use Rattle.typed_path.specs.queries.{is_a_dot, reserved_names, is_reserved, is_disallowed, has_allowed_bytes, is_valid_name, is_valid_kind, is_valid}
-use Rattle.typed_path.specs.changes.{is_bare_device, is_numbered_device, may_be_reserved, is_stray, raw_length}
+use Rattle.typed_path.specs.changes.{is_bare_device, is_numbered_device, is_device, is_stray, raw_length}
 use Rattle.typed_path.proofs.lemmas.components.Segments.{pieces, first_part, first_parts, later_part, later_parts, body_parts, parts-body}
 use Rattle.typed_path.proofs.lemmas.components.Prefixes.{separators-windows}
 use Rattle.typed_path.proofs.lemmas.lists.Lists.{slice_split-some}
@@ -56,14 +56,14 @@ stem-byte b bs = by (b == dot) (position_or_len is_a_dot bs)
     by false n = let more : suc n ≡ 1 + n = omega arith in subst (λ m. take m (b ∷ bs) ≡ b ∷ take n bs) more refl
 
 -- so a name that stands for a device is one that may: by where its first dot stands
-pub reserved-may : (name : List ℕ) → is_reserved windows name ≡ true → may_be_reserved name ≡ true
-reserved-may [] h = stem-like [] h
-reserved-may (a ∷ []) h = by (a == dot) (sym (ap is_like (stem-byte a [])) ∙ stem-like (a ∷ []) h)
+pub reserved-device : (name : List ℕ) → is_reserved windows name ≡ true → is_device name ≡ true
+reserved-device [] h = stem-like [] h
+reserved-device (a ∷ []) h = by (a == dot) (sym (ap is_like (stem-byte a [])) ∙ stem-like (a ∷ []) h)
   where
     by : (p : Bool) → is_like (cond p [] (a ∷ [])) ≡ true → false ≡ true
     by true like = like
     by false like = like
-reserved-may (a ∷ b ∷ []) h = by (a == dot) (b == dot) (sym (ap is_like stem) ∙ stem-like (a ∷ b ∷ []) h)
+reserved-device (a ∷ b ∷ []) h = by (a == dot) (b == dot) (sym (ap is_like stem) ∙ stem-like (a ∷ b ∷ []) h)
   where
     stem : before_first is_a_dot (a ∷ b ∷ []) ≡ cond (a == dot) [] (a ∷ cond (b == dot) [] (b ∷ []))
     stem = stem-byte a (b ∷ []) ∙ ap (λ t. cond (a == dot) [] (a ∷ t)) (stem-byte b [])
@@ -72,7 +72,7 @@ reserved-may (a ∷ b ∷ []) h = by (a == dot) (b == dot) (sym (ap is_like stem
     by true q like = like
     by false true like = like
     by false false like = like
-reserved-may (a ∷ b ∷ c ∷ []) h = by (a == dot) (b == dot) (c == dot) (sym (ap is_like stem) ∙ stem-like (a ∷ b ∷ c ∷ []) h)
+reserved-device (a ∷ b ∷ c ∷ []) h = by (a == dot) (b == dot) (c == dot) (sym (ap is_like stem) ∙ stem-like (a ∷ b ∷ c ∷ []) h)
   where
     stem : before_first is_a_dot (a ∷ b ∷ c ∷ []) ≡ cond (a == dot) [] (a ∷ cond (b == dot) [] (b ∷ cond (c == dot) [] (c ∷ [])))
     stem =
@@ -84,7 +84,7 @@ reserved-may (a ∷ b ∷ c ∷ []) h = by (a == dot) (b == dot) (c == dot) (sym
     by false true r like = cc
     by false false true like = cc
     by false false false like = like
-reserved-may (a ∷ b ∷ c ∷ d ∷ []) h = by (a == dot) (b == dot) (c == dot) (d == dot) (sym (ap is_like stem) ∙ stem-like (a ∷ b ∷ c ∷ d ∷ []) h)
+reserved-device (a ∷ b ∷ c ∷ d ∷ []) h = by (a == dot) (b == dot) (c == dot) (d == dot) (sym (ap is_like stem) ∙ stem-like (a ∷ b ∷ c ∷ d ∷ []) h)
   where
     stem : before_first is_a_dot (a ∷ b ∷ c ∷ d ∷ []) ≡ cond (a == dot) [] (a ∷ cond (b == dot) [] (b ∷ cond (c == dot) [] (c ∷ cond (d == dot) [] (d ∷ []))))
     stem =
@@ -99,7 +99,7 @@ reserved-may (a ∷ b ∷ c ∷ d ∷ []) h = by (a == dot) (b == dot) (c == dot
     by false false true s like = cc
     by false false false true like = like
     by false false false false like = like
-reserved-may (a ∷ b ∷ c ∷ d ∷ e ∷ rest) h =
+reserved-device (a ∷ b ∷ c ∷ d ∷ e ∷ rest) h =
     by (a == dot) (b == dot) (c == dot) (d == dot) (e == dot) (before_first is_a_dot rest) (sym (ap is_like stem) ∙ stem-like (a ∷ b ∷ c ∷ d ∷ e ∷ rest) h)
   where
     stem : before_first is_a_dot (a ∷ b ∷ c ∷ d ∷ e ∷ rest)
@@ -218,7 +218,7 @@ numbered-reserved a b c d more digit h =
         ∙ one_along (λ x. named (k ∷ l ∷ m ∷ x ∷ [])) 48 10 (to_ascii_lowercase d) listed (leb-true _ _ range.0) (omega (arith, leb-true _ _ range.1))
 
 -- so a name that begins like a device, with a dot or its end behind that, stands for one
-may-reserved : (name : List ℕ) → may_be_reserved name ≡ true → is_reserved windows name ≡ true
+may-reserved : (name : List ℕ) → is_device name ≡ true → is_reserved windows name ≡ true
 may-reserved [] h = cc
 may-reserved (a ∷ []) h = cc
 may-reserved (a ∷ b ∷ []) h = cc
@@ -245,8 +245,8 @@ may-reserved (a ∷ b ∷ c ∷ d ∷ e ∷ rest) h = by (d == dot) (e == dot) r
     by false false is ends like = cc
 
 -- both ways: the first bytes of a name tell whether it stands for a device
-pub devices_told : (name : List ℕ) → may_be_reserved name ≡ is_reserved windows name
-devices_told name = by (may_be_reserved name) (is_reserved windows name) (may-reserved name) (reserved-may name)
+pub devices_told : (name : List ℕ) → is_device name ≡ is_reserved windows name
+devices_told name = by (is_device name) (is_reserved windows name) (may-reserved name) (reserved-device name)
   where
     by : (may is : Bool) → (may ≡ true → is ≡ true) → (is ≡ true → may ≡ true) → may ≡ is
     by true is to from = sym (to refl)

@@ -68,7 +68,7 @@ unpaired text at within long last before behind = nowhere-dots text (λ k low hi
 pub returns-then-has_stray_at-2-clause-whole : goal.returns-then-has_stray_at-2-clause-whole
 returns-then-has_stray_at-2-clause-whole c = λ asked same. elim c.else-dots-2.branch [
   | else-dots-2-via-then-dots-2+else-has_dot_pair_at-2 w ↦
-      unpaired c.args.text.now c.wholes.at c.wholes.invariant.within (omega (arith, c.if-len-lt-LEAST.false)) (omega (arith, c.wholes-test.false)) (c.wholes.invariant.unpaired asked) (w.has_dot_pair_at-then-dots-2.ensures w.if-has_dot_pair_at-2.false)
+      unpaired c.args.text.now c.wholes.at c.wholes.invariant.within (omega (arith, c.if-len-lt-ONE_BLOCK.false)) (omega (arith, c.wholes-test.false)) (c.wholes.invariant.unpaired asked) (w.has_dot_pair_at-then-dots-2.ensures w.if-has_dot_pair_at-2.false)
   | else-dots-2-via-else-dots-2 w ↦ absurd (both_ways _ w.if-dots-2.false asked)
 ]
 
@@ -84,9 +84,9 @@ has_device_at-requires-2-clause-marked c =
     let marks = c.may_begins_at-marks-2.ensures in
     let left = length text - c.wholes.at in
     let within = c.wholes.invariant.within in
-    let outside : length text - 32 + (32 - left) ≡ c.wholes.at = omega (arith, within, c.wholes-test.false, c.if-len-lt-LEAST.false) in
+    let outside : length text - 32 + (32 - left) ≡ c.wholes.at = omega (arith, within, c.wholes-test.false, c.if-len-lt-ONE_BLOCK.false) in
     let whole : 32 ≡ 32 - left + left = omega (arith, c.wholes-test.false) in
-    let last = marks.last (omega (arith, c.if-len-lt-LEAST.false)) refl in
+    let last = marks.last (omega (arith, c.if-len-lt-ONE_BLOCK.false)) refl in
     subst (λ at. TellsBegins text at left (c.may_begins_at-marks-2.result / 2 ^ (32 - left))) outside
     (tells-later text (length text - 32) left (32 - left) c.may_begins_at-marks-2.result
     (subst (λ n. TellsBegins text (length text - 32) n c.may_begins_at-marks-2.result) whole (record { separates = marks.separates; none = last })))
@@ -99,7 +99,7 @@ returns-then-has_device_at-2-clause-offence c = λ n same.
 pub returns-then-has_device_at-2-clause-whole : goal.returns-then-has_device_at-2-clause-whole
 returns-then-has_device_at-2-clause-whole c = λ asked same. elim c.else-dots-2.branch [
   | else-dots-2-via-then-dots-2+else-has_dot_pair_at-2 w ↦
-      unpaired c.args.text.now c.wholes.at c.wholes.invariant.within (omega (arith, c.if-len-lt-LEAST.false)) (omega (arith, c.wholes-test.false)) (c.wholes.invariant.unpaired asked) (w.has_dot_pair_at-then-dots-2.ensures w.if-has_dot_pair_at-2.false)
+      unpaired c.args.text.now c.wholes.at c.wholes.invariant.within (omega (arith, c.if-len-lt-ONE_BLOCK.false)) (omega (arith, c.wholes-test.false)) (c.wholes.invariant.unpaired asked) (w.has_dot_pair_at-then-dots-2.ensures w.if-has_dot_pair_at-2.false)
   | else-dots-2-via-else-dots-2 w ↦ absurd (both_ways _ w.if-dots-2.false asked)
 ]
 
@@ -108,7 +108,7 @@ returns-clause-clean c = λ is.
     let text = c.args.text.now in (
       nowhere-strays c.args.strays text (λ k low high. elim (cases_lt k c.wholes.at) [
         | inl l ↦ c.wholes.invariant.passed k low l
-        | inr h ↦ c.if-has_stray_at-2.ensures k (omega (arith, h, c.wholes-test.false)) (omega (arith, high, c.if-len-lt-LEAST.false))
+        | inr h ↦ c.if-has_stray_at-2.ensures k (omega (arith, h, c.wholes-test.false)) (omega (arith, high, c.if-len-lt-ONE_BLOCK.false))
       ]),
       c.wholes.invariant.same
           ∙ c.has_device_at-2.ensures
@@ -117,7 +117,7 @@ returns-clause-clean c = λ is.
           ∙ c.if-has_device_at-2.false,
       λ asked. elim c.else-dots-2.branch [
         | else-dots-2-via-then-dots-2+else-has_dot_pair_at-2 w ↦
-            unpaired c.args.text.now c.wholes.at c.wholes.invariant.within (omega (arith, c.if-len-lt-LEAST.false)) (omega (arith, c.wholes-test.false)) (c.wholes.invariant.unpaired asked) (w.has_dot_pair_at-then-dots-2.ensures w.if-has_dot_pair_at-2.false)
+            unpaired c.args.text.now c.wholes.at c.wholes.invariant.within (omega (arith, c.if-len-lt-ONE_BLOCK.false)) (omega (arith, c.wholes-test.false)) (c.wholes.invariant.unpaired asked) (w.has_dot_pair_at-then-dots-2.ensures w.if-has_dot_pair_at-2.false)
         | else-dots-2-via-else-dots-2 w ↦ absurd (both_ways _ w.if-dots-2.false asked)
       ],
     )
