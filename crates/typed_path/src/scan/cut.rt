@@ -446,8 +446,9 @@ fn part_in_one_segment(text: &[u8], other: &[u8], shared: usize, separators: Sep
             && begins_with_name(&other[start..], separators))
 }
 
-/// Whether two texts part where two dots stand in the first or a dot in the other, or behind one, and what they hold
-/// behind the last separator that both begin with, and behind the blanks there, begins otherwise. False says nothing.
+/// Whether two texts part behind a dot, or where two stand in the first, or a dot or a separator in the other, and what
+/// they hold behind the last separator that both begin with, and behind the blanks there, begins otherwise. False says
+/// nothing.
 #[inline(always)]
 fn part_at_dots(text: &[u8], other: &[u8], shared: usize, separators: Separators) -> bool
     requires { IsFirstPlace (differs_at text.now other.now) 0
@@ -457,7 +458,7 @@ fn part_at_dots(text: &[u8], other: &[u8], shared: usize, separators: Separators
 {
     let parts_at_dots = matches!(&text[..shared], [.., b'.'])
         || matches!(&text[shared..], [b'.', b'.', ..])
-        || matches!(&other[shared..], [b'.', ..]);
+        || matches!(&other[shared..], [first, ..] if !tells_name(*first, separators));
     if !parts_at_dots {
         return false;
     }

@@ -417,8 +417,9 @@ fn stays_before_parted(prefix: WindowsPrefix<'_>) -> bool
 /// What a path is judged by looks at its bytes. None says nothing.
 ///
 /// Most paths are of valid names and `.` alone, as one look tells. Where it finds a byte or a name that offends, that is
-/// what the path is refused for, where no two dots stand side by side up to its end; so no more of a path is looked at
-/// than up to the end of the name in which the block of its first offence ends.
+/// what the path is refused for, where no two dots stand side by side up to its end; so no more of a long path is looked
+/// at than up to the end of the name in which the block of its first offence ends. In others two dots are looked for first
+/// in the whole path.
 fn judged_by_looks(path: &[u8]) -> Option<Result<(), CheckedPathError>>
     ensures { IfSome result (λ judged. error_of judged ≡ fault windows path.now) }
 {
@@ -432,6 +433,9 @@ fn judged_by_looks(path: &[u8]) -> Option<Result<(), CheckedPathError>>
             Some(Err(CheckedPathError::InvalidFilename))
         }
         Look::Offence(looked) => {
+            if path.len() <= SEARCHED_WHOLE && has_no_nul_or_dot_pair(path) {
+                return Some(Err(CheckedPathError::InvalidFilename));
+            }
             let (_, behind) = path.split_at(looked);
             let end = looked + Separators::Either.first_in(behind);
             if is_refused_for_name(&path[..end]) {
@@ -442,6 +446,10 @@ fn judged_by_looks(path: &[u8]) -> Option<Result<(), CheckedPathError>>
         }
     }
 }
+
+/// How many bytes a path has at most that is searched as a whole for two dots, where a look found what offends: to look
+/// at the name that offends once more would cost more.
+const SEARCHED_WHOLE: usize = 256;
 
 /// Whether looks at the bytes of a path that begins with neither a drive nor a separator tell that it is refused for a
 /// name. False says nothing.

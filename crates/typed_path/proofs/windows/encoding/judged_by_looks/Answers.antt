@@ -5,7 +5,7 @@ use Rattle.typed_path.specs.declared.errors.CheckedPathError.TheVariants.{Invali
 use Rattle.typed_path.specs.declared.scan.separators.Look.TheVariants.{Offence}
 use Rattle.typed_path.specs.components.{windows, is_separator}
 use Rattle.typed_path.specs.changes.{begins_with_separator, has_second_colon, fault}
-use Rattle.typed_path.proofs.lemmas.changes.ValidPaths.{looked-valid, looked-refused, front-refused}
+use Rattle.typed_path.proofs.lemmas.changes.ValidPaths.{looked-valid, looked-refused, front-refused, unpaired-dots}
 use Rattle.typed_path.proofs.windows.encoding.judged_by_looks.Goals as goal
 
 -- the first bytes of a path begin no otherwise
@@ -56,6 +56,11 @@ returns-in-Offence c =
     let path = c.args.path.now in
     let whole = c.look_at_path.ensures.whole (c.in-Offence.is ∙ ap Offence c.if-looked-path.true) in
     sym (looked-refused path (sym c.begins_with_separator.ensures ∙ c.if-begins_with_separator.false) (sym c.has_second_colon.ensures ∙ c.if-has_second_colon.false) whole (c.look_at_path.ensures.offence c.in-Offence.looked c.in-Offence.is).1)
+
+pub returns-then-has_no_nul_or_dot_pair : goal.returns-then-has_no_nul_or_dot_pair
+returns-then-has_no_nul_or_dot_pair c =
+    sym (looked-refused c.args.path.now (sym c.begins_with_separator.ensures ∙ c.if-begins_with_separator.false) (sym c.has_second_colon.ensures ∙ c.if-has_second_colon.false)
+    (unpaired-dots c.args.path.now (sym c.has_no_nul_or_dot_pair.ensures ∙ c.if-has_no_nul_or_dot_pair.true)) (c.look_at_path.ensures.offence c.in-Offence-2.looked c.in-Offence-2.is).1)
 
 pub returns-then-is_refused_for_name : goal.returns-then-is_refused_for_name
 returns-then-is_refused_for_name c =
