@@ -423,7 +423,7 @@ pub fn are_apart(text: &[u8], other: &[u8], shared: usize, separators: Separator
     if part_in_one_segment(text, other, shared, separators) {
         return order_of_ends(&text[shared..], &other[shared..], separators).is_some();
     }
-    part_at_dots(text, other, shared, separators)
+    part_at_detours(text, other, shared, separators)
 }
 
 /// Whether the bytes of two texts tell that the segments in which they part are components: names, or the first of
@@ -446,20 +446,25 @@ fn part_in_one_segment(text: &[u8], other: &[u8], shared: usize, separators: Sep
             && begins_with_name(&other[start..], separators))
 }
 
-/// Whether two texts part behind a dot, or where two stand in the first, or a dot or a separator in the other, and what
-/// they hold behind the last separator that both begin with, and behind the blanks there, begins otherwise. False says
-/// nothing.
+/// Whether what two texts hold behind the last separator that both begin with, and behind the blanks there, begins
+/// otherwise. False says nothing: it is looked at only where they part at a dot, or where a separator stands in one of
+/// them and what stands behind it differs from what stands in the other.
 #[inline(always)]
-fn part_at_dots(text: &[u8], other: &[u8], shared: usize, separators: Separators) -> bool
+fn part_at_detours(text: &[u8], other: &[u8], shared: usize, separators: Separators) -> bool
     requires { IsFirstPlace (differs_at text.now other.now) 0
         (min (length text.now) (length other.now)) shared }
     ensures { IsTrue result → starts_with bytes_eq (texts (parts (body separators 0 text.now)))
         (texts (parts (body separators 0 other.now))) ≡ false }
 {
-    let parts_at_dots = matches!(&text[..shared], [.., b'.'])
-        || matches!(&text[shared..], [b'.', b'.', ..])
-        || matches!(&other[shared..], [first, ..] if !tells_name(*first, separators));
-    if !parts_at_dots {
+    let is_worth_a_look = matches!(&text[..shared], [.., b'.'])
+        || match (&text[shared..], &other[shared..]) {
+            ([b'.', b'.', ..], _) | (_, [b'.', ..]) => true,
+            ([own, ..], [mark, wanted, ..]) if separators.contains(*mark) => own != wanted,
+            ([mark, own, ..], [wanted, ..]) if separators.contains(*mark) => own != wanted,
+            ([mark], _) => separators.contains(*mark),
+            _ => false,
+        };
+    if !is_worth_a_look {
         return false;
     }
     match texts_behind(text, other, shared, separators) {
