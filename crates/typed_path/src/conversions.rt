@@ -14,7 +14,7 @@ ghost use Rattle.typed_path.specs.scan.{is_one_of, turned};
 ghost use Rattle.typed_path.specs.views.SpanViews.{span_bytes};
 ghost use Rattle.typed_path.specs.views.PieceViews.{part_of, prefix_view};
 
-use crate::common::{Encoding, Path, PathBuf, cut_back, put_turned};
+use crate::common::{Encoding, Path, PathBuf, cut_back, has_room, put_turned};
 use crate::errors::{AbsolutizeError, CheckedPathError, PathError};
 use crate::platform::{PlatformEncoding, PlatformPath, PlatformPathBuf};
 use crate::scan::{
@@ -197,6 +197,8 @@ pub fn have_one_label<T: Encoding, U: Encoding>() -> bool
 
 /// Puts a path behind a text, written in another encoding. Where memory is refused, the text is as
 /// it was.
+///
+/// Where there is no room for all of the path, its components are pushed one by one: they ask for less memory at once.
 pub fn put_converted<T: Encoding, U: Encoding>(
     text: &mut Vec<u8>,
     path: Span<'_>,
@@ -210,8 +212,10 @@ pub fn put_converted<T: Encoding, U: Encoding>(
     if have_one_label::<T, U>() {
         return text.extend_from_slice(path.as_bytes());
     }
-    if let Some(turned) = turned::<T, U>(path.as_bytes()) {
-        return put_turned(text, turned, Separators::Either, separator_of::<U>());
+    if has_room(text, path.as_bytes()) {
+        if let Some(turned) = turned::<T, U>(path.as_bytes()) {
+            return put_turned(text, turned, Separators::Either, separator_of::<U>());
+        }
     }
     let len = text.len();
     let done = push_each::<T, U>(text, len, path);

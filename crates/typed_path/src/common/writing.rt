@@ -112,8 +112,7 @@ pub fn append_first(text: &mut Vec<u8>, source: &[u8], len: usize) -> Result<(),
     Ok(())
 }
 
-/// Puts a text behind another, each of its separators written as one byte. Where memory is asked for, it is
-/// for a byte more, which mostly comes next.
+/// Puts a text behind another, each of its separators written as one byte.
 #[inline(always)]
 pub fn put_turned(
     text: &mut Vec<u8>,
@@ -129,9 +128,6 @@ pub fn put_turned(
         → IsOk result }
 {
     let len = text.len();
-    if text.capacity() - len < source.len() {
-        text.reserve(source.len() + 1)?;
-    }
     text.extend_from_slice(source)?;
     turn_behind(text, len, separators, byte);
     Ok(())
