@@ -198,7 +198,7 @@ pub fn have_one_label<T: Encoding, U: Encoding>() -> bool
 /// Puts a path behind a text, written in another encoding. Where memory is refused, the text is as
 /// it was.
 ///
-/// Where there is no room for all of the path, its components are pushed one by one: they ask for less memory at once.
+/// Where there is no room for all of it, its components are pushed one by one: they ask for less memory at once.
 pub fn put_converted<T: Encoding, U: Encoding>(
     text: &mut Vec<u8>,
     path: Span<'_>,
@@ -212,8 +212,8 @@ pub fn put_converted<T: Encoding, U: Encoding>(
     if have_one_label::<T, U>() {
         return text.extend_from_slice(path.as_bytes());
     }
-    if has_room(text, path.as_bytes()) {
-        if let Some(turned) = turned::<T, U>(path.as_bytes()) {
+    if let Some(turned) = turned::<T, U>(path.as_bytes()) {
+        if has_room(text, turned) {
             return put_turned(text, turned, Separators::Either, separator_of::<U>());
         }
     }

@@ -41,8 +41,10 @@ const ENDS: &[&[u8]] = &[
     b"", b"/", br"\", b"b", b"/b", br"\.\b", b"/./", b"//.", b"..",
 ];
 
-/// The longest body of a base: two whole blocks of 32 bytes and some bytes more.
-const LONGEST: usize = 68;
+/// How long they are: on both sides of each length at which a search takes other blocks.
+const LENGTHS: &[usize] = &[
+    1, 3, 4, 5, 7, 8, 9, 15, 16, 17, 31, 32, 33, 47, 63, 64, 65, 68,
+];
 
 /// The raw prefix of a path, and what stands behind it.
 fn parted(windows: bool, path: &[u8]) -> (&[u8], &[u8]) {
@@ -136,9 +138,11 @@ fn left_behind_long_bases(rt: HostRuntime) -> Result<(), Fail> {
     let (mut base, mut path) = (Vec::new(alloc), Vec::new(alloc));
     for &front in FRONTS {
         for &body in BODIES {
-            put_path(&mut base, front, b"")?;
-            for &byte in body.iter().cycle().take(LONGEST) {
-                base.push(byte)?;
+            for &length in LENGTHS {
+                put_path(&mut base, front, b"")?;
+                for &byte in body.iter().cycle().take(length) {
+                    base.push(byte)?;
+                }
                 for &end in ENDS {
                     put_path(&mut path, &base, end)?;
                     assert!(rt; is_left_alike(&path, &base), "{path:?} behind {base:?}");
