@@ -249,8 +249,11 @@ pub fn order_behind(
 ) -> Option<Ordering>
     requires { IsFirstPlace (differs_at text.now other.now) 0
         (min (length text.now) (length other.now)) shared }
-    ensures { IfSome result (λ order.
+    ensures order { IfSome result (λ order.
         left_cmp (body separators 0 text.now) (body separators 0 other.now) ≡ order) }
+    ensures apart { IfSome result (λ order. is_ne order ≡ true
+        → starts_with bytes_eq (texts (parts (body separators 0 text.now)))
+        (texts (parts (body separators 0 other.now))) ≡ false) }
 {
     if shared == text.len() && shared == other.len() {
         return Some(Ordering::Equal);
