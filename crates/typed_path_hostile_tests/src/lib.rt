@@ -1,11 +1,9 @@
-//! Hostile use of `typed_path`: every short text beside a slow reading, texts of a megabyte, and streams
-//! that come in pieces and fail.
+//! Hostile use of `typed_path`: every short text beside a slow reading, what is left behind
+//! bases, and streams that come in pieces and fail.
 #![tactic(auto)]
 
 #[cfg(test)]
 mod bases;
-#[cfg(test)]
-mod endless;
 #[cfg(test)]
 mod hostile;
 #[cfg(test)]

@@ -7,10 +7,13 @@ mod ample;
 #[cfg(test)]
 mod conversions;
 #[cfg(test)]
+mod endless;
+#[cfg(test)]
 mod ends;
 #[cfg(test)]
 mod keys;
 mod lanes;
+mod long;
 #[cfg(test)]
 mod owned;
 #[cfg(test)]
@@ -25,4 +28,5 @@ mod windows;
 #[cfg(test)]
 mod windows_paths;
 
+pub use long::{LONG_TEXTS, LONG_WINDOWS_TEXTS, Long, long_texts};
 pub use support::{Recorder, recorded, repeated};

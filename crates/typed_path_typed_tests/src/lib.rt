@@ -3,6 +3,8 @@
 #![tactic(auto)]
 
 #[cfg(test)]
+mod endless;
+#[cfg(test)]
 mod typed;
 #[cfg(test)]
 mod values;
