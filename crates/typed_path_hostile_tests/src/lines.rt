@@ -233,15 +233,22 @@ fn streams_of_one_byte(rt: HostRuntime) -> Result<(), Fail> {
         assert_eq!(rt; reader.read(&mut buffer), wanted);
     }
 
-    let mut writer = StdSink::new(Slow {
+    let mut slow = Slow {
         taken: Vec::new(rt.alloc()),
-    });
-    assert_eq!(rt; Sink::write(&mut writer, b"abc"), Ok(1));
-    assert_eq!(rt; Sink::write(&mut writer, b""), Ok(0));
+    };
+    {
+        let mut writer = StdSink::new(&mut slow);
+        assert_eq!(rt; Sink::write(&mut writer, b"abc"), Ok(1));
+        assert_eq!(rt; Sink::write(&mut writer, b""), Ok(0));
 
-    let mut reader = StdSource::new(Trickle { bytes: THREE });
-    let outcome = answer_lines(rt.alloc(), &mut reader, &mut writer);
-    assert_eq!(rt; outcome, Ok(()));
+        let mut reader = StdSource::new(Trickle { bytes: THREE });
+        let outcome = answer_lines(rt.alloc(), &mut reader, &mut writer);
+        assert_eq!(rt; outcome, Ok(()));
+    }
+    assert_eq!(rt;
+        slow.taken.as_slice(),
+        b"aok\ta/b\nok\twindows\nerr\tBadLine\n".as_slice()
+    );
     Ok(())
 }
 
