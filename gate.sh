@@ -1,9 +1,15 @@
 #!/usr/bin/env bash
 # The gate: `rt ci` proves every crate and its tests from nothing, tries each must-fail edit, and runs the
 # tests and the programs; then the programs that it built are refused memory, and their transfers fail.
-# What shows in some seconds is looked at first, and progress.py says how far the rest is.
+# What shows in some seconds is looked at first, and progress.py says how far the rest is. `./gate.sh
+# quick` runs the tests and the programs alone, unproved.
 set -uo pipefail
 cd "$(dirname "$0")" || exit 2
+case "$*" in
+    "") ;;
+    quick) exec ./quick.py ;;
+    *) echo "gate.sh: it takes no word, or quick, and was given: $*" >&2 && exit 2 ;;
+esac
 
 # Without a number, nothing runs beside a check of the library, which rt reckons to need all memory. It
 # takes 4 GB of it, so four checks fit where that is the most that there is.
