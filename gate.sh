@@ -1,8 +1,8 @@
 #!/usr/bin/env bash
 # The gate: `rt ci` proves every crate and its tests from nothing, tries each must-fail edit, and runs the
 # tests and the programs; then the programs that it built are refused memory, and their transfers fail.
-# What shows in some seconds is looked at first, and progress.py says how far the rest is. `./gate.sh
-# quick` runs the tests and the programs alone, unproved.
+# What shows in some seconds is looked at first, and progress.py says how far the rest is. At its end the
+# instructions of the jobs are counted. `./gate.sh quick` runs the tests and the programs alone, unproved.
 set -uo pipefail
 cd "$(dirname "$0")" || exit 2
 case "$*" in
@@ -66,6 +66,7 @@ look > "$room/wrong" 2>&1 &
 if wait $! && [[ ! -s $room/wrong ]]; then
     part rt ci
     part refusals/run.sh
+    part bench/count
 else
     cat "$room/wrong"
     failed=1
