@@ -1,6 +1,6 @@
 #!/usr/bin/env python3
-"""Runs what `./gate.sh quick` runs, with no proof: the tests of each crate that has some, and each program
-over its stored input, side by side over the processors, by `rt try`.
+"""Runs what `./gate.sh quick` runs, with no proof: the tests of each crate that has some, and both
+programs over their stored input, side by side over the processors, by `rt try`.
 
 It says four times a minute what is under way, and of each part how it ended; of one that failed, what
 `rt try` says of it. Each test counts once, and each run of a program. The last line is `N passed, M failed`,
@@ -26,7 +26,9 @@ PAUSE = 15
 # `rt try` ends a run that takes longer; on four cores none takes more than three minutes.
 SECONDS = "900"
 # What takes longest is begun first, so that no processor waits at the end.
-LONGEST = ["typed_path_typed_tests", "typed_path_tests", "typed_path_hostile_tests", "typed_path_text_tests"]
+LONGEST = ["typed_path_hostile_tests", "typed_path_tests", "typed_path_typed_tests", "typed_path_text_tests"]
+# What is run by the gate alone: its small run takes checked code a minute.
+LEFT_OUT = "typed_path_jobs"
 # Further input of a program, and what it has to print.
 FURTHER = {"typath": ("lines", TOP / "refusals/lines", TOP / "refusals/replies")}
 
@@ -93,6 +95,8 @@ def parts():
     for crate in sorted(plan["crates' tests"], key=lambda crate: ranks.get(crate, len(ranks))):
         yield f"tests of {crate}", tests_of, crate
     for crate in plan["programs"]:
+        if crate == LEFT_OUT:
+            continue
         yield f"runs of {crate}", runs_of, crate
 
 

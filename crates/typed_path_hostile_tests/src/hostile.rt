@@ -252,16 +252,15 @@ fn are_same(parts: &[Part<'_>], others: &[Part<'_>]) -> bool {
         })
 }
 
-/// Whether two texts are equal, and hashed alike, as their slow lists say.
+/// Whether two texts, of which the slow list of one is told, are equal and hashed alike as their lists say.
 fn are_compared_alike<T: Encoding>(
     alloc: Global,
     windows: bool,
-    text: &[u8],
+    (text, parts): (&[u8], &[Part<'_>]),
     other: &[u8],
 ) -> Result<bool, AllocError> {
-    let parts = parts_of(alloc, windows, text)?;
     let others = parts_of(alloc, windows, other)?;
-    let same = are_same(parts.as_slice(), others.as_slice());
+    let same = are_same(parts, others.as_slice());
     let (path, other) = (Path::<T>::new(text), Path::<T>::new(other));
     Ok((path == other) == same && (!same || recorded(&path) == recorded(&other)))
 }
@@ -273,13 +272,18 @@ fn every_pair_of_short_texts(rt: HostRuntime) -> Result<(), Fail> {
     for (length, count) in [(0, 1), (1, 7), (2, 49), (3, 343)] {
         for number in 0..count {
             put_numbered(&mut text, b"", length, number)?;
+            let one = text.as_slice();
+            let (unix, windows) = (parts_of(alloc, false, one)?, parts_of(alloc, true, one)?);
+            let (unix, windows) = ((one, unix.as_slice()), (one, windows.as_slice()));
             for (length, count) in [(0, 1), (1, 7), (2, 49), (3, 343)] {
                 for number in 0..count {
                     put_numbered(&mut other, b"", length, number)?;
-                    let (one, two) = (text.as_slice(), other.as_slice());
-                    let unix = are_compared_alike::<UnixEncoding>(alloc, false, one, two)?;
-                    let windows = are_compared_alike::<WindowsEncoding>(alloc, true, one, two)?;
-                    assert!(rt; unix && windows, "{one:?} and {two:?}");
+                    let two = other.as_slice();
+                    let on_unix = are_compared_alike::<UnixEncoding>(alloc, false, unix, two)?;
+                    let on_windows = are_compared_alike::<WindowsEncoding>(
+                        alloc, true, windows, two,
+                    )?;
+                    assert!(rt; on_unix && on_windows, "{one:?} and {two:?}");
                 }
             }
         }

@@ -5,6 +5,8 @@
 #[cfg(test)]
 mod bases;
 #[cfg(test)]
+mod endless;
+#[cfg(test)]
 mod hostile;
 #[cfg(test)]
 mod lines;

@@ -1,5 +1,5 @@
-//! Texts of a megabyte, which each family reads and normalizes: each call goes through them once. The
-//! crate that has the tests of a family asks it for them.
+//! Texts of a megabyte, which each family reads and normalizes, in a crate of tests of its own: each call goes
+//! through them once.
 
 use crate::support::repeated;
 use std::alloc::{AllocError, Global};

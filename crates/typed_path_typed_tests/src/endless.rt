@@ -1,19 +1,16 @@
-//! Texts of a megabyte, read and normalized as paths of either dialect, of bytes and of text.
+//! Texts of a megabyte, read and normalized as paths of either dialect.
 
 use std::alloc::{AllocError, Global};
-use std::str;
 use std::test::Fail;
-use typed_path::{PathType, TypedPath, Utf8TypedPath};
+use typed_path::{PathType, TypedPath};
 use typed_path_tests::{LONG_TEXTS, LONG_WINDOWS_TEXTS, Long, has_number, long_texts};
 
 /// Whether a long text has its components, and its normal text.
 fn is_read(alloc: Global, kind: PathType, long: &Long) -> Result<bool, AllocError> {
-    let (bytes, normal, count) = long_texts(alloc, long)?;
-    let path = TypedPath::new(bytes.as_slice(), kind);
-    let text = Utf8TypedPath::new(str::from_utf8(bytes.as_slice()).unwrap_or(""), kind);
-    let are_normal = path.normalize(alloc)?.as_bytes() == normal.as_slice()
-        && text.normalize(alloc)?.as_str().as_bytes() == normal.as_slice();
-    Ok(are_normal && has_number!(path, count) && has_number!(text, count))
+    let (text, normal, count) = long_texts(alloc, long)?;
+    let path = TypedPath::new(text.as_slice(), kind);
+    let is_normal = path.normalize(alloc)?.as_bytes() == normal.as_slice();
+    Ok(is_normal && has_number!(path, count))
 }
 
 #[test]
