@@ -23,7 +23,7 @@ sys.dont_write_bytecode = True
 from progress import TOP, planned, since
 
 PAUSE = 15
-# `rt try` ends a run that takes longer; on four cores none takes more than three minutes.
+# `rt try` ends a run that takes longer; on four cores none takes four minutes.
 SECONDS = "900"
 # What takes longest is begun first, so that no processor waits at the end.
 LONGEST = ["typed_path_hostile_tests", "typed_path_tests", "typed_path_typed_tests", "typed_path_text_tests"]
