@@ -1,18 +1,19 @@
 //! The laws of paths, each as a function that does nothing and ensures the law.
 
 ghost use Rattle.std.specs.Prelude.{◌≡◌, ◌↔◌, ℕ, ◌+◌, ◌<◌, ◌≤◌, List, [], ◌∷◌, ◌++◌, true, false, length, Some, None, IfSome, pos};
-ghost use Rattle.std.specs.List.{list_any};
+ghost use Rattle.std.specs.List.{list_any, last_or};
 ghost use Rattle.std.specs.Cmp.{IsTotalOrder};
 ghost use Rattle.std.specs.declared.cmp.Ordering.{Ordering};
 ghost use Rattle.std.specs.Ordering.{ordering_then, nat_cmp};
 ghost use Rattle.std.specs.Hash.{isize};
 ghost use Rattle.typed_path.specs.components.{Dialect, dot, slash, Kind, Placed, kinds, prefix, Found, prefix_of, comps, parts_of};
 ghost use Rattle.typed_path.specs.scan.{Side, reads, left, items_between, but_last, answers_after, items_after, slice_after, fronts, backs, IsWhole, IsLaidOut};
-ghost use Rattle.typed_path.specs.queries.{is_child_of, IsOneBelow, parent_of, prefix_in, is_a_dot, stem_of, extension_of};
+ghost use Rattle.typed_path.specs.queries.{is_child_of, IsOneBelow, parent_of, prefix_in, is_a_dot, stem_of, extension_of, ancestors_of};
 ghost use Rattle.typed_path.specs.promises.{JoinAppends, StripJoins, ReadsAsResolved, StaysNormal, IsCanonical, HashAlike, CrossesWhereAllowed, CrossesAsItIs, CrossesBack, CrossesToUnix};
 ghost use Rattle.typed_path.specs.order.{IsSame, is_same, path_cmp, kind_cmp, bytes_cmp, text_unix_words, text_prefix_words, text_kind_words, text_windows_words, text_piece_words};
+ghost use Rattle.typed_path.specs.views.PieceViews.{kind_view, part_of};
 ghost use Rattle.typed_path.specs.views.UnixViews.{unix_part};
-ghost use Rattle.typed_path.specs.order.Words.{path_words, unix_words};
+ghost use Rattle.typed_path.specs.order.Words.{path_words, unix_words, kind_words, piece_words};
 ghost use Rattle.typed_path.specs.views.PathViews.{path_bytes, components_slice};
 ghost use Rattle.typed_path.specs.views.TextViews.{utf8_bytes};
 ghost use Rattle.typed_path.specs.views.ReadingViews.{reading_slice};
@@ -28,14 +29,16 @@ use crate::constants::unix::{
     PARENT_DIR_STR, SEPARATOR, SEPARATOR_STR,
 };
 use crate::platform::PlatformEncoding;
+use crate::scan::{Piece, PieceKind};
 use crate::typed::{
     PathType, Typed, TypedAncestors, TypedComponents, TypedIter, TypedReading, Utf8TypedAncestors,
     Utf8TypedComponents, Utf8TypedIter,
 };
 use crate::unix::{UnixComponent, UnixEncoding};
 use crate::utf8::{
-    Utf8Ancestors, Utf8Encoding, Utf8Path, Utf8Piece, Utf8PieceKind, Utf8Reading,
-    Utf8UnixComponent, Utf8WindowsComponent, Utf8WindowsPrefix, Utf8WindowsPrefixComponent,
+    Utf8Ancestors, Utf8Encoding, Utf8Path, Utf8Piece, Utf8PieceKind, Utf8PlatformEncoding,
+    Utf8Reading, Utf8UnixComponent, Utf8UnixEncoding, Utf8WindowsComponent, Utf8WindowsEncoding,
+    Utf8WindowsPrefix, Utf8WindowsPrefixComponent,
 };
 use crate::windows::WindowsEncoding;
 use std::hash::Hash;
@@ -214,6 +217,14 @@ pub fn parent_is_the_list_without_its_last(path: &[u8])
         → comps d parent ≡ but_last (comps d path.now) }
 {}
 
+/// A path has at most one ancestor more than components, itself among them, and the last one has no parent.
+pub fn ancestors_end_at_the_top(path: &[u8])
+    ghost d: { Dialect }
+    ensures number { length (ancestors_of d path.now) ≤ length (comps d path.now) + 1 }
+    ensures top { (above : List ℕ) → last_or None (ancestors_of d path.now) ≡ Some above
+        → parent_of d above ≡ None }
+{}
+
 /// A path ends in a name and its parent is read as a list exactly where the path is read as that list
 /// and one name behind it.
 #[tactic(auto, using(crate::proofs::lemmas::queries::Parents::child_is_one_below))]
@@ -246,6 +257,28 @@ pub fn unix_components_compare_by_kind<'a>(one: UnixComponent<'a>, other: UnixCo
         ≡ unix_words (unix_part one.entry).kind }
 {}
 
+/// What a component is, beside its text, is equal, compares and hashes as the kind of a component with an
+/// empty text.
+pub fn piece_kinds_compare_by_kind<'a>(one: PieceKind<'a>, other: PieceKind<'a>)
+    ensures equality { (⟦<PieceKind<'a> as PartialEq>⟧.eq one.entry other.entry ≡ true)
+        ↔ (kind_view one.entry [] ≡ kind_view other.entry []) }
+    ensures order { ⟦<PieceKind<'a> as Ord>⟧.cmp one.entry other.entry
+        ≡ kind_cmp (kind_view one.entry []) (kind_view other.entry []) }
+    ensures hash { ⟦<PieceKind<'a> as Hash>⟧.hash_input one.entry
+        ≡ kind_words (kind_view one.entry []) }
+{}
+
+/// Components, as the readings of both dialects give them, are equal, compare and hash as their kinds say,
+/// and then their texts.
+pub fn pieces_compare_by_kind_and_text<'a>(one: Piece<'a>, other: Piece<'a>)
+    ensures equality { (⟦<Piece<'a> as PartialEq>⟧.eq one.entry other.entry ≡ true)
+        ↔ (part_of one.entry ≡ part_of other.entry) }
+    ensures order { ⟦<Piece<'a> as Ord>⟧.cmp one.entry other.entry
+        ≡ ordering_then (kind_cmp (part_of one.entry).kind (part_of other.entry).kind)
+        (bytes_cmp (part_of one.entry).text (part_of other.entry).text) }
+    ensures hash { ⟦<Piece<'a> as Hash>⟧.hash_input one.entry ≡ piece_words (part_of one.entry) }
+{}
+
 /// The constants of Unix have these values.
 pub fn unix_constants_are_these()
     ensures separator { SEPARATOR ≡ slash }
@@ -258,13 +291,17 @@ pub fn unix_constants_are_these()
     ensures disallowed_characters { DISALLOWED_FILENAME_CHARS ≡ slash ∷ 0 ∷ [] }
 {}
 
-/// The encoding of the machine reads and writes as that of Unix does, and it alone is the machine's.
+/// The encoding of the machine reads and writes as that of Unix does, and it alone, of bytes and of text, is
+/// the machine's.
 pub fn platform_is_unix()
     ensures dialect { ⟦<PlatformEncoding as Encoding>⟧.dialect
         ≡ ⟦<UnixEncoding as Encoding>⟧.dialect }
     ensures platform { ⟦<PlatformEncoding as Encoding>⟧.IS_PLATFORM ≡ true }
     ensures unix { ⟦<UnixEncoding as Encoding>⟧.IS_PLATFORM ≡ false }
     ensures windows { ⟦<WindowsEncoding as Encoding>⟧.IS_PLATFORM ≡ false }
+    ensures text { ⟦<Utf8PlatformEncoding as Utf8Encoding>⟧.IS_PLATFORM ≡ true }
+    ensures text_of_unix { ⟦<Utf8UnixEncoding as Utf8Encoding>⟧.IS_PLATFORM ≡ false }
+    ensures text_of_windows { ⟦<Utf8WindowsEncoding as Utf8Encoding>⟧.IS_PLATFORM ≡ false }
 {}
 
 /// The checked conversion to Windows accepts a Unix path in whose names no `\` stands exactly where
@@ -431,7 +468,8 @@ pub fn path_types_compare_by_place(one: PathType, other: PathType)
     ensures hash { ⟦<PathType as Hash>⟧.hash_input one ≡ isize (pos (kind_place one)) }
 {}
 
-/// The clone of an iterator whose dialect is chosen when the program runs is never refused.
+/// The clone of an iterator whose dialect is chosen when the program runs is never refused, and is that
+/// iterator.
 pub fn typed_iterators_are_cloned<'a>(
     components: TypedComponents<'a>,
     texts: TypedIter<'a>,
@@ -448,4 +486,18 @@ pub fn typed_iterators_are_cloned<'a>(
     ensures text_texts { ⟦<Utf8TypedIter<'a> as Clone>⟧.is_infallible text_texts.entry }
     ensures text_ancestors { ⟦<Utf8TypedAncestors<'a> as Clone>⟧.is_infallible
         text_ancestors.entry }
+    ensures same_components { (copy : _) → ⟦<TypedComponents<'a> as Clone>⟧.is_clone components.entry
+        copy → copy ≡ components.entry }
+    ensures same_texts { (copy : _) → ⟦<TypedIter<'a> as Clone>⟧.is_clone texts.entry copy
+        → copy ≡ texts.entry }
+    ensures same_ancestors { (copy : _) → ⟦<TypedAncestors<'a> as Clone>⟧.is_clone ancestors.entry copy
+        → copy ≡ ancestors.entry }
+    ensures same_text_components { (copy : _)
+        → ⟦<Utf8TypedComponents<'a> as Clone>⟧.is_clone text_components.entry copy
+        → copy ≡ text_components.entry }
+    ensures same_text_texts { (copy : _) → ⟦<Utf8TypedIter<'a> as Clone>⟧.is_clone text_texts.entry copy
+        → copy ≡ text_texts.entry }
+    ensures same_text_ancestors { (copy : _)
+        → ⟦<Utf8TypedAncestors<'a> as Clone>⟧.is_clone text_ancestors.entry copy
+        → copy ≡ text_ancestors.entry }
 {}

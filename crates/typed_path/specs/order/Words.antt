@@ -3,7 +3,7 @@ use Rattle.std.specs.Prelude.{ℕ, List, [], ◌∷◌, ◌++◌, pos, sum_by, O
 use Rattle.std.specs.List.{flat_map}
 use Rattle.std.specs.Hash.{HashWrites, isize, slice, u8, usize}
 use Rattle.typed_path.specs.components.Dialects.{Dialect, dot}
-use Rattle.typed_path.specs.components.Parts.{Prefix, verbatim, verbatim_unc, verbatim_disk, device_ns, unc, disk, Kind, prefix, root, current, parent, normal}
+use Rattle.typed_path.specs.components.Parts.{Prefix, verbatim, verbatim_unc, verbatim_disk, device_ns, unc, disk, Kind, prefix, root, current, parent, normal, Part}
 use Rattle.typed_path.specs.components.Comps.{parts_of}
 use Rattle.typed_path.specs.promises.Promises.{Word, prefix_word, bytes, count, words_by_kind, fed_length, fed}
 
@@ -29,13 +29,22 @@ abbrev pub words_before : Option Prefix → HashWrites
 words_before None = []
 words_before (Some p) = prefix_words p
 
--- a component of Windows: the place of its kind among those of Windows, and the prefix or the name
+-- what is no name: the place of its kind among those of all components, and the prefix
+abbrev pub kind_words : Kind → HashWrites
+kind_words (prefix p) = isize (pos 0) ++ prefix_words p
+kind_words root = isize (pos 1)
+kind_words current = isize (pos 2)
+kind_words parent = isize (pos 3)
+kind_words (normal name) = isize (pos 4)
+
+-- a component of Windows: the same, and the name
 abbrev pub windows_words : Kind → HashWrites
-windows_words (prefix p) = isize (pos 0) ++ prefix_words p
-windows_words root = isize (pos 1)
-windows_words current = isize (pos 2)
-windows_words parent = isize (pos 3)
 windows_words (normal name) = isize (pos 4) ++ slice u8 name
+windows_words k = kind_words k
+
+-- a component of either dialect: its kind, and then its text
+abbrev pub piece_words : Part → HashWrites
+piece_words p = kind_words p.kind ++ slice u8 p.text
 
 -- a word of a path: a prefix as it is fed alone, a text in one write, a number as itself
 abbrev pub writes_of : Word → HashWrites

@@ -5,7 +5,7 @@ ghost use Rattle.std.specs.Vec.{vec_capacity};
 ghost use Rattle.typed_path.specs.changes.{refusal, FitsPush, push_all, IsKnown, fault, popped, without_file_name, with_file_name, with_extension};
 ghost use Rattle.typed_path.specs.promises.{HasPrefixOf, LiesWithin};
 ghost use Rattle.typed_path.specs.queries.{parent_of, file_name_of};
-ghost use Rattle.std.specs.String.{string_bytes};
+ghost use Rattle.std.specs.String.{string_bytes, string_capacity};
 
 use crate::common::encoding::Encoding;
 use crate::common::path::Path;
@@ -320,7 +320,8 @@ impl<T: Encoding> Clone for PathBuf<T> {
 
 /// The path of the bytes of a vector, with no copy.
 impl<T: Encoding> From<Vec<u8>> for PathBuf<T> {
-    ghost from_gives = { λ bytes path. path.bytes ≡ bytes.items };
+    ghost from_gives = { λ bytes path. (path.bytes ≡ bytes.items)
+        × (path.capacity ≡ vec_capacity bytes) };
 
     fn from(bytes: Vec<u8>) -> PathBuf<T> {
         PathBuf::from_vec(bytes)
@@ -329,7 +330,8 @@ impl<T: Encoding> From<Vec<u8>> for PathBuf<T> {
 
 /// The path of the bytes of a text, with no copy.
 impl<T: Encoding> From<String> for PathBuf<T> {
-    ghost from_gives = { λ text path. path.bytes ≡ string_bytes text };
+    ghost from_gives = { λ text path. (path.bytes ≡ string_bytes text)
+        × (path.capacity ≡ string_capacity text) };
 
     fn from(text: String) -> PathBuf<T> {
         PathBuf::from_vec(text.into_bytes())
@@ -338,7 +340,8 @@ impl<T: Encoding> From<String> for PathBuf<T> {
 
 /// The bytes of a path, with no copy.
 impl<T: Encoding> From<PathBuf<T>> for Vec<u8> {
-    ghost from_gives = { λ path bytes. bytes.items ≡ path.bytes };
+    ghost from_gives = { λ path bytes. (bytes.items ≡ path.bytes)
+        × (vec_capacity bytes ≡ path.capacity) };
 
     fn from(path: PathBuf<T>) -> Vec<u8> {
         path.into_vec()

@@ -105,7 +105,8 @@ impl<'a> TypedPath<'a> {
 
     /// The path, to be printed.
     pub fn display(self) -> TypedDisplay<'a>
-        ensures { typed_displayed result ≡ typed_bytes self.entry }
+        ensures dialect { typed_dialect result ≡ typed_dialect self.entry }
+        ensures bytes { typed_displayed result ≡ typed_bytes self.entry }
     {
         typed!(self, path => path.display())
     }

@@ -14,7 +14,7 @@ ghost use Rattle.typed_path.specs.changes.{with_file_name, with_extension};
 ghost use Rattle.typed_path.specs.conversions.{converted, same_dialect};
 ghost use Rattle.typed_path.specs.views.PathViews.{path_bytes};
 ghost use Rattle.typed_path.specs.changes.Push as push_spec;
-ghost use Rattle.std.specs.String.{string_bytes};
+ghost use Rattle.std.specs.String.{string_bytes, string_capacity};
 
 use crate::common::{Path, PathBuf};
 use crate::errors::{AbsolutizeError, PathError, StripPrefixError};
@@ -531,7 +531,8 @@ impl<'a> WindowsPath<'a> {
 /// The path of the bytes of a vector, of the kind that they look like, with no copy.
 impl From<Vec<u8>> for TypedPathBuf {
     ghost from_gives = { λ bytes path. (typed_dialect path ≡ derived_dialect bytes.items)
-        × (owned_bytes path ≡ bytes.items) };
+        × (owned_bytes path ≡ bytes.items)
+        × ((typed_owned path).capacity ≡ vec_capacity bytes) };
 
     fn from(bytes: Vec<u8>) -> TypedPathBuf {
         made_as!(PathType::derive(bytes.as_slice()), PathBuf::from(bytes))
@@ -541,7 +542,8 @@ impl From<Vec<u8>> for TypedPathBuf {
 /// The path of the bytes of a text, of the kind that it looks like, with no copy.
 impl From<String> for TypedPathBuf {
     ghost from_gives = { λ text path. (typed_dialect path ≡ derived_dialect (string_bytes text))
-        × (owned_bytes path ≡ string_bytes text) };
+        × (owned_bytes path ≡ string_bytes text)
+        × ((typed_owned path).capacity ≡ string_capacity text) };
 
     fn from(text: String) -> TypedPathBuf {
         TypedPathBuf::from(text.into_bytes())

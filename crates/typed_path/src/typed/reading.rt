@@ -138,7 +138,8 @@ impl<'a> Iterator for TypedComponents<'a> {
 
     ghost next_gives = { λ s component t. YieldsFirstBy typed_part typed_parts s component t
         × LeavesFront typed_items typed_slice s t
-        × (reading_dialect t ≡ reading_dialect s) };
+        × (reading_dialect t ≡ reading_dialect s)
+        × IfSome component (λ c. typed_dialect c ≡ reading_dialect s) };
 
     ghost remaining = { item_count typed_parts };
 
@@ -153,7 +154,8 @@ impl<'a> DoubleEndedIterator for TypedComponents<'a> {
 
     ghost next_back_gives = { λ s component t. YieldsLastBy typed_part typed_parts s component t
         × LeavesBack typed_items typed_slice s t
-        × (reading_dialect t ≡ reading_dialect s) };
+        × (reading_dialect t ≡ reading_dialect s)
+        × IfSome component (λ c. typed_dialect c ≡ reading_dialect s) };
 
     #[inline(always)]
     fn next_back(&mut self) -> Option<TypedComponent<'a>> {

@@ -332,7 +332,8 @@ impl<T: Utf8Encoding> Clone for Utf8PathBuf<T> {
 
 /// The path of a text, with no copy.
 impl<T: Utf8Encoding> From<String> for Utf8PathBuf<T> {
-    ghost from_gives = { λ text path. path.bytes ≡ string_bytes text };
+    ghost from_gives = { λ text path. (path.bytes ≡ string_bytes text)
+        × (path.capacity ≡ string_capacity text) };
 
     fn from(text: String) -> Utf8PathBuf<T> {
         Utf8PathBuf::of(PathBuf::from(text))
@@ -341,7 +342,8 @@ impl<T: Utf8Encoding> From<String> for Utf8PathBuf<T> {
 
 /// The text of a path, with no copy.
 impl<T: Utf8Encoding> From<Utf8PathBuf<T>> for String {
-    ghost from_gives = { λ path text. string_bytes text ≡ path.bytes };
+    ghost from_gives = { λ path text. (string_bytes text ≡ path.bytes)
+        × (string_capacity text ≡ path.capacity) };
 
     fn from(path: Utf8PathBuf<T>) -> String {
         path.into_string()

@@ -1,5 +1,6 @@
 -- The list of a parent, of the paths above and of a path without its name.
 use Rattle.std.proofs.Common.{◌≡◌, ℕ, zero, suc, ◌-◌, ◌<◌, Bool, true, false, if◌then◌else◌, List, [], ◌∷◌, ◌≤◌, length, take, cond, Option, Some, None, option_and_then, option_map, refl, sym, ap, ◌∙◌, arith, inl, inr, ◌+◌, ◌++◌, drop, ap₂, le_refl, subst, length-take-le, ◌⊎◌, ◌↔◌, reverse, ◌&&◌, is_some, length-append, take_all, length-take, take-take, unwrap_or}
+use Rattle.std.specs.List.{last_or}
 use Rattle.std.proofs.lemmas.Bool.{cases_lt, false_from_ne_true, both_ways}
 use Rattle.std.proofs.lemmas.Option.{same_Some}
 use Rattle.std.proofs.lemmas.List.{take_min, drop-take, drop_all, nil_from_length, reverse-append, map-append}
@@ -213,6 +214,35 @@ upwards-reading d (suc n) t = ap (λ ts. t ∷ ts) (by (upwards-reading d n (sli
 
 pub ancestors-reading : (d : Dialect) (t : List ℕ) → readings_above (comps d t) t ≡ ancestors_of d t
 ancestors-reading d t = sym (upwards-reading d (length (comps d t)) t)
+
+-- going up so many parents, there is at most one text more, which is the first
+pub upwards-length : (d : Dialect) (n : ℕ) (o : Option (List ℕ)) → length (upwards d n o) ≤ n + 1
+upwards-length d zero None = omega arith
+upwards-length d zero (Some t) = omega arith
+upwards-length d (suc n) None = omega arith
+upwards-length d (suc n) (Some t) = let less = upwards-length d n (parent_of d t) in omega arith
+
+-- the last of a path and those above it has no parent, where one goes up all components
+pub upwards-top : (d : Dialect) (n : ℕ) (t u : List ℕ) → length (comps d t) ≤ n → last_or None (upwards d n (Some t)) ≡ Some u → parent_of d u ≡ None
+upwards-top d zero t u few is = subst (λ x. parent_of d x ≡ None) (same_Some _ _ is) (by (parent_of d t) refl)
+  where
+    by : (o : Option (List ℕ)) → parent_of d t ≡ o → parent_of d t ≡ None
+    by None e = e
+    by (Some p) e = let has = has_parent d t p e in let filled = last-filled (comps d t) has.last has.is_last in absurd (omega arith)
+upwards-top d (suc n) t u few is = by (λ p. upwards-top d n p u) (parent_of d t) refl
+  where
+    onward : (m : ℕ) (p : List ℕ) → last_or (Some t) (upwards d m (Some p)) ≡ last_or None (upwards d m (Some p))
+    onward zero p = refl
+    onward (suc m) p = refl
+
+    by : ((p : List ℕ) → length (comps d p) ≤ n → last_or None (upwards d n (Some p)) ≡ Some u → parent_of d u ≡ None) → (o : Option (List ℕ)) → parent_of d t ≡ o → parent_of d u ≡ None
+    by again None e =
+        let alone : last_or (Some t) (upwards d n (parent_of d t)) ≡ Some t = ap (λ o. last_or (Some t) (upwards d n o)) e ∙ ap (last_or (Some t)) (upwards-none d n) in
+        subst (λ x. parent_of d x ≡ None) (same_Some _ _ (sym alone ∙ is)) e
+    by again (Some p) e =
+        let cut = length-take-le (length (comps d t) - 1) (comps d t) (omega arith) in
+        let less : length (comps d p) ≤ n = omega (arith, ap length (parent_list d t p e)) in
+        again p less (sym (ap (λ o. last_or (Some t) (upwards d n o)) e ∙ onward n p) ∙ is)
 
 -- what is left of a reading, and then what is left behind its last component
 pub readings-step : (cs : List Placed) (slice : List ℕ) → readings_above cs slice ≡ slice ∷ readings_behind cs slice

@@ -504,7 +504,8 @@ impl<'a> Utf8WindowsPath<'a> {
 /// The path of a text, of the kind that it looks like, with no copy.
 impl From<String> for Utf8TypedPathBuf {
     ghost from_gives = { λ text path. (typed_dialect path ≡ derived_dialect (string_bytes text))
-        × (owned_bytes path ≡ string_bytes text) };
+        × (owned_bytes path ≡ string_bytes text)
+        × ((typed_owned path).capacity ≡ string_capacity text) };
 
     fn from(text: String) -> Utf8TypedPathBuf {
         made_as!(PathType::derive(text.as_bytes()), Utf8PathBuf::from(text))

@@ -104,7 +104,8 @@ impl<'a> Iterator for Utf8TypedComponents<'a> {
 
     ghost next_gives = { λ s component t. YieldsFirstBy typed_text_part typed_text_parts s component
         t × LeavesFront typed_text_items typed_text_slice s t
-        × (reading_dialect t ≡ reading_dialect s) };
+        × (reading_dialect t ≡ reading_dialect s)
+        × IfSome component (λ c. typed_dialect c ≡ reading_dialect s) };
 
     ghost remaining = { item_count typed_text_parts };
 
@@ -120,7 +121,8 @@ impl<'a> DoubleEndedIterator for Utf8TypedComponents<'a> {
 
     ghost next_back_gives = { λ s component t. YieldsLastBy typed_text_part typed_text_parts s
         component t × LeavesBack typed_text_items typed_text_slice s t
-        × (reading_dialect t ≡ reading_dialect s) };
+        × (reading_dialect t ≡ reading_dialect s)
+        × IfSome component (λ c. typed_dialect c ≡ reading_dialect s) };
 
     #[inline(always)]
     fn next_back(&mut self) -> Option<Utf8TypedComponent<'a>> {
