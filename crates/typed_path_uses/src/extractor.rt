@@ -1,6 +1,6 @@
 //! Where the entries of an archive are unpacked, on Unix and on Windows.
 
-ghost use Rattle.std.specs.Prelude.{◌≡◌, ◌+◌, ◌++◌, ◌∷◌, [], length, true, map, Some, IfOk, OnOk};
+ghost use Rattle.std.specs.Prelude.{◌≡◌, ◌+◌, ◌++◌, ◌∷◌, [], length, true, map, Some, None, IfOk, OnOk};
 ghost use Rattle.std.specs.Vec.{vec_len};
 ghost use Rattle.std.specs.List.{All};
 ghost use Rattle.typed_path.specs.changes.Push as push_spec;
@@ -44,6 +44,7 @@ pub fn targets<T: Encoding>(
     ensures places { keeps_prefix T.dialect (path_bytes base.entry) ≡ true → IfOk result
         (λ ps. places T.dialect (map (λ p. p.bytes) ps.items)
         ≡ places_within T.dialect (path_bytes base.entry) names.now) }
+    ensures only { OnOk result (first_fault T.dialect names.now ≡ None) }
     ensures refused { (e : CheckedPathError) → refusal result ≡ Some e
         → first_fault T.dialect names.now ≡ Some e }
 {

@@ -1,6 +1,6 @@
 //! Values noted at paths: a map whose keys are paths.
 
-ghost use Rattle.std.specs.Prelude.{◌≡◌, ◌↔◌, ℕ, List, OnOk, OnErr, IsTrue, Some};
+ghost use Rattle.std.specs.Prelude.{◌≡◌, ◌↔◌, ℕ, List, OnOk, OnErr, IfOk, IsTrue, Some};
 ghost use Rattle.std.specs.BTreeMap.{IsUnchanged};
 ghost use Rattle.typed_path.specs.components.{parts_of, kinds};
 ghost use Rattle.typed_path.specs.order.Keyed.{value_at, PutsAt};
@@ -28,6 +28,8 @@ pub fn note<T: Encoding>(
     ensures puts { OnOk result
         (PutsAt T.dialect (kinds (parts_of T.dialect path.bytes)) (Some number) notes.old
         notes.new) }
+    ensures before { IfOk result (λ before. before
+        ≡ value_at T.dialect (kinds (parts_of T.dialect path.bytes)) notes.old) }
     ensures refused { OnErr result (IsUnchanged notes.old notes.new) }
 {
     let before = notes.insert(path, number)?;

@@ -23,6 +23,7 @@ pub fn typed_target(
     ensures place { keeps_prefix (typed_dialect base.entry) (typed_bytes base.entry) ≡ true
         → IfOk result (λ p. place (typed_dialect base.entry) (owned_bytes p)
         ≡ place_within (typed_dialect base.entry) (typed_bytes base.entry) name.now) }
+    ensures dialect { IfOk result (λ p. typed_dialect p ≡ typed_dialect base.entry) }
     ensures refused { refusal result ≡ fault (typed_dialect base.entry) name.now }
 {
     base.join_checked(alloc, name)
@@ -30,7 +31,8 @@ pub fn typed_target(
 
 /// A name from a manifest of either dialect, as on Unix.
 pub fn listed_as_on_unix(alloc: Global, name: &str) -> Result<Utf8TypedPathBuf, AllocError>
-    ensures { IfOk result
+    ensures dialect { IfOk result (λ p. typed_dialect p ≡ unix) }
+    ensures bytes { IfOk result
         (λ p. owned_bytes p ≡ converted (derived_dialect name.now) unix name.now) }
 {
     Utf8TypedPath::derive(name).with_unix_encoding(alloc)
