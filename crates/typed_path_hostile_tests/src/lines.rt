@@ -188,17 +188,19 @@ impl Write for Full {
     }
 }
 
-/// A writer that takes one byte a call.
+/// A writer that takes one byte a call, and nothing once it took so many.
 #[derive(Drop)]
 struct Slow {
     taken: Vec<u8>,
+    left: usize,
 }
 
 impl Write for Slow {
     fn write(&mut self, bytes: &[u8]) -> io::Result<usize> {
-        let Some(byte) = bytes.first() else {
+        let (Some(byte), Some(left)) = (bytes.first(), self.left.checked_sub(1)) else {
             return Ok(0);
         };
+        self.left = left;
         match self.taken.push(*byte) {
             Ok(()) => Ok(1),
             Err(_) => Ok(0),
@@ -235,6 +237,7 @@ fn streams_of_one_byte(rt: HostRuntime) -> Result<(), Fail> {
 
     let mut slow = Slow {
         taken: Vec::new(rt.alloc()),
+        left: ALL,
     };
     {
         let mut writer = StdSink::new(&mut slow);
@@ -249,6 +252,24 @@ fn streams_of_one_byte(rt: HostRuntime) -> Result<(), Fail> {
         slow.taken.as_slice(),
         b"aok\ta/b\nok\twindows\nerr\tBadLine\n".as_slice()
     );
+    Ok(())
+}
+
+#[test]
+fn full_at_the_fifth_byte(rt: HostRuntime) -> Result<(), Fail> {
+    for piece in [1, 7] {
+        let mut reader = Pieces::new(THREE, piece, ALL);
+        let mut slow = Slow {
+            taken: Vec::new(rt.alloc()),
+            left: 4,
+        };
+        {
+            let mut writer = StdSink::new(&mut slow);
+            let outcome = answer_lines(rt.alloc(), &mut reader, &mut writer);
+            assert_eq!(rt; outcome, Err(LineError::Write));
+        }
+        assert_eq!(rt; slow.taken.as_slice(), b"ok\ta".as_slice());
+    }
     Ok(())
 }
 

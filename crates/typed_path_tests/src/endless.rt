@@ -1,10 +1,11 @@
-//! Texts of a megabyte, read and normalized as paths of bytes.
+//! Texts of a megabyte, read and normalized as paths of bytes, and names of many lengths in each call that grows.
 
-use crate::has_number;
-use crate::long::{LONG_TEXTS, LONG_WINDOWS_TEXTS, Long, long_texts};
+use crate::long::{LENGTHS, LONG_TEXTS, LONG_WINDOWS_TEXTS, Long, long_texts};
+use crate::support::repeated;
+use crate::{grows, has_number};
 use std::alloc::{AllocError, Global};
 use std::test::Fail;
-use typed_path::{Encoding, Path, UnixEncoding, WindowsEncoding};
+use typed_path::{Encoding, Path, PathBuf, UnixEncoding, WindowsEncoding};
 
 /// Whether a long text has its components, and its normal text.
 fn is_read<T: Encoding>(alloc: Global, long: &Long) -> Result<bool, AllocError> {
@@ -25,6 +26,28 @@ fn megabytes(rt: HostRuntime) -> Result<(), Fail> {
     }
     for long in LONG_WINDOWS_TEXTS {
         assert!(rt; is_read::<WindowsEncoding>(rt.alloc(), long)?, "{long:?}");
+    }
+    Ok(())
+}
+
+/// Whether each call that grows gives what it is to give of one name.
+fn is_grown<T: Encoding>(alloc: Global, name: &[u8]) -> Result<bool, AllocError> {
+    let (empty, lent) = (Path::<T>::new(b""), Path::<T>::new(name));
+    Ok(
+        grows!(alloc, PathBuf::<T>::new(alloc), empty, lent, lent, name, path => path.as_path().as_bytes()),
+    )
+}
+
+#[test]
+fn names_of_many_lengths(rt: HostRuntime) -> Result<(), Fail> {
+    let alloc = rt.alloc();
+    for &length in LENGTHS {
+        let name = repeated(alloc, b"", b"a", length, b"")?;
+        assert!(rt; is_grown::<UnixEncoding>(alloc, &name)?, "{length} bytes");
+        assert!(rt;
+            is_grown::<WindowsEncoding>(alloc, &name)?,
+            "{length} bytes on Windows"
+        );
     }
     Ok(())
 }

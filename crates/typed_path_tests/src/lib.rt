@@ -28,5 +28,5 @@ mod windows;
 #[cfg(test)]
 mod windows_paths;
 
-pub use long::{LONG_TEXTS, LONG_WINDOWS_TEXTS, Long, long_texts};
+pub use long::{LENGTHS, LONG_TEXTS, LONG_WINDOWS_TEXTS, Long, long_texts};
 pub use support::{Recorder, recorded, repeated};

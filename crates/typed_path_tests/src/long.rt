@@ -39,12 +39,51 @@ pub const LONG_WINDOWS_TEXTS: &[Long] = &[
     (br"\\?\", br"\\?\", 262_144, 262_146, br"\\?\", br"\?"),
 ];
 
+/// How long names are that each call which grows is asked for: on both sides of each length at which a look takes
+/// other blocks or gives up, and of what two bytes can count.
+pub const LENGTHS: &[usize] = &[
+    1, 7, 8, 9, 15, 16, 17, 31, 32, 33, 127, 128, 129, 255, 256, 257, 1_023, 1_024, 1_025, 4_095,
+    4_096, 4_097, 65_535, 65_536, 100_000,
+];
+
 /// A long text, its normal text, and how many components it has.
 pub fn long_texts(alloc: Global, long: &Long) -> Result<(Vec<u8>, Vec<u8>, usize), AllocError> {
     let &(begin, part, times, count, normal_begin, normal_part) = long;
     let text = repeated(alloc, begin, part, times, b"")?;
     let normal = repeated(alloc, normal_begin, normal_part, times, b"")?;
     Ok((text, normal, count))
+}
+
+/// Whether each call that grows gives what it is to give of one long name: as a lent path, as what is pushed, and as
+/// what a name is given as. It is told an owned path and a lent one that are empty, too.
+#[macro_export]
+macro_rules! grows {
+    ($alloc:expr, $owned:expr, $empty:expr, $lent:expr, $pushed:expr, $name:expr, $path:ident => $bytes:expr) => {{
+        let len = $name.len();
+        let twice = len.saturating_mul(2).saturating_add(1);
+        let mut $path = $owned;
+        let pushed = $path.push($pushed).is_ok() && $bytes.len() == len;
+        let checked = $path.push_checked($pushed).is_ok() && $bytes.len() == twice;
+        let renamed = $path.set_file_name($name).is_ok() && $bytes.len() == twice;
+        let reserved = $path.reserve(len).is_ok() && $path.reserve_exact(len).is_ok();
+        $path = $empty.with_file_name($alloc, $name)?;
+        let named = $bytes.len() == len;
+        let extended = $path.set_extension($name).is_ok() && $bytes.len() == twice;
+        $path = $lent.with_extension($alloc, $name)?.clone()?;
+        let copied = $bytes.len() == twice;
+        $path = $lent.join($alloc, $pushed)?;
+        let joined = $bytes.len() == twice && $lent.join_checked($alloc, $pushed).is_ok();
+        $path = $lent.normalize($alloc)?;
+        let settled = $bytes.len() == len;
+        $path = $lent.to_path_buf($alloc)?;
+        let made = $bytes.len() == len;
+        let crossed = $lent.with_unix_encoding($alloc).is_ok()
+            && $lent.with_windows_encoding($alloc).is_ok()
+            && $lent.with_unix_encoding_checked($alloc).is_ok()
+            && $lent.with_windows_encoding_checked($alloc).is_ok();
+        let owned = pushed && checked && renamed && reserved && extended && copied;
+        owned && named && joined && settled && made && crossed
+    }};
 }
 
 /// Whether a path has so many components, read from either end.

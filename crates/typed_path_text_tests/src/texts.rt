@@ -107,6 +107,7 @@ fn readings_of_texts(rt: HostRuntime) {
 #[test]
 fn bytes_and_texts(rt: HostRuntime) -> Result<(), Fail> {
     assert!(rt; Utf8UnixPath::from_bytes_path(Path::new(b"a\xFF")).is_err());
+    assert!(rt; Utf8UnixPath::from_bytes_path(Path::new(b"\xFF")).is_err());
     assert!(rt; Utf8UnixPath::from_bytes_path(Path::new(b"a")) == Ok(Utf8UnixPath::new("a")));
     let no_text = PathBuf::from_bytes(rt.alloc(), b"\xFF")?;
     match Utf8UnixPathBuf::from_bytes_path_buf(no_text) {
@@ -136,6 +137,10 @@ fn changed_texts(rt: HostRuntime) -> Result<(), Fail> {
     assert_eq!(rt; path.as_path().as_str(), "/tmp/日本語.z/ü");
     assert!(rt; path.pop());
     assert_eq!(rt; path.clone()?.into_string().as_str(), "/tmp/日本語.z");
+    path.reserve(64)?;
+    path.shrink_to_fit()?;
+    assert!(rt; path.capacity() < 64);
+    assert_eq!(rt; path.as_path().as_str(), "/tmp/日本語.z");
     path.clear();
     path.extend([Utf8UnixPath::new("a"), Utf8UnixPath::new("é")])?;
     assert_eq!(rt; path.as_path().as_str(), "a/é");
@@ -177,6 +182,12 @@ fn made_texts(rt: HostRuntime) -> Result<(), Fail> {
         answers(
             invalid.with_unix_encoding_checked(alloc),
             Ok("/tmp/|invalid|/foo.txt")
+        )
+    );
+    assert!(rt;
+        answers(
+            Utf8UnixPath::new("/tmp/foo.txt").with_windows_encoding_checked(alloc),
+            Ok(r"\tmp\foo.txt")
         )
     );
     let base = Utf8WindowsPath::new(r"C:\é");

@@ -1,9 +1,17 @@
-//! Texts of a megabyte, read and normalized as paths of either dialect.
+//! Texts of a megabyte, read and normalized as paths of either dialect; and names of many lengths, of bytes and of
+//! text, in each call that grows and as JSON values.
 
+use serde_json::Value;
 use std::alloc::{AllocError, Global};
+use std::str;
 use std::test::Fail;
-use typed_path::{PathType, TypedPath};
-use typed_path_tests::{LONG_TEXTS, LONG_WINDOWS_TEXTS, Long, has_number, long_texts};
+use typed_path::{
+    PathType, TypedPath, TypedPathBuf, UnixPath, UnixPathBuf, Utf8TypedPath, Utf8TypedPathBuf,
+    Utf8WindowsPath, Utf8WindowsPathBuf, ValueError,
+};
+use typed_path_tests::{
+    LENGTHS, LONG_TEXTS, LONG_WINDOWS_TEXTS, Long, grows, has_number, long_texts, repeated,
+};
 
 /// Whether a long text has its components, and its normal text.
 fn is_read(alloc: Global, kind: PathType, long: &Long) -> Result<bool, AllocError> {
@@ -24,6 +32,59 @@ fn megabytes(rt: HostRuntime) -> Result<(), Fail> {
     }
     for long in LONG_WINDOWS_TEXTS {
         assert!(rt; is_read(rt.alloc(), PathType::Windows, long)?, "{long:?}");
+    }
+    Ok(())
+}
+
+/// Whether each call that grows gives what it is to give of one name.
+fn is_grown(alloc: Global, kind: PathType, name: &str) -> Result<bool, AllocError> {
+    let bytes = name.as_bytes();
+    let (empty, lent) = (TypedPath::new(b"", kind), TypedPath::new(bytes, kind));
+    let (no_text, text) = (Utf8TypedPath::new("", kind), Utf8TypedPath::new(name, kind));
+    let typed =
+        grows!(alloc, TypedPathBuf::new(alloc, kind), empty, lent, bytes, bytes, path => path.as_bytes());
+    let of_text =
+        grows!(alloc, Utf8TypedPathBuf::new(alloc, kind), no_text, text, name, name, path => path.as_str());
+    Ok(typed && of_text)
+}
+
+/// Whether a name is kept as a JSON value, by a path of each family.
+fn is_kept(alloc: Global, kind: PathType, name: &str) -> Result<bool, ValueError> {
+    let values: [Value; 4] = [
+        UnixPath::new(name.as_bytes()).to_value(alloc)?,
+        Utf8WindowsPath::new(name).to_value(alloc)?,
+        TypedPath::new(name.as_bytes(), kind).to_value(alloc)?,
+        Utf8TypedPath::new(name, kind).to_value(alloc)?,
+    ];
+    for value in &values {
+        let is_kept = value.as_str() == Some(name)
+            && UnixPathBuf::from_value(alloc, value)?.as_path().as_bytes() == name.as_bytes()
+            && Utf8WindowsPathBuf::from_value(alloc, value)?
+                .as_path()
+                .as_str()
+                == name
+            && TypedPathBuf::from_value(alloc, value)?.as_bytes() == name.as_bytes()
+            && Utf8TypedPathBuf::from_value(alloc, value)?.as_str() == name;
+        if !is_kept {
+            return Ok(false);
+        }
+    }
+    Ok(true)
+}
+
+#[test]
+fn names_of_many_lengths(rt: HostRuntime) -> Result<(), Fail> {
+    let alloc = rt.alloc();
+    for &length in LENGTHS {
+        let name = repeated(alloc, b"", b"a", length, b"")?;
+        let name = str::from_utf8(name.as_slice()).unwrap_or("");
+        for kind in [PathType::Unix, PathType::Windows] {
+            assert!(rt; is_grown(alloc, kind, name)?, "{length} bytes of {kind:?}");
+            assert!(rt;
+                is_kept(alloc, kind, name) == Ok(true),
+                "{length} bytes of {kind:?}"
+            );
+        }
     }
     Ok(())
 }

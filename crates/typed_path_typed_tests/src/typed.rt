@@ -109,6 +109,33 @@ fn values_held(rt: HostRuntime) -> Result<(), Fail> {
     assert!(rt; other.is_none());
     assert!(rt; TypedPathBuf::from(String::from_str(alloc, "a:b")?).is_windows());
     assert!(rt; Utf8UnixPath::new("a:b").to_typed_path().is_unix());
+    match TypedPath::derive(b"a/b") {
+        TypedPath::Unix(path) => assert!(rt; path == UnixPath::new(b"a/b")),
+        TypedPath::Windows(_) => return Err(Fail::new("it is of Unix")),
+    }
+    Ok(())
+}
+
+#[test]
+fn printed_values(rt: HostRuntime) -> Result<(), Fail> {
+    let alloc = rt.alloc();
+    let (path, text) = (TypedPath::windows(br"C:\a"), Utf8TypedPath::unix("é/b"));
+    let (owned, component) = (text.to_path_buf(alloc)?, text.components().next());
+    let printed = [
+        (
+            format!(in alloc; "{}|{:>6}|", path.display(), path.display())?,
+            r"C:\a|  C:\a|",
+        ),
+        (format!(in alloc; "{text}|{text:<5}|")?, "é/b|é/b  |"),
+        (format!(in alloc; "{owned}|{owned:^5}|")?, "é/b| é/b |"),
+        (
+            format!(in alloc; "{component:?}")?,
+            r#"Some(Unix(Normal("é")))"#,
+        ),
+    ];
+    for (printed, wanted) in printed {
+        assert_eq!(rt; printed.as_str(), wanted);
+    }
     Ok(())
 }
 
@@ -148,6 +175,8 @@ fn changed_paths(rt: HostRuntime) -> Result<(), Fail> {
 fn words_tell_names_apart(rt: HostRuntime) {
     assert!(rt; recorded(&UnixPath::new(b"a")) != recorded(&UnixPath::new(b"b")));
     assert!(rt; recorded(&WindowsPath::new(b"a")) != recorded(&WindowsPath::new(b"b")));
+    assert!(rt; recorded(&PlatformPath::new(b"a")) == recorded(&UnixPath::new(b"a")));
+    assert!(rt; recorded(&PlatformPath::new(b"a")) != recorded(&PlatformPath::new(b"b")));
     assert!(rt; recorded(&Utf8UnixPath::new("a")) != recorded(&Utf8UnixPath::new("b")));
     assert!(rt; recorded(&Utf8WindowsPath::new("a")) != recorded(&Utf8WindowsPath::new("b")));
     assert!(rt; recorded(&TypedPath::unix(b"a")) != recorded(&TypedPath::unix(b"b")));
