@@ -29,18 +29,18 @@ abbrev pub words_before : Option Prefix → HashWrites
 words_before None = []
 words_before (Some p) = prefix_words p
 
--- what is no name: the place of its kind among those of all components, and the prefix
-abbrev pub kind_words : Kind → HashWrites
-kind_words (prefix p) = isize (pos 0) ++ prefix_words p
-kind_words root = isize (pos 1)
-kind_words current = isize (pos 2)
-kind_words parent = isize (pos 3)
-kind_words (normal name) = isize (pos 4)
-
--- a component of Windows: the same, and the name
+-- a component of Windows: the place of its kind among those of Windows, and the prefix or the name
 abbrev pub windows_words : Kind → HashWrites
+windows_words (prefix p) = isize (pos 0) ++ prefix_words p
+windows_words root = isize (pos 1)
+windows_words current = isize (pos 2)
+windows_words parent = isize (pos 3)
 windows_words (normal name) = isize (pos 4) ++ slice u8 name
-windows_words k = kind_words k
+
+-- what a component is, beside its text: the same without the name
+abbrev pub kind_words : Kind → HashWrites
+kind_words (normal name) = isize (pos 4)
+kind_words k = windows_words k
 
 -- a component of either dialect: its kind, and then its text
 abbrev pub piece_words : Part → HashWrites
