@@ -1,7 +1,9 @@
 -- Texts in UTF-8.
 -- TextCuts: a text cut beside a byte of ASCII, and the segments, prefixes and components that are texts
+-- TextNames: the names of a component are texts where its own text is one
 -- TextsLeft: what is left of a text, and what it answers about itself, are texts
 -- TextChanges: what changes a text leaves a text, and what the search is told of texts
 pub mod TextCuts
+pub mod TextNames
 pub mod TextsLeft
 pub mod TextChanges

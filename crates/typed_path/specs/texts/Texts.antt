@@ -1,5 +1,5 @@
 -- Components, paths that may be there, and readings that are texts in UTF-8.
-use Rattle.std.specs.Prelude.{◌≡◌, ℕ, List, Bool, true, ◌&&◌, Option, Some, None}
+use Rattle.std.specs.Prelude.{◌≡◌, ℕ, List, Bool, true, not, ◌&&◌, ◌||◌, Option, Some, None}
 use Rattle.std.specs.List.{list_all}
 use Rattle.std.specs.Str.{is_utf8}
 use Rattle.typed_path.specs.components.Dialects.{Dialect}
@@ -35,6 +35,14 @@ is_text_kind k = true
 -- a component is: its text and its names
 abbrev pub is_text_part : Part → Bool
 is_text_part p = is_utf8 p.text && is_text_kind p.kind
+
+-- where its text is one, its names are: they are parts of that
+abbrev pub has_text_names : Part → Bool
+has_text_names p = not (is_utf8 p.text) || is_text_kind p.kind
+
+-- each of a list has such names
+abbrev pub have_text_names : List Part → Bool
+have_text_names ps = list_all has_text_names ps
 
 abbrev pub is_text_part_option : Option Part → Bool
 is_text_part_option None = true

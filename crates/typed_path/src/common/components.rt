@@ -3,8 +3,9 @@
 //!
 //! `Reading` is the one struct for all of them, and `ReadAs` says what it gives for each component.
 
-ghost use Rattle.std.specs.Prelude.{◌≡◌, ℕ, List, option_map, codes, ⊤, Some, drop, slice_get};
+ghost use Rattle.std.specs.Prelude.{◌≡◌, ℕ, List, option_map, codes, ⊤, Some, true, drop, slice_get};
 ghost use Rattle.typed_path.specs.components.{Part, parts, Placed, end_of, kinds, written, as_written, comps};
+ghost use Rattle.typed_path.specs.texts.{has_text_names, have_text_names};
 ghost use Rattle.typed_path.specs.views.CursorViews.{items_left};
 ghost use Rattle.typed_path.specs.views.PieceViews.{part_of};
 ghost use Rattle.typed_path.specs.views.Shown.{Shown, whole, text_alone};
@@ -26,6 +27,7 @@ pub struct Reading<'a, T: Encoding, I> {
     encoding: PhantomData<T>,
     item: PhantomData<I>,
     ghost written: { parts (items_left cursor) ≡ as_written T.dialect (parts (items_left cursor)) },
+    ghost names: { have_text_names (parts (items_left cursor)) ≡ true },
 }
 
 /// The components of a path that are left to be read.
@@ -234,7 +236,8 @@ pub trait ReadAs<'a, T: Encoding> {
 
     /// What is given for a piece.
     fn from_piece(piece: Piece<'a>) -> Self::Item
-        requires { part_of piece ≡ written T.dialect (part_of piece) }
+        requires written { part_of piece ≡ written T.dialect (part_of piece) }
+        requires names { has_text_names (part_of piece) ≡ true }
         ensures { seen result ≡ shown.of (part_of piece.entry) };
 }
 

@@ -2,6 +2,7 @@
 #![tactic(auto, using(crate::proofs::lemmas::texts::TextChanges::text_laws))]
 
 ghost use Rattle.std.specs.Prelude.{◌≡◌, true, false, codes, Some, min, is_ok, IfOk, IfErr, length, option_map};
+ghost use Rattle.std.specs.Str.{is_utf8};
 ghost use Rattle.typed_path.specs.components.{windows, Part, kinds};
 ghost use Rattle.typed_path.specs.views.TextComponentViews.{text_windows_part};
 ghost use Rattle.typed_path.specs.queries.{is_verbatim_prefix, prefix_length, is_prefix, prefix_in, prefix_part_in, first_prefix, prefix_among, has_prefix, has_any_verbatim_prefix, has_verbatim_prefix, has_verbatim_unc_prefix, has_verbatim_disk_prefix, has_device_ns_prefix, has_unc_prefix, has_disk_prefix, has_physical_root, has_implicit_root};
@@ -192,11 +193,11 @@ impl<'a> Utf8WindowsPrefixComponent<'a> {
     ghost use Rattle.typed_path.specs.views.TextComponentViews.{text_prefix_part};
     ghost use Rattle.typed_path.specs.views.WindowsViews.{prefix_component_part};
 
-    /// The prefix of a path of bytes with its text, where that and its names are texts.
+    /// The prefix of a path of bytes with its text, where that is one in UTF-8; then its names are, too.
     ///
     /// # Errors
     ///
-    /// The raw text, or the first name, that is no text.
+    /// The raw text that is no text.
     pub fn from_utf8(
         component: &WindowsPrefixComponent<'a>,
     ) -> Result<Utf8WindowsPrefixComponent<'a>, Utf8Error>
@@ -206,15 +207,15 @@ impl<'a> Utf8WindowsPrefixComponent<'a> {
             (part_no_text (prefix_component_part component.now))) }
     {
         let raw = str::from_utf8(component.as_bytes())?;
-        let kind = Utf8WindowsPrefix::from_utf8(&component.kind())?;
+        let kind = Utf8WindowsPrefix::from_utf8_unchecked(&component.kind());
         Ok(Utf8WindowsPrefixComponent { raw, kind })
     }
 
-    /// The same where they are known to be texts; they are not looked at again.
+    /// The same where that is known to be a text; it is not looked at again.
     pub fn from_utf8_unchecked(
         component: &WindowsPrefixComponent<'a>,
     ) -> Utf8WindowsPrefixComponent<'a>
-        requires { is_text_part (prefix_component_part component.now) ≡ true }
+        requires { is_utf8 (prefix_component_part component.now).text ≡ true }
         ensures { text_prefix_part result ≡ prefix_component_part component.now }
     {
         Utf8WindowsPrefixComponent {

@@ -1,8 +1,10 @@
 //! Prefixes and components of a Windows path, alone, read of bytes, and one after the other.
 
-ghost use Rattle.std.specs.Prelude.{◌≡◌, min, length, option_map};
+ghost use Rattle.std.specs.Prelude.{◌≡◌, min, length, option_map, true};
 ghost use Rattle.typed_path.specs.queries.{share_length, is_verbatim_prefix, prefix_length, is_prefix, prefix_in, prefix_part_in, first_prefix, prefix_among, has_prefix, has_any_verbatim_prefix, has_verbatim_prefix, has_verbatim_unc_prefix, has_verbatim_disk_prefix, has_device_ns_prefix, has_unc_prefix, has_disk_prefix, has_physical_root, has_implicit_root};
 ghost use Rattle.typed_path.specs.components.{prefix, prefix_part, Part, kinds, windows, iterator_name};
+ghost use Rattle.typed_path.specs.texts.{has_text_names};
+ghost use Rattle.typed_path.specs.views.PieceViews.{prefix_view};
 
 use crate::common::{Component, Encoding, Path, ReadAs, Reading, Values};
 use crate::constants::windows::{CURRENT_DIR, PARENT_DIR, SEPARATOR_STR};
@@ -11,8 +13,6 @@ use crate::scan::{Piece, PieceKind, Separators, WindowsPrefix, find_prefix};
 use crate::windows::encoding::WindowsEncoding;
 
 impl<'a> WindowsPrefix<'a> {
-    ghost use Rattle.typed_path.specs.views.PieceViews.{prefix_view};
-
     /// How many bytes the prefix has where it is written with one separator between names, or the
     /// largest number where it has more.
     ///
@@ -118,15 +118,16 @@ pub struct WindowsPrefixComponent<'a> {
     #[derive_where(skip(EqHashOrd))]
     raw: &'a [u8],
     kind: WindowsPrefix<'a>,
+    ghost names: { has_text_names (prefix_part (prefix_view kind) raw.now) ≡ true },
 }
 
 impl<'a> WindowsPrefixComponent<'a> {
-    ghost use Rattle.typed_path.specs.views.PieceViews.{prefix_view};
     ghost use Rattle.typed_path.specs.views.WindowsViews.{prefix_component_part};
 
     /// The prefix of this kind and this text.
     #[inline(always)]
     pub(crate) fn new(raw: &'a [u8], kind: WindowsPrefix<'a>) -> WindowsPrefixComponent<'a>
+        requires { has_text_names (prefix_part (prefix_view kind) raw.now) ≡ true }
         ensures { prefix_component_part result ≡ prefix_part (prefix_view kind.entry) raw.now }
     {
         WindowsPrefixComponent { raw, kind }
@@ -218,7 +219,6 @@ pub enum WindowsComponent<'a> {
 
 impl<'a> WindowsComponent<'a> {
     ghost use Rattle.typed_path.specs.views.PathViews.{path_bytes};
-    ghost use Rattle.typed_path.specs.views.PieceViews.{prefix_view};
     ghost use Rattle.typed_path.specs.views.WindowsViews.{windows_part, prefix_component_part};
 
     /// The path of this one component, in the encoding that the caller names.
@@ -411,7 +411,6 @@ impl<'a> ReadAs<'a, WindowsEncoding> for Values {
 }
 
 impl<'a> Reading<'a, WindowsEncoding, Values> {
-    ghost use Rattle.typed_path.specs.views.PieceViews.{prefix_view};
     ghost use Rattle.typed_path.specs.views.WindowsViews.{prefix_component_part};
     ghost use Rattle.typed_path.specs.views.PathViews.{components_parts};
 

@@ -60,7 +60,7 @@ module _ (write : Part → Part) where
   written-cons p ps e h = ap (λ q. q ∷ ps) (sym e) ∙ ap (λ qs. write p ∷ qs) h
 
   -- the components that are read behind a prefix are written as their kinds tell
-  record WritesBody (s : Separators) : Type 0 where
+  pub record WritesBody (s : Separators) : Type 0 where
     pub root : write (root_part (root_text s)) ≡ root_part (root_text s)
     pub current : write current_part ≡ current_part
     pub parent : write parent_part ≡ parent_part
@@ -89,7 +89,7 @@ module _ (write : Part → Part) where
         by _ _ (dot_dot e) = written-cons parent_part (parts (flat_map (later s) gs)) writes.parent (written-later gs)
         by _ _ (word e) = written-cons (name_part g.text) (parts (flat_map (later s) gs)) (writes.name g.text) (written-later gs)
 
-    written-body : (at : ℕ) (text : List ℕ) → Written (body s at text)
+    pub written-body : (at : ℕ) (text : List ℕ) → Written (body s at text)
     written-body at [] = refl
     written-body at (b ∷ bs) = written-body_of (segments s at (b ∷ bs))
 

@@ -1,6 +1,6 @@
 -- A text cut beside a byte of ASCII, and the segments, prefixes and components that are texts.
 use Rattle.std.proofs.Common.{◌≡◌, ℕ, ◌+◌, ◌-◌, ◌<◌, ◌≤◌, ◌==◌, ◌||◌, Bool, true, false, List, [], ◌∷◌, ◌++◌, length, take, drop, get_or, slice_range, inl, inr, refl, sym, ap, subst, ◌∙◌, append_assoc, eqb-true, arith, cond, ◌&&◌, not, nat_lt, Option, Some, flat_map, None, take-append-drop, length-take-le, ltb-true, get_or-append-add, take_at, drop_at, length-append, take_all}
-use Rattle.std.specs.Str.{IsUtf8, IsCharBoundary}
+use Rattle.std.specs.Str.{IsUtf8, IsCharBoundary, is_utf8}
 use Rattle.std.proofs.lemmas.Bool.{cases_lt, cond_both, and_parts, and_from, not-false}
 use Rattle.std.proofs.lemmas.List.{get_or_at, get_or_append_left, drop_all}
 use Rattle.std.proofs.lemmas.Str.{IsUtf8-nil, IsUtf8-take, IsUtf8-drop, IsUtf8-between, IsCharBoundary-before_ascii, IsCharBoundary-after_ascii, IsCharBoundary-end, is_utf8-from_IsUtf8, IsCharBoundary-from_take, IsCharBoundary-from_rest, IsUtf8-from_ascii, IsUtf8-append, IsCharBoundary-start}
@@ -14,8 +14,8 @@ use Rattle.typed_path.specs.components.{slash, backslash, is_separator, Dialect,
 use Rattle.typed_path.specs.texts.{is_text_prefix, is_text_part}
 use Rattle.typed_path.specs.queries.{name_of}
 use Rattle.typed_path.proofs.lemmas.lists.Lists.{slice_split-some, AllByRecursion-append}
-use Rattle.typed_path.proofs.lemmas.components.Prefixes.{and_then-some, where-some, Read, IsBehindMark, of_verbatim_unc, of_verbatim_disk, of_verbatim, of_device, of_unc, of_disk, prefix-read, prefix-fits}
-use Rattle.typed_path.proofs.lemmas.components.PrefixCuts.{name-length}
+use Rattle.typed_path.proofs.lemmas.components.Prefixes.{and_then-some, where-some, after_mark-reads, after_unc-reads, after_two-reads, both-read, Read, IsBehindMark, of_verbatim_unc, of_verbatim_disk, of_verbatim, of_device, of_unc, of_disk, prefix-read, prefix-fits}
+use Rattle.typed_path.proofs.lemmas.components.PrefixCuts.{name-length, name-take, names-take}
 use Rattle.typed_path.proofs.lemmas.components.Segments.{Seen, empty, passed_dot, kept_dot, dot_dot, word, seen}
 use Rattle.typed_path.proofs.lemmas.components.Cuts.{empty_first}
 
@@ -215,37 +215,63 @@ module _ (s : Separators) where
       (λ less. rw (name-length s text) (IsCharBoundary-from_rest text (n + 1) (length (second_name s text)) (omega (arith, ltb-true _ _ less, name-length s text)) (name-cut (after_first (is_separator s) text) (parted text is).behind)))
       (λ most. name-cut text is)
 
+-- a place behind a mark
+behind_mark : (k n : ℕ) (mark : Option (List ℕ)) (t rest : List ℕ) → IsBehindMark k mark t rest → IsCharBoundary rest n → IsCharBoundary t (k + n)
+behind_mark k n mark t rest is cut = let size = is.size in IsCharBoundary-from_rest t k n (omega arith) (subst (λ bs. IsCharBoundary bs n) (sym is.dropped) cut)
+
+-- where a text may be cut behind its prefix
+read-end : (s : Separators) (t : List ℕ) (f : Found) → IsUtf8 t → Read s t f → IsCharBoundary t f.length
+read-end s t _ is (of_verbatim_unc rest mark filled) =
+    let inner = and_then-some (after_unc s) (after_mark question t) rest mark.marked in
+    behind_mark 8 _ _ t rest mark (names-cut s rest (after_unc-utf8 s inner.0 rest (after_mark-utf8 question t inner.0 is inner.1) inner.2))
+read-end s t _ is (of_verbatim_disk rest letter mark drives) = behind_mark 4 2 _ t rest mark (drive-cut rest letter (after_mark-utf8 question t rest is mark.marked) drives)
+read-end s t _ is (of_verbatim rest mark filled no_unc no_drive) = behind_mark 4 _ _ t rest mark (name-cut s rest (after_mark-utf8 question t rest is mark.marked))
+read-end s t _ is (of_device rest mark filled) = behind_mark 4 _ _ t rest mark (name-cut Either rest (after_mark-utf8 dot t rest is mark.marked))
+read-end s t _ is (of_unc rest mark filled no_verbatim no_device) = behind_mark 2 _ _ t rest mark (names-cut Either rest (after_two-utf8 t rest is mark.marked))
+read-end s t _ is (of_disk letter drives) = drive-cut t letter is drives
+
+-- a name at the front of bytes is a text where it alone is, and two are where they are one with what parts them
+one-text : (s : Separators) (rest : List ℕ) → IsUtf8 (take (length (name s rest)) rest) → is_utf8 (name s rest) ≡ true
+one-text s rest is =
+    let n = length (name s rest) in
+    is_utf8-from_IsUtf8 _ (subst IsUtf8 (name-take s n rest (omega arith)) (parted s (take n rest) is).front)
+
+two-text : (s : Separators) (rest : List ℕ) → IsUtf8 (take (names_length s rest) rest) → is_utf8 (name s rest) && is_utf8 (second_name s rest) ≡ true
+two-text s rest is =
+    let n = names_length s rest in
+    let same = names-take s n rest (omega arith) in
+    and_from _ _ (is_utf8-from_IsUtf8 _ (subst IsUtf8 same.first (parted s (take n rest) is).front)) (is_utf8-from_IsUtf8 _ (subst IsUtf8 same.second (names-utf8 s (take n rest) is)))
+
+-- so are those of a prefix whose raw text is one, in whatever text it stands
+read-names : (s : Separators) (t : List ℕ) (f : Found) → IsUtf8 (take f.length t) → Read s t f → is_text_prefix f.prefix ≡ true
+read-names s t _ is (of_verbatim_unc rest mark filled) =
+    let n = names_length s rest in
+    let raw = (both-read 4 4 (after_mark question) (after_unc s) (after_mark-reads question) (after_unc-reads s)).whole t rest n mark.marked in
+    let inner = and_then-some (after_unc s) (after_mark question (take (8 + n) t)) (take n rest) raw in
+    two-text s rest (after_unc-utf8 s inner.0 (take n rest) (after_mark-utf8 question _ inner.0 is inner.1) inner.2)
+read-names s t _ is (of_verbatim_disk rest letter mark drives) = refl
+read-names s t _ is (of_verbatim rest mark filled no_unc no_drive) =
+    one-text s rest (after_mark-utf8 question _ _ is ((after_mark-reads question).whole t rest (length (name s rest)) mark.marked))
+read-names s t _ is (of_device rest mark filled) =
+    one-text Either rest (after_mark-utf8 dot _ _ is ((after_mark-reads dot).whole t rest (length (name Either rest)) mark.marked))
+read-names s t _ is (of_unc rest mark filled no_verbatim no_device) =
+    two-text Either rest (after_two-utf8 _ _ is (after_two-reads.whole t rest (names_length Either rest) mark.marked))
+read-names s t _ is (of_disk letter drives) = refl
+
+pub prefix-names : (t : List ℕ) (f : Found) → prefix_of windows t ≡ Some f → IsUtf8 (take f.length t) → is_text_prefix f.prefix ≡ true
+prefix-names t f found is = read-names (separators windows t) t f is (prefix-read t f found)
+
 -- a prefix that ends where the text may be cut, and whose names are texts
 pub record IsTextFound (t : List ℕ) (f : Found) : Type 0 where
   pub end : IsCharBoundary t f.length
   pub names : is_text_prefix f.prefix ≡ true
 
--- a place behind a mark
-behind_mark : (k n : ℕ) (mark : Option (List ℕ)) (t rest : List ℕ) → IsBehindMark k mark t rest → IsCharBoundary rest n → IsCharBoundary t (k + n)
-behind_mark k n mark t rest is cut = let size = is.size in IsCharBoundary-from_rest t k n (omega arith) (subst (λ bs. IsCharBoundary bs n) (sym is.dropped) cut)
-
-read-text : (s : Separators) (t : List ℕ) (f : Found) → IsUtf8 t → Read s t f → IsTextFound t f
-read-text s t _ is (of_verbatim_unc rest mark filled) =
-    let inner = and_then-some (after_unc s) (after_mark question t) rest mark.marked in
-    let text = after_unc-utf8 s inner.0 rest (after_mark-utf8 question t inner.0 is inner.1) inner.2 in
-    record { end = behind_mark 8 _ _ t rest mark (names-cut s rest text); names = and_from _ _ (is_utf8-from_IsUtf8 _ (parted s rest text).front) (is_utf8-from_IsUtf8 _ (names-utf8 s rest text)) }
-read-text s t _ is (of_verbatim_disk rest letter mark drives) =
-    record { end = behind_mark 4 2 _ t rest mark (drive-cut rest letter (after_mark-utf8 question t rest is mark.marked) drives); names = refl }
-read-text s t _ is (of_verbatim rest mark filled no_unc no_drive) =
-    let text = after_mark-utf8 question t rest is mark.marked in
-    record { end = behind_mark 4 _ _ t rest mark (name-cut s rest text); names = is_utf8-from_IsUtf8 _ (parted s rest text).front }
-read-text s t _ is (of_device rest mark filled) =
-    let text = after_mark-utf8 dot t rest is mark.marked in
-    record { end = behind_mark 4 _ _ t rest mark (name-cut Either rest text); names = is_utf8-from_IsUtf8 _ (parted Either rest text).front }
-read-text s t _ is (of_unc rest mark filled no_verbatim no_device) =
-    let text = after_two-utf8 t rest is mark.marked in
-    record { end = behind_mark 2 _ _ t rest mark (names-cut Either rest text); names = and_from _ _ (is_utf8-from_IsUtf8 _ (parted Either rest text).front) (is_utf8-from_IsUtf8 _ (names-utf8 Either rest text)) }
-read-text s t _ is (of_disk letter drives) = record { end = drive-cut t letter is drives; names = refl }
-
 -- each prefix of a text does
 pub prefix-text : (d : Dialect) (t : List ℕ) (f : Found) → IsUtf8 t → prefix_of d t ≡ Some f → IsTextFound t f
 prefix-text unix t f is found = cc
-prefix-text windows t f is found = read-text (separators windows t) t f is (prefix-read t f found)
+prefix-text windows t f is found =
+    let end = read-end (separators windows t) t f is (prefix-read t f found) in
+    record { end = end; names = prefix-names t f found (IsUtf8-take t f.length is end) }
 
 -- The components of a text begin and end where it may be cut, and are texts.
 
