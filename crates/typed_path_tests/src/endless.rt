@@ -1,8 +1,7 @@
 //! Texts of a megabyte, read and normalized as paths of bytes, and names of many lengths in each call that grows.
 
-use crate::long::{LENGTHS, LONG_TEXTS, LONG_WINDOWS_TEXTS, Long, long_texts};
-use crate::support::repeated;
-use crate::{grows, has_number};
+use crate::long::{Long, long_texts};
+use crate::{each_long_text, each_name, grows, has_number};
 use std::alloc::{AllocError, Global};
 use std::test::Fail;
 use typed_path::{Encoding, Path, PathBuf, UnixEncoding, WindowsEncoding};
@@ -17,16 +16,8 @@ fn is_read<T: Encoding>(alloc: Global, long: &Long) -> Result<bool, AllocError> 
 
 #[test]
 fn megabytes(rt: HostRuntime) -> Result<(), Fail> {
-    for long in LONG_TEXTS {
-        assert!(rt;
-            is_read::<UnixEncoding>(rt.alloc(), long)?,
-            "{long:?} on Unix"
-        );
-        assert!(rt; is_read::<WindowsEncoding>(rt.alloc(), long)?, "{long:?}");
-    }
-    for long in LONG_WINDOWS_TEXTS {
-        assert!(rt; is_read::<WindowsEncoding>(rt.alloc(), long)?, "{long:?}");
-    }
+    let alloc = rt.alloc();
+    each_long_text!(rt, long => is_read::<UnixEncoding>(alloc, long)?, is_read::<WindowsEncoding>(alloc, long)?);
     Ok(())
 }
 
@@ -41,13 +32,6 @@ fn is_grown<T: Encoding>(alloc: Global, name: &[u8]) -> Result<bool, AllocError>
 #[test]
 fn names_of_many_lengths(rt: HostRuntime) -> Result<(), Fail> {
     let alloc = rt.alloc();
-    for &length in LENGTHS {
-        let name = repeated(alloc, b"", b"a", length, b"")?;
-        assert!(rt; is_grown::<UnixEncoding>(alloc, &name)?, "{length} bytes");
-        assert!(rt;
-            is_grown::<WindowsEncoding>(alloc, &name)?,
-            "{length} bytes on Windows"
-        );
-    }
+    each_name!(rt, name => is_grown::<UnixEncoding>(alloc, name.as_bytes())?, is_grown::<WindowsEncoding>(alloc, name.as_bytes())?);
     Ok(())
 }

@@ -54,6 +54,33 @@ pub fn long_texts(alloc: Global, long: &Long) -> Result<(Vec<u8>, Vec<u8>, usize
     Ok((text, normal, count))
 }
 
+/// Asks whether each long text is read as it is to be, on either system.
+#[macro_export]
+macro_rules! each_long_text {
+    ($rt:expr, $long:ident => $unix:expr, $windows:expr) => {
+        for $long in $crate::LONG_TEXTS {
+            assert!($rt; $unix, "{:?} on Unix", $long);
+            assert!($rt; $windows, "{:?}", $long);
+        }
+        for $long in $crate::LONG_WINDOWS_TEXTS {
+            assert!($rt; $windows, "{:?}", $long);
+        }
+    };
+}
+
+/// Asks whether a name of each length is grown as it is to be, on either system.
+#[macro_export]
+macro_rules! each_name {
+    ($rt:expr, $name:ident => $unix:expr, $windows:expr) => {
+        for &length in $crate::LENGTHS {
+            let bytes = $crate::repeated($rt.alloc(), b"", b"a", length, b"")?;
+            let $name = std::str::from_utf8(bytes.as_slice()).unwrap_or("");
+            assert!($rt; $unix, "{length} bytes");
+            assert!($rt; $windows, "{length} bytes on Windows");
+        }
+    };
+}
+
 /// Whether each call that grows gives what it is to give of one long name: as a lent path, as what is pushed, and as
 /// what a name is given as. It is told an owned path and a lent one that are empty, too.
 #[macro_export]
@@ -98,5 +125,20 @@ macro_rules! has_number {
             backward = backward.saturating_add(1);
         }
         forward == $count && backward == $count
+    }};
+}
+
+/// Whether a path has so many components, read from both ends until they meet.
+#[macro_export]
+macro_rules! meets_behind {
+    ($path:expr, $count:expr) => {{
+        let (mut rest, mut is_there) = ($path.components(), true);
+        for _ in 0..$count / 2 {
+            is_there = is_there && rest.next().is_some() && rest.next_back().is_some();
+        }
+        for _ in 0..$count % 2 {
+            is_there = is_there && rest.next().is_some();
+        }
+        is_there && rest.next().is_none() && rest.next_back().is_none()
     }};
 }

@@ -3,6 +3,9 @@
 use std::alloc::{AllocError, Global};
 use std::hash::{DefaultHasher, Hash, Hasher};
 
+/// How many times a text is put at once.
+const BLOCK: usize = 1_024;
+
 /// A beginning, a text behind it so many times, and an end.
 pub fn repeated(
     alloc: Global,
@@ -13,9 +16,12 @@ pub fn repeated(
 ) -> Result<Vec<u8>, AllocError> {
     let mut bytes = Vec::new(alloc);
     bytes.extend_from_slice(begin)?;
-    for _ in 0..times {
-        bytes.extend_from_slice(text)?;
+    let block = text.repeat(alloc, BLOCK.min(times))?;
+    for _ in 0..times / BLOCK {
+        bytes.extend_from_slice(block.as_slice())?;
     }
+    let rest = text.repeat(alloc, times % BLOCK)?;
+    bytes.extend_from_slice(rest.as_slice())?;
     bytes.extend_from_slice(end)?;
     Ok(bytes)
 }

@@ -4,36 +4,20 @@ use std::alloc::{AllocError, Global};
 use std::str;
 use std::test::Fail;
 use typed_path::{Utf8Encoding, Utf8Path, Utf8PathBuf, Utf8UnixEncoding, Utf8WindowsEncoding};
-use typed_path_tests::{
-    LENGTHS, LONG_TEXTS, LONG_WINDOWS_TEXTS, Long, grows, has_number, long_texts, repeated,
-};
+use typed_path_tests::{Long, each_long_text, each_name, grows, long_texts, meets_behind};
 
 /// Whether a long text has its components, and its normal text.
 fn is_read<T: Utf8Encoding>(alloc: Global, long: &Long) -> Result<bool, AllocError> {
     let (text, normal, count) = long_texts(alloc, long)?;
     let path = Utf8Path::<T>::new(str::from_utf8(text.as_slice()).unwrap_or(""));
     let is_normal = path.normalize(alloc)?.as_path().as_str().as_bytes() == normal.as_slice();
-    Ok(is_normal && has_number!(path, count))
+    Ok(is_normal && meets_behind!(path, count))
 }
 
 #[test]
 fn megabytes(rt: HostRuntime) -> Result<(), Fail> {
-    for long in LONG_TEXTS {
-        assert!(rt;
-            is_read::<Utf8UnixEncoding>(rt.alloc(), long)?,
-            "{long:?} on Unix"
-        );
-        assert!(rt;
-            is_read::<Utf8WindowsEncoding>(rt.alloc(), long)?,
-            "{long:?}"
-        );
-    }
-    for long in LONG_WINDOWS_TEXTS {
-        assert!(rt;
-            is_read::<Utf8WindowsEncoding>(rt.alloc(), long)?,
-            "{long:?}"
-        );
-    }
+    let alloc = rt.alloc();
+    each_long_text!(rt, long => is_read::<Utf8UnixEncoding>(alloc, long)?, is_read::<Utf8WindowsEncoding>(alloc, long)?);
     Ok(())
 }
 
@@ -48,17 +32,6 @@ fn is_grown<T: Utf8Encoding>(alloc: Global, name: &str) -> Result<bool, AllocErr
 #[test]
 fn names_of_many_lengths(rt: HostRuntime) -> Result<(), Fail> {
     let alloc = rt.alloc();
-    for &length in LENGTHS {
-        let name = repeated(alloc, b"", b"a", length, b"")?;
-        let name = str::from_utf8(name.as_slice()).unwrap_or("");
-        assert!(rt;
-            is_grown::<Utf8UnixEncoding>(alloc, name)?,
-            "{length} bytes"
-        );
-        assert!(rt;
-            is_grown::<Utf8WindowsEncoding>(alloc, name)?,
-            "{length} bytes on Windows"
-        );
-    }
+    each_name!(rt, name => is_grown::<Utf8UnixEncoding>(alloc, name)?, is_grown::<Utf8WindowsEncoding>(alloc, name)?);
     Ok(())
 }

@@ -3,49 +3,26 @@
 
 use serde_json::Value;
 use std::alloc::{AllocError, Global};
-use std::str;
 use std::test::Fail;
 use typed_path::{
     PathType, TypedPath, TypedPathBuf, UnixPath, UnixPathBuf, Utf8TypedPath, Utf8TypedPathBuf,
     Utf8WindowsPath, Utf8WindowsPathBuf, ValueError,
 };
-use typed_path_tests::{
-    LENGTHS, LONG_TEXTS, LONG_WINDOWS_TEXTS, Long, grows, has_number, long_texts, repeated,
-};
+use typed_path_tests::{Long, each_long_text, each_name, grows, long_texts, meets_behind};
 
 /// Whether a long text has its components, and its normal text.
 fn is_read(alloc: Global, kind: PathType, long: &Long) -> Result<bool, AllocError> {
     let (text, normal, count) = long_texts(alloc, long)?;
     let path = TypedPath::new(text.as_slice(), kind);
     let is_normal = path.normalize(alloc)?.as_bytes() == normal.as_slice();
-    Ok(is_normal && has_number!(path, count))
+    Ok(is_normal && meets_behind!(path, count))
 }
 
 #[test]
 fn megabytes(rt: HostRuntime) -> Result<(), Fail> {
-    for long in LONG_TEXTS {
-        assert!(rt;
-            is_read(rt.alloc(), PathType::Unix, long)?,
-            "{long:?} on Unix"
-        );
-        assert!(rt; is_read(rt.alloc(), PathType::Windows, long)?, "{long:?}");
-    }
-    for long in LONG_WINDOWS_TEXTS {
-        assert!(rt; is_read(rt.alloc(), PathType::Windows, long)?, "{long:?}");
-    }
+    let alloc = rt.alloc();
+    each_long_text!(rt, long => is_read(alloc, PathType::Unix, long)?, is_read(alloc, PathType::Windows, long)?);
     Ok(())
-}
-
-/// Whether each call that grows gives what it is to give of one name.
-fn is_grown(alloc: Global, kind: PathType, name: &str) -> Result<bool, AllocError> {
-    let bytes = name.as_bytes();
-    let (empty, lent) = (TypedPath::new(b"", kind), TypedPath::new(bytes, kind));
-    let (no_text, text) = (Utf8TypedPath::new("", kind), Utf8TypedPath::new(name, kind));
-    let typed =
-        grows!(alloc, TypedPathBuf::new(alloc, kind), empty, lent, bytes, bytes, path => path.as_bytes());
-    let of_text =
-        grows!(alloc, Utf8TypedPathBuf::new(alloc, kind), no_text, text, name, name, path => path.as_str());
-    Ok(typed && of_text)
 }
 
 /// Whether a name is kept as a JSON value, by a path of each family.
@@ -72,19 +49,21 @@ fn is_kept(alloc: Global, kind: PathType, name: &str) -> Result<bool, ValueError
     Ok(true)
 }
 
+/// Whether each call that grows gives what it is to give of one name, and JSON values keep it.
+fn is_grown(alloc: Global, kind: PathType, name: &str) -> Result<bool, AllocError> {
+    let bytes = name.as_bytes();
+    let (empty, lent) = (TypedPath::new(b"", kind), TypedPath::new(bytes, kind));
+    let (no_text, text) = (Utf8TypedPath::new("", kind), Utf8TypedPath::new(name, kind));
+    let typed =
+        grows!(alloc, TypedPathBuf::new(alloc, kind), empty, lent, bytes, bytes, path => path.as_bytes());
+    let of_text =
+        grows!(alloc, Utf8TypedPathBuf::new(alloc, kind), no_text, text, name, name, path => path.as_str());
+    Ok(typed && of_text && is_kept(alloc, kind, name) == Ok(true))
+}
+
 #[test]
 fn names_of_many_lengths(rt: HostRuntime) -> Result<(), Fail> {
     let alloc = rt.alloc();
-    for &length in LENGTHS {
-        let name = repeated(alloc, b"", b"a", length, b"")?;
-        let name = str::from_utf8(name.as_slice()).unwrap_or("");
-        for kind in [PathType::Unix, PathType::Windows] {
-            assert!(rt; is_grown(alloc, kind, name)?, "{length} bytes of {kind:?}");
-            assert!(rt;
-                is_kept(alloc, kind, name) == Ok(true),
-                "{length} bytes of {kind:?}"
-            );
-        }
-    }
+    each_name!(rt, name => is_grown(alloc, PathType::Unix, name)?, is_grown(alloc, PathType::Windows, name)?);
     Ok(())
 }
