@@ -8,7 +8,7 @@ use std::io;
 use typed_path::{
     Encoding, Path, PathBuf, TypedPath, TypedPathBuf, UnixEncoding, UnixPath, Utf8Encoding,
     Utf8Path, Utf8PathBuf, Utf8TypedPath, Utf8TypedPathBuf, Utf8UnixEncoding, Utf8UnixPath,
-    ValueError,
+    Utf8WindowsPath, ValueError, WindowsPath,
 };
 
 /// A path that is copied, and how it is written on Unix.
@@ -153,8 +153,12 @@ pub fn copy_typed(
         ("from_str", typed(TypedPathBuf::from_str(alloc, base), kept)),
         ("clone", typed(owned.clone(), kept)),
         (
-            "to_typed_path_buf",
+            "to_typed_path_buf of Unix",
             typed(UnixPath::new(name).to_typed_path_buf(alloc), kept),
+        ),
+        (
+            "to_typed_path_buf of Windows",
+            typed(WindowsPath::new(name).to_typed_path_buf(alloc), kept),
         ),
         (
             "to_string_lossy",
@@ -182,6 +186,7 @@ pub fn copy_typed_text(
         return tell(rt, family, "a path", Ended::Refused);
     };
     let unix = Utf8UnixPath::new(base).to_typed_path_buf(alloc);
+    let windows = Utf8WindowsPath::new(base).to_typed_path_buf(alloc);
     let told = [
         ("to_path_buf", typed_text(path.to_path_buf(alloc), kept)),
         (
@@ -197,7 +202,8 @@ pub fn copy_typed_text(
             typed_text(Utf8TypedPathBuf::from_str(alloc, base), kept),
         ),
         ("clone", typed_text(owned.clone(), kept)),
-        ("to_typed_path_buf", typed_text(unix, kept)),
+        ("to_typed_path_buf of Unix", typed_text(unix, kept)),
+        ("to_typed_path_buf of Windows", typed_text(windows, kept)),
         ("to_value", value(path.to_value(alloc), kept)),
         (
             "from_value",

@@ -2,11 +2,14 @@
 
 use crate::ended::Ended;
 use crate::{tell, tell_all};
+use serde_json::Value;
 use std::alloc::Global;
+use std::borrow::CowStr;
 use std::io;
 use typed_path::{
-    CheckedPathError, Encoding, Path, PathBuf, PathError, PathType, TypedPath, Utf8Encoding,
-    Utf8Path, Utf8PathBuf, Utf8TypedPath,
+    CheckedPathError, Encoding, Path, PathBuf, PathError, PathType, TypedPath, TypedPathBuf,
+    UnixPathBuf, Utf8Encoding, Utf8Path, Utf8PathBuf, Utf8TypedPath, Utf8TypedPathBuf,
+    Utf8UnixPathBuf, Utf8WindowsPathBuf, ValueError, WindowsPathBuf,
 };
 
 /// What a checked call answers to a parent.
@@ -29,7 +32,7 @@ macro_rules! number_of {
 
 /// How calls ended of a base, lent and owned, once it has room to give back.
 macro_rules! free {
-    ($rt:expr, $family:expr, $lent:expr, $owned:expr, $path:ident => $bytes:expr, $into:ident.$as_bytes:ident, $alloc:expr, $parent:expr, $whole:expr, $base:expr) => {{
+    ($rt:expr, $family:expr, $lent:expr, $new:expr, $owned:expr, $path:ident: $buf:ty => $bytes:expr, $into:ident.$as_bytes:ident, $alloc:expr, $parent:expr, $whole:expr, $base:expr) => {{
         let (base, above, count, above_count, kind) = $base;
         let Ok(mut $path) = $owned else {
             return tell($rt, $family, "a path", Ended::Refused);
@@ -51,6 +54,12 @@ macro_rules! free {
         let cleared = $bytes.is_empty();
         let pushed_anew = $path.push($whole).is_ok() && $bytes == base.as_bytes();
         let taken = $path.$into();
+        let into = taken.$as_bytes() == base.as_bytes();
+        let $path = <$buf>::from(taken);
+        let from = $bytes == base.as_bytes();
+        let $path = $new;
+        let made = $bytes.is_empty();
+        let refused = <$buf>::from_value($alloc, &Value::Null).err() == Some(ValueError::NotText);
         let told = [
             ("components", Ended::done(read, base)),
             ("iter", Ended::done(listed, base)),
@@ -64,9 +73,48 @@ macro_rules! free {
             ("pop", Ended::done(popped, base)),
             ("clear", Ended::done(cleared, base)),
             ("push onto room", Ended::done(pushed_anew, base)),
-            (stringify!($into), Ended::done(taken.$as_bytes() == base.as_bytes(), base)),
+            (stringify!($into), Ended::done(into, base)),
+            ("from", Ended::done(from, base)),
+            ("new", Ended::done(made, base)),
+            ("from_value of no text", Ended::done(refused, base)),
         ];
         tell_all($rt, $family, &told)
+    }};
+}
+
+/// How two calls ended of bytes: of a text, and of a byte that is none.
+macro_rules! read_as_text {
+    ($lent:expr, $no_text:expr, $alloc:expr, $base:expr) => {{
+        let (base, _, _, _, _) = $base;
+        let is_lent = match $lent.to_string_lossy($alloc) {
+            Ok(CowStr::Borrowed(text)) => text == base,
+            _ => false,
+        };
+        let refused = $no_text.to_value($alloc).err() == Some(ValueError::NotUtf8);
+        [
+            ("to_string_lossy of a text", Ended::done(is_lent, base)),
+            ("to_value of no text", Ended::done(refused, base)),
+        ]
+    }};
+}
+
+/// How a path ended that was taken out of one of either dialect, and put back.
+macro_rules! taken_out {
+    ($owned:expr, $typed:ident, $unix:ty, $windows:ty, $path:ident => $bytes:expr, $base:expr) => {{
+        let (base, _, _, _, kind) = $base;
+        match $owned {
+            Ok(path) => {
+                let (taken, $path) = match <$unix>::try_from(path) {
+                    Ok(path) => (PathType::Unix, $typed::Unix(path)),
+                    Err(path) => match <$windows>::try_from(path) {
+                        Ok(path) => (PathType::Windows, $typed::Windows(path)),
+                        Err(path) => (PathType::Unix, path),
+                    },
+                };
+                Ended::done(taken == kind && $bytes == base.as_bytes(), base)
+            }
+            Err(_) => Ended::Refused,
+        }
     }};
 }
 
@@ -78,8 +126,13 @@ pub fn free_bytes<T: Encoding>(
     base: Base,
 ) -> io::Result<()> {
     let (lent, parent) = (Path::<T>::new(base.0.as_bytes()), Path::new(b".."));
-    let owned = PathBuf::<T>::from_str(alloc, base.0);
-    free!(rt, family, lent, owned, path => path.as_path().as_bytes(), into_vec.as_slice, alloc, parent, lent, base)
+    let (owned, new) = (
+        PathBuf::<T>::from_str(alloc, base.0),
+        PathBuf::<T>::new(alloc),
+    );
+    free!(rt, family, lent, new, owned, path: PathBuf<T> => path.as_path().as_bytes(), into_vec.as_slice, alloc, parent, lent, base)?;
+    let told = read_as_text!(lent, Path::<T>::new(b"\xFF"), alloc, base);
+    tell_all(rt, family, &told)
 }
 
 /// Tells such calls of a path of text.
@@ -90,18 +143,39 @@ pub fn free_text<T: Utf8Encoding>(
     base: Base,
 ) -> io::Result<()> {
     let (lent, parent) = (Utf8Path::<T>::new(base.0), Utf8Path::new(".."));
-    let owned = Utf8PathBuf::<T>::from_str(alloc, base.0);
-    free!(rt, family, lent, owned, path => path.as_path().as_str().as_bytes(), into_string.as_bytes, alloc, parent, lent, base)
+    let (owned, new) = (
+        Utf8PathBuf::<T>::from_str(alloc, base.0),
+        Utf8PathBuf::<T>::new(alloc),
+    );
+    free!(rt, family, lent, new, owned, path: Utf8PathBuf<T> => path.as_path().as_str().as_bytes(), into_string.as_bytes, alloc, parent, lent, base)?;
+    let there_and_back = match Utf8PathBuf::<T>::from_str(alloc, base.0) {
+        Ok(path) => match Utf8PathBuf::<T>::from_bytes_path_buf(path.into_bytes_path_buf()) {
+            Ok(path) => Ended::done(path.as_path().as_str() == base.0, base.0),
+            Err(_) => Ended::Wrong(base.0),
+        },
+        Err(_) => Ended::Refused,
+    };
+    tell(rt, family, "into_bytes_path_buf and back", there_and_back)
 }
 
 /// Tells such calls of a path of either dialect.
 pub fn free_typed(rt: &impl Print, alloc: Global, family: &str, base: Base) -> io::Result<()> {
     let lent = TypedPath::derive(base.0.as_bytes());
-    free!(rt, family, lent, lent.to_path_buf(alloc), path => path.as_bytes(), into_vec.as_slice, alloc, b"..", base.0.as_bytes(), base)
+    let new = TypedPathBuf::new(alloc, base.4);
+    free!(rt, family, lent, new, lent.to_path_buf(alloc), path: TypedPathBuf => path.as_bytes(), into_vec.as_slice, alloc, b"..", base.0.as_bytes(), base)?;
+    let told = read_as_text!(lent, TypedPath::derive(b"\xFF"), alloc, base);
+    tell_all(rt, family, &told)?;
+    let taken =
+        taken_out!(lent.to_path_buf(alloc), TypedPathBuf, UnixPathBuf, WindowsPathBuf, path => path.as_bytes(), base);
+    tell(rt, family, "try_from", taken)
 }
 
 /// Tells such calls of a path of text of either dialect.
 pub fn free_typed_text(rt: &impl Print, alloc: Global, family: &str, base: Base) -> io::Result<()> {
     let lent = Utf8TypedPath::derive(base.0);
-    free!(rt, family, lent, lent.to_path_buf(alloc), path => path.as_str().as_bytes(), into_string.as_bytes, alloc, "..", base.0, base)
+    let new = Utf8TypedPathBuf::new(alloc, base.4);
+    free!(rt, family, lent, new, lent.to_path_buf(alloc), path: Utf8TypedPathBuf => path.as_str().as_bytes(), into_string.as_bytes, alloc, "..", base.0, base)?;
+    let taken =
+        taken_out!(lent.to_path_buf(alloc), Utf8TypedPathBuf, Utf8UnixPathBuf, Utf8WindowsPathBuf, path => path.as_str().as_bytes(), base);
+    tell(rt, family, "try_from", taken)
 }

@@ -1,6 +1,6 @@
 //! Calls that take lists: of paths, of operations, of ends.
 
-use crate::ended::Ended;
+use crate::ended::{Ended, changed};
 use std::alloc::{AllocError, Global};
 use typed_path::{
     CheckedPathError, Encoding, End, Path, PathBuf, PathOp, Piece, Reply, UnixPath, UnixPathBuf,
@@ -35,6 +35,21 @@ pub fn extend_text<T: Utf8Encoding>(alloc: Global, states: States) -> Result<End
     let mut path = Utf8PathBuf::<T>::from_str(alloc, states[0])?;
     let outcome = path.extend(Utf8Path::new(LIST).ancestors());
     Ok(extended(outcome, path.as_path().as_str().as_bytes(), states))
+}
+
+/// How two texts ended onto which the first of the list was pushed, by either call of an encoding.
+pub fn push_text<T: Utf8Encoding>(alloc: Global, states: States) -> Result<Ended, AllocError> {
+    let row = (states[0], LIST, states[1]);
+    let mut text = String::from_str(alloc, states[0])?;
+    let pushed = changed(T::push(&mut text, LIST), text.as_bytes(), row, false);
+    let mut text = String::from_str(alloc, states[0])?;
+    let checked = changed(
+        T::push_checked(&mut text, LIST),
+        text.as_bytes(),
+        row,
+        false,
+    );
+    Ok(pushed.and(checked))
 }
 
 /// How the empty path of Unix ended that was extended by three names.

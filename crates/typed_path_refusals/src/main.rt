@@ -16,13 +16,14 @@ use copies::{copy_bytes, copy_text, copy_typed, copy_typed_text};
 use ended::Ended;
 use free::{free_bytes, free_text, free_typed, free_typed_text};
 use lists::{
-    collect_bytes, collect_text, extend_bytes, extend_nothing, extend_text, operate, read_both,
+    collect_bytes, collect_text, extend_bytes, extend_nothing, extend_text, operate, push_text,
+    read_both,
 };
 use rows::{Table, UNIX, WINDOWS};
 use std::io;
 use typed_path::{
-    Encoding, PathType, UnixEncoding, Utf8Encoding, Utf8UnixEncoding, Utf8WindowsEncoding,
-    WindowsEncoding,
+    Encoding, PathType, PlatformEncoding, UnixEncoding, Utf8Encoding, Utf8PlatformEncoding,
+    Utf8UnixEncoding, Utf8WindowsEncoding, WindowsEncoding,
 };
 
 /// Prints how a call of a family ended.
@@ -105,10 +106,14 @@ fn tell_text<T: Utf8Encoding>(
     let alloc = rt.alloc();
     tell_rows!(rt, family, table, call, row, room =>
         change_text::<T>(alloc, call, row, room), make_text::<T>(alloc, call, row));
-    let extended = extend_text::<T>(alloc, table.onto).unwrap_or(Ended::Refused);
-    tell(rt, family, "extend", extended)?;
-    let collected = collect_text::<T>(alloc, table.nothing).unwrap_or(Ended::Refused);
-    tell(rt, family, "from_iter", collected)?;
+    let lists = [
+        ("extend", extend_text::<T>(alloc, table.onto)),
+        ("from_iter", collect_text::<T>(alloc, table.nothing)),
+        ("push of the encoding", push_text::<T>(alloc, table.onto)),
+    ];
+    for (call, ended) in lists {
+        tell(rt, family, call, ended.unwrap_or(Ended::Refused))?;
+    }
     copy_text::<T>(rt, alloc, family, table.copied)?;
     free_text::<T>(rt, alloc, family, table.free)
 }
@@ -152,8 +157,10 @@ fn main(rt: HostRuntime) -> io::Result<()> {
         extend_nothing(rt.alloc()),
     )?;
     tell_bytes::<WindowsEncoding>(&rt, "WindowsPath", &WINDOWS)?;
+    tell_bytes::<PlatformEncoding>(&rt, "PlatformPath", &UNIX)?;
     tell_text::<Utf8UnixEncoding>(&rt, "Utf8UnixPath", &UNIX)?;
     tell_text::<Utf8WindowsEncoding>(&rt, "Utf8WindowsPath", &WINDOWS)?;
+    tell_text::<Utf8PlatformEncoding>(&rt, "Utf8PlatformPath", &UNIX)?;
     tell_typed(&rt, "TypedPath of Unix", PathType::Unix, &UNIX)?;
     tell_typed(&rt, "TypedPath of Windows", PathType::Windows, &WINDOWS)?;
     tell_typed_text(&rt, "Utf8TypedPath of Unix", PathType::Unix, &UNIX)?;
