@@ -5,8 +5,6 @@
 #[cfg(test)]
 mod bases;
 #[cfg(test)]
-mod endless;
-#[cfg(test)]
 mod hostile;
 #[cfg(test)]
 mod lines;

@@ -1,5 +1,4 @@
-//! Texts of a megabyte, which each family reads and normalizes, in a crate of tests of its own: each call goes
-//! through them once.
+//! Texts of a megabyte, which each family reads and normalizes in a crate of tests: each call goes through them once.
 
 use crate::support::repeated;
 use std::alloc::{AllocError, Global};
@@ -19,15 +18,22 @@ pub type Long = (
 pub const LONG_TEXTS: &[Long] = &[
     (b"", b".", 1_048_576, 1, b"", b"."),
     (b"", b"./", 524_288, 1, b"", b""),
-    (b"", b"../", 300_000, 300_000, b"", b""),
-    (b"", b"a/../", 200_000, 400_000, b"", b""),
+    (b"", b"..///./", 150_000, 150_000, b"", b""),
+    (b"", b"a-name/..//", 95_326, 190_652, b"", b""),
 ];
 
 /// Texts of Windows.
 pub const LONG_WINDOWS_TEXTS: &[Long] = &[
     (b"a", br"\a", 524_287, 524_288, b"a", br"\a"),
     (br"\\?\C:\x", b"/name", 209_715, 3, br"\\?\C:\x", br"\name"),
-    (br"\\?\C:", br"\a/b", 262_144, 262_146, br"\\?\C:", br"\a\b"),
+    (
+        br"\\?\C:",
+        br"\a name/b",
+        116_508,
+        116_510,
+        br"\\?\C:",
+        br"\a name\b",
+    ),
     (
         br"\\?\UNC\",
         br"\\?\UNC\",

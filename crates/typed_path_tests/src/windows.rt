@@ -335,7 +335,7 @@ fn slices_left(rt: HostRuntime) {
 fn single_texts(rt: HostRuntime) {
     const NONE: &str = "no component found";
     const MORE: &str = "found more than one component";
-    const ROWS: &[(&[u8], Result<WindowsComponent<'static>, ParseError>)] = &[
+    let rows: [(&[u8], Result<WindowsComponent<'_>, ParseError>); 8] = [
         (b"", Err(NONE)),
         (br"C:\", Err(MORE)),
         (br"\a", Err(MORE)),
@@ -345,7 +345,7 @@ fn single_texts(rt: HostRuntime) {
         (b"..", Ok(WindowsComponent::ParentDir)),
         (br"a/\.", Ok(WindowsComponent::Normal(b"a"))),
     ];
-    for &(text, wanted) in ROWS {
+    for (text, wanted) in rows {
         assert!(rt; WindowsComponent::try_from(text) == wanted);
     }
     let drive = WindowsPrefixComponent::try_from("C:").map(WindowsComponent::Prefix);

@@ -1,8 +1,9 @@
-//! Texts of a megabyte, read and normalized as paths of either dialect; and names of many lengths, of bytes and of
+//! Texts of a megabyte, read and normalized as paths of either dialect, of bytes and of text; and names of many lengths, of bytes and of
 //! text, in each call that grows and as JSON values.
 
 use serde_json::Value;
 use std::alloc::{AllocError, Global};
+use std::str;
 use std::test::Fail;
 use typed_path::{
     PathType, TypedPath, TypedPathBuf, UnixPath, UnixPathBuf, Utf8TypedPath, Utf8TypedPathBuf,
@@ -10,12 +11,14 @@ use typed_path::{
 };
 use typed_path_tests::{Long, each_long_text, each_name, grows, long_texts, meets_behind};
 
-/// Whether a long text has its components, and its normal text.
+/// Whether a long text has its components, and its normal text, as bytes and as a text.
 fn is_read(alloc: Global, kind: PathType, long: &Long) -> Result<bool, AllocError> {
-    let (text, normal, count) = long_texts(alloc, long)?;
-    let path = TypedPath::new(text.as_slice(), kind);
+    let (bytes, normal, count) = long_texts(alloc, long)?;
+    let path = TypedPath::new(bytes.as_slice(), kind);
     let is_normal = path.normalize(alloc)?.as_bytes() == normal.as_slice();
-    Ok(is_normal && meets_behind!(path, count))
+    let text = Utf8TypedPath::new(str::from_utf8(bytes.as_slice()).unwrap_or(""), kind);
+    let is_normal_text = text.normalize(alloc)?.as_str().as_bytes() == normal.as_slice();
+    Ok(is_normal && is_normal_text && meets_behind!(path, count) && meets_behind!(text, count))
 }
 
 #[test]
