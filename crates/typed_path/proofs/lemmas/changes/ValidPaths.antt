@@ -12,14 +12,14 @@ use Rattle.typed_path.specs.declared.errors.CheckedPathError.TheVariants.{Invali
 use Rattle.typed_path.specs.declared.scan.cursor.Begin.TheVariants.{Body}
 use Rattle.typed_path.specs.declared.scan.separators.Separators.TheVariants.{Either}
 use Rattle.typed_path.specs.components.{windows, dot, slash, backslash, colon, question, is_separator, is_dot, is_dot_dot, root_text, Kind, prefix, root, current, parent, normal, kinds, parts, Placed, body, later_body, current_part, root_part, parent_part, name_part, parts_of, prefix_of, after_mark, after_two, drive, is_drive_letter, to_upper}
-use Rattle.std.specs.Slice.Scan.{HoldsNowhere, HoldsSomewhere}
+use Rattle.std.specs.Slice.Scan.{HoldsNowhere}
 use Rattle.typed_path.specs.scan.{stands_at, IsFirstOf}
 use Rattle.typed_path.specs.queries.{is_reserved, is_valid, is_valid_name}
 use Rattle.typed_path.specs.changes.{is_in, fault, fault_behind, offence, is_bare_device, is_numbered_device, is_device, is_stray, begins_like_device, may_end_stem, begins_with_device, has_device_behind, has_device, dot_pair_at, has_dot_pair, is_forbidden_or, has_stray_of, stray_of_at, begins_with_separator, has_second_colon, begins_with_nul_or_dot_pair, has_no_nul_or_dot_pair}
 use Rattle.typed_path.proofs.lemmas.components.Segments.{pieces, first_parts, later_parts, body_parts, parts-body, body_from-append, body_from-separator}
 use Rattle.typed_path.proofs.lemmas.queries.ValidNames.{reserved-device, one_of_two, valid-found}
 use Rattle.typed_path.proofs.lemmas.changes.Faults.{parts_of-none}
-use Rattle.typed_path.proofs.lemmas.scan.Searches.{any-told, any-somewhere}
+use Rattle.typed_path.proofs.lemmas.scan.Searches.{any-told}
 
 -- ---- what devices begin with
 
@@ -304,11 +304,6 @@ nowhere-dots (a ∷ b ∷ bytes) none =
 pub nowhere-strays : (strays : Option (ℕ × ℕ)) (text : List ℕ) → HoldsNowhere (stray_of_at strays text) 0 (length text) → has_stray_of strays text ≡ false
 nowhere-strays None text none = refl
 nowhere-strays (Some pair) text none = sym (any-told (is_forbidden_or pair) text 0 (length text) false none (λ k below. absurd (omega (arith, below))) refl)
-
--- and where they stand in a part of it they are
-pub somewhere-strays : (strays : Option (ℕ × ℕ)) (text : List ℕ) (from to : ℕ) → to ≤ length text → HoldsSomewhere (stray_of_at strays text) from to → has_stray_of strays text ≡ true
-somewhere-strays None text from to within some = absurd (true≢false (sym some.3))
-somewhere-strays (Some pair) text from to within some = any-somewhere (is_forbidden_or pair) text from to within some
 
 -- a byte put before the first of many pieces, the text of which begins with a byte
 put_onto : (x y : ℕ) (separates : Bool) (ps : List (List ℕ)) → (x == dot && y == dot) ≡ false

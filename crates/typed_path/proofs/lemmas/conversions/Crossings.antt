@@ -1,5 +1,5 @@
 -- Components of another dialect pushed one by one, and names of Unix that are names of Windows too.
-use Rattle.std.proofs.Common.{All, ◌||◌, true≢false, ◌≡◌, ℕ, List, [], ◌∷◌, ◌++◌, Some, refl, sym, ap, ◌∙◌, ◌≤◌, ◌+◌, ◌-◌, map, length, take, drop, slice_range, subst, length-append, length-take-le, arith, append_assoc, ◌==◌, ◌&&◌, Bool, true, false, not, if◌then◌else◌, Option, None, Ok, Err, Result, IsErrAnd, take_all, length-drop}
+use Rattle.std.proofs.Common.{true≢false, ◌≡◌, ℕ, List, [], ◌∷◌, ◌++◌, Some, refl, sym, ap, ◌∙◌, ◌≤◌, ◌+◌, ◌-◌, map, length, take, drop, slice_range, subst, length-append, length-take-le, arith, append_assoc, ◌==◌, ◌&&◌, Bool, true, false, not, if◌then◌else◌, Option, None, Ok, Err, Result, IsErrAnd, take_all, length-drop}
 use Rattle.std.proofs.Math.Seq.{drop-append_seam, take-append_seam}
 use Rattle.std.proofs.lemmas.List.{drop-take, map-append, take-append-drop}
 use Rattle.std.proofs.lemmas.List.Sums.{fold-append}
@@ -13,17 +13,16 @@ use Rattle.typed_path.specs.declared.errors.CheckedPathError.{CheckedPathError}
 use Rattle.typed_path.specs.declared.scan.separators.Separators.TheVariants.{Slash, Either}
 use Rattle.typed_path.specs.declared.errors.CheckedPathError.TheVariants.{InvalidFilename}
 use Rattle.typed_path.specs.changes.{is_forbidden, is_forbidden_or, refusal, push, push_all, push_windows, FitsEach, fault, fault_behind}
-use Rattle.typed_path.specs.components.{slash, colon, question, is_empty, is_dot, is_dot_dot, Dialect, windows, backslash, is_separator, unix, Part, Kind, prefix, normal, kinds, parts_of}
-use Rattle.typed_path.specs.conversions.{AllowsCrossing, same_dialect, crossed, crossing_fault, push_unless, push_checked_each, crossed_all, converted_checked}
+use Rattle.typed_path.specs.components.{slash, colon, question, Dialect, windows, backslash, is_separator, unix, Part, Kind, prefix, normal, kinds, parts_of}
+use Rattle.typed_path.specs.conversions.{crossed, crossing_fault, push_unless, push_checked_each, crossed_all, converted_checked}
 use Rattle.typed_path.specs.queries.{is_disallowed, has_allowed_bytes, kind_has_allowed_bytes, have_allowed_bytes, is_reserved, is_valid_name, is_valid_kind, is_valid}
 use Rattle.typed_path.specs.promises.{lack_backslash, CrossesWhereAllowed}
 use Rattle.typed_path.proofs.lemmas.lists.Lists.{IsUnseparated}
-use Rattle.typed_path.proofs.lemmas.components.Segments.{pieces, IsCleanName, IsWritten, IsWrittenPart, body_parts, body_parts-read, each-written}
-use Rattle.typed_path.proofs.lemmas.components.WindowsNames.{fault_name, IsPlain, allowed-plain, plain-read}
+use Rattle.typed_path.proofs.lemmas.components.Segments.{IsCleanName, IsWritten, IsWrittenPart, body_parts, body_parts-read, each-written}
+use Rattle.typed_path.proofs.lemmas.components.WindowsNames.{IsPlain, allowed-plain, plain-read}
 use Rattle.typed_path.proofs.lemmas.changes.Joins.{body_parts-name}
 use Rattle.typed_path.proofs.lemmas.changes.Faults.{faultless}
 use Rattle.typed_path.proofs.lemmas.promises.UnixContained.{parts_of-unix}
-use Rattle.typed_path.proofs.lemmas.queries.FileNames.{allowed-pieces, allowed-kinds, allowed-first_parts}
 use Rattle.typed_path.specs.scan.{is_one_of}
 
 -- Checked pushes of components in a row, some of them first.
@@ -239,14 +238,6 @@ crosses_where_allowed t lacks = (
   λ valid. ap is_ok (push_checked_each-valid [] (parts_of unix t) (parts_of-written t) lacks valid),
 )
 
--- the names of a Unix text are allowed on Windows, where each byte that is not allowed there is a separator of Unix
-pub allowed-unix : (text : List ℕ) → All (λ b. is_disallowed windows b ≡ true → is_separator Slash b ≡ true) text → AllByRecursion (λ k. kind_has_allowed_bytes windows k ≡ true) (kinds (parts_of unix text))
-allowed-unix text h = subst (λ ps. AllByRecursion (λ k. kind_has_allowed_bytes windows k ≡ true) (kinds ps)) (sym (parts_of-unix text)) (by text h)
-  where
-    by : (t : List ℕ) → All (λ b. is_disallowed windows b ≡ true → is_separator Slash b ≡ true) t → AllByRecursion (λ k. kind_has_allowed_bytes windows k ≡ true) (kinds (body_parts Slash t))
-    by [] h = tt
-    by (b ∷ bs) h = allowed-kinds windows (body_parts Slash (b ∷ bs)) (allowed-first_parts Slash windows (pieces Slash (b ∷ bs)) (allowed-pieces Slash windows (b ∷ bs) h))
-
 -- a byte that is no `\` and not forbidden is one that Windows allows, or `/`
 pub free-byte : (b : ℕ) → is_forbidden_or (backslash, backslash) b ≡ false → is_disallowed windows b ≡ true → is_separator Slash b ≡ true
 free-byte b free disallowed = by (b == slash) refl
@@ -269,37 +260,3 @@ free-byte b free disallowed = by (b == slash) refl
     by : (c : Bool) → (b == slash) ≡ c → c ≡ true
     by true e = refl
     by false e = absurd (true≢false (sym disallowed ∙ none e))
-
-free-bytes : (text : List ℕ) → list_any (is_forbidden_or (backslash, backslash)) text ≡ false → All (λ b. is_disallowed windows b ≡ true → is_separator Slash b ≡ true) text
-free-bytes [] free = All-nil _
-free-bytes (b ∷ bs) free =
-    let parts = or_parts (is_forbidden_or (backslash, backslash) b) (list_any (is_forbidden_or (backslash, backslash)) bs) free in
-    All-cons (λ c. is_disallowed windows c ≡ true → is_separator Slash c ≡ true) b bs (free-byte b parts.0) (free-bytes bs parts.1)
-
--- so one look at a Unix text tells that its names are allowed on Windows
-pub allows-crossing : (d e : Dialect) (text : List ℕ) → same_dialect d unix ≡ true → same_dialect e windows ≡ true → list_any (is_forbidden_or (backslash, backslash)) text ≡ false
-    → AllowsCrossing e (kinds (parts_of d text))
-allows-crossing unix windows text from to free = allowed-unix text (free-bytes text free)
-allows-crossing windows e text from to free = cc
-allows-crossing unix unix text from to free = cc
-
--- a name that is allowed and stands for no device is not refused as it crosses
-pub free-name : (e : Dialect) (k : Kind) (text : List ℕ) → k ≡ normal text → (is_empty text || is_dot text || is_dot_dot text) ≡ false → is_reserved e text ≡ false
-    → AllowsCrossing e (k ∷ []) → crossing_fault e (record { kind = k; text = text }) ≡ None
-free-name e k text named no_dots device allows =
-    let own = subst (λ l. AllowsCrossing e (l ∷ [])) named allows in
-    subst (λ l. crossing_fault e (record { kind = l; text = text }) ≡ None) (sym named) (fault_name e text no_dots (rw (own.0, device) refl))
-
--- of components that are allowed, the first one and the others are
-pub allows-taken : (e : Dialect) (p : Part) (qs ps : List Part) → ps ≡ (p ∷ []) ++ qs → AllowsCrossing e (kinds ps) → AllowsCrossing e (p.kind ∷ []) × AllowsCrossing e (kinds qs)
-allows-taken e p qs ps split allows =
-    let own = subst (λ rs. AllowsCrossing e (kinds rs)) split allows in
-    ((own.0, tt), own.1)
-
--- what is left behind the first of them
-pub allows-left : (e : Dialect) (first qs ps : List Part) → ps ≡ first ++ qs → AllowsCrossing e (kinds ps) → AllowsCrossing e (kinds qs)
-allows-left e first qs ps split allows = by first (subst (λ rs. AllowsCrossing e (kinds rs)) split allows)
-  where
-    by : (rs : List Part) → AllowsCrossing e (kinds (rs ++ qs)) → AllowsCrossing e (kinds qs)
-    by [] own = own
-    by (r ∷ rs) own = by rs own.1

@@ -1,10 +1,9 @@
 -- Two Windows texts of which one at least has a prefix, in the order of these or of what stands behind them.
-use Rattle.std.proofs.Common.{◌≡◌, ℕ, ◌==◌, List, ◌∷◌, [], ◌++◌, Bool, true, false, ◌&&◌, cond, drop, Ordering, Less, Equal, Greater, refl, sym, ap, ap₂, ◌∙◌, eqb-true, Option, Some, None}
+use Rattle.std.proofs.Common.{◌≡◌, ℕ, ◌==◌, List, ◌∷◌, [], ◌++◌, Bool, true, false, cond, drop, Ordering, refl, sym, ap, ap₂, ◌∙◌, eqb-true, Option, Some, None}
 use Rattle.std.specs.List.{before_first}
 use Rattle.std.specs.Option.{option_eq}
-use Rattle.std.specs.Ordering.{nat_cmp, is_eq, is_ne, ordering_then}
-use Rattle.std.proofs.lemmas.Map.Text.{is_eq-slice_cmp}
-use Rattle.typed_path.specs.components.{windows, separators, kinds, parts, prefix, disk, Found, found, prefix_of, comps, comps_behind, IsPartedDrive, Placed, body, component, is_separator, is_empty, is_dot, is_dot_dot, root_text, root_part, current_part, parent_part, name_part}
+use Rattle.std.specs.Ordering.{is_ne}
+use Rattle.typed_path.specs.components.{windows, separators, kinds, parts, prefix, Found, prefix_of, comps, comps_behind, Placed, body, component, is_separator, is_empty, is_dot, is_dot_dot, root_text, root_part, current_part, parent_part, name_part}
 use Rattle.typed_path.specs.declared.scan.separators.Separators.{Separators}
 use Rattle.typed_path.specs.declared.scan.cursor.Begin.TheVariants.{Body}
 use Rattle.typed_path.specs.queries.{first_prefix, behind_prefix}
@@ -56,33 +55,9 @@ bare-found u none = sym (ap (λ r. first_prefix (kinds (parts (comps_behind (sep
 pub behind-bare : (u : List ℕ) (cs : List Placed) → prefix_of windows u ≡ None → cs ≡ comps windows u → cs ≡ behind_prefix (comps windows u)
 behind-bare u cs none e = e ∙ sym (bare (comps windows u) (bare-found u none))
 
--- drives are in the order of their letters
-pub drives-cmp : (a b : ℕ) → kind_cmp (prefix (disk a)) (prefix (disk b)) ≡ nat_cmp a b
-drives-cmp a b = by (nat_cmp a b)
-  where
-    by : (o : Ordering) → ordering_then (ordering_then o Equal) Equal ≡ o
-    by Less = refl
-    by Equal = refl
-    by Greater = refl
-
--- and different ones differ
-drives-differ : (a b : ℕ) → (a == b) ≡ false → is_ne (kind_cmp (prefix (disk a)) (prefix (disk b))) ≡ true
-drives-differ a b h =
-    ap is_ne (drives-cmp a b) ∙ by (nat_cmp a b) (is_eq-slice_cmp (a ∷ []) (b ∷ []) ∙ ap (λ e. e && true) h)
-  where
-    by : (o : Ordering) → is_eq (ordering_then o Equal) ≡ false → is_ne o ≡ true
-    by Less h = refl
-    by Equal h = cc
-    by Greater h = refl
-
 -- drives that are not told apart are one
 pub same-drive : (d e : Option ℕ) → option_eq (λ x y. x == y) d e ≡ true → d ≡ e
 same-drive None None same = refl
 same-drive None (Some e) same = cc
 same-drive (Some d) None same = cc
 same-drive (Some d) (Some e) same = ap Some (eqb-true d e same)
-
--- two texts with different drives are in the order of these
-pub drives-order : (t u : List ℕ) (d e : ℕ) (v w : List ℕ) → IsPartedDrive t (Some d) v → IsPartedDrive u (Some e) w → (d == e) ≡ false → path_cmp windows t u ≡ nat_cmp d e
-drives-order t u d e v w own other differ =
-    prefixed-order t u (found (disk d) 2) (found (disk e) 2) (nat_cmp d e) own.1 other.1 (drives-cmp d e) (ap is_ne (sym (drives-cmp d e)) ∙ drives-differ d e differ)

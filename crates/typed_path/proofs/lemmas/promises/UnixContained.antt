@@ -62,15 +62,6 @@ lies_below d base path joined accepted stays contained kept =
     let found = accepted-names d path accepted in
     record { names = found.names; leads = contained (stays kept) ∙ ap (λ ks. place d base ++ ks) found.are }
 
--- a path below one that is below a base is below the base
-pub below-below : (d : Dialect) (base middle path : List ℕ) → IsBelow d base middle → IsBelow d middle path → IsBelow d base path
-below-below d base middle path outer inner = record {
-  names = outer.names ++ inner.names;
-  leads = inner.leads ∙ ap (λ ks. ks ++ map normal inner.names) outer.leads
-      ∙ append_assoc (place d base) (map normal outer.names) (map normal inner.names)
-      ∙ ap (λ ks. place d base ++ ks) (sym (map-append normal outer.names inner.names));
-}
-
 -- The normal text of a Unix path reads as what its list resolves to, is its own normal text, and is one text for each such list.
 
 -- the components of a Unix text, read off its pieces

@@ -8,9 +8,8 @@ use Rattle.std.proofs.lemmas.Str.{IsUtf8-from_is_utf8}
 use Rattle.typed_path.specs.declared.scan.separators.Separators.{Separators}
 use Rattle.typed_path.specs.declared.scan.separators.Separators.TheVariants.{Slash}
 use Rattle.typed_path.specs.components.{Dialect, unix, windows, separators, root_text, Part, Prefix, prefix_part, root_part, current_part, parent_part, name_part, Placed, parts, Found, prefix_of, comps_behind, parts_of, comps}
-use Rattle.typed_path.specs.queries.{is_prefix, prefix_among}
-use Rattle.typed_path.specs.scan.{but_last, first_part, last_part}
-use Rattle.typed_path.specs.texts.{is_text_kind, is_text_prefix, is_text_part, has_text_names, have_text_names}
+use Rattle.typed_path.specs.scan.{but_last, last_part}
+use Rattle.typed_path.specs.texts.{is_text_kind, is_text_prefix, has_text_names, have_text_names}
 use Rattle.typed_path.proofs.lemmas.components.WrittenForms.{WritesBody, written-body}
 use Rattle.typed_path.proofs.lemmas.scan.Steps.{last_pushed, last_part-push}
 use Rattle.typed_path.proofs.lemmas.texts.TextCuts.{prefix-names}
@@ -24,9 +23,6 @@ text_kind-named p named = by (is_utf8 p.text)
     by : (b : Bool) → not b || is_text_kind p.kind ≡ true
     by true = named
     by false = refl
-
-pub text_part-named : (p : Part) → is_text_part p ≡ true → has_text_names p ≡ true
-text_part-named p is = text_kind-named p (and_parts (is_utf8 p.text) _ is).1
 
 -- a name is its own text
 name-named : (name : List ℕ) → has_text_names (name_part name) ≡ true
@@ -99,11 +95,6 @@ named-take (suc n) (c ∷ cs) all = let both = and_parts (has_text_names c.part)
 pub named-back : (cs : List Placed) → have_text_names (parts cs) ≡ true → have_text_names (parts (but_last cs)) ≡ true
 named-back cs all = named-take (length cs - 1) cs all
 
--- so does each that is taken
-pub named-first_some : (p : Part) (cs : List Placed) → have_text_names (parts cs) ≡ true → Some p ≡ first_part cs → has_text_names p ≡ true
-named-first_some p [] all is = cc
-named-first_some p (c ∷ cs) all is = subst (λ q. has_text_names q ≡ true) (sym (same_Some _ _ is)) (and_parts (has_text_names c.part) (have_text_names (parts cs)) all).0
-
 named-end : (ps : List Part) (p : Part) → have_text_names (ps ++ p ∷ []) ≡ true → has_text_names p ≡ true
 named-end [] p all = (and_parts (has_text_names p) true all).0
 named-end (q ∷ ps) p all = named-end ps p (and_parts (has_text_names q) (have_text_names (ps ++ p ∷ [])) all).1
@@ -115,12 +106,3 @@ named-last_some p (c ∷ cs) all is =
     let split = map-append (λ d. d.part) (but_last (c ∷ cs)) (last.0 ∷ []) in
     let end = named-end (parts (but_last (c ∷ cs))) last.0.part (ap have_text_names (sym split) ∙ ap (λ ds. have_text_names (parts ds)) (sym last.1) ∙ all) in
     subst (λ q. has_text_names q ≡ true) (sym (same_Some _ _ (is ∙ ap last_part last.1 ∙ last_part-push (but_last (c ∷ cs)) last.0))) end
-
--- and the prefix that is among them
-pub named-prefix : (p : Part) (ps : List Part) → have_text_names ps ≡ true → Some p ≡ prefix_among ps → has_text_names p ≡ true
-named-prefix p [] all is = cc
-named-prefix p (q ∷ ps) all is = by (is_prefix q.kind) is
-  where
-    by : (b : Bool) → Some p ≡ (if b then Some q else None) → has_text_names p ≡ true
-    by true is = subst (λ r. has_text_names r ≡ true) (sym (same_Some _ _ is)) (and_parts (has_text_names q) (have_text_names ps) all).0
-    by false is = cc
