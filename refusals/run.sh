@@ -49,12 +49,13 @@ refused() {
 }
 
 # Refuses a program of calls each of its requests, or each from there on: all lines say that it was
-# done, or refused.
+# done, or refused. Where none is refused it makes as many as are noted.
 sweep_calls() {
     local program=$1 way=$2 total at
     refused "$program" > "$room/log"
     total=$(< "$room/count")
     { cat ../crates/typed_path_refusals/stdout; echo "status 0"; } | cmp - "$room/log" >> "$room/wrong" 2>&1
+    [[ $total -eq $(< requests) ]] || echo "$total requests for memory, where $(< requests) are noted in requests" >> "$room/wrong"
     for ((at = 1; at <= total; at++)); do
         refused "$program" "$way=$at"
     done > "$room/log" 2>&1

@@ -5,6 +5,7 @@ mod calls;
 mod copies;
 mod ended;
 mod free;
+mod lends;
 mod lists;
 mod rows;
 
@@ -15,6 +16,7 @@ use calls::{
 use copies::{copy_bytes, copy_text, copy_typed, copy_typed_text};
 use ended::Ended;
 use free::{free_bytes, free_text, free_typed, free_typed_text};
+use lends::{lend_bytes, lend_text, lend_typed, lend_typed_text};
 use lists::{
     collect_bytes, collect_text, extend_bytes, extend_nothing, extend_text, operate, push_text,
     read_both,
@@ -94,7 +96,8 @@ fn tell_bytes<T: Encoding>(
         tell(rt, family, call, ended.unwrap_or(Ended::Refused))?;
     }
     copy_bytes::<T>(rt, alloc, family, table.copied)?;
-    free_bytes::<T>(rt, alloc, family, table.free)
+    free_bytes::<T>(rt, alloc, family, table.free)?;
+    lend_bytes::<T>(rt, alloc, family, table.free)
 }
 
 /// Tells the calls of paths of text.
@@ -115,7 +118,8 @@ fn tell_text<T: Utf8Encoding>(
         tell(rt, family, call, ended.unwrap_or(Ended::Refused))?;
     }
     copy_text::<T>(rt, alloc, family, table.copied)?;
-    free_text::<T>(rt, alloc, family, table.free)
+    free_text::<T>(rt, alloc, family, table.free)?;
+    lend_text::<T>(rt, alloc, family, table.free)
 }
 
 /// Tells the calls of paths of either dialect.
@@ -130,7 +134,8 @@ fn tell_typed(
         change_typed(alloc, kind, call, row, room),
         make_typed(alloc, kind, call, row).unwrap_or(Ended::Refused));
     copy_typed(rt, alloc, family, table.copied.0)?;
-    free_typed(rt, alloc, family, table.free)
+    free_typed(rt, alloc, family, table.free)?;
+    lend_typed(rt, alloc, family, table.free)
 }
 
 /// Tells the calls of paths of text of either dialect.
@@ -145,7 +150,8 @@ fn tell_typed_text(
         change_typed_text(alloc, kind, call, row, room),
         make_typed_text(alloc, kind, call, row).unwrap_or(Ended::Refused));
     copy_typed_text(rt, alloc, family, table.copied.0)?;
-    free_typed_text(rt, alloc, family, table.free)
+    free_typed_text(rt, alloc, family, table.free)?;
+    lend_typed_text(rt, alloc, family, table.free)
 }
 
 fn main(rt: HostRuntime) -> io::Result<()> {
