@@ -1,9 +1,9 @@
 -- What changes a path.
 -- Faults: a path judged component by component, and what holds of one that is not refused
--- ValidPaths: paths of Windows of which looks at their bytes tell that they have no fault, or which
+-- ValidPaths: paths of Windows of which looks at their bytes tell that they have no fault, or that a name is it
 -- MayBegins: marks of separators behind which a device may stand, and the search by them
--- Joins: a text put behind another, a list merged into another, and lists spelled and read again
--- WindowsPushes: what a push of Windows asks of its base, and what stands behind a prefix that is written anew
+-- Joins: how a text put behind another is read, a list merged into another, and lists spelled and read again
+-- WindowsPushes: what a push of Windows asks of its base, which paths it puts behind that, and what stands behind a prefix that is written anew
 -- SpelledTexts: a text of Windows that is spelled as it is read, and what a push writes anew
 -- NamePieces: texts of which looks at their bytes tell that all their pieces are names, and how such a text is merged
 -- MergedInPlace: components as they are read, merged behind a prefix, and read again

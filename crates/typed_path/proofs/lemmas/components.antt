@@ -1,5 +1,5 @@
 -- What a text is made of.
--- Segments: segments, a body taken apart at a separator, the components read off its pieces, and what a clean text begins with
+-- Segments: segments, a body taken apart at a separator, the components read off its pieces, and the first component of a clean text
 -- Prefixes: the prefix of a Windows text: its separators, how many bytes it takes, its marks and what it was read from
 -- Cuts: where the components of a text begin and end, how many they are, and what is read before and behind such a place
 -- PrefixCuts: the names of a prefix, a Windows text that is cut behind its prefix, and how many bytes a prefix takes of it

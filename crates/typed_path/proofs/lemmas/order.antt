@@ -2,7 +2,7 @@
 -- Comparisons: paths compared and fed to a hasher, component by component, with their prefixes first
 -- SharedNames: two texts that begin alike and go on with different names
 -- DifferentPrefixes: two Windows texts of which one at least has a prefix, in the order of these or of what stands behind them
--- Fronts: two texts of which one begins with a dot and the other with a name that begins later, or both with dots of another rank, in the order of these
+-- Fronts: two texts of which one begins with a dot and the other with a name that begins later, or of which the first segments are of two ranks, `.`, `..` and names, in the order of these
 -- Maps: what a map whose keys are paths has once one is put in or taken out
 pub mod Comparisons
 pub mod DifferentPrefixes

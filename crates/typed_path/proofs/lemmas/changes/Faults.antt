@@ -4,7 +4,6 @@ use Rattle.std.specs.List.{count_by, list_any, slice_split, onto_first, starts_w
 use Rattle.std.specs.Option.{option_or}
 use Rattle.std.specs.Slice.Scan.{HoldsNowhere}
 use Rattle.std.proofs.lemmas.List.Sums.{sum_by_push}
-use Rattle.std.proofs.lemmas.Option.{same_Some}
 use Rattle.std.proofs.lemmas.Bool.{cases_lt, lt-leb, and_parts, false_from_ne_true, or_parts, not-true, eqb-false}
 use Rattle.std.proofs.lemmas.List.Splits.{slice_split-cons_yes}
 use Rattle.std.proofs.lemmas.List.{get_or_past, map-append}
@@ -12,7 +11,7 @@ use Rattle.typed_path.specs.declared.errors.CheckedPathError.TheVariants.{Invali
 use Rattle.typed_path.specs.declared.scan.separators.Separators.{Separators}
 use Rattle.typed_path.specs.declared.scan.separators.Separators.TheVariants.{Either, Backslash, Slash}
 use Rattle.typed_path.specs.components.{Dialect, windows, dot, is_separator, is_verbatim, root_text, separators, unix, slash, Kind, prefix, root, current, parent, normal, is_name, is_parent, Part, Placed, kinds, parts, current_part, root_part, parent_part, name_part, Prefix, prefix_part, Found, prefix_of, is_dot, parts_of, is_dot_dot}
-use Rattle.typed_path.specs.scan.{first_part, TellsWhether}
+use Rattle.typed_path.specs.scan.{TellsWhether}
 use Rattle.typed_path.specs.queries.{is_valid_name, begins_with_root, has_prefix, has_any_verbatim_prefix, is_disallowed, is_disk}
 use Rattle.typed_path.specs.changes.{fault_behind, fault_at, fault, offence, merged, spelled, ended_windows, push, begins_with_nul_or_dot_pair, has_no_nul_or_dot_pair, is_nul_or_dot_pair, nul_or_dot_pair_at}
 use Rattle.typed_path.specs.places.{overdraws, stays, resolve, with_implied_root}
@@ -73,11 +72,6 @@ fault_at-relative d depth (prefix p ∷ ks) e = refl
 fault_at-relative d depth (current ∷ ks) e = refl
 fault_at-relative d depth (parent ∷ ks) e = refl
 fault_at-relative d depth (normal name ∷ ks) e = refl
-
--- the first component of a list, and what stands behind it
-pub taken-first : (cs : List Placed) (p : Part) → Some p ≡ first_part cs → (kinds (parts cs) ≡ p.kind ∷ kinds (parts (drop 1 cs))) × (length cs ≡ 1 + length (drop 1 cs))
-taken-first [] p e = cc
-taken-first (c ∷ cs) p e = (ap (λ q. q.kind ∷ kinds (parts cs)) (sym (same_Some _ _ e)), omega arith)
 
 -- A path of Windows that is not refused has no prefix and no root.
 

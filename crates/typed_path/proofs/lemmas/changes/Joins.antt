@@ -1,4 +1,4 @@
--- A text put behind another, a list merged into another, and lists spelled and read again.
+-- How a text put behind another is read, a list merged into another, and lists spelled and read again.
 use Rattle.std.proofs.Common.{◌≡◌, ℕ, ◌+◌, ◌-◌, ◌<◌, ◌==◌, true, false, List, [], ◌∷◌, ◌++◌, length, take, slice_index, refl, sym, ap, ◌∙◌, append_assoc, append-nil, take_all, le_refl, subst, eqb-true, arith, ◌||◌, Bool, if◌then◌else◌, zero, suc, ap₂, ne_eqb, not, ◌&&◌, cond, length-append, eq-eqb}
 use Rattle.std.proofs.lemmas.List.{take_more}
 use Rattle.std.proofs.lemmas.List.Splits.{slice_split_none, slice_split-cons_yes}

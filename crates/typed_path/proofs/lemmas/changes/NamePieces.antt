@@ -3,8 +3,7 @@ use Rattle.std.proofs.Common.{◌≡◌, ℕ, zero, suc, ◌+◌, ◌-◌, ◌<�
 use Rattle.std.specs.List.{list_all, slice_split, onto_first, AllByRecursion}
 use Rattle.std.specs.Slice.Scan.{HoldsNowhere}
 use Rattle.std.proofs.lemmas.Bool.{and_parts, or_parts, both_ways, cases_lt}
-use Rattle.std.proofs.lemmas.List.{drop-append-le, take_more, take_at, drop_at}
-use Rattle.std.proofs.lemmas.List.Concat.{flat_map-append}
+use Rattle.std.proofs.lemmas.List.{drop-append-le, take_at, drop_at}
 use Rattle.std.proofs.lemmas.List.Splits.{slice_split-cons_yes, slice_split-cons_no}
 use Rattle.typed_path.specs.declared.scan.separators.Separators.{Separators}
 use Rattle.typed_path.specs.declared.scan.separators.Separators.TheVariants.{Backslash, Either}
@@ -12,7 +11,7 @@ use Rattle.typed_path.specs.components.{windows, dot, backslash, is_separator, i
 use Rattle.typed_path.specs.queries.{has_prefix}
 use Rattle.typed_path.specs.scan.{is_one_of, stands_at, turned}
 use Rattle.typed_path.specs.changes.{AreNamesBefore, begins_no_name, begins_no_name_at, is_component, is_name_piece, merged, names_behind, names_of, HoldsNames, IsStanding, Stands, jointed}
-use Rattle.typed_path.proofs.lemmas.lists.Lists.{IsUnseparated, slice_split-some, slice_split-append, slice_split-unseparated}
+use Rattle.typed_path.proofs.lemmas.lists.Lists.{IsUnseparated, slice_split-some, slice_split-unseparated}
 use Rattle.typed_path.proofs.lemmas.components.Segments.{pieces, first_part, later_part, first_parts, later_parts, named_part, parts-later_body}
 use Rattle.typed_path.proofs.lemmas.changes.Faults.{parts_of-none, parts_of-some}
 use Rattle.typed_path.proofs.lemmas.changes.Joins.{backslash-free}
@@ -231,18 +230,12 @@ names-components s text e = sym (ap (λ p. list_all (is_component s) (slice_spli
 
 -- ---- such a path, merged into what stands behind a prefix
 
--- a `.` in front of other pieces vanishes as they are merged, and so does an empty piece at the end
-pub later-dot : (mark : ℕ) (rest : List ℕ) → is_separator Either mark ≡ true → parts (later_body Either 0 rest) ≡ parts (later_body Either 0 (dot ∷ mark ∷ rest))
+-- a `.` in front of other pieces vanishes as they are merged
+later-dot : (mark : ℕ) (rest : List ℕ) → is_separator Either mark ≡ true → parts (later_body Either 0 rest) ≡ parts (later_body Either 0 (dot ∷ mark ∷ rest))
 later-dot mark rest is =
     parts-later_body Either 0 rest
     ∙ sym (ap (later_parts Either) (slice_split-cons_no (is_separator Either) dot (mark ∷ rest) refl ∙ ap (onto_first dot) (slice_split-cons_yes (is_separator Either) mark rest is)))
     ∙ sym (parts-later_body Either 0 (dot ∷ mark ∷ rest))
-
-pub later-end : (s : Separators) (mark : ℕ) (rest : List ℕ) → is_separator s mark ≡ true → parts (later_body s 0 rest) ≡ parts (later_body s 0 (rest ++ mark ∷ []))
-later-end s mark rest is =
-    parts-later_body s 0 rest
-    ∙ sym (ap (later_parts s) (slice_split-append (is_separator s) rest mark [] is) ∙ flat_map-append (later_part s) (slice_split (is_separator s) rest) ([] ∷ []) ∙ append-nil (later_parts s (slice_split (is_separator s) rest)))
-    ∙ sym (parts-later_body s 0 (rest ++ mark ∷ []))
 
 pub dot-cut : (path : List ℕ) → 2 ≤ length path → (slice_index path 0 == dot && is_separator Either (slice_index path 1)) ≡ true → parts (later_body Either 0 (take (length path - 2) (drop 2 path))) ≡ parts (later_body Either 0 path)
 dot-cut [] long is = absurd (omega (arith, long))
@@ -250,13 +243,6 @@ dot-cut (a ∷ []) long is = absurd (omega (arith, long))
 dot-cut (a ∷ b ∷ rest) long is =
     let each = and_parts (a == dot) (is_separator Either b) is in
     ap (λ t. parts (later_body Either 0 t)) (take_all (length (a ∷ b ∷ rest) - 2) rest (omega arith)) ∙ later-dot b rest each.1 ∙ ap (λ x. parts (later_body Either 0 (x ∷ b ∷ rest))) (sym (eqb-true a dot each.0))
-
-pub end-cut : (s : Separators) (path : List ℕ) → 1 ≤ length path → is_separator s (slice_index path (length path - 1)) ≡ true → parts (later_body s 0 (take (length path - 1) path)) ≡ parts (later_body s 0 path)
-end-cut s path long is =
-    let before = length path - 1 in
-    let whole : before + 1 ≡ length path = omega (arith, long) in
-    later-end s (slice_index path before) (take before path) is
-    ∙ ap (λ t. parts (later_body s 0 t)) (sym (take_more path before 0 (omega (arith, long))) ∙ take_all (before + 1) path (omega (arith, whole)))
 
 -- a first piece that is not empty is merged as a later one
 merged-first : (ps qs : List Part) (piece : List ℕ) → (length piece == 0) ≡ false → merged ps (first_part Either piece ∷ qs) ≡ merged ps (later_part Either piece ++ qs)

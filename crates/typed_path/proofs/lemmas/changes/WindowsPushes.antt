@@ -1,4 +1,4 @@
--- What a push of Windows asks of its base, and what stands behind a prefix that is written anew.
+-- What a push of Windows asks of its base, which paths it puts behind that, and what stands behind a prefix that is written anew.
 use Rattle.std.proofs.Common.{ne_eqb, ◌≡◌, ℕ, ◌+◌, ◌-◌, ◌<◌, ◌≤◌, ◌==◌, ◌||◌, Bool, true, false, if◌then◌else◌, List, [], ◌∷◌, ◌++◌, length, take, drop, slice_index, Option, Some, None, is_some, refl, sym, ap, subst, ◌∙◌, append-nil, arith, suc, not, append_assoc, length-append, option_and_then, ◌&&◌, slice_range, eq-eqb, eqb-true, length-drop, length-take-le, take-take}
 use Rattle.std.specs.Option.{option_or}
 use Rattle.std.proofs.lemmas.Bool.{false_from_ne_true, both_ways}
@@ -228,7 +228,7 @@ push-relative base [] some e f g = cc
 push-relative base (b ∷ path) some e f g = rw (e, f, g) refl
 
 -- what begins with no separator of Windows and with no drive is put behind
-pub put_behind-first : (b : ℕ) (bs : List ℕ) → is_separator Either b ≡ false → drive (b ∷ bs) ≡ None → IsPutBehind (b ∷ bs)
+put_behind-first : (b : ℕ) (bs : List ℕ) → is_separator Either b ≡ false → drive (b ∷ bs) ≡ None → IsPutBehind (b ∷ bs)
 put_behind-first b bs plain no_drive = record {
   filled = filled bs;
   unprefixed = ap (λ ps. has_prefix (kinds ps)) read ∙ (first (slice_split (is_separator Either) bs)).0;

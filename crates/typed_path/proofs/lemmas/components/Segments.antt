@@ -1,4 +1,4 @@
--- Segments, a body taken apart at a separator, the components read off its pieces, and what a clean text begins with.
+-- Segments, a body taken apart at a separator, the components read off its pieces, and the first component of a clean text.
 use Rattle.std.proofs.Common.{◌≡◌, ℕ, ◌==◌, Bool, true, false, cond, List, [], ◌∷◌, length, refl, eqb-true, ◌+◌, ◌-◌, ◌<◌, ◌≤◌, ◌++◌, not, ◌&&◌, ◌||◌, eqb, take, drop, get_or, slice_range, sym, ap, ◌∙◌, add-zero, arith, All, inl, inr, append-nil, append_assoc, if◌then◌else◌, map, Option, Some, None, flat_map, ap₂, drop-drop, take_all, length-take-le, length-take, length-drop}
 use Rattle.std.specs.List.{slice_split, before_first, after_first, position_or_len, onto_first, AllByRecursion}
 use Rattle.std.proofs.lemmas.List.{drop-take, drop_more, drop_all, take-append-le, map-append}

@@ -1,4 +1,4 @@
--- Where a base of Windows leads with a faultless path behind it.
+-- Where a base of Windows leads with a faultless path behind it, and how a list is spelled behind a prefix.
 use Rattle.std.proofs.Common.{◌≡◌, ℕ, zero, suc, ◌+◌, ◌<◌, ◌≤◌, true, false, ◌⊎◌, inl, inr, List, [], ◌∷◌, ◌++◌, length, take, drop, refl, sym, ap, ◌∙◌, subst, append_assoc, arith, length-drop, ne_eqb, not, ◌&&◌, Bool, if◌then◌else◌, ap₂, append-nil, Some, None, length-append, length-take-le}
 use Rattle.std.proofs.Math.Seq.{drop-append-add, drop-append_seam, take-append_seam}
 use Rattle.std.proofs.lemmas.Bool.{both_ways, cases_lt, false_from_ne_true, and_parts}

@@ -1,8 +1,9 @@
--- The end of a text: what belongs to no component, and the last component.
-use Rattle.std.proofs.Common.{◌≡◌, ℕ, ◌+◌, ◌-◌, ◌<◌, Bool, true, false, not, ◌&&◌, ◌||◌, cond, eqb, ltb, List, [], ◌∷◌, ◌++◌, length, take, drop, refl, sym, ap, subst, ◌∙◌, append-nil, append_assoc, arith, inl, inr, ◌⊎◌, ◌==◌, option_map, ne_eqb, ltb-false, ltb-true, length-append, take_at, length-drop, take_all}
-use Rattle.std.specs.List.{after_last, suffix_len, position_or_len}
+-- The end of a text: what belongs to no component, the last component, and the text before it.
+use Rattle.std.proofs.Common.{◌≡◌, ℕ, ◌+◌, ◌-◌, ◌<◌, ◌≤◌, Bool, true, false, not, ◌&&◌, ◌||◌, cond, eqb, ltb, List, [], ◌∷◌, ◌++◌, length, take, drop, refl, sym, ap, subst, ◌∙◌, append-nil, append_assoc, arith, inl, inr, ◌⊎◌, ◌==◌, option_map, ne_eqb, ltb-false, ltb-true, length-append, take_at, length-drop, take_all, slice_index}
+use Rattle.std.specs.List.{after_last, suffix_len, position_or_len, slice_split}
 use Rattle.std.proofs.lemmas.Bool.{cases_lt, or_parts, or_right, and_from, not_from_false, or_cases, not_from_true}
-use Rattle.std.proofs.lemmas.List.{drop_all, nil_from_length}
+use Rattle.std.proofs.lemmas.List.{drop_all, nil_from_length, take_more}
+use Rattle.std.proofs.lemmas.List.Concat.{flat_map-append}
 use Rattle.std.proofs.lemmas.List.Splits.{slice_split_none}
 use Rattle.std.proofs.lemmas.List.Sums.{position_or_len_is}
 use Rattle.std.specs.Option.{unwrap_or}
@@ -10,10 +11,10 @@ use Rattle.typed_path.specs.declared.scan.separators.Separators.{Separators}
 use Rattle.typed_path.specs.declared.scan.cursor.Begin.{Begin}
 use Rattle.typed_path.specs.declared.scan.cursor.Begin.TheVariants.{Body, Inside}
 use Rattle.typed_path.specs.declared.scan.separators.Separators.TheVariants.{Slash, Backslash, Either}
-use Rattle.typed_path.specs.components.{is_separator, is_verbatim, dot, root_text, Placed, Part, end_of, current_part, parent_part, name_part, root_part, Segment, named, is_dot, later, later_body, component, first}
+use Rattle.typed_path.specs.components.{is_separator, is_verbatim, dot, root_text, Placed, Part, end_of, current_part, parent_part, name_part, root_part, Segment, named, is_dot, later, later_body, component, first, parts}
 use Rattle.typed_path.specs.scan.{body_from, is_clean, is_trimmed, counts, end_from}
-use Rattle.typed_path.proofs.lemmas.lists.Lists.{IsUnseparated, last_place, after_last-drop, behind_last-unseparated, cut_last, IsLastPlace}
-use Rattle.typed_path.proofs.lemmas.components.Segments.{body_from-append, body_from-separator, is_clean-append, is_clean-separator, later_body-separator, later-first, body_from-empty, body_from-first}
+use Rattle.typed_path.proofs.lemmas.lists.Lists.{IsUnseparated, last_place, after_last-drop, behind_last-unseparated, cut_last, IsLastPlace, slice_split-append}
+use Rattle.typed_path.proofs.lemmas.components.Segments.{body_from-append, body_from-separator, is_clean-append, is_clean-separator, later_body-separator, later-first, body_from-empty, body_from-first, later_part, later_parts, parts-later_body}
 use Rattle.typed_path.proofs.lemmas.scan.Steps.{last_of-push}
 
 -- The bytes at the end of a text that belong to no component.
@@ -102,6 +103,20 @@ trim_once s text h =
           let all : drop start text ≡ text = ap (λ n. drop n text) zero in
           cc
     ]
+
+-- a separator at the end adds no later component
+later-end : (s : Separators) (mark : ℕ) (rest : List ℕ) → is_separator s mark ≡ true → parts (later_body s 0 rest) ≡ parts (later_body s 0 (rest ++ mark ∷ []))
+later-end s mark rest is =
+    parts-later_body s 0 rest
+    ∙ sym (ap (later_parts s) (slice_split-append (is_separator s) rest mark [] is) ∙ flat_map-append (later_part s) (slice_split (is_separator s) rest) ([] ∷ []) ∙ append-nil (later_parts s (slice_split (is_separator s) rest)))
+    ∙ sym (parts-later_body s 0 (rest ++ mark ∷ []))
+
+pub end-cut : (s : Separators) (path : List ℕ) → 1 ≤ length path → is_separator s (slice_index path (length path - 1)) ≡ true → parts (later_body s 0 (take (length path - 1) path)) ≡ parts (later_body s 0 path)
+end-cut s path long is =
+    let before = length path - 1 in
+    let whole : before + 1 ≡ length path = omega (arith, long) in
+    later-end s (slice_index path before) (take before path) is
+    ∙ ap (λ t. parts (later_body s 0 t)) (sym (take_more path before 0 (omega (arith, long))) ∙ take_all (before + 1) path (omega (arith, whole)))
 
 -- The last component of a text, and the text before it.
 

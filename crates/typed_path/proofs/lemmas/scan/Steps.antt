@@ -11,7 +11,7 @@ use Rattle.typed_path.specs.declared.scan.cursor.Begin.TheVariants.{Body as Whol
 use Rattle.typed_path.specs.declared.scan.cursor.Cursor.{Cursor}
 use Rattle.typed_path.specs.declared.scan.cursor.Body.{Body}
 use Rattle.typed_path.specs.declared.scan.prefix.Found.{Found}
-use Rattle.typed_path.specs.components.{Placed, end_of, Part, parts, prefix_part, component}
+use Rattle.typed_path.specs.components.{Placed, end_of, Part, parts, kinds, prefix_part, component}
 use Rattle.typed_path.specs.scan.{first_of, last_of, but_last, cut_to, slice_after_back, slice_after_front, body_from, is_clean, end_from, last_part, first_part, pending}
 use Rattle.typed_path.specs.queries.{is_prefix, prefix_among, behind_prefix}
 use Rattle.typed_path.specs.views.PieceViews.{prefix_view}
@@ -76,6 +76,11 @@ slice_range-earlier text left from k to e h =
 pub fewer : (p : Part) (cs ds : List Placed) → Some p ≡ first_part cs → ds ≡ drop 1 cs → length ds < length cs
 fewer p [] ds taken items = cc
 fewer p (c ∷ cs) ds taken items = omega (arith, ap length items)
+
+-- the first component of a list, and what stands behind it
+pub taken-first : (cs : List Placed) (p : Part) → Some p ≡ first_part cs → (kinds (parts cs) ≡ p.kind ∷ kinds (parts (drop 1 cs))) × (length cs ≡ 1 + length (drop 1 cs))
+taken-first [] p e = cc
+taken-first (c ∷ cs) p e = (ap (λ q. q.kind ∷ kinds (parts cs)) (sym (same_Some _ _ e)), omega arith)
 
 -- components are the prefix, where there is one, and those behind it
 parts-split : (cs : List Placed) → parts cs ≡ option_to_list (prefix_among (parts cs)) ++ parts (behind_prefix cs)

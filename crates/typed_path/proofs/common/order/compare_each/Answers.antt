@@ -1,7 +1,7 @@
 use Rattle.std.proofs.Common.{length, sym, ap, ◌∙◌, arith}
 use Rattle.typed_path.specs.views.BodyViews.{body_items}
 use Rattle.typed_path.specs.views.PieceViews.{step_part}
-use Rattle.typed_path.proofs.lemmas.changes.Faults.{taken-first}
+use Rattle.typed_path.proofs.lemmas.scan.Steps.{taken-first}
 use Rattle.typed_path.proofs.lemmas.order.Comparisons.{cmp-none, cmp-more, cmp-fewer, cmp-differ, cmp-alike}
 use Rattle.typed_path.proofs.common.order.compare_each.Goals as goal
 

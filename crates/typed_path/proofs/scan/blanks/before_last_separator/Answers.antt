@@ -1,6 +1,6 @@
 use Rattle.std.proofs.Common.{sym, length, ◌-◌, ◌∙◌}
 use Rattle.typed_path.proofs.lemmas.scan.Blanks.{last-separator, free-first}
-use Rattle.typed_path.proofs.lemmas.changes.NamePieces.{end-cut}
+use Rattle.typed_path.proofs.lemmas.scan.LastComponent.{end-cut}
 use Rattle.typed_path.proofs.scan.blanks.before_last_separator.Goals as goal
 
 pub returns-in-len1-up-clause-body : goal.returns-in-len1-up-clause-body

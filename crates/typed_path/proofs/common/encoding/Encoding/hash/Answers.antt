@@ -2,7 +2,7 @@ use Rattle.std.proofs.Common.{fold, sym, ap, arith, ◌∙◌, length, option_ma
 use Rattle.typed_path.specs.views.BodyViews.{body_items}
 use Rattle.typed_path.specs.views.CursorViews.{items_left}
 use Rattle.typed_path.specs.views.PieceViews.{prefix_view, step_part}
-use Rattle.typed_path.proofs.lemmas.changes.Faults.{taken-first}
+use Rattle.typed_path.proofs.lemmas.scan.Steps.{taken-first}
 use Rattle.typed_path.proofs.lemmas.order.Comparisons.{counted-bare, counted-step, path_words-fed, fed-prefix, fed-step, fed-end}
 use Rattle.typed_path.proofs.common.encoding.Encoding.hash.Goals as goal
 

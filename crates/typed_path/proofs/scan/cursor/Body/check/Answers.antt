@@ -8,7 +8,8 @@ use Rattle.typed_path.specs.queries.{kind_has_allowed_bytes}
 use Rattle.typed_path.proofs.lemmas.queries.FileNames.{AllowsEach, allowed-body_from}
 use Rattle.std.specs.Result.{IsErrAnd}
 use Rattle.typed_path.proofs.lemmas.components.Cuts.{body_from-count}
-use Rattle.typed_path.proofs.lemmas.changes.Faults.{fault_behind-at, taken-first}
+use Rattle.typed_path.proofs.lemmas.changes.Faults.{fault_behind-at}
+use Rattle.typed_path.proofs.lemmas.scan.Steps.{taken-first}
 use Rattle.typed_path.proofs.scan.cursor.Body.check.Goals as goal
 use Rattle.typed_path.proofs.scan.cursor.Body.check.Goals.{After-depth_behind}
 
