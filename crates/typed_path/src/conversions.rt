@@ -355,8 +355,7 @@ fn put_prefix<U: Encoding>(
     ensures capacity { vec_capacity text.old ≤ vec_capacity text.new }
     ensures succeeds { (room : ℕ) → length text.old.items + room ≤ vec_capacity text.old
         → FitsEach U.dialect room []
-        (map (crossed U.dialect) (option_to_list (option_map part_of prefix.entry)))
-        → IsOk result }
+        (map (crossed U.dialect) (option_to_list (option_map part_of prefix.entry))) → IsOk result }
 {
     match prefix {
         Some(piece) => U::push_next(text, text.len(), piece.crossed(U::root_text()), None),
@@ -374,8 +373,7 @@ pub fn convert_checked<T: Encoding, U: Encoding>(
     path: Span<'_>,
 ) -> Result<(), PathError>
     requires { length text.old.items ≡ start }
-    ensures ok { OnOk result
-        (converted_checked T.dialect U.dialect (span_bytes path.entry)
+    ensures ok { OnOk result (converted_checked T.dialect U.dialect (span_bytes path.entry)
         ≡ Ok (drop start text.new.items)) }
     ensures refused { (e : CheckedPathError) → refusal result ≡ Some e
         → converted_checked T.dialect U.dialect (span_bytes path.entry) ≡ Err e }
@@ -441,8 +439,7 @@ fn push_each_checked<T: Encoding, U: Encoding>(
     path: Span<'_>,
 ) -> Result<(), PathError>
     requires { length text.old.items ≡ start }
-    ensures ok { OnOk result
-        (converted_checked T.dialect U.dialect (span_bytes path.entry)
+    ensures ok { OnOk result (converted_checked T.dialect U.dialect (span_bytes path.entry)
         ≡ Ok (drop start text.new.items)) }
     ensures refused { (e : CheckedPathError) → refusal result ≡ Some e
         → converted_checked T.dialect U.dialect (span_bytes path.entry) ≡ Err e }

@@ -171,8 +171,7 @@ pub trait Encoding: Sized {
         ensures err { OnErr result (path.new.items ≡ path.old.items) }
         ensures capacity { vec_capacity path.old ≤ vec_capacity path.new }
         ensures succeeds { FitsPush dialect (vec_capacity path.old)
-            (take kept path.old.items) other.now
-            → IsOk result };
+            (take kept path.old.items) other.now → IsOk result };
 
     /// For encodings alone. Pushes a path onto the one that stands behind the first bytes of a text.
     /// Where memory is refused, the text is as it was.
@@ -222,6 +221,5 @@ pub trait Encoding: Sized {
         ensures err { OnErr result (text.new.items ≡ text.old.items) }
         ensures capacity { vec_capacity text.old ≤ vec_capacity text.new }
         ensures succeeds { HasPlainNames dialect path.now
-            → vec_len text.old + length path.now < vec_capacity text.old
-            → IsOk result };
+            → vec_len text.old + length path.now < vec_capacity text.old → IsOk result };
 }

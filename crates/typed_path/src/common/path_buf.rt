@@ -107,8 +107,7 @@ impl<T: Encoding> PathBuf<T> {
         ensures err { OnErr result (self.new.bytes ≡ self.old.bytes) }
         ensures capacity { self.old.capacity ≤ self.new.capacity }
         ensures succeeds { FitsPush T.dialect self.old.capacity self.old.bytes
-            (path_bytes path.entry)
-            → IsOk result }
+            (path_bytes path.entry) → IsOk result }
     {
         T::push(&mut self.inner, path.as_bytes())
     }
@@ -188,8 +187,7 @@ impl<T: Encoding> PathBuf<T> {
         ensures err { OnErr result (self.new.bytes ≡ self.old.bytes) }
         ensures capacity { self.old.capacity ≤ self.new.capacity }
         ensures succeeds { FitsPush T.dialect self.old.capacity
-            (without_file_name T.dialect self.old.bytes) name.now
-            → IsOk result }
+            (without_file_name T.dialect self.old.bytes) name.now → IsOk result }
     {
         let kept = self.as_path().without_file_name().as_bytes().len();
         T::push_over(&mut self.inner, kept, name)
@@ -210,8 +208,7 @@ impl<T: Encoding> PathBuf<T> {
         ensures unchanged { file_name_of T.dialect self.old.bytes ≡ None → self.new ≡ self.old }
         ensures capacity { self.old.capacity ≤ self.new.capacity }
         ensures succeeds { length (with_extension T.dialect self.old.bytes extension.now)
-            ≤ self.old.capacity
-            → IsOk result }
+            ≤ self.old.capacity → IsOk result }
     {
         let Some(end) = self.as_path().stem_end() else {
             return Ok(false);

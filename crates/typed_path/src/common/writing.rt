@@ -100,8 +100,7 @@ pub fn append_first(text: &mut Vec<u8>, source: &[u8], len: usize) -> Result<(),
     ensures ok { OnOk result (text.new.items ≡ text.old.items ++ take len source.now) }
     ensures err { OnErr result (text.new.items ≡ text.old.items) }
     ensures capacity { vec_capacity text.old ≤ vec_capacity text.new }
-    ensures succeeds { vec_len text.old + length source.now ≤ vec_capacity text.old
-        → IsOk result }
+    ensures succeeds { vec_len text.old + length source.now ≤ vec_capacity text.old → IsOk result }
 {
     if BLOCK < len || source.len() < BLOCK {
         return text.extend_from_slice(&source[..len]);
@@ -124,8 +123,7 @@ pub fn put_turned(
         (text.new.items ≡ text.old.items ++ turned separators byte source.now) }
     ensures err { OnErr result (text.new.items ≡ text.old.items) }
     ensures capacity { vec_capacity text.old ≤ vec_capacity text.new }
-    ensures succeeds { vec_len text.old + length source.now ≤ vec_capacity text.old
-        → IsOk result }
+    ensures succeeds { vec_len text.old + length source.now ≤ vec_capacity text.old → IsOk result }
 {
     let len = text.len();
     text.extend_from_slice(source)?;

@@ -38,8 +38,7 @@ pub fn windows_constants_are_these()
     ensures disallowed_bytes { DISALLOWED_FILENAME_BYTES.now ≡ codes "\\/:?*\"><|" ++ 0 ∷ [] }
     ensures disallowed_characters { DISALLOWED_FILENAME_CHARS.now ≡ codes "\\/:?*\"><|" ++ 0 ∷ [] }
     ensures reserved { map (λ name. name.now) RESERVED_DEVICE_NAMES.now ≡ reserved_names }
-    ensures reserved_texts { map (λ name. name.now) RESERVED_DEVICE_NAMES_STR.now
-        ≡ reserved_names }
+    ensures reserved_texts { map (λ name. name.now) RESERVED_DEVICE_NAMES_STR.now ≡ reserved_names }
 {}
 
 /// Prefixes of Windows are equal, compare and hash as their kinds and names say.

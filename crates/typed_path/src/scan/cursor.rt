@@ -80,8 +80,7 @@ impl<'a> Cursor<'a> {
     ) -> Cursor<'a>
         requires { prefix.length ≤ length text.now }
         ensures slice { slice_left result ≡ text.now }
-        ensures items { items_left result
-            ≡ component (prefix_part (prefix_view prefix.entry.kind)
+        ensures items { items_left result ≡ component (prefix_part (prefix_view prefix.entry.kind)
             (take prefix.entry.length text.now)) 0
             ++ body separators prefix.entry.length (drop prefix.entry.length text.now) }
         ensures separators { cursor_separators result ≡ separators }
@@ -294,8 +293,7 @@ fn pending(prefix: Option<Found<'_>>) -> usize
 fn prefix_piece<'a>(text: &'a [u8], end: usize, found: Found<'a>) -> Piece<'a>
     requires length { found.length ≤ end }
     requires within { end ≤ length text.now }
-    ensures { part_of result
-        ≡ prefix_part (prefix_view found.entry.kind)
+    ensures { part_of result ≡ prefix_part (prefix_view found.entry.kind)
         (slice_range text.now (end - found.entry.length) end) }
 {
     Piece {
@@ -447,8 +445,7 @@ impl<'a> Body<'a> {
         ensures slice { body_slice self.new
             ≡ slice_after_front (body_items self.old) (body_slice self.old) }
         ensures named { IfSome result (λ step. step.kind ≡ StepKind.Normal
-            → take (length step.text.now) (drop self.old.from self.old.text.now)
-            ≡ step.text.now) }
+            → take (length step.text.now) (drop self.old.from self.old.text.now) ≡ step.text.now) }
         ensures separators { self.new.separators ≡ self.old.separators }
     {
         let left = self.as_bytes();

@@ -20,8 +20,7 @@ use std::cmp::Ordering;
 
 /// What stands before the first such byte, and what stands behind it.
 pub fn cut_at(byte: u8, text: &[u8]) -> Option<(&[u8], &[u8])>
-    ensures pieces { MatchOption result
-        (slice_split (λ b. b == byte) text.now ≡ text.now ∷ [])
+    ensures pieces { MatchOption result (slice_split (λ b. b == byte) text.now ≡ text.now ∷ [])
         (λ cut. slice_split (λ b. b == byte) text.now
         ≡ cut.0.now ∷ slice_split (λ b. b == byte) cut.1.now) }
     ensures open { IfSome result (λ cut. slice_split (λ b. b == byte) cut.0.now ≡ cut.0.now ∷ []) }
@@ -72,8 +71,7 @@ pub fn cut_at_separator(separators: Separators, text: &[u8]) -> Option<(&[u8], &
 #[inline(always)]
 pub fn text_behind<'a>(beginning: &[u8], text: &'a [u8]) -> Option<&'a [u8]>
     requires short { (4 ≤ length beginning.now) × (length beginning.now ≤ 16) }
-    ensures { MatchOption result
-        ((rest : List ℕ) → text.now ≢ beginning.now ++ rest)
+    ensures { MatchOption result ((rest : List ℕ) → text.now ≢ beginning.now ++ rest)
         (λ rest. text.now ≡ beginning.now ++ rest.now) }
 {
     let len = beginning.len();
@@ -99,8 +97,7 @@ pub fn base_end(text: &[u8], base: &[u8], shared: usize, separators: Separators)
     ensures some { IfSome result (λ n. 0 < length base.now) }
     ensures items { IfSome result (λ n. (at : ℕ) → body separators at text.now
         ≡ body separators at base.now ++ later_body separators (at + n) (drop n text.now)) }
-    ensures clean { IfSome result (λ n.
-        is_clean Begin.Inside separators (drop n text.now) ≡ true) }
+    ensures clean { IfSome result (λ n. is_clean Begin.Inside separators (drop n text.now) ≡ true) }
 {
     if shared != base.len() {
         return None;
@@ -117,8 +114,7 @@ pub fn end_behind(text: &[u8], base: &[u8], separators: Separators) -> Option<us
     ensures some { IfSome result (λ n. 0 < length base.now) }
     ensures items { IfSome result (λ n. (at : ℕ) → body separators at text.now
         ≡ body separators at base.now ++ later_body separators (at + n) (drop n text.now)) }
-    ensures clean { IfSome result (λ n.
-        is_clean Begin.Inside separators (drop n text.now) ≡ true) }
+    ensures clean { IfSome result (λ n. is_clean Begin.Inside separators (drop n text.now) ≡ true) }
 {
     if base.is_empty() {
         return None;

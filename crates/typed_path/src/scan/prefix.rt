@@ -273,8 +273,7 @@ pub fn find_prefix(text: &[u8]) -> Option<Found<'_>>
 /// of a text that begins with two separators, whose prefix is to be read.
 #[inline(always)]
 pub fn parted_drive(text: &[u8]) -> Option<(Option<u8>, &[u8])>
-    ensures { IfSome result (λ parted.
-        IsPartedDrive text.now parted.0 parted.1.now) }
+    ensures { IfSome result (λ parted. IsPartedDrive text.now parted.0 parted.1.now) }
 {
     if after_two(text).is_some() {
         return None;

@@ -169,8 +169,7 @@ pub fn front_step(text: &[u8], end: usize, separators: Separators) -> (Step<'_>,
     requires ends { end ≡ position_or_len (is_separator separators) text.now }
     ensures within { result.1 ≤ length text.now }
     ensures first { (begin : Begin) (at : ℕ) → is_clean begin separators text.now ≡ true
-        → body_from begin separators at text.now
-        ≡ component (step_part result.0) at
+        → body_from begin separators at text.now ≡ component (step_part result.0) at
         ++ later_body separators (at + result.1) (drop result.1 text.now) }
     ensures clean { is_clean Begin.Inside separators (drop result.1 text.now) ≡ true }
     ensures named { result.0.kind ≡ StepKind.Normal

@@ -77,8 +77,7 @@ pub fn answer_lines<R: Source, W: Sink>(
     reader: &mut R,
     writer: &mut W,
 ) -> Result<(), LineError>
-    ensures ok { OnOk result (AnswersAll
-        (streams (R.remaining reader.old) (R.has_failed reader.old)
+    ensures ok { OnOk result (AnswersAll (streams (R.remaining reader.old) (R.has_failed reader.old)
         (W.contents writer.old) (W.has_failed writer.old))
         (streams (R.remaining reader.new) (R.has_failed reader.new)
         (W.contents writer.new) (W.has_failed writer.new))) }
@@ -116,8 +115,7 @@ fn converse<R: Source, W: Sink>(
     requires room { 0 < length buffer.old }
     requires no_line { dialogue.old.line.items ≡ [] }
     requires no_replies { dialogue.old.replies.items ≡ [] }
-    ensures { Ends result
-        (streams (R.remaining reader.old) (R.has_failed reader.old)
+    ensures { Ends result (streams (R.remaining reader.old) (R.has_failed reader.old)
         (W.contents writer.old) (W.has_failed writer.old))
         (streams (R.remaining reader.new) (R.has_failed reader.new)
         (W.contents writer.new) (W.has_failed writer.new)) }
@@ -194,8 +192,7 @@ impl Dialogue {
 
     /// Takes in more input, and answers the lines that it completes.
     pub fn take_in(&mut self, input: &[u8]) -> Result<(), AllocError>
-        ensures replies { OnOk result (self.new.replies.items
-            ≡ self.old.replies.items
+        ensures replies { OnOk result (self.new.replies.items ≡ self.old.replies.items
             ++ replies_to (complete_lines (self.old.line.items ++ input.now))) }
         ensures line { OnOk result
             (self.new.line.items ≡ open_line (self.old.line.items ++ input.now)) }
@@ -275,13 +272,11 @@ impl<R: Read> Source for StdSource<R> {
     /// Takes one of the reads that are granted, where one is left.
     fn read(&mut self, buffer: &mut [u8]) -> Result<usize, Failed>
         ensures count { IfOk result (λ n. n ≤ length buffer.new) }
-        ensures bytes { IfOk result
-            (λ n. Consumes (⟦<StdSource<R> as Source>⟧.remaining self.old)
+        ensures bytes { IfOk result (λ n. Consumes (⟦<StdSource<R> as Source>⟧.remaining self.old)
             (⟦<StdSource<R> as Source>⟧.remaining self.new) (take n buffer.new)) }
         ensures end { IfOk result (λ n. n ≡ 0 → 0 < length buffer.new
             → IsAtEnd (⟦<StdSource<R> as Source>⟧.remaining self.new)) }
-        ensures nearer { IfOk result (λ n. 0 < n
-            → ⟦<StdSource<R> as Source>⟧.bound self.new
+        ensures nearer { IfOk result (λ n. 0 < n → ⟦<StdSource<R> as Source>⟧.bound self.new
             < ⟦<StdSource<R> as Source>⟧.bound self.old) }
         ensures granted { ⟦<StdSource<R> as Source>⟧.bound self.new
             ≡ ⟦<StdSource<R> as Source>⟧.bound self.old - 1 }

@@ -49,8 +49,7 @@ fn answer_bare_line<'a>(
     input: &'a [u8],
     replies: &mut Vec<u8>,
 ) -> Result<Option<&'a [u8]>, AllocError>
-    ensures { IfOk result (λ left.
-        AnswersFirst (λ line. reply_line (bare_reply (fields_of line)))
+    ensures { IfOk result (λ left. AnswersFirst (λ line. reply_line (bare_reply (fields_of line)))
         input.now (option_map (λ t. t.now) left) replies.old.items replies.new.items) }
 {
     match text_behind(b"derive\t", input) {
@@ -84,8 +83,7 @@ fn answer_texts<'a, T: Encoding>(
     input: &'a [u8],
     replies: &mut Vec<u8>,
 ) -> Result<Option<&'a [u8]>, AllocError>
-    ensures { IfOk result (λ left.
-        AnswersFirst (λ texts. reply_line
+    ensures { IfOk result (λ left. AnswersFirst (λ texts. reply_line
         (texts_reply T.dialect (command_name command) (fields_of texts)))
         input.now (option_map (λ t. t.now) left) replies.old.items replies.new.items) }
 {
@@ -111,8 +109,7 @@ fn answer_pair<'a, T: Encoding>(
     input: &'a [u8],
     replies: &mut Vec<u8>,
 ) -> Result<Option<&'a [u8]>, AllocError>
-    ensures { IfOk result (λ left.
-        AnswersFirst (λ texts. reply_line
+    ensures { IfOk result (λ left. AnswersFirst (λ texts. reply_line
         (texts_reply T.dialect (command_name command) (first.now ∷ fields_of texts)))
         input.now (option_map (λ t. t.now) left) replies.old.items replies.new.items) }
 {
@@ -328,8 +325,7 @@ fn put_converted_checked<T: Encoding, U: Encoding>(
     path: Span<'_>,
     replies: &mut Vec<u8>,
 ) -> Result<(), AllocError>
-    ensures { OnOk result (replies.new.items ≡ replies.old.items
-        ++ reply_line (converted_reply
+    ensures { OnOk result (replies.new.items ≡ replies.old.items ++ reply_line (converted_reply
         (converted_checked T.dialect U.dialect (span_bytes path.entry)))) }
 {
     let len = replies.len();
@@ -430,8 +426,7 @@ fn put_prefix(prefix: Option<Piece<'_>>, replies: &mut Vec<u8>) -> Result<(), Al
 /// was taken: a name is what that begins with.
 #[inline(always)]
 fn put_step(step: Step<'_>, left: &[u8], replies: &mut Vec<u8>) -> Result<(), AllocError>
-    requires { step.kind ≡ StepKind.Normal
-        → take (length step.text.now) left.now ≡ step.text.now }
+    requires { step.kind ≡ StepKind.Normal → take (length step.text.now) left.now ≡ step.text.now }
     ensures { OnOk result
         (replies.new.items ≡ replies.old.items ++ tab ∷ component_field (step_part step.entry)) }
 {

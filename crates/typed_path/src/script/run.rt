@@ -62,8 +62,7 @@ pub fn run_ops<T: Encoding>(
 ) -> Result<(), AllocError>
     ensures path { OnOk result
         (path.new.bytes ≡ text_after T.dialect path.old.bytes (operations_of operations.now)) }
-    ensures replies { OnOk result (responses_of replies.new.items
-        ≡ responses_of replies.old.items
+    ensures replies { OnOk result (responses_of replies.new.items ≡ responses_of replies.old.items
         ++ run_spec.replies T.dialect path.old.bytes (operations_of operations.now)) }
     ensures memory { OnErr result
         (StopsAt T.dialect path.old.bytes (operations_of operations.now) path.new.bytes
@@ -90,8 +89,7 @@ fn apply<T: Encoding>(path: &mut PathBuf<T>, operation: PathOp<'_>) -> Result<Re
         (IsPartDone T.dialect path.old.bytes (operation_of operation.entry) path.new.bytes) }
     ensures capacity { path.old.capacity ≤ path.new.capacity }
     ensures succeeds { FitsStep T.dialect path.old.capacity path.old.bytes
-        (operation_of operation.entry)
-        → IsOk result }
+        (operation_of operation.entry) → IsOk result }
 {
     match operation {
         PathOp::Push(other) => path.push(Path::new(other))?,
@@ -116,8 +114,7 @@ fn apply_checked<T: Encoding>(path: &mut PathBuf<T>, other: &[u8]) -> Result<Rep
     ensures memory { OnErr result (path.new.bytes ≡ path.old.bytes) }
     ensures capacity { path.old.capacity ≤ path.new.capacity }
     ensures succeeds { FitsStep T.dialect path.old.capacity path.old.bytes
-        (push_checked_op other.now)
-        → IsOk result }
+        (push_checked_op other.now) → IsOk result }
 {
     match path.push_checked(Path::new(other)) {
         Ok(()) => Ok(Reply::Done),
@@ -134,8 +131,7 @@ fn push_each<T: Encoding>(path: &mut PathBuf<T>, others: &[&[u8]]) -> Result<(),
         (AreTaken T.dialect path.old.bytes (map (λ b. b.now) others.now) path.new.bytes) }
     ensures capacity { path.old.capacity ≤ path.new.capacity }
     ensures succeeds { FitsEach T.dialect path.old.capacity path.old.bytes
-        (map (λ b. b.now) others.now)
-        → IsOk result }
+        (map (λ b. b.now) others.now) → IsOk result }
 {
     let mut known = None;
     'others: for other in others {

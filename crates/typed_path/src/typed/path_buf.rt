@@ -307,8 +307,7 @@ impl TypedPathBuf {
 
     /// As [`TypedPath::extension`].
     pub fn extension(&self) -> Option<&[u8]>
-        ensures { option_copied result
-            ≡ extension (typed_dialect self.now) (owned_bytes self.now) }
+        ensures { option_copied result ≡ extension (typed_dialect self.now) (owned_bytes self.now) }
     {
         self.to_path().extension()
     }
@@ -332,8 +331,7 @@ impl TypedPathBuf {
 
     /// As [`TypedPath::ends_with`].
     pub fn ends_with(&self, end: &[u8]) -> bool
-        ensures { result
-            ≡ path_ends_with (typed_dialect self.now) (owned_bytes self.now) end.now }
+        ensures { result ≡ path_ends_with (typed_dialect self.now) (owned_bytes self.now) end.now }
     {
         self.to_path().ends_with(end)
     }
@@ -341,8 +339,7 @@ impl TypedPathBuf {
     /// As [`TypedPath::components`].
     pub fn components(&self) -> TypedComponents<'_>
         ensures dialect { reading_dialect result ≡ typed_dialect self.now }
-        ensures items { typed_items result
-            ≡ comps (typed_dialect self.now) (owned_bytes self.now) }
+        ensures items { typed_items result ≡ comps (typed_dialect self.now) (owned_bytes self.now) }
         ensures slice { typed_slice result ≡ owned_bytes self.now }
     {
         self.to_path().components()

@@ -270,8 +270,7 @@ fn put_segments(text: &mut Vec<u8>, len: usize, path: &[u8]) -> Result<(), Alloc
 fn put_one_by_one(text: &mut Vec<u8>, len: usize, path: &[u8]) -> Result<(), AllocError>
     requires { len ≤ length text.old.items }
     ensures ok { OnOk result ((head whole : List ℕ) (names : List (List ℕ)) → length head ≡ len
-        → AreRows text.old.items head names
-        → names_left whole
+        → AreRows text.old.items head names → names_left whole
         ≡ fold settled names (slice_split (is_separator Separators.Slash) path.now)
         → text.new.items ≡ head ++ rows (names_left whole)) }
     ensures kept { take len text.new.items ≡ take len text.old.items }

@@ -52,8 +52,7 @@ pub trait Utf8Encoding: Sized {
         ensures err { OnErr result (string_bytes path.new ≡ string_bytes path.old) }
         ensures capacity { string_capacity path.old ≤ string_capacity path.new }
         ensures succeeds { FitsPush Self.Bytes.dialect (string_capacity path.old)
-            (string_bytes path.old) other.now
-            → IsOk result }
+            (string_bytes path.old) other.now → IsOk result }
     {
         let mut bytes = mem::replace(path, String::new(*path.allocator())).into_bytes();
         let done = Self::Bytes::push(&mut bytes, other.as_bytes());

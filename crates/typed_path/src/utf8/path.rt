@@ -140,8 +140,7 @@ impl<'a, T: Utf8Encoding> Utf8Path<'a, T> {
 
     /// Whether the path is not absolute.
     pub fn is_relative(self) -> bool
-        ensures { result ≡ not
-            (is_absolute T.Bytes.dialect (kinds
+        ensures { result ≡ not (is_absolute T.Bytes.dialect (kinds
             (parts_of T.Bytes.dialect (utf8_bytes self.entry)))) }
     {
         self.path.is_relative()

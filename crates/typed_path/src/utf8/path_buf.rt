@@ -133,14 +133,12 @@ impl<T: Utf8Encoding> Utf8PathBuf<T> {
     ///
     /// Where memory is refused the path is as it was, and has no less room.
     pub fn push(&mut self, path: Utf8Path<'_, T>) -> Result<(), AllocError>
-        ensures ok { OnOk result
-            (self.new.bytes ≡ push_spec.push T.Bytes.dialect self.old.bytes
+        ensures ok { OnOk result (self.new.bytes ≡ push_spec.push T.Bytes.dialect self.old.bytes
             (utf8_bytes path.entry)) }
         ensures err { OnErr result (self.new.bytes ≡ self.old.bytes) }
         ensures capacity { self.old.capacity ≤ self.new.capacity }
         ensures succeeds { FitsPush T.Bytes.dialect self.old.capacity self.old.bytes
-            (utf8_bytes path.entry)
-            → IsOk result }
+            (utf8_bytes path.entry) → IsOk result }
     {
         self.inner.push(path.as_bytes_path())
     }
@@ -153,8 +151,7 @@ impl<T: Utf8Encoding> Utf8PathBuf<T> {
     /// Those of [`PathBuf::push_checked`](crate::PathBuf::push_checked). Then the path is as it was.
     pub fn push_checked(&mut self, path: Utf8Path<'_, T>) -> Result<(), PathError>
         ensures refused { refusal result ≡ fault T.Bytes.dialect (utf8_bytes path.entry) }
-        ensures ok { OnOk result
-            (self.new.bytes ≡ push_spec.push T.Bytes.dialect self.old.bytes
+        ensures ok { OnOk result (self.new.bytes ≡ push_spec.push T.Bytes.dialect self.old.bytes
             (utf8_bytes path.entry)) }
         ensures err { OnErr result (self.new.bytes ≡ self.old.bytes) }
         ensures unchanged { IsSome (refusal result) → self.new ≡ self.old }
@@ -202,8 +199,7 @@ impl<T: Utf8Encoding> Utf8PathBuf<T> {
         ensures err { OnErr result (self.new.bytes ≡ self.old.bytes) }
         ensures capacity { self.old.capacity ≤ self.new.capacity }
         ensures succeeds { FitsPush T.Bytes.dialect self.old.capacity
-            (without_file_name T.Bytes.dialect self.old.bytes) name.now
-            → IsOk result }
+            (without_file_name T.Bytes.dialect self.old.bytes) name.now → IsOk result }
     {
         self.inner.set_file_name(name.as_bytes())
     }
@@ -222,8 +218,7 @@ impl<T: Utf8Encoding> Utf8PathBuf<T> {
             → self.new ≡ self.old }
         ensures capacity { self.old.capacity ≤ self.new.capacity }
         ensures succeeds { length (with_extension T.Bytes.dialect self.old.bytes extension.now)
-            ≤ self.old.capacity
-            → IsOk result }
+            ≤ self.old.capacity → IsOk result }
     {
         self.inner.set_extension(extension.as_bytes())
     }

@@ -513,16 +513,14 @@ impl<'a> Utf8Reading<'a, Utf8WindowsEncoding, Utf8WindowsComponent<'a>> {
 
     /// The prefix with its text, where it is the first component that is left.
     pub fn prefix(self) -> Option<Utf8WindowsPrefixComponent<'a>>
-        ensures { option_map text_prefix_part result
-            ≡ prefix_among (reading_parts self.entry) }
+        ensures { option_map text_prefix_part result ≡ prefix_among (reading_parts self.entry) }
     {
         Utf8WindowsPrefixComponent::of_option(self.bytes().prefix())
     }
 
     /// Which prefix is the first component that is left, where one is.
     pub fn prefix_kind(self) -> Option<Utf8WindowsPrefix<'a>>
-        ensures { option_map text_prefix result
-            ≡ first_prefix (kinds (reading_parts self.entry)) }
+        ensures { option_map text_prefix result ≡ first_prefix (kinds (reading_parts self.entry)) }
     {
         Some(self.prefix()?.kind())
     }

@@ -267,8 +267,7 @@ fn shared_written_prefix(path: &[u8], other: &[u8], shared: usize) -> Option<(us
 /// one. None says nothing.
 #[inline(always)]
 fn shared_drive(path: &[u8], other: &[u8]) -> Option<usize>
-    ensures one { IfSome result
-        (λ end. HaveOnePrefix path.now other.now end Separators.Either) }
+    ensures one { IfSome result (λ end. HaveOnePrefix path.now other.now end Separators.Either) }
     ensures within { IfSome result (λ end. (end ≤ length path.now) × (end ≤ length other.now)) }
 {
     let (drive, body) = parted_drive(path)?;

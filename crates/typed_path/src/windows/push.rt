@@ -38,8 +38,7 @@ pub fn push_at(
     ensures capacity { vec_capacity text.old ≤ vec_capacity text.new }
     ensures succeeds { (room : ℕ) → start + room ≤ vec_capacity text.old
         → IsKnown windows known (slice_range text.old.items start kept)
-        → FitsPush windows room (slice_range text.old.items start kept) other.now
-        → IsOk result }
+        → FitsPush windows room (slice_range text.old.items start kept) other.now → IsOk result }
 {
     if other.is_empty() {
         text.truncate(kept);
@@ -126,8 +125,7 @@ pub fn push_next(
     ensures capacity { vec_capacity text.old ≤ vec_capacity text.new }
     ensures succeeds { (room : ℕ) → start + room ≤ vec_capacity text.old
         → IsKnown windows known (drop start text.old.items)
-        → FitsPush windows room (drop start text.old.items) other.now
-        → IsOk result }
+        → FitsPush windows room (drop start text.old.items) other.now → IsOk result }
 {
     if known.is_none() && is_plain(other) && stays_unmarked(&text[start..]) {
         put_behind(text, start, other)?;
@@ -166,8 +164,7 @@ fn stays_unmarked(path: &[u8]) -> bool
 #[inline(always)]
 fn put_behind(text: &mut Vec<u8>, start: usize, other: &[u8]) -> Result<(), AllocError>
     requires { start ≤ length text.old.items }
-    ensures ok { OnOk result (text.new.items
-        ≡ take start text.old.items
+    ensures ok { OnOk result (text.new.items ≡ take start text.old.items
         ++ (ended_windows (drop start text.old.items) ++ other.now)) }
     ensures err { OnErr result (text.new.items ≡ text.old.items) }
     ensures capacity { vec_capacity text.old ≤ vec_capacity text.new }
@@ -196,8 +193,7 @@ fn push_read(
     ensures capacity { vec_capacity text.old ≤ vec_capacity text.new }
     ensures succeeds { (room : ℕ) → start + room ≤ vec_capacity text.old
         → IsKnown windows known (drop start text.old.items)
-        → FitsPush windows room (drop start text.old.items) other.now
-        → IsOk result }
+        → FitsPush windows room (drop start text.old.items) other.now → IsOk result }
 {
     let stays = keeps_prefix(text.len() - start, other, known);
     let len = text.len();
@@ -286,8 +282,7 @@ pub fn is_separated(separators: Separators, text: &[u8]) -> bool
 /// Whether each piece between two `\` is a component. Mostly all are names, which looks at the bytes
 /// tell.
 fn are_components(separators: Separators, text: &[u8]) -> bool
-    ensures { result
-        ≡ list_all (is_component separators)
+    ensures { result ≡ list_all (is_component separators)
         (slice_split (is_separator Separators.Backslash) text.now) }
 {
     if has_only_names(text, (b'\\', b'\\')) {
@@ -506,8 +501,7 @@ fn put_names(text: &mut Vec<u8>, head: usize, names: &[u8]) -> Result<(), AllocE
     ensures kept { take head text.new.items ≡ take head text.old.items }
     ensures long { head ≤ length text.new.items }
     ensures capacity { vec_capacity text.old ≤ vec_capacity text.new }
-    ensures succeeds { vec_len text.old + length names.now < vec_capacity text.old
-        → IsOk result }
+    ensures succeeds { vec_len text.old + length names.now < vec_capacity text.old → IsOk result }
 {
     put_component(text, head, names)?;
     let from = text.len() - names.len();

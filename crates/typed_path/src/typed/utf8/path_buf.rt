@@ -278,8 +278,7 @@ impl Utf8TypedPathBuf {
 
     /// As [`Utf8TypedPath::extension`].
     pub fn extension(&self) -> Option<&str>
-        ensures { option_copied result
-            ≡ extension (typed_dialect self.now) (owned_bytes self.now) }
+        ensures { option_copied result ≡ extension (typed_dialect self.now) (owned_bytes self.now) }
     {
         self.to_path().extension()
     }
@@ -303,8 +302,7 @@ impl Utf8TypedPathBuf {
 
     /// As [`Utf8TypedPath::ends_with`].
     pub fn ends_with(&self, end: &str) -> bool
-        ensures { result
-            ≡ path_ends_with (typed_dialect self.now) (owned_bytes self.now) end.now }
+        ensures { result ≡ path_ends_with (typed_dialect self.now) (owned_bytes self.now) end.now }
     {
         self.to_path().ends_with(end)
     }
