@@ -4,13 +4,13 @@
 
 ghost use Rattle.std.specs.Prelude.{◌≡◌, ◌≤◌, ◌<◌, ◌+◌, ◌++◌, ◌||◌, ℕ, true, not, take, drop, length, IfSome, IfNone, ◌^◌, List, ◌∷◌, IfOk, IsTrue, ◌==◌};
 ghost use Rattle.std.specs.List.{position_or_len};
-ghost use Rattle.typed_path.specs.components.{is_empty, is_dot, is_dot_dot, component, first, later_body, is_separator, dialect_of, Kind};
+ghost use Rattle.typed_path.specs.components.{is_empty, is_dot, is_dot_dot, component, first, later_body, is_separator, dialect_of, Kind, is_name, is_parent, is_current};
 ghost use Rattle.typed_path.specs.scan.{body_from, is_clean, is_trimmed, end_from};
-ghost use Rattle.typed_path.specs.views.PieceViews.{step_part};
+ghost use Rattle.typed_path.specs.views.PieceViews.{step_part, part_of};
 ghost use Rattle.typed_path.specs.declared.scan.cursor.Begin.{Begin};
 ghost use Rattle.typed_path.specs.declared.scan.step.StepKind.{StepKind};
 ghost use Rattle.typed_path.specs.changes.{fault_at, judged};
-ghost use Rattle.typed_path.specs.queries.{kind_has_allowed_bytes};
+ghost use Rattle.typed_path.specs.queries.{kind_has_allowed_bytes, is_root};
 
 use crate::errors::CheckedPathError;
 use crate::scan::prefix::WindowsPrefix;
@@ -41,10 +41,6 @@ pub struct Piece<'a> {
 }
 
 impl<'a> Piece<'a> {
-    ghost use Rattle.typed_path.specs.queries.{is_root};
-    ghost use Rattle.typed_path.specs.components.{is_name, is_parent, is_current};
-    ghost use Rattle.typed_path.specs.views.PieceViews.{part_of};
-
     /// The text of the component.
     pub fn as_bytes(self) -> &'a [u8]
         ensures { result.now ≡ (part_of self.entry).text }
@@ -125,8 +121,6 @@ pub struct Step<'a> {
 }
 
 impl<'a> Step<'a> {
-    ghost use Rattle.typed_path.specs.views.PieceViews.{part_of, step_part};
-
     /// The same component as one of a whole path.
     #[inline(always)]
     pub fn piece(self) -> Piece<'a>

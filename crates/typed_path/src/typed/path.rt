@@ -3,7 +3,7 @@
 ghost use Rattle.std.specs.Prelude.{◌≡◌, [], IfOk, IsOk, Ok, not, IfSome, option_map, option_copied};
 ghost use Rattle.typed_path.specs.typed.{kind_dialect, derived_dialect, typed_dialect};
 ghost use Rattle.typed_path.specs.typed.Outcomes.{JoinsChecked, Normalizes, ConvertsChecked, Absolutizes};
-ghost use Rattle.typed_path.specs.views.TypedViews.{typed_bytes, owned_bytes};
+ghost use Rattle.typed_path.specs.views.TypedViews.{typed_bytes, owned_bytes, typed_items, typed_slice, typed_iter_items, typed_iter_slice, typed_ancestors_left, typed_displayed, reading_dialect};
 ghost use Rattle.typed_path.specs.components.{unix, windows, kinds, comps, parts_of};
 ghost use Rattle.typed_path.specs.changes.{with_file_name, with_extension};
 ghost use Rattle.typed_path.specs.conversions.{converted};
@@ -12,7 +12,7 @@ ghost use Rattle.typed_path.specs.changes.Push as push_spec;
 ghost use Rattle.std.specs.Str.{IsUtf8};
 ghost use Rattle.std.specs.Str.Lossy.{utf8_lossy};
 ghost use Rattle.std.specs.Cow.{cow_str_bytes, IsBorrowedStr};
-ghost use Rattle.typed_path.specs.queries.{is_absolute, has_root, parent_of, file_name_of, file_stem_of, stripped, path_starts_with, path_ends_with, ancestors_of, stripped_to, text_of_bytes};
+ghost use Rattle.typed_path.specs.queries.{is_absolute, has_root, parent_of, file_name_of, file_stem_of, stripped, path_starts_with, path_ends_with, ancestors_of, stripped_to, text_of_bytes, extension};
 
 use crate::common::{Ancestors, Display, Iter, Path};
 use crate::errors::{AbsolutizeError, PathError, StripPrefixError};
@@ -38,9 +38,6 @@ pub type TypedAncestors<'a> = Typed<Ancestors<'a, UnixEncoding>, Ancestors<'a, W
 pub type TypedDisplay<'a> = Typed<Display<'a, UnixEncoding>, Display<'a, WindowsEncoding>>;
 
 impl<'a> TypedPath<'a> {
-    ghost use Rattle.typed_path.specs.queries.{extension};
-    ghost use Rattle.typed_path.specs.views.TypedViews.{typed_items, typed_slice, typed_iter_items, typed_iter_slice, typed_ancestors_left, typed_displayed, reading_dialect};
-
     /// The path of these bytes, of a kind.
     #[inline(always)]
     pub fn new(bytes: &'a [u8], kind: PathType) -> TypedPath<'a>

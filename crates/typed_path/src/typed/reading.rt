@@ -2,8 +2,8 @@
 
 ghost use Rattle.std.specs.Prelude.{◌≡◌, drop, option_map, option_copied, refl, IfSome, ◌==◌, length};
 ghost use Rattle.typed_path.specs.scan.{but_last, slice_after_front, slice_after_back, first_part, last_part, LeavesFront, LeavesBack};
-ghost use Rattle.typed_path.specs.typed.{typed_dialect, KeepsDialect};
-ghost use Rattle.typed_path.specs.views.TypedViews.{typed_bytes};
+ghost use Rattle.typed_path.specs.typed.{typed_dialect, KeepsDialect, reading_partial_cmp, reading_partial_order, derived_dialect};
+ghost use Rattle.typed_path.specs.views.TypedViews.{typed_bytes, reading_dialect, typed_items, typed_slice, typed_parts, typed_part, typed_iter_items, typed_iter_slice, typed_iter_texts, typed_ancestors_left};
 ghost use Rattle.typed_path.specs.components.{kinds, is_name, is_parent, is_current, comps};
 ghost use Rattle.typed_path.specs.queries.{is_absolute, has_root, is_root, name_of};
 ghost use Rattle.std.specs.Iterator.{YieldsFirstBy, item_count, YieldsLastBy, YieldsFirstRef, YieldsLastRef};
@@ -31,8 +31,6 @@ pub enum TypedReading<U, W> {
 /// What readings of one kind have left is in order as the paths of their slices left are. Readings of
 /// two kinds are in none.
 impl<U: PartialOrd, W: PartialOrd> PartialOrd for TypedReading<U, W> {
-    ghost use Rattle.typed_path.specs.typed.{reading_partial_cmp, reading_partial_order};
-
     ghost partial_cmp = { reading_partial_cmp U.partial_cmp W.partial_cmp };
 
     ghost laws = { reading_partial_order
@@ -58,8 +56,6 @@ impl<U: PartialOrd, W: PartialOrd> PartialOrd for TypedReading<U, W> {
 pub type TypedComponents<'a> = TypedReading<UnixComponents<'a>, WindowsComponents<'a>>;
 
 impl<'a> TypedComponents<'a> {
-    ghost use Rattle.typed_path.specs.views.TypedViews.{reading_dialect, typed_items, typed_slice, typed_parts, typed_part};
-
     /// The components of a path, from either end.
     #[inline(always)]
     pub fn new(path: TypedPath<'a>) -> TypedComponents<'a>
@@ -132,8 +128,6 @@ impl<'a> TypedComponents<'a> {
 }
 
 impl<'a> Iterator for TypedComponents<'a> {
-    ghost use Rattle.typed_path.specs.views.TypedViews.{reading_dialect, typed_items, typed_slice, typed_parts, typed_part};
-
     type Item = TypedComponent<'a>;
 
     ghost next_gives = { λ s component t. YieldsFirstBy typed_part typed_parts s component t
@@ -150,8 +144,6 @@ impl<'a> Iterator for TypedComponents<'a> {
 }
 
 impl<'a> DoubleEndedIterator for TypedComponents<'a> {
-    ghost use Rattle.typed_path.specs.views.TypedViews.{reading_dialect, typed_items, typed_slice, typed_parts, typed_part};
-
     ghost next_back_gives = { λ s component t. YieldsLastBy typed_part typed_parts s component t
         × LeavesBack typed_items typed_slice s t
         × (reading_dialect t ≡ reading_dialect s)
@@ -166,8 +158,6 @@ impl<'a> DoubleEndedIterator for TypedComponents<'a> {
 impl<'a> FusedIterator for TypedComponents<'a> {}
 
 impl<'a> TypedIter<'a> {
-    ghost use Rattle.typed_path.specs.views.TypedViews.{typed_iter_items, typed_iter_slice};
-
     /// The slice left, as a path of the kind that is read.
     pub fn to_path(self) -> TypedPath<'a>
         ensures dialect { typed_dialect result ≡ typed_dialect self.entry }
@@ -211,8 +201,6 @@ impl<'a> TypedIter<'a> {
 }
 
 impl<'a> Iterator for TypedIter<'a> {
-    ghost use Rattle.typed_path.specs.views.TypedViews.{typed_iter_items, typed_iter_slice, typed_iter_texts};
-
     type Item = &'a [u8];
 
     ghost next_gives = { λ s text t. YieldsFirstRef typed_iter_texts s text t
@@ -228,8 +216,6 @@ impl<'a> Iterator for TypedIter<'a> {
 }
 
 impl<'a> DoubleEndedIterator for TypedIter<'a> {
-    ghost use Rattle.typed_path.specs.views.TypedViews.{typed_iter_items, typed_iter_slice, typed_iter_texts};
-
     ghost next_back_gives = { λ s text t. YieldsLastRef typed_iter_texts s text t
         × LeavesBack typed_iter_items typed_iter_slice s t
         × KeepsDialect s t };
@@ -243,8 +229,6 @@ impl<'a> DoubleEndedIterator for TypedIter<'a> {
 impl<'a> FusedIterator for TypedIter<'a> {}
 
 impl<'a> Iterator for TypedAncestors<'a> {
-    ghost use Rattle.typed_path.specs.views.TypedViews.{typed_ancestors_left};
-
     type Item = TypedPath<'a>;
 
     ghost next_gives = { λ s path t. YieldsFirstBy typed_bytes typed_ancestors_left s path t
@@ -265,9 +249,6 @@ impl<'a> FusedIterator for TypedAncestors<'a> {}
 pub type TypedComponent<'a> = Typed<UnixComponent<'a>, WindowsComponent<'a>>;
 
 impl<'a> TypedComponent<'a> {
-    ghost use Rattle.typed_path.specs.typed.{derived_dialect, typed_dialect};
-    ghost use Rattle.typed_path.specs.views.TypedViews.{typed_bytes, typed_part};
-
     /// The path of this one component, of the kind that its text looks like.
     ///
     /// Of the component `a` of the Windows path `C:\a` it is the Unix path `a`.

@@ -3,8 +3,11 @@
 
 ghost use Rattle.std.specs.Prelude.{◌≡◌, true, false, codes, Some, is_ok, IfOk, IfErr};
 ghost use Rattle.typed_path.specs.components.{unix, Part};
-ghost use Rattle.typed_path.specs.views.TextComponentViews.{text_unix_part};
+ghost use Rattle.typed_path.specs.views.TextComponentViews.{text_unix_part, IsTextOfUnix, IsTextUnixReading};
 ghost use Rattle.typed_path.specs.texts.{is_text_part, IsTextError, part_no_text};
+ghost use Rattle.typed_path.specs.views.TextViews.{utf8_bytes};
+ghost use Rattle.typed_path.specs.views.UnixViews.{unix_part};
+ghost use Rattle.typed_path.specs.views.ReadingViews.{reading_slice};
 
 use crate::common::{Encoding, ReadAs, Values};
 use crate::constants::unix::{CURRENT_DIR_STR, PARENT_DIR_STR, SEPARATOR_STR};
@@ -64,9 +67,6 @@ pub enum Utf8UnixComponent<'a> {
 pub type Utf8UnixComponents<'a> = Utf8Reading<'a, Utf8UnixEncoding, Utf8UnixComponent<'a>>;
 
 impl<'a> Utf8UnixComponent<'a> {
-    ghost use Rattle.typed_path.specs.views.TextViews.{utf8_bytes};
-    ghost use Rattle.typed_path.specs.views.UnixViews.{unix_part};
-
     /// The component of a path of bytes, where its name is a text.
     ///
     /// # Errors
@@ -193,9 +193,6 @@ impl<'a> FromPiece<'a, Utf8UnixEncoding> for Utf8UnixComponent<'a> {
 }
 
 impl<'a> Utf8Reading<'a, Utf8UnixEncoding, Utf8UnixComponent<'a>> {
-    ghost use Rattle.typed_path.specs.views.TextViews.{utf8_bytes};
-    ghost use Rattle.typed_path.specs.views.ReadingViews.{reading_slice};
-
     /// The slice left, as a path in the encoding that the caller names.
     pub fn as_path<U: Utf8Encoding>(self) -> Utf8Path<'a, U>
         ensures { utf8_bytes result ≡ reading_slice self.entry }
@@ -206,8 +203,6 @@ impl<'a> Utf8Reading<'a, Utf8UnixEncoding, Utf8UnixComponent<'a>> {
 
 /// The component of text, as [`Utf8UnixComponent::from_utf8`] answers it.
 impl<'a> TryFrom<UnixComponent<'a>> for Utf8UnixComponent<'a> {
-    ghost use Rattle.typed_path.specs.views.TextComponentViews.{IsTextOfUnix};
-
     type Error = Utf8Error;
 
     ghost try_from_gives = { λ component made. IsTextOfUnix component made };
@@ -223,8 +218,6 @@ impl<'a> TryFrom<UnixComponent<'a>> for Utf8UnixComponent<'a> {
 ///
 /// Those of a `UnixComponent`.
 impl<'a> TryFrom<&'a str> for Utf8UnixComponent<'a> {
-    ghost use Rattle.typed_path.specs.views.TextComponentViews.{IsTextUnixReading};
-
     type Error = ParseError;
 
     ghost try_from_gives = { λ text reading. IsTextUnixReading text.now reading };

@@ -4,9 +4,14 @@
 ghost use Rattle.std.specs.Prelude.{◌≡◌, true, false, codes, Some, min, is_ok, IfOk, IfErr, length, option_map};
 ghost use Rattle.std.specs.Str.{is_utf8};
 ghost use Rattle.typed_path.specs.components.{windows, Part, kinds};
-ghost use Rattle.typed_path.specs.views.TextComponentViews.{text_windows_part};
+ghost use Rattle.typed_path.specs.views.TextComponentViews.{text_windows_part, IsTextPrefixReading, text_prefix_part, IsTextPrefixComponentReading, IsTextWindowsReading};
 ghost use Rattle.typed_path.specs.queries.{is_verbatim_prefix, prefix_length, is_prefix, prefix_in, prefix_part_in, first_prefix, prefix_among, has_prefix, has_any_verbatim_prefix, has_verbatim_prefix, has_verbatim_unc_prefix, has_verbatim_disk_prefix, has_device_ns_prefix, has_unc_prefix, has_disk_prefix, has_physical_root, has_implicit_root};
 ghost use Rattle.typed_path.specs.texts.{is_text_prefix, is_text_part, is_text_part_option, IsTextError, prefix_no_text, part_no_text};
+ghost use Rattle.typed_path.specs.views.PieceViews.{prefix_view};
+ghost use Rattle.typed_path.specs.views.TextPieceViews.{text_prefix};
+ghost use Rattle.typed_path.specs.views.WindowsViews.{prefix_component_part, windows_part};
+ghost use Rattle.typed_path.specs.views.TextViews.{utf8_bytes};
+ghost use Rattle.typed_path.specs.views.ReadingViews.{reading_parts, reading_slice};
 
 use crate::common::{Encoding, ReadAs, Values};
 use crate::constants::windows::{CURRENT_DIR_STR, PARENT_DIR_STR, SEPARATOR_STR};
@@ -69,9 +74,6 @@ pub enum Utf8WindowsPrefix<'a> {
 }
 
 impl<'a> Utf8WindowsPrefix<'a> {
-    ghost use Rattle.typed_path.specs.views.PieceViews.{prefix_view};
-    ghost use Rattle.typed_path.specs.views.TextPieceViews.{text_prefix};
-
     /// The prefix of a path of bytes, where its names are texts.
     ///
     /// # Errors
@@ -162,8 +164,6 @@ impl<'a> Utf8WindowsPrefix<'a> {
 ///
 /// Those of a `WindowsPrefix`.
 impl<'a> TryFrom<&'a str> for Utf8WindowsPrefix<'a> {
-    ghost use Rattle.typed_path.specs.views.TextComponentViews.{IsTextPrefixReading};
-
     type Error = ParseError;
 
     ghost try_from_gives = { λ text reading. IsTextPrefixReading text.now reading };
@@ -189,9 +189,6 @@ pub struct Utf8WindowsPrefixComponent<'a> {
 
 impl<'a> Utf8WindowsPrefixComponent<'a> {
     ghost use Rattle.typed_path.specs.components.{prefix};
-    ghost use Rattle.typed_path.specs.views.TextPieceViews.{text_prefix};
-    ghost use Rattle.typed_path.specs.views.TextComponentViews.{text_prefix_part};
-    ghost use Rattle.typed_path.specs.views.WindowsViews.{prefix_component_part};
 
     /// The prefix of a path of bytes with its text, where that is one in UTF-8; then its names are, too.
     ///
@@ -266,8 +263,6 @@ impl<'a> Utf8WindowsPrefixComponent<'a> {
 ///
 /// Those of a `WindowsPrefix`.
 impl<'a> TryFrom<&'a str> for Utf8WindowsPrefixComponent<'a> {
-    ghost use Rattle.typed_path.specs.views.TextComponentViews.{IsTextPrefixComponentReading};
-
     type Error = ParseError;
 
     ghost try_from_gives = { λ text reading. IsTextPrefixComponentReading text.now reading };
@@ -298,11 +293,6 @@ pub enum Utf8WindowsComponent<'a> {
 }
 
 impl<'a> Utf8WindowsComponent<'a> {
-    ghost use Rattle.typed_path.specs.views.TextPieceViews.{text_prefix};
-    ghost use Rattle.typed_path.specs.views.TextComponentViews.{text_prefix_part};
-    ghost use Rattle.typed_path.specs.views.TextViews.{utf8_bytes};
-    ghost use Rattle.typed_path.specs.views.WindowsViews.{windows_part};
-
     /// The component of a path of bytes, where its text and its names are texts.
     ///
     /// # Errors
@@ -481,8 +471,6 @@ impl<'a> FromPiece<'a, Utf8WindowsEncoding> for Utf8WindowsComponent<'a> {
 ///
 /// Those of a `WindowsComponent`.
 impl<'a> TryFrom<&'a str> for Utf8WindowsComponent<'a> {
-    ghost use Rattle.typed_path.specs.views.TextComponentViews.{IsTextWindowsReading};
-
     type Error = ParseError;
 
     ghost try_from_gives = { λ text reading. IsTextWindowsReading text.now reading };
@@ -499,11 +487,6 @@ impl<'a> TryFrom<&'a str> for Utf8WindowsComponent<'a> {
 pub type Utf8WindowsComponents<'a> = Utf8Reading<'a, Utf8WindowsEncoding, Utf8WindowsComponent<'a>>;
 
 impl<'a> Utf8Reading<'a, Utf8WindowsEncoding, Utf8WindowsComponent<'a>> {
-    ghost use Rattle.typed_path.specs.views.TextPieceViews.{text_prefix};
-    ghost use Rattle.typed_path.specs.views.TextComponentViews.{text_prefix_part};
-    ghost use Rattle.typed_path.specs.views.TextViews.{utf8_bytes};
-    ghost use Rattle.typed_path.specs.views.ReadingViews.{reading_parts, reading_slice};
-
     /// The slice left, as a path in the encoding that the caller names.
     pub fn as_path<U: Utf8Encoding>(self) -> Utf8Path<'a, U>
         ensures { utf8_bytes result ≡ reading_slice self.entry }

@@ -3,14 +3,14 @@
 ghost use Rattle.std.specs.Prelude.{◌≡◌, [], IfOk, IsOk, Ok, not, bytes_eq, IfSome, option_map, option_copied};
 ghost use Rattle.typed_path.specs.typed.{kind_dialect, derived_dialect, typed_dialect};
 ghost use Rattle.typed_path.specs.typed.Outcomes.{JoinsChecked, Normalizes, ConvertsChecked, Absolutizes};
-ghost use Rattle.typed_path.specs.views.TypedTextViews.{typed_text};
+ghost use Rattle.typed_path.specs.views.TypedTextViews.{typed_text, typed_text_items, typed_text_slice, typed_text_iter_items, typed_text_iter_slice, typed_text_ancestors_left};
 ghost use Rattle.typed_path.specs.components.{unix, windows, kinds, comps, parts_of};
 ghost use Rattle.typed_path.specs.changes.{with_file_name, with_extension};
 ghost use Rattle.typed_path.specs.conversions.{converted};
 ghost use Rattle.typed_path.specs.views.TextViews.{utf8_bytes};
-ghost use Rattle.typed_path.specs.views.TypedViews.{owned_bytes};
+ghost use Rattle.typed_path.specs.views.TypedViews.{owned_bytes, reading_dialect};
 ghost use Rattle.typed_path.specs.changes.Push as push_spec;
-ghost use Rattle.typed_path.specs.queries.{is_absolute, has_root, parent_of, file_name_of, file_stem_of, stripped, path_starts_with, path_ends_with, ancestors_of, stripped_to};
+ghost use Rattle.typed_path.specs.queries.{is_absolute, has_root, parent_of, file_name_of, file_stem_of, stripped, path_starts_with, path_ends_with, ancestors_of, stripped_to, extension};
 
 use crate::errors::{AbsolutizeError, PathError, StripPrefixError};
 use crate::typed::utf8::path_buf::Utf8TypedPathBuf;
@@ -38,10 +38,6 @@ pub type Utf8TypedAncestors<'a> = Typed<
 >;
 
 impl<'a> Utf8TypedPath<'a> {
-    ghost use Rattle.typed_path.specs.queries.{extension};
-    ghost use Rattle.typed_path.specs.views.TypedViews.{reading_dialect};
-    ghost use Rattle.typed_path.specs.views.TypedTextViews.{typed_text_items, typed_text_slice, typed_text_iter_items, typed_text_iter_slice, typed_text_ancestors_left};
-
     /// The path of this text, of a kind.
     #[inline(always)]
     pub fn new(text: &'a str, kind: PathType) -> Utf8TypedPath<'a>

@@ -2,11 +2,12 @@
 
 ghost use Rattle.std.specs.Prelude.{◌≡◌, drop, option_map, option_copied, IfSome, ◌==◌, length};
 ghost use Rattle.typed_path.specs.scan.{but_last, slice_after_front, slice_after_back, first_part, last_part, LeavesFront, LeavesBack};
-ghost use Rattle.typed_path.specs.typed.{typed_dialect, KeepsDialect};
-ghost use Rattle.typed_path.specs.views.TypedTextViews.{typed_text};
+ghost use Rattle.typed_path.specs.typed.{typed_dialect, KeepsDialect, derived_dialect};
+ghost use Rattle.typed_path.specs.views.TypedTextViews.{typed_text, typed_text_items, typed_text_slice, typed_text_parts, typed_text_part, typed_text_iter_items, typed_text_iter_slice, typed_text_iter_texts, typed_text_ancestors_left};
 ghost use Rattle.typed_path.specs.components.{kinds, is_name, is_parent, is_current, comps};
 ghost use Rattle.typed_path.specs.queries.{is_absolute, has_root, is_root, name_of};
 ghost use Rattle.std.specs.Iterator.{YieldsFirstBy, item_count, YieldsLastBy, YieldsFirstRef, YieldsLastRef};
+ghost use Rattle.typed_path.specs.views.TypedViews.{reading_dialect};
 
 use crate::typed::reading::TypedReading;
 use crate::typed::utf8::path::{Utf8TypedAncestors, Utf8TypedIter, Utf8TypedPath};
@@ -21,9 +22,6 @@ use std::iter::FusedIterator;
 pub type Utf8TypedComponents<'a> = TypedReading<Utf8UnixComponents<'a>, Utf8WindowsComponents<'a>>;
 
 impl<'a> Utf8TypedComponents<'a> {
-    ghost use Rattle.typed_path.specs.views.TypedViews.{reading_dialect};
-    ghost use Rattle.typed_path.specs.views.TypedTextViews.{typed_text_items, typed_text_slice, typed_text_parts, typed_text_part};
-
     /// The components of a path, from either end.
     #[inline(always)]
     pub fn new(path: Utf8TypedPath<'a>) -> Utf8TypedComponents<'a>
@@ -97,9 +95,6 @@ impl<'a> Utf8TypedComponents<'a> {
 }
 
 impl<'a> Iterator for Utf8TypedComponents<'a> {
-    ghost use Rattle.typed_path.specs.views.TypedViews.{reading_dialect};
-    ghost use Rattle.typed_path.specs.views.TypedTextViews.{typed_text_items, typed_text_slice, typed_text_parts, typed_text_part};
-
     type Item = Utf8TypedComponent<'a>;
 
     ghost next_gives = { λ s component t. YieldsFirstBy typed_text_part typed_text_parts s component
@@ -116,9 +111,6 @@ impl<'a> Iterator for Utf8TypedComponents<'a> {
 }
 
 impl<'a> DoubleEndedIterator for Utf8TypedComponents<'a> {
-    ghost use Rattle.typed_path.specs.views.TypedViews.{reading_dialect};
-    ghost use Rattle.typed_path.specs.views.TypedTextViews.{typed_text_items, typed_text_slice, typed_text_parts, typed_text_part};
-
     ghost next_back_gives = { λ s component t. YieldsLastBy typed_text_part typed_text_parts s
         component t × LeavesBack typed_text_items typed_text_slice s t
         × (reading_dialect t ≡ reading_dialect s)
@@ -133,8 +125,6 @@ impl<'a> DoubleEndedIterator for Utf8TypedComponents<'a> {
 impl<'a> FusedIterator for Utf8TypedComponents<'a> {}
 
 impl<'a> Utf8TypedIter<'a> {
-    ghost use Rattle.typed_path.specs.views.TypedTextViews.{typed_text_iter_items, typed_text_iter_slice};
-
     /// The slice left, as a path of the kind that is read.
     pub fn to_path(self) -> Utf8TypedPath<'a>
         ensures dialect { typed_dialect result ≡ typed_dialect self.entry }
@@ -178,8 +168,6 @@ impl<'a> Utf8TypedIter<'a> {
 }
 
 impl<'a> Iterator for Utf8TypedIter<'a> {
-    ghost use Rattle.typed_path.specs.views.TypedTextViews.{typed_text_iter_items, typed_text_iter_slice, typed_text_iter_texts};
-
     type Item = &'a str;
 
     ghost next_gives = { λ s text t. YieldsFirstRef typed_text_iter_texts s text t
@@ -195,8 +183,6 @@ impl<'a> Iterator for Utf8TypedIter<'a> {
 }
 
 impl<'a> DoubleEndedIterator for Utf8TypedIter<'a> {
-    ghost use Rattle.typed_path.specs.views.TypedTextViews.{typed_text_iter_items, typed_text_iter_slice, typed_text_iter_texts};
-
     ghost next_back_gives = { λ s text t. YieldsLastRef typed_text_iter_texts s text t
         × LeavesBack typed_text_iter_items typed_text_iter_slice s t
         × KeepsDialect s t };
@@ -210,8 +196,6 @@ impl<'a> DoubleEndedIterator for Utf8TypedIter<'a> {
 impl<'a> FusedIterator for Utf8TypedIter<'a> {}
 
 impl<'a> Iterator for Utf8TypedAncestors<'a> {
-    ghost use Rattle.typed_path.specs.views.TypedTextViews.{typed_text_ancestors_left};
-
     type Item = Utf8TypedPath<'a>;
 
     ghost next_gives = { λ s path t. YieldsFirstBy typed_text typed_text_ancestors_left s path t
@@ -232,9 +216,6 @@ impl<'a> FusedIterator for Utf8TypedAncestors<'a> {}
 pub type Utf8TypedComponent<'a> = Typed<Utf8UnixComponent<'a>, Utf8WindowsComponent<'a>>;
 
 impl<'a> Utf8TypedComponent<'a> {
-    ghost use Rattle.typed_path.specs.typed.{derived_dialect, typed_dialect};
-    ghost use Rattle.typed_path.specs.views.TypedTextViews.{typed_text, typed_text_part};
-
     /// The path of this one component, of the kind that its text looks like.
     ///
     /// Of the component `a` of the Windows path `C:\a` it is the Unix path `a`.
