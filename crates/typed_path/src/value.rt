@@ -6,6 +6,10 @@ ghost use Rattle.typed_path.specs.declared.errors.ValueError.TheVariants.{NotUtf
 ghost use Rattle.typed_path.specs.values.{IsValueOf, is_json_text, FailsBy};
 ghost use Rattle.std.specs.Str.{is_utf8};
 ghost use Rattle.typed_path.specs.typed.{typed_dialect, derived_dialect};
+ghost use Rattle.typed_path.specs.views.PathViews.{path_bytes};
+ghost use Rattle.typed_path.specs.views.TextViews.{utf8_bytes};
+ghost use Rattle.typed_path.specs.views.TypedViews.{typed_bytes, owned_bytes};
+ghost use Rattle.typed_path.specs.views.TypedTextViews.{typed_text};
 
 use crate::common::{Encoding, Path, PathBuf};
 use crate::errors::ValueError;
@@ -36,8 +40,6 @@ macro_rules! of_text {
 }
 
 impl<'a, T: Encoding> Path<'a, T> {
-    ghost use Rattle.typed_path.specs.views.PathViews.{path_bytes};
-
     /// The path as a JSON text.
     ///
     /// # Errors
@@ -73,8 +75,6 @@ impl<T: Encoding> PathBuf<T> {
 }
 
 impl<'a, T: Utf8Encoding> Utf8Path<'a, T> {
-    ghost use Rattle.typed_path.specs.views.TextViews.{utf8_bytes};
-
     /// The path as a JSON text.
     ///
     /// # Errors
@@ -105,8 +105,6 @@ impl<T: Utf8Encoding> Utf8PathBuf<T> {
 }
 
 impl<'a> TypedPath<'a> {
-    ghost use Rattle.typed_path.specs.views.TypedViews.{typed_bytes};
-
     /// The path as a JSON text. The value does not tell its kind.
     ///
     /// # Errors
@@ -123,8 +121,6 @@ impl<'a> TypedPath<'a> {
 }
 
 impl<'a> Utf8TypedPath<'a> {
-    ghost use Rattle.typed_path.specs.views.TypedTextViews.{typed_text};
-
     /// The path as a JSON text. The value does not tell its kind.
     ///
     /// # Errors
@@ -139,8 +135,6 @@ impl<'a> Utf8TypedPath<'a> {
 }
 
 impl TypedPathBuf {
-    ghost use Rattle.typed_path.specs.views.TypedViews.{owned_bytes};
-
     /// The path of a JSON text, of the kind that the text looks like.
     ///
     /// # Errors
@@ -158,8 +152,6 @@ impl TypedPathBuf {
 }
 
 impl Utf8TypedPathBuf {
-    ghost use Rattle.typed_path.specs.views.TypedViews.{owned_bytes};
-
     /// The path of a JSON text, of the kind that the text looks like.
     ///
     /// # Errors

@@ -3,10 +3,12 @@
 ghost use Rattle.std.specs.Prelude.{◌≡◌, IfOk, not, ◌≤◌, length, option_map, option_copied, IfSome, [], IsOk};
 ghost use Rattle.typed_path.specs.places.{normal_text};
 ghost use Rattle.typed_path.specs.components.{kinds, comps, parts_of};
-ghost use Rattle.typed_path.specs.queries.{is_absolute, has_root, is_valid, parent_of, file_name_of, file_stem_of, stripped, path_starts_with, path_ends_with, ancestors_of, stripped_to};
+ghost use Rattle.typed_path.specs.queries.{is_absolute, has_root, is_valid, parent_of, file_name_of, file_stem_of, stripped, path_starts_with, path_ends_with, ancestors_of, stripped_to, extension};
 ghost use Rattle.typed_path.specs.scan.{last_part};
 ghost use Rattle.typed_path.specs.changes.{without_file_name, stem_end, with_file_name, with_extension, refusal, fault};
 ghost use Rattle.typed_path.specs.promises.{HasNormalForm, HasPrefixOf, LiesWithin, LiesBelow};
+ghost use Rattle.typed_path.specs.views.PathViews.{path_bytes, components_items, components_slice, ancestors_left};
+ghost use Rattle.typed_path.specs.views.PieceViews.{part_of};
 
 use crate::common::components::{Ancestors, Components, Iter, Reading};
 use crate::common::encoding::Encoding;
@@ -25,8 +27,6 @@ pub struct Path<'a, T> {
 }
 
 impl<'a, T> Path<'a, T> {
-    ghost use Rattle.typed_path.specs.views.PathViews.{path_bytes};
-
     /// The path of these bytes, whatever they are.
     #[inline(always)]
     pub fn new(bytes: &'a [u8]) -> Path<'a, T>
@@ -48,9 +48,6 @@ impl<'a, T> Path<'a, T> {
 }
 
 impl<'a, T: Encoding> Path<'a, T> {
-    ghost use Rattle.typed_path.specs.queries.{extension};
-    ghost use Rattle.typed_path.specs.views.PathViews.{path_bytes, components_items, components_slice, ancestors_left};
-    ghost use Rattle.typed_path.specs.views.PieceViews.{part_of};
     ghost use Rattle.typed_path.specs.changes.Push as push_spec;
 
     /// Whether the path leads to one place, whatever the current directory is.
@@ -369,8 +366,6 @@ impl<'a, T: Encoding> Path<'a, T> {
 }
 
 impl<'a, T: Encoding> IntoIterator for Path<'a, T> {
-    ghost use Rattle.typed_path.specs.views.PathViews.{path_bytes, components_items, components_slice};
-
     type Item = &'a [u8];
 
     type IntoIter = Iter<'a, T>;

@@ -6,6 +6,7 @@ ghost use Rattle.std.specs.String.{string_bytes};
 ghost use Rattle.std.specs.Str.{IsUtf8};
 ghost use Rattle.std.specs.Cow.{cow_str_bytes, IsBorrowedStr};
 ghost use Rattle.typed_path.specs.queries.{text_of_bytes};
+ghost use Rattle.typed_path.specs.views.PathViews.{path_bytes, displayed};
 
 use crate::common::components::{Ancestors, ReadAs, Reading};
 use crate::common::encoding::Encoding;
@@ -22,8 +23,6 @@ pub struct Display<'a, T> {
 }
 
 impl<'a, T: Encoding> Path<'a, T> {
-    ghost use Rattle.typed_path.specs.views.PathViews.{path_bytes, displayed};
-
     /// The path as a text, where its bytes are UTF-8.
     pub fn to_str(self) -> Option<&'a str>
         ensures { option_copied result ≡ text_of_bytes (path_bytes self.entry) }
@@ -82,8 +81,6 @@ fn write_lossy<W: fmt::Write>(bytes: &[u8], f: &mut fmt::Formatter<W>) -> fmt::R
 
 /// Writes the path's text, with U+FFFD where its bytes are none.
 impl<'a, T: Encoding> fmt::Display for Path<'a, T> {
-    ghost use Rattle.typed_path.specs.views.PathViews.{path_bytes};
-
     ghost output = { λ path. text_of_bytes (path_bytes path) };
 
     fn fmt<W: fmt::Write>(&self, f: &mut fmt::Formatter<W>) -> fmt::Result {
@@ -95,8 +92,6 @@ impl<'a, T: Encoding> fmt::Display for Path<'a, T> {
 }
 
 impl<'a, T: Encoding> Display<'a, T> {
-    ghost use Rattle.typed_path.specs.views.PathViews.{path_bytes, displayed};
-
     /// The path that is to be printed.
     pub(crate) fn path(self) -> Path<'a, T>
         ensures { path_bytes result ≡ displayed self.entry }
@@ -106,8 +101,6 @@ impl<'a, T: Encoding> Display<'a, T> {
 }
 
 impl<'a, T: Encoding> fmt::Display for Display<'a, T> {
-    ghost use Rattle.typed_path.specs.views.PathViews.{displayed};
-
     ghost output = { λ d. text_of_bytes (displayed d) };
 
     fn fmt<W: fmt::Write>(&self, f: &mut fmt::Formatter<W>) -> fmt::Result {

@@ -2,6 +2,9 @@
 
 ghost use Rattle.std.specs.Prelude.{◌≡◌};
 ghost use Rattle.typed_path.specs.components.{unix, iterator_name, Part};
+ghost use Rattle.typed_path.specs.views.UnixViews.{unix_part, IsUnixReading};
+ghost use Rattle.typed_path.specs.views.PathViews.{path_bytes};
+ghost use Rattle.typed_path.specs.views.Shown.{whole};
 
 use crate::common::{Component, Encoding, Path, ReadAs, Reading, Values};
 use crate::constants::unix::{CURRENT_DIR, PARENT_DIR};
@@ -25,9 +28,6 @@ pub enum UnixComponent<'a> {
 }
 
 impl<'a> UnixComponent<'a> {
-    ghost use Rattle.typed_path.specs.views.UnixViews.{unix_part};
-    ghost use Rattle.typed_path.specs.views.PathViews.{path_bytes};
-
     /// The path of this one component, in the encoding that the caller names.
     pub fn as_path<T: Encoding>(self) -> Path<'a, T>
         ensures { path_bytes result ≡ (unix_part self.entry).text }
@@ -37,8 +37,6 @@ impl<'a> UnixComponent<'a> {
 }
 
 impl<'a> Component<'a> for UnixComponent<'a> {
-    ghost use Rattle.typed_path.specs.views.UnixViews.{unix_part};
-
     ghost dialect = { unix };
 
     ghost part = { unix_part };
@@ -100,9 +98,6 @@ impl<'a> Component<'a> for UnixComponent<'a> {
 pub type UnixComponents<'a> = Reading<'a, UnixEncoding, Values>;
 
 impl<'a> ReadAs<'a, UnixEncoding> for Values {
-    ghost use Rattle.typed_path.specs.views.Shown.{whole};
-    ghost use Rattle.typed_path.specs.views.UnixViews.{unix_part};
-
     ghost Seen = { Part };
 
     ghost seen = { unix_part };
@@ -137,8 +132,6 @@ impl<'a> ReadAs<'a, UnixEncoding> for Values {
 /// `no component found` where they have none, and `found more than one component` where they have two
 /// or more, as `/a`.
 impl<'a> TryFrom<&'a [u8]> for UnixComponent<'a> {
-    ghost use Rattle.typed_path.specs.views.UnixViews.{IsUnixReading};
-
     type Error = ParseError;
 
     ghost try_from_gives = { λ text reading. IsUnixReading text.now reading };
@@ -157,8 +150,6 @@ impl<'a> TryFrom<&'a [u8]> for UnixComponent<'a> {
 
 /// Reads an array as the slice of its bytes.
 impl<'a, const N: usize> TryFrom<&'a [u8; N]> for UnixComponent<'a> {
-    ghost use Rattle.typed_path.specs.views.UnixViews.{IsUnixReading};
-
     type Error = ParseError;
 
     ghost try_from_gives = { λ text reading. IsUnixReading text.now reading };
@@ -170,8 +161,6 @@ impl<'a, const N: usize> TryFrom<&'a [u8; N]> for UnixComponent<'a> {
 
 /// Reads a text as the slice of its bytes.
 impl<'a> TryFrom<&'a str> for UnixComponent<'a> {
-    ghost use Rattle.typed_path.specs.views.UnixViews.{IsUnixReading};
-
     type Error = ParseError;
 
     ghost try_from_gives = { λ text reading. IsUnixReading text.now reading };
