@@ -383,11 +383,7 @@ impl TypedPathBuf {
     }
 
     /// As [`TypedPath::with_extension`].
-    pub fn with_extension(
-        &self,
-        alloc: Global,
-        extension: &[u8],
-    ) -> Result<TypedPathBuf, AllocError>
+    pub fn with_extension(&self, alloc: Global, extension: &[u8]) -> Result<Self, AllocError>
         ensures dialect { IfOk result (λ p. typed_dialect p ≡ typed_dialect self.now) }
         ensures bytes { IfOk result (λ p. owned_bytes p
             ≡ with_extension (typed_dialect self.now) (owned_bytes self.now) extension.now) }

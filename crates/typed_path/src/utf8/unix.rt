@@ -186,9 +186,7 @@ impl<'a> FromPiece<'a, Utf8UnixEncoding> for Utf8UnixComponent<'a> {
 
     #[inline(always)]
     fn from_piece(piece: Piece<'a>) -> Utf8UnixComponent<'a> {
-        Utf8UnixComponent::from_utf8_unchecked(&<Values as ReadAs<'a, UnixEncoding>>::from_piece(
-            piece,
-        ))
+        Self::from_utf8_unchecked(&<Values as ReadAs<'a, UnixEncoding>>::from_piece(piece))
     }
 }
 

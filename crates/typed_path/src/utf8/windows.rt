@@ -85,18 +85,16 @@ impl<'a> Utf8WindowsPrefix<'a> {
         ensures err { IfErr result (IsTextError (prefix_no_text (prefix_view prefix.now))) }
     {
         Ok(match *prefix {
-            WindowsPrefix::Verbatim(name) => Utf8WindowsPrefix::Verbatim(str::from_utf8(name)?),
+            WindowsPrefix::Verbatim(name) => Self::Verbatim(str::from_utf8(name)?),
             WindowsPrefix::VerbatimUNC(server, share) => {
-                Utf8WindowsPrefix::VerbatimUNC(str::from_utf8(server)?, str::from_utf8(share)?)
+                Self::VerbatimUNC(str::from_utf8(server)?, str::from_utf8(share)?)
             }
-            WindowsPrefix::VerbatimDisk(letter) => Utf8WindowsPrefix::VerbatimDisk(char::from(
-                letter,
-            )),
-            WindowsPrefix::DeviceNS(name) => Utf8WindowsPrefix::DeviceNS(str::from_utf8(name)?),
+            WindowsPrefix::VerbatimDisk(letter) => Self::VerbatimDisk(char::from(letter)),
+            WindowsPrefix::DeviceNS(name) => Self::DeviceNS(str::from_utf8(name)?),
             WindowsPrefix::UNC(server, share) => {
-                Utf8WindowsPrefix::UNC(str::from_utf8(server)?, str::from_utf8(share)?)
+                Self::UNC(str::from_utf8(server)?, str::from_utf8(share)?)
             }
-            WindowsPrefix::Disk(letter) => Utf8WindowsPrefix::Disk(char::from(letter)),
+            WindowsPrefix::Disk(letter) => Self::Disk(char::from(letter)),
         })
     }
 
@@ -106,18 +104,14 @@ impl<'a> Utf8WindowsPrefix<'a> {
         ensures { text_prefix result ≡ prefix_view prefix.now }
     {
         match *prefix {
-            WindowsPrefix::Verbatim(name) => Utf8WindowsPrefix::Verbatim(text_of(name)),
+            WindowsPrefix::Verbatim(name) => Self::Verbatim(text_of(name)),
             WindowsPrefix::VerbatimUNC(server, share) => {
-                Utf8WindowsPrefix::VerbatimUNC(text_of(server), text_of(share))
+                Self::VerbatimUNC(text_of(server), text_of(share))
             }
-            WindowsPrefix::VerbatimDisk(letter) => Utf8WindowsPrefix::VerbatimDisk(char::from(
-                letter,
-            )),
-            WindowsPrefix::DeviceNS(name) => Utf8WindowsPrefix::DeviceNS(text_of(name)),
-            WindowsPrefix::UNC(server, share) => {
-                Utf8WindowsPrefix::UNC(text_of(server), text_of(share))
-            }
-            WindowsPrefix::Disk(letter) => Utf8WindowsPrefix::Disk(char::from(letter)),
+            WindowsPrefix::VerbatimDisk(letter) => Self::VerbatimDisk(char::from(letter)),
+            WindowsPrefix::DeviceNS(name) => Self::DeviceNS(text_of(name)),
+            WindowsPrefix::UNC(server, share) => Self::UNC(text_of(server), text_of(share)),
+            WindowsPrefix::Disk(letter) => Self::Disk(char::from(letter)),
         }
     }
 
@@ -129,16 +123,14 @@ impl<'a> Utf8WindowsPrefix<'a> {
             ≡ is_verbatim_prefix (text_prefix self.entry) }
     {
         match self {
-            Utf8WindowsPrefix::Verbatim(name) => WindowsPrefix::Verbatim(name.as_bytes()),
-            Utf8WindowsPrefix::VerbatimUNC(server, share) => {
+            Self::Verbatim(name) => WindowsPrefix::Verbatim(name.as_bytes()),
+            Self::VerbatimUNC(server, share) => {
                 WindowsPrefix::VerbatimUNC(server.as_bytes(), share.as_bytes())
             }
-            Utf8WindowsPrefix::VerbatimDisk(_) => WindowsPrefix::VerbatimDisk(b'C'),
-            Utf8WindowsPrefix::DeviceNS(name) => WindowsPrefix::DeviceNS(name.as_bytes()),
-            Utf8WindowsPrefix::UNC(server, share) => {
-                WindowsPrefix::UNC(server.as_bytes(), share.as_bytes())
-            }
-            Utf8WindowsPrefix::Disk(_) => WindowsPrefix::Disk(b'C'),
+            Self::VerbatimDisk(_) => WindowsPrefix::VerbatimDisk(b'C'),
+            Self::DeviceNS(name) => WindowsPrefix::DeviceNS(name.as_bytes()),
+            Self::UNC(server, share) => WindowsPrefix::UNC(server.as_bytes(), share.as_bytes()),
+            Self::Disk(_) => WindowsPrefix::Disk(b'C'),
         }
     }
 
@@ -195,9 +187,7 @@ impl<'a> Utf8WindowsPrefixComponent<'a> {
     /// # Errors
     ///
     /// The raw text that is no text.
-    pub fn from_utf8(
-        component: &WindowsPrefixComponent<'a>,
-    ) -> Result<Utf8WindowsPrefixComponent<'a>, Utf8Error>
+    pub fn from_utf8(component: &WindowsPrefixComponent<'a>) -> Result<Self, Utf8Error>
         ensures ok { IfOk result (λ c. text_prefix_part c ≡ prefix_component_part component.now) }
         ensures flag { is_ok result ≡ is_text_part (prefix_component_part component.now) }
         ensures err { IfErr result (IsTextError
@@ -209,9 +199,7 @@ impl<'a> Utf8WindowsPrefixComponent<'a> {
     }
 
     /// The same where that is known to be a text; it is not looked at again.
-    pub fn from_utf8_unchecked(
-        component: &WindowsPrefixComponent<'a>,
-    ) -> Utf8WindowsPrefixComponent<'a>
+    pub fn from_utf8_unchecked(component: &WindowsPrefixComponent<'a>) -> Self
         requires { is_utf8 (prefix_component_part component.now).text ≡ true }
         ensures { text_prefix_part result ≡ prefix_component_part component.now }
     {
@@ -222,9 +210,7 @@ impl<'a> Utf8WindowsPrefixComponent<'a> {
     }
 
     /// The same of a prefix that may not be there.
-    pub(super) fn of_option(
-        component: Option<WindowsPrefixComponent<'a>>,
-    ) -> Option<Utf8WindowsPrefixComponent<'a>>
+    pub(super) fn of_option(component: Option<WindowsPrefixComponent<'a>>) -> Option<Self>
         requires { is_text_part_option (option_map prefix_component_part component) ≡ true }
         ensures { option_map text_prefix_part result
             ≡ option_map prefix_component_part component.entry }
@@ -299,9 +285,7 @@ impl<'a> Utf8WindowsComponent<'a> {
     ///
     /// The name, or the raw text of a prefix, that is no text.
     #[tactic(auto, using(crate::proofs::lemmas::texts::TextChanges::component_laws))]
-    pub fn from_utf8(
-        component: &WindowsComponent<'a>,
-    ) -> Result<Utf8WindowsComponent<'a>, Utf8Error>
+    pub fn from_utf8(component: &WindowsComponent<'a>) -> Result<Self, Utf8Error>
         ensures ok { IfOk result (λ c. text_windows_part c ≡ windows_part component.now) }
         ensures flag { is_ok result ≡ is_text_part (windows_part component.now) }
         ensures err { IfErr result (IsTextError (part_no_text (windows_part component.now))) }
@@ -309,14 +293,12 @@ impl<'a> Utf8WindowsComponent<'a> {
         match component {
             WindowsComponent::Prefix(prefix) => {
                 let prefix = Utf8WindowsPrefixComponent::from_utf8(prefix)?;
-                Ok(Utf8WindowsComponent::Prefix(prefix))
+                Ok(Self::Prefix(prefix))
             }
-            WindowsComponent::RootDir => Ok(Utf8WindowsComponent::RootDir),
-            WindowsComponent::CurDir => Ok(Utf8WindowsComponent::CurDir),
-            WindowsComponent::ParentDir => Ok(Utf8WindowsComponent::ParentDir),
-            WindowsComponent::Normal(name) => Ok(Utf8WindowsComponent::Normal(str::from_utf8(
-                name,
-            )?)),
+            WindowsComponent::RootDir => Ok(Self::RootDir),
+            WindowsComponent::CurDir => Ok(Self::CurDir),
+            WindowsComponent::ParentDir => Ok(Self::ParentDir),
+            WindowsComponent::Normal(name) => Ok(Self::Normal(str::from_utf8(name)?)),
         }
     }
 
@@ -328,14 +310,12 @@ impl<'a> Utf8WindowsComponent<'a> {
     {
         match component {
             WindowsComponent::Prefix(prefix) => {
-                Utf8WindowsComponent::Prefix(Utf8WindowsPrefixComponent::from_utf8_unchecked(
-                    prefix,
-                ))
+                Self::Prefix(Utf8WindowsPrefixComponent::from_utf8_unchecked(prefix))
             }
-            WindowsComponent::RootDir => Utf8WindowsComponent::RootDir,
-            WindowsComponent::CurDir => Utf8WindowsComponent::CurDir,
-            WindowsComponent::ParentDir => Utf8WindowsComponent::ParentDir,
-            WindowsComponent::Normal(name) => Utf8WindowsComponent::Normal(text_of(name)),
+            WindowsComponent::RootDir => Self::RootDir,
+            WindowsComponent::CurDir => Self::CurDir,
+            WindowsComponent::ParentDir => Self::ParentDir,
+            WindowsComponent::Normal(name) => Self::Normal(text_of(name)),
         }
     }
 
@@ -343,7 +323,7 @@ impl<'a> Utf8WindowsComponent<'a> {
     pub fn is_prefix(self) -> bool
         ensures { result ≡ is_prefix (text_windows_part self.entry).kind }
     {
-        matches!(self, Utf8WindowsComponent::Prefix(_))
+        matches!(self, Self::Prefix(_))
     }
 
     /// The prefix with its text, where the component is one.
@@ -352,7 +332,7 @@ impl<'a> Utf8WindowsComponent<'a> {
             ≡ prefix_part_in (text_windows_part self.entry) }
     {
         match self {
-            Utf8WindowsComponent::Prefix(component) => Some(component),
+            Self::Prefix(component) => Some(component),
             _ => None,
         }
     }
@@ -389,11 +369,8 @@ impl<'a> Utf8Component<'a> for Utf8WindowsComponent<'a> {
 
     fn is_root(&self) -> bool {
         match self {
-            Utf8WindowsComponent::RootDir => true,
-            Utf8WindowsComponent::Prefix(component) => !matches!(
-                component.kind(),
-                Utf8WindowsPrefix::Disk(_)
-            ),
+            Self::RootDir => true,
+            Self::Prefix(component) => !matches!(component.kind(), Utf8WindowsPrefix::Disk(_)),
             _ => false,
         }
     }
@@ -458,10 +435,7 @@ impl<'a> FromPiece<'a, Utf8WindowsEncoding> for Utf8WindowsComponent<'a> {
 
     #[inline(always)]
     fn from_piece(piece: Piece<'a>) -> Utf8WindowsComponent<'a> {
-        Utf8WindowsComponent::from_utf8_unchecked(&<Values as ReadAs<
-            'a,
-            WindowsEncoding,
-        >>::from_piece(piece))
+        Self::from_utf8_unchecked(&<Values as ReadAs<'a, WindowsEncoding>>::from_piece(piece))
     }
 }
 

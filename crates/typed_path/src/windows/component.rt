@@ -21,17 +21,15 @@ impl<'a> WindowsPrefix<'a> {
         ensures { result ≡ min (prefix_length (prefix_view self.entry)) usize.MAX }
     {
         match self {
-            WindowsPrefix::Verbatim(name) | WindowsPrefix::DeviceNS(name) => {
-                name.len().saturating_add(4)
-            }
-            WindowsPrefix::VerbatimUNC(server, share) => share_len(share)
+            Self::Verbatim(name) | Self::DeviceNS(name) => name.len().saturating_add(4),
+            Self::VerbatimUNC(server, share) => share_len(share)
                 .saturating_add(server.len())
                 .saturating_add(8),
-            WindowsPrefix::UNC(server, share) => share_len(share)
+            Self::UNC(server, share) => share_len(share)
                 .saturating_add(server.len())
                 .saturating_add(2),
-            WindowsPrefix::VerbatimDisk(_) => 6,
-            WindowsPrefix::Disk(_) => 2,
+            Self::VerbatimDisk(_) => 6,
+            Self::Disk(_) => 2,
         }
     }
 
@@ -41,9 +39,7 @@ impl<'a> WindowsPrefix<'a> {
     {
         matches!(
             self,
-            WindowsPrefix::Verbatim(_)
-                | WindowsPrefix::VerbatimUNC(..)
-                | WindowsPrefix::VerbatimDisk(_)
+            Self::Verbatim(_) | Self::VerbatimUNC(..) | Self::VerbatimDisk(_)
         )
     }
 }
@@ -273,11 +269,8 @@ impl<'a> Component<'a> for WindowsComponent<'a> {
 
     fn is_root(&self) -> bool {
         match self {
-            WindowsComponent::RootDir => true,
-            WindowsComponent::Prefix(component) => !matches!(
-                component.kind(),
-                WindowsPrefix::Disk(_)
-            ),
+            Self::RootDir => true,
+            Self::Prefix(component) => !matches!(component.kind(), WindowsPrefix::Disk(_)),
             _ => false,
         }
     }

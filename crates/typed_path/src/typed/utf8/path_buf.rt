@@ -363,11 +363,7 @@ impl Utf8TypedPathBuf {
     }
 
     /// As [`Utf8TypedPath::with_extension`].
-    pub fn with_extension(
-        &self,
-        alloc: Global,
-        extension: &str,
-    ) -> Result<Utf8TypedPathBuf, AllocError>
+    pub fn with_extension(&self, alloc: Global, extension: &str) -> Result<Self, AllocError>
         ensures dialect { IfOk result (λ p. typed_dialect p ≡ typed_dialect self.now) }
         ensures bytes { IfOk result (λ p. owned_bytes p
             ≡ with_extension (typed_dialect self.now) (owned_bytes self.now) extension.now) }
@@ -425,10 +421,7 @@ impl Utf8TypedPathBuf {
     }
 
     /// As [`Utf8TypedPath::with_windows_encoding_checked`].
-    pub fn with_windows_encoding_checked(
-        &self,
-        alloc: Global,
-    ) -> Result<Utf8TypedPathBuf, PathError>
+    pub fn with_windows_encoding_checked(&self, alloc: Global) -> Result<Self, PathError>
         ensures dialect { IfOk result (λ p. typed_dialect p ≡ windows) }
         ensures converted { ConvertsChecked (typed_dialect self.now) windows owned_bytes
             (owned_bytes self.now) result }
