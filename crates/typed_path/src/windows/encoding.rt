@@ -1,14 +1,13 @@
 //! The encoding of Windows paths.
 
 ghost use Rattle.std.specs.Prelude.{◌≡◌, ◌≤◌, ◌&&◌, ℕ, true, false, length, min, codes, Some, None, IfSome, IsTrue};
-ghost use Rattle.typed_path.specs.components.{windows, kinds, parts, separators, is_separator, prefix_of, prefix, disk, comps};
+ghost use Rattle.typed_path.specs.components.{windows, separators, is_separator, prefix_of, prefix, disk, comps};
 ghost use Rattle.typed_path.specs.views.BodyViews.{body_items};
 ghost use Rattle.typed_path.specs.views.PieceViews.{found_of, prefix_view};
 ghost use Rattle.typed_path.specs.promises.{is_verbatim_unc_name};
-ghost use Rattle.typed_path.specs.queries.{is_absolute, has_root, is_disk, path_starts_with, stripped};
+ghost use Rattle.typed_path.specs.queries.{is_disk, path_starts_with, stripped};
 ghost use Rattle.typed_path.specs.order.{kind_cmp, path_cmp};
 ghost use Rattle.typed_path.specs.declared.scan.separators.Separators.{Separators};
-ghost use Rattle.typed_path.specs.views.CursorViews.{items_left};
 ghost use Rattle.typed_path.specs.changes.{begins_with_separator, has_second_colon, has_no_nul_or_dot_pair, fault, error_of, HaveOnePrefix};
 ghost use Rattle.typed_path.specs.declared.errors.CheckedPathError.TheVariants.{InvalidFilename};
 ghost use Rattle.std.specs.Slice.Scan.{IsFirstPlace};
@@ -73,11 +72,22 @@ impl Encoding for WindowsEncoding {
     }
 
     fn absolute(cursor: &Cursor<'_>) -> bool {
-        absolute(cursor)
+        match cursor.prefix() {
+            Some(WindowsPrefix::VerbatimUNC(_, share) | WindowsPrefix::UNC(_, share)) => {
+                !share.is_empty()
+            }
+            Some(_) => cursor.has_physical_root(),
+            None => false,
+        }
     }
 
     fn rooted(cursor: &Cursor<'_>) -> bool {
-        rooted(cursor)
+        match cursor.prefix() {
+            Some(WindowsPrefix::VerbatimDisk(_) | WindowsPrefix::Disk(_)) | None => {
+                cursor.has_physical_root()
+            }
+            Some(_) => true,
+        }
     }
 
     #[inline]
@@ -483,29 +493,4 @@ pub fn begins_with_separator(text: &[u8]) -> bool
     ensures { result ≡ begins_with_separator text.now }
 {
     matches!(text, [b'/' | b'\\', ..])
-}
-
-/// Whether the components that are left begin an absolute path.
-pub fn absolute(cursor: &Cursor<'_>) -> bool
-    ensures { result ≡ is_absolute windows (kinds (parts (items_left cursor.now))) }
-{
-    match cursor.prefix() {
-        Some(WindowsPrefix::VerbatimUNC(_, share) | WindowsPrefix::UNC(_, share)) => {
-            !share.is_empty()
-        }
-        Some(_) => cursor.has_physical_root(),
-        None => false,
-    }
-}
-
-/// Whether the components that are left begin with a root, written or implied by a prefix.
-pub fn rooted(cursor: &Cursor<'_>) -> bool
-    ensures { result ≡ has_root windows (kinds (parts (items_left cursor.now))) }
-{
-    match cursor.prefix() {
-        Some(WindowsPrefix::VerbatimDisk(_) | WindowsPrefix::Disk(_)) | None => {
-            cursor.has_physical_root()
-        }
-        Some(_) => true,
-    }
 }
