@@ -9,115 +9,14 @@ ghost use Rattle.typed_path.specs.scan.{IsMask, is_one_of, stands_at};
 
 use crate::scan::lanes::{first_marked, is_one_of, lowest, marks_at, marks_of};
 
-/// Whether a piece that begins with these two bytes is empty, or begins as `.` or `..` does.
+/// Whether looks at the bytes of a text tell that each piece between two bytes of a pair is a name: not
+/// empty, and neither `.` nor `..`. False says nothing.
 #[inline(always)]
-fn begins_no_name(pair: (u8, u8), first: u8, second: u8) -> bool
-    ensures { result ≡ begins_no_name pair first second }
+pub fn has_only_names(text: &[u8], pair: (u8, u8)) -> bool
+    ensures { IsTrue result
+        → list_all is_name_piece (slice_split (is_one_of pair) text.now) ≡ true }
 {
-    is_one_of(pair, first) || (first == b'.' && (is_one_of(pair, second) || second == b'.'))
-}
-
-/// Which bytes of a block are one of a pair with such a piece behind it. The two bytes behind the block
-/// are looked at too.
-#[inline(always)]
-fn no_names_at<const N: usize>(text: &[u8], at: usize, pair: (u8, u8)) -> u64
-    requires lanes { (0 < N) × (N ≤ 64) }
-    requires in_range { at + N + 2 ≤ length text.now }
-    ensures { IsMask (λ k. begins_no_name_at pair text.now (at + k)) N result }
-{
-    let ends = marks_at::<N>(text, at + 2, pair) | marks_of::<N>(text, at + 2, b'.');
-    let dots = marks_of::<N>(text, at + 1, b'.') & ends;
-    marks_at::<N>(text, at, pair) & (marks_at::<N>(text, at + 1, pair) | dots)
-}
-
-/// Which bytes of a block of 32 are one of a pair with such a piece behind it, as the block tells of all but its last
-/// two. It is told which are one of the pair.
-#[inline(always)]
-fn no_names_among(text: &[u8], at: usize, ends: u64, pair: (u8, u8)) -> u64
-    requires in_range { at + 32 ≤ length text.now }
-    requires ends { IsMask (λ k. stands_at pair text.now (at + k)) 32 ends }
-    ensures set { (k : ℕ) → bit_at result k ≡ 1
-        → (k < 31) × (begins_no_name_at pair text.now (at + k) ≡ true) }
-    ensures clear { (k : ℕ) → k < 30 → bit_at result k ≡ 0
-        → begins_no_name_at pair text.now (at + k) ≡ false }
-{
-    let dots = marks_of::<32>(text, at, b'.');
-    ends & ((ends >> 1) | ((dots >> 1) & ((ends | dots) >> 2)))
-}
-
-/// The first byte of a block that is one of a pair with such a piece behind it, or the end of the block.
-#[inline(always)]
-fn first_no_name_in_block<const N: usize>(text: &[u8], at: usize, pair: (u8, u8)) -> usize
-    requires lanes { (0 < N) × (N ≤ 64) }
-    requires in_range { at + N + 2 ≤ length text.now }
-    ensures { IsFirstPlace (begins_no_name_at pair text.now) at (at + N) result }
-{
-    first_marked::<N>(no_names_at::<N>(text, at, pair), at)
-}
-
-/// The first such byte before a place of a text, or that place, by two blocks. Mostly there is none,
-/// which one branch tells.
-#[inline(always)]
-fn first_no_name_in_two<const N: usize>(text: &[u8], to: usize, pair: (u8, u8)) -> usize
-    requires lanes { (0 < N) × (N ≤ 64) }
-    requires size { (N ≤ to) × (to ≤ N + N) }
-    requires in_range { to + 2 ≤ length text.now }
-    ensures { IsFirstPlace (begins_no_name_at pair text.now) 0 to result }
-{
-    let first = no_names_at::<N>(text, 0, pair);
-    let last = no_names_at::<N>(text, to - N, pair);
-    if (first == 0) & (last == 0) {
-        return to;
-    }
-    let place = first_marked::<N>(first, 0);
-    if place < N {
-        return place;
-    }
-    first_marked::<N>(last, to - N)
-}
-
-/// The same, byte by byte.
-#[inline(always)]
-fn first_no_name_by_one(text: &[u8], to: usize, pair: (u8, u8)) -> usize
-    requires { to + 2 ≤ length text.now }
-    ensures { IsFirstPlace (begins_no_name_at pair text.now) 0 to result }
-{
-    let mut at = 0;
-    while at < to
-        && !(is_one_of(pair, text[at]) && begins_no_name(pair, text[at + 1], text[at + 2]))
-    {
-        at += 1;
-    }
-    at
-}
-
-/// The first such byte before a place of a text, or that place. It is told of bytes at the front that none is such a
-/// one.
-#[inline(always)]
-fn first_no_name(text: &[u8], from: usize, to: usize, pair: (u8, u8)) -> usize
-    requires room { to + 2 ≤ length text.now }
-    requires ordered { from ≤ to }
-    requires passed { HoldsNowhere (begins_no_name_at pair text.now) 0 from }
-    ensures { IsFirstPlace (begins_no_name_at pair text.now) 0 to result }
-{
-    let mut at = from;
-    'wholes: while 32 <= to - at {
-        let found = first_no_name_in_block::<32>(text, at, pair);
-        if found < at + 32 {
-            return found;
-        }
-        at += 32;
-    }
-    if 32 <= to {
-        return first_no_name_in_block::<32>(text, to - 32, pair);
-    }
-    if 16 <= to {
-        return first_no_name_in_two::<16>(text, to, pair);
-    }
-    if 8 <= to {
-        return first_no_name_in_two::<8>(text, to, pair);
-    }
-    first_no_name_by_one(text, to, pair)
+    leading_names(text, pair).is_none()
 }
 
 /// How many bytes at the front of a text are names, each with a byte of a pair behind it, as looks at
@@ -207,12 +106,113 @@ fn names_behind(text: &[u8], from: usize, pair: (u8, u8)) -> Option<usize>
     None
 }
 
-/// Whether looks at the bytes of a text tell that each piece between two bytes of a pair is a name: not
-/// empty, and neither `.` nor `..`. False says nothing.
+/// The first byte before a place of a text that is one of a pair with a piece behind it that is empty
+/// or begins as `.` or `..` does, or that place. It is told of bytes at the front that none is so.
 #[inline(always)]
-pub fn has_only_names(text: &[u8], pair: (u8, u8)) -> bool
-    ensures { IsTrue result
-        → list_all is_name_piece (slice_split (is_one_of pair) text.now) ≡ true }
+fn first_no_name(text: &[u8], from: usize, to: usize, pair: (u8, u8)) -> usize
+    requires room { to + 2 ≤ length text.now }
+    requires ordered { from ≤ to }
+    requires passed { HoldsNowhere (begins_no_name_at pair text.now) 0 from }
+    ensures { IsFirstPlace (begins_no_name_at pair text.now) 0 to result }
 {
-    leading_names(text, pair).is_none()
+    let mut at = from;
+    'wholes: while 32 <= to - at {
+        let found = first_no_name_in_block::<32>(text, at, pair);
+        if found < at + 32 {
+            return found;
+        }
+        at += 32;
+    }
+    if 32 <= to {
+        return first_no_name_in_block::<32>(text, to - 32, pair);
+    }
+    if 16 <= to {
+        return first_no_name_in_two::<16>(text, to, pair);
+    }
+    if 8 <= to {
+        return first_no_name_in_two::<8>(text, to, pair);
+    }
+    first_no_name_by_one(text, to, pair)
+}
+
+/// The first byte of a block that is one of a pair with such a piece behind it, or the end of the block.
+#[inline(always)]
+fn first_no_name_in_block<const N: usize>(text: &[u8], at: usize, pair: (u8, u8)) -> usize
+    requires lanes { (0 < N) × (N ≤ 64) }
+    requires in_range { at + N + 2 ≤ length text.now }
+    ensures { IsFirstPlace (begins_no_name_at pair text.now) at (at + N) result }
+{
+    first_marked::<N>(no_names_at::<N>(text, at, pair), at)
+}
+
+/// The first such byte before a place of a text, or that place, by two blocks. Mostly there is none,
+/// which one branch tells.
+#[inline(always)]
+fn first_no_name_in_two<const N: usize>(text: &[u8], to: usize, pair: (u8, u8)) -> usize
+    requires lanes { (0 < N) × (N ≤ 64) }
+    requires size { (N ≤ to) × (to ≤ N + N) }
+    requires in_range { to + 2 ≤ length text.now }
+    ensures { IsFirstPlace (begins_no_name_at pair text.now) 0 to result }
+{
+    let first = no_names_at::<N>(text, 0, pair);
+    let last = no_names_at::<N>(text, to - N, pair);
+    if (first == 0) & (last == 0) {
+        return to;
+    }
+    let place = first_marked::<N>(first, 0);
+    if place < N {
+        return place;
+    }
+    first_marked::<N>(last, to - N)
+}
+
+/// The same, byte by byte.
+#[inline(always)]
+fn first_no_name_by_one(text: &[u8], to: usize, pair: (u8, u8)) -> usize
+    requires { to + 2 ≤ length text.now }
+    ensures { IsFirstPlace (begins_no_name_at pair text.now) 0 to result }
+{
+    let mut at = 0;
+    while at < to
+        && !(is_one_of(pair, text[at]) && begins_no_name(pair, text[at + 1], text[at + 2]))
+    {
+        at += 1;
+    }
+    at
+}
+
+/// Which bytes of a block are one of a pair with such a piece behind it. The two bytes behind the block
+/// are looked at too.
+#[inline(always)]
+fn no_names_at<const N: usize>(text: &[u8], at: usize, pair: (u8, u8)) -> u64
+    requires lanes { (0 < N) × (N ≤ 64) }
+    requires in_range { at + N + 2 ≤ length text.now }
+    ensures { IsMask (λ k. begins_no_name_at pair text.now (at + k)) N result }
+{
+    let ends = marks_at::<N>(text, at + 2, pair) | marks_of::<N>(text, at + 2, b'.');
+    let dots = marks_of::<N>(text, at + 1, b'.') & ends;
+    marks_at::<N>(text, at, pair) & (marks_at::<N>(text, at + 1, pair) | dots)
+}
+
+/// Which bytes of a block of 32 are one of a pair with such a piece behind it, as the block tells of all but its last
+/// two. It is told which are one of the pair.
+#[inline(always)]
+fn no_names_among(text: &[u8], at: usize, ends: u64, pair: (u8, u8)) -> u64
+    requires in_range { at + 32 ≤ length text.now }
+    requires ends { IsMask (λ k. stands_at pair text.now (at + k)) 32 ends }
+    ensures set { (k : ℕ) → bit_at result k ≡ 1
+        → (k < 31) × (begins_no_name_at pair text.now (at + k) ≡ true) }
+    ensures clear { (k : ℕ) → k < 30 → bit_at result k ≡ 0
+        → begins_no_name_at pair text.now (at + k) ≡ false }
+{
+    let dots = marks_of::<32>(text, at, b'.');
+    ends & ((ends >> 1) | ((dots >> 1) & ((ends | dots) >> 2)))
+}
+
+/// Whether a piece that begins with these two bytes is empty, or begins as `.` or `..` does.
+#[inline(always)]
+fn begins_no_name(pair: (u8, u8), first: u8, second: u8) -> bool
+    ensures { result ≡ begins_no_name pair first second }
+{
+    is_one_of(pair, first) || (first == b'.' && (is_one_of(pair, second) || second == b'.'))
 }
