@@ -1,5 +1,5 @@
 -- What the bits of a mask say of the places of a text, and the first and the last place of one of two bytes within a range.
-use Rattle.std.specs.Prelude.{◌≡◌, ◌≤◌, ◌<◌, ◌==◌, ◌||◌, ℕ, Bool, not, List, slice_index, if◌then◌else◌, MatchBool}
+use Rattle.std.specs.Prelude.{◌≡◌, ◌≤◌, ◌<◌, ◌==◌, ◌||◌, ℕ, Bool, not, List, length, min, slice_index, if◌then◌else◌, MatchBool}
 use Rattle.std.specs.Int.{bit_at}
 use Rattle.std.specs.Slice.Scan.{HoldsNowhere, HoldsSomewhere, IsFirstPlace, IsLastPlace}
 
@@ -19,6 +19,10 @@ stands_at pair text k = is_one_of pair (slice_index text k)
 -- whether two texts differ at a place
 abbrev pub differs_at : List ℕ → List ℕ → ℕ → Bool
 differs_at text other k = not (slice_index text k == slice_index other k)
+
+-- the place where two texts part: the first at which they differ, or the length of the shorter one
+abbrev pub PartAt : List ℕ → List ℕ → ℕ → Type 0
+PartAt text other place = IsFirstPlace (differs_at text other) 0 (min (length text) (length other)) place
 
 -- the place of the first of a pair in a text from one place up to another, or that other where there is none
 abbrev pub IsFirstOf : ℕ × ℕ → List ℕ → ℕ → ℕ → ℕ → Type 0

@@ -1,15 +1,14 @@
 -- What is left of a text, by where it begins.
-use Rattle.std.specs.Prelude.{◌≡◌, ◌≤◌, ℕ, min, drop, take, List, [], ◌∷◌, Bool, true, not, ◌||◌, ◌&&◌, ◌==◌, if◌then◌else◌, nat_lt, length, Option, option_map}
+use Rattle.std.specs.Prelude.{◌≡◌, ◌≤◌, ℕ, drop, take, List, [], ◌∷◌, Bool, true, not, ◌||◌, ◌&&◌, ◌==◌, if◌then◌else◌, nat_lt, length, Option, option_map}
 use Rattle.std.specs.Option.{unwrap_or}
 use Rattle.std.specs.List.{before_first, after_last, IsAfterLastMatch}
-use Rattle.std.specs.Slice.Scan.{IsFirstPlace}
 use Rattle.typed_path.specs.declared.scan.separators.Separators.{Separators}
 use Rattle.typed_path.specs.declared.scan.cursor.Begin.{Begin}
 use Rattle.typed_path.specs.declared.scan.cursor.Begin.TheVariants.{Body, Inside}
 use Rattle.typed_path.specs.components.Dialects.{dot, is_separator, is_verbatim}
 use Rattle.typed_path.specs.components.Parts.{Part, Placed, end_of}
 use Rattle.typed_path.specs.components.Comps.{body, later_body, is_dot, is_dot_dot}
-use Rattle.typed_path.specs.scan.Masks.{differs_at}
+use Rattle.typed_path.specs.scan.Masks.{PartAt}
 use Rattle.typed_path.specs.scan.Left.{first_of, last_of, but_last, slice_after_front, slice_after_back}
 use Rattle.typed_path.specs.changes.Spelled.{is_name_piece}
 
@@ -43,7 +42,7 @@ begins_with_name s text = is_name_piece (before_first (is_separator s) text)
 -- two texts are alike up to the first of two places, where they differ or one ends, and the second stands behind the last separator before it
 abbrev pub IsParting : Separators → List ℕ → List ℕ → ℕ → ℕ → Type 0
 IsParting s text other shared start =
-    IsFirstPlace (differs_at text other) 0 (min (length text) (length other)) shared
+    PartAt text other shared
     × IsAfterLastMatch (is_separator s) (take shared text) start
     × (start ≤ length (take shared text))
 

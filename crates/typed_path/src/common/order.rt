@@ -4,9 +4,8 @@
 //! Prefixes come first, so that the loops over the other components hold none. The loops stand in
 //! functions that are generic over the encoding, which build each step in for its separators.
 
-ghost use Rattle.std.specs.Prelude.{◌≡◌, ◌&&◌, List, ◌∷◌, None, option_map, fold, refl, length, min, IfSome};
-ghost use Rattle.std.specs.Slice.Scan.{IsFirstPlace};
-ghost use Rattle.typed_path.specs.scan.{differs_at};
+ghost use Rattle.std.specs.Prelude.{◌≡◌, ◌&&◌, List, ◌∷◌, None, option_map, fold, refl, IfSome};
+ghost use Rattle.typed_path.specs.scan.{PartAt};
 ghost use Rattle.std.specs.List.{flat_map};
 ghost use Rattle.std.specs.Ordering.{is_eq, on, as_partial_cmp};
 ghost use Rattle.std.specs.Cmp.{eq_by_cmp_equiv, on_total, partial_equiv_from_equiv, partial_order_from_total};
@@ -245,8 +244,7 @@ pub(crate) fn compare_parted(
     shared: usize,
     separators: Separators,
 ) -> Ordering
-    requires { IsFirstPlace (differs_at text.now other.now) 0
-        (min (length text.now) (length other.now)) shared }
+    requires { PartAt text.now other.now shared }
     ensures { result ≡ left_cmp (body separators 0 text.now) (body separators 0 other.now) }
 {
     match order_behind(text, other, shared, separators) {
@@ -261,8 +259,7 @@ pub(crate) fn compare_parted(
 ///
 /// It stands apart so that the order of most texts is told in place.
 fn compare_from(text: &[u8], other: &[u8], shared: usize, separators: Separators) -> Ordering
-    requires { IsFirstPlace (differs_at text.now other.now) 0
-        (min (length text.now) (length other.now)) shared }
+    requires { PartAt text.now other.now shared }
     ensures { result ≡ left_cmp (body separators 0 text.now) (body separators 0 other.now) }
 {
     let mut rest = text;
@@ -296,8 +293,7 @@ fn order_of_borders(
     shared: usize,
     separators: Separators,
 ) -> Option<Ordering>
-    requires { IsFirstPlace (differs_at text.now other.now) 0
-        (min (length text.now) (length other.now)) shared }
+    requires { PartAt text.now other.now shared }
     ensures { IfSome result (λ order.
         left_cmp (body separators 0 text.now) (body separators 0 other.now) ≡ order) }
 {

@@ -1,13 +1,12 @@
 //! Texts cut at a byte, at a separator, behind a beginning, behind a base, and behind what two of them
 //! share; and the order of two texts from where they part.
 
-ghost use Rattle.std.specs.Prelude.{◌≡◌, ◌≢◌, ◌≤◌, ◌<◌, ◌+◌, ◌==◌, ◌⊎◌, List, ℕ, [], min, ◌∷◌, ◌++◌, take, length, MatchOption, IfSome, true, false, drop, IsTrue};
+ghost use Rattle.std.specs.Prelude.{◌≡◌, ◌≢◌, ◌≤◌, ◌<◌, ◌+◌, ◌==◌, ◌⊎◌, List, ℕ, [], ◌∷◌, ◌++◌, take, length, MatchOption, IfSome, true, false, drop, IsTrue};
 ghost use Rattle.std.specs.List.{slice_split, position_or_len, before_first, starts_with, IsAfterLastMatch};
-ghost use Rattle.std.specs.Slice.Scan.{IsFirstPlace};
 ghost use Rattle.std.specs.Str.{bytes_eq};
 ghost use Rattle.std.specs.Ordering.{is_ne, nat_cmp, ordering_reverse};
 ghost use Rattle.typed_path.specs.components.{is_separator, is_dot, body, later_body, parts, texts};
-ghost use Rattle.typed_path.specs.scan.{is_clean, begins_with_name, tells_name, differs_at, dots_rank, IsParting, PartWithinNames};
+ghost use Rattle.typed_path.specs.scan.{is_clean, begins_with_name, tells_name, dots_rank, IsParting, PartWithinNames, PartAt};
 ghost use Rattle.typed_path.specs.declared.scan.cursor.Begin.{Begin};
 ghost use Rattle.typed_path.specs.order.{left_cmp, bytes_cmp};
 ghost use Rattle.typed_path.specs.views.BodyViews.{body_items};
@@ -91,8 +90,7 @@ pub fn text_behind<'a>(beginning: &[u8], text: &'a [u8]) -> Option<&'a [u8]>
 /// begin with.
 #[inline(always)]
 pub fn base_end(text: &[u8], base: &[u8], shared: usize, separators: Separators) -> Option<usize>
-    requires { IsFirstPlace (differs_at text.now base.now) 0
-        (min (length text.now) (length base.now)) shared }
+    requires { PartAt text.now base.now shared }
     ensures within { IfSome result (λ n. n ≤ length text.now) }
     ensures some { IfSome result (λ n. 0 < length base.now) }
     ensures items { IfSome result (λ n. (at : ℕ) → body separators at text.now
@@ -169,8 +167,7 @@ fn bodies_behind<'a>(
     shared: usize,
     separators: Separators,
 ) -> (Body<'a>, Body<'a>)
-    requires { IsFirstPlace (differs_at text.now other.now) 0
-        (min (length text.now) (length other.now)) shared }
+    requires { PartAt text.now other.now shared }
     ensures { left_cmp (body_items result.0) (body_items result.1)
         ≡ left_cmp (body separators 0 text.now) (body separators 0 other.now) }
 {
@@ -199,8 +196,7 @@ pub fn texts_behind<'a>(
     shared: usize,
     separators: Separators,
 ) -> Option<(&'a [u8], &'a [u8])>
-    requires { IsFirstPlace (differs_at text.now other.now) 0
-        (min (length text.now) (length other.now)) shared }
+    requires { PartAt text.now other.now shared }
     ensures order { IfSome result (λ behind.
         left_cmp (body separators 0 behind.0.now) (body separators 0 behind.1.now)
         ≡ left_cmp (body separators 0 text.now) (body separators 0 other.now)) }
@@ -243,8 +239,7 @@ pub fn order_behind(
     shared: usize,
     separators: Separators,
 ) -> Option<Ordering>
-    requires { IsFirstPlace (differs_at text.now other.now) 0
-        (min (length text.now) (length other.now)) shared }
+    requires { PartAt text.now other.now shared }
     ensures order { IfSome result (λ order.
         left_cmp (body separators 0 text.now) (body separators 0 other.now) ≡ order) }
     ensures apart { IfSome result (λ order. is_ne order ≡ true
@@ -392,8 +387,7 @@ pub fn order_of_beginning(
     shared: usize,
     separators: Separators,
 ) -> Option<Ordering>
-    requires { IsFirstPlace (differs_at text.now other.now) 0
-        (min (length text.now) (length other.now)) shared }
+    requires { PartAt text.now other.now shared }
     ensures { IfSome result (λ order.
         left_cmp (body separators 0 text.now) (body separators 0 other.now) ≡ order) }
 {
@@ -411,8 +405,7 @@ pub fn order_of_beginning(
 /// two begin with.
 #[inline(always)]
 pub fn are_apart(text: &[u8], other: &[u8], shared: usize, separators: Separators) -> bool
-    requires { IsFirstPlace (differs_at text.now other.now) 0
-        (min (length text.now) (length other.now)) shared }
+    requires { PartAt text.now other.now shared }
     ensures { IsTrue result → starts_with bytes_eq (texts (parts (body separators 0 text.now)))
         (texts (parts (body separators 0 other.now))) ≡ false }
 {
@@ -429,8 +422,7 @@ pub fn are_apart(text: &[u8], other: &[u8], shared: usize, separators: Separator
 /// each text. False says nothing.
 #[inline(always)]
 fn part_in_one_segment(text: &[u8], other: &[u8], shared: usize, separators: Separators) -> bool
-    requires shared { IsFirstPlace (differs_at text.now other.now) 0
-        (min (length text.now) (length other.now)) shared }
+    requires shared { PartAt text.now other.now shared }
     requires some { 0 < shared }
     ensures { IsTrue result → PartWithinNames separators text.now other.now shared
         ⊎ IsParting separators text.now other.now shared 0 }
@@ -450,8 +442,7 @@ fn part_in_one_segment(text: &[u8], other: &[u8], shared: usize, separators: Sep
 /// them and what stands behind it differs from what stands in the other.
 #[inline(always)]
 fn part_at_detours(text: &[u8], other: &[u8], shared: usize, separators: Separators) -> bool
-    requires { IsFirstPlace (differs_at text.now other.now) 0
-        (min (length text.now) (length other.now)) shared }
+    requires { PartAt text.now other.now shared }
     ensures { IsTrue result → starts_with bytes_eq (texts (parts (body separators 0 text.now)))
         (texts (parts (body separators 0 other.now))) ≡ false }
 {
@@ -477,8 +468,7 @@ fn part_at_detours(text: &[u8], other: &[u8], shared: usize, separators: Separat
 /// The last byte that both begin with mostly tells of both, and no segment is searched for then.
 #[inline(always)]
 fn part_within_names(text: &[u8], other: &[u8], shared: usize, separators: Separators) -> bool
-    requires { IsFirstPlace (differs_at text.now other.now) 0
-        (min (length text.now) (length other.now)) shared }
+    requires { PartAt text.now other.now shared }
     ensures { IsTrue result → PartWithinNames separators text.now other.now shared }
 {
     let front = &text[..shared];

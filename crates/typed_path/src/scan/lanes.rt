@@ -3,12 +3,12 @@
 //! name of Windows may have, it is only told whether a text has one, and of NUL and two dots side by side
 //! likewise. Of two texts the first place is found at which they differ.
 
-ghost use Rattle.std.specs.Prelude.{◌≡◌, ◌≢◌, ◌≤◌, ◌<◌, ◌+◌, ◌-◌, ◌%◌, ◌^◌, ◌==◌, ℕ, Bool, true, false, length, min, map, take, drop, slice_index};
+ghost use Rattle.std.specs.Prelude.{◌≡◌, ◌≢◌, ◌≤◌, ◌<◌, ◌+◌, ◌-◌, ◌%◌, ◌^◌, ◌==◌, ℕ, Bool, true, false, length, map, take, drop, slice_index};
 ghost use Rattle.std.specs.Int.{bit_at};
 ghost use Rattle.std.specs.List.{list_any};
 ghost use Rattle.std.specs.Slice.Scan.{HoldsNowhere, IsFirstPlace};
 ghost use Rattle.typed_path.specs.changes.{is_forbidden, is_forbidden_or, forbidden_at, is_letter_of, is_nul_or_dot_pair, nul_or_dot_pair_at, has_no_nul_or_dot_pair};
-ghost use Rattle.typed_path.specs.scan.{IsMask, TellsWhether, is_one_of, stands_at, differs_at, IsFirstOf, IsBehindLastOf};
+ghost use Rattle.typed_path.specs.scan.{IsMask, TellsWhether, is_one_of, stands_at, differs_at, IsFirstOf, IsBehindLastOf, PartAt};
 
 use std::simd::prelude::*;
 
@@ -340,8 +340,7 @@ fn first_difference_by_one(text: &[u8], other: &[u8], to: usize) -> usize
 /// While they are alike, and go on for two blocks of 64, one of them is compared at once.
 #[inline(always)]
 pub fn first_difference(text: &[u8], other: &[u8]) -> usize
-    ensures { IsFirstPlace (differs_at text.now other.now) 0
-        (min (length text.now) (length other.now)) result }
+    ensures { PartAt text.now other.now result }
 {
     let len = text.len().min(other.len());
     let mut at = 0;

@@ -1,6 +1,6 @@
 //! The encoding of Windows paths.
 
-ghost use Rattle.std.specs.Prelude.{◌≡◌, ◌≤◌, ◌&&◌, ℕ, true, false, length, min, codes, Some, None, IfSome, IsTrue};
+ghost use Rattle.std.specs.Prelude.{◌≡◌, ◌≤◌, ◌&&◌, ℕ, true, false, length, codes, Some, None, IfSome, IsTrue};
 ghost use Rattle.typed_path.specs.components.{windows, separators, is_separator, prefix_of, prefix, disk, comps};
 ghost use Rattle.typed_path.specs.views.BodyViews.{body_items};
 ghost use Rattle.typed_path.specs.views.PieceViews.{found_of, prefix_view};
@@ -10,8 +10,7 @@ ghost use Rattle.typed_path.specs.order.{kind_cmp, path_cmp};
 ghost use Rattle.typed_path.specs.declared.scan.separators.Separators.{Separators};
 ghost use Rattle.typed_path.specs.changes.{begins_with_separator, has_second_colon, has_no_nul_or_dot_pair, fault, error_of, HaveOnePrefix};
 ghost use Rattle.typed_path.specs.declared.errors.CheckedPathError.TheVariants.{InvalidFilename};
-ghost use Rattle.std.specs.Slice.Scan.{IsFirstPlace};
-ghost use Rattle.typed_path.specs.scan.{differs_at};
+ghost use Rattle.typed_path.specs.scan.{PartAt};
 
 use crate::common::{
     Encoding, compare_each, compare_parted, compare_prefixes, compare_texts, order_of_prefixed,
@@ -261,8 +260,7 @@ fn behind<'a>(path: &'a [u8], base: &[u8]) -> Option<&'a [u8]>
 /// separators of both. None says nothing. It is told how many bytes the two begin with.
 #[inline(always)]
 fn shared_written_prefix(path: &[u8], other: &[u8], shared: usize) -> Option<(usize, Separators)>
-    requires { IsFirstPlace (differs_at path.now other.now) 0
-        (min (length path.now) (length other.now)) shared }
+    requires { PartAt path.now other.now shared }
     ensures one { IfSome result (λ found. HaveOnePrefix path.now other.now found.0 found.1) }
     ensures begun { IfSome result (λ found. found.0 ≤ shared) }
 {
@@ -295,8 +293,7 @@ fn shared_drive(path: &[u8], other: &[u8]) -> Option<usize>
 /// the prefixes differ.
 #[inline(always)]
 fn shared_marked_prefix(path: &[u8], other: &[u8], shared: usize) -> Option<(usize, Separators)>
-    requires { IsFirstPlace (differs_at path.now other.now) 0
-        (min (length path.now) (length other.now)) shared }
+    requires { PartAt path.now other.now shared }
     ensures one { IfSome result (λ found. HaveOnePrefix path.now other.now found.0 found.1) }
     ensures begun { IfSome result (λ found. found.0 ≤ shared) }
 {
@@ -393,8 +390,7 @@ fn order_by_both_prefixes(
 /// then. False says nothing. It is told how many bytes the path and the text begin with.
 #[inline(always)]
 fn begins_with_prefix(text: &[u8], path: &[u8], shared: usize, found: Found<'_>) -> bool
-    requires place { IsFirstPlace (differs_at path.now text.now) 0
-        (min (length path.now) (length text.now)) shared }
+    requires place { PartAt path.now text.now shared }
     requires found { prefix_of windows path.now ≡ Some (found_of found) }
     ensures prefix { IsTrue result → prefix_of windows text.now ≡ Some (found_of found.entry) }
     ensures separators { IsTrue result → separators windows text.now ≡ separators windows path.now }

@@ -1,5 +1,5 @@
 -- Two texts that begin alike and go on with different names: their order is that of the names.
-use Rattle.std.proofs.Common.{◌≡◌, ℕ, zero, suc, ◌+◌, ◌-◌, ◌<◌, ◌≤◌, ◌==◌, List, [], ◌∷◌, ◌++◌, Bool, true, false, not, ◌&&◌, ◌||◌, cond, min, All, take, drop, length, get_or, Ordering, Less, Equal, Greater, refl, sym, ap, ap₂, ◌∙◌, arith, length-take-le, length-drop, take-append-drop, get_or-take, get_or-drop, eqb-true, take_all, append_assoc, length-append, inl, inr, Option, Some, None}
+use Rattle.std.proofs.Common.{◌≡◌, ℕ, zero, suc, ◌+◌, ◌-◌, ◌<◌, ◌≤◌, ◌==◌, List, [], ◌∷◌, ◌++◌, Bool, true, false, not, ◌&&◌, ◌||◌, cond, All, take, drop, length, get_or, Ordering, Less, Equal, Greater, refl, sym, ap, ap₂, subst, ◌∙◌, arith, length-take-le, length-drop, take-append-drop, get_or-take, get_or-drop, eqb-true, take_all, append_assoc, length-append, inl, inr, Option, Some, None}
 use Rattle.std.specs.Ordering.{is_ne, ordering_then}
 use Rattle.std.specs.List.{before_first, position_or_len, starts_with, suffix_len}
 use Rattle.std.specs.Str.{bytes_eq}
@@ -7,8 +7,7 @@ use Rattle.std.specs.Cmp.Lexicographic.{bytes_decides, nat_list_cmp_total}
 use Rattle.std.proofs.Math.Bool.{and-false}
 use Rattle.std.proofs.Math.Seq.{get_or-append_seam}
 use Rattle.std.proofs.lemmas.Bool.{and_parts, cases_lt, not-true}
-use Rattle.std.specs.Slice.Scan.{IsFirstPlace}
-use Rattle.std.proofs.lemmas.List.{drop-append-le, take-append-le, take_more}
+use Rattle.std.proofs.lemmas.List.{drop-append-le, take-append-le, take_more, take_rest}
 use Rattle.std.proofs.Math.Dec.{eqb-suc-zero}
 use Rattle.std.proofs.lemmas.Cmp.{tied_itself, nat_cmp_total}
 use Rattle.typed_path.specs.declared.scan.separators.Separators.{Separators}
@@ -17,7 +16,7 @@ use Rattle.typed_path.specs.declared.scan.cursor.Body.{Body as Reading}
 use Rattle.typed_path.specs.declared.scan.cursor.Begin.{Begin}
 use Rattle.typed_path.specs.declared.scan.cursor.Begin.TheVariants.{Body, Inside}
 use Rattle.typed_path.specs.components.{is_separator, is_verbatim, dot, Placed, name_part, component, first, is_empty, is_dot, is_dot_dot, body, later_body, kinds, parts, texts, windows, Prefix, prefix, disk, found, prefix_part, Found, prefix_of, separators, comps, comps_behind, IsPartedDrive}
-use Rattle.typed_path.specs.scan.{body_from, is_clean, counts, begins_with_name, tells_name, differs_at, IsParting, PartWithinNames}
+use Rattle.typed_path.specs.scan.{body_from, is_clean, counts, begins_with_name, tells_name, differs_at, IsParting, PartWithinNames, PartAt}
 use Rattle.typed_path.specs.order.{bytes_cmp, left_cmp, kinds_cmp, path_cmp, kind_cmp_total, kinds_cmp_total}
 use Rattle.typed_path.specs.views.BodyViews.{body_slice, body_items}
 use Rattle.typed_path.proofs.lemmas.lists.Lists.{last_place}
@@ -326,7 +325,7 @@ module _ (s : Separators) (t u : List ℕ) (k n : ℕ) (parted : IsParting s t u
           }
 
 -- two texts part within names where the last byte that both begin with tells it
-pub tells-parted : (s : Separators) (t u : List ℕ) (k : ℕ) → IsFirstPlace (differs_at t u) 0 (min (length t) (length u)) k
+pub tells-parted : (s : Separators) (t u : List ℕ) (k : ℕ) → PartAt t u k
     → (before : List ℕ) (b : ℕ) → take k t ≡ before ++ b ∷ [] → tells_name s b ≡ true → PartWithinNames s t u k
 tells-parted s t u k parting before b is tells =
     let n = length (take k t) - suffix_len (λ x. not (is_separator s x)) (take k t) in
@@ -336,12 +335,11 @@ tells-parted s t u k parting before b is tells =
     (n, parted, named.0, named.1)
 
 -- two texts begin with the bytes before any place up to the first at which they differ
-pub alike-before : (t u : List ℕ) (k n : ℕ) → IsFirstPlace (differs_at t u) 0 (min (length t) (length u)) k → n ≤ k → take n t ≡ take n u
+pub alike-before : (t u : List ℕ) (k n : ℕ) → PartAt t u k → n ≤ k → take n t ≡ take n u
 alike-before t u k n place low = alike-front n t u (omega (arith, place.high)) (omega (arith, place.high)) (λ i l. same-byte (get_or t i 0) (get_or u i 0) (place.before i (omega arith) (omega arith)))
 
 -- behind such a place they differ first at the same byte
-pub parted-behind : (t u : List ℕ) (k n : ℕ) → IsFirstPlace (differs_at t u) 0 (min (length t) (length u)) k → n ≤ k
-    → IsFirstPlace (differs_at (drop n t) (drop n u)) 0 (min (length (drop n t)) (length (drop n u))) (k - n)
+pub parted-behind : (t u : List ℕ) (k n : ℕ) → PartAt t u k → n ≤ k → PartAt (drop n t) (drop n u) (k - n)
 parted-behind t u k n place low = record {
   low = omega arith;
   high = omega (arith, place.high, length-drop n t, length-drop n u);
@@ -352,15 +350,21 @@ parted-behind t u k n place low = record {
     moved : (i : ℕ) → differs_at (drop n t) (drop n u) i ≡ differs_at t u (n + i)
     moved i = ap₂ (λ a b. not (a == b)) (get_or-drop n t i 0) (get_or-drop n u i 0)
 
+-- the same as a slice takes what stands there
+pub parted-rest : (t u : List ℕ) (k n : ℕ) → PartAt t u k → n ≤ k → PartAt (take (length t - n) (drop n t)) (take (length u - n) (drop n u)) (k - n)
+parted-rest t u k n place low =
+    subst (λ v. PartAt v (take (length u - n) (drop n u)) (k - n)) (sym (take_rest t n))
+    (subst (λ w. PartAt (drop n t) w (k - n)) (sym (take_rest u n)) (parted-behind t u k n place low))
+
 -- and where that is the end of one of them, the other begins with it
-pub shared-begins : (t u : List ℕ) (k : ℕ) → IsFirstPlace (differs_at t u) 0 (min (length t) (length u)) k → k ≡ length u → (take (length u) t ≡ u) × (length u ≤ length t)
+pub shared-begins : (t u : List ℕ) (k : ℕ) → PartAt t u k → k ≡ length u → (take (length u) t ≡ u) × (length u ≤ length t)
 shared-begins t u k place whole = (
   sym (ap (λ n. take n t) whole) ∙ alike-before t u k k place (omega arith) ∙ take_all k u (omega (arith, whole)),
   omega (arith, place.high, whole),
 )
 
 -- one text is in order with itself
-pub itself-order : (s : Separators) (t u : List ℕ) (k : ℕ) → IsFirstPlace (differs_at t u) 0 (min (length t) (length u)) k → k ≡ length t → k ≡ length u → left_cmp (body s 0 t) (body s 0 u) ≡ Equal
+pub itself-order : (s : Separators) (t u : List ℕ) (k : ℕ) → PartAt t u k → k ≡ length t → k ≡ length u → left_cmp (body s 0 t) (body s 0 u) ≡ Equal
 itself-order s t u k parting whole whole' =
     let same : t ≡ u = sym (take_all k t (omega (arith, whole))) ∙ alike-front k t u (omega (arith, whole)) (omega (arith, whole')) (λ i l. same-byte (get_or t i 0) (get_or u i 0) (parting.before i (omega arith) l)) ∙ take_all k u (omega (arith, whole')) in
     ap (λ v. left_cmp (body s 0 t) (body s 0 v)) (sym same) ∙ tied_itself kinds_cmp_total (kinds (parts (body s 0 t)))

@@ -1,8 +1,6 @@
-use Rattle.std.proofs.Common.{sym, ap, ◌∙◌, ◌-◌, min, length, take, drop, subst}
-use Rattle.std.specs.Slice.Scan.{IsFirstPlace}
+use Rattle.std.proofs.Common.{sym, ap, ◌∙◌, ◌-◌, length}
 use Rattle.std.proofs.lemmas.List.{take_rest}
 use Rattle.typed_path.specs.components.{windows, body, comps}
-use Rattle.typed_path.specs.scan.{differs_at}
 use Rattle.typed_path.specs.changes.{raw_length, HaveOnePrefix}
 use Rattle.typed_path.specs.order.{left_cmp}
 use Rattle.typed_path.specs.views.BodyViews.{body_items}
@@ -10,7 +8,7 @@ use Rattle.typed_path.specs.views.PieceViews.{found_of}
 use Rattle.typed_path.proofs.lemmas.components.Prefixes.{prefix-fits}
 use Rattle.typed_path.proofs.lemmas.order.Comparisons.{prefixed-bare, bare-prefixed}
 use Rattle.typed_path.proofs.lemmas.order.DifferentPrefixes.{first-found, bare-found, behind-bare}
-use Rattle.typed_path.proofs.lemmas.order.SharedNames.{one-order, parted-behind}
+use Rattle.typed_path.proofs.lemmas.order.SharedNames.{one-order, parted-rest}
 use Rattle.typed_path.proofs.windows.encoding.order_behind_marked.Goals as goal
 
 -- the other alone has a prefix
@@ -27,12 +25,8 @@ returns-in_default c =
 -- what stands behind the prefix differs first at the same byte
 pub compare_parted-requires : goal.compare_parted-requires
 compare_parted-requires c =
-    let t = c.args.path.now in
-    let u = c.args.other.now in
-    let n = c.in-Some.found.length in
-    let k = c.first_difference-shared.result in
-    subst (λ v. IsFirstPlace (differs_at v (take (length u - n) (drop n u))) 0 (min (length v) (length (take (length u - n) (drop n u)))) (k - n)) (sym (take_rest t n))
-    (subst (λ w. IsFirstPlace (differs_at (drop n t) w) 0 (min (length (drop n t)) (length w)) (k - n)) (sym (take_rest u n)) (parted-behind t u k n c.first_difference-shared.ensures (c.begins_with_prefix.ensures.begun c.if-begins_with_prefix.true)))
+    parted-rest c.args.path.now c.args.other.now c.first_difference-shared.result c.in-Some.found.length c.first_difference-shared.ensures
+    (c.begins_with_prefix.ensures.begun c.if-begins_with_prefix.true)
 
 pub returns-then-begins_with_prefix : goal.returns-then-begins_with_prefix
 returns-then-begins_with_prefix c =

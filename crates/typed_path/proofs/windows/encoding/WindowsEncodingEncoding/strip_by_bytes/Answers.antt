@@ -1,28 +1,20 @@
-use Rattle.std.proofs.Common.{◌≡◌, ◌<◌, ◌≤◌, min, List, ◌+◌, ◌++◌, ◌-◌, ℕ, Some, true, length, take, drop, refl, ap, sym, subst, ◌∙◌}
+use Rattle.std.proofs.Common.{◌≡◌, ◌<◌, ◌+◌, ◌++◌, ◌-◌, ℕ, Some, true, length, take, drop, refl, ap, sym, subst, ◌∙◌}
 use Rattle.std.proofs.lemmas.List.{take_rest}
 use Rattle.typed_path.specs.declared.scan.cursor.Begin.TheVariants.{Inside}
 use Rattle.typed_path.specs.changes.{raw_length}
 use Rattle.typed_path.specs.components.{body, parts, texts, later_body, windows, separators, prefix_of}
-use Rattle.typed_path.specs.scan.{is_clean, differs_at}
+use Rattle.typed_path.specs.scan.{is_clean}
 use Rattle.std.specs.List.{starts_with}
-use Rattle.std.specs.Slice.Scan.{IsFirstPlace}
 use Rattle.std.specs.Str.{bytes_eq}
-use Rattle.typed_path.proofs.lemmas.order.SharedNames.{alike-before, one-apart, parted-behind}
+use Rattle.typed_path.proofs.lemmas.order.SharedNames.{alike-before, one-apart, parted-rest}
 use Rattle.typed_path.proofs.lemmas.queries.Bases.{stripped-behind_prefix, stripped-not}
 use Rattle.typed_path.proofs.windows.encoding.WindowsEncodingEncoding.strip_by_bytes.Goals as goal
 
--- what stands behind a prefix differs first at the same byte
-behind : (t u : List ℕ) (k n : ℕ) → IsFirstPlace (differs_at t u) 0 (min (length t) (length u)) k → n ≤ k
-    → IsFirstPlace (differs_at (take (length t - n) (drop n t)) (take (length u - n) (drop n u))) 0 (min (length (take (length t - n) (drop n t))) (length (take (length u - n) (drop n u)))) (k - n)
-behind t u k n first low =
-    subst (λ v. IsFirstPlace (differs_at v (take (length u - n) (drop n u))) 0 (min (length v) (length (take (length u - n) (drop n u)))) (k - n)) (sym (take_rest t n))
-    (subst (λ w. IsFirstPlace (differs_at (drop n t) w) 0 (min (length (drop n t)) (length w)) (k - n)) (sym (take_rest u n)) (parted-behind t u k n first low))
-
 pub base_end-requires : goal.base_end-requires
-base_end-requires c = behind c.args.path.now c.args.base.now c.first_difference-shared.result c.in-Some.end c.first_difference-shared.ensures c.in-Some.ensures.begun
+base_end-requires c = parted-rest c.args.path.now c.args.base.now c.first_difference-shared.result c.in-Some.end c.first_difference-shared.ensures c.in-Some.ensures.begun
 
 pub are_apart-requires : goal.are_apart-requires
-are_apart-requires c = behind c.args.path.now c.args.base.now c.first_difference-shared.result c.in-Some.end c.first_difference-shared.ensures c.in-Some.ensures.begun
+are_apart-requires c = parted-rest c.args.path.now c.args.base.now c.first_difference-shared.result c.in-Some.end c.first_difference-shared.ensures c.in-Some.ensures.begun
 
 pub returns-in-Some-base_end : goal.returns-in-Some-base_end
 returns-in-Some-base_end c =
