@@ -12,4 +12,4 @@ pub use Rattle.typed_path.specs.changes.Fault.{fault, fault_at, fault_behind, ju
 pub use Rattle.typed_path.specs.changes.Push.{FitsBy, FitsPush, HaveOnePrefix, IsPutBehind, ended_windows, ended_with, is_disk_alone, joint, merge_by_kind, merged, merges, prefix_alone, push, push_all, push_behind, push_unix, push_windows, raw_length, raw_prefix, spelled, spells_anew, without_last_name}
 pub use Rattle.typed_path.specs.changes.Reserved.{is_bare_device, is_numbered_device, is_device}
 pub use Rattle.typed_path.specs.changes.Run.{FitsAll, FitsEach, FitsStep, Operation, Response, clear_op, done, extend_op, flag, pop_op, push_checked_op, push_op, refused, replies, set_extension_op, set_file_name_op, step, text_after}
-pub use Rattle.typed_path.specs.changes.Spelled.{AreMergeable, AreNamesBefore, AreReadBehind, HoldsNames, IsKnown, IsMergeable, IsReadFirst, IsSpelled, IsSpelledHead, IsStanding, Stands, TellsSpelled, begins_no_name, begins_no_name_at, is_component, is_name_piece, is_row, jointed, names_behind, names_of, room_of}
+pub use Rattle.typed_path.specs.changes.Spelled.{AreMergeable, AreNamesBefore, AreReadBehind, HoldsNames, IsKnown, IsMergeable, IsReadFirst, IsSpelled, IsSpelledHead, IsStanding, Stands, TellsNames, TellsSpelled, begins_no_name, begins_no_name_at, is_component, is_name_piece, is_row, jointed, names_behind, names_of, room_of}

@@ -1,10 +1,10 @@
 //! What stands between the bytes of a pair: how much at the front of a text is names, by blocks.
 
-ghost use Rattle.std.specs.Prelude.{◌≡◌, ◌≤◌, ◌<◌, ◌+◌, ◌-◌, ◌==◌, ℕ, true, false, IsTrue, MatchOption, length, slice_index};
+ghost use Rattle.std.specs.Prelude.{◌≡◌, ◌≤◌, ◌<◌, ◌+◌, ◌-◌, ◌==◌, ℕ, true, false, IsTrue, length, slice_index};
 ghost use Rattle.std.specs.Int.{bit_at};
 ghost use Rattle.std.specs.List.{list_all, slice_split};
 ghost use Rattle.std.specs.Slice.Scan.{HoldsNowhere, IsFirstPlace};
-ghost use Rattle.typed_path.specs.changes.{begins_no_name, begins_no_name_at, is_name_piece, AreNamesBefore};
+ghost use Rattle.typed_path.specs.changes.{begins_no_name, begins_no_name_at, is_name_piece, TellsNames};
 ghost use Rattle.typed_path.specs.scan.{IsMask, is_one_of, stands_at};
 
 use crate::scan::lanes::{first_marked, is_one_of, lowest, marks_at, marks_of};
@@ -25,9 +25,7 @@ pub fn has_only_names(text: &[u8], pair: (u8, u8)) -> bool
 /// A piece that begins as `..` does, as `..a`, is taken for none.
 #[inline(always)]
 pub fn leading_names(text: &[u8], pair: (u8, u8)) -> Option<usize>
-    ensures { MatchOption result
-        (list_all is_name_piece (slice_split (is_one_of pair) text.now) ≡ true)
-        (λ place. AreNamesBefore pair text.now place) }
+    ensures { TellsNames pair text.now result }
 {
     if let [only] = text {
         return if begins_no_name(pair, *only, *only) {
@@ -50,9 +48,7 @@ pub fn leading_names(text: &[u8], pair: (u8, u8)) -> Option<usize>
 /// cost less then than a look for those that follow.
 #[inline(always)]
 pub fn leading_short_names(text: &[u8], pair: (u8, u8)) -> Option<usize>
-    ensures { MatchOption result
-        (list_all is_name_piece (slice_split (is_one_of pair) text.now) ≡ true)
-        (λ place. AreNamesBefore pair text.now place) }
+    ensures { TellsNames pair text.now result }
 {
     if text.len() < 34 {
         return leading_names(text, pair);
@@ -87,9 +83,7 @@ fn names_behind(text: &[u8], from: usize, pair: (u8, u8)) -> Option<usize>
     requires size { from + 2 ≤ length text.now }
     requires first { begins_no_name pair (slice_index text.now 0) (slice_index text.now 1) ≡ false }
     requires passed { HoldsNowhere (begins_no_name_at pair text.now) 0 from }
-    ensures { MatchOption result
-        (list_all is_name_piece (slice_split (is_one_of pair) text.now) ≡ true)
-        (λ place. AreNamesBefore pair text.now place) }
+    ensures { TellsNames pair text.now result }
 {
     let to = text.len() - 2;
     let found = first_no_name(text, from, to, pair);

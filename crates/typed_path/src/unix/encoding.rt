@@ -1,11 +1,10 @@
 //! The encoding of Unix paths: how one is pushed, judged and brought into its normal text.
 
-ghost use Rattle.std.specs.Prelude.{false, true, ◌≡◌, ◌≤◌, ◌+◌, ◌++◌, ℕ, take, slice_range, length, IfOk, IfSome, IsNone, IsOk, MatchOption, OnOk, OnErr, ◌<◌, ◌-◌, List, [], codes, fold, Some};
+ghost use Rattle.std.specs.Prelude.{false, ◌≡◌, ◌≤◌, ◌+◌, ◌++◌, ℕ, take, slice_range, length, IfOk, IfSome, IsNone, IsOk, MatchOption, OnOk, OnErr, ◌<◌, ◌-◌, List, [], codes, fold, Some};
 ghost use Rattle.std.specs.Vec.{vec_capacity, vec_len};
-ghost use Rattle.std.specs.List.{list_all, slice_split};
+ghost use Rattle.std.specs.List.{slice_split};
 ghost use Rattle.typed_path.specs.components.{unix, slash, is_separator};
-ghost use Rattle.typed_path.specs.changes.{push_unix, ended_with, is_name_piece, AreNamesBefore, FitsPush};
-ghost use Rattle.typed_path.specs.scan.{is_one_of};
+ghost use Rattle.typed_path.specs.changes.{push_unix, ended_with, TellsNames, FitsPush};
 ghost use Rattle.typed_path.specs.places.{normal_text, rows, settled, names_left, AreRows, ArePut, IsParted};
 
 use crate::common::{
@@ -294,9 +293,7 @@ fn put_names<'a>(
     path: &'a [u8],
     names: Option<usize>,
 ) -> Result<Option<&'a [u8]>, AllocError>
-    requires { MatchOption names
-        (list_all is_name_piece (slice_split (is_one_of (slash, slash)) path.now) ≡ true)
-        (λ place. AreNamesBefore (slash, slash) path.now place) }
+    requires { TellsNames (slash, slash) path.now names }
     ensures ok { IfOk result (λ left. MatchOption left
         (ArePut Separators.Slash text.old.items text.new.items
         (slice_split (is_separator Separators.Slash) path.now) [])

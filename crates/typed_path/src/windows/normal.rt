@@ -1,12 +1,12 @@
 //! The normal text of a Windows path.
 
 ghost use Rattle.std.specs.Prelude.{◌≡◌, ◌<◌, ◌≤◌, ◌+◌, ◌-◌, ◌++◌, ℕ, List, [], false, true, take, drop, fold, length, map, IsTrue, IsSome, IfSome, IsOk, IfOk, OnOk, OnErr, MatchOption, None};
-ghost use Rattle.std.specs.List.{list_all, list_any, slice_split};
+ghost use Rattle.std.specs.List.{list_any, slice_split};
 ghost use Rattle.std.specs.Vec.{vec_len, vec_capacity};
 ghost use Rattle.typed_path.specs.declared.scan.separators.Separators.{Separators};
 ghost use Rattle.typed_path.specs.components.{windows, slash, backslash, colon, is_separator, drive};
 ghost use Rattle.typed_path.specs.scan.{is_one_of};
-ghost use Rattle.typed_path.specs.changes.{push_windows, push_all, spells_anew, is_name_piece, AreNamesBefore};
+ghost use Rattle.typed_path.specs.changes.{push_windows, push_all, spells_anew, TellsNames};
 ghost use Rattle.typed_path.specs.places.{normal_text, names_left_of, rows_of, settled, AreRowsOf, ArePlainRows, ArePut, IsRowHead, IsPartedEither, TakesRows, HaveNoDisks, HasPlainNames, IsHeadOf};
 ghost use Rattle.typed_path.specs.views.PieceViews.{found_of};
 
@@ -191,9 +191,7 @@ fn put_undriven(
 ) -> Result<bool, AllocError>
     requires within { len ≤ length text.old.items }
     requires free { list_any (is_one_of (colon, colon)) path.now ≡ false }
-    requires names { MatchOption names
-        (list_all is_name_piece (slice_split (is_separator Separators.Either) path.now) ≡ true)
-        (λ place. AreNamesBefore (slash, backslash) path.now place) }
+    requires names { TellsNames (slash, backslash) path.now names }
     ensures ok { IfOk result (λ plain. IsTrue plain → (head : List ℕ) → length head ≡ len
         → AreRowsOf Separators.Either text.old.items head []
         → ArePlainRows text.new.items head path.now) }
@@ -255,9 +253,7 @@ fn put_names<'a>(
     path: &'a [u8],
     names: Option<usize>,
 ) -> Result<Option<&'a [u8]>, AllocError>
-    requires { MatchOption names
-        (list_all is_name_piece (slice_split (is_separator Separators.Either) path.now) ≡ true)
-        (λ place. AreNamesBefore (slash, backslash) path.now place) }
+    requires { TellsNames (slash, backslash) path.now names }
     ensures ok { IfOk result (λ left. MatchOption left
         (ArePut Separators.Either text.old.items text.new.items
         (slice_split (is_separator Separators.Either) path.now) [])

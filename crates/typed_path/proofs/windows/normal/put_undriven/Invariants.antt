@@ -1,9 +1,8 @@
-use Rattle.std.proofs.Common.{◌≡◌, ◌≤◌, ◌<◌, ◌+◌, vec_len, vec_capacity, ℕ, List, [], length, take, true, None}
-use Rattle.std.specs.Prelude.{MatchOption}
-use Rattle.std.specs.List.{list_all, slice_split}
+use Rattle.std.proofs.Common.{◌≡◌, ◌≤◌, ◌<◌, ◌+◌, vec_len, vec_capacity, ℕ, List, [], length, take, None}
+use Rattle.std.specs.List.{slice_split}
 use Rattle.typed_path.specs.declared.scan.separators.Separators.TheVariants.{Either}
 use Rattle.typed_path.specs.components.{is_separator, drive, slash, backslash}
-use Rattle.typed_path.specs.changes.{is_name_piece, AreNamesBefore}
+use Rattle.typed_path.specs.changes.{TellsNames}
 use Rattle.typed_path.specs.places.{AreRowsOf, HaveNoDisks}
 use Rattle.typed_path.proofs.lemmas.places.UnixRows.{Standing}
 use Rattle.typed_path.proofs.windows.normal.put_undriven.Given as goal
@@ -16,7 +15,7 @@ invariant-segments l = record {
   capacity : vec_capacity l.fn.text ≤ vec_capacity l.text;
   room : vec_len l.fn.text + length l.path < vec_capacity l.fn.text → vec_len l.text + length l.rest < vec_capacity l.text;
   drives : HaveNoDisks (slice_split (is_separator Either) l.rest);
-  names : MatchOption l.names (list_all is_name_piece (slice_split (is_separator Either) l.rest) ≡ true) (λ place. AreNamesBefore (slash, backslash) l.rest place);
+  names : TellsNames (slash, backslash) l.rest l.names;
 }
 
 abbrev pub decreases-segments : goal.decreases-segments
