@@ -6,7 +6,7 @@
 ghost use Rattle.std.specs.Prelude.{◌≡◌, ℕ, List, option_map, codes, ⊤, Some, true, drop, slice_get};
 ghost use Rattle.typed_path.specs.components.{Part, parts, Placed, end_of, kinds, written, as_written, comps};
 ghost use Rattle.typed_path.specs.texts.{has_text_names, have_text_names};
-ghost use Rattle.typed_path.specs.views.CursorViews.{items_left};
+ghost use Rattle.typed_path.specs.views.CursorViews.{items_left, slice_left};
 ghost use Rattle.typed_path.specs.views.PieceViews.{part_of};
 ghost use Rattle.typed_path.specs.views.Shown.{Shown, whole, text_alone};
 ghost use Rattle.typed_path.specs.scan.{last_of, but_last, slice_after_front, slice_after_back, first_part, last_part, LeavesFront, LeavesBack};
@@ -50,7 +50,6 @@ impl<'a, T: Encoding, I> Clone for Reading<'a, T, I> {
 impl<'a, T: Encoding, I> Copy for Reading<'a, T, I> {}
 
 impl<'a, T: Encoding, I> Reading<'a, T, I> {
-    ghost use Rattle.typed_path.specs.views.CursorViews.{slice_left};
     ghost use Rattle.typed_path.specs.views.PathViews.{path_bytes, components_items, components_slice, components_parts};
 
     /// The components of a path, from either end.

@@ -6,6 +6,7 @@ ghost use Rattle.typed_path.specs.changes.{refusal, FitsPush, push_all, IsKnown,
 ghost use Rattle.typed_path.specs.promises.{HasPrefixOf, LiesWithin};
 ghost use Rattle.typed_path.specs.queries.{parent_of, file_name_of};
 ghost use Rattle.std.specs.String.{string_bytes, string_capacity};
+ghost use Rattle.typed_path.specs.views.PathViews.{path_bytes};
 
 use crate::common::encoding::Encoding;
 use crate::common::path::Path;
@@ -31,7 +32,6 @@ impl<T> Model for PathBuf<T> {
 }
 
 impl<T: Encoding> PathBuf<T> {
-    ghost use Rattle.typed_path.specs.views.PathViews.{path_bytes};
     ghost use Rattle.typed_path.specs.changes.Push as push_spec;
 
     /// The empty path.
@@ -347,8 +347,6 @@ impl<T: Encoding> From<PathBuf<T>> for Vec<u8> {
 
 /// Pushes paths one by one. Where memory is refused, those before it stay pushed.
 impl<'p, T: Encoding> Extend<Path<'p, T>> for PathBuf<T> {
-    ghost use Rattle.typed_path.specs.views.PathViews.{path_bytes};
-
     ghost extend_gives = { λ old paths new. new.bytes
         ≡ push_all T.dialect old.bytes (map path_bytes paths) };
 
@@ -364,8 +362,6 @@ impl<'p, T: Encoding> Extend<Path<'p, T>> for PathBuf<T> {
 
 /// The paths pushed one by one onto the empty path.
 impl<'p, T: Encoding> FromIterator<Path<'p, T>> for PathBuf<T> {
-    ghost use Rattle.typed_path.specs.views.PathViews.{path_bytes};
-
     type Alloc = Global;
 
     ghost from_iter_gives = { λ paths path. path.bytes

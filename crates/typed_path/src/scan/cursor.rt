@@ -5,9 +5,9 @@
 //! read off.
 
 ghost use Rattle.std.specs.Prelude.{◌≡◌, ◌≤◌, ◌-◌, length, slice_range, true, [], ◌++◌, take, drop, option_map, Some, None, IfSome, IfNone, IsTrue};
-ghost use Rattle.typed_path.specs.components.{prefix_part};
-ghost use Rattle.typed_path.specs.views.PieceViews.{part_of, prefix_view};
-ghost use Rattle.typed_path.specs.scan.{pending, is_clean};
+ghost use Rattle.typed_path.specs.components.{prefix_part, body, comps, component, Placed, end_of, kinds, parts, windows, dialect_of, later_body};
+ghost use Rattle.typed_path.specs.views.PieceViews.{part_of, prefix_view, step_part};
+ghost use Rattle.typed_path.specs.scan.{pending, is_clean, but_last, last_of, slice_after_front, slice_after_back, first_part, last_part, end_from};
 
 use crate::errors::CheckedPathError;
 use crate::scan::prefix::{Found, WindowsPrefix, find_prefix};
@@ -44,11 +44,8 @@ macro_rules! rest {
 }
 
 impl<'a> Cursor<'a> {
-    ghost use Rattle.typed_path.specs.components.{body, comps, component, Placed, end_of, kinds, parts, prefix_part, windows, dialect_of};
     ghost use Rattle.typed_path.specs.declared.scan.cursor.Begin.{Begin};
-    ghost use Rattle.typed_path.specs.scan.{but_last, last_of, slice_after_front, slice_after_back, first_part, last_part};
     ghost use Rattle.typed_path.specs.queries.{begins_with_root, first_prefix, prefix_among, behind_prefix, has_prefix, has_physical_root};
-    ghost use Rattle.typed_path.specs.views.PieceViews.{part_of, prefix_view};
     ghost use Rattle.typed_path.specs.views.BodyViews.{body_items};
     ghost use Rattle.typed_path.specs.views.SpanViews.{span_bytes};
     ghost use Rattle.typed_path.specs.views.CursorViews.{slice_left, items_left, cursor_separators};
@@ -329,12 +326,9 @@ pub struct Body<'a> {
 }
 
 impl<'a> Body<'a> {
-    ghost use Rattle.typed_path.specs.components.{body, later_body, kinds, parts, dialect_of};
     ghost use Rattle.typed_path.specs.declared.scan.cursor.Begin.{Begin};
     ghost use Rattle.typed_path.specs.declared.scan.step.StepKind.{StepKind};
-    ghost use Rattle.typed_path.specs.scan.{but_last, slice_after_front, slice_after_back, first_part, last_part, end_from};
     ghost use Rattle.typed_path.specs.queries.{begins_with_root};
-    ghost use Rattle.typed_path.specs.views.PieceViews.{step_part};
     ghost use Rattle.typed_path.specs.views.BodyViews.{body_slice, body_items};
     ghost use Rattle.typed_path.specs.changes.{error_of, fault_behind};
 

@@ -7,7 +7,7 @@ ghost use Rattle.typed_path.specs.views.PathViews.{path_bytes};
 ghost use Rattle.typed_path.specs.typed.Outcomes.{JoinsChecked, Normalizes, ConvertsChecked, Absolutizes};
 ghost use Rattle.typed_path.specs.texts.{is_text_option, IsTextError};
 ghost use Rattle.typed_path.specs.components.{kinds, comps, parts_of, unix, windows};
-ghost use Rattle.typed_path.specs.queries.{is_absolute, has_root, is_valid, parent_of, file_name_of, file_stem_of, stripped, path_starts_with, path_ends_with, ancestors_of, stripped_to};
+ghost use Rattle.typed_path.specs.queries.{is_absolute, has_root, is_valid, parent_of, file_name_of, file_stem_of, stripped, path_starts_with, path_ends_with, ancestors_of, stripped_to, extension};
 ghost use Rattle.typed_path.specs.order.{is_same, path_cmp};
 ghost use Rattle.typed_path.specs.changes.{with_file_name, with_extension};
 ghost use Rattle.typed_path.specs.conversions.{platform, same_dialect, converted};
@@ -55,7 +55,6 @@ pub type Utf8Components<'a, T> = Utf8Reading<'a, T, Utf8Piece<'a>>;
 pub type Utf8Iter<'a, T> = Utf8Reading<'a, T, &'a str>;
 
 impl<'a, T: Utf8Encoding> Utf8Path<'a, T> {
-    ghost use Rattle.typed_path.specs.queries.{extension};
     ghost use Rattle.typed_path.specs.views.ReadingViews.{reading_items, reading_slice};
     ghost use Rattle.typed_path.specs.views.TextAncestorViews.{utf8_ancestors_left};
     ghost use Rattle.typed_path.specs.views.TextViews.{utf8_bytes};
