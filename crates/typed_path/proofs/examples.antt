@@ -13,3 +13,4 @@ pub mod Conversions
 pub mod Reserved
 pub mod Replies
 pub mod Texts
+pub mod Within

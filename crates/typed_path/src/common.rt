@@ -7,6 +7,7 @@ mod order;
 mod path;
 mod path_buf;
 mod texts;
+mod within;
 mod writing;
 
 pub use component::Component;

@@ -9,7 +9,7 @@ ghost use Rattle.std.specs.Hash.{isize};
 ghost use Rattle.typed_path.specs.components.{Dialect, dot, slash, Kind, Placed, kinds, prefix, Found, prefix_of, comps, parts_of};
 ghost use Rattle.typed_path.specs.scan.{Side, reads, left, items_between, but_last, answers_after, items_after, slice_after, fronts, backs, IsWhole, IsLaidOut};
 ghost use Rattle.typed_path.specs.queries.{is_child_of, IsOneBelow, parent_of, prefix_in, is_a_dot, stem_of, extension_of, ancestors_of};
-ghost use Rattle.typed_path.specs.promises.{JoinAppends, StripJoins, ReadsAsResolved, StaysNormal, IsCanonical, HashAlike, CrossesWhereAllowed, CrossesAsItIs, CrossesBack, CrossesToUnix};
+ghost use Rattle.typed_path.specs.promises.{IsWithinExactly, LeadsBelow, JoinAppends, StripJoins, ReadsAsResolved, StaysNormal, IsCanonical, HashAlike, CrossesWhereAllowed, CrossesAsItIs, CrossesBack, CrossesToUnix};
 ghost use Rattle.typed_path.specs.order.{IsSame, is_same, path_cmp, kind_cmp, bytes_cmp, text_unix_words, text_prefix_words, text_kind_words, text_windows_words, text_piece_words};
 ghost use Rattle.typed_path.specs.views.PieceViews.{kind_view, part_of};
 ghost use Rattle.typed_path.specs.views.UnixViews.{unix_part};
@@ -43,8 +43,9 @@ use crate::utf8::{
 use crate::windows::WindowsEncoding;
 use std::hash::Hash;
 pub use windows::{
-    normal_stays_stable, windows_components_compare_by_kind, windows_constants_are_these,
-    windows_prefix_components_compare_by_kind, windows_prefixes_compare_by_kind,
+    normal_stays_stable, prefixed_within_leads_below, windows_components_compare_by_kind,
+    windows_constants_are_these, windows_prefix_components_compare_by_kind,
+    windows_prefixes_compare_by_kind,
 };
 
 /// A normal text of Unix reads as what the list of its path resolves to.
@@ -245,6 +246,21 @@ pub fn join_appends(base: &[u8], path: &[u8])
 #[tactic(auto, using(crate::proofs::lemmas::promises::UnixContained::strip_joins))]
 pub fn strip_joins(path: &[u8], base: &[u8])
     ensures { StripJoins path.now base.now }
+{}
+
+/// A Unix path is within a base exactly where, from every absolute directory, it lies at the place of the
+/// base or names below it.
+#[tactic(auto, using(crate::proofs::lemmas::promises::UnixWithin::is_exact))]
+pub fn within_is_exact(path: &[u8], base: &[u8])
+    ensures { IsWithinExactly base.now path.now }
+{}
+
+/// In each dialect, from every absolute directory that keeps its prefix, a path that is within a base lies
+/// at the place of the base or names below it.
+#[tactic(auto, using(crate::proofs::lemmas::promises::VerbatimWithin::leads_below))]
+pub fn within_leads_below(directory: &[u8], path: &[u8], base: &[u8])
+    ghost d: { Dialect }
+    ensures { LeadsBelow d directory.now base.now path.now }
 {}
 
 /// Single components of Unix are equal, compare and hash as their kinds say.

@@ -20,7 +20,7 @@ pub use lanes::{first_between, first_difference, has_no_nul_or_dot_pair};
 pub use names::{has_only_names, leading_short_names};
 pub use prefix::{
     Found, WindowsPrefix, after_mark, begins_with_two, byte_behind_two, drive, find_prefix,
-    parted_drive,
+    keeps_prefix, parted_drive,
 };
 pub use separators::{
     Look, Separators, has_forbidden_or_device, has_valid_names, is_free_of, look_at_path,

@@ -4,6 +4,7 @@ use Rattle.typed_path.specs.declared.errors.CheckedPathError.TheVariants.{Invali
 use Rattle.typed_path.specs.components.{unix, normal}
 use Rattle.typed_path.specs.changes.{fault, Operation, push_op, push_checked_op, pop_op, set_file_name_op, set_extension_op, clear_op, extend_op, done, flag, refused, step, text_after, replies}
 use Rattle.typed_path.specs.places.{place}
+use Rattle.typed_path.specs.promises.{keeps_prefix}
 use Rattle.typed_path.proofs.examples.Words.{pushed, checked, normalized}
 
 -- pushes
@@ -125,3 +126,10 @@ replies_to_operations :
     replies unix (codes "/etc") operations
     ≡ refused PathTraversalAttack ∷ done ∷ flag true ∷ done ∷ flag true ∷ flag true ∷ flag false ∷ done ∷ []
 replies_to_operations = refl
+
+-- bases whose prefix every accepted path keeps: they have none
+root_keeps_no_prefix : keeps_prefix unix (codes "/") ≡ true
+root_keeps_no_prefix = refl
+
+backslashes_keep_no_prefix : keeps_prefix unix (codes "\\\\s") ≡ true
+backslashes_keep_no_prefix = refl

@@ -169,6 +169,27 @@ slash_may_become_a_server = refl
 backslashes_may_become_a_server : keeps_prefix windows (codes "\\\\") ≡ false
 backslashes_may_become_a_server = refl
 
+slash_before_a_backslash_may_become_a_server : keeps_prefix windows (codes "/\\") ≡ false
+slash_before_a_backslash_may_become_a_server = refl
+
+slashes_keep_no_prefix : keeps_prefix windows (codes "//") ≡ true
+slashes_keep_no_prefix = refl
+
+empty_base_keeps_no_prefix : keeps_prefix windows [] ≡ true
+empty_base_keeps_no_prefix = refl
+
+ended_server_may_get_a_share : keeps_prefix windows (codes "\\\\s\\") ≡ false
+ended_server_may_get_a_share = refl
+
+verbatim_share_keeps_its_prefix : keeps_prefix windows (codes "\\\\?\\UNC\\s\\h") ≡ true
+verbatim_share_keeps_its_prefix = refl
+
+verbatim_server_may_get_a_share : keeps_prefix windows (codes "\\\\?\\UNC\\s") ≡ false
+verbatim_server_may_get_a_share = refl
+
+small_unc_keeps_its_prefix : keeps_prefix windows (codes "\\\\?\\unc") ≡ true
+small_unc_keeps_its_prefix = refl
+
 -- normal texts
 normal_of_the_empty_text : normalized windows "" ≡ []
 normal_of_the_empty_text = refl

@@ -6,7 +6,7 @@ use Rattle.typed_path.specs.components.{Dialect, unix, windows, slash, backslash
 use Rattle.typed_path.specs.scan.{left, items_between, Side, reads}
 use Rattle.typed_path.specs.queries.{is_absolute, has_root, is_valid}
 use Rattle.typed_path.specs.changes.{push, Response, step, push_checked_op}
-use Rattle.typed_path.specs.places.{normal_text}
+use Rattle.typed_path.specs.places.{normal_text, is_within}
 
 -- components, as they are written
 abbrev pub named : String → Part
@@ -61,3 +61,7 @@ checked d base path = step d (codes base) (push_checked_op (codes path))
 
 abbrev pub normalized : Dialect → String → List ℕ
 normalized d text = normal_text d (codes text)
+
+-- whether a path lies within a base
+abbrev pub within : Dialect → String → String → Bool
+within d path base = is_within d (codes path) (codes base)

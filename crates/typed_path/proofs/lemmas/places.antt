@@ -3,7 +3,11 @@
 -- UnixRows: the normal text of Unix, written row by row
 -- WindowsRows: the normal text of Windows, written row by row
 -- NamedRows: the rows of names that stand side by side in a text, which are its bytes there
+-- KeptNames: the names that are kept of a list, of one with another behind it and of one that is resolved; and the place of a path, read off them
+-- KeptFromBack: the names that are kept of a list, one component less at its end, and whether they begin with others
 pub mod Resolving
 pub mod UnixRows
 pub mod WindowsRows
 pub mod NamedRows
+pub mod KeptNames
+pub mod KeptFromBack

@@ -403,7 +403,10 @@ pub(crate) fn order_of_prefixed(mut bare: Body<'_>) -> Ordering
 
 /// Whether two paths have the same prefix, or both none.
 #[inline(always)]
-fn have_same_prefixes(own: Option<WindowsPrefix<'_>>, other: Option<WindowsPrefix<'_>>) -> bool
+pub(crate) fn have_same_prefixes(
+    own: Option<WindowsPrefix<'_>>,
+    other: Option<WindowsPrefix<'_>>,
+) -> bool
     ensures { result ≡ are_same_prefixes (option_map prefix_view own.entry)
         (option_map prefix_view other.entry) }
 {

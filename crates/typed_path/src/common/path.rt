@@ -1,21 +1,22 @@
 //! A path that is lent: what makes one, what it answers, and the owned paths that are made of it.
 
 ghost use Rattle.std.specs.Prelude.{◌≡◌, IfOk, not, ◌≤◌, length, option_map, option_copied, IfSome, [], IsOk};
-ghost use Rattle.typed_path.specs.places.{normal_text};
+ghost use Rattle.typed_path.specs.places.{is_within, normal_text};
 ghost use Rattle.typed_path.specs.components.{kinds, comps, parts_of};
 ghost use Rattle.typed_path.specs.queries.{is_absolute, has_root, is_valid, parent_of, file_name_of, file_stem_of, stripped, path_starts_with, path_ends_with, ancestors_of, stripped_to, extension};
 ghost use Rattle.typed_path.specs.scan.{last_part};
 ghost use Rattle.typed_path.specs.changes.{without_file_name, stem_end, with_file_name, with_extension, refusal, fault};
-ghost use Rattle.typed_path.specs.promises.{HasNormalForm, HasPrefixOf, LiesWithin, LiesBelow};
+ghost use Rattle.typed_path.specs.promises.{HasNormalForm, HasPrefixOf, LiesWithin, LiesBelow, keeps_prefix};
 ghost use Rattle.typed_path.specs.views.PathViews.{path_bytes, components_items, components_slice, ancestors_left};
 ghost use Rattle.typed_path.specs.views.PieceViews.{part_of};
 
 use crate::common::components::{Ancestors, Components, Iter, Reading};
 use crate::common::encoding::Encoding;
 use crate::common::path_buf::PathBuf;
+use crate::common::within::is_within;
 use crate::common::writing::{dotted_len, put_extension, split_name};
 use crate::errors::{PathError, StripPrefixError};
-use crate::scan::Piece;
+use crate::scan::{Piece, keeps_prefix};
 use std::alloc::{AllocError, Global};
 use std::marker::PhantomData;
 
@@ -84,6 +85,19 @@ impl<'a, T: Encoding> Path<'a, T> {
         ensures { result ≡ is_valid T.dialect (kinds (parts_of T.dialect (path_bytes self.entry))) }
     {
         T::valid_names(self.bytes)
+    }
+
+    /// Whether every path that a checked join makes of this one has its prefix, or none if it has none.
+    ///
+    /// Every path of Unix keeps it so. On Windows `C:\a`, `\\s\h` and `a` do. `\\s`, a server without a
+    /// share, does not, nor do `\\?\UNC`, `/`, `\\` and `/\`: what is put behind these becomes a part of a prefix.
+    ///
+    /// So a base that is known only when the program runs is asked once: if it keeps its prefix, each path
+    /// that [`Path::join_checked`] makes of it lies below it.
+    pub fn keeps_prefix(self) -> bool
+        ensures { result ≡ keeps_prefix T.dialect (path_bytes self.entry) }
+    {
+        T::root_text() == b"/".as_slice() || keeps_prefix(self.bytes)
     }
 
     /// The components of the path, from either end.
@@ -240,6 +254,21 @@ impl<'a, T: Encoding> Path<'a, T> {
             }
         }
         true
+    }
+
+    /// Whether the path lies at a base or below it, from whatever directory both are read.
+    ///
+    /// A `..` takes away the name before it. One that finds none leads above where the path begins, and
+    /// behind a root nowhere. So `a/b/..` and `a/b` lie within `a`, and `a/../b` and `../a` do not; `a` lies
+    /// within `..`. A root without a prefix holds all paths without one. On Windows `c:\a` lies within
+    /// `C:\`, since drives are alike in either case, and not within `C:\A`. Links are not followed.
+    ///
+    /// From every absolute directory that keeps its prefix, the place of a path that is within a base is that
+    /// of the base, and then some names. On Unix this is so of no other path.
+    pub fn is_within(self, base: Path<'_, T>) -> bool
+        ensures { result ≡ is_within T.dialect (path_bytes self.entry) (path_bytes base.entry) }
+    {
+        is_within::<T>(self.as_bytes(), base.as_bytes())
     }
 
     /// What is left of the path behind a base, where it begins with the base's components as they

@@ -1,9 +1,11 @@
 //! The laws of Windows: of normal texts, and of single values.
 
 ghost use Rattle.std.specs.Prelude.{◌≡◌, ◌↔◌, true, IfSome, [], ◌∷◌, ◌++◌, codes, map};
-ghost use Rattle.typed_path.specs.components.{dot, slash, backslash, prefix};
-ghost use Rattle.typed_path.specs.promises.{StaysStable};
-ghost use Rattle.typed_path.specs.queries.{prefix_in, reserved_names};
+ghost use Rattle.typed_path.specs.components.{dot, slash, backslash, windows, prefix, kinds, parts_of};
+ghost use Rattle.typed_path.specs.changes.{push};
+ghost use Rattle.typed_path.specs.places.{is_within};
+ghost use Rattle.typed_path.specs.promises.{IsBelow, StaysStable};
+ghost use Rattle.typed_path.specs.queries.{has_prefix, prefix_in, reserved_names};
 ghost use Rattle.typed_path.specs.order.{kind_cmp};
 ghost use Rattle.typed_path.specs.order.Words.{prefix_words, windows_words};
 ghost use Rattle.typed_path.specs.views.PieceViews.{prefix_view};
@@ -23,6 +25,16 @@ use std::hash::Hash;
 #[tactic(auto, using(crate::proofs::lemmas::promises::WindowsStable::stays_stable))]
 pub fn normal_stays_stable(path: &[u8])
     ensures { StaysStable path.now }
+{}
+
+/// A Windows path with a prefix that is within a base lies, from every directory, at the place of the base or
+/// names below it.
+#[tactic(auto, using(crate::proofs::lemmas::promises::WindowsWithin::prefixed_below))]
+pub fn prefixed_within_leads_below(directory: &[u8], path: &[u8], base: &[u8])
+    ensures { has_prefix (kinds (parts_of windows path.now)) ≡ true
+        → is_within windows path.now base.now ≡ true
+        → IsBelow windows (push windows directory.now base.now)
+        (push windows directory.now path.now) }
 {}
 
 /// The constants of Windows have these values.

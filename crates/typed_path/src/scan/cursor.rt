@@ -273,6 +273,23 @@ impl<'a> Cursor<'a> {
     }
 }
 
+impl<'a> Cursor<'a> {
+    ghost use Rattle.typed_path.specs.components.{kinds, parts};
+    ghost use Rattle.typed_path.specs.queries.{has_implicit_root};
+    ghost use Rattle.typed_path.specs.views.CursorViews.{items_left};
+
+    /// Whether a prefix other than a drive is still to be taken, which implies a root.
+    #[inline(always)]
+    pub(crate) fn has_implicit_root(&self) -> bool
+        ensures { result ≡ has_implicit_root (kinds (parts (items_left self.now))) }
+    {
+        match self.prefix() {
+            Some(WindowsPrefix::Disk(_)) | None => false,
+            Some(_) => true,
+        }
+    }
+}
+
 /// How many bytes the prefix takes that is still to be taken.
 #[inline(always)]
 fn pending(prefix: Option<Found<'_>>) -> usize

@@ -3,6 +3,7 @@
 ghost use Rattle.std.specs.Prelude.{◌≡◌, ◌≤◌, ◌+◌, true, false, length, is_some, ℕ, List, ◌∷◌, Some, None, option_map, option_copied, IfSome, MatchOption};
 ghost use Rattle.typed_path.specs.components.{windows, is_separator, is_drive_letter, drive, after_two, after_mark, after_unc, name, second_name, names_length, is_empty, verbatim_unc_case, verbatim_disk_case, verbatim_case, device_case, unc_case, disk_case, prefix_of, IsPartedDrive};
 ghost use Rattle.typed_path.specs.declared.scan.separators.Separators.{Separators};
+ghost use Rattle.typed_path.specs.promises.{keeps_prefix};
 ghost use Rattle.typed_path.specs.views.PieceViews.{found_of};
 
 use crate::scan::separators::Separators;
@@ -281,5 +282,20 @@ pub fn parted_drive(text: &[u8]) -> Option<(Option<u8>, &[u8])>
     match drive(text) {
         Some(letter) => Some((Some(letter), &text[2..])),
         None => Some((None, text)),
+    }
+}
+
+/// Whether every path that a checked join makes of a base of Windows has its prefix, or none if it has none.
+pub fn keeps_prefix(base: &[u8]) -> bool
+    ensures { result ≡ keeps_prefix windows base.now }
+{
+    let Some(found) = find_prefix(base) else {
+        return base != b"/".as_slice() && base != br"\\".as_slice() && base != br"/\".as_slice();
+    };
+    match found.kind {
+        WindowsPrefix::Verbatim(name) => name != b"UNC".as_slice(),
+        WindowsPrefix::VerbatimUNC(_, share) | WindowsPrefix::UNC(_, share) => !share.is_empty(),
+        WindowsPrefix::VerbatimDisk(_) | WindowsPrefix::DeviceNS(_) | WindowsPrefix::Disk(_) =>
+            true,
     }
 }

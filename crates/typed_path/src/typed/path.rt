@@ -7,6 +7,8 @@ ghost use Rattle.typed_path.specs.views.TypedViews.{typed_bytes, owned_bytes, ty
 ghost use Rattle.typed_path.specs.components.{unix, windows, kinds, comps, parts_of};
 ghost use Rattle.typed_path.specs.changes.{with_file_name, with_extension};
 ghost use Rattle.typed_path.specs.conversions.{converted};
+ghost use Rattle.typed_path.specs.places.{is_within};
+ghost use Rattle.typed_path.specs.promises.{keeps_prefix};
 ghost use Rattle.typed_path.specs.views.PathViews.{path_bytes};
 ghost use Rattle.typed_path.specs.changes.Push as push_spec;
 ghost use Rattle.std.specs.Str.{IsUtf8};
@@ -132,6 +134,13 @@ impl<'a> TypedPath<'a> {
         each!(self, path => path.has_root())
     }
 
+    /// Whether every path that a checked join makes of this one has its prefix, or none if it has none.
+    pub fn keeps_prefix(self) -> bool
+        ensures { result ≡ keeps_prefix (typed_dialect self.entry) (typed_bytes self.entry) }
+    {
+        each!(self, path => path.keeps_prefix())
+    }
+
     /// The path without its last component, or none where there is no component or nothing is above
     /// the last one.
     pub fn parent(self) -> Option<TypedPath<'a>>
@@ -196,6 +205,13 @@ impl<'a> TypedPath<'a> {
             ≡ path_starts_with (typed_dialect self.entry) (typed_bytes self.entry) base.now }
     {
         each!(self, path => path.starts_with(Path::new(base)))
+    }
+
+    /// Whether the path lies at a base of its kind or below it, from whatever directory both are read.
+    pub fn is_within(self, base: &[u8]) -> bool
+        ensures { result ≡ is_within (typed_dialect self.entry) (typed_bytes self.entry) base.now }
+    {
+        each!(self, path => path.is_within(Path::new(base)))
     }
 
     /// Whether the path ends with the components of another of its kind, as they are written.

@@ -12,6 +12,8 @@ ghost use Rattle.typed_path.specs.views.TypedViews.{typed_bytes, typed_owned, ow
 ghost use Rattle.typed_path.specs.queries.{is_absolute, has_root, parent_of, file_name_of, file_stem_of, extension, stripped, path_starts_with, path_ends_with, ancestors_of, stripped_to, text_of_bytes};
 ghost use Rattle.typed_path.specs.changes.{with_file_name, with_extension};
 ghost use Rattle.typed_path.specs.conversions.{converted, same_dialect};
+ghost use Rattle.typed_path.specs.places.{is_within};
+ghost use Rattle.typed_path.specs.promises.{keeps_prefix};
 ghost use Rattle.typed_path.specs.views.PathViews.{path_bytes};
 ghost use Rattle.typed_path.specs.changes.Push as push_spec;
 ghost use Rattle.std.specs.String.{string_bytes, string_capacity};
@@ -271,6 +273,13 @@ impl TypedPathBuf {
         self.to_path().has_root()
     }
 
+    /// As [`TypedPath::keeps_prefix`].
+    pub fn keeps_prefix(&self) -> bool
+        ensures { result ≡ keeps_prefix (typed_dialect self.now) (owned_bytes self.now) }
+    {
+        self.to_path().keeps_prefix()
+    }
+
     /// As [`TypedPath::parent`].
     pub fn parent(&self) -> Option<TypedPath<'_>>
         ensures dialect { IfSome result (λ p. typed_dialect p ≡ typed_dialect self.now) }
@@ -327,6 +336,13 @@ impl TypedPathBuf {
             ≡ path_starts_with (typed_dialect self.now) (owned_bytes self.now) base.now }
     {
         self.to_path().starts_with(base)
+    }
+
+    /// As [`TypedPath::is_within`].
+    pub fn is_within(&self, base: &[u8]) -> bool
+        ensures { result ≡ is_within (typed_dialect self.now) (owned_bytes self.now) base.now }
+    {
+        self.to_path().is_within(base)
     }
 
     /// As [`TypedPath::ends_with`].

@@ -9,6 +9,8 @@ ghost use Rattle.typed_path.specs.texts.{is_text_option, IsTextError};
 ghost use Rattle.typed_path.specs.components.{kinds, comps, parts_of, unix, windows};
 ghost use Rattle.typed_path.specs.queries.{is_absolute, has_root, is_valid, parent_of, file_name_of, file_stem_of, stripped, path_starts_with, path_ends_with, ancestors_of, stripped_to, extension};
 ghost use Rattle.typed_path.specs.order.{is_same, path_cmp};
+ghost use Rattle.typed_path.specs.places.{is_within};
+ghost use Rattle.typed_path.specs.promises.{keeps_prefix};
 ghost use Rattle.typed_path.specs.changes.{with_file_name, with_extension};
 ghost use Rattle.typed_path.specs.conversions.{platform, same_dialect, converted};
 
@@ -161,6 +163,13 @@ impl<'a, T: Utf8Encoding> Utf8Path<'a, T> {
         self.path.is_valid()
     }
 
+    /// Whether every path that a checked join makes of this one has its prefix, or none if it has none.
+    pub fn keeps_prefix(self) -> bool
+        ensures { result ≡ keeps_prefix T.Bytes.dialect (utf8_bytes self.entry) }
+    {
+        self.path.keeps_prefix()
+    }
+
     /// The components of the path, from either end.
     #[inline(always)]
     pub fn components(self) -> Utf8Components<'a, T>
@@ -241,6 +250,14 @@ impl<'a, T: Utf8Encoding> Utf8Path<'a, T> {
             (utf8_bytes base.entry) }
     {
         self.as_bytes_path().starts_with(base.as_bytes_path())
+    }
+
+    /// Whether the path lies at a base or below it, from whatever directory both are read.
+    pub fn is_within(self, base: Utf8Path<'_, T>) -> bool
+        ensures { result ≡ is_within T.Bytes.dialect (utf8_bytes self.entry)
+            (utf8_bytes base.entry) }
+    {
+        self.as_bytes_path().is_within(base.as_bytes_path())
     }
 
     /// Whether the path ends with the components of another, as they are written.

@@ -495,9 +495,6 @@ impl<'a> Reading<'a, WindowsEncoding, Values> {
     pub fn has_implicit_root(self) -> bool
         ensures { result ≡ has_implicit_root (kinds (components_parts self.entry)) }
     {
-        match self.prefix_kind() {
-            Some(WindowsPrefix::Disk(_)) | None => false,
-            Some(_) => true,
-        }
+        self.cursor().has_implicit_root()
     }
 }

@@ -252,7 +252,7 @@ hash_alike d t u same = fed-path d t ∙ ap kinds_fed same ∙ sym (fed-path d u
 -- Two paths compared, and one fed to a hasher, with their prefixes first.
 
 -- a list that begins with a prefix is that prefix and what stands behind it
-kinds-prefixed : (cs : List Placed) (p : Prefix) → Some p ≡ first_prefix (kinds (parts cs)) → kinds (parts cs) ≡ prefix p ∷ kinds (parts (behind_prefix cs))
+pub kinds-prefixed : (cs : List Placed) (p : Prefix) → Some p ≡ first_prefix (kinds (parts cs)) → kinds (parts cs) ≡ prefix p ∷ kinds (parts (behind_prefix cs))
 kinds-prefixed [] p e = cc
 kinds-prefixed (c ∷ cs) p e = by c.part.kind e
   where

@@ -34,7 +34,7 @@ alike-order t u f g s v r o own other read read' is alike behind =
     moved s n v = ap kinds (parts-body s n v ∙ sym (parts-body s 0 v))
 
 -- what stands behind a prefix begins with none
-body-bare : (s : Separators) (u : List ℕ) → first_prefix (kinds (parts (body s 0 u))) ≡ None
+pub body-bare : (s : Separators) (u : List ℕ) → first_prefix (kinds (parts (body s 0 u))) ≡ None
 body-bare s [] = refl
 body-bare s (b ∷ bs) =
     let t = before_first (is_separator s) (b ∷ bs) in

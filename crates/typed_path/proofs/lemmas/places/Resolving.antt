@@ -9,7 +9,8 @@ use Rattle.typed_path.specs.changes.{push, push_all}
 use Rattle.typed_path.specs.places.{overdraws, stays, resolve, with_implied_root}
 use Rattle.typed_path.specs.promises.{with_drive_root, without_leading_current}
 use Rattle.typed_path.proofs.lemmas.lists.Lists.{AllByRecursion-append}
-use Rattle.typed_path.proofs.lemmas.components.Segments.{IsLaterPart, IsWritten-later, AreRead}
+use Rattle.typed_path.specs.queries.{begins_with_root}
+use Rattle.typed_path.proofs.lemmas.components.Segments.{IsLater, IsLaterPart, IsWritten, IsWritten-later, AreRead}
 
 -- Names that a list comes down to, one component at a time.
 
@@ -250,6 +251,26 @@ resolve-resolve ps = resolve-same (resolve ps) (resolve-kept ps)
 pub AreRead-later : (s : Separators) (ps : List Part) → AllByRecursion (IsLaterPart s) ps → AreRead s ps
 AreRead-later s [] each = tt
 AreRead-later s (p ∷ ps) each = (IsWritten-later s p.kind p.text each.0, each.1)
+
+-- later components are no prefixes and no roots
+pub written-headless : (s : Separators) (ps : List Part) → AllByRecursion (IsLaterPart s) ps → no_heads (kinds ps) ≡ true
+written-headless s [] later = refl
+written-headless s (p ∷ ps) later = ap (λ b. b && no_heads (kinds ps)) (by p.kind p.text later.0) ∙ written-headless s ps later.1
+  where
+    by : (k : Kind) (text : List ℕ) → IsLater s k text → not (is_head k) ≡ true
+    by (prefix q) text later = absurd later
+    by root text later = absurd later
+    by k text later = refl
+
+-- nor are those of a list as it is read that does not begin with a root
+pub read-headless : (s : Separators) (ps : List Part) → AreRead s ps → begins_with_root (kinds ps) ≡ false → no_heads (kinds ps) ≡ true
+read-headless s [] read relative = refl
+read-headless s (p ∷ ps) read relative = ap (λ b. b && no_heads (kinds ps)) (by p.kind p.text read.0 relative) ∙ written-headless s ps read.1
+  where
+    by : (k : Kind) (text : List ℕ) → IsWritten s k text → begins_with_root (k ∷ kinds ps) ≡ false → not (is_head k) ≡ true
+    by (prefix q) text written relative = absurd written
+    by root text written relative = cc
+    by k text written relative = refl
 
 -- a list as it is read resolves to such a list
 pub resolve-read : (s : Separators) (ps : List Part) → AreRead s ps → AreRead s (resolve ps)

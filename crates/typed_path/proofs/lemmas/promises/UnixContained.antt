@@ -1,14 +1,15 @@
 -- The normal text of Unix, a relative path joined on Unix, and where a checked one leads.
 use Rattle.std.proofs.Common.{◌≡◌, ℕ, zero, suc, Bool, true, false, not, if◌then◌else◌, List, [], ◌∷◌, ◌++◌, map, refl, sym, ap, ◌∙◌, ◌==◌, length, append_assoc, append-nil, ne_eqb, arith, ◌-◌, ◌<◌, drop, bytes_eq, Some, None, ap₂, inl, inr}
 use Rattle.std.proofs.lemmas.List.{map-append, drop-map, drop_all, length-map}
-use Rattle.std.specs.List.{AllByRecursion}
+use Rattle.std.specs.List.{AllByRecursion, onto_first}
 use Rattle.std.proofs.lemmas.List.Elements.{All-head}
-use Rattle.std.proofs.lemmas.List.Splits.{slice_split-cons_yes}
-use Rattle.std.proofs.lemmas.Bool.{cases_lt, cond_both}
+use Rattle.std.proofs.lemmas.List.Splits.{slice_split-cons_yes, slice_split-cons_no}
+use Rattle.std.proofs.lemmas.Bool.{both_ways, cases_lt, cond_both, true_from_ne_false}
 use Rattle.std.proofs.lemmas.Slice.Eq.{starts_is, bytes_eq-Decides}
 use Rattle.typed_path.specs.declared.errors.CheckedPathError.TheVariants.{InvalidFilename}
+use Rattle.typed_path.specs.declared.scan.separators.Separators.{Separators}
 use Rattle.typed_path.specs.declared.scan.separators.Separators.TheVariants.{Slash}
-use Rattle.typed_path.specs.components.{Dialect, unix, slash, is_separator, Kind, prefix, root, current, parent, normal, Part, kinds, texts, name_part, current_part, parent_part, root_part, parts, parts_of, is_dot, is_dot_dot, comps}
+use Rattle.typed_path.specs.components.{Dialect, unix, slash, is_separator, is_verbatim, root_text, Kind, prefix, root, current, parent, normal, Part, kinds, texts, name_part, current_part, parent_part, root_part, parts, parts_of, is_dot, is_dot_dot, comps}
 use Rattle.typed_path.specs.queries.{is_valid_name, begins_with_root, path_starts_with}
 use Rattle.typed_path.specs.changes.{fault, fault_at, ended_with, push_unix, push_all}
 use Rattle.typed_path.specs.places.{overdraws, resolve, place, stays, normal_text, with_implied_root}
@@ -18,7 +19,7 @@ use Rattle.typed_path.proofs.lemmas.changes.Faults.{fault_behind-at, fault_at-ov
 use Rattle.typed_path.proofs.lemmas.components.Segments.{body_parts, parts-body, body_parts-read, IsCleanName, IsLaterPart, IsWritten, IsLater, AreRead, text_by_kind, texts-read, pieces, first_parts, later_parts, parts-later_body, IsWrittenPart, each-written}
 use Rattle.typed_path.proofs.lemmas.changes.Joins.{later_parts-name, body_parts-name, body_parts-ended}
 use Rattle.typed_path.proofs.lemmas.places.Resolving.{IsKept, resolve-kept, resolve-read, resolve-resolve, resolve-append, overdraws-without_leading_current, resolve-without_leading_current}
-use Rattle.typed_path.proofs.lemmas.lists.Lists.{map-through, AllByRecursion-weaker}
+use Rattle.typed_path.proofs.lemmas.lists.Lists.{slice_split-some, map-through, AllByRecursion-weaker}
 use Rattle.typed_path.proofs.lemmas.scan.Readings.{left-taken, left-all, left-front}
 use Rattle.typed_path.proofs.lemmas.components.Cuts.{body-filled, tail}
 
@@ -163,37 +164,35 @@ push_unix-behind base (b ∷ path) filled relative = by (b == slash) refl
     by true e = let e = rw (slice_split-cons_yes (is_separator Slash) b path e) at relative in cc
     by false e = body_parts-ended Slash slash base (b ∷ path) refl filled
 
--- read as later pieces, a relative text loses a current directory at its beginning
-later_parts-relative : (some : List (List ℕ)) → begins_with_root (kinds (first_parts Slash some)) ≡ false
-    → later_parts Slash some ≡ without_leading_current (first_parts Slash some)
-later_parts-relative [] relative = refl
-later_parts-relative (piece ∷ rest) relative = by (length piece == 0) (is_dot piece) (is_dot_dot piece) relative
+-- read as later pieces, a relative text that is not read verbatim loses a current directory at its beginning
+later_parts-relative : (s : Separators) (some : List (List ℕ)) → is_verbatim s ≡ false → begins_with_root (kinds (first_parts s some)) ≡ false → later_parts s some ≡ without_leading_current (first_parts s some)
+later_parts-relative s [] plain relative = refl
+later_parts-relative s (piece ∷ rest) plain relative = by (length piece == 0) (is_dot piece) (is_dot_dot piece) relative
   where
     named : Bool → Part
     named twice = if twice then parent_part else name_part piece
 
     first : Bool → Bool → Bool → Part
-    first empty dotted twice = if empty then root_part (slash ∷ []) else (if dotted then current_part else named twice)
+    first empty dotted twice = if empty then root_part (root_text s) else (if dotted then current_part else named twice)
 
-    by : (empty dotted twice : Bool) → begins_with_root ((first empty dotted twice).kind ∷ kinds (later_parts Slash rest)) ≡ false
-        → (if empty then [] else (if dotted then [] else named twice ∷ [])) ++ later_parts Slash rest ≡ without_leading_current (first empty dotted twice ∷ later_parts Slash rest)
+    by : (empty dotted twice : Bool) → begins_with_root ((first empty dotted twice).kind ∷ kinds (later_parts s rest)) ≡ false
+        → (if empty then [] else (if dotted then (if is_verbatim s then current_part ∷ [] else []) else named twice ∷ [])) ++ later_parts s rest ≡ without_leading_current (first empty dotted twice ∷ later_parts s rest)
     by true dotted twice unrooted = cc
-    by false true twice unrooted = refl
+    by false true twice unrooted = ap (λ b. (if b then current_part ∷ [] else []) ++ later_parts s rest) plain
     by false false true unrooted = refl
     by false false false unrooted = refl
 
 -- an empty text is read as no pieces, both at the beginning and later
-body_parts-relative : (path : List ℕ) → begins_with_root (kinds (body_parts Slash path)) ≡ false
-    → later_parts Slash (pieces Slash path) ≡ without_leading_current (body_parts Slash path)
-body_parts-relative [] relative = refl
-body_parts-relative (b ∷ path) relative = later_parts-relative (pieces Slash (b ∷ path)) relative
+pub body_parts-later : (s : Separators) (path : List ℕ) → is_verbatim s ≡ false → begins_with_root (kinds (body_parts s path)) ≡ false → later_parts s (pieces s path) ≡ without_leading_current (body_parts s path)
+body_parts-later s [] plain relative = refl
+body_parts-later s (b ∷ path) plain relative = later_parts-relative s (pieces s (b ∷ path)) plain relative
 
 -- a relative path joined to a base that is not empty
 pub join_appends : (base path : List ℕ) → JoinAppends base path
 join_appends base path filled relative =
     let read : begins_with_root (kinds (body_parts Slash path)) ≡ false = ap (λ ps. begins_with_root (kinds ps)) (sym (parts_of-unix path)) ∙ relative in
     rw (parts_of-unix (push_unix base path), parts_of-unix base, parts_of-unix path)
-    (push_unix-behind base path (ne_eqb (length base) 0 (λ none. omega arith)) read ∙ ap (λ ps. body_parts Slash base ++ ps) (body_parts-relative path read))
+    (push_unix-behind base path (ne_eqb (length base) 0 (λ none. omega arith)) read ∙ ap (λ ps. body_parts Slash base ++ ps) (body_parts-later Slash path refl read))
 
 -- A checked push on Unix stays within its base.
 
@@ -286,15 +285,32 @@ push_unix-empty : (t : List ℕ) → push_unix [] t ≡ t
 push_unix-empty [] = refl
 push_unix-empty (b ∷ t) = cond_both (b == slash) (b ∷ t) (b ∷ t) (λ u. u ≡ b ∷ t) (λ e. refl) (λ e. refl)
 
--- a text whose first piece is filled is not absolute
-filled-relative : (text head : List ℕ) (others : List (List ℕ)) → pieces Slash text ≡ head ∷ others → (length head == 0) ≡ false → begins_with_root (kinds (body_parts Slash text)) ≡ false
-filled-relative [] head others split filled = refl
-filled-relative (b ∷ text) head others split filled = rw (split, filled) (by (is_dot head) (is_dot_dot head))
+-- a text whose first piece is filled has no root
+filled-relative : (s : Separators) (text head : List ℕ) (others : List (List ℕ)) → pieces s text ≡ head ∷ others → (length head == 0) ≡ false → begins_with_root (kinds (body_parts s text)) ≡ false
+filled-relative s [] head others split filled = refl
+filled-relative s (b ∷ text) head others split filled = rw (split, filled) (by (is_dot head) (is_dot_dot head))
   where
-    by : (dotted twice : Bool) → begins_with_root (kinds ((if dotted then current_part else (if twice then parent_part else name_part head)) ∷ later_parts Slash others)) ≡ false
+    by : (dotted twice : Bool) → begins_with_root (kinds ((if dotted then current_part else (if twice then parent_part else name_part head)) ∷ later_parts s others)) ≡ false
     by true twice = refl
     by false true = refl
     by false false = refl
+
+-- a text with a root begins with a separator
+pub rooted-separated : (s : Separators) (b : ℕ) (bs : List ℕ) → begins_with_root (kinds (body_parts s (b ∷ bs))) ≡ true → is_separator s b ≡ true
+rooted-separated s b bs rooted = true_from_ne_false _ (λ plain.
+    let some = slice_split-some (is_separator s) bs in
+    let split : pieces s (b ∷ bs) ≡ (b ∷ some.0) ∷ some.1 = slice_split-cons_no (is_separator s) b bs plain ∙ ap (onto_first b) some.2 in
+    both_ways _ (filled-relative s (b ∷ bs) (b ∷ some.0) some.1 split (ne_eqb (suc (length some.0)) 0 (λ f. cc))) rooted)
+
+-- and one that begins with a separator has a root
+pub separated-rooted : (s : Separators) (b : ℕ) (bs : List ℕ) → is_separator s b ≡ true → begins_with_root (kinds (body_parts s (b ∷ bs))) ≡ true
+separated-rooted s b bs separates = ap (λ some. begins_with_root (kinds (first_parts s some))) (slice_split-cons_yes (is_separator s) b bs separates)
+
+-- a list that begins with a root does so with more behind it
+pub begins-append : (ks ls : List Kind) → begins_with_root ks ≡ true → begins_with_root (ks ++ ls) ≡ true
+begins-append [] ls e = cc
+begins-append (root ∷ ks) ls e = refl
+begins-append (k ∷ ks) ls e = cc
 
 -- a base with more behind it: the kinds of the base, and those of the components from there on
 push_unix-tail : (t b : List ℕ) (k : ℕ) → (length b == 0) ≡ false → suc k < length (comps unix t)
@@ -306,7 +322,7 @@ push_unix-tail t b k filled more =
     let rest : left (comps unix t) t (suc k) 0 ≡ r = left-front (comps unix t) t (suc k) (omega arith) more ∙ ap (λ n. drop n t) (omega arith) in
     let kinds_of : later_parts Slash (pieces Slash r) ≡ parts (drop (suc k) (comps unix t)) = sym (parts-later_body Slash S r) ∙ ap parts end.rest in
     ap (λ u. kinds (parts_of unix (push_unix b u))) rest
-    ∙ ap kinds (parts_of-unix (push_unix b r) ∙ push_unix-behind b r filled (filled-relative r end.head end.others end.split end.filled))
+    ∙ ap kinds (parts_of-unix (push_unix b r) ∙ push_unix-behind b r filled (filled-relative Slash r end.head end.others end.split end.filled))
     ∙ map-append (λ p. p.kind) (body_parts Slash b) (later_parts Slash (pieces Slash r))
     ∙ ap₂ ◌++◌ (ap kinds (sym (parts_of-unix b))) (ap kinds (kinds_of ∙ sym (drop-map (λ c. c.part) (suc k) (comps unix t))) ∙ sym (drop-map (λ p. p.kind) (suc k) (parts_of unix t)))
 

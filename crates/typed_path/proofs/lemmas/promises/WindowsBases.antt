@@ -1,5 +1,5 @@
 -- Where a base of Windows leads with a faultless path behind it, and how a list is spelled behind a prefix.
-use Rattle.std.proofs.Common.{◌≡◌, ℕ, zero, suc, ◌+◌, ◌<◌, ◌≤◌, true, false, ◌⊎◌, inl, inr, List, [], ◌∷◌, ◌++◌, length, take, drop, refl, sym, ap, ◌∙◌, subst, append_assoc, arith, length-drop, ne_eqb, not, ◌&&◌, Bool, if◌then◌else◌, ap₂, append-nil, Some, None, length-append, length-take-le}
+use Rattle.std.proofs.Common.{◌≡◌, ℕ, zero, suc, ◌+◌, ◌<◌, ◌≤◌, true, false, ◌⊎◌, inl, inr, List, [], ◌∷◌, ◌++◌, length, take, drop, refl, sym, ap, ◌∙◌, subst, append_assoc, arith, length-drop, ne_eqb, not, Bool, if◌then◌else◌, ap₂, append-nil, Some, None, length-append, length-take-le}
 use Rattle.std.proofs.Math.Seq.{drop-append-add, drop-append_seam, take-append_seam}
 use Rattle.std.proofs.lemmas.Bool.{both_ways, cases_lt, false_from_ne_true, and_parts}
 use Rattle.std.proofs.lemmas.List.{drop-append-le, drop_all}
@@ -15,7 +15,7 @@ use Rattle.typed_path.proofs.lemmas.lists.Lists.{slice_split-some, AllByRecursio
 use Rattle.typed_path.proofs.lemmas.components.Prefixes.{OfWindows, backslash-separates, prefix-fits, separators-windows, root_text-windows, unseparated-either}
 use Rattle.typed_path.proofs.lemmas.components.Segments.{pieces, first_parts, later_parts, body_parts, body_parts-read, AreRead, IsWritten, parts_behind, each-written, IsWrittenPart, IsLater, IsLaterPart}
 use Rattle.typed_path.proofs.lemmas.components.PrefixCuts.{IsSize, prefix-size, IsGrown, same-sizes, plain-kind, verbatim_text, verbatim-size, verbatim-take}
-use Rattle.typed_path.proofs.lemmas.places.Resolving.{no_heads, is_head, IsKept, AreRead-later, resolve-kept, resolve-read, resolve-resolve, overdraws-kept}
+use Rattle.typed_path.proofs.lemmas.places.Resolving.{no_heads, is_head, read-headless, IsKept, AreRead-later, resolve-kept, resolve-read, resolve-resolve, overdraws-kept}
 use Rattle.typed_path.proofs.lemmas.changes.Faults.{place_of, place_of-append, place_of-rooted, IsFaultless, no_heads-relative, no_heads-resolve, body_parts-alike, parts_of-none, parts_of-some}
 use Rattle.typed_path.proofs.lemmas.changes.Joins.{body_parts-more, body_parts-behind, Ending, empty, ended, drive_alone, parted, merged-resolve, joint-relative, later-relative, body_parts-spelled}
 
@@ -218,7 +218,7 @@ module _ (path : List ℕ) (faultless : IsFaultless path) where
 -- Where a base of Windows leads with a faultless path behind it, under a verbatim prefix: its list is spelled anew.
 
 -- later components are put behind a list as it is read
-AreRead-append : (s : Separators) (ps qs : List Part) → AreRead s ps → AllByRecursion (IsLaterPart s) qs → AreRead s (ps ++ qs)
+pub AreRead-append : (s : Separators) (ps qs : List Part) → AreRead s ps → AllByRecursion (IsLaterPart s) qs → AreRead s (ps ++ qs)
 AreRead-append s [] qs read later = AreRead-later s qs later
 AreRead-append s (p ∷ ps) qs read later = (read.0, AllByRecursion-append (IsLaterPart s) ps qs read.1 later)
 
@@ -234,26 +234,6 @@ names-later s (p ∷ ps) written kept headless = (by p.kind p.text written.0 kep
     by (prefix q) text written kept other = cc
     by root text written kept other = cc
     by k text written kept other = cc
-
--- later components are no prefixes and no roots
-written-headless : (s : Separators) (ps : List Part) → AllByRecursion (IsLaterPart s) ps → no_heads (kinds ps) ≡ true
-written-headless s [] later = refl
-written-headless s (p ∷ ps) later = ap (λ b. b && no_heads (kinds ps)) (by p.kind p.text later.0) ∙ written-headless s ps later.1
-  where
-    by : (k : Kind) (text : List ℕ) → IsLater s k text → not (is_head k) ≡ true
-    by (prefix q) text later = absurd later
-    by root text later = absurd later
-    by k text later = refl
-
--- nor are those of a list as it is read that does not begin with a root
-read-headless : (s : Separators) (ps : List Part) → AreRead s ps → begins_with_root (kinds ps) ≡ false → no_heads (kinds ps) ≡ true
-read-headless s [] read relative = refl
-read-headless s (p ∷ ps) read relative = ap (λ b. b && no_heads (kinds ps)) (by p.kind p.text read.0 relative) ∙ written-headless s ps read.1
-  where
-    by : (k : Kind) (text : List ℕ) → IsWritten s k text → begins_with_root (k ∷ kinds ps) ≡ false → not (is_head k) ≡ true
-    by (prefix q) text written relative = absurd written
-    by root text written relative = cc
-    by k text written relative = refl
 
 -- how a list is spelled behind a prefix
 pub data Rest : List Part → List ℕ → Type 0 where
@@ -293,7 +273,7 @@ module _ (s : Separators) (w : OfWindows s) where
   rest-separated _ _ read (from_other p ps e) = inr (spelled (p ∷ ps), refl)
 
   -- read again, the rest leads where the list does
-  place-rest : (p : Prefix) (ps : List Part) (rest : List ℕ) → is_disk p ≡ false → AreRead s ps → Rest ps rest → place_of (prefix_part p [] ∷ body_parts s rest) ≡ place_of (prefix_part p [] ∷ ps)
+  pub place-rest : (p : Prefix) (ps : List Part) (rest : List ℕ) → is_disk p ≡ false → AreRead s ps → Rest ps rest → place_of (prefix_part p [] ∷ body_parts s rest) ≡ place_of (prefix_part p [] ∷ ps)
   place-rest p _ _ no_drive read nothing = refl
   place-rest p _ _ no_drive read (from_root q ps e) = ap (λ qs. place_of (prefix_part p [] ∷ qs)) (body_parts-spelled s w q ps read)
   place-rest p _ _ no_drive read (from_other q ps e) =

@@ -1,12 +1,12 @@
 -- A checked push on Windows stays within its base, and the bases that keep their prefix.
-use Rattle.std.proofs.Common.{◌≡◌, ℕ, ◌<◌, true, false, if◌then◌else◌, List, [], ◌∷◌, ◌++◌, length, take, refl, sym, ap, ap₂, ◌∙◌, subst, append-nil, append_assoc, arith, ◌==◌, ◌&&◌, inl, inr, drop, Option, Some, None, option_and_then, take-append-drop, length-append, length-drop, ◌+◌, ◌⊎◌, ne_eqb, option_map, eqb-true}
+use Rattle.std.proofs.Common.{◌≡◌, ℕ, ◌<◌, Bool, true, false, if◌then◌else◌, List, [], ◌∷◌, ◌++◌, length, take, refl, sym, ap, ap₂, ◌∙◌, subst, append-nil, append_assoc, arith, ◌==◌, ◌&&◌, inl, inr, drop, Option, Some, None, option_and_then, take-append-drop, length-append, length-drop, ◌+◌, ◌⊎◌, ne_eqb, option_map, eqb-true}
 use Rattle.std.proofs.lemmas.Bool.{cond_both, both_ways, false_from_ne_true, cases_Bool, and_parts, cond-true, cond-false, and_left, and_right, or_cases, true_from_ne_false}
 use Rattle.std.specs.Option.{option_or}
 use Rattle.std.proofs.lemmas.List.{same_from_push}
 use Rattle.typed_path.specs.declared.scan.separators.Separators.TheVariants.{Backslash, Either}
 use Rattle.typed_path.specs.declared.scan.separators.Separators.{Separators}
 use Rattle.typed_path.specs.components.{windows, begins_verbatim, separators, slash, backslash, colon, is_separator, Prefix, Kind, prefix, Part, kinds, unc, disk, verbatim, verbatim_unc, verbatim_disk, device_ns, Found, prefix_of, found, is_empty, is_drive_letter, to_upper, drive, name, verbatim_unc_case, verbatim_disk_case, verbatim_case, device_case, unc_case, disk_case, parts_of}
-use Rattle.typed_path.specs.queries.{is_verbatim_prefix, has_any_verbatim_prefix, is_disk}
+use Rattle.typed_path.specs.queries.{begins_with_prefix, is_verbatim_prefix, has_any_verbatim_prefix, is_disk}
 use Rattle.typed_path.specs.changes.{push_windows, spelled, merged, ended_windows, is_disk_alone, fault}
 use Rattle.typed_path.specs.places.{resolve, place}
 use Rattle.typed_path.specs.promises.{prefix_kind, LiesWithin, keeps_by_prefix, HasPrefixOf}
@@ -49,17 +49,20 @@ parts_of-plain t f is plain = parts_of-some t f is ∙ ap (λ b. parts_behind (i
 pub verbatim-some : (t : List ℕ) (f : Found) → prefix_of windows t ≡ Some f → has_any_verbatim_prefix (kinds (parts_of windows t)) ≡ is_verbatim_prefix f.prefix
 verbatim-some t f is = ap (λ ps. has_any_verbatim_prefix (kinds ps)) (parts_of-some t f is)
 
--- without one it does not
-pub verbatim-none : (t : List ℕ) → prefix_of windows t ≡ None → has_any_verbatim_prefix (kinds (parts_of windows t)) ≡ false
-verbatim-none t none = ap (λ ps. has_any_verbatim_prefix (kinds ps)) (parts_of-none t none) ∙ by (body_parts Either t) (body_parts-read Either t)
+-- without one the list begins with none
+pub unprefixed : (test : Prefix → Bool) (t : List ℕ) → prefix_of windows t ≡ None → begins_with_prefix test (kinds (parts_of windows t)) ≡ false
+unprefixed test t none = ap (λ ps. begins_with_prefix test (kinds ps)) (parts_of-none t none) ∙ by (body_parts Either t) (body_parts-read Either t)
   where
-    kind : (k : Kind) (text : List ℕ) (ps : List Part) → IsWritten Either k text → has_any_verbatim_prefix (k ∷ kinds ps) ≡ false
+    kind : (k : Kind) (text : List ℕ) (ps : List Part) → IsWritten Either k text → begins_with_prefix test (k ∷ kinds ps) ≡ false
     kind (prefix q) text ps written = absurd written
     kind k text ps written = refl
 
-    by : (ps : List Part) → AreRead Either ps → has_any_verbatim_prefix (kinds ps) ≡ false
+    by : (ps : List Part) → AreRead Either ps → begins_with_prefix test (kinds ps) ≡ false
     by [] read = refl
     by (p ∷ ps) read = kind p.kind p.text ps read.0
+
+pub verbatim-none : (t : List ℕ) → prefix_of windows t ≡ None → has_any_verbatim_prefix (kinds (parts_of windows t)) ≡ false
+verbatim-none t none = unprefixed is_verbatim_prefix t none
 
 module _ (base path : List ℕ) (fine : IsFaultless path) where
   -- a base without a prefix
@@ -220,12 +223,12 @@ body_parts-some : (s : Separators) (b : ℕ) (bs : List ℕ) → (p : Part) × (
 body_parts-some s b bs = let some = slice_split-some (is_separator s) (b ∷ bs) in (first_part s some.0, later_parts s some.1, rw some.2 refl)
 
 -- a list that is not empty is spelled with some bytes
-rest-filled : (s : Separators) (p : Part) (ps : List Part) (rest : List ℕ) → AreRead s (p ∷ ps) → Rest (p ∷ ps) rest → (length rest == 0) ≡ false
+pub rest-filled : (s : Separators) (p : Part) (ps : List Part) (rest : List ℕ) → AreRead s (p ∷ ps) → Rest (p ∷ ps) rest → (length rest == 0) ≡ false
 rest-filled s _ _ _ read (from_root p ps e) = spelled-filled s p ps read.0
 rest-filled s _ _ _ read (from_other p ps e) = ne_eqb _ 0 (λ none. cc)
 
 -- a rest that begins with a separator or is empty stands apart
-rest-apart : (s : Separators) (rest : List ℕ) → is_separator s backslash ≡ true → (rest ≡ []) ⊎ ((more : List ℕ) × (rest ≡ backslash ∷ more)) → Apart s rest
+pub rest-apart : (s : Separators) (rest : List ℕ) → is_separator s backslash ≡ true → (rest ≡ []) ⊎ ((more : List ℕ) × (rest ≡ backslash ∷ more)) → Apart s rest
 rest-apart s rest separates (inl none) = subst (Apart s) (sym none) bare
 rest-apart s rest separates (inr some) = subst (Apart s) (sym some.1) (parted backslash some.0 separates)
 
@@ -249,7 +252,7 @@ spelled-keeps base rest f added is firm other read spelt separated =
 -- The bases of Windows that keep their prefix under every path that is not refused.
 
 -- where there is a prefix, the base itself does not count
-keeps_by_prefix-firm : (base : List ℕ) (p : Prefix) → keeps_by_prefix base (Some p) ≡ is_firm p
+pub keeps_by_prefix-firm : (base : List ℕ) (p : Prefix) → keeps_by_prefix base (Some p) ≡ is_firm p
 keeps_by_prefix-firm base (verbatim name) = refl
 keeps_by_prefix-firm base (verbatim_unc server share) = refl
 keeps_by_prefix-firm base (verbatim_disk letter) = refl

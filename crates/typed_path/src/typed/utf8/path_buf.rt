@@ -10,6 +10,8 @@ ghost use Rattle.typed_path.specs.views.TypedTextViews.{typed_text, typed_text_i
 ghost use Rattle.typed_path.specs.queries.{is_absolute, has_root, parent_of, file_name_of, file_stem_of, extension, stripped, path_starts_with, path_ends_with, ancestors_of, stripped_to};
 ghost use Rattle.typed_path.specs.changes.{with_file_name, with_extension};
 ghost use Rattle.typed_path.specs.conversions.{converted, same_dialect};
+ghost use Rattle.typed_path.specs.places.{is_within};
+ghost use Rattle.typed_path.specs.promises.{keeps_prefix};
 ghost use Rattle.typed_path.specs.views.TextViews.{utf8_bytes};
 ghost use Rattle.typed_path.specs.changes.Push as push_spec;
 
@@ -242,6 +244,13 @@ impl Utf8TypedPathBuf {
         self.to_path().has_root()
     }
 
+    /// As [`Utf8TypedPath::keeps_prefix`].
+    pub fn keeps_prefix(&self) -> bool
+        ensures { result ≡ keeps_prefix (typed_dialect self.now) (owned_bytes self.now) }
+    {
+        self.to_path().keeps_prefix()
+    }
+
     /// As [`Utf8TypedPath::parent`].
     pub fn parent(&self) -> Option<Utf8TypedPath<'_>>
         ensures dialect { IfSome result (λ p. typed_dialect p ≡ typed_dialect self.now) }
@@ -298,6 +307,13 @@ impl Utf8TypedPathBuf {
             ≡ path_starts_with (typed_dialect self.now) (owned_bytes self.now) base.now }
     {
         self.to_path().starts_with(base)
+    }
+
+    /// As [`Utf8TypedPath::is_within`].
+    pub fn is_within(&self, base: &str) -> bool
+        ensures { result ≡ is_within (typed_dialect self.now) (owned_bytes self.now) base.now }
+    {
+        self.to_path().is_within(base)
     }
 
     /// As [`Utf8TypedPath::ends_with`].

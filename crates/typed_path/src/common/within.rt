@@ -1,0 +1,160 @@
+//! Whether a path lies at another or below it: the names of each that no parent takes away, read from
+//! the back, and what stands before them.
+//!
+//! A reading from the back owes each parent a name, so it needs one number and no memory. The first one
+//! counts, the second one compares.
+
+ghost use Rattle.std.specs.Prelude.{◌≡◌, ◌+◌, ◌++◌, ◌∷◌, ◌<◌, ◌≤◌, ◌^◌, ◌&&◌, ◌==◌, not, nat_le, [], length, MatchOption, ℕ, IfSome, if◌then◌else◌};
+ghost use Rattle.std.specs.List.{starts_with};
+ghost use Rattle.std.specs.Str.{bytes_eq};
+ghost use Rattle.typed_path.specs.components.{kinds, parts};
+ghost use Rattle.typed_path.specs.places.{is_anchored, is_within, kept_names, names_under, unmet, unmet_under};
+ghost use Rattle.typed_path.specs.views.BodyViews.{body_items};
+ghost use Rattle.typed_path.specs.views.CursorViews.{items_left};
+
+use crate::common::encoding::Encoding;
+use crate::common::order::have_same_prefixes;
+use crate::scan::{Body, Cursor, StepKind};
+
+/// Whether a path lies at a base or below it.
+#[tactic(auto, using(crate::proofs::lemmas::places::KeptFromBack::few, crate::proofs::lemmas::places::KeptFromBack::few_behind_prefix, crate::proofs::lemmas::places::KeptFromBack::kept_behind_prefix))]
+pub(crate) fn is_within<T: Encoding>(path: &[u8], base: &[u8]) -> bool
+    ensures { result ≡ is_within T.dialect path.now base.now }
+{
+    let own = T::cursor(path);
+    let other = T::cursor(base);
+    if !have_same_prefixes(own.prefix(), other.prefix()) {
+        return false;
+    }
+    let lead = lead_of(own);
+    let wanted = lead_of(other);
+    if holds_all(lead, wanted, other.has_prefix()) {
+        return true;
+    }
+    if !leads_alike(lead, wanted) || lead.names < wanted.names {
+        return false;
+    }
+    begin_alike(own.body(), other.body(), lead.names - wanted.names)
+}
+
+/// What a path says of where it leads, but for its prefix and its names themselves.
+#[derive(Clone, Copy)]
+struct Lead {
+    is_anchored: bool,
+    unmet: usize,
+    names: usize,
+}
+
+/// Reads where a path leads.
+#[tactic(auto, using(crate::proofs::lemmas::places::KeptFromBack::few_behind_prefix, crate::proofs::lemmas::places::KeptFromBack::kept_behind_prefix, crate::proofs::lemmas::places::KeptFromBack::unmet_behind_prefix))]
+#[inline(always)]
+fn lead_of(cursor: Cursor<'_>) -> Lead
+    requires { length (items_left cursor) < 2 ^ 64 }
+    ensures anchored { result.is_anchored ≡ is_anchored (kinds (parts (items_left cursor.entry))) }
+    ensures unmet { result.unmet ≡ unmet (kinds (parts (items_left cursor.entry))) }
+    ensures names { result.names
+        ≡ length (kept_names (kinds (parts (items_left cursor.entry)))) }
+{
+    let depth = depth_of(cursor.body());
+    Lead {
+        is_anchored: cursor.has_implicit_root() || cursor.has_physical_root(),
+        unmet: depth.unmet,
+        names: depth.names,
+    }
+}
+
+/// How many parents of a list find no name to take away, and how many names are kept.
+#[derive(Clone, Copy)]
+struct Depth {
+    unmet: usize,
+    names: usize,
+}
+
+/// Counts the parents that find no name and the names that are kept.
+#[inline(always)]
+fn depth_of(mut rest: Body<'_>) -> Depth
+    requires { length (body_items rest) < 2 ^ 64 }
+    ensures unmet { result.unmet ≡ unmet (kinds (parts (body_items rest.entry))) }
+    ensures names { result.names ≡ length (kept_names (kinds (parts (body_items rest.entry)))) }
+{
+    let mut owed = 0;
+    let mut names = 0;
+    'names: while last_name(&mut rest, &mut owed).is_some() {
+        names += 1;
+    }
+    Depth { unmet: owed, names }
+}
+
+/// Whether a base without names holds what leads no higher: a root alone all, where it has no prefix,
+/// and parents alone all with no more of them.
+fn holds_all(own: Lead, base: Lead, is_prefixed: bool) -> bool
+    ensures { result ≡ ((base.names == 0) && (if base.is_anchored then not is_prefixed
+        else not own.is_anchored && nat_le own.unmet base.unmet)) }
+{
+    base.names == 0
+        && if base.is_anchored {
+            !is_prefixed
+        } else {
+            !own.is_anchored && own.unmet <= base.unmet
+        }
+}
+
+/// Whether two paths lead alike as far as their names: behind a root, or behind as many parents.
+fn leads_alike(own: Lead, base: Lead) -> bool
+    ensures { result ≡ ((if own.is_anchored then base.is_anchored else not base.is_anchored)
+        && ((if own.is_anchored then 0 else own.unmet)
+        == (if base.is_anchored then 0 else base.unmet))) }
+{
+    own.is_anchored == base.is_anchored && (own.is_anchored || own.unmet == base.unmet)
+}
+
+/// Takes the last name that is kept, where so many parents behind it are still owed a name.
+#[inline(always)]
+fn last_name<'a>(rest: &mut Body<'a>, owed: &mut usize) -> Option<&'a [u8]>
+    requires { owed.old + length (body_items rest.old) < 2 ^ 64 }
+    ensures name { MatchOption result (names_under owed.old (body_items rest.old) ≡ [])
+        (λ name. names_under owed.old (body_items rest.old)
+        ≡ names_under owed.new (body_items rest.new) ++ name.now ∷ []) }
+    ensures unmet { unmet_under owed.new (body_items rest.new)
+        ≡ unmet_under owed.old (body_items rest.old) }
+    ensures within { owed.new + length (body_items rest.new)
+        ≤ owed.old + length (body_items rest.old) }
+    ensures taken { IfSome result (λ _. owed.new + length (body_items rest.new)
+        < owed.old + length (body_items rest.old)) }
+    ensures end { MatchOption result (owed.new ≡ unmet_under owed.old (body_items rest.old))
+        (λ _. ℕ) }
+{
+    'steps: while let Some(step) = rest.back() {
+        match step.kind {
+            StepKind::ParentDir => *owed += 1,
+            StepKind::Normal if *owed == 0 => return Some(step.text),
+            StepKind::Normal => *owed -= 1,
+            _ => {}
+        }
+    }
+    None
+}
+
+/// Whether the names that are kept begin with those of a base, of which they have so many more.
+#[inline(always)]
+fn begin_alike(mut rest: Body<'_>, mut base: Body<'_>, deeper: usize) -> bool
+    requires fits { length (body_items rest) < 2 ^ 64 }
+    requires base_fits { length (body_items base) < 2 ^ 64 }
+    requires deeper { length (kept_names (kinds (parts (body_items rest))))
+        ≡ length (kept_names (kinds (parts (body_items base)))) + deeper }
+    ensures { result ≡ starts_with bytes_eq (kept_names (kinds (parts (body_items rest.entry))))
+        (kept_names (kinds (parts (body_items base.entry)))) }
+{
+    let mut owed = 0;
+    'deeper: for _ in 0..deeper {
+        last_name(&mut rest, &mut owed);
+    }
+    let mut base_owed = 0;
+    'names: while let Some(name) = last_name(&mut base, &mut base_owed) {
+        match last_name(&mut rest, &mut owed) {
+            Some(own) if name == own => {}
+            _ => return false,
+        }
+    }
+    true
+}
