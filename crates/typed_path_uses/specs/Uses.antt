@@ -1,16 +1,22 @@
 -- What the callers promise.
-use Rattle.std.specs.Prelude.{◌≡◌, ℕ, List, [], ◌∷◌, ◌++◌, map, Option, Some, None, Result, Ok, Err}
+use Rattle.std.specs.Prelude.{◌≡◌, ℕ, List, [], ◌∷◌, ◌++◌, map, Bool, ◌&&◌, Option, Some, None, Result, Ok, Err, if◌then◌else◌}
 use Rattle.std.specs.Borrow.{Bor}
 use Rattle.std.specs.List.{flat_map, filter}
-use Rattle.std.specs.Option.{is_none, is_some, option_or}
+use Rattle.std.specs.Option.{is_none, is_some, option_map, option_or}
 use Rattle.typed_path.specs.components.Dialects.{Dialect, unix}
 use Rattle.typed_path.specs.components.Parts.{Kind, Part, kinds}
 use Rattle.typed_path.specs.components.Comps.{parts_of}
 use Rattle.typed_path.specs.declared.errors.CheckedPathError.{CheckedPathError}
+use Rattle.typed_path.specs.declared.errors.PathError.{PathError}
+use Rattle.typed_path.specs.declared.errors.PathError.TheVariants as path
 use Rattle.typed_path.specs.changes.Push.{push}
 use Rattle.typed_path.specs.changes.Fault.{fault}
 use Rattle.typed_path.specs.conversions.Convert.{converted_checked}
 use Rattle.typed_path.specs.places.Places.{place, resolve}
+use Rattle.typed_path.specs.promises.Promises.{keeps_prefix}
+use Rattle.typed_path.specs.queries.Queries.{is_absolute}
+use Rattle.typed_path_uses.specs.declared.extractor.Untargeted.{Untargeted}
+use Rattle.typed_path_uses.specs.declared.extractor.Untargeted.TheVariants.{Base, Checked, OutOfMemory}
 
 -- the place of a base, and then the names that a path leads to
 abbrev pub place_within : Dialect → List ℕ → List ℕ → List Kind
@@ -34,6 +40,25 @@ joined_entries d base names = map (λ name. push d base name.now) (fine d names)
 abbrev pub first_fault : Dialect → List (Bor (List ℕ)) → Option CheckedPathError
 first_fault d [] = None
 first_fault d (name ∷ names) = option_or (fault d name.now) (first_fault d names)
+
+-- a refusal of a checked join, as one of a target
+abbrev pub untargeted : PathError → Untargeted
+untargeted (path.Checked fault) = Checked fault
+untargeted path.OutOfMemory = OutOfMemory
+
+-- why there is no target; none where there is one, and where memory is refused
+abbrev pub reason : {A : Type 0} → Result A Untargeted → Option Untargeted
+reason (Ok x) = None
+reason (Err OutOfMemory) = None
+reason (Err e) = Some e
+
+-- why there is none below a base: that, where it does not keep its prefix, and else the fault of a name
+abbrev pub reason_below : Dialect → List ℕ → Option CheckedPathError → Option Untargeted
+reason_below d base fault = if keeps_prefix d base then option_map Checked fault else Some Base
+
+-- a directory that is absolute and keeps its prefix
+abbrev pub is_firm : Dialect → List ℕ → Bool
+is_firm d directory = is_absolute d (kinds (parts_of d directory)) && keeps_prefix d directory
 
 -- components, each behind the other with a line feed
 abbrev pub lines_of : List Part → List ℕ

@@ -8,10 +8,48 @@ ghost use Rattle.typed_path.specs.changes.{refusal, fault};
 ghost use Rattle.typed_path.specs.views.PathViews.{path_bytes};
 ghost use Rattle.typed_path.specs.places.{place};
 ghost use Rattle.typed_path.specs.promises.{keeps_prefix, IsBelow, LiesBelow};
-ghost use Rattle.typed_path_uses.specs.Uses.{place_within, places, places_within, joined_entries, faulty, first_fault};
+ghost use Rattle.typed_path_uses.specs.Uses.{place_within, places, places_within, joined_entries, faulty, first_fault, reason, reason_below};
 
 use std::alloc::{AllocError, Global};
+use thiserror::Error;
 use typed_path::{CheckedPathError, Encoding, Path, PathBuf, PathError};
+
+/// Why there is no target below a base that is known only when the program runs.
+#[derive(Clone, Copy, Debug, PartialEq, Eq, Error)]
+pub enum Untargeted {
+    /// The base does not keep its prefix: what is pushed onto it may become a part of that.
+    #[error("the base does not keep its prefix")]
+    Base,
+    /// The name is refused.
+    #[error(transparent)]
+    Checked(CheckedPathError),
+    /// Memory was refused.
+    #[error("out of memory")]
+    OutOfMemory,
+}
+
+impl From<PathError> for Untargeted {
+    ghost use Rattle.typed_path_uses.specs.Uses.{untargeted};
+
+    ghost from_gives = { λ refused e. e ≡ untargeted refused };
+
+    fn from(refused: PathError) -> Untargeted {
+        match refused {
+            PathError::Checked(fault) => Untargeted::Checked(fault),
+            PathError::OutOfMemory => Untargeted::OutOfMemory,
+        }
+    }
+}
+
+impl From<AllocError> for Untargeted {
+    ghost use Rattle.typed_path_uses.specs.declared.extractor.Untargeted.TheVariants.{OutOfMemory};
+
+    ghost from_gives = { λ _ e. e ≡ OutOfMemory };
+
+    fn from(_refused: AllocError) -> Untargeted {
+        Untargeted::OutOfMemory
+    }
+}
 
 /// Where an entry is unpacked. Where the base keeps its prefix, that is at the place of the base, and
 /// then at the names that the entry's own name leads to. A name that would lead out of the base is
@@ -32,6 +70,25 @@ pub fn target<T: Encoding>(
     ensures refused { refusal result ≡ fault T.dialect name.now }
 {
     base.join_checked(alloc, Path::new(name))
+}
+
+/// The same below a base that is known only when the program runs, which is refused where it does not
+/// keep its prefix.
+pub fn target_below<T: Encoding>(
+    alloc: Global,
+    base: Path<'_, T>,
+    name: &[u8],
+) -> Result<PathBuf<T>, Untargeted>
+    ensures below { IfOk result (λ p. IsBelow T.dialect (path_bytes base.entry) p.bytes) }
+    ensures joined { IfOk result (λ p. p.bytes
+        ≡ push_spec.push T.dialect (path_bytes base.entry) name.now) }
+    ensures refused { reason result
+        ≡ reason_below T.dialect (path_bytes base.entry) (fault T.dialect name.now) }
+{
+    if !base.keeps_prefix() {
+        return Err(Untargeted::Base);
+    }
+    Ok(target(alloc, base, name)?)
 }
 
 /// Where all entries are unpacked, in their order, each as `target` has it; or the refusal of the
@@ -128,4 +185,27 @@ pub fn unpacked<'a, T: Encoding>(
         unpacking.unpack(alloc, base, name)?;
     }
     Ok(unpacking)
+}
+
+/// The same below a base that is known only when the program runs, which is refused where it does not
+/// keep its prefix.
+pub fn unpacked_below<'a, T: Encoding>(
+    alloc: Global,
+    base: Path<'_, T>,
+    names: &[&'a [u8]],
+) -> Result<Unpacking<'a, T>, Untargeted>
+    ensures below { IfOk result
+        (λ u. All (λ p. IsBelow T.dialect (path_bytes base.entry) p.bytes) u.targets.items) }
+    ensures targets { IfOk result (λ u. map (λ p. p.bytes) u.targets.items
+        ≡ joined_entries T.dialect (path_bytes base.entry) names.now) }
+    ensures names { IfOk result
+        (λ u. map (λ r. r.name) u.refused.items ≡ faulty T.dialect names.now) }
+    ensures refused { IfOk result
+        (λ u. All (λ r. fault T.dialect r.name.now ≡ Some r.fault) u.refused.items) }
+    ensures base { reason result ≡ reason_below T.dialect (path_bytes base.entry) None }
+{
+    if !base.keeps_prefix() {
+        return Err(Untargeted::Base);
+    }
+    Ok(unpacked(alloc, base, names)?)
 }

@@ -1,6 +1,7 @@
 //! Callers of `typed_path`, each with what it promises to its own callers.
 #![tactic(auto)]
 
+mod config;
 mod extractor;
 mod ignore;
 mod manifest;
@@ -12,15 +13,20 @@ mod tree;
 mod typed;
 mod walk;
 
-pub use extractor::{Refused, Unpacking, target, targets, unpacked};
+pub use config::{Unconfigured, configured};
+pub use extractor::{
+    Refused, Unpacking, Untargeted, target, target_below, targets, unpacked, unpacked_below,
+};
 pub use ignore::{Rule, fits, is_ignored};
 pub use manifest::{entry_on_windows, rewritten, rewritten_texts};
 pub use notes::{are_alike, note, noted};
-pub use server::{UNIX_ROOT, Unserved, WINDOWS_ROOT, served, served_on_unix, served_on_windows};
-pub use texts::{text_key, text_target};
+pub use server::{
+    UNIX_ROOT, Unserved, WINDOWS_ROOT, served, served_below, served_on_unix, served_on_windows,
+};
+pub use texts::{text_key, text_target, text_target_below};
 pub use tidy::{are_one, key};
 pub use tree::{Tree, unix_paths_are_one, windows_path_is_filed};
-pub use typed::{listed_as_on_unix, typed_target};
+pub use typed::{listed_as_on_unix, typed_target, typed_target_below};
 pub use walk::listing;
 
 #[cfg(test)]

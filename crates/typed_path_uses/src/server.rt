@@ -1,14 +1,15 @@
 //! The files that a server of files answers with, on Unix and on Windows.
 
-ghost use Rattle.std.specs.Prelude.{◌≡◌, IfOk, IfErr, None};
+ghost use Rattle.std.specs.Prelude.{◌≡◌, true, false, IfOk, IfErr, Err, None};
 ghost use Rattle.std.specs.List.{list_any};
 ghost use Rattle.typed_path.specs.components.{unix, windows};
 ghost use Rattle.typed_path.specs.changes.Push as push_spec;
 ghost use Rattle.typed_path.specs.changes.{fault};
-ghost use Rattle.typed_path.specs.promises.{IsBelow, LiesBelow};
+ghost use Rattle.typed_path.specs.promises.{keeps_prefix, IsBelow, LiesBelow};
 ghost use Rattle.typed_path.specs.views.PathViews.{path_bytes};
 ghost use Rattle.typed_path_uses.specs.Server as named;
 ghost use Rattle.typed_path_uses.specs.Server.{decoded, reason_of, IsReason};
+ghost use Rattle.typed_path_uses.specs.declared.server.Unserved.TheVariants.{Root};
 
 use percent_encoding::percent_decode;
 use std::alloc::{AllocError, Global};
@@ -37,6 +38,9 @@ pub enum Unserved {
     /// A name of it stands for a device.
     #[error("a name stands for a device")]
     Device,
+    /// The root does not keep its prefix: what is pushed onto it may become a part of that.
+    #[error("the root does not keep its prefix")]
+    Root,
     /// Memory was refused.
     #[error("out of memory")]
     OutOfMemory,
@@ -73,6 +77,27 @@ pub fn served<T: Encoding>(
         Err(PathError::Checked(fault)) => Err(reason(fault, path.as_slice())),
         Err(PathError::OutOfMemory) => Err(Unserved::OutOfMemory),
     }
+}
+
+/// The same below a root that is known only when the program runs, which is refused where it does not
+/// keep its prefix.
+pub fn served_below<T: Encoding>(
+    alloc: Global,
+    root: Path<'_, T>,
+    url: &[u8],
+) -> Result<PathBuf<T>, Unserved>
+    ensures below { IfOk result (λ file. IsBelow T.dialect (path_bytes root.entry) file.bytes) }
+    ensures joined { IfOk result (λ file. file.bytes
+        ≡ push_spec.push T.dialect (path_bytes root.entry) (decoded url.now)) }
+    ensures only { IfOk result (λ file. fault T.dialect (decoded url.now) ≡ None) }
+    ensures root { keeps_prefix T.dialect (path_bytes root.entry) ≡ false → result ≡ Err Root }
+    ensures refused { keeps_prefix T.dialect (path_bytes root.entry) ≡ true
+        → IfErr result (IsReason (decoded url.now) (fault T.dialect (decoded url.now))) }
+{
+    if !root.keeps_prefix() {
+        return Err(Unserved::Root);
+    }
+    served(alloc, root, url)
 }
 
 /// The root of the files on Unix.

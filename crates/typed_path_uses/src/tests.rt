@@ -1,15 +1,18 @@
 //! Each caller at work: rows of known answers.
 
 use crate::{
-    Rule, Tree, Unserved, are_alike, entry_on_windows, is_ignored, note, noted, rewritten,
-    rewritten_texts, served_on_unix, served_on_windows, unpacked,
+    Rule, Tree, Unconfigured, Unserved, Untargeted, are_alike, configured, entry_on_windows,
+    is_ignored, note, noted, rewritten, rewritten_texts, served_below, served_on_unix,
+    served_on_windows, target_below, text_target_below, typed_target_below, unpacked,
+    unpacked_below,
 };
 use std::alloc::{AllocError, Global};
 use std::collections::BTreeMap;
 use std::test::Fail;
 use typed_path::{
-    CheckedPathError, Encoding, Path, PathError, UnixEncoding, UnixPath, Utf8UnixEncoding,
-    Utf8WindowsEncoding, WindowsEncoding, WindowsPath, WindowsPathBuf,
+    CheckedPathError, Encoding, Path, PathError, TypedPath, UnixEncoding, UnixPath,
+    Utf8UnixEncoding, Utf8WindowsEncoding, Utf8WindowsPath, WindowsEncoding, WindowsPath,
+    WindowsPathBuf,
 };
 
 #[test]
@@ -115,6 +118,62 @@ fn traps_of_archives(rt: HostRuntime) -> Result<(), Fail> {
         assert_eq!(rt; unix, wanted(on_unix));
         let windows = unpacked_with::<WindowsEncoding>(rt.alloc(), br"C:\out", name)?;
         assert_eq!(rt; windows, wanted(on_windows));
+    }
+    Ok(())
+}
+
+/// Bases of Windows, and where `a` goes below each that keeps its prefix.
+const BASES: &[(&str, Option<&str>)] = &[
+    (r"C:\out", Some(r"C:\out\a")),
+    (r"\\s\h", Some(r"\\s\h\a")),
+    ("out", Some(r"out\a")),
+    (r"\\s", None),
+    (r"\\?\UNC", None),
+    ("/", None),
+];
+
+#[test]
+fn bases_that_are_known_later(rt: HostRuntime) -> Result<(), Fail> {
+    for (base, below) in BASES {
+        let path = WindowsPath::new(base.as_bytes());
+        let below = below.map(|text| text.as_bytes());
+        let wanted = below.ok_or(Untargeted::Base);
+        let target = target_below(rt.alloc(), path, b"a");
+        assert_eq!(rt;
+            target
+                .as_ref()
+                .map(|path| path.as_path().as_bytes())
+                .map_err(|e| *e),
+            wanted
+        );
+        let target = text_target_below(rt.alloc(), Utf8WindowsPath::new(base), "a");
+        assert_eq!(rt;
+            target
+                .as_ref()
+                .map(|path| path.as_path().as_str().as_bytes())
+                .map_err(|e| *e),
+            wanted
+        );
+        let target = typed_target_below(rt.alloc(), TypedPath::windows(base.as_bytes()), b"a");
+        assert_eq!(rt;
+            target.as_ref().map(|path| path.as_bytes()).map_err(|e| *e),
+            wanted
+        );
+        let unpacking = unpacked_below(rt.alloc(), path, &[b"a"]);
+        assert_eq!(rt;
+            unpacking
+                .as_ref()
+                .map(|all| all.targets.len())
+                .map_err(|e| *e),
+            wanted.map(|_| 1)
+        );
+        let file = served_below(rt.alloc(), path, b"/a");
+        assert_eq!(rt;
+            file.as_ref()
+                .map(|path| path.as_path().as_bytes())
+                .map_err(|e| *e),
+            below.ok_or(Unserved::Root)
+        );
     }
     Ok(())
 }
@@ -304,4 +363,79 @@ fn manifests(rt: HostRuntime) {
         );
         assert!(rt; made.err() == Some(PathError::Checked(fault)));
     }
+}
+
+/// A directory, a folder and a path, and where the path leads or why it is not taken.
+type Configured = (
+    &'static [u8],
+    &'static [u8],
+    &'static [u8],
+    Result<&'static [u8], Unconfigured>,
+);
+
+fn configured_rows<T: Encoding>(alloc: Global, rows: &[Configured]) -> Option<usize> {
+    'rows: for (at, (directory, folder, path, wanted)) in rows.iter().enumerate() {
+        let made = configured::<T>(
+            alloc,
+            Path::new(directory),
+            Path::new(folder),
+            Path::new(path),
+        );
+        let bytes = made.as_ref().map(|made| made.as_path().as_bytes());
+        if bytes.map_err(|e| *e) != *wanted {
+            return Some(at);
+        }
+    }
+    None
+}
+
+#[test]
+fn configured_paths(rt: HostRuntime) {
+    const UNIX: &[Configured] = &[
+        (b"/etc/app", b"data", b"data/a", Ok(b"/etc/app/data/a")),
+        (b"/etc/app", b".", b"a", Ok(b"/etc/app/a")),
+        (
+            b"/etc/app",
+            b"../data",
+            b"../data/./a",
+            Ok(b"/etc/app/../data/./a"),
+        ),
+        (b"/etc/app", b"/srv", b"/srv/a", Ok(b"/srv/a")),
+        (
+            b"/etc/app",
+            b"data",
+            b"data/../a",
+            Err(Unconfigured::Outside),
+        ),
+        (
+            b"/etc/app",
+            b"data",
+            b"/etc/app/data/a",
+            Err(Unconfigured::Outside),
+        ),
+        (b"app", b"data", b"data/a", Err(Unconfigured::Directory)),
+    ];
+    const WINDOWS: &[Configured] = &[
+        (br"C:\app", b"data", br"data\a", Ok(br"C:\app\data\a")),
+        (br"C:\app", br"d:\data", br"D:\data\a", Ok(br"D:\data\a")),
+        (
+            br"C:\app",
+            b"data",
+            br"data\..\a",
+            Err(Unconfigured::Outside),
+        ),
+        (br"C:\app", b"data", b"D:a", Err(Unconfigured::Outside)),
+        (br"\app", b"data", br"data\a", Err(Unconfigured::Directory)),
+        (
+            br"\\server\",
+            b"data",
+            br"data\a",
+            Err(Unconfigured::Directory),
+        ),
+    ];
+    assert_eq!(rt; configured_rows::<UnixEncoding>(rt.alloc(), UNIX), None);
+    assert_eq!(rt;
+        configured_rows::<WindowsEncoding>(rt.alloc(), WINDOWS),
+        None
+    );
 }
