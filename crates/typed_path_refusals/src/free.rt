@@ -44,6 +44,8 @@ macro_rules! free {
         let listed = number_of!($lent.iter()) == count;
         let climbed = number_of!($lent.ancestors()) == above_count;
         let derived = PathType::derive(base.as_bytes()) == kind;
+        let kept = $lent.keeps_prefix();
+        let within = $lent.is_within($whole);
         let joined = $lent.join_checked($alloc, $parent).err() == Some(ESCAPES);
         let pushed = $path.push_checked($parent) == Err(ESCAPES) && $bytes == base.as_bytes();
         let reserved = $path.reserve(usize::MAX).is_err() && $bytes == base.as_bytes();
@@ -65,6 +67,8 @@ macro_rules! free {
             ("iter", Ended::done(listed, base)),
             ("ancestors", Ended::done(climbed, base)),
             ("derive", Ended::done(derived, base)),
+            ("keeps_prefix", Ended::done(kept, base)),
+            ("is_within", Ended::done(within, base)),
             ("join_checked of a parent", Ended::done(joined, base)),
             ("push_checked of a parent", Ended::done(pushed, base)),
             ("reserve of too much", Ended::done(reserved, base)),
