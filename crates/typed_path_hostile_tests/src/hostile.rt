@@ -252,41 +252,124 @@ fn are_same(parts: &[Part<'_>], others: &[Part<'_>]) -> bool {
         })
 }
 
-/// Whether two texts, of which the slow list of one is told, are equal and hashed alike as their lists say.
-fn are_compared_alike<T: Encoding>(
+/// A text with its slow list, and what that says of where it leads: its names that no `..` takes away, how many
+/// `..` find none to take, and whether it begins with a root, written or implied.
+#[derive(Drop)]
+struct Led<'a> {
+    text: &'a [u8],
+    parts: Vec<Part<'a>>,
+    names: Vec<&'a [u8]>,
+    unmet: u32,
+    is_anchored: bool,
+}
+
+/// Whether components begin with a root, written or implied by a prefix.
+fn is_anchored(parts: &[Part<'_>]) -> bool {
+    match parts {
+        [first, second, ..]
+            if matches!(first.piece.kind, PieceKind::Prefix(WindowsPrefix::Disk(_))) => {
+            matches!(second.piece.kind, PieceKind::RootDir)
+        }
+        [first, ..] => matches!(first.piece.kind, PieceKind::RootDir) || is_root(first.piece),
+        [] => false,
+    }
+}
+
+/// Reads a text slowly.
+fn read_slowly(alloc: Global, windows: bool, text: &[u8]) -> Result<Led<'_>, AllocError> {
+    let parts = parts_of(alloc, windows, text)?;
+    let (mut names, mut unmet) = (Vec::new(alloc), 0u32);
+    for part in &parts {
+        match part.piece.kind {
+            PieceKind::Normal => names.push(part.piece.text)?,
+            PieceKind::ParentDir if names.is_empty() => unmet = unmet.saturating_add(1),
+            PieceKind::ParentDir => names.truncate(names.len().saturating_sub(1)),
+            _ => {}
+        }
+    }
+    let is_anchored = is_anchored(parts.as_slice());
+    Ok(Led {
+        text,
+        parts,
+        names,
+        unmet,
+        is_anchored,
+    })
+}
+
+/// The prefix that components begin with.
+fn prefix_of<'a>(parts: &[Part<'a>]) -> Option<WindowsPrefix<'a>> {
+    match parts.first()?.piece.kind {
+        PieceKind::Prefix(prefix) => Some(prefix),
+        _ => None,
+    }
+}
+
+/// Whether a text lies within another, as what their lists say of where they lead.
+fn is_led_within(own: &Led<'_>, base: &Led<'_>) -> bool {
+    let (prefix, other) = (
+        prefix_of(own.parts.as_slice()),
+        prefix_of(base.parts.as_slice()),
+    );
+    let begins = base.names.len() <= own.names.len()
+        && own
+            .names
+            .iter()
+            .zip(&base.names)
+            .all(|(own, base)| own == base);
+    let leads = begins
+        && own.is_anchored == base.is_anchored
+        && (own.is_anchored || own.unmet == base.unmet);
+    let holds = base.names.is_empty()
+        && if base.is_anchored {
+            other.is_none()
+        } else {
+            !own.is_anchored && own.unmet <= base.unmet
+        };
+    prefix == other && (leads || holds)
+}
+
+/// Whether two texts are equal, hashed alike, and the first within the second, as their lists say.
+fn are_compared_alike<T: Encoding>(one: &Led<'_>, two: &Led<'_>) -> bool {
+    let same = are_same(one.parts.as_slice(), two.parts.as_slice());
+    let (path, other) = (Path::<T>::new(one.text), Path::<T>::new(two.text));
+    (path == other) == same
+        && (!same || recorded(&path) == recorded(&other))
+        && path.is_within(other) == is_led_within(one, two)
+}
+
+/// Whether this is so of every pair of texts.
+fn are_all_compared_alike<T: Encoding>(
     alloc: Global,
     windows: bool,
-    (text, parts): (&[u8], &[Part<'_>]),
-    other: &[u8],
+    texts: &[Vec<u8>],
 ) -> Result<bool, AllocError> {
-    let others = parts_of(alloc, windows, other)?;
-    let same = are_same(parts, others.as_slice());
-    let (path, other) = (Path::<T>::new(text), Path::<T>::new(other));
-    Ok((path == other) == same && (!same || recorded(&path) == recorded(&other)))
+    let mut all = Vec::new(alloc);
+    for text in texts {
+        all.push(read_slowly(alloc, windows, text.as_slice())?)?;
+    }
+    for one in &all {
+        for two in &all {
+            if !are_compared_alike::<T>(one, two) {
+                return Ok(false);
+            }
+        }
+    }
+    Ok(true)
 }
 
 #[test]
 fn every_pair_of_short_texts(rt: HostRuntime) -> Result<(), Fail> {
     let alloc = rt.alloc();
-    let (mut text, mut other) = (Vec::new(alloc), Vec::new(alloc));
+    let mut texts = Vec::new(alloc);
     for (length, count) in [(0, 1), (1, 7), (2, 49), (3, 343)] {
         for number in 0..count {
+            let mut text = Vec::new(alloc);
             put_numbered(&mut text, b"", length, number)?;
-            let one = text.as_slice();
-            let (unix, windows) = (parts_of(alloc, false, one)?, parts_of(alloc, true, one)?);
-            let (unix, windows) = ((one, unix.as_slice()), (one, windows.as_slice()));
-            for (length, count) in [(0, 1), (1, 7), (2, 49), (3, 343)] {
-                for number in 0..count {
-                    put_numbered(&mut other, b"", length, number)?;
-                    let two = other.as_slice();
-                    let on_unix = are_compared_alike::<UnixEncoding>(alloc, false, unix, two)?;
-                    let on_windows = are_compared_alike::<WindowsEncoding>(
-                        alloc, true, windows, two,
-                    )?;
-                    assert!(rt; on_unix && on_windows, "{one:?} and {two:?}");
-                }
-            }
+            texts.push(text)?;
         }
     }
+    assert!(rt; are_all_compared_alike::<UnixEncoding>(alloc, false, texts.as_slice())?);
+    assert!(rt; are_all_compared_alike::<WindowsEncoding>(alloc, true, texts.as_slice())?);
     Ok(())
 }
