@@ -62,15 +62,15 @@ exports!((path: *const u8, len: usize):
     bench_file_name bench_extension bench_to_path_buf bench_normalize bench_first bench_hash bench_windows_hash
     bench_windows_walk
     bench_windows_walk_back bench_windows_first bench_windows_last bench_windows_parent
-    bench_windows_ancestors bench_is_valid bench_windows_is_valid bench_to_string_lossy
+    bench_windows_ancestors bench_is_valid bench_windows_is_valid bench_windows_keeps_prefix bench_to_string_lossy
     bench_windows_file_name bench_windows_extension bench_windows_normalize bench_to_windows
     bench_to_windows_checked bench_windows_to_unix bench_windows_to_unix_checked);
 
 exports!((path: *const u8, len: usize, other: *const u8, other_len: usize):
-    bench_starts_with bench_strip_prefix bench_ends_with bench_join bench_join_checked
+    bench_starts_with bench_is_within bench_strip_prefix bench_ends_with bench_join bench_join_checked
     bench_with_file_name bench_with_extension bench_eq bench_cmp bench_windows_eq bench_windows_cmp bench_windows_join bench_windows_join_checked
     bench_extend bench_windows_extend
-    bench_windows_starts_with bench_windows_strip_prefix
+    bench_windows_starts_with bench_windows_is_within bench_windows_strip_prefix
     bench_windows_with_extension bench_absolutize);
 
 exports!((texts: *const u8, len: usize, ends: *const usize, count: usize, other: *const u8, other_len: usize):
@@ -622,6 +622,8 @@ fn rows(corpus: &Corpus) -> Vec<Row<'_>> {
         whole.two("`starts_with` of the first half", half, bench_starts_with, Some(starts_with)),
         whole.two("`starts_with`, differs late", late, bench_starts_with, Some(starts_with)),
         whole.two("`starts_with`, written otherwise", otherwise, bench_starts_with, Some(starts_with)),
+        whole.two("`is_within` of the first half", half, bench_is_within, Some(is_within)),
+        whole.two("`is_within`, differs late", late, bench_is_within, Some(is_within)),
         whole.two("`strip_prefix` of the first half", half, bench_strip_prefix, Some(strip_prefix)),
         whole.two("`strip_prefix`, differs late", late, bench_strip_prefix, Some(strip_prefix)),
         whole.two("`strip_prefix`, written otherwise", otherwise, bench_strip_prefix, Some(strip_prefix)),
@@ -783,6 +785,8 @@ fn windows_rows(corpus: &Corpus, at: usize) -> Vec<Row<'_>> {
             each(whole.calls(), move |at| usize::from(unsafe { bench_is_valid(other.at(at).as_ptr(), other.at(at).len()) } < 2)),
         ),
         halved("`starts_with` of the first half", bench_windows_starts_with, bench_starts_with),
+        halved("`is_within` of the first half", bench_windows_is_within, bench_is_within),
+        whole.alone("`keeps_prefix`", paths, bench_windows_keeps_prefix),
         halved("`strip_prefix` of the first half", bench_windows_strip_prefix, bench_strip_prefix),
         whole.row(
             "`==`, separators otherwise",
@@ -822,6 +826,25 @@ fn std_is_valid(path: &Path) -> usize {
 
 fn starts_with(path: &Path, base: &Path) -> usize {
     usize::from(path.starts_with(base))
+}
+
+/// The path without `.` and the names that a `..` takes away, in the plain way that is known to work.
+fn cleaned(path: &Path) -> PathBuf {
+    let mut left = Vec::new();
+    for component in path.components() {
+        match (component, left.last()) {
+            (Component::CurDir, _) | (Component::ParentDir, Some(Component::RootDir)) => {}
+            (Component::ParentDir, Some(Component::Normal(_))) => {
+                left.pop();
+            }
+            _ => left.push(component),
+        }
+    }
+    left.iter().collect()
+}
+
+fn is_within(path: &Path, base: &Path) -> usize {
+    usize::from(cleaned(path).starts_with(cleaned(base)))
 }
 
 fn strip_prefix(path: &Path, base: &Path) -> usize {

@@ -35,6 +35,12 @@ pub extern "C" fn bench_starts_with(path: &[u8], base: &[u8]) -> usize {
     usize::from(UnixPath::new(path).starts_with(UnixPath::new(base)))
 }
 
+/// Whether the path lies at a base or below it.
+#[unsafe(no_mangle)]
+pub extern "C" fn bench_is_within(path: &[u8], base: &[u8]) -> usize {
+    usize::from(UnixPath::new(path).is_within(UnixPath::new(base)))
+}
+
 /// What is left of the path behind a base.
 #[unsafe(no_mangle)]
 pub extern "C" fn bench_strip_prefix(path: &[u8], base: &[u8]) -> usize {

@@ -75,6 +75,18 @@ pub extern "C" fn bench_windows_starts_with(path: &[u8], base: &[u8]) -> usize {
     usize::from(WindowsPath::new(path).starts_with(WindowsPath::new(base)))
 }
 
+/// Whether the path lies at a base or below it.
+#[unsafe(no_mangle)]
+pub extern "C" fn bench_windows_is_within(path: &[u8], base: &[u8]) -> usize {
+    usize::from(WindowsPath::new(path).is_within(WindowsPath::new(base)))
+}
+
+/// Whether the path keeps its prefix as a base.
+#[unsafe(no_mangle)]
+pub extern "C" fn bench_windows_keeps_prefix(path: &[u8]) -> usize {
+    usize::from(WindowsPath::new(path).keeps_prefix())
+}
+
 /// What is left of the path behind a base.
 #[unsafe(no_mangle)]
 pub extern "C" fn bench_windows_strip_prefix(path: &[u8], base: &[u8]) -> usize {
