@@ -1,8 +1,9 @@
 #!/usr/bin/env bash
 # The gate: `rt ci` proves every crate and its tests from nothing, tries each must-fail edit, and runs the
 # tests and the programs; then the programs that it built are refused memory, and their transfers fail.
-# What shows in some seconds is looked at first, and progress.py says how far the rest is. At its end the
-# instructions of the jobs are counted. `./gate.sh quick` runs the tests and the programs alone, unproved.
+# What shows in some seconds is looked at first, and progress.py says how far the rest is. At its end what
+# stands on the pages is tried, and the instructions of the jobs are counted. `./gate.sh quick` runs the tests,
+# the programs and the pages alone, unproved.
 set -uo pipefail
 cd "$(dirname "$0")" || exit 2
 case "$*" in
@@ -42,6 +43,7 @@ look_at_layout() {
 # Says what is wrong, of that which would fail the gate in the end and shows at once.
 look() {
     command -v cc > /dev/null || echo "there is no cc, which refusals/run.sh needs: install a C compiler"
+    command -v git > /dev/null || echo "there is no git, which pages.py needs: install it"
     command -v rt > /dev/null || { echo "there is no rt" && return; }
     look_at_layout
     crates/typed_path/mutants/try.py --list crates/typed_path/must-fail | sed -n '/: NOT APPLIED, /p'
@@ -66,6 +68,7 @@ look > "$room/wrong" 2>&1 &
 if wait $! && [[ ! -s $room/wrong ]]; then
     part rt ci
     part refusals/run.sh
+    part ./pages.py
     part bench/count
 else
     cat "$room/wrong"

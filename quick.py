@@ -1,10 +1,10 @@
 #!/usr/bin/env python3
 """Runs what `./gate.sh quick` runs, with no proof: the tests of each crate that has some, and both
-programs over their stored input, side by side over the processors, by `rt try`.
+programs over their stored input, side by side over the processors, by `rt try`, and pages.py.
 
-It says four times a minute what is under way, and of each part how it ended; of one that failed, what
-`rt try` says of it. Each test counts once, and each run of a program. The last line is `N passed, M failed`,
-and the exit status says the same.
+It says four times a minute what is under way, and of each part how it ended; of one that failed, what is
+said of it. Each test counts once, each run of a program, and what pages.py counts. The last line is
+`N passed, M failed`, and the exit status says the same.
 """
 
 import concurrent.futures
@@ -42,20 +42,34 @@ def missing():
         yield "there is no rt: install the Rattle kit, and put its folder bin into PATH"
     if not shutil.which("cc"):
         yield "there is no cc: install a C compiler"
+    if not shutil.which("git"):
+        yield "there is no git: install it"
 
 
-def tried(part, crate, *words):
-    """What `rt try` printed in the folder of a crate."""
-    command = ["rt", "try", *words, "--seconds", SECONDS]
+def printed(part, command, folder):
+    """What a command printed."""
     with lock:
         running[part] = subprocess.Popen(
-            command, cwd=TOP / "crates" / crate, stdin=subprocess.DEVNULL, stdout=subprocess.PIPE,
+            command, cwd=folder, stdin=subprocess.DEVNULL, stdout=subprocess.PIPE,
             stderr=subprocess.STDOUT, start_new_session=True,
         )
     output, _ = running[part].communicate()
     with lock:
         del running[part]
     return output.decode(errors="backslashreplace")
+
+
+def tried(part, crate, *words):
+    """What `rt try` printed in the folder of a crate."""
+    return printed(part, ["rt", "try", *words, "--seconds", SECONDS], TOP / "crates" / crate)
+
+
+def pages_of(part, pages):
+    """Tries what stands on the pages: how much passed and failed, and what there is to say."""
+    said = printed(part, [TOP / pages], TOP).splitlines()
+    found = re.fullmatch(r"(\d+) passed, (\d+) failed", said[-1]) if said else None
+    passed, failed = map(int, found.groups()) if found else (0, 1)
+    return passed, failed, [line for line in said[:-1] if failed and ": left out: " not in line]
 
 
 def tests_of(part, crate):
@@ -89,7 +103,7 @@ def runs_of(part, crate):
 
 
 def parts():
-    """Each part, what does it, and its crate."""
+    """Each part, what does it, and its crate or its script."""
     plan = planned()
     ranks = {crate: rank for rank, crate in enumerate(LONGEST)}
     for crate in sorted(plan["crates' tests"], key=lambda crate: ranks.get(crate, len(ranks))):
@@ -98,6 +112,7 @@ def parts():
         if crate == LEFT_OUT:
             continue
         yield f"runs of {crate}", runs_of, crate
+    yield "the pages", pages_of, "pages.py"
 
 
 def say(begun, text):

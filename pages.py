@@ -1,0 +1,408 @@
+#!/usr/bin/env python3
+"""Tries what stands on the pages: their blocks of code and of commands, and their links.
+
+Each block has one fate. A whole file of Rattle is compiled in a crate over the library, which the commands of
+the README have put there, and what that page says of it is asked of it. Another piece of Rattle or of a proof
+stands line for line in a file of the repository, or is compiled and run in a function. Commands are run as they
+are pasted, in a copy of the checkout. A picture, and what takes long, is left out by name, with the reason. A
+block without a fate fails, and so does a fate without a block. `./pages.py PAGE..` tries these pages alone. It
+takes a minute, and proves nothing. The last line is `N passed, M failed`, and the exit status says the same.
+"""
+
+import concurrent.futures
+import os
+import pathlib
+import re
+import shutil
+import subprocess
+import sys
+import tempfile
+import textwrap
+
+TOP = pathlib.Path(__file__).resolve().parent
+README, TYPATH, CALLING = "README.md", "crates/typath/README.md", "docs/CALLING.md"
+
+# What is left out: a block, or a line of commands, by its page and how it begins.
+BUILT = "takes a program that was proved and built"
+OLDER = "proves an older state, which takes an hour"
+LEFT_OUT = {
+    (README, "  C:  "): "a picture",
+    (README, "                  "): "a picture",
+    (README, "cp -a ../typed_path/crates/typed_path/out"): "takes a built checkout, and 3 GB",
+    (README, "./gate.sh quick"): "takes minutes, and runs this",
+    (README, "./gate.sh  "): "takes more than an hour, and runs this",
+    (README, "(cd crates/typath && rt run < stdin)"): "takes half an hour",
+    ("crates/typed_path/README.md", "typed_path: "): "what a command of the README writes",
+    ("docs/DEVELOPMENT.md", "(cd crates/typed_path_refusals && rt run"): BUILT,
+    ("docs/DEVELOPMENT.md", "(cd crates/typath && rt run"): BUILT,
+    ("docs/DEVELOPMENT.md", "refusals/run.sh"): BUILT,
+    ("docs/PERF.md", "git clone . ../old"): OLDER,
+    ("docs/PERF.md", "git archive HEAD crates.txt"): OLDER,
+    ("docs/PERF.md", "(cd ../old"): OLDER,
+    ("docs/PERF.md", "bench/run ../old"): OLDER,
+    ("docs/PERF.md", "begins_device a b"): "definitions of an older state",
+    ("docs/PERFORMANCE.md", "parallel "): BUILT + ", and the package parallel",
+}
+
+# The folder in which commands are run, if that is not the copy of the checkout.
+FOLDERS = {(README, "git -C ../typed_path"): "yours", (TYPATH, ""): "tree"}
+
+# Lines that commands print, beside the replies in their comments, where `⇥` is a tab.
+PRINTED = {
+    (README, "(cd crates/typath && rt try"): ["ok\tfoo/bar/baz/asdf"],
+    ("docs/DEVELOPMENT.md", "cat crates/typed_path/proofs/examples"): ["518"],
+    (TYPATH, "# the names of a tree"): ["ok\t.\\a\\b.txt"],
+    (TYPATH, "# how many replies"): ["1 refused"],
+}
+
+# Files in which a piece may stand.
+STORED = [
+    "crates.txt", "crates/*/src/**/*.rt", "crates/typed_path*/specs/**/*.antt", "crates/typed_path*/proofs/**/*.antt",
+    "crates/typed_path/mutants/*.edit",
+]
+
+# Any other piece, with what stands before it in its function.
+FRAGMENTS = {
+    (CALLING, "let mut tree = "): "",
+    (CALLING, 'let path = UnixPath::new(b"/usr'): "",
+    (CALLING, "let mut path = "): "",
+    (CALLING, "let key = "): 'let path = UnixPath::new(b"a/../b");',
+    (CALLING, "let mut components = "): "let mut names = Vec::new(alloc);",
+    (CALLING, "let one = "): "",
+    (CALLING, "let line = "): 'let path = UnixPath::new(b"a");',
+    (CALLING, "let path = TypedPath"): "let mut names = Vec::new(alloc); let mut others = Vec::new(alloc);",
+    (CALLING, "read_ends("): 'let mut components = UnixPath::new(b"/a").components(); let mut answers = Vec::new(alloc);'
+    " let mut owned = UnixPathBuf::new(alloc); let mut replies = Vec::new(alloc);",
+    ("docs/COMING_FROM.md", "let joined = "):
+    r'let directory = WindowsPath::new(br"C:\work"); let path = WindowsPath::new(br"..\a");',
+}
+
+# The crate of these functions.
+PIECES = """#![tactic(auto)]
+
+#[cfg(test)]
+mod tests {
+    use anyhow::Result;
+    use typed_path::*;
+    use typed_path_uses::Tree;
+
+%s}
+"""
+
+# What the README says of its files, each behind a comment of its words.
+SAID = r"""
+#[cfg(test)]
+mod tests {
+    use crate::readme_1::{target, tidied};
+    use crate::readme_2::stored;
+    use std::test::Fail;
+    use typed_path::CheckedPathError::{InvalidFilename, PathTraversalAttack, UnexpectedPrefix, UnexpectedRoot};
+    use typed_path::PathError::Checked;
+    use typed_path::Utf8UnixPath;
+
+    #[test]
+    fn said(rt: HostRuntime) -> Result<(), Fail> {
+        let alloc = rt.alloc();
+        let etc = Utf8UnixPath::new("/etc");
+        // `target` of `/etc` and `abc/../def` returns `/etc/abc/../def`
+        assert!(rt; matches!(&target(alloc, etc, "abc/../def"), Ok(path) if path.as_path().as_str() == "/etc/abc/../def"));
+        // It refuses `..` with `PathTraversalAttack`, and `/sneaky` with `UnexpectedRoot`
+        assert!(rt; matches!(&target(alloc, etc, ".."), Err(Checked(PathTraversalAttack))));
+        assert!(rt; matches!(&target(alloc, etc, "/sneaky"), Err(Checked(UnexpectedRoot))));
+        // `tidied` of `foo/bar//baz/./asdf/quux/..` returns `foo/bar/baz/asdf`
+        assert!(rt; matches!(&tidied(alloc, "foo/bar//baz/./asdf/quux/.."), Ok(text) if text.as_str() == "foo/bar/baz/asdf"));
+        // `stored` of `2024\cat.png` returns `C:\uploads\2024\cat.png`
+        assert!(rt; matches!(&stored(alloc, br"2024\cat.png"), Ok(path) if path.as_path().as_bytes() == br"C:\uploads\2024\cat.png".as_slice()));
+        // It refuses `..\x` with `PathTraversalAttack`, `D:x` with `UnexpectedPrefix`, `\x` with `UnexpectedRoot`
+        assert!(rt; matches!(&stored(alloc, br"..\x"), Err(Checked(PathTraversalAttack))));
+        assert!(rt; matches!(&stored(alloc, b"D:x"), Err(Checked(UnexpectedPrefix))));
+        assert!(rt; matches!(&stored(alloc, br"\x"), Err(Checked(UnexpectedRoot))));
+        // the device `con.txt` with `InvalidFilename`
+        assert!(rt; matches!(&stored(alloc, b"con.txt"), Err(Checked(InvalidFilename))));
+        Ok(())
+    }
+}
+"""
+
+# Stands for the program: keeps what it is asked, and answers by the replies that there are.
+STAND_IN = """#!/bin/sh
+cat > "$ASKED"
+cat "$REPLIES"
+"""
+
+met = set()
+
+
+class Block:
+    """A fenced block: its page, the line and the language of its fence, and its text."""
+
+    def __init__(self, page, line, language, text):
+        self.page, self.language, self.text = page, language, text
+        self.name = f"{page}:{line}"
+
+    def is_whole(self):
+        """Whether it is a whole file of a crate."""
+        return self.language == "rust" and "#![tactic(auto)]" in self.text.split("\n")[:2]
+
+    def fate(self, table, text):
+        """What a table has for a part of it, by the longest beginning that it names."""
+        keys = [key for key in table if key[0] == self.page and text.startswith(key[1])]
+        key = max(keys, key=lambda key: len(key[1]), default=None)
+        met.add(key)
+        return table.get(key)
+
+
+def all_pages():
+    found = [*TOP.glob("*.md"), *TOP.glob("docs/*.md"), *TOP.glob("crates/*/README.md")]
+    return sorted(str(page.relative_to(TOP)) for page in found)
+
+
+def blocks_of(page):
+    text = (TOP / page).read_text()
+    for found in re.finditer(r"^```(\w*)\n(.*?)^```$", text, re.MULTILINE | re.DOTALL):
+        yield Block(page, text.count("\n", 0, found.start()) + 1, found[1], found[2])
+
+
+def ran(command, folder, given="", **settings):
+    return subprocess.run(
+        command, cwd=folder, input=given, capture_output=True, text=True, errors="backslashreplace",
+        env={**os.environ, **settings},
+    )
+
+
+# Rattle and proofs.
+
+
+def strange_words(block):
+    """The words of the library's definitions that its `ghost use` lines name, and that are not there."""
+    for path, names in re.findall(r"^ghost use Rattle\.typed_path\.([\w.]+)\.\{(.*)\};$", block.text, re.MULTILINE):
+        file = TOP / "crates/typed_path" / (path.replace(".", "/") + ".antt")
+        said = re.sub(r"--.*", "", file.read_text()) if file.is_file() else ""
+        yield from (name for name in names.split(", ") if not re.search(rf"(?<!\w){re.escape(name)}(?!\w)", said))
+
+
+def stands(block):
+    """Whether it stands line for line in a file of the repository, but for how far it is indented."""
+    lines = [line.strip() for line in block.text.strip().split("\n")]
+    for file in [path for form in STORED for path in TOP.glob(form)]:
+        own = [line.strip() for line in file.read_text().split("\n")]
+        if any(own[at : at + len(lines)] == lines for at, line in enumerate(own) if line == lines[0]):
+            return True
+    return False
+
+
+def compiled(repository, crate, files):
+    """Compiles a crate of these files and runs its tests: what there is to say of it."""
+    source = repository / "crates" / crate / "src"
+    source.mkdir(parents=True)
+    for name, text in files.items():
+        (source / f"{name}.rt").write_text(text)
+    done = ran(["rt", "try", "--test"], source.parent)
+    return [] if re.search(r"^run=ended status=0 ", done.stderr, re.MULTILINE) else (done.stdout + done.stderr).splitlines()
+
+
+def try_files(room, files):
+    """Compiles whole files as modules of one crate, and asks those of the README what that says."""
+    modules = {re.sub(r"\W", "_", block.name.lower()): block.text for block in files}
+    of_readme = [name for name in modules if name.startswith("readme_")]
+    said = SAID if of_readme else ""
+    for at, name in enumerate(of_readme, 1):
+        said = said.replace(f"readme_{at}", name)
+    words = (TOP / README).read_text()
+    wrong = [f"{README} does not say: {line}" for line in re.findall(r"^ *// (.*)$", said, re.MULTILINE) if line not in words]
+    wrong += [f"{block.name}: no definition has {word}" for block in files for word in strange_words(block)]
+    heads = "".join(f"pub mod {name};\n" for name in modules)
+    return wrong + compiled(room / "yours", "app", {"lib": f"#![tactic(auto)]\n\n{heads}{said}", **modules})
+
+
+def try_pieces(room, pieces):
+    """Compiles pieces in functions of one crate, and runs them."""
+    with open(room / "typed_path/crates.txt", "a") as crates:
+        crates.write("pieces: anyhow typed_path typed_path_uses\n")
+    text = ""
+    for at, block in enumerate(pieces):
+        inside = textwrap.indent(block.text, " " * 8)
+        text += f"    // {block.name}\n    #[test]\n    fn piece_{at}(rt: HostRuntime) -> Result<()> {{\n"
+        text += f"        let alloc = rt.alloc();\n        {block.fate(FRAGMENTS, block.text)}\n{inside}        Ok(())\n    }}\n"
+    return compiled(room / "typed_path", "pieces", {"lib": PIECES % text})
+
+
+# Commands.
+
+
+def lacking(output, wanted):
+    """The first of the lines that are wanted which an output does not have in their order."""
+    lines = iter(output.split("\n"))
+    return next((line for line in wanted if line not in lines), None)
+
+
+def wanted_of(block, part):
+    """What some commands have to print: the replies in their comments, and what is named for them."""
+    comments = "\n".join(re.findall(r"^#.*", part, re.MULTILINE))
+    return [*(it.replace("⇥", "\t") for it in re.findall(r"`([^`]*⇥[^`]*)`", comments)), *(block.fate(PRINTED, part) or [])]
+
+
+def try_commands(room, block, part, **settings):
+    """Runs commands as they are pasted: what there is to say of them."""
+    done = ran(["bash", "-e", "-o", "pipefail", "-c", part], room / (block.fate(FOLDERS, part) or "typed_path"), **settings)
+    lost = lacking(done.stdout, wanted_of(block, part))
+    if done.returncode == 0 and lost is None:
+        return []
+    return [f"ended with the status {done.returncode}", *([] if lost is None else [f"did not print: {lost}"]),
+            *(done.stdout + done.stderr).splitlines()[-20:]]
+
+
+def try_typath(room, parts):
+    """Runs commands that ask the program: first to see what they ask, and then with what it replies to that."""
+    path = f"{room / 'bin'}:{os.environ['PATH']}"
+    asked = []
+    for at, (block, part) in enumerate(parts):
+        file = room / f"asked_{at}"
+        try_commands(room, block, part, PATH=path, ASKED=str(file), REPLIES=os.devnull)
+        asked.append(file.read_text())
+    replies = iter(ran(["rt", "try"], room / "typed_path/crates/typath", "".join(asked)).stdout.splitlines(True))
+    for at, ((block, part), lines) in enumerate(zip(parts, asked)):
+        file = room / f"replies_{at}"
+        file.write_text("".join(reply for _, reply in zip(lines.splitlines(), replies)))
+        yield block, try_commands(room, block, part, PATH=path, ASKED=os.devnull, REPLIES=str(file))
+
+
+def lay_out(room):
+    """A copy of the checkout, with one commit; a repository that is yours; a tree of files; and the stand-in."""
+    copy = room / "typed_path"
+    listed = ran(["git", "ls-files", "-z", "--cached", "--others", "--exclude-standard"], TOP).stdout
+    for name in filter(lambda name: (TOP / name).is_file(), listed.split("\0")):
+        (copy / name).parent.mkdir(parents=True, exist_ok=True)
+        shutil.copy(TOP / name, copy / name)
+    ran(["sh", "-c", "git init -q && git add -A && git -c user.name=you -c user.email=you@example.org commit -q -m all"], copy)
+    for folder in ["yours", "tree/a", "bin"]:
+        (room / folder).mkdir(parents=True)
+    for name in ["con.txt", "b.txt"]:
+        (room / "tree/a" / name).touch()
+    (room / "tree/lines").write_text("normalize\tunix\ta\nnormalize\tmac\ta\n")
+    (room / "bin/typath").write_text(STAND_IN)
+    (room / "bin/typath").chmod(0o755)
+
+
+# Links.
+
+
+def anchors_of(page):
+    """The names of its headings."""
+    text = re.sub(r"^```.*?^```$", "", (TOP / page).read_text(), flags=re.MULTILINE | re.DOTALL)
+    for heading in re.findall(r"^#+ (.*)$", text, re.MULTILINE):
+        yield re.sub(r"[^\w\- ]", "", heading.lower()).replace(" ", "-")
+
+
+def lost_links(page):
+    """The links of a page that lead nowhere."""
+    text = re.sub(r"^```.*?^```$", "", (TOP / page).read_text(), flags=re.MULTILINE | re.DOTALL)
+    for link in re.findall(r"\]\(([^)\s]+)\)", text):
+        target, _, anchor = link.partition("#")
+        if ":" in target:
+            continue
+        file = (TOP / page).parent / target if target else TOP / page
+        if not file.exists() or anchor and anchor not in anchors_of(file.resolve().relative_to(TOP)):
+            yield f"the link {link} leads nowhere"
+
+
+def lost_paths(block):
+    """The files and folders that a tree names, and that are not there."""
+    folder = TOP
+    for indent, name in re.findall(r"^( *)([\w./-]+)(?:$| +)", block.text, re.MULTILINE):
+        if len(indent) > 4:
+            continue
+        path = (folder if indent else TOP) / name
+        folder = folder if indent else path
+        if not path.exists():
+            yield f"there is no {path.relative_to(TOP)}"
+
+
+# All of them.
+
+
+class Count:
+    """What passed and failed so far."""
+
+    def __init__(self):
+        self.passed = self.failed = 0
+
+    def add(self, names, wrong):
+        """Some more, which passed where there is nothing to say of them."""
+        if not wrong:
+            self.passed += len(names)
+            return
+        self.failed += len(names)
+        print(f"pages.py: {', '.join(names)}: FAILED", *(f"    {line}" for line in wrong), sep="\n", flush=True)
+
+
+def parts_of(block):
+    """The commands of a block, by paragraphs, without the lines that are left out; these are named."""
+    for paragraph in block.text.strip().split("\n\n"):
+        kept = []
+        for line in paragraph.split("\n"):
+            if reason := block.fate(LEFT_OUT, line):
+                print(f"pages.py: {block.name}: left out: `{line.split('  ')[0]}` {reason}", flush=True)
+            else:
+                kept.append(line)
+        if kept:
+            yield block, "\n".join(kept)
+
+
+def sorted_blocks(pages, count):
+    """The whole files, the pieces and the commands that are to be run; what takes no time is done here."""
+    files, pieces, commands = [], [], []
+    for block in (block for page in pages for block in blocks_of(page)):
+        if block.is_whole():
+            files.append(block)
+        elif block.language == "sh":
+            commands += parts_of(block)
+        elif reason := block.fate(LEFT_OUT, block.text):
+            print(f"pages.py: {block.name}: left out: {reason}", flush=True)
+        elif block.fate(FRAGMENTS, block.text) is not None:
+            pieces.append(block)
+        elif block.text.startswith("crates.txt  "):
+            count.add([block.name], list(lost_paths(block)))
+        else:
+            count.add([block.name], [] if stands(block) else ["it stands in no file, and has no other fate"])
+    return files, pieces, commands
+
+
+def try_blocks(room, files, pieces, commands, count):
+    """Tries what takes time, side by side, once the library is where a reader puts it."""
+    lay_out(room)
+    places = {place: [] for place in ["typed_path", "yours", "tree"]}
+    for block, part in commands:
+        places[block.fate(FOLDERS, part) or "typed_path"].append((block, part))
+    for block, part in places["yours"]:
+        count.add([block.name], try_commands(room, block, part))
+    with concurrent.futures.ThreadPoolExecutor(os.cpu_count()) as pool:
+        tried = {pool.submit(try_commands, room, block, part): [block.name] for block, part in places["typed_path"]}
+        for call, blocks in [(try_files, files), (try_pieces, pieces)]:
+            if blocks:
+                tried[pool.submit(call, room, blocks)] = [block.name for block in blocks]
+        asked = pool.submit(lambda: list(try_typath(room, places["tree"])) if places["tree"] else [])
+        for done in concurrent.futures.as_completed(tried):
+            count.add(tried[done], done.result())
+        for block, wrong in asked.result():
+            count.add([block.name], wrong)
+
+
+def main(pages):
+    count = Count()
+    for page in pages:
+        count.add([page], list(lost_links(page)))
+    files, pieces, commands = sorted_blocks(pages, count)
+    if not any(block.page == README for block in files) and files:
+        commands += [it for block in blocks_of(README) if block.text.startswith("git -C") for it in parts_of(block)]
+    with tempfile.TemporaryDirectory() as room:
+        try_blocks(pathlib.Path(room), files, pieces, commands, count)
+    if pages == all_pages():
+        for page, begin in sorted({*LEFT_OUT, *FOLDERS, *PRINTED, *FRAGMENTS} - met):
+            count.add([page], [f"no block begins with what is named for it: {begin}"])
+    print(f"{count.passed} passed, {count.failed} failed", flush=True)
+    sys.exit(1 if count.failed else 0)
+
+
+if __name__ == "__main__":
+    main(sys.argv[1:] or all_pages())
