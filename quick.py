@@ -29,8 +29,15 @@ SECONDS = "900"
 LONGEST = ["typed_path_hostile_tests", "typed_path_tests", "typed_path_typed_tests", "typed_path_text_tests"]
 # What is run by the gate alone: its small run takes checked code a minute.
 LEFT_OUT = "typed_path_jobs"
-# Further input of a program, and what it has to print.
-FURTHER = {"typath": ("lines", TOP / "refusals/lines", TOP / "refusals/replies")}
+# Further runs of a program: what it reads, what it has to print, and its word if it has one.
+TEXTS = TOP / "refusals"
+FURTHER = {
+    "typath": [
+        ("lines", TEXTS / "lines", TEXTS / "replies", ""),
+        ("help", TEXTS / "lines", TEXTS / "help", "--help"),
+        ("version", TEXTS / "lines", TEXTS / "version", "--version"),
+    ]
+}
 
 running = {}
 lock = threading.Lock()
@@ -82,18 +89,19 @@ def tests_of(part, crate):
     return passed, max(failed, 1), [line for line in said.splitlines() if not re.match(r"tests: |test \S+ \.\.\. ok$", line)]
 
 
-def put_case(folder, name, given, wanted):
+def put_case(folder, name, given, wanted, words):
     """Lays out one run of a program: what it reads, what it has to print, and its words where it has some."""
     shutil.copy(given if given.exists() else os.devnull, folder / name)
     shutil.copy(wanted, folder / f"{name}.stdout")
-    if (args := wanted.with_name("args")).exists():
-        shutil.copy(args, folder / f"{name}.args")
+    if words:
+        (folder / f"{name}.args").write_text(words)
 
 
 def runs_of(part, crate):
     """Runs a program over its stored input: how many runs passed and failed, and what there is to say."""
     own = TOP / "crates" / crate
-    cases = [("stdin", own / "stdin", own / "stdout"), *([FURTHER[crate]] if crate in FURTHER else [])]
+    words = (own / "args").read_text() if (own / "args").exists() else ""
+    cases = [("stdin", own / "stdin", own / "stdout", words), *FURTHER.get(crate, [])]
     with tempfile.TemporaryDirectory() as folder:
         for case in cases:
             put_case(pathlib.Path(folder), *case)

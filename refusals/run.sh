@@ -145,6 +145,29 @@ sweep_transfers() {
     judge "${program##*/} TRANSFER" 3
 }
 
+# Has the program of lines print a text, and refuses it each of its requests, or each from there on: it
+# prints the text, or nothing and its status is 2. By any other word that is what it does, too.
+sweep_words() {
+    local program=$1 word way at runs=0
+    for word in help version else; do
+        for way in REFUSE_AT REFUSE_FROM; do
+            at=0
+            while [[ $at -eq 0 || $(< "$room/count") -ge $at ]]; do
+                at=$((at + 1)) runs=$((runs + 1))
+                env LD_PRELOAD="$all/refuse.so" REFUSE_COUNT="$room/count" "$way=$at" \
+                    "$program" "--$word" < lines > "$room/out" 2> "$room/err"
+                case $?$word in
+                    0help | 0version) cmp "$room/out" "$word" ;;
+                    2*) [[ ! -s $room/out ]] || echo "--$word, request $at: it printed something" ;;
+                    *) echo "--$word, request $at: another status" ;;
+                esac >> "$room/wrong" 2>&1
+            done
+        done
+        [[ $word == else ]] || cmp "$room/out" "$word" >> "$room/wrong" 2>&1
+    done
+    judge "${program##*/} --help, --version, --else" "$runs"
+}
+
 # Says that a program is not there.
 is_missing() {
     echo "rt ci builds it, or rt run in crates/$1" > "$room/wrong"
@@ -156,6 +179,7 @@ sweep() {
     local program=$1 way transfer
     if [[ $program == *typath* ]]; then
         start sweep_transfers "$program"
+        start sweep_words "$program"
         for transfer in 1 7 100 100000; do
             start sweep_requests "$program" REFUSE_AT "$transfer"
             start sweep_requests "$program" REFUSE_FROM "$transfer"
