@@ -1,5 +1,5 @@
 #!/usr/bin/env python3
-"""Tries what stands on the pages: their blocks of code and of commands, and their links.
+"""Tries what stands on the pages: their blocks of code and of commands, their links and their chart.
 
 Each block has one fate. A whole file of Rattle is compiled in a crate over the library, which the commands of
 the README have put there, and what that page says of it is asked of it. Another piece of Rattle or of a proof
@@ -40,7 +40,6 @@ LEFT_OUT = {
     ("docs/PERF.md", "git archive HEAD crates.txt"): OLDER,
     ("docs/PERF.md", "(cd ../old"): OLDER,
     ("docs/PERF.md", "bench/run ../old"): OLDER,
-    ("docs/PERF.md", "begins_device a b"): "definitions of an older state",
     ("docs/PERFORMANCE.md", "parallel "): BUILT + ", and the package parallel",
 }
 
@@ -398,6 +397,7 @@ def main(pages):
     with tempfile.TemporaryDirectory() as room:
         try_blocks(pathlib.Path(room), files, pieces, commands, count)
     if pages == all_pages():
+        count.add(["docs/calls.svg"], ran([TOP / "bench/chart", "--check"], TOP).stderr.splitlines())
         for page, begin in sorted({*LEFT_OUT, *FOLDERS, *PRINTED, *FRAGMENTS} - met):
             count.add([page], [f"no block begins with what is named for it: {begin}"])
     print(f"{count.passed} passed, {count.failed} failed", flush=True)

@@ -1,7 +1,7 @@
 #!/usr/bin/env bash
 # Times the calls of the library beside those of Rust's std::path: builds the static library of
 # crates/typed_path_bench, links bench/main.rs with it in a folder of its own, and runs it on one core.
-# Prints Markdown tables, for docs/PERFORMANCE.md.
+# Prints Markdown tables, for bench/RESULTS.md.
 #
 # bench/run.sh [SWEEPS [WORD]]: how often all calls are timed, and what the labels of these have.
 # Where TYPED_PATH_CRATE names a folder with the source of the Rust crate, that is built and linked
