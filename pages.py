@@ -33,6 +33,7 @@ LEFT_OUT = {
     (README, "./gate.sh  "): "takes more than an hour, and runs this",
     (README, "(cd crates/typath && rt run < stdin)"): "takes half an hour",
     ("crates/typed_path/README.md", "typed_path: "): "what a command of the README writes",
+    ("docs/ARCHITECTURE.md", "  a block of 32"): "a picture",
     ("docs/DEVELOPMENT.md", "(cd crates/typed_path_refusals && rt run"): BUILT,
     ("docs/DEVELOPMENT.md", "(cd crates/typath && rt run"): BUILT,
     ("docs/DEVELOPMENT.md", "refusals/run.sh"): BUILT,
