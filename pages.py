@@ -205,7 +205,7 @@ def try_files(room, files):
     """Compiles whole files as modules of one crate, and asks those of the README what that says."""
     modules = {re.sub(r"\W", "_", block.name.lower()): block.text for block in files}
     of_readme = [name for name in modules if name.startswith("readme_")]
-    said = SAID if of_readme else ""
+    said = SAID if of_readme else "\n#[test]\nfn compiles() {}\n"
     for at, name in enumerate(of_readme, 1):
         said = said.replace(f"readme_{at}", name)
     words = (TOP / README).read_text()

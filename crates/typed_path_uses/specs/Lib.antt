@@ -1,4 +1,5 @@
 pub mod Uses
 pub mod Server
+pub mod Shipper
 pub mod Ignore
 pub mod Tree

@@ -7,6 +7,7 @@ mod ignore;
 mod manifest;
 mod notes;
 mod server;
+mod shipper;
 mod texts;
 mod tidy;
 mod tree;
@@ -23,6 +24,7 @@ pub use notes::{are_alike, note, noted};
 pub use server::{
     UNIX_ROOT, Unserved, WINDOWS_ROOT, served, served_below, served_on_unix, served_on_windows,
 };
+pub use shipper::{day_folder, shipped};
 pub use texts::{text_key, text_target, text_target_below};
 pub use tidy::{are_one, key};
 pub use tree::{Tree, unix_paths_are_one, windows_path_is_filed};

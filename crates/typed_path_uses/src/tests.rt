@@ -1,10 +1,10 @@
 //! Each caller at work: rows of known answers.
 
 use crate::{
-    Rule, Tree, Unconfigured, Unserved, Untargeted, are_alike, configured, entry_on_windows,
-    is_ignored, note, noted, rewritten, rewritten_texts, served_below, served_on_unix,
-    served_on_windows, target_below, text_target_below, typed_target_below, unpacked,
-    unpacked_below,
+    Rule, Tree, Unconfigured, Unserved, Untargeted, are_alike, configured, day_folder,
+    entry_on_windows, is_ignored, note, noted, rewritten, rewritten_texts, served_below,
+    served_on_unix, served_on_windows, shipped, target_below, text_target_below,
+    typed_target_below, unpacked, unpacked_below,
 };
 use std::alloc::{AllocError, Global};
 use std::collections::BTreeMap;
@@ -438,4 +438,38 @@ fn configured_paths(rt: HostRuntime) {
         configured_rows::<WindowsEncoding>(rt.alloc(), WINDOWS),
         None
     );
+}
+
+#[test]
+fn shipped_logs(rt: HostRuntime) -> Result<(), Fail> {
+    use CheckedPathError::{InvalidFilename, PathTraversalAttack, UnexpectedRoot};
+    let alloc = rt.alloc();
+    let rows: [(&[u8], Result<&[u8], CheckedPathError>); 9] = [
+        (
+            br"C:\inetpub\logs\u.log",
+            Ok(b"/logs/2026-11-28/inetpub/logs/u.log"),
+        ),
+        (br"inetpub/u.log", Ok(b"/logs/2026-11-28/inetpub/u.log")),
+        (br"\\srv\share\a\u.log", Ok(b"/logs/2026-11-28/a/u.log")),
+        (br"C:\a\..\u.log", Ok(b"/logs/2026-11-28/a/../u.log")),
+        (br"C:\con", Ok(b"/logs/2026-11-28/con")),
+        (b"", Ok(b"/logs/2026-11-28")),
+        (br"C:\..\u.log", Err(PathTraversalAttack)),
+        (br"..\..\etc\u.log", Err(PathTraversalAttack)),
+        (b"C:\\a\0b", Err(InvalidFilename)),
+    ];
+    let folder = day_folder(alloc, UnixPath::new(b"/logs"), b"2026-11-28")?;
+    for (event, wanted) in rows {
+        let file = shipped(alloc, folder.as_path(), WindowsPath::new(event));
+        match (&file, wanted) {
+            (Ok(file), Ok(wanted)) => assert_eq!(rt; file.as_path().as_bytes(), wanted),
+            (Err(PathError::Checked(fault)), Err(wanted)) => assert_eq!(rt; *fault, wanted),
+            _ => assert!(rt; false, "another outcome"),
+        }
+    }
+    for day in [b"/etc".as_slice(), b"/"] {
+        let refused = day_folder(alloc, UnixPath::new(b"/logs"), day);
+        assert!(rt; matches!(&refused, Err(PathError::Checked(UnexpectedRoot))));
+    }
+    Ok(())
 }

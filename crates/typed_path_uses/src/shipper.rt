@@ -1,0 +1,71 @@
+//! A shipper of logs: each event names a file on Windows, and its log goes below the folder of its day on Unix.
+
+ghost use Rattle.std.specs.Prelude.{◌≡◌, IfOk, Some, Ok, Err};
+ghost use Rattle.typed_path.specs.changes.Push as push_spec;
+ghost use Rattle.typed_path.specs.changes.{refusal, fault};
+ghost use Rattle.typed_path.specs.components.{unix};
+ghost use Rattle.typed_path.specs.declared.errors.CheckedPathError.{CheckedPathError};
+ghost use Rattle.typed_path.specs.promises.{IsBelow};
+ghost use Rattle.typed_path.specs.views.PathViews.{path_bytes};
+ghost use Rattle.typed_path_uses.specs.Server.{behind_slash};
+ghost use Rattle.typed_path_uses.specs.Shipper as named;
+
+use std::alloc::Global;
+use typed_path::{PathError, UnixPath, UnixPathBuf, WindowsPath};
+
+/// The folder of a day, below the root of all logs.
+pub fn day_folder(alloc: Global, root: UnixPath<'_>, day: &[u8]) -> Result<UnixPathBuf, PathError>
+    ensures below { IfOk result (λ folder. IsBelow unix (path_bytes root.entry) folder.bytes) }
+    ensures joined { IfOk result
+        (λ folder. folder.bytes ≡ push_spec.push unix (path_bytes root.entry) day.now) }
+    ensures refused { refusal result ≡ fault unix day.now }
+{
+    root.join_checked(alloc, UnixPath::new(day))
+}
+
+/// Where the log of an event goes, below the folder of its day, with the names of its path on Windows.
+///
+/// A drive with a root behind it is left out, and every other prefix too, so a root of logs serves one
+/// drive of one machine. Of `/logs/2026-11-28` and `C:\inetpub\u.log` this is `/logs/2026-11-28/inetpub/u.log`.
+///
+/// # Errors
+///
+/// `Checked` where a name cannot be one on Unix, and where the path leads out, as `C:\..\u.log` does;
+/// `OutOfMemory`.
+pub fn shipped(
+    alloc: Global,
+    folder: UnixPath<'_>,
+    event: WindowsPath<'_>,
+) -> Result<UnixPathBuf, PathError>
+    ensures below { IfOk result (λ file. IsBelow unix (path_bytes folder.entry) file.bytes) }
+    ensures ok { IfOk result (λ file.
+        named.shipped (path_bytes folder.entry) (path_bytes event.entry) ≡ Ok file.bytes) }
+    ensures refused { (e : CheckedPathError) → refusal result ≡ Some e
+        → named.shipped (path_bytes folder.entry) (path_bytes event.entry) ≡ Err e }
+{
+    match event.with_unix_encoding_checked(alloc) {
+        Ok(path) => logged(alloc, folder, path.as_path()),
+        Err(refused) => Err(refused),
+    }
+}
+
+/// A path of Unix, put below a folder without its root.
+fn logged(alloc: Global, folder: UnixPath<'_>, path: UnixPath<'_>) -> Result<UnixPathBuf, PathError>
+    ensures below { IfOk result (λ file. IsBelow unix (path_bytes folder.entry) file.bytes) }
+    ensures ok { IfOk result (λ file.
+        named.logged (path_bytes folder.entry) (path_bytes path.entry) ≡ Ok file.bytes) }
+    ensures refused { (e : CheckedPathError) → refusal result ≡ Some e
+        → named.logged (path_bytes folder.entry) (path_bytes path.entry) ≡ Err e }
+{
+    folder.join_checked(alloc, UnixPath::new(without_slash(path.as_bytes())))
+}
+
+/// A path without a `/` at its front.
+fn without_slash(path: &[u8]) -> &[u8]
+    ensures { result.now ≡ behind_slash path.now }
+{
+    match path {
+        [b'/', rest @ ..] => rest,
+        _ => path,
+    }
+}
