@@ -23,7 +23,6 @@ TOP = pathlib.Path(__file__).resolve().parent
 README, TYPATH, CALLING = "README.md", "crates/typath/README.md", "docs/CALLING.md"
 
 # What is left out: a block, or a line of commands, by its page and how it begins.
-BUILT = "takes a program that was proved and built"
 OLDER = "proves an older state, which takes an hour"
 LEFT_OUT = {
     (README, "  C:  "): "a picture",
@@ -34,14 +33,11 @@ LEFT_OUT = {
     (README, "(cd crates/typath && rt run < stdin)"): "takes half an hour",
     ("crates/typed_path/README.md", "typed_path: "): "what a command of the README writes",
     ("docs/ARCHITECTURE.md", "  a block of 32"): "a picture",
-    ("docs/DEVELOPMENT.md", "(cd crates/typed_path_refusals && rt run"): BUILT,
-    ("docs/DEVELOPMENT.md", "(cd crates/typath && rt run"): BUILT,
-    ("docs/DEVELOPMENT.md", "refusals/run.sh"): BUILT,
     ("docs/PERF.md", "git clone . ../old"): OLDER,
     ("docs/PERF.md", "git archive HEAD crates.txt"): OLDER,
     ("docs/PERF.md", "(cd ../old"): OLDER,
     ("docs/PERF.md", "bench/run ../old"): OLDER,
-    ("docs/PERFORMANCE.md", "parallel "): BUILT + ", and the package parallel",
+    ("docs/PERFORMANCE.md", "parallel "): "takes the proved program, and the package parallel",
 }
 
 # The folder in which commands are run, if that is not the copy of the checkout.
