@@ -46,7 +46,9 @@ FOLDERS = {(README, "git -C ../typed_path"): "yours", (TYPATH, ""): "tree"}
 # Lines that commands print, beside the replies in their comments, where `⇥` is a tab.
 PRINTED = {
     (README, "(cd crates/typath && rt try"): ["ok\tfoo/bar/baz/asdf"],
-    ("docs/DEVELOPMENT.md", "cat crates/typed_path/proofs/examples"): ["518"],
+    ("docs/DEVELOPMENT.md", "cat crates/typed_path/proofs/examples"): re.findall(
+        r"has (\d+) worked answers", (TOP / "docs/PROVED.md").read_text()
+    ),
     (TYPATH, "# the names of a tree"): ["ok\t.\\a\\b.txt"],
     (TYPATH, "# how many replies"): ["1 refused"],
 }
