@@ -272,7 +272,7 @@ def lay_out(room):
     for name in filter(lambda name: (TOP / name).is_file(), listed.split("\0")):
         (copy / name).parent.mkdir(parents=True, exist_ok=True)
         shutil.copy(TOP / name, copy / name)
-    ran(["sh", "-c", "git init -q && git add -A && git -c user.name=you -c user.email=you@example.org commit -q -m all"], copy)
+    ran(["sh", "-c", "git init -q && git add -A && git -c user.name=you -c user.email=you@example.org -c commit.gpgsign=false commit -q -m all"], copy)
     for folder in ["yours", "tree/a", "bin"]:
         (room / folder).mkdir(parents=True)
     for name in ["con.txt", "b.txt"]:

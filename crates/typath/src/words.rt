@@ -1,6 +1,7 @@
 //! What the words behind the program's name ask for.
 
-ghost use Rattle.std.specs.Prelude.{◌≡◌};
+ghost use Rattle.std.specs.Prelude.{◌≡◌, map};
+ghost use Rattle.std.specs.String.{string_bytes};
 ghost use Rattle.typath.specs.Asked.{asked_by, asked_of};
 
 /// What `--help` prints.
@@ -53,7 +54,7 @@ fn by_word(word: &str) -> Asked
 
 /// What all words ask for, of which the first is the program's name: with no other one, replies.
 pub fn asked_for(words: &[String]) -> Asked
-    ensures { result ≡ asked_of words.now }
+    ensures { result ≡ asked_of (map string_bytes words.now) }
 {
     match words {
         [] | [_] => Asked::Answers,
