@@ -155,10 +155,19 @@ def all_pages():
     return sorted(str(page.relative_to(TOP)) for page in found)
 
 
+FENCED = re.compile(r"^```(\w*)\n(.*?)^```$", re.MULTILINE | re.DOTALL)
+
+
 def blocks_of(page):
     text = (TOP / page).read_text()
-    for found in re.finditer(r"^```(\w*)\n(.*?)^```$", text, re.MULTILINE | re.DOTALL):
+    for found in FENCED.finditer(text):
         yield Block(page, text.count("\n", 0, found.start()) + 1, found[1], found[2])
+
+
+def strange_fences(page):
+    """The fences of a page that bound none of its blocks."""
+    for line in re.findall(r"^\s*(?:```|~~~).*$", FENCED.sub("", (TOP / page).read_text()), re.MULTILINE):
+        yield f"a fence bounds no block that is known: {line.strip()}"
 
 
 def ran(command, folder, given="", **settings):
@@ -287,14 +296,14 @@ def lay_out(room):
 
 def anchors_of(page):
     """The names of its headings."""
-    text = re.sub(r"^```.*?^```$", "", (TOP / page).read_text(), flags=re.MULTILINE | re.DOTALL)
+    text = FENCED.sub("", (TOP / page).read_text())
     for heading in re.findall(r"^#+ (.*)$", text, re.MULTILINE):
         yield re.sub(r"[^\w\- ]", "", heading.lower()).replace(" ", "-")
 
 
 def lost_links(page):
     """The links of a page that lead nowhere."""
-    text = re.sub(r"^```.*?^```$", "", (TOP / page).read_text(), flags=re.MULTILINE | re.DOTALL)
+    text = FENCED.sub("", (TOP / page).read_text())
     for link in re.findall(r"\]\(([^)\s]+)\)", text):
         target, _, anchor = link.partition("#")
         if ":" in target:
@@ -389,7 +398,7 @@ def try_blocks(room, files, pieces, commands, count):
 def main(pages):
     count = Count()
     for page in pages:
-        count.add([page], list(lost_links(page)))
+        count.add([page], [*strange_fences(page), *lost_links(page)])
     files, pieces, commands = sorted_blocks(pages, count)
     if not any(block.page == README for block in files) and files:
         commands += [it for block in blocks_of(README) if block.text.startswith("git -C") for it in parts_of(block)]
