@@ -25,8 +25,8 @@ pub fn day_folder(alloc: Global, root: UnixPath<'_>, day: &[u8]) -> Result<UnixP
 
 /// Where the log of an event goes, below the folder of its day, with the names of its path on Windows.
 ///
-/// A drive with a root behind it is left out, and every other prefix too, so a root of logs serves one
-/// drive of one machine. Of `/logs/2026-11-28` and `C:\inetpub\u.log` this is `/logs/2026-11-28/inetpub/u.log`.
+/// A drive with a root behind it is left out, and so is a prefix of another kind; a drive without a root
+/// becomes a folder. So a root of logs serves one drive of one machine. Of `/logs/2026-11-28` and `C:\inetpub\u.log` this is `/logs/2026-11-28/inetpub/u.log`.
 ///
 /// # Errors
 ///

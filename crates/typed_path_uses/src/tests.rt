@@ -444,7 +444,7 @@ fn configured_paths(rt: HostRuntime) {
 fn shipped_logs(rt: HostRuntime) -> Result<(), Fail> {
     use CheckedPathError::{InvalidFilename, PathTraversalAttack, UnexpectedRoot};
     let alloc = rt.alloc();
-    let rows: [(&[u8], Result<&[u8], CheckedPathError>); 9] = [
+    let rows: [(&[u8], Result<&[u8], CheckedPathError>); 10] = [
         (
             br"C:\inetpub\logs\u.log",
             Ok(b"/logs/2026-11-28/inetpub/logs/u.log"),
@@ -453,6 +453,7 @@ fn shipped_logs(rt: HostRuntime) -> Result<(), Fail> {
         (br"\\srv\share\a\u.log", Ok(b"/logs/2026-11-28/a/u.log")),
         (br"C:\a\..\u.log", Ok(b"/logs/2026-11-28/a/../u.log")),
         (br"C:\con", Ok(b"/logs/2026-11-28/con")),
+        (b"C:u.log", Ok(b"/logs/2026-11-28/C:/u.log")),
         (b"", Ok(b"/logs/2026-11-28")),
         (br"C:\..\u.log", Err(PathTraversalAttack)),
         (br"..\..\etc\u.log", Err(PathTraversalAttack)),
