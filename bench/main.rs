@@ -59,11 +59,11 @@ macro_rules! exports {
 exports!((path: *const u8, len: usize):
     bench_walk bench_walk_back bench_next bench_next_back bench_texts bench_zip bench_peekable
     bench_ahead bench_chain bench_map bench_filter bench_collect bench_ancestors bench_last bench_parent
-    bench_file_name bench_extension bench_to_path_buf bench_normalize bench_first bench_hash bench_windows_hash
+    bench_file_name bench_extension bench_to_path_buf bench_normalize bench_clean bench_first bench_hash bench_windows_hash
     bench_windows_walk
     bench_windows_walk_back bench_windows_first bench_windows_last bench_windows_parent
     bench_windows_ancestors bench_is_valid bench_windows_is_valid bench_windows_keeps_prefix bench_to_string_lossy
-    bench_windows_file_name bench_windows_extension bench_windows_normalize bench_to_windows
+    bench_windows_file_name bench_windows_extension bench_windows_normalize bench_windows_clean bench_to_windows
     bench_to_windows_checked bench_windows_to_unix bench_windows_to_unix_checked);
 
 exports!((path: *const u8, len: usize, other: *const u8, other_len: usize):
@@ -661,6 +661,10 @@ fn rows(corpus: &Corpus) -> Vec<Row<'_>> {
         whole.one("`normalize`, with dots", &corpus.dotted, bench_normalize, std_normalize),
         whole.one("`normalize`, runs of separators", &corpus.runs, bench_normalize, std_normalize),
         whole.one("`normalize`, runs of `./`", &corpus.dot_runs, bench_normalize, std_normalize),
+        whole.one("`clean`", paths, bench_clean, std_clean),
+        whole.one("`clean`, with dots", &corpus.dotted, bench_clean, std_clean),
+        whole.one("`clean`, runs of separators", &corpus.runs, bench_clean, std_clean),
+        whole.one("`clean`, runs of `./`", &corpus.dot_runs, bench_clean, std_clean),
         whole.one("`is_valid`, beside one search", paths, bench_is_valid, std_is_valid),
         whole.one("`to_string_lossy`, no text", &corpus.broken, bench_to_string_lossy, |path| {
             black_box(path.to_string_lossy()).len()
@@ -777,6 +781,7 @@ fn windows_rows(corpus: &Corpus, at: usize) -> Vec<Row<'_>> {
             each(whole.calls(), move |at| call(bench_with_extension, other.at(at), EXTENSION)),
         ),
         one("`normalize`", Reads::Whole, bench_windows_normalize, bench_normalize),
+        one("`clean`", Reads::Whole, bench_windows_clean, bench_clean),
         one("`for` over `ancestors()`", Reads::Components, bench_windows_ancestors, bench_ancestors),
         // Windows has names that stand for devices, so only that there is an answer is compared.
         whole.row(
@@ -841,6 +846,12 @@ fn cleaned(path: &Path) -> PathBuf {
         }
     }
     left.iter().collect()
+}
+
+/// By hand, since std has no such call; as the crate `path-clean` does it.
+fn std_clean(path: &Path) -> usize {
+    let clean = cleaned(path);
+    made(if clean.as_os_str().is_empty() { PathBuf::from(".") } else { clean })
 }
 
 fn is_within(path: &Path, base: &Path) -> usize {

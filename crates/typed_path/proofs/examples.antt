@@ -14,3 +14,4 @@ pub mod Reserved
 pub mod Replies
 pub mod Texts
 pub mod Within
+pub mod Clean

@@ -1,11 +1,13 @@
 //! Paths of every encoding.
 
+mod clean;
 mod component;
 mod components;
 mod encoding;
 mod order;
 mod path;
 mod path_buf;
+mod rows;
 mod texts;
 mod within;
 mod writing;
@@ -19,6 +21,7 @@ pub(crate) use order::{
 };
 pub use path::Path;
 pub use path_buf::PathBuf;
+pub(crate) use rows::{put_kept, put_names};
 pub use texts::Display;
 pub use writing::{
     append_first, behind_segment, cut_back, drop_name, drop_separator, has_room, put_over,

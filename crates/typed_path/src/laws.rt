@@ -6,10 +6,12 @@ ghost use Rattle.std.specs.Cmp.{IsTotalOrder};
 ghost use Rattle.std.specs.declared.cmp.Ordering.{Ordering};
 ghost use Rattle.std.specs.Ordering.{ordering_then, nat_cmp};
 ghost use Rattle.std.specs.Hash.{isize};
+ghost use Rattle.std.specs.Str.{is_utf8};
 ghost use Rattle.typed_path.specs.components.{Dialect, dot, slash, Kind, Placed, kinds, prefix, Found, prefix_of, comps, parts_of};
 ghost use Rattle.typed_path.specs.scan.{Side, reads, left, items_between, but_last, answers_after, items_after, slice_after, fronts, backs, IsWhole, IsLaidOut};
 ghost use Rattle.typed_path.specs.queries.{is_child_of, IsOneBelow, parent_of, prefix_in, is_a_dot, stem_of, extension_of, ancestors_of};
-ghost use Rattle.typed_path.specs.promises.{IsWithinExactly, LeadsBelow, JoinAppends, StripJoins, ReadsAsResolved, StaysNormal, IsCanonical, HashAlike, CrossesWhereAllowed, CrossesAsItIs, CrossesBack, CrossesToUnix};
+ghost use Rattle.typed_path.specs.places.{clean_text};
+ghost use Rattle.typed_path.specs.promises.{AreCleanAlike, HasCleanForm, LeadAlike, IsWithinExactly, LeadsBelow, JoinAppends, StripJoins, ReadsAsResolved, StaysNormal, IsCanonical, HashAlike, CrossesWhereAllowed, CrossesAsItIs, CrossesBack, CrossesToUnix};
 ghost use Rattle.typed_path.specs.order.{IsSame, is_same, path_cmp, kind_cmp, bytes_cmp, text_unix_words, text_prefix_words, text_kind_words, text_windows_words, text_piece_words};
 ghost use Rattle.typed_path.specs.views.PieceViews.{kind_view, part_of};
 ghost use Rattle.typed_path.specs.views.UnixViews.{unix_part};
@@ -261,6 +263,35 @@ pub fn within_is_exact(path: &[u8], base: &[u8])
 pub fn within_leads_below(directory: &[u8], path: &[u8], base: &[u8])
     ghost d: { Dialect }
     ensures { LeadsBelow d directory.now base.now path.now }
+{}
+
+/// A clean text has the prefix of its path, or none as that has, leads where the path leads, and is its own clean
+/// text, but behind the verbatim prefix that is named `UNC`.
+#[tactic(auto, using(crate::proofs::lemmas::promises::WindowsClean::clean_form))]
+pub fn clean_has_its_form(path: &[u8])
+    ghost d: { Dialect }
+    ensures { HasCleanForm d path.now (clean_text d path.now) }
+{}
+
+/// Two paths without a prefix, as all of Unix are, have one clean text exactly if they lead alike.
+#[tactic(auto, using(crate::proofs::lemmas::promises::CleanForms::clean_alike))]
+pub fn clean_is_canonical(path: &[u8], other: &[u8])
+    ghost d: { Dialect }
+    ensures { AreCleanAlike d path.now other.now }
+{}
+
+/// In each dialect, from every absolute directory that keeps its prefix, paths that lead alike lie at one place.
+#[tactic(auto, using(crate::proofs::lemmas::promises::RouteBehind::lead_alike))]
+pub fn routes_tell_places(directory: &[u8], path: &[u8], other: &[u8])
+    ghost d: { Dialect }
+    ensures { LeadAlike d directory.now path.now other.now }
+{}
+
+/// The clean text of a text in UTF-8 is one.
+#[tactic(auto, using(crate::proofs::lemmas::texts::TextClean::clean_laws))]
+pub fn clean_stays_a_text(path: &[u8])
+    ghost d: { Dialect }
+    ensures { is_utf8 path.now ≡ true → is_utf8 (clean_text d path.now) ≡ true }
 {}
 
 /// Single components of Unix are equal, compare and hash as their kinds say.

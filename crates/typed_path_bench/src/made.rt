@@ -59,6 +59,12 @@ pub extern "C" fn bench_normalize(alloc: Global, path: &[u8]) -> usize {
     length_of(UnixPath::new(path).normalize(alloc))
 }
 
+/// The clean text.
+#[unsafe(no_mangle)]
+pub extern "C" fn bench_clean(alloc: Global, path: &[u8]) -> usize {
+    length_of(UnixPath::new(path).clean(alloc))
+}
+
 /// The path as a text.
 #[unsafe(no_mangle)]
 pub extern "C" fn bench_to_string_lossy(alloc: Global, path: &[u8]) -> usize {

@@ -146,3 +146,9 @@ pub extern "C" fn bench_windows_with_extension(
 pub extern "C" fn bench_windows_normalize(alloc: Global, path: &[u8]) -> usize {
     length_of(WindowsPath::new(path).normalize(alloc))
 }
+
+/// The clean text.
+#[unsafe(no_mangle)]
+pub extern "C" fn bench_windows_clean(alloc: Global, path: &[u8]) -> usize {
+    length_of(WindowsPath::new(path).clean(alloc))
+}

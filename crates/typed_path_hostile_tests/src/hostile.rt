@@ -208,6 +208,53 @@ fn is_joined_alike<T: Encoding>(
     Ok(true)
 }
 
+/// What a text leads to as it is written: its prefix, the root, written or implied where something follows, the `..`
+/// that find no name, unless there is a root, and the names that no `..` takes away, with a separator between. Without a
+/// prefix and a root, what would be read as a prefix is put behind `.`, and nothing is `.`.
+fn cleaned(alloc: Global, windows: bool, led: &Led<'_>) -> Result<Vec<u8>, AllocError> {
+    let separator = if windows { b'\\' } else { b'/' };
+    let mut segments = Vec::new(alloc);
+    if !led.is_anchored {
+        for _ in 0..led.unmet {
+            segments.push(b"..".as_slice())?;
+        }
+    }
+    for name in &led.names {
+        segments.push(*name)?;
+    }
+    let mut text = Vec::new(alloc);
+    let mut is_rooted = false;
+    for part in &led.parts {
+        match part.piece.kind {
+            PieceKind::Prefix(_) => text.extend_from_slice(part.piece.text)?,
+            PieceKind::RootDir => is_rooted = true,
+            _ => {}
+        }
+    }
+    let is_bare = text.is_empty() && !is_rooted;
+    if is_rooted || led.is_anchored && !segments.is_empty() {
+        text.push(separator)?;
+    }
+    let mut joined = Vec::new(alloc);
+    for segment in &segments {
+        if !joined.is_empty() {
+            joined.push(separator)?;
+        }
+        joined.extend_from_slice(segment)?;
+    }
+    if is_bare && joined.is_empty() {
+        text.push(b'.')?;
+    } else if is_bare
+        && windows
+        && prefix_of(parts_of(alloc, true, joined.as_slice())?.as_slice()).is_some()
+    {
+        text.push(b'.')?;
+        text.push(separator)?;
+    }
+    text.extend_from_slice(joined.as_slice())?;
+    Ok(text)
+}
+
 /// Whether the calls on a text answer as its slow component list says.
 fn is_answered_alike<T: Encoding>(
     alloc: Global,
@@ -218,10 +265,12 @@ fn is_answered_alike<T: Encoding>(
     let path = Path::<T>::new(text);
     let above = path.parent().map(|parent| parent.as_bytes());
     let normal = normal(alloc, windows, parts.as_slice())?;
+    let clean = cleaned(alloc, windows, &read_slowly(alloc, windows, text)?)?;
     Ok(
         above == parent(text, parts.as_slice())
             && path.file_name() == file_name(parts.as_slice())
             && path.normalize(alloc)?.as_path().as_bytes() == normal.as_slice()
+            && path.clean(alloc)?.as_path().as_bytes() == clean.as_slice()
             && is_joined_alike::<T>(alloc, windows, text, parts.as_slice())?,
     )
 }

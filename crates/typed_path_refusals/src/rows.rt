@@ -83,6 +83,12 @@ const NORMAL: [Row; 2] = [
     ("foo/bar//baz/./asdf/quux/..", "", "foo/bar/baz/asdf"),
 ];
 
+const CLEAN: [Row; 3] = [
+    ("a/..", "", "."),
+    ("/../a//b/.", "", "/a/b"),
+    ("a/../../b/./c", "", "../b/c"),
+];
+
 const ABSOLUTE: [Row; 2] = [
     ("a/../b", "/home/u", "/home/u/b"),
     ("/a/b/../c/./d", "/home/u", "/a/c/d"),
@@ -115,6 +121,7 @@ pub const UNIX: Table = Table {
         ("with_file_name", Make::WithFileName, &NAMES),
         ("with_extension", Make::WithExtension, &EXTENSIONS),
         ("normalize", Make::Normalize, &NORMAL),
+        ("clean", Make::Clean, &CLEAN),
         ("absolutize", Make::Absolutize, &ABSOLUTE),
         ("with_unix_encoding", Make::WithUnix, &COPIED),
         ("with_unix_encoding_checked", Make::WithUnixChecked, &BUILT),
@@ -198,6 +205,12 @@ const WINDOWS_EXTENSIONS: [Row; 3] = [
 
 const WINDOWS_KEPT: [Row; 2] = [("C:", "", "C:"), (r"\\?\C:\x", "", r"\\?\C:\x")];
 
+const WINDOWS_CLEAN: [Row; 3] = [
+    (r"a\..\C:\b", "", r".\C:\b"),
+    (r"\\?\C:a", "", r"\\?\C:\a"),
+    (r"C:/a\..\..//b", "", r"C:\b"),
+];
+
 const WINDOWS_NORMAL: [Row; 4] = [
     (r"x\C:", "", "C:"),
     (r"C:\a\.\..\b", "", r"C:\b"),
@@ -245,6 +258,7 @@ pub const WINDOWS: Table = Table {
         ("with_file_name", Make::WithFileName, &WINDOWS_NAMES),
         ("with_extension", Make::WithExtension, &WINDOWS_EXTENSIONS),
         ("normalize", Make::Normalize, &WINDOWS_NORMAL),
+        ("clean", Make::Clean, &WINDOWS_CLEAN),
         ("absolutize", Make::Absolutize, &WINDOWS_ABSOLUTE),
         ("with_unix_encoding", Make::WithUnix, &TO_UNIX),
         (

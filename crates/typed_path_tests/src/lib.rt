@@ -5,6 +5,8 @@
 #[cfg(test)]
 mod ample;
 #[cfg(test)]
+mod clean;
+#[cfg(test)]
 mod conversions;
 #[cfg(test)]
 mod endless;

@@ -160,6 +160,7 @@ fn made_texts(rt: HostRuntime) -> Result<(), Fail> {
     let alloc = rt.alloc();
     let path = Utf8UnixPath::new("/é/./b/../c.txt");
     assert!(rt; is_made(path.normalize(alloc), "/é/c.txt"));
+    assert!(rt; is_made(path.clean(alloc), "/é/c.txt"));
     assert!(rt;
         is_made(
             path.join(alloc, Utf8UnixPath::new("ü")),

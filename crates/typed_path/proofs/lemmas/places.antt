@@ -5,9 +5,13 @@
 -- NamedRows: the rows of names that stand side by side in a text, which are its bytes there
 -- KeptNames: the names that are kept of a list, of one with another behind it and of one that is resolved; and the place of a path, read off them
 -- KeptFromBack: the names that are kept of a list, one component less at its end, and whether they begin with others
+-- CleanRows: the parents and names that are kept of a path, put behind a head segment by segment
+-- CleanTexts: the clean text of a path, as it is written behind a text
 pub mod Resolving
 pub mod UnixRows
 pub mod WindowsRows
 pub mod NamedRows
 pub mod KeptNames
 pub mod KeptFromBack
+pub mod CleanRows
+pub mod CleanTexts

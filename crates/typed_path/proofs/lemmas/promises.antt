@@ -7,6 +7,10 @@
 -- WindowsWithin: the same on Windows, from each absolute directory that keeps its prefix and is not verbatim
 -- VerbatimWithin: and from each verbatim one that keeps its prefix
 -- WindowsStable: the normal text of Windows is stable, where no name has a byte that no name may have
+-- CleanRead: parents and names as they are written, read as themselves, and where such a list leads
+-- CleanForms: the clean text of a path without a prefix, read again, and that it is the one text of where it leads
+-- WindowsClean: the clean text of a path of Windows with a prefix, read again
+-- RouteBehind: paths that lead alike lie at one place, from each directory of which is known where paths lead behind it
 pub mod UnixContained
 pub mod WindowsBases
 pub mod WindowsContained
@@ -15,3 +19,7 @@ pub mod Within
 pub mod UnixWithin
 pub mod WindowsWithin
 pub mod VerbatimWithin
+pub mod CleanRead
+pub mod CleanForms
+pub mod WindowsClean
+pub mod RouteBehind

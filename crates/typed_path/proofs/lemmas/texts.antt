@@ -3,7 +3,9 @@
 -- TextNames: the names of a component are texts where its own text is one
 -- TextsLeft: what is left of a text, and what it answers about itself, are texts
 -- TextChanges: what changes a text leaves a text, and what the search is told of texts
+-- TextClean: the clean text of a text is one
 pub mod TextCuts
 pub mod TextNames
 pub mod TextsLeft
 pub mod TextChanges
+pub mod TextClean

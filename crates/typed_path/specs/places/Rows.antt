@@ -33,9 +33,6 @@ pub record AreRowsOf (s : Separators) (text head : List ℕ) (names : List (List
   pub unseparated : AllByRecursion (λ name. All (λ b. is_separator s b ≡ false) name) names
   pub is : text ≡ head ++ rows_of s names
 
-abbrev pub AreRows : List ℕ → List ℕ → List (List ℕ) → Type 0
-AreRows text head names = AreRowsOf Slash text head names
-
 -- the first of some pieces, which are names, put in rows behind a text: the later ones are still to come
 pub record ArePut (s : Separators) (old new : List ℕ) (pieces later : List (List ℕ)) : Type 0 where
   pub names : List (List ℕ)

@@ -1,7 +1,7 @@
 //! A path that is lent: what makes one, what it answers, and the owned paths that are made of it.
 
 ghost use Rattle.std.specs.Prelude.{◌≡◌, IfOk, not, ◌≤◌, length, option_map, option_copied, IfSome, [], IsOk};
-ghost use Rattle.typed_path.specs.places.{is_within, normal_text};
+ghost use Rattle.typed_path.specs.places.{clean_text, is_within, normal_text};
 ghost use Rattle.typed_path.specs.components.{kinds, comps, parts_of};
 ghost use Rattle.typed_path.specs.queries.{is_absolute, has_root, is_valid, parent_of, file_name_of, file_stem_of, stripped, path_starts_with, path_ends_with, ancestors_of, stripped_to, extension};
 ghost use Rattle.typed_path.specs.scan.{last_part};
@@ -10,6 +10,7 @@ ghost use Rattle.typed_path.specs.promises.{HasNormalForm, HasPrefixOf, LiesWith
 ghost use Rattle.typed_path.specs.views.PathViews.{path_bytes, components_items, components_slice, ancestors_left};
 ghost use Rattle.typed_path.specs.views.PieceViews.{part_of};
 
+use crate::common::clean::put_clean;
 use crate::common::components::{Ancestors, Components, Iter, Reading};
 use crate::common::encoding::Encoding;
 use crate::common::path_buf::PathBuf;
@@ -392,6 +393,19 @@ impl<'a, T: Encoding> Path<'a, T> {
     {
         Ok(PathBuf::from_vec(normal::<T>(alloc, self.as_bytes())?))
     }
+
+    /// The path without `.`, doubled separators, and the names that a `..` takes away. A relative path keeps the
+    /// `..` that it needs, and nothing is `.`.
+    ///
+    /// That of the Unix path `a/../../b//./c` is `../b/c`, and that of `a/..` is `.`.
+    ///
+    /// The prefix stays as it stands, and on Windows none is gained: that of `a\..\C:\b` is `.\C:\b`. It leads
+    /// where the path leads, whatever directory both are read from.
+    pub fn clean(self, alloc: Global) -> Result<PathBuf<T>, AllocError>
+        ensures { IfOk result (λ p. p.bytes ≡ clean_text T.dialect (path_bytes self.entry)) }
+    {
+        Ok(PathBuf::from_vec(clean::<T>(alloc, self.as_bytes())?))
+    }
 }
 
 impl<'a, T: Encoding> IntoIterator for Path<'a, T> {
@@ -413,5 +427,14 @@ fn normal<T: Encoding>(alloc: Global, path: &[u8]) -> Result<Vec<u8>, AllocError
 {
     let mut text = Vec::with_capacity(alloc, path.len() + 1)?;
     T::put_normal(&mut text, path)?;
+    Ok(text)
+}
+
+/// The clean text of a path, in room for what it takes at most while it is written.
+fn clean<T: Encoding>(alloc: Global, path: &[u8]) -> Result<Vec<u8>, AllocError>
+    ensures { IfOk result (λ text. text.items ≡ clean_text T.dialect path.now) }
+{
+    let mut text = Vec::with_capacity(alloc, path.len() + 2)?;
+    put_clean::<T>(&mut text, path)?;
     Ok(text)
 }

@@ -2,20 +2,15 @@
 
 ghost use Rattle.std.specs.Prelude.{false, ◌≡◌, ◌≤◌, ◌+◌, ◌++◌, ℕ, take, slice_range, length, IfOk, IfSome, IsNone, IsOk, MatchOption, OnOk, OnErr, ◌<◌, ◌-◌, List, [], codes, fold, Some};
 ghost use Rattle.std.specs.Vec.{vec_capacity, vec_len};
-ghost use Rattle.std.specs.List.{slice_split};
-ghost use Rattle.typed_path.specs.components.{unix, slash, is_separator};
-ghost use Rattle.typed_path.specs.changes.{push_unix, ended_with, TellsNames, FitsPush};
-ghost use Rattle.typed_path.specs.places.{normal_text, rows, settled, names_left, AreRows, ArePut, IsParted};
+ghost use Rattle.typed_path.specs.components.{unix, slash};
+ghost use Rattle.typed_path.specs.changes.{push_unix, ended_with, FitsPush};
+ghost use Rattle.typed_path.specs.places.{normal_text, IsParted};
 
-use crate::common::{
-    Encoding, append_first, behind_segment, compare_texts, cut_back, drop_name, drop_separator,
-    has_room, put_over,
-};
+use crate::common::{Encoding, compare_texts, cut_back, drop_separator, put_kept, put_over};
 use crate::errors::CheckedPathError;
 use crate::scan::{
-    Cursor, Piece, Separators, StepKind, are_apart, base_end, cut_at_separator, end_behind,
-    first_difference, has_no_nul_or_dot_pair, has_valid_names, have_other_fronts,
-    leading_short_names, step_of,
+    Cursor, Piece, Separators, are_apart, base_end, end_behind, first_difference,
+    has_no_nul_or_dot_pair, has_valid_names, have_other_fronts,
 };
 use std::alloc::AllocError;
 use std::cmp::Ordering;
@@ -220,7 +215,7 @@ fn put_rows(text: &mut Vec<u8>, path: &[u8]) -> Result<(), AllocError>
     let (root, rest) = split_root(path);
     text.extend_from_slice(root)?;
     let len = text.len();
-    put_segments(text, len, rest)?;
+    put_kept(text, rest, Separators::Slash, true)?;
     drop_separator(text, len);
     Ok(())
 }
@@ -233,114 +228,4 @@ fn split_root(path: &[u8]) -> (&[u8], &[u8])
         [b'/', rest @ ..] => (&path[..1], rest),
         _ => (&path[..0], path),
     }
-}
-
-/// Puts the names that are left of a path behind the first bytes of a text. Where some stand side by side they are put
-/// at once; all others are settled segment by segment, and so are all where there is no room for the whole path, as
-/// segments ask for less memory at once.
-fn put_segments(text: &mut Vec<u8>, len: usize, path: &[u8]) -> Result<(), AllocError>
-    requires { len ≤ length text.old.items }
-    ensures ok { OnOk result ((head : List ℕ) → length head ≡ len → AreRows text.old.items head []
-        → text.new.items ≡ head ++ rows (names_left path.now)) }
-    ensures kept { take len text.new.items ≡ take len text.old.items }
-    ensures long { len ≤ length text.new.items }
-    ensures capacity { vec_capacity text.old ≤ vec_capacity text.new }
-    ensures succeeds { vec_len text.old + length path.now < vec_capacity text.old → IsOk result }
-{
-    let mut rest = path;
-    'segments: loop {
-        let names = leading_short_names(rest, (b'/', b'/'));
-        if matches!(names, Some(0)) || !has_room(text, rest) {
-            return put_one_by_one(text, len, rest);
-        }
-        let Some(left) = put_names(text, rest, names)? else {
-            return Ok(());
-        };
-        let Some((segment, behind)) = cut_at_separator(Separators::Slash, left) else {
-            return put_segment(text, len, left, left);
-        };
-        put_segment(text, len, segment, left)?;
-        rest = behind_segment(segment, behind, Separators::Slash);
-    }
-}
-
-/// Settles the segments of a path one by one behind the names that stand.
-#[inline(always)]
-fn put_one_by_one(text: &mut Vec<u8>, len: usize, path: &[u8]) -> Result<(), AllocError>
-    requires { len ≤ length text.old.items }
-    ensures ok { OnOk result ((head whole : List ℕ) (names : List (List ℕ)) → length head ≡ len
-        → AreRows text.old.items head names → names_left whole
-        ≡ fold settled names (slice_split (is_separator Separators.Slash) path.now)
-        → text.new.items ≡ head ++ rows (names_left whole)) }
-    ensures kept { take len text.new.items ≡ take len text.old.items }
-    ensures long { len ≤ length text.new.items }
-    ensures capacity { vec_capacity text.old ≤ vec_capacity text.new }
-    ensures succeeds { vec_len text.old + length path.now < vec_capacity text.old → IsOk result }
-{
-    let mut rest = path;
-    'segments: while let Some((segment, behind)) = cut_at_separator(Separators::Slash, rest) {
-        put_segment(text, len, segment, rest)?;
-        rest = behind_segment(segment, behind, Separators::Slash);
-    }
-    put_segment(text, len, rest, rest)
-}
-
-/// Puts the names that a path is told to begin with behind a text, each with a separator behind it, and answers what
-/// is left; none where all of it was put.
-#[inline(always)]
-fn put_names<'a>(
-    text: &mut Vec<u8>,
-    path: &'a [u8],
-    names: Option<usize>,
-) -> Result<Option<&'a [u8]>, AllocError>
-    requires { TellsNames (slash, slash) path.now names }
-    ensures ok { IfOk result (λ left. MatchOption left
-        (ArePut Separators.Slash text.old.items text.new.items
-        (slice_split (is_separator Separators.Slash) path.now) [])
-        (λ rest. ArePut Separators.Slash text.old.items text.new.items
-        (slice_split (is_separator Separators.Slash) path.now)
-        (slice_split (is_separator Separators.Slash) rest.now))) }
-    ensures front { take (length text.old.items) text.new.items ≡ text.old.items }
-    ensures room { IfOk result (λ left. IfSome left (λ rest.
-        vec_len text.new + length rest.now ≡ vec_len text.old + length path.now)) }
-    ensures capacity { vec_capacity text.old ≤ vec_capacity text.new }
-    ensures succeeds { vec_len text.old + length path.now < vec_capacity text.old → IsOk result }
-{
-    let Some(names) = names else {
-        text.extend_from_slice(path)?;
-        text.push(b'/')?;
-        return Ok(None);
-    };
-    text.extend_from_slice(&path[..names])?;
-    Ok(Some(&path[names..]))
-}
-
-/// Settles one more segment, which is what the rest begins with, behind the names that stand.
-#[inline(always)]
-fn put_segment(
-    text: &mut Vec<u8>,
-    len: usize,
-    segment: &[u8],
-    rest: &[u8],
-) -> Result<(), AllocError>
-    requires within { len ≤ length text.old.items }
-    requires front { take (length segment.now) rest.now ≡ segment.now }
-    ensures ok { OnOk result ((head : List ℕ) (names : List (List ℕ)) → length head ≡ len
-        → AreRows text.old.items head names
-        → text.new.items ≡ head ++ rows (settled names segment.now)) }
-    ensures kept { take len text.new.items ≡ take len text.old.items }
-    ensures long { len ≤ length text.new.items }
-    ensures room { vec_len text.new ≤ vec_len text.old + length segment.now + 1 }
-    ensures capacity { vec_capacity text.old ≤ vec_capacity text.new }
-    ensures succeeds { vec_len text.old + length rest.now < vec_capacity text.old → IsOk result }
-{
-    match step_of(segment, Separators::Slash).kind {
-        StepKind::ParentDir => drop_name(text, len, Separators::Slash),
-        StepKind::Normal => {
-            append_first(text, rest, segment.len())?;
-            text.push(b'/')?;
-        }
-        StepKind::RootDir | StepKind::CurDir => {}
-    }
-    Ok(())
 }

@@ -9,7 +9,7 @@ ghost use Rattle.typed_path.specs.texts.{is_text_option, IsTextError};
 ghost use Rattle.typed_path.specs.components.{kinds, comps, parts_of, unix, windows};
 ghost use Rattle.typed_path.specs.queries.{is_absolute, has_root, is_valid, parent_of, file_name_of, file_stem_of, stripped, path_starts_with, path_ends_with, ancestors_of, stripped_to, extension};
 ghost use Rattle.typed_path.specs.order.{is_same, path_cmp};
-ghost use Rattle.typed_path.specs.places.{is_within};
+ghost use Rattle.typed_path.specs.places.{clean_text, is_within};
 ghost use Rattle.typed_path.specs.promises.{keeps_prefix};
 ghost use Rattle.typed_path.specs.changes.{with_file_name, with_extension};
 ghost use Rattle.typed_path.specs.conversions.{platform, same_dialect, converted};
@@ -355,6 +355,15 @@ impl<'a, T: Utf8Encoding> Utf8Path<'a, T> {
         ensures { Normalizes T.Bytes.dialect (λ p. p.bytes) (utf8_bytes self.entry) result }
     {
         owned!(self.as_bytes_path().normalize(alloc))
+    }
+
+    /// The path without `.`, doubled separators, and the names that a `..` takes away, as
+    /// [`Path::clean`](crate::Path::clean) writes it.
+    #[tactic(auto, using(crate::proofs::lemmas::texts::TextChanges::text_laws, crate::proofs::lemmas::texts::TextClean::clean_laws))]
+    pub fn clean(self, alloc: Global) -> Result<Utf8PathBuf<T>, AllocError>
+        ensures { IfOk result (λ p. p.bytes ≡ clean_text T.Bytes.dialect (utf8_bytes self.entry)) }
+    {
+        owned!(self.as_bytes_path().clean(alloc))
     }
 
     /// The path in another encoding: its components pushed one by one onto the empty path, as

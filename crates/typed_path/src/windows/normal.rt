@@ -11,7 +11,7 @@ ghost use Rattle.typed_path.specs.places.{normal_text, names_left_of, rows_of, s
 ghost use Rattle.typed_path.specs.views.PieceViews.{found_of};
 
 use crate::common::{
-    append_first, behind_segment, cut_back, drop_name, drop_separator, has_room, put_turned,
+    append_first, behind_segment, cut_back, drop_name, drop_separator, has_room, put_names,
 };
 use crate::scan::{
     Cursor, Found, PieceKind, Separators, StepKind, WindowsPrefix, cut_at_separator, drive,
@@ -203,7 +203,7 @@ fn put_undriven(
 {
     let mut rest = path;
     let mut names = names;
-    'segments: while let Some(left) = put_names(text, rest, names)? {
+    'segments: while let Some(left) = put_names(text, rest, names, Separators::Either)? {
         let Some((segment, behind)) = cut_at_separator(Separators::Either, left) else {
             return put_segment(text, len, left, left);
         };
@@ -243,36 +243,6 @@ fn put_one_by_one(text: &mut Vec<u8>, len: usize, path: &[u8]) -> Result<bool, A
         rest = behind_segment(segment, behind, Separators::Either);
     }
     put_segment(text, len, rest, rest)
-}
-
-/// Puts the names that a path is told to begin with behind a text, each with a separator behind it, and answers what
-/// is left; none where all of it was put.
-#[inline(always)]
-fn put_names<'a>(
-    text: &mut Vec<u8>,
-    path: &'a [u8],
-    names: Option<usize>,
-) -> Result<Option<&'a [u8]>, AllocError>
-    requires { TellsNames (slash, backslash) path.now names }
-    ensures ok { IfOk result (λ left. MatchOption left
-        (ArePut Separators.Either text.old.items text.new.items
-        (slice_split (is_separator Separators.Either) path.now) [])
-        (λ rest. ArePut Separators.Either text.old.items text.new.items
-        (slice_split (is_separator Separators.Either) path.now)
-        (slice_split (is_separator Separators.Either) rest.now))) }
-    ensures front { take (length text.old.items) text.new.items ≡ text.old.items }
-    ensures room { IfOk result (λ left. IfSome left (λ rest.
-        vec_len text.new + length rest.now ≡ vec_len text.old + length path.now)) }
-    ensures capacity { vec_capacity text.old ≤ vec_capacity text.new }
-    ensures succeeds { vec_len text.old + length path.now < vec_capacity text.old → IsOk result }
-{
-    let Some(names) = names else {
-        put_turned(text, path, Separators::Either, b'\\')?;
-        text.push(b'\\')?;
-        return Ok(None);
-    };
-    put_turned(text, &path[..names], Separators::Either, b'\\')?;
-    Ok(Some(&path[names..]))
 }
 
 /// Settles one more segment, which is what the rest begins with, behind the names that stand, and

@@ -19,7 +19,7 @@ use Rattle.typed_path.proofs.lemmas.scan.Steps.{last_pushed, last_part-push}
 
 -- Lists that are seen alike by each list before them.
 
-alike-cons : (k : Kind) (ks ls : List Kind) → AlikeKept ks ls → AlikeKept (k ∷ ks) (k ∷ ls)
+pub alike-cons : (k : Kind) (ks ls : List Kind) → AlikeKept ks ls → AlikeKept (k ∷ ks) (k ∷ ls)
 alike-cons (prefix p) ks ls h = record { unmet = h.unmet; names = h.names }
 alike-cons root ks ls h = record { unmet = h.unmet; names = h.names }
 alike-cons current ks ls h = record { unmet = h.unmet; names = h.names }
@@ -29,12 +29,12 @@ alike-cons (normal name) ks ls h = record {
   names = ap₂ (λ n names. if n == 0 then name ∷ names else names) h.unmet h.names;
 }
 
-alike-append : (js ks ls : List Kind) → AlikeKept ks ls → AlikeKept (js ++ ks) (js ++ ls)
+pub alike-append : (js ks ls : List Kind) → AlikeKept ks ls → AlikeKept (js ++ ks) (js ++ ls)
 alike-append [] ks ls h = h
 alike-append (j ∷ js) ks ls h = alike-cons j (js ++ ks) (js ++ ls) (alike-append js ks ls h)
 
 -- a parent that a name before it meets
-met-alike : (name : List ℕ) (ks : List Kind) → AlikeKept (normal name ∷ parent ∷ ks) ks
+pub met-alike : (name : List ℕ) (ks : List Kind) → AlikeKept (normal name ∷ parent ∷ ks) ks
 met-alike name ks = record { unmet = omega arith; names = by (suc (unmet ks) == 0) (ne_eqb (suc (unmet ks)) 0 (λ e. cc)) }
   where
     by : (b : Bool) → b ≡ false → (if b then name ∷ kept_names ks else kept_names ks) ≡ kept_names ks

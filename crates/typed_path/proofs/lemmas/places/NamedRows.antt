@@ -1,14 +1,13 @@
 -- The rows of names that stand side by side in a text: its bytes there, put behind what is settled.
-use Rattle.std.proofs.Common.{◌≡◌, ℕ, ◌==◌, ◌||◌, Bool, true, false, if◌then◌else◌, List, [], ◌∷◌, ◌++◌, take, drop, fold, refl, sym, ap, ◌∙◌, subst, append_assoc, append-nil, eqb-true, length, ◌≤◌, take-take}
-use Rattle.std.specs.List.{list_all, list_any, slice_split, AllByRecursion}
-use Rattle.std.specs.Prelude.{⊤}
+use Rattle.std.proofs.Common.{◌≡◌, ℕ, ◌==◌, ◌||◌, true, false, if◌then◌else◌, List, [], ◌∷◌, ◌++◌, take, drop, fold, refl, sym, ap, ◌∙◌, subst, append_assoc, append-nil, length, ◌≤◌, take-take}
+use Rattle.std.specs.List.{list_all, list_any, AllByRecursion}
 use Rattle.std.proofs.lemmas.Bool.{and_parts, or_parts, not-true}
 use Rattle.std.proofs.lemmas.List.{append_cancel_right, take-append-drop, map-append}
 use Rattle.std.proofs.lemmas.List.Sums.{fold-append}
 use Rattle.typed_path.specs.declared.scan.separators.Separators.{Separators}
-use Rattle.typed_path.specs.declared.scan.separators.Separators.TheVariants.{Slash, Either}
-use Rattle.typed_path.specs.components.{slash, colon, is_separator, is_dot, is_dot_dot}
-use Rattle.typed_path.specs.changes.{is_name_piece, AreNamesBefore}
+use Rattle.typed_path.specs.declared.scan.separators.Separators.TheVariants.{Either}
+use Rattle.typed_path.specs.components.{colon, is_separator, is_dot, is_dot_dot}
+use Rattle.typed_path.specs.changes.{is_name_piece}
 use Rattle.typed_path.specs.scan.{is_one_of, turned}
 use Rattle.typed_path.specs.places.{row_end, rows_of, settled, names_left_of, AreRowsOf, ArePut, HaveNoDisks}
 use Rattle.typed_path.proofs.lemmas.lists.Lists.{IsUnseparated, slice_split-unseparated, AllByRecursion-append, AllByRecursion-weaker}
@@ -54,36 +53,6 @@ module _ (s : Separators) (old new path : List ℕ) where
     parted = sym (append-nil (pieces s path));
     is = put ∙ append_assoc old (turned s (row_end s) path) (row_end s ∷ []) ∙ ap (λ t. old ++ t) (sym (pieces-turned s (row_end s) path));
   }
-
--- a text of Unix stays as its separators turn into what they are
-unturned : (text : List ℕ) → turned Slash slash text ≡ text
-unturned [] = refl
-unturned (b ∷ bs) = ap (λ c. c ∷ turned Slash slash bs) (by (b == slash) refl) ∙ ap (λ t. b ∷ t) (unturned bs)
-  where
-    by : (c : Bool) → (b == slash) ≡ c → (if c then slash else b) ≡ b
-    by true e = sym (eqb-true b slash e)
-    by false e = refl
-
--- one byte twice is one byte
-once : (b : ℕ) → is_one_of (slash, slash) b ≡ (b == slash)
-once b = by (b == slash)
-  where
-    by : (c : Bool) → (c || c) ≡ c
-    by true = refl
-    by false = refl
-
-module _ (old new path : List ℕ) where
-  -- names of Unix before a place, put as they stand
-  pub unix-before : (place : ℕ) → AreNamesBefore (slash, slash) path place → new ≡ old ++ take place path → ArePut Slash old new (pieces Slash path) (pieces Slash (drop place path))
-  unix-before place are put =
-      put-before Slash old new path place are.names are.named (subst (λ p. slice_split p path ≡ are.names ++ slice_split p (drop place path)) (λ i b. once b i) are.parted)
-      (put ∙ ap (λ t. old ++ t) (sym (unturned (take place path))))
-
-  -- a text of them alone
-  pub unix-whole : list_all is_name_piece (slice_split (is_one_of (slash, slash)) path) ≡ true → new ≡ (old ++ path) ++ slash ∷ [] → ArePut Slash old new (pieces Slash path) []
-  unix-whole named put =
-      put-whole Slash old new path (subst (λ p. list_all is_name_piece (slice_split p path) ≡ true) (λ i b. once b i) named)
-      (put ∙ ap (λ t. (old ++ t) ++ slash ∷ []) (sym (unturned path)))
 
 module _ (s : Separators) (P : List ℕ → Type 0) (text new head rest whole : List ℕ) (later : List (List ℕ))
     (every : AllByRecursion P (pieces s rest)) (put : ArePut s text new (pieces s rest) later) (stands : Standing s P text head rest whole) where
@@ -134,10 +103,9 @@ module _ (s : Separators) (P : List ℕ → Type 0) (text new head rest whole : 
 pub kept-front : (n : ℕ) (old new : List ℕ) → n ≤ length old → take (length old) new ≡ old → take n new ≡ take n old
 kept-front n old new within front = sym (take-take n (length old) new within) ∙ ap (take n) front
 
--- nothing is asked of a name of Unix
-pub any-names : (names : List (List ℕ)) → AllByRecursion (λ name. ⊤) names
-any-names [] = tt
-any-names (name ∷ names) = (tt, any-names names)
+-- so do fewer bytes of it than those that stay
+pub kept-shorter : (n m : ℕ) (old new : List ℕ) → n ≤ m → take m new ≡ take m old → take n new ≡ take n old
+kept-shorter n m old new less same = sym (take-take n m new less) ∙ ap (take n) same ∙ take-take n m old less
 
 -- no piece of a text begins with a drive in which no colon stands
 pub free-pieces : (text : List ℕ) → list_any (is_one_of (colon, colon)) text ≡ false → HaveNoDisks (pieces Either text)

@@ -52,12 +52,16 @@ unix-leading dir absolute = record {
       ∙ ap₂ (λ n names. take (length (kept_names (kinds_of unix dir)) - n) (kept_names (kinds_of unix dir)) ++ names) alike.unmet alike.names);
 }
 
-replaces : (dir : List ℕ) → Replaces unix dir
-replaces dir v prefixed = let e : true ≡ false = sym prefixed ∙ has_prefix-first (kinds_of unix v) ∙ ap is_some (first-none v) in cc
+-- so each absolute directory has one
+pub leading : (dir : List ℕ) → is_absolute unix (kinds_of unix dir) ≡ true → Leading unix dir
+leading dir absolute = unix-leading dir absolute
+
+pub unix-replaces : (dir : List ℕ) → Replaces unix dir
+unix-replaces dir v prefixed = let e : true ≡ false = sym prefixed ∙ has_prefix-first (kinds_of unix v) ∙ ap is_some (first-none v) in cc
 
 -- from each of them a path within a base lies below it
 pub unix_below : (dir base t : List ℕ) → LeadsBelow unix dir base t
-unix_below dir base t kept absolute asked = within-below unix dir base t (unix-leading dir absolute) (replaces dir) asked
+unix_below dir base t kept absolute asked = within-below unix dir base t (unix-leading dir absolute) (unix-replaces dir) asked
 
 -- A name that begins neither of two lists.
 

@@ -361,7 +361,7 @@ module _ (dir : List ℕ) (f : Found) (is : prefix_of windows dir ≡ Some f) (f
 
 -- The law.
 
-windows-leading : (dir : List ℕ) → keeps_prefix windows dir ≡ true → is_absolute windows (kinds_of windows dir) ≡ true → Leading windows dir
+pub windows-leading : (dir : List ℕ) → keeps_prefix windows dir ≡ true → is_absolute windows (kinds_of windows dir) ≡ true → Leading windows dir
 windows-leading dir kept absolute = by (prefix_of windows dir) refl kept
   where
     by : (o : Option Found) → prefix_of windows dir ≡ o → keeps_by_prefix dir (option_map (λ f. f.prefix) o) ≡ true → Leading windows dir

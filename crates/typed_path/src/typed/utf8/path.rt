@@ -7,7 +7,7 @@ ghost use Rattle.typed_path.specs.views.TypedTextViews.{typed_text, typed_text_i
 ghost use Rattle.typed_path.specs.components.{unix, windows, kinds, comps, parts_of};
 ghost use Rattle.typed_path.specs.changes.{with_file_name, with_extension};
 ghost use Rattle.typed_path.specs.conversions.{converted};
-ghost use Rattle.typed_path.specs.places.{is_within};
+ghost use Rattle.typed_path.specs.places.{clean_text, is_within};
 ghost use Rattle.typed_path.specs.promises.{keeps_prefix};
 ghost use Rattle.typed_path.specs.views.TextViews.{utf8_bytes};
 ghost use Rattle.typed_path.specs.views.TypedViews.{owned_bytes, reading_dialect};
@@ -292,6 +292,16 @@ impl<'a> Utf8TypedPath<'a> {
             result }
     {
         typed_result!(self, path => path.normalize(alloc))
+    }
+
+    /// The path without `.`, doubled separators, and the names that a `..` takes away, as [`Utf8Path::clean`]
+    /// writes it.
+    pub fn clean(self, alloc: Global) -> Result<Utf8TypedPathBuf, AllocError>
+        ensures dialect { IfOk result (λ p. typed_dialect p ≡ typed_dialect self.entry) }
+        ensures bytes { IfOk result (λ p. owned_bytes p
+            ≡ clean_text (typed_dialect self.entry) (typed_text self.entry)) }
+    {
+        typed_result!(self, path => path.clean(alloc))
     }
 
     /// The normal text of the path where it is absolute, and else of the directory in this path's

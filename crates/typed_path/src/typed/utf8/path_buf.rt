@@ -10,7 +10,7 @@ ghost use Rattle.typed_path.specs.views.TypedTextViews.{typed_text, typed_text_i
 ghost use Rattle.typed_path.specs.queries.{is_absolute, has_root, parent_of, file_name_of, file_stem_of, extension, stripped, path_starts_with, path_ends_with, ancestors_of, stripped_to};
 ghost use Rattle.typed_path.specs.changes.{with_file_name, with_extension};
 ghost use Rattle.typed_path.specs.conversions.{converted, same_dialect};
-ghost use Rattle.typed_path.specs.places.{is_within};
+ghost use Rattle.typed_path.specs.places.{clean_text, is_within};
 ghost use Rattle.typed_path.specs.promises.{keeps_prefix};
 ghost use Rattle.typed_path.specs.views.TextViews.{utf8_bytes};
 ghost use Rattle.typed_path.specs.changes.Push as push_spec;
@@ -394,6 +394,15 @@ impl Utf8TypedPathBuf {
             result }
     {
         self.to_path().normalize(alloc)
+    }
+
+    /// As [`Utf8TypedPath::clean`].
+    pub fn clean(&self, alloc: Global) -> Result<Utf8TypedPathBuf, AllocError>
+        ensures dialect { IfOk result (λ p. typed_dialect p ≡ typed_dialect self.now) }
+        ensures bytes { IfOk result (λ p. owned_bytes p
+            ≡ clean_text (typed_dialect self.now) (owned_bytes self.now)) }
+    {
+        self.to_path().clean(alloc)
     }
 
     /// As [`Utf8TypedPath::absolutize`].

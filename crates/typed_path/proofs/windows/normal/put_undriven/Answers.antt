@@ -1,7 +1,7 @@
 use Rattle.std.proofs.Common.{◌≡◌, ◌∷◌, ◌++◌, [], fold, refl, arith, ◌∙◌, List, ℕ, None, subst}
 use Rattle.std.proofs.lemmas.Result.{IfOk-weaker}
 use Rattle.typed_path.specs.declared.scan.separators.Separators.TheVariants.{Either}
-use Rattle.typed_path.specs.components.{drive}
+use Rattle.typed_path.specs.components.{drive, slash, backslash}
 use Rattle.typed_path.specs.places.{AreRowsOf, ArePut, HaveNoDisks, rows_of, settled}
 use Rattle.typed_path.proofs.lemmas.components.Segments.{pieces}
 use Rattle.typed_path.proofs.lemmas.places.UnixRows.{Standing, standing-start, standing-step, standing-over, standing-end, standing-each}
@@ -78,7 +78,7 @@ returns-in_default-cut_at_separator-clause-told c =
     c.put_segment.ensures.told (subst HaveNoDisks c.in_default-cut_at_separator.ensures.pieces (put-drives _ _ _ _ put c.segments.invariant.drives)).0
 
 pub put_names-requires : goal.put_names-requires
-put_names-requires c = c.segments.invariant.names
+put_names-requires c = ((slash, backslash), λ b. refl, c.segments.invariant.names)
 
 pub returns-then-matches-clause-ok : goal.returns-then-matches-clause-ok
 returns-then-matches-clause-ok c =

@@ -1,0 +1,280 @@
+-- The clean text of a path of Windows with a prefix, read again.
+use Rattle.std.proofs.Common.{◌≡◌, inl, inr, ℕ, zero, suc, ◌<◌, ◌≤◌, ◌==◌, ◌||◌, ◌&&◌, not, Bool, true, false, List, [], ◌∷◌, ◌++◌, if◌then◌else◌, length, take, drop, refl, sym, ap, ap₂, ◌∙◌, append_assoc, append-nil, arith, subst, length-take, take_all, eqb-true, Option, Some, None}
+use Rattle.std.specs.Option.{option_map}
+use Rattle.std.specs.List.{AllByRecursion, join_with_byte}
+use Rattle.std.proofs.lemmas.Bool.{cases_Bool, cases_lt, both_ways, or_parts}
+use Rattle.std.proofs.lemmas.List.{take_at, drop_at, drop_all}
+use Rattle.typed_path.specs.declared.scan.separators.Separators.{Separators}
+use Rattle.typed_path.specs.declared.scan.separators.Separators.TheVariants.{Backslash, Either}
+use Rattle.typed_path.specs.components.{Dialect, unix, windows, backslash, separators, is_separator, Prefix, verbatim, verbatim_disk, disk, Kind, prefix, root, current, parent, normal, Part, kinds, prefix_part, Found, found, drive, prefix_of, parts_of}
+use Rattle.typed_path.specs.queries.{is_disk, begins_with_root}
+use Rattle.typed_path.specs.places.{resolve, stays, unmet, kept_names, is_anchored, rising, headed, routed, route, clean_by, cleaned, clean_text, dots}
+use Rattle.typed_path.specs.promises.{HasCleanForm, IsCleanForm, is_verbatim_unc_name, prefix_kind}
+use Rattle.typed_path.proofs.lemmas.components.Prefixes.{separators-windows, backslash-separates, drive-take, drive-size, Read, of_disk, prefix-read}
+use Rattle.typed_path.proofs.lemmas.components.FirmPrefixes.{Apart, nothing, parted, drive-stays, drive-extends}
+use Rattle.typed_path.proofs.lemmas.components.PartedPrefixes.{parted-stays, root-behind}
+use Rattle.typed_path.proofs.lemmas.components.Segments.{IsCleanName, IsLater, IsLaterPart, AreRead, body_parts, body_parts-read, each-written}
+use Rattle.typed_path.proofs.lemmas.places.Resolving.{resolve-each}
+use Rattle.typed_path.proofs.lemmas.changes.Faults.{parts_of-some}
+use Rattle.typed_path.proofs.lemmas.promises.WindowsStable.{drive-plain}
+use Rattle.typed_path.proofs.lemmas.promises.CleanRead.{ups, lead, leads-by, anchored-stays, LeadsAs, unmet-ups, names-ups, names-clean, read-ups, read-root}
+use Rattle.typed_path.proofs.lemmas.promises.CleanForms.{plain-form}
+
+-- What stands behind the prefix of a clean text.
+
+-- whether a root is written behind a prefix
+abbrev rooted_by : Prefix → List Kind → List (List ℕ) → Bool
+rooted_by p ks segments = begins_with_root ks || (not (is_disk p) && not (length segments == 0))
+
+-- a root or none, and segments
+abbrev behind_text : Bool → List ℕ → List ℕ
+behind_text rooted joined = if rooted then backslash ∷ joined else joined
+
+behind-append : (raw joined : List ℕ) (rooted : Bool) → (raw ++ (if rooted then backslash ∷ [] else [])) ++ joined ≡ raw ++ behind_text rooted joined
+behind-append raw joined true = append_assoc raw (backslash ∷ []) joined
+behind-append raw joined false = ap (λ bs. bs ++ joined) (append-nil raw)
+
+ups-unrooted : (n : ℕ) (names : List (List ℕ)) → begins_with_root (ups n names) ≡ false
+ups-unrooted (suc n) names = refl
+ups-unrooted zero [] = refl
+ups-unrooted zero (name ∷ names) = refl
+
+lead-rooted : (rooted : Bool) (n : ℕ) (names : List (List ℕ)) → begins_with_root (lead rooted n names) ≡ rooted
+lead-rooted true n names = refl
+lead-rooted false n names = ups-unrooted n names
+
+lead-unmet : (rooted : Bool) (n : ℕ) (names : List (List ℕ)) → unmet (lead rooted n names) ≡ n
+lead-unmet true n names = unmet-ups n names
+lead-unmet false n names = unmet-ups n names
+
+lead-names : (rooted : Bool) (n : ℕ) (names : List (List ℕ)) → kept_names (lead rooted n names) ≡ names
+lead-names true n names = names-ups n names
+lead-names false n names = names-ups n names
+
+-- the parents that are left over and the names that are kept, as they are written
+abbrev segments_of : List Kind → List (List ℕ)
+segments_of ks = dots (rising ks) ++ kept_names ks
+
+-- a text with a prefix, and its clean text, which has the same prefix with a root or none, parents and names behind it
+module _ (t : List ℕ) (p : Prefix) (raw : List ℕ) (ps : List Part) (read : parts_of windows t ≡ prefix_part p raw ∷ ps) where
+  abbrev ks : List Kind
+  ks = prefix p ∷ kinds ps
+
+  abbrev segments : List (List ℕ)
+  segments = segments_of (prefix p ∷ kinds ps)
+
+  abbrev rooted : Bool
+  rooted = rooted_by p (kinds ps) (segments_of (prefix p ∷ kinds ps))
+
+  clean-prefixed : clean_text windows t ≡ raw ++ behind_text rooted (join_with_byte backslash segments)
+  clean-prefixed = ap (cleaned windows) read ∙ behind-append raw (join_with_byte backslash segments) rooted
+
+  module _ (qs : List Part) (again : parts_of windows (clean_text windows t) ≡ prefix_part p raw ∷ qs) (behind : kinds qs ≡ lead rooted (rising ks) (kept_names ks)) where
+    root-again : begins_with_root (kinds qs) ≡ rooted
+    root-again = ap begins_with_root behind ∙ lead-rooted rooted (rising ks) (kept_names ks)
+
+    anchored-again : is_anchored (prefix p ∷ kinds qs) ≡ is_anchored ks
+    anchored-again = ap (λ b. not (is_disk p) || b) root-again ∙ by (is_disk p) (begins_with_root (kinds ps)) (not (length segments == 0))
+      where
+        by : (drives there some : Bool) → (not drives || (there || (not drives && some))) ≡ (not drives || there)
+        by true true some = refl
+        by true false some = refl
+        by false there some = refl
+
+    leads-again : LeadsAs (prefix p ∷ kinds qs) ks
+    leads-again =
+        leads-by (prefix p ∷ kinds qs) (is_anchored ks) (rising ks) (kept_names ks) anchored-again (anchored-stays ks)
+        (ap unmet behind ∙ lead-unmet rooted (rising ks) (kept_names ks)) (ap kept_names behind ∙ lead-names rooted (rising ks) (kept_names ks))
+
+    pub prefixed-form : prefix_of windows (clean_text windows t) ≡ prefix_of windows t → IsCleanForm windows t (clean_text windows t)
+    prefixed-form same = record {
+      prefix = same;
+      route =
+          ap (λ rs. routed (kinds rs)) again
+          ∙ ap (λ b. headed (Some p) b ++ ups (rising (prefix p ∷ kinds qs)) (kept_names (prefix p ∷ kinds qs))) anchored-again
+          ∙ ap₂ (λ n names. headed (Some p) (is_anchored ks) ++ ups n names) leads-again.rising leads-again.names
+          ∙ ap (λ rs. routed (kinds rs)) (sym read);
+      stays =
+          ap (cleaned windows) again
+          ∙ ap₂ (λ n names. clean_by windows (prefix_part p raw ∷ qs) (dots n ++ names)) leads-again.rising leads-again.names
+          ∙ ap (λ b. (raw ++ (if b || (not (is_disk p) && not (length segments == 0)) then backslash ∷ [] else [])) ++ join_with_byte backslash segments) root-again
+          ∙ ap (λ b. (raw ++ (if b then backslash ∷ [] else [])) ++ join_with_byte backslash segments) (twice (begins_with_root (kinds ps)) (not (is_disk p) && not (length segments == 0)))
+          ∙ behind-append raw (join_with_byte backslash segments) rooted
+          ∙ sym clean-prefixed;
+    }
+      where
+        twice : (a b : Bool) → ((a || b) || b) ≡ (a || b)
+        twice true b = refl
+        twice false true = refl
+        twice false false = refl
+
+-- The clean text of a path with a prefix, case by case.
+
+-- what is read behind the prefix, once that is read again
+module _ (t : List ℕ) (f : Found) (is : prefix_of windows t ≡ Some f) where
+  abbrev front : List ℕ
+  front = take f.length t
+
+  abbrev back : List Part
+  back = body_parts (separators windows t) (drop f.length t)
+
+  abbrev own : List Kind
+  own = prefix f.prefix ∷ kinds (body_parts (separators windows t) (drop f.length t))
+
+  abbrev joined : List ℕ
+  joined = join_with_byte backslash (segments_of (prefix f.prefix ∷ kinds (body_parts (separators windows t) (drop f.length t))))
+
+  abbrev is_rooted : Bool
+  is_rooted = rooted_by f.prefix (kinds (body_parts (separators windows t) (drop f.length t))) (segments_of (prefix f.prefix ∷ kinds (body_parts (separators windows t) (drop f.length t))))
+
+  -- what stands behind the prefix is read as it is to be
+  behind-read : kinds (body_parts (separators windows t) (behind_text is_rooted joined)) ≡ lead is_rooted (rising own) (kept_names own)
+  behind-read = by is_rooted
+    where
+      separates : is_separator (separators windows t) backslash ≡ true
+      separates = backslash-separates (separators windows t) (separators-windows t)
+
+      clean : AllByRecursion (IsCleanName (separators windows t)) (kept_names own)
+      clean = names-clean (separators windows t) back (each-written (separators windows t) back (body_parts-read (separators windows t) (drop f.length t)))
+
+      by : (b : Bool) → kinds (body_parts (separators windows t) (behind_text b joined)) ≡ lead b (rising own) (kept_names own)
+      by true = read-root (separators windows t) backslash separates (rising own) (kept_names own) clean
+      by false = read-ups (separators windows t) backslash separates (rising own) (kept_names own) clean
+
+  -- where the prefix stays before what stands behind it, the clean text has its form
+  stays-form : f.length ≡ length front → separators windows (front ++ behind_text is_rooted joined) ≡ separators windows t
+      → prefix_of windows (front ++ behind_text is_rooted joined) ≡ Some f → IsCleanForm windows t (clean_text windows t)
+  stays-form size same stays =
+      let text = behind_text is_rooted joined in
+      let read = parts_of-some t f is in
+      let again : parts_of windows (front ++ text) ≡ prefix_part f.prefix front ∷ body_parts (separators windows t) text =
+      parts_of-some (front ++ text) f stays
+      ∙ ap₂ (λ u v. prefix_part f.prefix u ∷ body_parts (separators windows (front ++ text)) v) (take_at front text f.length (sym size)) (drop_at front text f.length (sym size))
+      ∙ ap (λ s. prefix_part f.prefix front ∷ body_parts s text) same in
+      prefixed-form t f.prefix front back read (body_parts (separators windows t) text)
+      (ap (parts_of windows) (clean-prefixed t f.prefix front back read) ∙ again) behind-read
+      (ap (prefix_of windows) (clean-prefixed t f.prefix front back read) ∙ stays ∙ sym is)
+
+-- under a drive
+drive-form : (t : List ℕ) (letter : ℕ) → prefix_of windows t ≡ Some (found (disk letter) 2) → drive t ≡ Some letter → IsCleanForm windows t (clean_text windows t)
+drive-form t letter is drives =
+    let f = found (disk letter) 2 in
+    let text = behind_text (is_rooted t f is) (joined t f is) in
+    let cut : drive (take 2 t) ≡ Some letter = drive-take 2 t (omega arith) ∙ drives in
+    stays-form t f is (omega (arith, length-take 2 t, drive-size t letter drives))
+    (ap (λ b. if b then Backslash else Either) (drive-plain (take 2 t ++ text) letter (drive-extends (take 2 t) text letter cut) ∙ sym (drive-plain t letter drives)))
+    (drive-stays (take 2 t) text letter cut)
+
+-- a list of a text without anything behind its prefix
+whole-form : (t : List ℕ) (f : Found) → prefix_of windows t ≡ Some f → is_disk f.prefix ≡ false → length t ≤ f.length → clean_text windows t ≡ t
+whole-form t f is other most =
+    let read : parts_of windows t ≡ prefix_part f.prefix t ∷ [] =
+    parts_of-some t f is
+    ∙ ap₂ (λ u v. prefix_part f.prefix u ∷ body_parts (separators windows t) v) (take_all f.length t most) (drop_all f.length t most) in
+    clean-prefixed t f.prefix t [] read ∙ by (is_disk f.prefix) other
+  where
+    by : (drives : Bool) → drives ≡ false
+        → t ++ behind_text (not drives && not (length (dots (if not drives || false then 0 else 0) ++ []) == 0)) (join_with_byte backslash (dots (if not drives || false then 0 else 0) ++ [])) ≡ t
+    by true e = cc
+    by false e = append-nil t
+
+-- later components begin with no root
+later-unrooted : (s : Separators) (ps : List Part) → AllByRecursion (IsLaterPart s) ps → begins_with_root (kinds ps) ≡ false
+later-unrooted s [] each = refl
+later-unrooted s (p ∷ ps) each = by p.kind each.0
+  where
+    by : (k : Kind) → IsLater s k p.text → begins_with_root (k ∷ kinds ps) ≡ false
+    by root later = absurd later
+    by (prefix q) later = refl
+    by current later = refl
+    by parent later = refl
+    by (normal name) later = refl
+
+-- a list begins with a root where what it resolves to does
+resolve-rooted : (s : Separators) (ps : List Part) → AreRead s ps → begins_with_root (kinds (resolve ps)) ≡ true → begins_with_root (kinds ps) ≡ true
+resolve-rooted s [] read h = h
+resolve-rooted s (p ∷ ps) read h = by p.kind refl
+  where
+    none : begins_with_root (kinds (resolve ps)) ≡ false
+    none = later-unrooted s (resolve ps) (resolve-each (IsLaterPart s) ps read.1)
+
+    kept : (b : Bool) → begins_with_root (p.kind ∷ []) ≡ false → begins_with_root (kinds ((if b then p ∷ [] else []) ++ resolve ps)) ≡ false
+    kept true e = at p.kind e
+      where
+        at : (k : Kind) → begins_with_root (k ∷ []) ≡ false → begins_with_root (k ∷ kinds (resolve ps)) ≡ false
+        at root e = e
+        at (prefix q) e = refl
+        at current e = refl
+        at parent e = refl
+        at (normal name) e = refl
+    kept false e = none
+
+    by : (k : Kind) → p.kind ≡ k → begins_with_root (k ∷ kinds ps) ≡ true
+    by root e = refl
+    by k e = absurd (both_ways _ (kept (stays p.kind (kinds ps)) (ap (λ l. begins_with_root (l ∷ [])) e)) h)
+
+none-more : (drives z : Bool) → drives ≡ false → (not drives && not z) ≡ false → z ≡ true
+none-more true z e h = cc
+none-more false true e h = refl
+none-more false false e h = cc
+
+nothing-joined : (segments : List (List ℕ)) → (length segments == 0) ≡ true → join_with_byte backslash segments ≡ []
+nothing-joined [] e = refl
+nothing-joined (s ∷ segments) e = let same : length (s ∷ segments) ≡ 0 = eqb-true _ _ e in cc
+
+-- under another prefix, with more behind it
+parted-form : (t : List ℕ) (f : Found) → prefix_of windows t ≡ Some f → is_disk f.prefix ≡ false → is_verbatim_unc_name (Some f.prefix) ≡ false → f.length < length t → IsCleanForm windows t (clean_text windows t)
+parted-form t f is other no_unc more =
+    let fine = by (is_rooted t f is) refl in
+    let stays = parted-stays t (behind_text (is_rooted t f is) (joined t f is)) f is other no_unc more fine.0 fine.1 in
+    stays-form t f is (omega (arith, length-take f.length t, more)) stays.0 stays.1
+  where
+    s : Separators
+    s = separators windows t
+
+    rest : List Part
+    rest = body_parts (separators windows t) (drop f.length t)
+
+    no_bare : begins_with_root (kinds rest) ≡ false → f.prefix ≡ verbatim [] → ⊥
+    no_bare unrooted bare = elim (root-behind t f is other more) [
+      | inl drive ↦ differ drive.0 (sym bare ∙ drive.1)
+      | inr there ↦ both_ways _ unrooted (resolve-rooted s rest (body_parts-read s (drop f.length t)) there)
+    ]
+      where
+        differ : (letter : ℕ) → verbatim [] ≡ verbatim_disk letter → ⊥
+        differ letter e = cc
+
+    by : (b : Bool) → is_rooted t f is ≡ b → Apart s (behind_text b (joined t f is)) × (f.prefix ≡ verbatim [] → 0 < length (behind_text b (joined t f is)))
+    by true e = (parted backslash (joined t f is) (backslash-separates s (separators-windows t)), λ bare. omega arith)
+    by false e =
+        let both = or_parts (begins_with_root (kinds rest)) _ e in
+        let empty : joined t f is ≡ [] = nothing-joined (segments_of (own t f is)) (none-more (is_disk f.prefix) _ other both.1) in
+        (subst (Apart s) (sym empty) nothing, λ bare. absurd (no_bare both.0 bare))
+
+-- The clean text of Windows leads where the path leads, and is its own clean text.
+windows-form : (t : List ℕ) → is_verbatim_unc_name (prefix_kind windows t) ≡ false → IsCleanForm windows t (clean_text windows t)
+windows-form t no_unc = by (prefix_of windows t) refl
+  where
+    drives_form : (f : Found) → Read (separators windows t) t f → prefix_of windows t ≡ Some f → is_disk f.prefix ≡ true → IsCleanForm windows t (clean_text windows t)
+    drives_form _ (of_disk letter drives) is kind = drive-form t letter is drives
+    drives_form f read is kind = cc
+
+    same-form : clean_text windows t ≡ t → IsCleanForm windows t (clean_text windows t)
+    same-form e = record { prefix = ap (prefix_of windows) e; route = ap (route windows) e; stays = ap (clean_text windows) e }
+
+    by : (o : Option Found) → prefix_of windows t ≡ o → IsCleanForm windows t (clean_text windows t)
+    by None is = plain-form windows t is
+    by (Some f) is =
+        let no = ap (λ o. is_verbatim_unc_name (option_map (λ g. g.prefix) o)) (sym is) ∙ no_unc in
+        elim (cases_Bool (is_disk f.prefix)) [
+          | inl drives ↦ drives_form f (prefix-read t f is) is drives
+          | inr other ↦ elim (cases_lt f.length (length t)) [
+            | inl more ↦ parted-form t f is other no more
+            | inr most ↦ same-form (whole-form t f is other most)
+          ]
+        ]
+
+-- so it is in each dialect
+pub clean_form : (d : Dialect) (t : List ℕ) → HasCleanForm d t (clean_text d t)
+clean_form unix t no_unc = plain-form unix t refl
+clean_form windows t no_unc = windows-form t no_unc

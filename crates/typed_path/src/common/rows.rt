@@ -1,0 +1,211 @@
+//! Parents and names in rows behind a text: what the normal and the clean text of a path are made of.
+//!
+//! Each name is put behind the ones before it with a separator behind it, and a `..` takes the last one off
+//! again. One that finds no name is dropped where the path is anchored; else it is put too, and from there on
+//! the names begin behind it.
+
+ghost use Rattle.std.specs.Prelude.{◌≡◌, ◌<◌, ◌≤◌, ◌+◌, ◌++◌, ◌∷◌, List, ℕ, [], take, length, IfOk, IsOk, OnOk, OnErr, MatchOption};
+ghost use Rattle.std.specs.List.{slice_split};
+ghost use Rattle.std.specs.Vec.{vec_len, vec_capacity};
+ghost use Rattle.typed_path.specs.components.{Kind, is_separator};
+ghost use Rattle.typed_path.specs.places.{AreKept, ArePut, TellsNamesOf, kept_segments, row_end, rows_of, segment_kind, segment_kinds};
+ghost use Rattle.typed_path.specs.scan.{turned};
+
+use crate::common::writing::{append_first, behind_segment, drop_name, has_room, put_turned};
+use crate::scan::{Separators, StepKind, cut_at_separator, leading_short_names, step_of};
+use std::alloc::AllocError;
+
+/// Puts the parents that are left over and the names that are kept of a path behind a text, each with a
+/// separator behind it. Where names stand side by side they are put at once; all others are settled segment by
+/// segment, and so are all where there is no room for the whole path.
+#[inline(always)]
+pub fn put_kept(
+    text: &mut Vec<u8>,
+    path: &[u8],
+    separators: Separators,
+    anchored: bool,
+) -> Result<(), AllocError>
+    ensures ok { OnOk result (text.new.items ≡ text.old.items
+        ++ rows_of separators (kept_segments anchored (segment_kinds separators path.now))) }
+    ensures kept { take (length text.old.items) text.new.items ≡ text.old.items }
+    ensures room { OnOk result (vec_len text.new ≤ vec_len text.old + length path.now + 1) }
+    ensures capacity { vec_capacity text.old ≤ vec_capacity text.new }
+    ensures succeeds { vec_len text.old + length path.now < vec_capacity text.old → IsOk result }
+{
+    let mut floor = text.len();
+    let mut rest = behind_segment(b"", path, separators);
+    'segments: loop {
+        let names = leading_names(rest, separators);
+        if matches!(names, Some(0)) || !has_room(text, rest) {
+            return put_one_by_one(text, floor, rest, separators, anchored);
+        }
+        let Some(left) = put_names(text, rest, names, separators)? else {
+            return Ok(());
+        };
+        let Some((segment, behind)) = cut_at_separator(separators, left) else {
+            put_segment(text, floor, left, left, separators, anchored)?;
+            return Ok(());
+        };
+        floor = put_segment(text, floor, segment, left, separators, anchored)?;
+        rest = behind_segment(segment, behind, separators);
+    }
+}
+
+/// How many bytes at the front of a text are names, each with a separator behind it, as looks at its bytes
+/// tell; none where each segment is a name.
+#[inline(always)]
+fn leading_names(text: &[u8], separators: Separators) -> Option<usize>
+    ensures { TellsNamesOf separators text.now result }
+{
+    leading_short_names(text, separators.pair())
+}
+
+/// Settles the segments of a path one by one behind the names that stand.
+#[inline(always)]
+fn put_one_by_one(
+    text: &mut Vec<u8>,
+    floor: usize,
+    path: &[u8],
+    separators: Separators,
+    anchored: bool,
+) -> Result<(), AllocError>
+    requires { floor ≤ length text.old.items }
+    ensures ok { OnOk result ((head : List ℕ) (whole : List Kind)
+        → AreKept separators anchored head text.old.items floor (segment_kinds separators path.now)
+        whole → text.new.items ≡ head ++ rows_of separators (kept_segments anchored whole)) }
+    ensures kept { take floor text.new.items ≡ take floor text.old.items }
+    ensures room { OnOk result (vec_len text.new ≤ vec_len text.old + length path.now + 1) }
+    ensures capacity { vec_capacity text.old ≤ vec_capacity text.new }
+    ensures succeeds { vec_len text.old + length path.now < vec_capacity text.old → IsOk result }
+{
+    let mut begin = floor;
+    let mut rest = path;
+    'segments: while let Some((segment, behind)) = cut_at_separator(separators, rest) {
+        begin = put_segment(text, begin, segment, rest, separators, anchored)?;
+        rest = behind_segment(segment, behind, separators);
+    }
+    put_segment(text, begin, rest, rest, separators, anchored)?;
+    Ok(())
+}
+
+/// Puts the names that a path is told to begin with behind a text, each with a separator behind it, and answers
+/// what is left; none where all of it was put.
+#[inline(always)]
+pub fn put_names<'a>(
+    text: &mut Vec<u8>,
+    path: &'a [u8],
+    names: Option<usize>,
+    separators: Separators,
+) -> Result<Option<&'a [u8]>, AllocError>
+    requires { TellsNamesOf separators path.now names }
+    ensures ok { IfOk result (λ left. MatchOption left
+        (ArePut separators text.old.items text.new.items
+        (slice_split (is_separator separators) path.now) [])
+        (λ rest. ArePut separators text.old.items text.new.items
+        (slice_split (is_separator separators) path.now)
+        (slice_split (is_separator separators) rest.now))) }
+    ensures front { take (length text.old.items) text.new.items ≡ text.old.items }
+    ensures room { IfOk result (λ left. MatchOption left
+        (vec_len text.new ≡ vec_len text.old + length path.now + 1)
+        (λ rest. vec_len text.new + length rest.now ≡ vec_len text.old + length path.now)) }
+    ensures capacity { vec_capacity text.old ≤ vec_capacity text.new }
+    ensures succeeds { vec_len text.old + length path.now < vec_capacity text.old → IsOk result }
+{
+    let Some(names) = names else {
+        put_turned_where(text, path, separators)?;
+        text.push(row_end(separators))?;
+        return Ok(None);
+    };
+    put_turned_where(text, &path[..names], separators)?;
+    Ok(Some(&path[names..]))
+}
+
+/// Puts a text behind another, each of its separators written as the one that is written behind a segment.
+#[inline(always)]
+fn put_turned_where(
+    text: &mut Vec<u8>,
+    source: &[u8],
+    separators: Separators,
+) -> Result<(), AllocError>
+    ensures ok { OnOk result (text.new.items
+        ≡ text.old.items ++ turned separators (row_end separators) source.now) }
+    ensures err { OnErr result (text.new.items ≡ text.old.items) }
+    ensures capacity { vec_capacity text.old ≤ vec_capacity text.new }
+    ensures succeeds { vec_len text.old + length source.now ≤ vec_capacity text.old → IsOk result }
+{
+    match separators {
+        Separators::Either => put_turned(text, source, Separators::Either, b'\\'),
+        Separators::Slash | Separators::Backslash => text.extend_from_slice(source),
+    }
+}
+
+/// Settles one more segment, which is what the rest begins with, behind the names that begin at a place, and
+/// answers where the names begin then.
+#[inline(always)]
+fn put_segment(
+    text: &mut Vec<u8>,
+    floor: usize,
+    segment: &[u8],
+    rest: &[u8],
+    separators: Separators,
+    anchored: bool,
+) -> Result<usize, AllocError>
+    requires within { floor ≤ length text.old.items }
+    requires front { take (length segment.now) rest.now ≡ segment.now }
+    ensures ok { IfOk result (λ next. (head : List ℕ) (left whole : List Kind)
+        → slice_split (is_separator separators) segment.now ≡ segment.now ∷ []
+        → AreKept separators anchored head text.old.items floor
+        (segment_kind segment.now ∷ left) whole
+        → AreKept separators anchored head text.new.items next left whole) }
+    ensures within { IfOk result (λ next. (floor ≤ next) × (next ≤ length text.new.items)) }
+    ensures kept { take floor text.new.items ≡ take floor text.old.items }
+    ensures long { floor ≤ length text.new.items }
+    ensures room { vec_len text.new ≤ vec_len text.old + length segment.now + 1 }
+    ensures capacity { vec_capacity text.old ≤ vec_capacity text.new }
+    ensures succeeds { vec_len text.old + length rest.now < vec_capacity text.old → IsOk result }
+{
+    match step_of(segment, separators).kind {
+        StepKind::ParentDir if anchored || floor < text.len() => {
+            drop_name(text, floor, separators);
+        }
+        StepKind::ParentDir => {
+            put_row(text, rest, segment.len(), separators)?;
+            return Ok(text.len());
+        }
+        StepKind::Normal => put_row(text, rest, segment.len(), separators)?,
+        StepKind::RootDir | StepKind::CurDir => {}
+    }
+    Ok(floor)
+}
+
+/// Puts the first bytes of a text behind another, with a separator behind them.
+#[inline(always)]
+fn put_row(
+    text: &mut Vec<u8>,
+    rest: &[u8],
+    len: usize,
+    separators: Separators,
+) -> Result<(), AllocError>
+    requires { len ≤ length rest.now }
+    ensures ok { OnOk result (text.new.items
+        ≡ (text.old.items ++ take len rest.now) ++ row_end separators ∷ []) }
+    ensures kept { take (length text.old.items) text.new.items ≡ text.old.items }
+    ensures room { vec_len text.new ≤ vec_len text.old + len + 1 }
+    ensures capacity { vec_capacity text.old ≤ vec_capacity text.new }
+    ensures succeeds { vec_len text.old + length rest.now < vec_capacity text.old → IsOk result }
+{
+    append_first(text, rest, len)?;
+    text.push(row_end(separators))?;
+    Ok(())
+}
+
+/// The separator that is written behind a segment.
+#[inline(always)]
+pub fn row_end(separators: Separators) -> u8
+    ensures { result ≡ row_end separators }
+{
+    match separators {
+        Separators::Slash => b'/',
+        Separators::Backslash | Separators::Either => b'\\',
+    }
+}
