@@ -62,15 +62,16 @@ exports!((path: *const u8, len: usize):
     bench_file_name bench_extension bench_to_path_buf bench_normalize bench_clean bench_first bench_hash bench_windows_hash
     bench_windows_walk
     bench_windows_walk_back bench_windows_first bench_windows_last bench_windows_parent
-    bench_windows_ancestors bench_is_valid bench_windows_is_valid bench_windows_keeps_prefix bench_to_string_lossy
-    bench_windows_file_name bench_windows_extension bench_windows_normalize bench_windows_clean bench_to_windows
+    bench_windows_ancestors bench_is_valid bench_windows_is_valid bench_windows_keeps_prefix bench_windows_simplified
+    bench_to_string_lossy bench_windows_file_name bench_windows_extension bench_windows_normalize bench_windows_clean
+    bench_to_windows
     bench_to_windows_checked bench_windows_to_unix bench_windows_to_unix_checked);
 
 exports!((path: *const u8, len: usize, other: *const u8, other_len: usize):
-    bench_starts_with bench_is_within bench_strip_prefix bench_ends_with bench_join bench_join_checked
-    bench_with_file_name bench_with_extension bench_eq bench_cmp bench_windows_eq bench_windows_cmp bench_windows_join bench_windows_join_checked
+    bench_starts_with bench_common_ancestor bench_is_within bench_relative_to bench_strip_prefix bench_ends_with bench_join bench_join_checked
+    bench_with_file_name bench_with_extension bench_with_added_extension bench_eq bench_cmp bench_windows_eq bench_windows_cmp bench_windows_join bench_windows_join_checked
     bench_extend bench_windows_extend
-    bench_windows_starts_with bench_windows_is_within bench_windows_strip_prefix
+    bench_windows_starts_with bench_windows_is_within bench_windows_relative_to bench_windows_strip_prefix
     bench_windows_with_extension bench_absolutize);
 
 exports!((texts: *const u8, len: usize, ends: *const usize, count: usize, other: *const u8, other_len: usize):
@@ -622,8 +623,12 @@ fn rows(corpus: &Corpus) -> Vec<Row<'_>> {
         whole.two("`starts_with` of the first half", half, bench_starts_with, Some(starts_with)),
         whole.two("`starts_with`, differs late", late, bench_starts_with, Some(starts_with)),
         whole.two("`starts_with`, written otherwise", otherwise, bench_starts_with, Some(starts_with)),
+        whole.two("`common_ancestor` with the first half", half, bench_common_ancestor, Some(common_ancestor)),
+        whole.two("`common_ancestor`, differs late", late, bench_common_ancestor, Some(common_ancestor)),
         whole.two("`is_within` of the first half", half, bench_is_within, Some(is_within)),
         whole.two("`is_within`, differs late", late, bench_is_within, Some(is_within)),
+        whole.two("`relative_to` the first half", half, bench_relative_to, Some(relative_to)),
+        whole.two("`relative_to`, differs late", late, bench_relative_to, Some(relative_to)),
         whole.two("`strip_prefix` of the first half", half, bench_strip_prefix, Some(strip_prefix)),
         whole.two("`strip_prefix`, differs late", late, bench_strip_prefix, Some(strip_prefix)),
         whole.two("`strip_prefix`, written otherwise", otherwise, bench_strip_prefix, Some(strip_prefix)),
@@ -656,6 +661,12 @@ fn rows(corpus: &Corpus) -> Vec<Row<'_>> {
             |at| (paths.at(at), EXTENSION),
             bench_with_extension,
             Some(|path, extension| made(path.with_extension(extension))),
+        ),
+        whole.two(
+            "`with_added_extension`",
+            |at| (paths.at(at), EXTENSION),
+            bench_with_added_extension,
+            Some(|path, extension| made(path.with_added_extension(extension))),
         ),
         whole.one("`normalize`", paths, bench_normalize, std_normalize),
         whole.one("`normalize`, with dots", &corpus.dotted, bench_normalize, std_normalize),
@@ -791,7 +802,14 @@ fn windows_rows(corpus: &Corpus, at: usize) -> Vec<Row<'_>> {
         ),
         halved("`starts_with` of the first half", bench_windows_starts_with, bench_starts_with),
         halved("`is_within` of the first half", bench_windows_is_within, bench_is_within),
+        // No `..` takes a prefix away, so only that there is an answer is compared.
+        whole.row(
+            "`relative_to` the first half",
+            each(whole.calls(), move |at| usize::from(call(bench_windows_relative_to, paths.at(at), half(paths.at(at))) != usize::MAX)),
+            each(whole.calls(), move |at| usize::from(call(bench_relative_to, other.at(at), half(other.at(at))) != usize::MAX)),
+        ),
         whole.alone("`keeps_prefix`", paths, bench_windows_keeps_prefix),
+        whole.alone("`simplified`", paths, bench_windows_simplified),
         halved("`strip_prefix` of the first half", bench_windows_strip_prefix, bench_strip_prefix),
         whole.row(
             "`==`, separators otherwise",
@@ -833,6 +851,11 @@ fn starts_with(path: &Path, base: &Path) -> usize {
     usize::from(path.starts_with(base))
 }
 
+/// The first path above, or the path itself, that the other begins with, in the plain way.
+fn common_ancestor(path: &Path, other: &Path) -> usize {
+    path.ancestors().find(|above| other.starts_with(above)).map_or(1, len)
+}
+
 /// The path without `.` and the names that a `..` takes away, in the plain way that is known to work.
 fn cleaned(path: &Path) -> PathBuf {
     let mut left = Vec::new();
@@ -856,6 +879,41 @@ fn std_clean(path: &Path) -> usize {
 
 fn is_within(path: &Path, base: &Path) -> usize {
     usize::from(cleaned(path).starts_with(cleaned(base)))
+}
+
+/// The path that leads from a base to a path, in the plain way: component by component as they are written.
+fn led(path: &Path, base: &Path) -> Option<PathBuf> {
+    if path.is_absolute() != base.is_absolute() {
+        return None;
+    }
+    let (mut own, mut other) = (path.components(), base.components());
+    let mut led = Vec::new();
+    loop {
+        match (own.next(), other.next()) {
+            (None, None) => break,
+            (Some(piece), None) => {
+                led.push(piece);
+                led.extend(own.by_ref());
+                break;
+            }
+            (None, Some(_)) => led.push(Component::ParentDir),
+            (Some(piece), Some(base)) if led.is_empty() && piece == base => {}
+            (Some(piece), Some(Component::CurDir)) => led.push(piece),
+            (Some(_), Some(Component::ParentDir)) => return None,
+            (Some(piece), Some(_)) => {
+                led.push(Component::ParentDir);
+                led.extend(other.by_ref().map(|_| Component::ParentDir));
+                led.push(piece);
+                led.extend(own.by_ref());
+                break;
+            }
+        }
+    }
+    Some(led.iter().collect())
+}
+
+fn relative_to(path: &Path, base: &Path) -> usize {
+    led(path, base).map_or(0, made)
 }
 
 fn strip_prefix(path: &Path, base: &Path) -> usize {

@@ -15,3 +15,7 @@ pub mod Replies
 pub mod Texts
 pub mod Within
 pub mod Clean
+pub mod Relative
+pub mod Extensions
+pub mod Simplified
+pub mod Shared

@@ -7,7 +7,9 @@ mod encoding;
 mod order;
 mod path;
 mod path_buf;
+mod relative;
 mod rows;
+mod shared;
 mod texts;
 mod within;
 mod writing;
@@ -24,6 +26,6 @@ pub use path_buf::PathBuf;
 pub(crate) use rows::{put_kept, put_names};
 pub use texts::Display;
 pub use writing::{
-    append_first, behind_segment, cut_back, drop_name, drop_separator, has_room, put_over,
-    put_turned, turn_behind,
+    append_first, before_dot, behind_segment, cut_back, drop_name, drop_separator, has_room,
+    put_over, put_turned, turn_behind,
 };

@@ -7,11 +7,12 @@ ghost use Rattle.std.specs.declared.cmp.Ordering.{Ordering};
 ghost use Rattle.std.specs.Ordering.{ordering_then, nat_cmp};
 ghost use Rattle.std.specs.Hash.{isize};
 ghost use Rattle.std.specs.Str.{is_utf8};
-ghost use Rattle.typed_path.specs.components.{Dialect, dot, slash, Kind, Placed, kinds, prefix, Found, prefix_of, comps, parts_of};
+ghost use Rattle.typed_path.specs.components.{Dialect, unix, dot, slash, Kind, Placed, kinds, prefix, Found, prefix_of, comps, parts_of};
 ghost use Rattle.typed_path.specs.scan.{Side, reads, left, items_between, but_last, answers_after, items_after, slice_after, fronts, backs, IsWhole, IsLaidOut};
-ghost use Rattle.typed_path.specs.queries.{is_child_of, IsOneBelow, parent_of, prefix_in, is_a_dot, stem_of, extension_of, ancestors_of};
+ghost use Rattle.typed_path.specs.queries.{is_child_of, IsOneBelow, parent_of, prefix_in, is_a_dot, stem_of, extension_of, ancestors_of, common_ancestor_of};
+ghost use Rattle.typed_path.specs.changes.{push, with_extension};
 ghost use Rattle.typed_path.specs.places.{clean_text};
-ghost use Rattle.typed_path.specs.promises.{AreCleanAlike, HasCleanForm, LeadAlike, IsWithinExactly, LeadsBelow, JoinAppends, StripJoins, ReadsAsResolved, StaysNormal, IsCanonical, HashAlike, CrossesWhereAllowed, CrossesAsItIs, CrossesBack, CrossesToUnix};
+ghost use Rattle.typed_path.specs.promises.{AreCleanAlike, HasCleanForm, LeadAlike, IsWithinExactly, LeadsBelow, JoinAppends, StripJoins, ReadsAsResolved, StaysNormal, IsCanonical, HashAlike, CrossesWhereAllowed, CrossesAsItIs, CrossesBack, CrossesToUnix, IsLongest, ShareNothing, ExtendsName, CleanLeadsAlike, HasNone, HasNoneAtAll, HasNoneOnUnix, IsDotAlike, LeadsBack, StaysRelative};
 ghost use Rattle.typed_path.specs.order.{IsSame, is_same, path_cmp, kind_cmp, bytes_cmp, text_unix_words, text_prefix_words, text_kind_words, text_windows_words, text_piece_words};
 ghost use Rattle.typed_path.specs.views.PieceViews.{kind_view, part_of};
 ghost use Rattle.typed_path.specs.views.UnixViews.{unix_part};
@@ -45,7 +46,8 @@ use crate::utf8::{
 use crate::windows::WindowsEncoding;
 use std::hash::Hash;
 pub use windows::{
-    normal_stays_stable, prefixed_within_leads_below, windows_components_compare_by_kind,
+    normal_stays_stable, prefixed_within_leads_below, relative_leads_back_on_windows,
+    simplified_is_alike_behind, simplified_stays, windows_components_compare_by_kind,
     windows_constants_are_these, windows_prefix_components_compare_by_kind,
     windows_prefixes_compare_by_kind,
 };
@@ -244,6 +246,14 @@ pub fn join_appends(base: &[u8], path: &[u8])
     ensures { JoinAppends base.now path.now }
 {}
 
+/// A path onto which another is pushed has at most three bytes more than both, and one with another extension
+/// at most one byte more than the path and the extension.
+pub fn joined_is_short(base: &[u8], path: &[u8])
+    ghost d: { Dialect }
+    ensures joined { length (push d base.now path.now) ≤ length base.now + length path.now + 3 }
+    ensures extended { length (with_extension d base.now path.now) ≤ length base.now + length path.now + 1 }
+{}
+
 /// Where a Unix path begins with a base, what is left behind the base, joined to it, equals the path.
 #[tactic(auto, using(crate::proofs::lemmas::promises::UnixContained::strip_joins))]
 pub fn strip_joins(path: &[u8], base: &[u8])
@@ -287,11 +297,55 @@ pub fn routes_tell_places(directory: &[u8], path: &[u8], other: &[u8])
     ensures { LeadAlike d directory.now path.now other.now }
 {}
 
+/// In each dialect, from every absolute directory that keeps its prefix, a clean path lies where its path does, but
+/// behind the verbatim prefix that is named `UNC`.
+#[tactic(auto, using(crate::proofs::lemmas::promises::RouteBehind::clean_leads_alike))]
+pub fn clean_leads_where_its_path_does(directory: &[u8], path: &[u8])
+    ghost d: { Dialect }
+    ensures { CleanLeadsAlike d directory.now path.now }
+{}
+
 /// The clean text of a text in UTF-8 is one.
 #[tactic(auto, using(crate::proofs::lemmas::texts::TextClean::clean_laws))]
 pub fn clean_stays_a_text(path: &[u8])
     ghost d: { Dialect }
     ensures { is_utf8 path.now ≡ true → is_utf8 (clean_text d path.now) ≡ true }
+{}
+
+/// A path that leads from a base to another has neither a prefix nor a root.
+#[tactic(auto, using(crate::proofs::lemmas::promises::StepsRead::stays_relative))]
+pub fn relative_stays_relative(path: &[u8], base: &[u8])
+    ghost d: { Dialect }
+    ensures { StaysRelative d path.now base.now }
+{}
+
+/// On Unix it leads, joined to its base, where the path leads.
+#[tactic(auto, using(crate::proofs::lemmas::promises::UnixRelative::leads_unix))]
+pub fn relative_leads_back(path: &[u8], base: &[u8])
+    ensures { LeadsBack unix path.now base.now }
+{}
+
+/// There is none exactly where the two begin differently, the base leads higher, or no text without a prefix is
+/// read with the names that are left.
+pub fn relative_has_none(path: &[u8], base: &[u8])
+    ghost d: { Dialect }
+    ensures { HasNone d path.now base.now }
+{}
+
+/// On Unix there is none exactly where one of the two alone has a root, or more parents of the base are left over.
+pub fn relative_has_none_on_unix(path: &[u8], base: &[u8])
+    ensures { HasNoneOnUnix path.now base.now }
+{}
+
+/// On Unix there is none exactly where no relative path leads from the base to the path.
+#[tactic(auto, using(crate::proofs::lemmas::promises::UnixRelative::has_none_at_all))]
+pub fn relative_has_none_at_all(path: &[u8], base: &[u8])
+    ensures { HasNoneAtAll path.now base.now }
+{}
+
+/// On Unix `.` leads from a base to a path exactly where both have one route.
+pub fn dot_leads_to_the_same(path: &[u8], base: &[u8])
+    ensures { IsDotAlike path.now base.now }
 {}
 
 /// Single components of Unix are equal, compare and hash as their kinds say.
@@ -547,4 +601,23 @@ pub fn typed_iterators_are_cloned<'a>(
     ensures same_text_ancestors { (copy : _)
         → ⟦<Utf8TypedAncestors<'a> as Clone>⟧.is_clone text_ancestors.entry copy
         → copy ≡ text_ancestors.entry }
+{}
+
+/// Two paths begin with their common ancestor, and it begins with each path that both begin with. Where there
+/// is none, no path with a component begins both.
+#[tactic(auto, using(crate::proofs::lemmas::promises::Shared::longest, crate::proofs::lemmas::promises::Shared::share_nothing))]
+pub fn common_ancestor_is_longest(path: &[u8], other: &[u8])
+    ghost d: { Dialect }
+    ensures some { (common : List ℕ)
+        → common_ancestor_of d path.now other.now ≡ Some common
+        → IsLongest d path.now other.now common }
+    ensures none { common_ancestor_of d path.now other.now ≡ None
+        → ShareNothing d path.now other.now }
+{}
+
+/// With one extension more, in which no byte separates its components, a path has its parent, and its file name
+/// with that behind it, but for a prefix that is the verbatim one named `UNC`.
+pub fn added_extension_keeps_the_parent(path: &[u8], extension: &[u8])
+    ghost d: { Dialect }
+    ensures { ExtendsName d path.now extension.now }
 {}

@@ -4,6 +4,7 @@ mod component;
 mod encoding;
 mod normal;
 mod push;
+mod simple;
 
 use crate::common::{Path, PathBuf};
 pub use crate::scan::WindowsPrefix;

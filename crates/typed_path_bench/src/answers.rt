@@ -35,6 +35,13 @@ pub extern "C" fn bench_starts_with(path: &[u8], base: &[u8]) -> usize {
     usize::from(UnixPath::new(path).starts_with(UnixPath::new(base)))
 }
 
+/// What the path and another begin with.
+#[unsafe(no_mangle)]
+pub extern "C" fn bench_common_ancestor(path: &[u8], other: &[u8]) -> usize {
+    let common = UnixPath::new(path).common_ancestor(UnixPath::new(other));
+    common.map_or(1, |common| common.as_bytes().len())
+}
+
 /// Whether the path lies at a base or below it.
 #[unsafe(no_mangle)]
 pub extern "C" fn bench_is_within(path: &[u8], base: &[u8]) -> usize {

@@ -53,6 +53,16 @@ pub extern "C" fn bench_with_extension(alloc: Global, path: &[u8], extension: &[
     length_of(UnixPath::new(path).with_extension(alloc, extension))
 }
 
+/// A copy with one extension more.
+#[unsafe(no_mangle)]
+pub extern "C" fn bench_with_added_extension(
+    alloc: Global,
+    path: &[u8],
+    extension: &[u8],
+) -> usize {
+    length_of(UnixPath::new(path).with_added_extension(alloc, extension))
+}
+
 /// The normal text.
 #[unsafe(no_mangle)]
 pub extern "C" fn bench_normalize(alloc: Global, path: &[u8]) -> usize {
@@ -63,6 +73,16 @@ pub extern "C" fn bench_normalize(alloc: Global, path: &[u8]) -> usize {
 #[unsafe(no_mangle)]
 pub extern "C" fn bench_clean(alloc: Global, path: &[u8]) -> usize {
     length_of(UnixPath::new(path).clean(alloc))
+}
+
+/// The path that leads from a base to the path.
+#[unsafe(no_mangle)]
+pub extern "C" fn bench_relative_to(alloc: Global, path: &[u8], base: &[u8]) -> usize {
+    let found = UnixPath::new(path).relative_to(alloc, UnixPath::new(base));
+    match found {
+        Ok(Some(found)) => found.as_path().as_bytes().len(),
+        Ok(None) | Err(_) => 0,
+    }
 }
 
 /// The path as a text.

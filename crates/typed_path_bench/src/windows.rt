@@ -87,6 +87,12 @@ pub extern "C" fn bench_windows_keeps_prefix(path: &[u8]) -> usize {
     usize::from(WindowsPath::new(path).keeps_prefix())
 }
 
+/// The path without its verbatim mark.
+#[unsafe(no_mangle)]
+pub extern "C" fn bench_windows_simplified(path: &[u8]) -> usize {
+    WindowsPath::new(path).simplified().as_bytes().len()
+}
+
 /// What is left of the path behind a base.
 #[unsafe(no_mangle)]
 pub extern "C" fn bench_windows_strip_prefix(path: &[u8], base: &[u8]) -> usize {
@@ -151,4 +157,14 @@ pub extern "C" fn bench_windows_normalize(alloc: Global, path: &[u8]) -> usize {
 #[unsafe(no_mangle)]
 pub extern "C" fn bench_windows_clean(alloc: Global, path: &[u8]) -> usize {
     length_of(WindowsPath::new(path).clean(alloc))
+}
+
+/// The path that leads from a base to the path.
+#[unsafe(no_mangle)]
+pub extern "C" fn bench_windows_relative_to(alloc: Global, path: &[u8], base: &[u8]) -> usize {
+    let found = WindowsPath::new(path).relative_to(alloc, WindowsPath::new(base));
+    match found {
+        Ok(Some(found)) => found.as_path().as_bytes().len(),
+        Ok(None) | Err(_) => 0,
+    }
 }

@@ -378,6 +378,97 @@ fn is_led_within(own: &Led<'_>, base: &Led<'_>) -> bool {
     prefix == other && (leads || holds)
 }
 
+/// How many `..` of a text lead above where it begins.
+fn rising(led: &Led<'_>) -> u32 {
+    if led.is_anchored { 0 } else { led.unmet }
+}
+
+/// How many first names two texts share.
+fn shared_count(own: &Led<'_>, base: &Led<'_>) -> usize {
+    let mut shared = 0usize;
+    for (own, base) in own.names.iter().zip(&base.names) {
+        if own != base {
+            break;
+        }
+        shared = shared.saturating_add(1);
+    }
+    shared
+}
+
+/// Puts a segment behind others, with a separator between.
+fn put_segment(text: &mut Vec<u8>, separator: u8, segment: &[u8]) -> Result<(), AllocError> {
+    if !text.is_empty() {
+        text.push(separator)?;
+    }
+    text.extend_from_slice(segment)
+}
+
+/// Whether a text begins with a prefix.
+fn begins_with_prefix(alloc: Global, windows: bool, text: &[u8]) -> Result<bool, AllocError> {
+    let parts = parts_of(alloc, windows, text)?;
+    Ok(prefix_of(parts.as_slice()).is_some())
+}
+
+/// The path that leads from a base to a text, where there is one, as what their lists say of where they lead.
+fn relative(
+    alloc: Global,
+    windows: bool,
+    own: &Led<'_>,
+    base: &Led<'_>,
+) -> Result<Option<Vec<u8>>, AllocError> {
+    let prefix = prefix_of(own.parts.as_slice());
+    let (high, low) = (rising(own), rising(base));
+    if prefix != prefix_of(base.parts.as_slice())
+        || own.is_anchored != base.is_anchored
+        || high < low
+    {
+        return Ok(None);
+    }
+    let shared = if high == low {
+        shared_count(own, base)
+    } else {
+        0
+    };
+    let down = own.names.as_slice().get(shared..).unwrap_or(&[]);
+    if down.iter().any(|name| name.contains(&b'/')) {
+        return Ok(None);
+    }
+    let separator = if windows { b'\\' } else { b'/' };
+    let mut text = Vec::new(alloc);
+    for _ in shared..base.names.len() {
+        put_segment(&mut text, separator, b"..")?;
+    }
+    for _ in low..high {
+        put_segment(&mut text, separator, b"..")?;
+    }
+    for name in down {
+        put_segment(&mut text, separator, name)?;
+    }
+    let is_prefixed = begins_with_prefix(alloc, windows, text.as_slice())?;
+    if is_prefixed {
+        text.insert(0, separator)?;
+    }
+    if is_prefixed || text.is_empty() {
+        text.insert(0, b'.')?;
+    }
+    Ok(Some(text))
+}
+
+/// Whether the path that leads from one text to another is that which their lists say.
+fn is_led_alike<T: Encoding>(
+    alloc: Global,
+    windows: bool,
+    own: &Led<'_>,
+    base: &Led<'_>,
+) -> Result<bool, AllocError> {
+    let found = Path::<T>::new(own.text).relative_to(alloc, Path::new(base.text))?;
+    match (found, relative(alloc, windows, own, base)?) {
+        (Some(found), Some(wanted)) => Ok(found.as_path().as_bytes() == wanted.as_slice()),
+        (None, None) => Ok(true),
+        _ => Ok(false),
+    }
+}
+
 /// Whether two texts are equal, hashed alike, and the first within the second, as their lists say.
 fn are_compared_alike<T: Encoding>(one: &Led<'_>, two: &Led<'_>) -> bool {
     let same = are_same(one.parts.as_slice(), two.parts.as_slice());
@@ -387,7 +478,7 @@ fn are_compared_alike<T: Encoding>(one: &Led<'_>, two: &Led<'_>) -> bool {
         && path.is_within(other) == is_led_within(one, two)
 }
 
-/// Whether this is so of every pair of texts.
+/// Whether this is so of every pair of texts, and so does one lead to the other.
 fn are_all_compared_alike<T: Encoding>(
     alloc: Global,
     windows: bool,
@@ -399,13 +490,27 @@ fn are_all_compared_alike<T: Encoding>(
     }
     for one in &all {
         for two in &all {
-            if !are_compared_alike::<T>(one, two) {
+            if !are_compared_alike::<T>(one, two) || !is_led_alike::<T>(alloc, windows, one, two)? {
                 return Ok(false);
             }
         }
     }
     Ok(true)
 }
+
+/// Longer texts, which are paired with all short ones too.
+const LONGER: [&[u8]; 10] = [
+    b"../../a/..",
+    b"a/../../C/a",
+    b"/a/C/./../a",
+    br"C:a\..\..\C",
+    br"c:/a\C",
+    br"\\a\C\..\a",
+    b"//a/C/a/C",
+    br"\\?\C:\a\..\C",
+    br"\\?\C:\a/C\.",
+    br"\\?\a\C/..\a",
+];
 
 #[test]
 fn every_pair_of_short_texts(rt: HostRuntime) -> Result<(), Fail> {
@@ -417,6 +522,9 @@ fn every_pair_of_short_texts(rt: HostRuntime) -> Result<(), Fail> {
             put_numbered(&mut text, b"", length, number)?;
             texts.push(text)?;
         }
+    }
+    for longer in LONGER {
+        texts.push(Vec::from_slice(alloc, longer)?)?;
     }
     assert!(rt; are_all_compared_alike::<UnixEncoding>(alloc, false, texts.as_slice())?);
     assert!(rt; are_all_compared_alike::<WindowsEncoding>(alloc, true, texts.as_slice())?);

@@ -1,6 +1,6 @@
 //! The calls that every family has: those that change an owned path, and those that make a new one.
 
-use crate::ended::{Ended, Row, bytes, changed, text, typed, typed_text};
+use crate::ended::{Ended, Row, bytes, changed, text, there, typed, typed_text};
 use std::alloc::{AllocError, Global};
 use typed_path::{
     Encoding, Path, PathBuf, PathType, PlatformPath, TypedPath, Utf8Encoding, Utf8Path,
@@ -14,6 +14,7 @@ pub enum Change {
     PushChecked,
     SetFileName,
     SetExtension,
+    AddExtension,
     Reserve,
     TryReserve,
     ReserveExact,
@@ -27,8 +28,10 @@ pub enum Make {
     JoinChecked,
     WithFileName,
     WithExtension,
+    WithAddedExtension,
     Normalize,
     Clean,
+    RelativeTo,
     Absolutize,
     WithUnix,
     WithUnixChecked,
@@ -51,6 +54,7 @@ macro_rules! change {
             Change::PushChecked => changed($path.push_checked($other), $bytes, $row, $room),
             Change::SetFileName => changed($path.set_file_name($name), $bytes, $row, $room),
             Change::SetExtension => changed($path.set_extension($name), $bytes, $row, $room),
+            Change::AddExtension => changed($path.add_extension($name), $bytes, $row, $room),
             Change::Reserve => changed($path.reserve(MORE), $bytes, $row, $room),
             Change::TryReserve => changed($path.try_reserve(MORE), $bytes, $row, $room),
             Change::ReserveExact => changed($path.reserve_exact(MORE), $bytes, $row, $room),
@@ -67,8 +71,10 @@ macro_rules! make {
             Make::JoinChecked => $judged($path.join_checked($alloc, $other), $row),
             Make::WithFileName => $judged($path.with_file_name($alloc, $name), $row),
             Make::WithExtension => $judged($path.with_extension($alloc, $name), $row),
+            Make::WithAddedExtension => $judged($path.with_added_extension($alloc, $name), $row),
             Make::Normalize => $judged($path.normalize($alloc), $row),
             Make::Clean => $judged($path.clean($alloc), $row),
+            Make::RelativeTo => $judged(there($path.relative_to($alloc, $other)), $row),
             Make::Absolutize => $judged($path.absolutize($alloc, $at), $row),
             Make::WithUnix => $judged($path.with_unix_encoding($alloc), $row),
             Make::WithUnixChecked => $judged($path.with_unix_encoding_checked($alloc), $row),

@@ -75,6 +75,30 @@ impl Refusal for ValueError {
     }
 }
 
+/// Why a path that was asked for is not there.
+#[derive(Clone, Copy, Debug)]
+pub enum Missing {
+    /// Memory was refused.
+    Memory,
+    /// There is none.
+    NoPath,
+}
+
+impl Refusal for Missing {
+    fn is_want(&self) -> bool {
+        matches!(self, Missing::Memory)
+    }
+}
+
+/// The path that a call answers which may answer none.
+pub fn there<P: Drop>(made: Result<Option<P>, AllocError>) -> Result<P, Missing> {
+    match made {
+        Ok(Some(path)) => Ok(path),
+        Ok(None) => Err(Missing::NoPath),
+        Err(_) => Err(Missing::Memory),
+    }
+}
+
 /// What a call is asked of, what it is given, and the text that is wanted then.
 pub type Row = (&'static str, &'static str, &'static str);
 

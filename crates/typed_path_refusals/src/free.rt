@@ -46,6 +46,8 @@ macro_rules! free {
         let derived = PathType::derive(base.as_bytes()) == kind;
         let kept = $lent.keeps_prefix();
         let within = $lent.is_within($whole);
+        let shared = $lent.common_ancestor($whole) == Some($lent);
+        let apart = matches!($lent.relative_to($alloc, $parent), Ok(None));
         let joined = $lent.join_checked($alloc, $parent).err() == Some(ESCAPES);
         let pushed = $path.push_checked($parent) == Err(ESCAPES) && $bytes == base.as_bytes();
         let reserved = $path.reserve(usize::MAX).is_err() && $bytes == base.as_bytes();
@@ -69,6 +71,8 @@ macro_rules! free {
             ("derive", Ended::done(derived, base)),
             ("keeps_prefix", Ended::done(kept, base)),
             ("is_within", Ended::done(within, base)),
+            ("common_ancestor", Ended::done(shared, base)),
+            ("relative_to what is apart", Ended::done(apart, base)),
             ("join_checked of a parent", Ended::done(joined, base)),
             ("push_checked of a parent", Ended::done(pushed, base)),
             ("reserve of too much", Ended::done(reserved, base)),

@@ -76,6 +76,17 @@ const EXTENSIONS: [Row; 5] = [
     ),
 ];
 
+const ADDED: [Row; 4] = [
+    ("foo/..", "z", "foo/.."),
+    ("a.tar/", "", "a.tar/"),
+    ("a.tar/", "gz", "a.tar.gz"),
+    (
+        "a/b.c",
+        "an extension that asks for room",
+        "a/b.c.an extension that asks for room",
+    ),
+];
+
 const KEPT: [Row; 2] = [("", "", ""), ("/etc", "", "/etc")];
 
 const NORMAL: [Row; 2] = [
@@ -87,6 +98,16 @@ const CLEAN: [Row; 3] = [
     ("a/..", "", "."),
     ("/../a//b/.", "", "/a/b"),
     ("a/../../b/./c", "", "../b/c"),
+];
+
+const RELATIVE: [Row; 3] = [
+    ("/a/b/c", "/a/d", "../b/c"),
+    ("a", "a/.", "."),
+    (
+        "../../a name that asks for room",
+        "b",
+        "../../../a name that asks for room",
+    ),
 ];
 
 const ABSOLUTE: [Row; 2] = [
@@ -108,6 +129,7 @@ pub const UNIX: Table = Table {
         ("push in its place", Change::Push, &REPLACED),
         ("set_file_name", Change::SetFileName, &NAMES),
         ("set_extension", Change::SetExtension, &EXTENSIONS),
+        ("add_extension", Change::AddExtension, &ADDED),
         ("reserve", Change::Reserve, &KEPT),
         ("try_reserve", Change::TryReserve, &KEPT),
         ("reserve_exact", Change::ReserveExact, &KEPT),
@@ -120,8 +142,10 @@ pub const UNIX: Table = Table {
         ("join_checked", Make::JoinChecked, &PUSHES),
         ("with_file_name", Make::WithFileName, &NAMES),
         ("with_extension", Make::WithExtension, &EXTENSIONS),
+        ("with_added_extension", Make::WithAddedExtension, &ADDED),
         ("normalize", Make::Normalize, &NORMAL),
         ("clean", Make::Clean, &CLEAN),
+        ("relative_to", Make::RelativeTo, &RELATIVE),
         ("absolutize", Make::Absolutize, &ABSOLUTE),
         ("with_unix_encoding", Make::WithUnix, &COPIED),
         ("with_unix_encoding_checked", Make::WithUnixChecked, &BUILT),
@@ -203,6 +227,16 @@ const WINDOWS_EXTENSIONS: [Row; 3] = [
     (r"\\?\C:\x.y", "zip", r"\\?\C:\x.zip"),
 ];
 
+const WINDOWS_ADDED: [Row; 3] = [
+    ("C:", "z", "C:"),
+    (r"C:a.tar\", "gz", "C:a.tar.gz"),
+    (
+        r"\\?\C:\a/b",
+        "an extension that asks for room",
+        r"\\?\C:\a/b.an extension that asks for room",
+    ),
+];
+
 const WINDOWS_KEPT: [Row; 2] = [("C:", "", "C:"), (r"\\?\C:\x", "", r"\\?\C:\x")];
 
 const WINDOWS_CLEAN: [Row; 3] = [
@@ -217,6 +251,8 @@ const WINDOWS_NORMAL: [Row; 4] = [
     (r"\\?\x\a/b\c\..", "", r"\\?\x\a\b"),
     ("//?/x/a/../b", "", r"//?/x\b"),
 ];
+
+const WINDOWS_RELATIVE: [Row; 2] = [("C:/a/b", r"c:\a\d", r"..\b"), (r"a\C:", "a", r".\C:")];
 
 const WINDOWS_ABSOLUTE: [Row; 2] = [
     (r"C:\a\..\b", "/home/u", r"C:\b"),
@@ -241,6 +277,7 @@ pub const WINDOWS: Table = Table {
         ("push in its place", Change::Push, &WINDOWS_REPLACED),
         ("set_file_name", Change::SetFileName, &WINDOWS_NAMES),
         ("set_extension", Change::SetExtension, &WINDOWS_EXTENSIONS),
+        ("add_extension", Change::AddExtension, &WINDOWS_ADDED),
         ("reserve", Change::Reserve, &WINDOWS_KEPT),
         ("try_reserve", Change::TryReserve, &WINDOWS_KEPT),
         ("reserve_exact", Change::ReserveExact, &WINDOWS_KEPT),
@@ -257,8 +294,14 @@ pub const WINDOWS: Table = Table {
         ("join_checked", Make::JoinChecked, &WINDOWS_PUSHES),
         ("with_file_name", Make::WithFileName, &WINDOWS_NAMES),
         ("with_extension", Make::WithExtension, &WINDOWS_EXTENSIONS),
+        (
+            "with_added_extension",
+            Make::WithAddedExtension,
+            &WINDOWS_ADDED,
+        ),
         ("normalize", Make::Normalize, &WINDOWS_NORMAL),
         ("clean", Make::Clean, &WINDOWS_CLEAN),
+        ("relative_to", Make::RelativeTo, &WINDOWS_RELATIVE),
         ("absolutize", Make::Absolutize, &WINDOWS_ABSOLUTE),
         ("with_unix_encoding", Make::WithUnix, &TO_UNIX),
         (

@@ -115,6 +115,43 @@ fn names(rt: HostRuntime) {
     }
 }
 
+// The answers are those of Rust's `std::path`.
+#[test]
+fn first_stems(rt: HostRuntime) {
+    const ROWS: &[(&[u8], Option<&[u8]>)] = &[
+        (b"foo.rs", Some(b"foo")),
+        (b"foo.tar.gz", Some(b"foo")),
+        (b"/a/.config", Some(b".config")),
+        (b".config.toml/", Some(b".config")),
+        (b"..foo", Some(b".")),
+        (b"foo/..", None),
+        (b"/", None),
+    ];
+    for &(path, stem) in ROWS {
+        assert_eq!(rt; UnixPath::new(path).file_prefix(), stem);
+    }
+}
+
+// The answers are those of Python's `os.path.commonpath`.
+#[test]
+fn common_ancestors(rt: HostRuntime) {
+    const ROWS: &[(&[u8], &[u8], Option<&[u8]>)] = &[
+        (b"/usr/lib", b"/usr/local/lib", Some(b"/usr")),
+        (b"/usr/local/", b"/usr/local", Some(b"/usr/local")),
+        (b"/usr//local", b"//usr/local", Some(b"/usr//local")),
+        (b"/usr/./local", b"/./usr/local", Some(b"/usr/./local")),
+        (b"/", b"/dev", Some(b"/")),
+        (b"/usr/lib/", b"/usr/lib64", Some(b"/usr")),
+        (b"and//jam", b"and/spam//", Some(b"and")),
+        (b"spam", b"alot", None),
+        (b"", b"spam", None),
+    ];
+    for &(path, other, wanted) in ROWS {
+        let common = UnixPath::new(path).common_ancestor(UnixPath::new(other));
+        assert_eq!(rt; common.map(|path| path.as_bytes()), wanted);
+    }
+}
+
 #[test]
 fn those_above(rt: HostRuntime) -> Result<(), Fail> {
     let mut texts = Vec::new(rt.alloc());

@@ -22,6 +22,8 @@ mod owned;
 mod paths;
 #[cfg(test)]
 mod prefixes;
+#[cfg(test)]
+mod relative;
 mod support;
 #[cfg(test)]
 mod verbatim;

@@ -81,6 +81,32 @@ fn changed_names(rt: HostRuntime) -> Result<(), Fail> {
     Ok(())
 }
 
+// The answers are those of Rust's `std::path`.
+#[test]
+fn added_extensions(rt: HostRuntime) -> Result<(), Fail> {
+    const ROWS: &[(&[u8], &[u8], bool, &[u8])] = &[
+        (b"/feel/the", b"formatted", true, b"/feel/the.formatted"),
+        (
+            b"/feel/the.formatted",
+            b"dark.side",
+            true,
+            b"/feel/the.formatted.dark.side",
+        ),
+        (b"foo.tar.gz", b"", true, b"foo.tar.gz"),
+        (b"foo.tar.gz", b"xz", true, b"foo.tar.gz.xz"),
+        (b"foo/", b"txt", true, b"foo.txt"),
+        (b"/", b"txt", false, b"/"),
+    ];
+    for &(path, extension, added, wanted) in ROWS {
+        let mut owned = UnixPathBuf::from_bytes(rt.alloc(), path)?;
+        assert_eq!(rt; owned.add_extension(extension)?, added);
+        assert_eq!(rt; owned.into_vec().as_slice(), wanted);
+        let copy = UnixPath::new(path).with_added_extension(rt.alloc(), extension)?;
+        assert_eq!(rt; copy.as_path().as_bytes(), wanted);
+    }
+    Ok(())
+}
+
 #[test]
 fn a_run_of_operations(rt: HostRuntime) -> Result<(), Fail> {
     let operations = [

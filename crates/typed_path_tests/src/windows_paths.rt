@@ -222,3 +222,28 @@ fn texts_for_programmers(rt: HostRuntime) -> Result<(), Fail> {
     }
     Ok(())
 }
+
+// The answers are those of the crate `dunce`.
+#[test]
+fn simplified_paths(rt: HostRuntime) {
+    const ROWS: &[(&[u8], &[u8])] = &[
+        (br"\\?\C:\foo\bar", br"C:\foo\bar"),
+        (br"\\?\Z:\foo\bar\", br"Z:\foo\bar\"),
+        (br"\\?\c:\foo", br"c:\foo"),
+        (br"\\?\C:\foo\.\bar", br"\\?\C:\foo\.\bar"),
+        (br"\\?\C:\foo\..\bar", br"\\?\C:\foo\..\bar"),
+        (br"\\?\C:\con .txt", br"\\?\C:\con .txt"),
+        (br"\\?\C:\COM4.txt", br"\\?\C:\COM4.txt"),
+        (br"\\?\c\foo", br"\\?\c\foo"),
+        (br"\\?\c:foo\bar", br"\\?\c:foo\bar"),
+        (br"\\?\serv\", br"\\?\serv\"),
+        (br"\\.\C:\notdisk", br"\\.\C:\notdisk"),
+        (
+            br"\\?\GLOBALROOT\Device\ImDisk0\path\to\file.txt",
+            br"\\?\GLOBALROOT\Device\ImDisk0\path\to\file.txt",
+        ),
+    ];
+    for &(path, wanted) in ROWS {
+        assert_eq!(rt; WindowsPath::new(path).simplified().as_bytes(), wanted);
+    }
+}

@@ -6,7 +6,7 @@ use Rattle.typed_path.specs.components.{Dialect, unix, windows, slash, backslash
 use Rattle.typed_path.specs.scan.{left, items_between, Side, reads}
 use Rattle.typed_path.specs.queries.{is_absolute, has_root, is_valid}
 use Rattle.typed_path.specs.changes.{push, Response, step, push_checked_op}
-use Rattle.typed_path.specs.places.{normal_text, is_within}
+use Rattle.typed_path.specs.places.{normal_text, is_within, relative_text}
 
 -- components, as they are written
 abbrev pub named : String → Part
@@ -65,3 +65,7 @@ normalized d text = normal_text d (codes text)
 -- whether a path lies within a base
 abbrev pub within : Dialect → String → String → Bool
 within d path base = is_within d (codes path) (codes base)
+
+-- the path that leads from a base to a path
+abbrev pub led : Dialect → String → String → Option (List ℕ)
+led d base path = relative_text d (codes path) (codes base)

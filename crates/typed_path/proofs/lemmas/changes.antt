@@ -7,7 +7,10 @@
 -- SpelledTexts: a text of Windows that is spelled as it is read, and what a push writes anew
 -- NamePieces: texts of which looks at their bytes tell that all their pieces are names, and how such a text is merged
 -- MergedInPlace: components as they are read, merged behind a prefix, and read again
+-- Lengths: how long a path is that another is pushed onto
 -- Runs: lists of operations, one operation more
+-- AddedNames: a path with more behind its file name is read as before, but for that name
+-- AddedFronts: a path that gets one extension more keeps its separators and its prefix, but for the verbatim one named `UNC`; so it has its parent, and a longer name
 pub mod Faults
 pub mod ValidPaths
 pub mod MayBegins
@@ -16,4 +19,7 @@ pub mod WindowsPushes
 pub mod SpelledTexts
 pub mod NamePieces
 pub mod MergedInPlace
+pub mod Lengths
 pub mod Runs
+pub mod AddedNames
+pub mod AddedFronts

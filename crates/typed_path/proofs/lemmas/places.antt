@@ -7,6 +7,9 @@
 -- KeptFromBack: the names that are kept of a list, one component less at its end, and whether they begin with others
 -- CleanRows: the parents and names that are kept of a path, put behind a head segment by segment
 -- CleanTexts: the clean text of a path, as it is written behind a text
+-- SharedFromBack: how many first names two lists share, told from the back
+-- TakenNames: names that are taken off the end of a list one after another, whether they can stand, and the rows that they make from their ends
+-- Reached: whether a path is reached from a base, by how many steps, and what room these take
 pub mod Resolving
 pub mod UnixRows
 pub mod WindowsRows
@@ -15,3 +18,6 @@ pub mod KeptNames
 pub mod KeptFromBack
 pub mod CleanRows
 pub mod CleanTexts
+pub mod SharedFromBack
+pub mod TakenNames
+pub mod Reached

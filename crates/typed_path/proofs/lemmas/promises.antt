@@ -6,11 +6,17 @@
 -- UnixWithin: on Unix a path is within a base exactly where it lies below it from every absolute directory
 -- WindowsWithin: the same on Windows, from each absolute directory that keeps its prefix and is not verbatim
 -- VerbatimWithin: and from each verbatim one that keeps its prefix
+-- StepsRead: the path that leads from a base to another, read again
+-- StepsBack: the steps that lead from one list to another, put behind the first, lead where the second leads
+-- UnixRelative: on Unix the path that leads from a base to another leads back, and there is none exactly where no relative path does
+-- WindowsRelative: on Windows it leads back behind a base that is not verbatim and keeps its prefix
+-- VerbatimRelative: and behind a verbatim one that ends with enough names
 -- WindowsStable: the normal text of Windows is stable, where no name has a byte that no name may have
 -- CleanRead: parents and names as they are written, read as themselves, and where such a list leads
 -- CleanForms: the clean text of a path without a prefix, read again, and that it is the one text of where it leads
 -- WindowsClean: the clean text of a path of Windows with a prefix, read again
 -- RouteBehind: paths that lead alike lie at one place, from each directory of which is known where paths lead behind it
+-- Shared: a path cut where a component ends is read as the components up to there; so what two paths share is the longest that begins both
 pub mod UnixContained
 pub mod WindowsBases
 pub mod WindowsContained
@@ -23,3 +29,9 @@ pub mod CleanRead
 pub mod CleanForms
 pub mod WindowsClean
 pub mod RouteBehind
+pub mod StepsRead
+pub mod StepsBack
+pub mod UnixRelative
+pub mod WindowsRelative
+pub mod VerbatimRelative
+pub mod Shared

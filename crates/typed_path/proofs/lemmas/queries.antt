@@ -4,8 +4,12 @@
 -- Parents: the list of a parent, of the paths above and of a path without its name
 -- Bases: the beginning and the end of a path compared with another, and a base taken off
 -- FirstBytes: paths of Windows that begin otherwise, as their first bytes tell
+-- Simplified: a path of a verbatim drive without its `\\?\`: what the test for it finds, and what it is read as
+-- Shared: what two paths begin with: how far they have been read alike, and that it is the longest that both begin with
 pub mod FileNames
 pub mod ValidNames
 pub mod Parents
 pub mod Bases
 pub mod FirstBytes
+pub mod Simplified
+pub mod Shared

@@ -4,8 +4,10 @@
 -- TextsLeft: what is left of a text, and what it answers about itself, are texts
 -- TextChanges: what changes a text leaves a text, and what the search is told of texts
 -- TextClean: the clean text of a text is one
+-- TextSteps: the path that leads from a base to a text is a text
 pub mod TextCuts
 pub mod TextNames
 pub mod TextsLeft
 pub mod TextChanges
 pub mod TextClean
+pub mod TextSteps

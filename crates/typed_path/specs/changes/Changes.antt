@@ -40,3 +40,12 @@ cut_at t ext (Some end) = take end t ++ dotted ext
 -- cut behind the stem, then the new extension; without a file name nothing changes
 abbrev pub with_extension : Dialect → List ℕ → List ℕ → List ℕ
 with_extension d t ext = cut_at t ext (stem_end d t)
+
+-- where the file name ends
+abbrev pub name_end : Dialect → List ℕ → Option ℕ
+name_end d t = option_map (λ name. start_of_last (last_of (comps d t)) + length name) (file_name_of d t)
+
+-- one extension more behind the file name; without a file name, or with an empty extension, nothing changes
+abbrev pub with_added_extension : Dialect → List ℕ → List ℕ → List ℕ
+with_added_extension d t [] = t
+with_added_extension d t (b ∷ bs) = cut_at t (b ∷ bs) (name_end d t)

@@ -29,3 +29,9 @@ abbrev pub LeadAlike : Dialect → List ℕ → List ℕ → List ℕ → Type 0
 LeadAlike d directory t u =
     keeps_prefix d directory ≡ true → is_absolute d (kinds (parts_of d directory)) ≡ true → route d t ≡ route d u
     → place d (push d directory t) ≡ place d (push d directory u)
+
+-- and so a clean text lies where its text does
+abbrev pub CleanLeadsAlike : Dialect → List ℕ → List ℕ → Type 0
+CleanLeadsAlike d directory t =
+    keeps_prefix d directory ≡ true → is_absolute d (kinds (parts_of d directory)) ≡ true → is_verbatim_unc_name (prefix_kind d t) ≡ false
+    → place d (push d directory (clean_text d t)) ≡ place d (push d directory t)

@@ -1,14 +1,14 @@
 -- What a path answers, read off its component list.
-use Rattle.std.specs.Prelude.{ℕ, ◌+◌, ◌==◌, List, [], ◌∷◌, codes, Bool, true, false, not, ◌||◌, ◌&&◌, length, if◌then◌else◌, Option, Some, None, option_and_then}
+use Rattle.std.specs.Prelude.{ℕ, ◌+◌, ◌-◌, ◌==◌, List, [], ◌∷◌, codes, Bool, true, false, not, ◌||◌, ◌&&◌, length, drop, if◌then◌else◌, Option, Some, None, option_and_then}
 use Rattle.std.specs.List.{list_any, list_all, starts_with, ends_with, before_first}
 use Rattle.std.specs.Option.{option_map}
 use Rattle.std.specs.Str.{bytes_eq, str_eq_ignore_ascii_case}
-use Rattle.typed_path.specs.components.Dialects.{Dialect, unix, windows, slash, backslash, colon, question}
+use Rattle.typed_path.specs.components.Dialects.{Dialect, unix, windows, slash, backslash, colon, question, is_separator, separators}
 use Rattle.typed_path.specs.components.Parts.{Prefix, verbatim, verbatim_unc, verbatim_disk, device_ns, unc, disk, Kind, prefix, root, normal, Part, Placed, texts}
 use Rattle.typed_path.specs.components.Prefixes.{is_empty}
 use Rattle.typed_path.specs.components.Comps.{comps, parts_of}
 use Rattle.typed_path.specs.scan.Left.{left, last_of}
-use Rattle.typed_path.specs.queries.Names.{is_a_dot, stem_of, extension_of}
+use Rattle.typed_path.specs.queries.Names.{is_a_dot, stem_of, extension_of, first_stem_of}
 
 abbrev pub begins_with_root : List Kind → Bool
 begins_with_root (root ∷ ks) = true
@@ -196,6 +196,13 @@ file_stem_of d t = option_map stem_of (file_name_of d t)
 
 abbrev pub extension : Dialect → List ℕ → Option (List ℕ)
 extension d t = option_and_then extension_of (file_name_of d t)
+
+abbrev pub file_prefix_of : Dialect → List ℕ → Option (List ℕ)
+file_prefix_of d t = option_map first_stem_of (file_name_of d t)
+
+-- the last byte of a path, where it has one, separates its components
+abbrev pub has_trailing_separator : Dialect → List ℕ → Bool
+has_trailing_separator d t = list_any (is_separator (separators d t)) (drop (length t - 1) t)
 
 -- a path begins, or ends, with the components of another, as they are written
 abbrev pub path_starts_with : Dialect → List ℕ → List ℕ → Bool

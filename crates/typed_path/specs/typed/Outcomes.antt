@@ -1,5 +1,5 @@
 -- What calls of several families do to an owned path, and what they answer.
-use Rattle.std.specs.Prelude.{◌≡◌, ◌≤◌, ◌+◌, ℕ, List, [], length, max, min, is_some, Bool, None, IsSome, Result, IfOk, OnOk, OnErr, IsOk, Ok, Err, Some}
+use Rattle.std.specs.Prelude.{◌≡◌, ◌≤◌, ◌+◌, ℕ, List, [], length, max, min, is_some, Bool, None, IsSome, Option, option_map, Result, IfOk, OnOk, OnErr, IsOk, Ok, Err, Some}
 use Rattle.typed_path.specs.declared.errors.PathError.{PathError}
 use Rattle.typed_path.specs.declared.errors.CheckedPathError.{CheckedPathError}
 use Rattle.typed_path.specs.declared.errors.AbsolutizeError.{AbsolutizeError}
@@ -8,9 +8,10 @@ use Rattle.typed_path.specs.components.Dialects.{Dialect}
 use Rattle.typed_path.specs.queries.Queries.{parent_of, file_name_of}
 use Rattle.typed_path.specs.changes.Push.{push, FitsPush}
 use Rattle.typed_path.specs.changes.Fault.{fault}
-use Rattle.typed_path.specs.changes.Changes.{popped, without_file_name, with_file_name, with_extension}
+use Rattle.typed_path.specs.changes.Changes.{popped, without_file_name, with_file_name, with_extension, with_added_extension}
 use Rattle.typed_path.specs.changes.Checked.{refusal}
 use Rattle.typed_path.specs.places.Places.{normal_text}
+use Rattle.typed_path.specs.places.Relative.{relative_text}
 use Rattle.typed_path.specs.conversions.Convert.{converted_checked, absolute_from}
 use Rattle.typed_path.specs.promises.Promises.{HasPrefixOf, LiesWithin, HasNormalForm}
 use Rattle.typed_path.specs.promises.Below.{LiesBelow}
@@ -56,6 +57,13 @@ SetsExtension d old extension done new =
     × (file_name_of d old.bytes ≡ None → new ≡ old)
     × (length (with_extension d old.bytes extension) ≤ old.capacity → IsOk done)
 
+abbrev pub AddsExtension : {E : Type 0} → Dialect → Owned → List ℕ → Result Bool E → Owned → Type 0
+AddsExtension d old extension done new =
+    IsChanged done old (with_added_extension d old.bytes extension) new
+    × IfOk done (λ renamed. renamed ≡ is_some (file_name_of d old.bytes))
+    × (file_name_of d old.bytes ≡ None → new ≡ old)
+    × (length (with_added_extension d old.bytes extension) ≤ old.capacity → IsOk done)
+
 -- the empty path, with the room that there was
 abbrev pub Clears : Owned → Owned → Type 0
 Clears old new = (new.bytes ≡ []) × (new.capacity ≡ old.capacity)
@@ -99,6 +107,12 @@ abbrev pub Normalizes : {P E : Type 0} → Dialect → (P → List ℕ) → List
 Normalizes d bytes path done =
     IfOk done (λ p. bytes p ≡ normal_text d path)
     × IfOk done (λ p. HasNormalForm d path (bytes p))
+
+-- the path that leads from a base to a path, where there is one; that there is none costs no memory
+abbrev pub LeadsFrom : {P E : Type 0} → Dialect → (P → List ℕ) → List ℕ → List ℕ → Result (Option P) E → Type 0
+LeadsFrom d bytes base path done =
+    IfOk done (λ found. option_map bytes found ≡ relative_text d path base)
+    × (relative_text d path base ≡ None → IsOk done)
 
 -- a path in another dialect, or what its first component that is refused there is refused for
 abbrev pub ConvertsChecked : {P : Type 0} → Dialect → Dialect → (P → List ℕ) → List ℕ → Result P PathError → Type 0

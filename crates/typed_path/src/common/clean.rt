@@ -135,7 +135,11 @@ fn root_where(there: bool, separators: Separators) -> &'static [u8]
 /// Puts what would be read as a prefix from a place of a text on behind `.` and a separator, and `.` where
 /// nothing stands there.
 #[inline(always)]
-fn put_apart(text: &mut Vec<u8>, start: usize, separators: Separators) -> Result<(), AllocError>
+pub(crate) fn put_apart(
+    text: &mut Vec<u8>,
+    start: usize,
+    separators: Separators,
+) -> Result<(), AllocError>
     requires { start ≤ length text.old.items }
     ensures ok { OnOk result (text.new.items ≡ take start text.old.items
         ++ unheaded (dialect_of separators) (drop start text.old.items)) }

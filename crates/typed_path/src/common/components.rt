@@ -99,9 +99,11 @@ impl<'a, T: Encoding, I> Reading<'a, T, I> {
         self.cursor.as_bytes()
     }
 
-    /// Where the last component that is left ends in the text.
+    /// Where the last component that is left ends, as a number of bytes of the whole path.
+    ///
+    /// Of the Unix path `a/b//` it is 3, and once all components are taken it says nothing.
     #[inline(always)]
-    pub(crate) fn last_end(self) -> usize
+    pub fn last_end(self) -> usize
         ensures { (last : Placed) → last_of (components_items self.entry) ≡ Some last → result
             ≡ end_of last }
     {

@@ -1,11 +1,11 @@
 //! A path that is lent: what makes one, what it answers, and the owned paths that are made of it.
 
-ghost use Rattle.std.specs.Prelude.{◌≡◌, IfOk, not, ◌≤◌, length, option_map, option_copied, IfSome, [], IsOk};
-ghost use Rattle.typed_path.specs.places.{clean_text, is_within, normal_text};
-ghost use Rattle.typed_path.specs.components.{kinds, comps, parts_of};
-ghost use Rattle.typed_path.specs.queries.{is_absolute, has_root, is_valid, parent_of, file_name_of, file_stem_of, stripped, path_starts_with, path_ends_with, ancestors_of, stripped_to, extension};
+ghost use Rattle.std.specs.Prelude.{◌≡◌, IfOk, not, ◌≤◌, length, option_map, option_copied, IfSome, [], IsOk, take, ◌++◌, None};
+ghost use Rattle.typed_path.specs.places.{clean_text, is_within, normal_text, relative_text};
+ghost use Rattle.typed_path.specs.components.{kinds, comps, parts_of, separators};
+ghost use Rattle.typed_path.specs.queries.{is_absolute, has_root, is_valid, parent_of, file_name_of, file_stem_of, stripped, path_starts_with, path_ends_with, ancestors_of, stripped_to, extension, file_prefix_of, has_trailing_separator, common_ancestor_of};
 ghost use Rattle.typed_path.specs.scan.{last_part};
-ghost use Rattle.typed_path.specs.changes.{without_file_name, stem_end, with_file_name, with_extension, refusal, fault};
+ghost use Rattle.typed_path.specs.changes.{without_file_name, stem_end, with_file_name, with_extension, refusal, fault, name_end, with_added_extension, dotted};
 ghost use Rattle.typed_path.specs.promises.{HasNormalForm, HasPrefixOf, LiesWithin, LiesBelow, keeps_prefix};
 ghost use Rattle.typed_path.specs.views.PathViews.{path_bytes, components_items, components_slice, ancestors_left};
 ghost use Rattle.typed_path.specs.views.PieceViews.{part_of};
@@ -14,10 +14,12 @@ use crate::common::clean::put_clean;
 use crate::common::components::{Ancestors, Components, Iter, Reading};
 use crate::common::encoding::Encoding;
 use crate::common::path_buf::PathBuf;
+use crate::common::relative::relative_to;
+use crate::common::shared::shared_end;
 use crate::common::within::is_within;
-use crate::common::writing::{dotted_len, put_extension, split_name};
+use crate::common::writing::{dotted_len, first_stem, put_extension, split_name};
 use crate::errors::{PathError, StripPrefixError};
-use crate::scan::{Piece, keeps_prefix};
+use crate::scan::{Piece, Separators, keeps_prefix};
 use std::alloc::{AllocError, Global};
 use std::marker::PhantomData;
 
@@ -181,6 +183,40 @@ impl<'a, T: Encoding> Path<'a, T> {
         split_name(self.file_name()?).1
     }
 
+    /// The file name up to its first dot that is not its first byte.
+    ///
+    /// Of `a.tar.gz` it is `a`, and of `.config.toml` it is `.config`.
+    pub fn file_prefix(self) -> Option<&'a [u8]>
+        ensures { option_copied result ≡ file_prefix_of T.dialect (path_bytes self.entry) }
+    {
+        let name = self.file_name()?;
+        Some(first_stem(name))
+    }
+
+    /// Whether the last byte separates components of the path.
+    ///
+    /// That of `a/` does. On Windows that of `a\` does too, and that of `\\?\C:\a/` does not, since behind
+    /// `\\?\` no `/` separates.
+    pub fn has_trailing_separator(self) -> bool
+        ensures { result ≡ has_trailing_separator T.dialect (path_bytes self.entry) }
+    {
+        match self.bytes {
+            [] => false,
+            [.., last] => self.separators().contains(*last),
+        }
+    }
+
+    /// Which bytes separate the components of the path.
+    fn separators(self) -> Separators
+        ensures { result ≡ separators T.dialect (path_bytes self.entry) }
+    {
+        if T::root_text() == b"/".as_slice() {
+            Separators::Slash
+        } else {
+            Separators::of_windows(self.bytes)
+        }
+    }
+
     /// The last component.
     #[inline(always)]
     fn last(self) -> Option<Piece<'a>>
@@ -213,6 +249,18 @@ impl<'a, T: Encoding> Path<'a, T> {
         Some(self.components().last_end() - extension)
     }
 
+    /// Where the file name ends.
+    pub(crate) fn name_end(self) -> Option<usize>
+        ensures end { result ≡ name_end T.dialect (path_bytes self.entry) }
+        ensures within { IfSome result (λ end. end ≤ length (path_bytes self.entry)) }
+    {
+        let last = self.last()?;
+        if !last.is_normal() {
+            return None;
+        }
+        Some(self.components().last_end())
+    }
+
     /// What is left of the path behind a base.
     ///
     /// Of the Unix path `/a/./b/c` it is `b/c` behind `/a`.
@@ -236,6 +284,25 @@ impl<'a, T: Encoding> Path<'a, T> {
             (path_bytes base.entry) }
     {
         self.behind(base).is_some()
+    }
+
+    /// The front of the path up to where the components end with which another begins too, as they are
+    /// written; none where the two begin with none alike.
+    ///
+    /// Of the Unix path `/a//b/c` it is `/a//b` beside `/a/b/d`, and `a` has none beside `/a`. On Windows
+    /// that of `C:/a\b` is `C:/a` beside `C:\a\c`, and `c:\a` has none beside `C:\a`. Both paths begin with it,
+    /// and it begins with each path that both begin with.
+    pub fn common_ancestor(self, other: Path<'_, T>) -> Option<Path<'a, T>>
+        ensures { option_map path_bytes result ≡ common_ancestor_of T.dialect
+            (path_bytes self.entry) (path_bytes other.entry) }
+    {
+        let end = shared_end(self, other);
+        let shared = &self.as_bytes()[..end];
+        if shared.is_empty() {
+            None
+        } else {
+            Some(Path::new(shared))
+        }
     }
 
     /// Whether the path ends with the components of another, as they are written.
@@ -270,6 +337,35 @@ impl<'a, T: Encoding> Path<'a, T> {
         ensures { result ≡ is_within T.dialect (path_bytes self.entry) (path_bytes base.entry) }
     {
         is_within::<T>(self.as_bytes(), base.as_bytes())
+    }
+
+    /// The path that leads from a base to this one, from whatever directory both are read: a `..` for each
+    /// name of the base that this path does not begin with, and then the names that are left of it.
+    ///
+    /// From `/a/b` to `/a/c/d` it is `../c/d`, from `a` to `a/.` it is `.`, and from `a` to `../b` it is
+    /// `../../b`. It has neither a prefix nor a root, and no `.` but where it is `.` alone, or where `.\`
+    /// stands before a name that would be read as a prefix on Windows, as in `.\C:`. Names are compared byte by
+    /// byte. Links are not followed.
+    ///
+    /// There is none, and no memory is asked for, where the two do not begin with the same prefix or none and
+    /// with a root, written or implied, or none; where more `..` of the base find no name to take away than
+    /// of this path, as from `..` to `a`; and where a name that is left holds a `/`, as may one of a verbatim
+    /// path of Windows.
+    ///
+    /// On Unix the answer that is joined to the base leads where this path leads, and there is none exactly
+    /// where no relative path does. On Windows it leads there behind a base that keeps its prefix and, if that
+    /// is verbatim, ends with as many names as `..` are taken.
+    pub fn relative_to(
+        self,
+        alloc: Global,
+        base: Path<'_, T>,
+    ) -> Result<Option<PathBuf<T>>, AllocError>
+        ensures bytes { IfOk result (λ found. option_map (λ p. p.bytes) found
+            ≡ relative_text T.dialect (path_bytes self.entry) (path_bytes base.entry)) }
+        ensures free { relative_text T.dialect (path_bytes self.entry) (path_bytes base.entry) ≡ None
+            → IsOk result }
+    {
+        relative_to::<T>(alloc, self.as_bytes(), base.as_bytes())
     }
 
     /// What is left of the path behind a base, where it begins with the base's components as they
@@ -367,14 +463,46 @@ impl<'a, T: Encoding> Path<'a, T> {
         ensures { IfOk result
             (λ p. p.bytes ≡ with_extension T.dialect (path_bytes self.entry) extension.now) }
     {
-        let Some(end) = self.stem_end() else {
-            return self.to_path_buf(alloc);
-        };
-        let stem = &self.as_bytes()[..end];
-        let mut renamed = Vec::with_capacity(alloc, stem.len() + dotted_len(extension))?;
-        renamed.extend_from_slice(stem)?;
-        put_extension(&mut renamed, extension)?;
-        Ok(PathBuf::from_vec(renamed))
+        match self.stem_end() {
+            Some(end) => self.extended_at(alloc, end, extension),
+            None => self.to_path_buf(alloc),
+        }
+    }
+
+    /// A copy with one extension more behind its file name. Without a file name, or with an empty
+    /// extension, it is a mere copy.
+    ///
+    /// `a.tar` with `gz` is `a.tar.gz`, and so is `a.tar/`.
+    pub fn with_added_extension(
+        self,
+        alloc: Global,
+        extension: &[u8],
+    ) -> Result<PathBuf<T>, AllocError>
+        ensures { IfOk result
+            (λ p. p.bytes ≡ with_added_extension T.dialect (path_bytes self.entry) extension.now) }
+    {
+        match self.name_end() {
+            Some(end) if !extension.is_empty() => self.extended_at(alloc, end, extension),
+            _ => self.to_path_buf(alloc),
+        }
+    }
+
+    /// A copy of the first bytes, with an extension behind them.
+    fn extended_at(
+        self,
+        alloc: Global,
+        end: usize,
+        extension: &[u8],
+    ) -> Result<PathBuf<T>, AllocError>
+        requires { end ≤ length (path_bytes self) }
+        ensures { IfOk result
+            (λ p. p.bytes ≡ take end (path_bytes self.entry) ++ dotted extension.now) }
+    {
+        let kept = &self.as_bytes()[..end];
+        let mut extended = Vec::with_capacity(alloc, kept.len() + dotted_len(extension))?;
+        extended.extend_from_slice(kept)?;
+        put_extension(&mut extended, extension)?;
+        Ok(PathBuf::from_vec(extended))
     }
 
     /// The path without `.`, and without `..` and the names that these take away.
@@ -399,8 +527,9 @@ impl<'a, T: Encoding> Path<'a, T> {
     ///
     /// That of the Unix path `a/../../b//./c` is `../b/c`, and that of `a/..` is `.`.
     ///
-    /// The prefix stays as it stands, and on Windows none is gained: that of `a\..\C:\b` is `.\C:\b`. It leads
-    /// where the path leads, whatever directory both are read from.
+    /// The prefix stays as it stands, and on Windows none is gained: that of `a\..\C:\b` is `.\C:\b`. Read from every
+    /// absolute directory that keeps its prefix, the answer leads where the path does, and it is its own clean path; of
+    /// the verbatim prefix named `UNC` neither is promised.
     pub fn clean(self, alloc: Global) -> Result<PathBuf<T>, AllocError>
         ensures { IfOk result (λ p. p.bytes ≡ clean_text T.dialect (path_bytes self.entry)) }
     {

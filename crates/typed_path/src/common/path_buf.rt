@@ -1,8 +1,8 @@
 //! A path that owns its bytes: what makes one, what changes it, and what it is turned into.
 
-ghost use Rattle.std.specs.Prelude.{◌≡◌, ◌≤◌, ◌+◌, [], length, is_some, max, min, IsSome, None, IfOk, OnOk, OnErr, IsOk, map};
+ghost use Rattle.std.specs.Prelude.{◌≡◌, ◌≤◌, ◌+◌, [], length, is_some, max, min, IsSome, None, IfOk, OnOk, OnErr, IsOk, map, take, ◌++◌};
 ghost use Rattle.std.specs.Vec.{vec_capacity};
-ghost use Rattle.typed_path.specs.changes.{refusal, FitsPush, push_all, IsKnown, fault, popped, without_file_name, with_file_name, with_extension};
+ghost use Rattle.typed_path.specs.changes.{refusal, FitsPush, push_all, IsKnown, fault, popped, without_file_name, with_file_name, with_extension, dotted, with_added_extension};
 ghost use Rattle.typed_path.specs.promises.{HasPrefixOf, LiesWithin};
 ghost use Rattle.typed_path.specs.queries.{parent_of, file_name_of};
 ghost use Rattle.std.specs.String.{string_bytes, string_capacity};
@@ -213,11 +213,51 @@ impl<T: Encoding> PathBuf<T> {
         let Some(end) = self.as_path().stem_end() else {
             return Ok(false);
         };
-        let len = end + dotted_len(extension);
-        self.inner.reserve(len.saturating_sub(self.inner.len()))?;
-        self.inner.truncate(end);
-        put_extension(&mut self.inner, extension)?;
+        self.extend_at(end, extension)?;
         Ok(true)
+    }
+
+    /// Puts one extension more behind the file name, and answers whether there is one. Without one,
+    /// and where the extension is empty, nothing changes.
+    ///
+    /// `gz` makes `a.tar` into `a.tar.gz`, and `a.tar/` too.
+    ///
+    /// Where memory is refused the path is as it was, and has no less room.
+    pub fn add_extension(&mut self, extension: &[u8]) -> Result<bool, AllocError>
+        ensures ok { OnOk result
+            (self.new.bytes ≡ with_added_extension T.dialect self.old.bytes extension.now) }
+        ensures flag { IfOk result
+            (λ renamed. renamed ≡ is_some (file_name_of T.dialect self.old.bytes)) }
+        ensures err { OnErr result (self.new.bytes ≡ self.old.bytes) }
+        ensures unchanged { file_name_of T.dialect self.old.bytes ≡ None → self.new ≡ self.old }
+        ensures capacity { self.old.capacity ≤ self.new.capacity }
+        ensures succeeds { length (with_added_extension T.dialect self.old.bytes extension.now)
+            ≤ self.old.capacity → IsOk result }
+    {
+        let Some(end) = self.as_path().name_end() else {
+            return Ok(false);
+        };
+        if !extension.is_empty() {
+            self.extend_at(end, extension)?;
+        }
+        Ok(true)
+    }
+
+    /// Cuts the path to its first bytes, and puts an extension behind them.
+    fn extend_at(&mut self, end: usize, extension: &[u8]) -> Result<(), AllocError>
+        requires { end ≤ length self.old.bytes }
+        ensures ok { OnOk result
+            (self.new.bytes ≡ take end self.old.bytes ++ dotted extension.now) }
+        ensures err { OnErr result (self.new.bytes ≡ self.old.bytes) }
+        ensures capacity { self.old.capacity ≤ self.new.capacity }
+        ensures succeeds { length (take end self.old.bytes ++ dotted extension.now)
+            ≤ self.old.capacity → IsOk result }
+    {
+        let behind = self.inner.len() - end;
+        self.inner
+            .reserve(dotted_len(extension).saturating_sub(behind))?;
+        self.inner.truncate(end);
+        put_extension(&mut self.inner, extension)
     }
 
     /// Makes the path the empty one. It keeps its room.

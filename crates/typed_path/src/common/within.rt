@@ -39,16 +39,29 @@ pub(crate) fn is_within<T: Encoding>(path: &[u8], base: &[u8]) -> bool
 
 /// What a path says of where it leads, but for its prefix and its names themselves.
 #[derive(Clone, Copy)]
-struct Lead {
-    is_anchored: bool,
-    unmet: usize,
-    names: usize,
+pub(crate) struct Lead {
+    /// Whether it begins with a root, written or implied.
+    pub is_anchored: bool,
+    /// How many parents find no name to take away.
+    pub unmet: usize,
+    /// How many names are kept.
+    pub names: usize,
+}
+
+impl Lead {
+    /// How many parents lead above where the path begins.
+    #[inline(always)]
+    pub(crate) fn rising(self) -> usize
+        ensures { result ≡ (if self.is_anchored then 0 else self.unmet) }
+    {
+        if self.is_anchored { 0 } else { self.unmet }
+    }
 }
 
 /// Reads where a path leads.
 #[tactic(auto, using(crate::proofs::lemmas::places::KeptFromBack::few_behind_prefix, crate::proofs::lemmas::places::KeptFromBack::kept_behind_prefix, crate::proofs::lemmas::places::KeptFromBack::unmet_behind_prefix))]
 #[inline(always)]
-fn lead_of(cursor: Cursor<'_>) -> Lead
+pub(crate) fn lead_of(cursor: Cursor<'_>) -> Lead
     requires { length (items_left cursor) < 2 ^ 64 }
     ensures anchored { result.is_anchored ≡ is_anchored (kinds (parts (items_left cursor.entry))) }
     ensures unmet { result.unmet ≡ unmet (kinds (parts (items_left cursor.entry))) }
@@ -110,7 +123,7 @@ fn leads_alike(own: Lead, base: Lead) -> bool
 
 /// Takes the last name that is kept, where so many parents behind it are still owed a name.
 #[inline(always)]
-fn last_name<'a>(rest: &mut Body<'a>, owed: &mut usize) -> Option<&'a [u8]>
+pub(crate) fn last_name<'a>(rest: &mut Body<'a>, owed: &mut usize) -> Option<&'a [u8]>
     requires { owed.old + length (body_items rest.old) < 2 ^ 64 }
     ensures name { MatchOption result (names_under owed.old (body_items rest.old) ≡ [])
         (λ name. names_under owed.old (body_items rest.old)

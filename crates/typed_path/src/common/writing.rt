@@ -1,13 +1,13 @@
-//! Names in a text: split at their last dot, put behind it where its memory is found first, and
+//! Names in a text: split at their last dot or at the first one, put behind it where its memory is found first, and
 //! taken off its end.
 
-ghost use Rattle.std.specs.Prelude.{◌≡◌, ◌<◌, ◌≤◌, ◌+◌, ◌-◌, ◌++◌, ℕ, List, fold, take, drop, length, option_copied, IfSome, IsOk, IsTrue, OnOk, OnErr};
-ghost use Rattle.std.specs.List.{slice_split};
+ghost use Rattle.std.specs.Prelude.{◌≡◌, ◌<◌, ◌≤◌, ◌+◌, ◌-◌, ◌++◌, ℕ, List, fold, take, drop, length, option_copied, position, IfSome, IsOk, IsTrue, OnOk, OnErr};
+ghost use Rattle.std.specs.List.{before_first, slice_split};
 ghost use Rattle.typed_path.specs.components.{is_separator};
 ghost use Rattle.std.specs.Vec.{vec_len, vec_capacity};
 ghost use Rattle.typed_path.specs.changes.{dotted};
 ghost use Rattle.typed_path.specs.places.{rows_of, settled, AreRowsOf, HaveNoDisks};
-ghost use Rattle.typed_path.specs.queries.{stem_of, extension_of};
+ghost use Rattle.typed_path.specs.queries.{stem_of, extension_of, first_stem_of, is_a_dot};
 ghost use Rattle.typed_path.specs.scan.{turned};
 
 use crate::scan::Separators;
@@ -27,6 +27,37 @@ pub fn split_name(name: &[u8]) -> (&[u8], Option<&[u8]>)
         return (name, None);
     }
     (&name[..at], Some(&name[at + 1..]))
+}
+
+/// A name up to its first dot that is not its first byte.
+pub fn first_stem(name: &[u8]) -> &[u8]
+    ensures { result.now ≡ first_stem_of name.now }
+{
+    match name {
+        [] => name,
+        [_, rest @ ..] => {
+            let len = before_dot(rest).len();
+            &name[..len + 1]
+        }
+    }
+}
+
+/// What stands before the first dot of a text, or the whole where it has none.
+#[tactic(auto, using(crate::proofs::lemmas::queries::FileNames::before_dot_some, crate::proofs::lemmas::queries::FileNames::before_dot_none))]
+pub fn before_dot(text: &[u8]) -> &[u8]
+    ensures { result.now ≡ before_first is_a_dot text.now }
+{
+    match first_dot(text) {
+        Some(at) => &text[..at],
+        None => text,
+    }
+}
+
+/// Where the first dot of a text stands.
+fn first_dot(text: &[u8]) -> Option<usize>
+    ensures { result ≡ position is_a_dot text.now }
+{
+    text.iter().position(|b| *b == b'.')
 }
 
 /// How many bytes an extension takes with the dot before it; none where it is empty.

@@ -4,8 +4,8 @@ ghost use Rattle.std.specs.Prelude.{◌≡◌, ◌↔◌, true, IfSome, [], ◌�
 ghost use Rattle.typed_path.specs.components.{dot, slash, backslash, windows, prefix, kinds, parts_of};
 ghost use Rattle.typed_path.specs.changes.{push};
 ghost use Rattle.typed_path.specs.places.{is_within};
-ghost use Rattle.typed_path.specs.promises.{IsBelow, StaysStable};
-ghost use Rattle.typed_path.specs.queries.{has_prefix, prefix_in, reserved_names};
+ghost use Rattle.typed_path.specs.promises.{IsBelow, StaysStable, IsAlikeBehind, LeadsBackOnWindows};
+ghost use Rattle.typed_path.specs.queries.{has_prefix, prefix_in, reserved_names, simplified_text};
 ghost use Rattle.typed_path.specs.order.{kind_cmp};
 ghost use Rattle.typed_path.specs.order.Words.{prefix_words, windows_words};
 ghost use Rattle.typed_path.specs.views.PieceViews.{prefix_view};
@@ -35,6 +35,26 @@ pub fn prefixed_within_leads_below(directory: &[u8], path: &[u8], base: &[u8])
         → is_within windows path.now base.now ≡ true
         → IsBelow windows (push windows directory.now base.now)
         (push windows directory.now path.now) }
+{}
+
+/// A path that leads from a base to another leads back behind a base that keeps its prefix, and if that is
+/// verbatim ends with as many names as parents lead up.
+pub fn relative_leads_back_on_windows(path: &[u8], base: &[u8])
+    ensures { LeadsBackOnWindows path.now base.now }
+{}
+
+/// A simplified path has the components of the path, but that the verbatim drive may have become the drive:
+/// it is absolute, has a root and a file name as the path, and resolves to the same names.
+#[tactic(auto, using(crate::proofs::lemmas::queries::Simplified::alike_behind))]
+pub fn simplified_is_alike_behind(path: &[u8])
+    ensures { IsAlikeBehind path.now (simplified_text windows path.now) }
+{}
+
+/// A simplified path is its own simplified path.
+#[tactic(auto, using(crate::proofs::lemmas::queries::Simplified::simplified_again))]
+pub fn simplified_stays(path: &[u8])
+    ensures { simplified_text windows (simplified_text windows path.now)
+        ≡ simplified_text windows path.now }
 {}
 
 /// The constants of Windows have these values.

@@ -2,10 +2,10 @@
 
 ghost use Rattle.std.specs.Prelude.{◌≡◌, [], IfOk, IsOk, Ok, not, IfSome, option_map, option_copied};
 ghost use Rattle.typed_path.specs.typed.{kind_dialect, derived_dialect, typed_dialect};
-ghost use Rattle.typed_path.specs.typed.Outcomes.{JoinsChecked, Normalizes, ConvertsChecked, Absolutizes};
+ghost use Rattle.typed_path.specs.typed.Outcomes.{JoinsChecked, LeadsFrom, Normalizes, ConvertsChecked, Absolutizes};
 ghost use Rattle.typed_path.specs.views.TypedViews.{typed_bytes, owned_bytes, typed_items, typed_slice, typed_iter_items, typed_iter_slice, typed_ancestors_left, typed_displayed, reading_dialect};
 ghost use Rattle.typed_path.specs.components.{unix, windows, kinds, comps, parts_of};
-ghost use Rattle.typed_path.specs.changes.{with_file_name, with_extension};
+ghost use Rattle.typed_path.specs.changes.{with_file_name, with_extension, with_added_extension};
 ghost use Rattle.typed_path.specs.conversions.{converted};
 ghost use Rattle.typed_path.specs.places.{clean_text, is_within};
 ghost use Rattle.typed_path.specs.promises.{keeps_prefix};
@@ -14,14 +14,16 @@ ghost use Rattle.typed_path.specs.changes.Push as push_spec;
 ghost use Rattle.std.specs.Str.{IsUtf8};
 ghost use Rattle.std.specs.Str.Lossy.{utf8_lossy};
 ghost use Rattle.std.specs.Cow.{cow_str_bytes, IsBorrowedStr};
-ghost use Rattle.typed_path.specs.queries.{is_absolute, has_root, parent_of, file_name_of, file_stem_of, stripped, path_starts_with, path_ends_with, ancestors_of, stripped_to, text_of_bytes, extension};
+ghost use Rattle.typed_path.specs.queries.{is_absolute, has_root, parent_of, file_name_of, file_stem_of, stripped, path_starts_with, path_ends_with, ancestors_of, stripped_to, text_of_bytes, extension, file_prefix_of, has_trailing_separator, simplified_text, common_ancestor_of};
 
 use crate::common::{Ancestors, Display, Iter, Path};
 use crate::errors::{AbsolutizeError, PathError, StripPrefixError};
 use crate::platform::PlatformPath;
 use crate::typed::path_buf::TypedPathBuf;
 use crate::typed::reading::TypedComponents;
-use crate::typed::variant::{PathType, Typed, each, made_as, typed, typed_option, typed_result};
+use crate::typed::variant::{
+    PathType, Typed, each, made_as, typed, typed_option, typed_option_result, typed_result,
+};
 use crate::unix::{UnixEncoding, UnixPath};
 use crate::windows::{WindowsEncoding, WindowsPath};
 use std::alloc::{AllocError, Global};
@@ -141,6 +143,19 @@ impl<'a> TypedPath<'a> {
         each!(self, path => path.keeps_prefix())
     }
 
+    /// The path of a verbatim drive of Windows without its `\\?\`, where that means the same to Windows;
+    /// else the path itself, as each one of Unix.
+    pub fn simplified(self) -> TypedPath<'a>
+        ensures dialect { typed_dialect result ≡ typed_dialect self.entry }
+        ensures bytes { typed_bytes result
+            ≡ simplified_text (typed_dialect self.entry) (typed_bytes self.entry) }
+    {
+        match self {
+            Typed::Unix(_) => self,
+            Typed::Windows(path) => Typed::Windows(path.simplified()),
+        }
+    }
+
     /// The path without its last component, or none where there is no component or nothing is above
     /// the last one.
     pub fn parent(self) -> Option<TypedPath<'a>>
@@ -185,6 +200,21 @@ impl<'a> TypedPath<'a> {
         each!(self, path => path.extension())
     }
 
+    /// The file name up to its first dot that is not its first byte.
+    pub fn file_prefix(self) -> Option<&'a [u8]>
+        ensures { option_copied result
+            ≡ file_prefix_of (typed_dialect self.entry) (typed_bytes self.entry) }
+    {
+        each!(self, path => path.file_prefix())
+    }
+
+    /// Whether the last byte separates components of the path.
+    pub fn has_trailing_separator(self) -> bool
+        ensures { result ≡ has_trailing_separator (typed_dialect self.entry) (typed_bytes self.entry) }
+    {
+        each!(self, path => path.has_trailing_separator())
+    }
+
     /// What is left of the path behind a base of its kind.
     ///
     /// # Errors
@@ -207,11 +237,32 @@ impl<'a> TypedPath<'a> {
         each!(self, path => path.starts_with(Path::new(base)))
     }
 
+    /// The front of the path up to where the components end with which another of its kind begins too,
+    /// as they are written; none where the two begin with none alike.
+    pub fn common_ancestor(self, other: &[u8]) -> Option<TypedPath<'a>>
+        ensures dialect { IfSome result (λ p. typed_dialect p ≡ typed_dialect self.entry) }
+        ensures bytes { option_map typed_bytes result
+            ≡ common_ancestor_of (typed_dialect self.entry) (typed_bytes self.entry) other.now }
+    {
+        typed_option!(self, path => path.common_ancestor(Path::new(other)))
+    }
+
     /// Whether the path lies at a base of its kind or below it, from whatever directory both are read.
     pub fn is_within(self, base: &[u8]) -> bool
         ensures { result ≡ is_within (typed_dialect self.entry) (typed_bytes self.entry) base.now }
     {
         each!(self, path => path.is_within(Path::new(base)))
+    }
+
+    /// The path that leads from a base of its kind to this one, where there is one, as
+    /// [`Path::relative_to`] has it.
+    pub fn relative_to(self, alloc: Global, base: &[u8]) -> Result<Option<TypedPathBuf>, AllocError>
+        ensures dialect { IfOk result (λ found. IfSome found
+            (λ p. typed_dialect p ≡ typed_dialect self.entry)) }
+        ensures leads { LeadsFrom (typed_dialect self.entry) owned_bytes base.now
+            (typed_bytes self.entry) result }
+    {
+        typed_option_result!(self, path => path.relative_to(alloc, Path::new(base)))
     }
 
     /// Whether the path ends with the components of another of its kind, as they are written.
@@ -296,6 +347,20 @@ impl<'a> TypedPath<'a> {
             ≡ with_extension (typed_dialect self.entry) (typed_bytes self.entry) extension.now) }
     {
         typed_result!(self, path => path.with_extension(alloc, extension))
+    }
+
+    /// A copy with one extension more behind its file name. Without a file name, or with an empty
+    /// extension, it is a mere copy.
+    pub fn with_added_extension(
+        self,
+        alloc: Global,
+        extension: &[u8],
+    ) -> Result<TypedPathBuf, AllocError>
+        ensures dialect { IfOk result (λ p. typed_dialect p ≡ typed_dialect self.entry) }
+        ensures bytes { IfOk result (λ p. owned_bytes p
+            ≡ with_added_extension (typed_dialect self.entry) (typed_bytes self.entry) extension.now) }
+    {
+        typed_result!(self, path => path.with_added_extension(alloc, extension))
     }
 
     /// The path without `.`, and without `..` and the names that these take away, in the form of

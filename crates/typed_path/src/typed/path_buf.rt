@@ -7,10 +7,10 @@ ghost use Rattle.std.specs.Str.Lossy.{utf8_lossy};
 ghost use Rattle.std.specs.Cow.{cow_str_bytes, IsBorrowedStr};
 ghost use Rattle.typed_path.specs.components.{unix, windows, kinds, comps, parts_of};
 ghost use Rattle.typed_path.specs.typed.{kind_dialect, derived_dialect, typed_dialect, KeepsDialect, held_unix, held_windows};
-ghost use Rattle.typed_path.specs.typed.Outcomes.{Pushes, PushesChecked, Pops, SetsFileName, SetsExtension, Clears, Reserves, ReservesExactly, ShrinksTo, JoinsChecked, Normalizes, ConvertsChecked, Absolutizes};
+ghost use Rattle.typed_path.specs.typed.Outcomes.{Pushes, PushesChecked, Pops, SetsFileName, SetsExtension, Clears, Reserves, ReservesExactly, ShrinksTo, JoinsChecked, Normalizes, ConvertsChecked, Absolutizes, AddsExtension, LeadsFrom};
 ghost use Rattle.typed_path.specs.views.TypedViews.{typed_bytes, typed_owned, owned_bytes, typed_items, typed_slice, typed_iter_items, typed_iter_slice, typed_ancestors_left, reading_dialect};
-ghost use Rattle.typed_path.specs.queries.{is_absolute, has_root, parent_of, file_name_of, file_stem_of, extension, stripped, path_starts_with, path_ends_with, ancestors_of, stripped_to, text_of_bytes};
-ghost use Rattle.typed_path.specs.changes.{with_file_name, with_extension};
+ghost use Rattle.typed_path.specs.queries.{is_absolute, has_root, parent_of, file_name_of, file_stem_of, extension, stripped, path_starts_with, path_ends_with, ancestors_of, stripped_to, text_of_bytes, file_prefix_of, has_trailing_separator, simplified_text, common_ancestor_of};
+ghost use Rattle.typed_path.specs.changes.{with_file_name, with_extension, with_added_extension};
 ghost use Rattle.typed_path.specs.conversions.{converted, same_dialect};
 ghost use Rattle.typed_path.specs.places.{clean_text, is_within};
 ghost use Rattle.typed_path.specs.promises.{keeps_prefix};
@@ -149,6 +149,15 @@ impl TypedPathBuf {
         each!(self, own => own.set_extension(extension))
     }
 
+    /// As [`PathBuf::add_extension`].
+    pub fn add_extension(&mut self, extension: &[u8]) -> Result<bool, AllocError>
+        ensures dialect { KeepsDialect self.old self.new }
+        ensures extended { AddsExtension (typed_dialect self.old) (typed_owned self.old)
+            extension.now result (typed_owned self.new) }
+    {
+        each!(self, own => own.add_extension(extension))
+    }
+
     /// As [`PathBuf::clear`].
     pub fn clear(&mut self)
         ensures dialect { KeepsDialect self.old self.new }
@@ -280,6 +289,15 @@ impl TypedPathBuf {
         self.to_path().keeps_prefix()
     }
 
+    /// As [`TypedPath::simplified`].
+    pub fn simplified(&self) -> TypedPath<'_>
+        ensures dialect { typed_dialect result ≡ typed_dialect self.now }
+        ensures bytes { typed_bytes result
+            ≡ simplified_text (typed_dialect self.now) (owned_bytes self.now) }
+    {
+        self.to_path().simplified()
+    }
+
     /// As [`TypedPath::parent`].
     pub fn parent(&self) -> Option<TypedPath<'_>>
         ensures dialect { IfSome result (λ p. typed_dialect p ≡ typed_dialect self.now) }
@@ -321,6 +339,21 @@ impl TypedPathBuf {
         self.to_path().extension()
     }
 
+    /// As [`TypedPath::file_prefix`].
+    pub fn file_prefix(&self) -> Option<&[u8]>
+        ensures { option_copied result
+            ≡ file_prefix_of (typed_dialect self.now) (owned_bytes self.now) }
+    {
+        self.to_path().file_prefix()
+    }
+
+    /// As [`TypedPath::has_trailing_separator`].
+    pub fn has_trailing_separator(&self) -> bool
+        ensures { result ≡ has_trailing_separator (typed_dialect self.now) (owned_bytes self.now) }
+    {
+        self.to_path().has_trailing_separator()
+    }
+
     /// As [`TypedPath::strip_prefix`].
     pub fn strip_prefix(&self, base: &[u8]) -> Result<TypedPath<'_>, StripPrefixError>
         ensures dialect { IfOk result (λ p. typed_dialect p ≡ typed_dialect self.now) }
@@ -338,11 +371,34 @@ impl TypedPathBuf {
         self.to_path().starts_with(base)
     }
 
+    /// As [`TypedPath::common_ancestor`].
+    pub fn common_ancestor(&self, other: &[u8]) -> Option<TypedPath<'_>>
+        ensures dialect { IfSome result (λ p. typed_dialect p ≡ typed_dialect self.now) }
+        ensures bytes { option_map typed_bytes result
+            ≡ common_ancestor_of (typed_dialect self.now) (owned_bytes self.now) other.now }
+    {
+        self.to_path().common_ancestor(other)
+    }
+
     /// As [`TypedPath::is_within`].
     pub fn is_within(&self, base: &[u8]) -> bool
         ensures { result ≡ is_within (typed_dialect self.now) (owned_bytes self.now) base.now }
     {
         self.to_path().is_within(base)
+    }
+
+    /// As [`TypedPath::relative_to`].
+    pub fn relative_to(
+        &self,
+        alloc: Global,
+        base: &[u8],
+    ) -> Result<Option<TypedPathBuf>, AllocError>
+        ensures dialect { IfOk result (λ found. IfSome found
+            (λ p. typed_dialect p ≡ typed_dialect self.now)) }
+        ensures leads { LeadsFrom (typed_dialect self.now) owned_bytes base.now
+            (owned_bytes self.now) result }
+    {
+        self.to_path().relative_to(alloc, base)
     }
 
     /// As [`TypedPath::ends_with`].
@@ -405,6 +461,15 @@ impl TypedPathBuf {
             ≡ with_extension (typed_dialect self.now) (owned_bytes self.now) extension.now) }
     {
         self.to_path().with_extension(alloc, extension)
+    }
+
+    /// As [`TypedPath::with_added_extension`].
+    pub fn with_added_extension(&self, alloc: Global, extension: &[u8]) -> Result<Self, AllocError>
+        ensures dialect { IfOk result (λ p. typed_dialect p ≡ typed_dialect self.now) }
+        ensures bytes { IfOk result (λ p. owned_bytes p
+            ≡ with_added_extension (typed_dialect self.now) (owned_bytes self.now) extension.now) }
+    {
+        self.to_path().with_added_extension(alloc, extension)
     }
 
     /// As [`TypedPath::normalize`].

@@ -73,6 +73,24 @@ macro_rules! typed_result {
     };
 }
 
+/// The same where there may be no answer, or it may be refused.
+macro_rules! typed_option_result {
+    ($typed:expr, $held:ident => $answer:expr) => {
+        match $typed {
+            Self::Unix($held) => match $answer {
+                Ok(Some(answer)) => Ok(Some(Typed::Unix(answer))),
+                Ok(None) => Ok(None),
+                Err(error) => Err(error),
+            },
+            Self::Windows($held) => match $answer {
+                Ok(Some(answer)) => Ok(Some(Typed::Windows(answer))),
+                Ok(None) => Ok(None),
+                Err(error) => Err(error),
+            },
+        }
+    };
+}
+
 /// A value of the kind that is named.
 macro_rules! made_as {
     ($kind:expr, $made:expr) => {
@@ -87,6 +105,7 @@ pub(super) use each;
 pub(super) use made_as;
 pub(super) use typed;
 pub(super) use typed_option;
+pub(super) use typed_option_result;
 pub(super) use typed_result;
 
 impl<U, W> Typed<U, W> {

@@ -4,14 +4,14 @@
 ghost use Rattle.std.specs.Prelude.{◌≡◌, true, ⊤, not, option_map, is_ok, IfOk, IfErr, option_copied, [], IsOk, Ok, Err, Some, None};
 ghost use Rattle.std.specs.Str.{is_utf8};
 ghost use Rattle.typed_path.specs.views.PathViews.{path_bytes};
-ghost use Rattle.typed_path.specs.typed.Outcomes.{JoinsChecked, Normalizes, ConvertsChecked, Absolutizes};
+ghost use Rattle.typed_path.specs.typed.Outcomes.{JoinsChecked, LeadsFrom, Normalizes, ConvertsChecked, Absolutizes};
 ghost use Rattle.typed_path.specs.texts.{is_text_option, IsTextError};
 ghost use Rattle.typed_path.specs.components.{kinds, comps, parts_of, unix, windows};
-ghost use Rattle.typed_path.specs.queries.{is_absolute, has_root, is_valid, parent_of, file_name_of, file_stem_of, stripped, path_starts_with, path_ends_with, ancestors_of, stripped_to, extension};
+ghost use Rattle.typed_path.specs.queries.{is_absolute, has_root, is_valid, parent_of, file_name_of, file_stem_of, stripped, path_starts_with, path_ends_with, ancestors_of, stripped_to, extension, file_prefix_of, has_trailing_separator, common_ancestor_of};
 ghost use Rattle.typed_path.specs.order.{is_same, path_cmp};
 ghost use Rattle.typed_path.specs.places.{clean_text, is_within};
 ghost use Rattle.typed_path.specs.promises.{keeps_prefix};
-ghost use Rattle.typed_path.specs.changes.{with_file_name, with_extension};
+ghost use Rattle.typed_path.specs.changes.{with_file_name, with_extension, with_added_extension};
 ghost use Rattle.typed_path.specs.conversions.{platform, same_dialect, converted};
 
 use crate::common::Path;
@@ -228,6 +228,20 @@ impl<'a, T: Utf8Encoding> Utf8Path<'a, T> {
         text_of_option(self.as_bytes_path().extension())
     }
 
+    /// The file name up to its first dot that is not its first character.
+    pub fn file_prefix(self) -> Option<&'a str>
+        ensures { option_copied result ≡ file_prefix_of T.Bytes.dialect (utf8_bytes self.entry) }
+    {
+        text_of_option(self.as_bytes_path().file_prefix())
+    }
+
+    /// Whether the last character separates components of the path.
+    pub fn has_trailing_separator(self) -> bool
+        ensures { result ≡ has_trailing_separator T.Bytes.dialect (utf8_bytes self.entry) }
+    {
+        self.as_bytes_path().has_trailing_separator()
+    }
+
     /// What is left of the path behind a base.
     ///
     /// # Errors
@@ -252,12 +266,42 @@ impl<'a, T: Utf8Encoding> Utf8Path<'a, T> {
         self.as_bytes_path().starts_with(base.as_bytes_path())
     }
 
+    /// The front of the path up to where the components end with which another begins too, as they are
+    /// written; none where the two begin with none alike.
+    pub fn common_ancestor(self, other: Utf8Path<'_, T>) -> Option<Utf8Path<'a, T>>
+        ensures { option_map utf8_bytes result ≡ common_ancestor_of T.Bytes.dialect
+            (utf8_bytes self.entry) (utf8_bytes other.entry) }
+    {
+        Utf8Path::of_option(self.as_bytes_path().common_ancestor(other.as_bytes_path()))
+    }
+
     /// Whether the path lies at a base or below it, from whatever directory both are read.
     pub fn is_within(self, base: Utf8Path<'_, T>) -> bool
         ensures { result ≡ is_within T.Bytes.dialect (utf8_bytes self.entry)
             (utf8_bytes base.entry) }
     {
         self.as_bytes_path().is_within(base.as_bytes_path())
+    }
+
+    /// The path that leads from a base to this one, where there is one, as
+    /// [`Path::relative_to`](crate::Path::relative_to) has it.
+    #[tactic(auto, using(crate::proofs::lemmas::texts::TextChanges::text_laws, crate::proofs::lemmas::texts::TextSteps::relative_laws))]
+    pub fn relative_to(
+        self,
+        alloc: Global,
+        base: Utf8Path<'_, T>,
+    ) -> Result<Option<Utf8PathBuf<T>>, AllocError>
+        ensures { LeadsFrom T.Bytes.dialect (λ p. p.bytes) (utf8_bytes base.entry)
+            (utf8_bytes self.entry) result }
+    {
+        match self
+            .as_bytes_path()
+            .relative_to(alloc, base.as_bytes_path())
+        {
+            Ok(Some(path)) => Ok(Some(Utf8PathBuf::of(path))),
+            Ok(None) => Ok(None),
+            Err(error) => Err(error),
+        }
     }
 
     /// Whether the path ends with the components of another, as they are written.
@@ -346,6 +390,24 @@ impl<'a, T: Utf8Encoding> Utf8Path<'a, T> {
         owned!(
             self.as_bytes_path()
                 .with_extension(alloc, extension.as_bytes())
+        )
+    }
+
+    /// A copy with one extension more behind its file name. Without a file name, or with an empty
+    /// extension, it is a mere copy.
+    ///
+    /// `/tmp/日本語/` with `z` is `/tmp/日本語.z`.
+    pub fn with_added_extension(
+        self,
+        alloc: Global,
+        extension: &str,
+    ) -> Result<Utf8PathBuf<T>, AllocError>
+        ensures { IfOk result
+            (λ p. p.bytes ≡ with_added_extension T.Bytes.dialect (utf8_bytes self.entry) extension.now) }
+    {
+        owned!(
+            self.as_bytes_path()
+                .with_added_extension(alloc, extension.as_bytes())
         )
     }
 

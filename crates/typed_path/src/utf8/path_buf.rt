@@ -4,7 +4,7 @@
 ghost use Rattle.std.specs.Prelude.{◌≡◌, true, ◌≤◌, ◌+◌, [], length, is_some, max, min, IsSome, None, IfOk, OnOk, OnErr, IsOk, is_ok, IfErr, map, refl};
 ghost use Rattle.std.specs.Str.{is_utf8};
 ghost use Rattle.std.specs.String.{string_bytes, string_capacity};
-ghost use Rattle.typed_path.specs.changes.{refusal, FitsPush, push_all, IsKnown, fault, popped, without_file_name, with_file_name, with_extension};
+ghost use Rattle.typed_path.specs.changes.{refusal, FitsPush, push_all, IsKnown, fault, popped, without_file_name, with_file_name, with_extension, with_added_extension};
 ghost use Rattle.typed_path.specs.promises.{HasPrefixOf, LiesWithin};
 ghost use Rattle.typed_path.specs.queries.{parent_of, file_name_of};
 ghost use Rattle.std.specs.Cmp.{eq_by_cmp_equiv, on_total, partial_equiv_from_equiv, partial_order_from_total};
@@ -221,6 +221,25 @@ impl<T: Utf8Encoding> Utf8PathBuf<T> {
             ≤ self.old.capacity → IsOk result }
     {
         self.inner.set_extension(extension.as_bytes())
+    }
+
+    /// Puts one extension more behind the file name, and answers whether there is one. Without one,
+    /// and where the extension is empty, nothing changes.
+    ///
+    /// Where memory is refused the path is as it was, and has no less room.
+    pub fn add_extension(&mut self, extension: &str) -> Result<bool, AllocError>
+        ensures ok { OnOk result
+            (self.new.bytes ≡ with_added_extension T.Bytes.dialect self.old.bytes extension.now) }
+        ensures flag { IfOk result
+            (λ renamed. renamed ≡ is_some (file_name_of T.Bytes.dialect self.old.bytes)) }
+        ensures err { OnErr result (self.new.bytes ≡ self.old.bytes) }
+        ensures unchanged { file_name_of T.Bytes.dialect self.old.bytes ≡ None
+            → self.new ≡ self.old }
+        ensures capacity { self.old.capacity ≤ self.new.capacity }
+        ensures succeeds { length (with_added_extension T.Bytes.dialect self.old.bytes extension.now)
+            ≤ self.old.capacity → IsOk result }
+    {
+        self.inner.add_extension(extension.as_bytes())
     }
 
     /// Makes the path the empty one. It keeps its room.

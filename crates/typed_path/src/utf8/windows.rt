@@ -5,7 +5,7 @@ ghost use Rattle.std.specs.Prelude.{◌≡◌, true, false, codes, Some, min, is
 ghost use Rattle.std.specs.Str.{is_utf8};
 ghost use Rattle.typed_path.specs.components.{windows, Part, kinds};
 ghost use Rattle.typed_path.specs.views.TextComponentViews.{text_windows_part, IsTextPrefixReading, text_prefix_part, IsTextPrefixComponentReading, IsTextWindowsReading};
-ghost use Rattle.typed_path.specs.queries.{is_verbatim_prefix, prefix_length, is_prefix, prefix_in, prefix_part_in, first_prefix, prefix_among, has_prefix, has_any_verbatim_prefix, has_verbatim_prefix, has_verbatim_unc_prefix, has_verbatim_disk_prefix, has_device_ns_prefix, has_unc_prefix, has_disk_prefix, has_physical_root, has_implicit_root};
+ghost use Rattle.typed_path.specs.queries.{is_verbatim_prefix, prefix_length, is_prefix, prefix_in, prefix_part_in, first_prefix, prefix_among, has_prefix, has_any_verbatim_prefix, has_verbatim_prefix, has_verbatim_unc_prefix, has_verbatim_disk_prefix, has_device_ns_prefix, has_unc_prefix, has_disk_prefix, has_physical_root, has_implicit_root, simplified_text};
 ghost use Rattle.typed_path.specs.texts.{is_text_prefix, is_text_part, is_text_part_option, IsTextError, prefix_no_text, part_no_text};
 ghost use Rattle.typed_path.specs.views.PieceViews.{prefix_view};
 ghost use Rattle.typed_path.specs.views.TextPieceViews.{text_prefix};
@@ -41,6 +41,18 @@ impl Utf8Encoding for Utf8WindowsEncoding {
     ghost IS_PLATFORM = { false };
 
     const IS_PLATFORM: bool = false;
+}
+
+impl<'a> Utf8Path<'a, Utf8WindowsEncoding> {
+    /// The path of a verbatim drive without its `\\?\`, where that means the same to Windows; else the
+    /// path itself. When it means the same, [`Path::simplified`] says.
+    ///
+    /// [`Path::simplified`]: crate::Path::simplified
+    pub fn simplified(self) -> Utf8WindowsPath<'a>
+        ensures { utf8_bytes result ≡ simplified_text windows (utf8_bytes self.entry) }
+    {
+        Utf8Path::of(self.as_bytes_path().simplified())
+    }
 }
 
 /// Prints the name of the type.

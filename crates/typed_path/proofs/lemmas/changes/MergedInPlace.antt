@@ -7,8 +7,8 @@ use Rattle.std.proofs.lemmas.List.Elements.{All-nil, All-cons}
 use Rattle.std.proofs.lemmas.List.Sums.{sum_by-cons, sum_by-append}
 use Rattle.std.proofs.Math.Seq.{drop-append_seam, take-append_seam}
 use Rattle.typed_path.specs.declared.scan.separators.Separators.{Separators}
-use Rattle.typed_path.specs.declared.scan.separators.Separators.TheVariants.{Backslash, Either}
-use Rattle.typed_path.specs.components.{windows, backslash, dot, separators, is_separator, root_text, begins_verbatim, Kind, prefix, root, current, parent, normal, Part, kinds, root_part, prefix_part, current_part, parent_part, name_part, is_name, Found, prefix_of, is_empty, is_dot, is_dot_dot, parts_of}
+use Rattle.typed_path.specs.declared.scan.separators.Separators.TheVariants.{Slash, Backslash, Either}
+use Rattle.typed_path.specs.components.{windows, backslash, dot, separators, is_separator, is_verbatim, root_text, begins_verbatim, Kind, prefix, root, current, parent, normal, Part, kinds, root_part, prefix_part, current_part, parent_part, name_part, is_name, Found, prefix_of, is_empty, is_dot, is_dot_dot, parts_of}
 use Rattle.typed_path.specs.queries.{has_prefix, has_any_verbatim_prefix, begins_with_root}
 use Rattle.typed_path.specs.changes.{spelled, merged, raw_length, spells_anew, without_last_name, merge_by_kind, push_windows, IsStanding, IsReadFirst, AreReadBehind, IsMergeable, AreMergeable, Stands, IsSpelled, names_behind, room_of, IsKnown}
 use Rattle.typed_path.proofs.lemmas.lists.Lists.{AllByRecursion-weaker, width, width-slice_split, AllByRecursion-append}
@@ -110,31 +110,39 @@ two-bytes piece e = cc
 named-size : (piece : List ℕ) → size (named_part piece) ≤ length piece + 1
 named-size piece = cond_both (is_dot_dot piece) parent_part (name_part piece) (λ p. size p ≤ length piece + 1) (λ e. omega (arith, two-bytes piece e)) (λ e. omega arith)
 
-first-size : (piece : List ℕ) → size (first_part Either piece) ≤ length piece + 1
-first-size piece =
-    cond_both (length piece == 0) (root_part (root_text Either)) _ (λ p. size p ≤ length piece + 1) (λ e. omega arith)
-    (λ filled. cond_both (is_dot piece) current_part (named_part piece) (λ p. size p ≤ length piece + 1) (λ e. omega (arith, some-bytes piece filled)) (λ e. named-size piece))
+root-size : (s : Separators) → length (root_text s) ≤ 1
+root-size Slash = omega arith
+root-size Backslash = omega arith
+root-size Either = omega arith
 
-later-size : (piece : List ℕ) → room_of (later_part Either piece) ≤ length piece + 1
-later-size piece =
-    cond_both (length piece == 0) [] _ (λ ps. room_of ps ≤ length piece + 1) (λ e. omega arith)
-    (λ filled. cond_both (is_dot piece) [] (named_part piece ∷ []) (λ ps. room_of ps ≤ length piece + 1) (λ e. omega arith) (λ e. omega (arith, named-size piece)))
+module _ (s : Separators) where
+  first-size : (piece : List ℕ) → size (first_part s piece) ≤ length piece + 1
+  first-size piece =
+      cond_both (length piece == 0) (root_part (root_text s)) _ (λ p. size p ≤ length piece + 1) (λ e. omega (arith, root-size s))
+      (λ filled. cond_both (is_dot piece) current_part (named_part piece) (λ p. size p ≤ length piece + 1) (λ e. omega (arith, some-bytes piece filled)) (λ e. named-size piece))
 
-later-sizes : (ns : List (List ℕ)) → room_of (later_parts Either ns) ≤ width ns
-later-sizes [] = omega arith
-later-sizes (n ∷ ns) = omega (arith, later-size n, later-sizes ns, sum_by-append size (later_part Either n) (later_parts Either ns))
+  later-size : (piece : List ℕ) → room_of (later_part s piece) ≤ length piece + 1
+  later-size piece =
+      cond_both (length piece == 0) [] _ (λ ps. room_of ps ≤ length piece + 1) (λ e. omega arith)
+      (λ filled. cond_both (is_dot piece) (if is_verbatim s then current_part ∷ [] else []) (named_part piece ∷ []) (λ ps. room_of ps ≤ length piece + 1)
+      (λ e. cond_both (is_verbatim s) (current_part ∷ []) [] (λ ps. room_of ps ≤ length piece + 1) (λ v. omega (arith, some-bytes piece filled)) (λ v. omega arith))
+      (λ e. omega (arith, named-size piece)))
 
-first-sizes : (ns : List (List ℕ)) → room_of (first_parts Either ns) ≤ width ns
-first-sizes [] = omega arith
-first-sizes (n ∷ ns) = omega (arith, first-size n, later-sizes ns, sum_by-cons size (first_part Either n) (later_parts Either ns))
+  later-sizes : (ns : List (List ℕ)) → room_of (later_parts s ns) ≤ width ns
+  later-sizes [] = omega arith
+  later-sizes (n ∷ ns) = omega (arith, later-size n, later-sizes ns, sum_by-append size (later_part s n) (later_parts s ns))
+
+  first-sizes : (ns : List (List ℕ)) → room_of (first_parts s ns) ≤ width ns
+  first-sizes [] = omega arith
+  first-sizes (n ∷ ns) = omega (arith, first-size n, later-sizes ns, sum_by-cons size (first_part s n) (later_parts s ns))
+
+  pub room-body : (t : List ℕ) → room_of (body_parts s t) ≤ length t + 1
+  room-body [] = omega arith
+  room-body (b ∷ bs) = omega (arith, first-sizes (pieces s (b ∷ bs)), width-slice_split (is_separator s) (b ∷ bs))
 
 -- the components of a text without a prefix take a byte more than the text at the most
 pub room-text : (t : List ℕ) → has_prefix (kinds (parts_of windows t)) ≡ false → room_of (parts_of windows t) ≤ length t + 1
-room-text t h = subst (λ ps. room_of ps ≤ length t + 1) (sym (parts_of-none t (no-prefix t h))) (by t)
-  where
-    by : (t : List ℕ) → room_of (body_parts Either t) ≤ length t + 1
-    by [] = omega arith
-    by (b ∷ bs) = omega (arith, first-sizes (pieces Either (b ∷ bs)), width-slice_split (is_separator Either) (b ∷ bs))
+room-text t h = subst (λ ps. room_of ps ≤ length t + 1) (sym (parts_of-none t (no-prefix t h))) (room-body Either t)
 
 -- what is read behind a prefix: a root and what stands behind it, or what stands there at once
 pub read-rooted : (ps : List Part) → AreReadBehind ps → begins_with_root (kinds ps) ≡ true → (qs : List Part) × (ps ≡ root_part (backslash ∷ []) ∷ qs) × AllByRecursion IsStanding qs

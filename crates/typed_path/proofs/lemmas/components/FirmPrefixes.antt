@@ -275,6 +275,19 @@ unmarked s t none =
     (first-none _ _ _ (ap (λ o. option_and_then disk_made (option_and_then drive o)) none)
     (first-none _ _ _ (ap (option_and_then (verbatim_made s)) none) refl))
 
+-- a verbatim drive stays, whatever is put behind it
+pub verbatim_disk-stays : (s : Separators) (text x rest : List ℕ) (letter : ℕ) → after_mark question text ≡ Some rest → drive rest ≡ Some letter → prefix_by s (take 6 text ++ x) ≡ Some (found (verbatim_disk letter) 6)
+verbatim_disk-stays s text x rest letter is drives =
+    let now = take 2 rest ++ x in
+    let mark = mark-again question 2 text rest x is in
+    let again : drive now ≡ Some letter = drive-extends (take 2 rest) x letter (drive-take 2 rest (omega arith) ∙ drives) in
+    first-none _ _ _
+    (ap (λ o. option_and_then (share_made verbatim_unc 8 s) (option_and_then (after_unc s) o)) mark
+    ∙ ap (option_and_then (share_made verbatim_unc 8 s)) (drive-no_unc s now letter again))
+    (first-some _ _ _
+    (ap (λ o. option_and_then disk_made (option_and_then drive o)) mark
+    ∙ ap (option_and_then disk_made) again))
+
 module _ (s : Separators) (text x : List ℕ) (apart : Apart s x) where
   -- the verbatim share
   pub verbatim_unc-again : (rest : List ℕ) → option_and_then (after_unc s) (after_mark question text) ≡ Some rest → is_empty (name s rest) ≡ false → position_or_len (is_separator s) rest < length rest
@@ -288,19 +301,6 @@ module _ (s : Separators) (text x : List ℕ) (apart : Apart s x) where
       (ap (option_and_then (share_made verbatim_unc 8 s)) mark
       ∙ cond-false (is_empty (name s now)) None _ (ap is_empty names.first ∙ filled)
       ∙ (λ i. Some (found (verbatim_unc (names.first i) (names.second i)) (8 + names.size i))))
-
-  -- the verbatim drive
-  pub verbatim_disk-again : (rest : List ℕ) (letter : ℕ) → after_mark question text ≡ Some rest → drive rest ≡ Some letter → prefix_by s (take 6 text ++ x) ≡ Some (found (verbatim_disk letter) 6)
-  verbatim_disk-again rest letter is drives =
-      let now = take 2 rest ++ x in
-      let mark = mark-again question 2 text rest x is in
-      let again : drive now ≡ Some letter = drive-extends (take 2 rest) x letter (drive-take 2 rest (omega arith) ∙ drives) in
-      first-none _ _ _
-      (ap (λ o. option_and_then (share_made verbatim_unc 8 s) (option_and_then (after_unc s) o)) mark
-      ∙ ap (option_and_then (share_made verbatim_unc 8 s)) (drive-no_unc s now letter again))
-      (first-some _ _ _
-      (ap (λ o. option_and_then disk_made (option_and_then drive o)) mark
-      ∙ ap (option_and_then disk_made) again))
 
   -- the verbatim name, unless it is `UNC`
   pub verbatim-again : (rest : List ℕ) → after_mark question text ≡ Some rest → drive rest ≡ None → bytes_eq (name s rest) (codes "UNC") ≡ false → 0 < length (name s rest) + length x
@@ -391,7 +391,7 @@ firm-long s text f (of_disk letter drives) firm other = cc
 -- it is read again where its text is cut behind it and has something put apart behind that
 pub firm-again : (s : Separators) (text x : List ℕ) (f : Found) → Read s text f → is_firm f.prefix ≡ true → is_disk f.prefix ≡ false → Apart s x → 4 < f.length + length x → prefix_by s (take f.length text ++ x) ≡ Some f
 firm-again s text x f (of_verbatim_unc rest mark filled) firm other apart long = verbatim_unc-again s text x apart rest mark.marked filled (second-inside s rest (not-true _ firm))
-firm-again s text x f (of_verbatim_disk rest letter mark drives) firm other apart long = verbatim_disk-again s text x apart rest letter mark.marked drives
+firm-again s text x f (of_verbatim_disk rest letter mark drives) firm other apart long = verbatim_disk-stays s text x rest letter mark.marked drives
 firm-again s text x f (of_verbatim rest mark filled no_unc no_drive) firm other apart long = verbatim-again s text x apart rest mark.marked no_drive (not-true _ firm) (omega arith)
 firm-again s text x f (of_device rest mark filled) firm other apart long = device-again s text x apart rest mark.marked filled
 firm-again s text x f (of_unc rest mark filled no_verbatim no_device) firm other apart long =

@@ -13,7 +13,7 @@ use Rattle.typed_path.specs.changes.{raw_length}
 use Rattle.typed_path.specs.places.{resolve, IsPartedEither, TakesRows, IsHeadOf}
 use Rattle.typed_path.proofs.lemmas.components.Prefixes.{drive-size, name-fits, names-fit, Read, of_verbatim_unc, of_verbatim_disk, of_verbatim, of_device, of_unc, of_disk, prefix-read, after_mark-reads}
 use Rattle.typed_path.proofs.lemmas.components.PrefixCuts.{name-length, verbatim_text, IsUnended, name-unended, prefix_by, verbatim-take, plain-kind}
-use Rattle.typed_path.proofs.lemmas.components.FirmPrefixes.{Apart, nothing, parted, filled-long, second-inside, names-inside, names-size, names-long, is_firm, marks-differ, no_question, verbatim_unc-again, verbatim_disk-again, verbatim-again, device-again, unc-again, after_four-tests}
+use Rattle.typed_path.proofs.lemmas.components.FirmPrefixes.{Apart, nothing, parted, filled-long, second-inside, names-inside, names-size, names-long, is_firm, marks-differ, no_question, verbatim_unc-again, verbatim_disk-stays, verbatim-again, device-again, unc-again, after_four-tests}
 use Rattle.typed_path.proofs.lemmas.components.Segments.{first_parts, body_parts}
 
 -- Where a firm prefix ends that is neither a drive nor verbatim.
@@ -113,7 +113,7 @@ parted-again : (s : Separators) (text x : List ℕ) (f : Found) → Read s text 
     → prefix_by s (take f.length text ++ x) ≡ Some f
 parted-again s text x f (of_verbatim_unc rest mark filled) other no_unc more put_apart some =
     verbatim_unc-again s text x put_apart rest mark.marked filled (names-parted s rest (omega (arith, mark.size)))
-parted-again s text x f (of_verbatim_disk rest letter mark drives) other no_unc more put_apart some = verbatim_disk-again s text x put_apart rest letter mark.marked drives
+parted-again s text x f (of_verbatim_disk rest letter mark drives) other no_unc more put_apart some = verbatim_disk-stays s text x rest letter mark.marked drives
 parted-again s text x f (of_verbatim rest mark filled no_share no_drive) other no_unc more put_apart some =
     verbatim-again s text x put_apart rest mark.marked no_drive no_unc (by (name s rest) refl)
   where
@@ -185,20 +185,29 @@ apart-root s _ (parted b bs separates) some = ap (λ ps. begins_with_root (kinds
 abbrev pub RootBehind : List ℕ → Found → Type 0
 RootBehind text f = ((letter : ℕ) × (f.prefix ≡ verbatim_disk letter)) ⊎ (begins_with_root (kinds (resolve (body_parts (separators windows text) (drop f.length text)))) ≡ true)
 
--- each prefix with more behind it is one of these
-pub root-behind : (text : List ℕ) (f : Found) → prefix_of windows text ≡ Some f → is_disk f.prefix ≡ false → f.length < length text → RootBehind text f
-root-behind text f is other more = by f is more (behind_prefix text f read other more) (parted-long (separators windows text) text f read other more)
+-- behind each prefix with more behind it stands something apart, unless it is a verbatim drive
+pub apart-behind : (text : List ℕ) (f : Found) → prefix_of windows text ≡ Some f → is_disk f.prefix ≡ false → f.length < length text
+    → ((letter : ℕ) × (f.prefix ≡ verbatim_disk letter)) ⊎ Apart (separators windows text) (drop f.length text)
+apart-behind text f is other more = by f is more (behind_prefix text f read other more) (parted-long (separators windows text) text f read other more)
   where
     read : Read (separators windows text) text f
     read = prefix-read text f is
 
-    by : (f : Found) → prefix_of windows text ≡ Some f → f.length < length text → BehindPrefix text f → 4 ≤ f.length → RootBehind text f
+    by : (f : Found) → prefix_of windows text ≡ Some f → f.length < length text → BehindPrefix text f → 4 ≤ f.length
+        → ((letter : ℕ) × (f.prefix ≡ verbatim_disk letter)) ⊎ Apart (separators windows text) (drop f.length text)
     by _ is more (behind_drive letter n) long = inl (letter, refl)
-    by f is more (apart s kind plain h) long = inr (apart-root (separators windows text) (drop f.length text) (subst (λ r. Apart r (drop f.length text)) (same (is_verbatim_prefix f.prefix) refl) h) (omega (arith, more, length-drop f.length text)))
+    by f is more (apart s kind plain h) long = inr (subst (λ r. Apart r (drop f.length text)) (same (is_verbatim_prefix f.prefix) refl) h)
       where
         same : (b : Bool) → is_verbatim_prefix f.prefix ≡ b → s ≡ separators windows text
         same true e = kind e
         same false e = plain e ∙ sym (ap (λ b. if b then Backslash else Either) (plain-kind text f is e (omega (arith, long, more))))
+
+-- each prefix with more behind it is one of these
+pub root-behind : (text : List ℕ) (f : Found) → prefix_of windows text ≡ Some f → is_disk f.prefix ≡ false → f.length < length text → RootBehind text f
+root-behind text f is other more = elim (apart-behind text f is other more) [
+  | inl drives ↦ inl drives
+  | inr h ↦ inr (apart-root (separators windows text) (drop f.length text) h (omega (arith, more, length-drop f.length text)))
+]
 
 -- a part that stands behind a place is a root and the rest, or begins with no separator
 ends-parted : (s : Separators) (text root rest : List ℕ) → s ≡ Either → Apart s text → IsPartedEither text root rest → length root ≡ 0 → length rest ≡ 0

@@ -15,7 +15,7 @@ use Rattle.typed_path.proofs.lemmas.changes.Faults.{parts_of-some}
 use Rattle.typed_path.proofs.lemmas.places.CleanRows.{body-alike}
 
 -- rows are the segments with one separator between, and one more
-rows-joined : (s : Separators) (segment : List ℕ) (segments : List (List ℕ)) → rows_of s (segment ∷ segments) ≡ join_with_byte (row_end s) (segment ∷ segments) ++ row_end s ∷ []
+pub rows-joined : (s : Separators) (segment : List ℕ) (segments : List (List ℕ)) → rows_of s (segment ∷ segments) ≡ join_with_byte (row_end s) (segment ∷ segments) ++ row_end s ∷ []
 rows-joined s segment [] = append-nil (segment ++ row_end s ∷ [])
 rows-joined s segment (next ∷ segments) =
     ap (λ bs. (segment ++ row_end s ∷ []) ++ bs) (rows-joined s next segments)

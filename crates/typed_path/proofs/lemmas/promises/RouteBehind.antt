@@ -4,9 +4,10 @@ use Rattle.std.specs.Prelude.{is_some}
 use Rattle.typed_path.specs.components.{Dialect, unix, windows, Prefix, normal, Kind}
 use Rattle.typed_path.specs.queries.{begins_with_root, first_prefix, has_physical_root}
 use Rattle.typed_path.specs.changes.{push}
-use Rattle.typed_path.specs.places.{place, unmet, kept_names, is_anchored, rising, headed, routed}
-use Rattle.typed_path.specs.promises.{LeadAlike}
+use Rattle.typed_path.specs.places.{place, unmet, kept_names, is_anchored, rising, headed, routed, clean_text}
+use Rattle.typed_path.specs.promises.{CleanLeadsAlike, LeadAlike}
 use Rattle.typed_path.proofs.lemmas.places.KeptNames.{place-kept}
+use Rattle.typed_path.proofs.lemmas.promises.WindowsClean.{clean_form}
 use Rattle.typed_path.proofs.lemmas.promises.CleanRead.{ups, unmet-ups, names-ups}
 use Rattle.typed_path.proofs.lemmas.promises.Within.{kinds_of, has_prefix-first, bare-anchored, Leading, Replaces}
 use Rattle.typed_path.proofs.lemmas.promises.UnixWithin.{leading, unix-replaces}
@@ -101,3 +102,7 @@ module _ (d : Dialect) (dir t u : List ℕ) (l : Leading d dir) (replaces : Repl
 pub lead_alike : (d : Dialect) (dir t u : List ℕ) → LeadAlike d dir t u
 lead_alike unix dir t u kept absolute same = one-place unix dir t u (leading dir absolute) (unix-replaces dir) (alike (kinds_of unix t) (kinds_of unix u) same)
 lead_alike windows dir t u kept absolute same = one-place windows dir t u (windows-leading dir kept absolute) (replaces dir) (alike (kinds_of windows t) (kinds_of windows u) same)
+
+-- a clean text has the route of its text
+pub clean_leads_alike : (d : Dialect) (dir t : List ℕ) → CleanLeadsAlike d dir t
+clean_leads_alike d dir t kept absolute no_unc = let form = clean_form d t no_unc in lead_alike d dir (clean_text d t) t kept absolute form.route

@@ -1,7 +1,7 @@
 -- On Windows a path that is within a base lies below it, from each verbatim directory that keeps its prefix, and so from each that keeps its prefix.
-use Rattle.std.proofs.Common.{◌≡◌, ℕ, zero, suc, ◌+◌, ◌-◌, ◌==◌, ◌<◌, Bool, true, false, not, ◌||◌, ◌⊎◌, inl, inr, List, [], ◌∷◌, ◌++◌, map, if◌then◌else◌, length, take, drop, refl, sym, ap, ap₂, ◌∙◌, append_assoc, append-nil, take-append-drop, arith, subst, Option, Some, None, option_map, length-append}
+use Rattle.std.proofs.Common.{◌≡◌, ℕ, zero, suc, ◌+◌, ◌-◌, ◌==◌, ◌<◌, Bool, true, false, not, ◌||◌, ◌&&◌, ◌⊎◌, inl, inr, List, [], ◌∷◌, ◌++◌, map, if◌then◌else◌, length, take, drop, refl, sym, ap, ap₂, ◌∙◌, append_assoc, append-nil, take-append-drop, arith, subst, Option, Some, None, option_map, length-append}
 use Rattle.std.proofs.Math.Seq.{drop-append_seam}
-use Rattle.std.proofs.lemmas.List.{map-append, length-take-le, take_all, take-append-le}
+use Rattle.std.proofs.lemmas.List.{map-append, length-map, length-take-le, take_all, take-append-le}
 use Rattle.std.proofs.lemmas.Bool.{both_ways, cases_Bool, cond-true, true_from_ne_false, eqb-true, eqb-false, and_parts}
 use Rattle.std.specs.List.{AllByRecursion}
 use Rattle.typed_path.specs.declared.scan.separators.Separators.{Separators}
@@ -10,7 +10,7 @@ use Rattle.typed_path.specs.components.{Dialect, unix, windows, separators, is_s
 use Rattle.typed_path.specs.queries.{begins_with_root, has_any_verbatim_prefix, is_absolute, is_disk, is_verbatim_prefix}
 use Rattle.typed_path.specs.changes.{push, push_windows, push_behind, spelled, merged, without_last_name}
 use Rattle.typed_path.specs.places.{place, unmet, kept_names, headed}
-use Rattle.typed_path.specs.promises.{LeadsBelow, keeps_by_prefix, keeps_prefix}
+use Rattle.typed_path.specs.promises.{LeadsBelow, keeps_by_prefix, keeps_prefix, names_at_end}
 use Rattle.typed_path.proofs.lemmas.lists.Lists.{AllByRecursion-append, AllByRecursion-weaker}
 use Rattle.typed_path.proofs.lemmas.components.Segments.{body_parts, body_parts-read, AreRead, IsWritten, IsWrittenPart, IsLaterPart, IsWritten-later, IsCleanName, each-written}
 use Rattle.typed_path.proofs.lemmas.components.Prefixes.{OfWindows, FoundFits, prefix-fits, prefix-read, separators-windows, backslash-separates, root_text-windows, unseparated-either, Read, of_verbatim_unc, of_verbatim_disk, of_verbatim}
@@ -30,7 +30,7 @@ use Rattle.typed_path.proofs.lemmas.promises.WindowsWithin.{body_kinds, kinds-no
 
 -- A list that takes another: names at its end meet the parents that are left over, and the names that are kept stand behind.
 
-abbrev named : List (List ℕ) → List Part
+abbrev pub named : List (List ℕ) → List Part
 named names = map name_part names
 
 take-nothing : (n : ℕ) → take {A = List ℕ} n [] ≡ []
@@ -101,19 +101,35 @@ module _ (s : Separators) (ps : List Part) (stays : without_last_name ps ≡ ps)
           ∙ ap (λ ns. ps ++ named ns) (name-taken names (kept_names (kinds qs)) name (unmet (kinds qs)))
 
 -- a list, and the names at its end
-record Ends (s : Separators) (ps : List Part) : Type 0 where
-  front : List Part
-  names : List (List ℕ)
-  is : ps ≡ front ++ named names
-  stays : without_last_name (root_part [] ∷ front) ≡ root_part [] ∷ front
-  clean : AllByRecursion (IsCleanName s) names
+pub record Ends (s : Separators) (ps : List Part) : Type 0 where
+  pub front : List Part
+  pub names : List (List ℕ)
+  pub is : ps ≡ front ++ named names
+  pub stays : without_last_name (root_part [] ∷ front) ≡ root_part [] ∷ front
+  pub clean : AllByRecursion (IsCleanName s) names
+  pub count : names_at_end (kinds ps) ≡ length names
+
+-- as many names as components, and a name more; or fewer
+all_names : (n size names : ℕ) → n ≡ names → size ≡ names → (if n == size then suc size else n) ≡ suc names
+all_names n size names e f = by (n == size) refl
+  where
+    by : (b : Bool) → (n == size) ≡ b → (if b then suc size else n) ≡ suc names
+    by true g = ap suc f
+    by false g = let differ = eqb-false n size g in absurd (omega (arith, e, f, differ))
+
+some_names : (n size names : ℕ) → n ≡ names → names < size → (if n == size then suc size else n) ≡ names
+some_names n size names e f = by (n == size) refl
+  where
+    by : (b : Bool) → (n == size) ≡ b → (if b then suc size else n) ≡ names
+    by true g = absurd (omega (arith, e, f, eqb-true n size g))
+    by false g = e
 
 ends : (s : Separators) (ps : List Part) → AllByRecursion (IsWrittenPart s) ps → Ends s ps
-ends s [] written = record { front = []; names = []; is = refl; stays = refl; clean = tt }
+ends s [] written = record { front = []; names = []; is = refl; stays = refl; clean = tt; count = refl }
 ends s (p ∷ ps) written = by p.kind p.text written.0 (ends s ps written.1)
   where
     longer : (k : Kind) (text : List ℕ) → is_name k ≡ false → Ends s ps → Ends s (record { kind = k; text = text } ∷ ps)
-    longer k text other r = record { front = record { kind = k; text = text } ∷ r.front; names = r.names; is = ap (λ qs. record { kind = k; text = text } ∷ qs) r.is; stays = kept r.front r.stays; clean = r.clean }
+    longer k text other r = record { front = record { kind = k; text = text } ∷ r.front; names = r.names; is = ap (λ qs. record { kind = k; text = text } ∷ qs) r.is; stays = kept r.front r.stays; clean = r.clean; count = ap (λ b. if b && (names_at_end (kinds ps) == length (kinds ps)) then suc (length (kinds ps)) else names_at_end (kinds ps)) other ∙ r.count }
       where
         kept : (front : List Part) → without_last_name (root_part [] ∷ front) ≡ root_part [] ∷ front
             → without_last_name (root_part [] ∷ record { kind = k; text = text } ∷ front) ≡ root_part [] ∷ record { kind = k; text = text } ∷ front
@@ -127,6 +143,7 @@ ends s (p ∷ ps) written = by p.kind p.text written.0 (ends s ps written.1)
       is = ap (λ t. record { kind = normal name; text = t } ∷ ps) w.0 ∙ ap (λ qs. name_part name ∷ qs) (r.is ∙ ap (λ f. f ++ named r.names) e);
       stays = refl;
       clean = (w.1, r.clean);
+      count = all_names (names_at_end (kinds ps)) (length (kinds ps)) (length r.names) r.count (length-map ps (λ p. p.kind) ∙ ap length (r.is ∙ ap (λ f. f ++ named r.names) e) ∙ length-map r.names name_part);
     }
     name_first name text w r (q ∷ qs) e = record {
       front = record { kind = normal name; text = text } ∷ q ∷ qs;
@@ -136,6 +153,8 @@ ends s (p ∷ ps) written = by p.kind p.text written.0 (ends s ps written.1)
           let f : without_last_name (q ∷ qs) ≡ q ∷ qs = cc (r.stays, e) in
           ap (λ us. root_part [] ∷ record { kind = normal name; text = text } ∷ us) f;
       clean = r.clean;
+      count = some_names (names_at_end (kinds ps)) (length (kinds ps)) (length r.names) r.count
+          (omega (arith, length-map ps (λ p. p.kind), ap length (r.is ∙ ap (λ f. f ++ named r.names) e), length-append (q ∷ qs) (named r.names), length-map r.names name_part));
     }
 
     by : (k : Kind) (text : List ℕ) → IsWritten s k text → Ends s ps → Ends s (record { kind = k; text = text } ∷ ps)
@@ -211,7 +230,7 @@ long-or-rooted s text f read kind = cc
 
 -- a verbatim directory whose prefix is firm
 module _ (dir : List ℕ) (f : Found) (is : prefix_of windows dir ≡ Some f) (firm : is_firm f.prefix ≡ true) (kind : is_verbatim_prefix f.prefix ≡ true) where
-  abbrev s : Separators
+  abbrev pub s : Separators
   s = separators windows dir
 
   w : OfWindows s
@@ -229,7 +248,7 @@ module _ (dir : List ℕ) (f : Found) (is : prefix_of windows dir ≡ Some f) (f
   size : length raw ≡ f.length
   size = length-take-le f.length dir fits.fits
 
-  abbrev own : List Part
+  abbrev pub own : List Part
   own = body_parts s (drop f.length dir)
 
   -- the place of what is spelled behind the prefix
@@ -289,14 +308,14 @@ module _ (dir : List ℕ) (f : Found) (is : prefix_of windows dir ≡ Some f) (f
       by (q ∷ qs) read rooted clean = at q.kind q.text qs read rooted clean
 
   -- the names at the end of the directory, and what is before them
-  end : Ends s own
+  pub end : Ends s own
   end = ends s own (each-written s own (body_parts-read s (drop f.length dir)))
 
   -- what is left of these and of a path behind them
-  abbrev left_behind : List ℕ → List (List ℕ)
+  abbrev pub left_behind : List ℕ → List (List ℕ)
   left_behind t = kept_names (kinds end.front) ++ (take (length end.names - unmet (kinds_of windows t)) end.names ++ kept_names (kinds_of windows t))
 
-  front-names : (names : List (List ℕ)) → kept_names (kinds (end.front ++ named names)) ≡ kept_names (kinds end.front) ++ names
+  pub front-names : (names : List (List ℕ)) → kept_names (kinds (end.front ++ named names)) ≡ kept_names (kinds end.front) ++ names
   front-names names =
       ap kept_names (map-append (λ p. p.kind) end.front (named names))
       ∙ kept_names-append (kinds end.front) (kinds (named names))
@@ -323,7 +342,7 @@ module _ (dir : List ℕ) (f : Found) (is : prefix_of windows dir ≡ Some f) (f
           at k e = cc
 
   -- a path without a root, behind what is left of the directory
-  relative-place : (t : List ℕ) → prefix_of windows t ≡ None → begins_with_root (kinds_of windows t) ≡ false → place windows (push windows dir t) ≡ under f.prefix (left_behind t)
+  pub relative-place : (t : List ℕ) → prefix_of windows t ≡ None → begins_with_root (kinds_of windows t) ≡ false → place windows (push windows dir t) ≡ under f.prefix (left_behind t)
   relative-place [] none relative =
       ap place_of (parts_of-some dir f is)
       ∙ place_of-kept (prefix_part f.prefix raw ∷ own) (read-body s own (body_parts-read s (drop f.length dir)))

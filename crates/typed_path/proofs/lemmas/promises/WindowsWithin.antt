@@ -29,7 +29,7 @@ use Rattle.typed_path.proofs.lemmas.promises.Within.{kinds_of, Leading, Replaces
 abbrev pub body_kinds : Separators → List ℕ → List Kind
 body_kinds s text = kinds (body_parts s text)
 
-kinds-found : (v : List ℕ) (f : Found) → prefix_of windows v ≡ Some f → kinds_of windows v ≡ prefix f.prefix ∷ body_kinds (separators windows v) (drop f.length v)
+pub kinds-found : (v : List ℕ) (f : Found) → prefix_of windows v ≡ Some f → kinds_of windows v ≡ prefix f.prefix ∷ body_kinds (separators windows v) (drop f.length v)
 kinds-found v f is = ap kinds (parts_of-some v f is)
 
 pub kinds-none : (t : List ℕ) → prefix_of windows t ≡ None → kinds_of windows t ≡ body_kinds Either t
@@ -88,13 +88,13 @@ on-drive : (text : List ℕ) (f : Found) → Read (separators windows text) text
 on-drive text f (of_disk letter drives) kind = ap (λ b. if b then Backslash else Either) (drive-plain text letter drives)
 on-drive text f read kind = cc
 
-either : (text : List ℕ) (f : Found) → prefix_of windows text ≡ Some f → is_verbatim_prefix f.prefix ≡ false → (is_disk f.prefix ≡ false → 4 < length text) → separators windows text ≡ Either
+pub either : (text : List ℕ) (f : Found) → prefix_of windows text ≡ Some f → is_verbatim_prefix f.prefix ≡ false → (is_disk f.prefix ≡ false → 4 < length text) → separators windows text ≡ Either
 either text f is plain long = elim (cases_Bool (is_disk f.prefix)) [
   | inl drives ↦ on-drive text f (prefix-read text f is) drives
   | inr other ↦ ap (λ c. if c then Backslash else Either) (plain-kind text f is plain (long other))
 ]
 
-kinds-plain : (text : List ℕ) (f : Found) → prefix_of windows text ≡ Some f → separators windows text ≡ Either → kinds_of windows text ≡ prefix f.prefix ∷ body_kinds Either (drop f.length text)
+pub kinds-plain : (text : List ℕ) (f : Found) → prefix_of windows text ≡ Some f → separators windows text ≡ Either → kinds_of windows text ≡ prefix f.prefix ∷ body_kinds Either (drop f.length text)
 kinds-plain text f is plain = kinds-found text f is ∙ ap (λ s. prefix f.prefix ∷ body_kinds s (drop f.length text)) plain
 
 -- a separator put behind a text adds no name

@@ -46,13 +46,13 @@ record IsTold (ks ls : List Kind) : Type 0 where
   prefixes : first_prefix ks ≡ first_prefix ls
   leads : Leads ks ls
 
-same-prefix : (o r : Option Prefix) → are_same_prefixes o r ≡ true → o ≡ r
+pub same-prefix : (o r : Option Prefix) → are_same_prefixes o r ≡ true → o ≡ r
 same-prefix None None e = refl
 same-prefix (Some p) (Some q) e = let same : prefix p ≡ prefix q = exact_kinds (prefix p) (prefix q) ((Equal-is (kind_cmp (prefix p) (prefix q))).0 e) in cc
 same-prefix None (Some q) e = cc
 same-prefix (Some p) None e = cc
 
-same-test : (a b : Bool) → (if a then b else not b) ≡ true → a ≡ b
+pub same-test : (a b : Bool) → (if a then b else not b) ≡ true → a ≡ b
 same-test true b e = sym e
 same-test false true e = cc
 same-test false false e = refl

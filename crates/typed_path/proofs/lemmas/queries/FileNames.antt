@@ -1,10 +1,11 @@
 -- A file name, its stem and its extension, and names with allowed bytes.
 use Rattle.std.proofs.Common.{◌≡◌, ℕ, ◌+◌, ◌-◌, ◌<◌, ◌≤◌, Bool, true, false, not, if◌then◌else◌, List, [], ◌∷◌, ◌++◌, length, reverse, drop, get_or, Some, None, All, ◌⊎◌, inl, inr, refl, sym, ap, ◌∙◌, append_assoc, arith, cond, take, Bor, ◌||◌, ◌==◌, subst, true≢false, eqb-true, get_or-drop, length-drop, length-take, take-append-drop, Result, Ok, Err, MatchResult, option_copied}
-use Rattle.std.specs.List.{list_any, before_last, after_last, suffix_len, slice_split, onto_first, AllByRecursion}
-use Rattle.std.proofs.lemmas.Bool.{not-true, not-false, cases_lt, both_ways, cond_both, false_from_ne_true}
-use Rattle.std.proofs.lemmas.List.{take_more, get_or-reverse, get_or_default, length-reverse}
+use Rattle.std.specs.Prelude.{position, nat_lt}
+use Rattle.std.specs.List.{list_any, before_first, after_first, position_or_len, before_last, after_last, suffix_len, slice_split, onto_first, AllByRecursion}
+use Rattle.std.proofs.lemmas.Bool.{not-true, not-false, cases_lt, ltb-false, both_ways, cond_both, false_from_ne_true}
+use Rattle.std.proofs.lemmas.List.{take_all, take_more, get_or-reverse, get_or_default, length-reverse}
 use Rattle.std.proofs.lemmas.List.Folds.{Any-from_list_any, list_any_none, list_any_at}
-use Rattle.std.proofs.lemmas.List.Sums.{prefix_len_passes, prefix_len_stops, suffix_len_is}
+use Rattle.std.proofs.lemmas.List.Sums.{prefix_len_passes, prefix_len_stops, suffix_len_is, passes_at_first, split_at_first}
 use Rattle.memchr.specs.Find.{Nowhere, NoneAfter, Passes}
 use Rattle.std.specs.Str.{IsUtf8, is_utf8}
 use Rattle.std.specs.Result.{result_ok}
@@ -14,10 +15,11 @@ use Rattle.typed_path.specs.declared.scan.separators.Separators.{Separators}
 use Rattle.typed_path.specs.declared.scan.cursor.Begin.{Begin}
 use Rattle.typed_path.specs.declared.scan.cursor.Begin.TheVariants.{Body, Inside}
 use Rattle.typed_path.specs.components.{dot, Dialect, dialect_of, is_separator, is_verbatim, root_text, Part, Kind, kinds, parts, root_part, current_part, parent_part, name_part, is_dot, is_dot_dot}
-use Rattle.typed_path.specs.queries.{is_a_dot, has_extension, stem_of, extension_of, text_of_bytes, is_disallowed, kind_has_allowed_bytes}
+use Rattle.typed_path.specs.queries.{is_a_dot, has_extension, first_stem_of, stem_of, extension_of, text_of_bytes, is_disallowed, kind_has_allowed_bytes}
 use Rattle.typed_path.specs.scan.{body_from}
 use Rattle.typed_path.specs.changes.{SeparatesDisallowed}
 use Rattle.typed_path.proofs.lemmas.lists.Lists.{AllByRecursion-append}
+use Rattle.typed_path.proofs.lemmas.components.Prefixes.{where-some}
 use Rattle.typed_path.proofs.lemmas.components.Segments.{pieces, later_part, later_parts, first_parts, body_parts, parts-body, parts-later_body}
 
 -- A file name, its stem and its extension.
@@ -63,6 +65,30 @@ named name has =
     let some = Any-from_list_any is_a_dot (drop 1 name) has in
     parted is_a_dot name (1 + some.0) 0 (omega arith) (omega (arith, some.2, length-drop 1 name))
     (ap is_a_dot (sym (get_or-drop 1 name some.0 0) ∙ get_or_default (drop 1 name) some.0 0 some.1 some.2 ∙ some.3) ∙ some.4)
+
+-- a text is cut at its first dot, or is all that stands before one
+pub before_dot_some : (text : List ℕ) (at : ℕ) → position is_a_dot text ≡ Some at → take at text ≡ before_first is_a_dot text
+before_dot_some text at is = ap (λ n. take n text) (sym (where-some (nat_lt (position_or_len is_a_dot text) (length text)) (position_or_len is_a_dot text) at is).1)
+
+pub before_dot_none : (text : List ℕ) → position is_a_dot text ≡ None → text ≡ before_first is_a_dot text
+before_dot_none text is = by (nat_lt (position_or_len is_a_dot text) (length text)) refl is
+  where
+    by : (inside : Bool) → nat_lt (position_or_len is_a_dot text) (length text) ≡ inside → (if inside then Some (position_or_len is_a_dot text) else None) ≡ None → text ≡ before_first is_a_dot text
+    by true e none = cc
+    by false e none = sym (take_all (position_or_len is_a_dot text) text (ltb-false _ _ e))
+
+-- a name is its own first stem, or a dot stands behind that
+pub first_stem_of-parted : (name : List ℕ) → (first_stem_of name ≡ name) ⊎ ((rest : List ℕ) × (name ≡ first_stem_of name ++ dot ∷ rest))
+first_stem_of-parted [] = inl refl
+first_stem_of-parted (b ∷ bs) = elim (cases_lt (position_or_len is_a_dot bs) (length bs)) [
+  | inl inside ↦
+      let a_dot = eqb-true (get_or bs (position_or_len is_a_dot bs) 0) dot (passes_at_first is_a_dot bs 0 inside) in
+      inr (
+        after_first is_a_dot bs,
+        ap (λ cs. b ∷ cs) (split_at_first is_a_dot bs 0 inside ∙ ap (λ x. before_first is_a_dot bs ++ x ∷ after_first is_a_dot bs) a_dot),
+      )
+  | inr all ↦ inl (ap (λ cs. b ∷ cs) (take_all (position_or_len is_a_dot bs) bs all))
+]
 
 -- without an extension a name is its own stem
 pub stem_of-whole : (name : List ℕ) → extension_of name ≡ None → stem_of name ≡ name

@@ -18,7 +18,7 @@ use Rattle.typed_path.specs.scan.{last_part, back, left, last_of, but_last, end_
 use Rattle.typed_path.specs.queries.{is_root, parent_of, name_of, file_name_of, upwards, is_top, upwards_from, readings_behind, readings_above, ancestors_of, is_read_as, is_child_of, IsOneBelow, stem_of}
 use Rattle.typed_path.specs.order.{kinds_cmp, kinds_cmp_total, exact_lists, exact_kinds}
 use Rattle.typed_path.specs.views.PieceViews.{part_of, kind_view}
-use Rattle.typed_path.specs.changes.{popped, without_file_name, start_of_last, stem_end}
+use Rattle.typed_path.specs.changes.{popped, without_file_name, start_of_last, stem_end, name_end}
 use Rattle.typed_path.proofs.lemmas.scan.Readings.{left-taken, left-parent, stepwise_slices}
 use Rattle.typed_path.proofs.lemmas.components.Cuts.{body-take, comps-laid_out}
 use Rattle.typed_path.proofs.lemmas.components.Prefixes.{FoundFits, prefix-fits, some_is}
@@ -404,6 +404,12 @@ pub stem_end-name : (d : Dialect) (t name : List ℕ) → (h : HasName d t name)
 stem_end-name d t name h =
     ap (λ o. option_map (λ n. start_of_last o + length (stem_of n)) (option_and_then (λ last. name_of last.part.kind) o)) h.is_last
     ∙ ap (λ p. option_map (λ n. h.last.start + length (stem_of n)) (name_of p.kind)) h.part
+
+-- and where the name itself does
+pub name_end-name : (d : Dialect) (t name : List ℕ) → (h : HasName d t name) → name_end d t ≡ Some (h.last.start + length name)
+name_end-name d t name h =
+    ap (λ o. option_map (λ n. start_of_last o + length n) (option_and_then (λ last. name_of last.part.kind) o)) h.is_last
+    ∙ ap (λ p. option_map (λ n. h.last.start + length n) (name_of p.kind)) h.part
 
 -- a last component ends within its text
 in_order-last : (at end : ℕ) (cs : List Placed) (c : Placed) → AreInOrder at end (cs ++ c ∷ []) → end_of c ≤ end

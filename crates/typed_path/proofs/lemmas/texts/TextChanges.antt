@@ -1,5 +1,5 @@
 -- What changes a text leaves a text, and what the search is told of texts.
-use Rattle.std.proofs.Common.{◌≡◌, ℕ, ◌-◌, ◌<◌, ◌==◌, ◌||◌, true, List, [], ◌∷◌, ◌++◌, length, take, slice_index, refl, arith, ◌+◌, sym, ap, subst, ◌∙◌, map, drop, Option, Some, None, option_and_then, option_map, Ok, Err}
+use Rattle.std.proofs.Common.{◌≡◌, ℕ, ◌-◌, ◌<◌, ◌==◌, ◌||◌, true, List, [], ◌∷◌, ◌++◌, length, take, slice_index, refl, arith, ◌+◌, sym, ap, subst, ◌∙◌, map, drop, Option, Some, None, option_and_then, option_map, Ok, Err, Bool, false, if◌then◌else◌}
 use Rattle.std.specs.List.{AllByRecursion}
 use Rattle.std.specs.Str.{IsUtf8, is_utf8, IsCharBoundary}
 use Rattle.std.proofs.lemmas.Bool.{cond_both, and_parts}
@@ -8,18 +8,19 @@ use Rattle.std.specs.String.{string_bytes}
 use Rattle.std.specs.declared.string.String.{String}
 use Rattle.typed_path.specs.declared.errors.CheckedPathError.{CheckedPathError}
 use Rattle.typed_path.specs.declared.scan.step.Piece.{Piece}
-use Rattle.typed_path.specs.components.{Dialect, unix, windows, slash, backslash, dot, root_of, Kind, root, current, parent, Part, kinds, is_name, texts, Placed, parts, Found, prefix_of, parts_of, comps, written, as_written}
-use Rattle.typed_path.specs.queries.{begins_with_root, begins_with_prefix, has_prefix, has_any_verbatim_prefix, name_of, is_root, is_absolute, parent_of, file_name_of, file_stem_of, extension, stripped, stem_of, extension_of}
-use Rattle.typed_path.specs.changes.{ended_with, push_unix, prefix_alone, without_last_name, merge_by_kind, merged, joint, spelled, raw_length, raw_prefix, is_disk_alone, ended_windows, push_behind, push_windows, push, push_all, dotted, start_of_last, stem_end, cut_at, without_file_name, with_file_name, with_extension}
+use Rattle.typed_path.specs.components.{Dialect, unix, windows, slash, backslash, dot, question, root_of, Kind, root, current, parent, Part, kinds, is_name, texts, Placed, parts, Found, prefix_of, parts_of, comps, written, as_written}
+use Rattle.typed_path.specs.queries.{begins_with_root, begins_with_prefix, has_prefix, has_any_verbatim_prefix, name_of, is_root, is_absolute, parent_of, file_name_of, file_stem_of, file_prefix_of, extension, can_be_simplified, simplified_text, common_ancestor_of, stripped, stem_of, extension_of}
+use Rattle.typed_path.specs.changes.{ended_with, push_unix, prefix_alone, without_last_name, merge_by_kind, merged, joint, spelled, raw_length, raw_prefix, is_disk_alone, ended_windows, push_behind, push_windows, push, push_all, dotted, start_of_last, stem_end, name_end, cut_at, without_file_name, with_file_name, with_extension, with_added_extension}
 use Rattle.typed_path.specs.texts.{are_texts, is_text_part, are_text_parts, is_text_option}
 use Rattle.typed_path.specs.scan.{last_of, but_last, first_part, last_part}
 use Rattle.typed_path.specs.places.{stays, resolve, normal_text}
 use Rattle.typed_path.specs.conversions.{same_dialect, crossed, crossed_all, converted, crossing_fault, push_unless, push_checked_each, converted_checked, platform, absolute_from}
 use Rattle.typed_path.specs.views.PieceViews.{part_of}
 use Rattle.typed_path.proofs.lemmas.lists.Lists.{AllByRecursion-append}
-use Rattle.typed_path.proofs.lemmas.texts.TextCuts.{byte-utf8, prefix-text, ascii-cuts, IsCut, comps-cut, slash-text, backslash-text, current-text, parent-text as parent_part-text, name-text}
-use Rattle.typed_path.proofs.lemmas.texts.TextsLeft.{parts_of-text, AllByRecursion-last, some_text, name_of-text, without_file_name-text, ancestors-text, reading-starts, reading-front, reading-back, reading-slice, reading-first, reading-last, reading-first_some, reading-last_some, reading-parts, reading-texts, reading-above, reading-behind, stem_of-text, extension_of-text, components-text, single-text, first-text, last-text, parent-text, file_name-text, file_stem-text, extension-text, stripped-text, popped-text}
+use Rattle.typed_path.proofs.lemmas.texts.TextCuts.{byte-utf8, after_mark-utf8, prefix-text, ascii-cuts, IsCut, comps-cut, slash-text, backslash-text, current-text, parent-text as parent_part-text, name-text}
+use Rattle.typed_path.proofs.lemmas.texts.TextsLeft.{parts_of-text, AllByRecursion-last, some_text, name_of-text, without_file_name-text, ancestors-text, reading-starts, reading-front, reading-back, reading-slice, reading-first, reading-last, reading-first_some, reading-last_some, reading-parts, reading-texts, reading-above, reading-behind, stem_of-text, extension_of-text, components-text, single-text, first-text, last-text, parent-text, file_name-text, file_stem-text, file_prefix-text, extension-text, stripped-text, common_ancestor-text, popped-text}
 use Rattle.typed_path.proofs.lemmas.queries.FileNames.{stem_of-whole, stem_of-extension}
+use Rattle.typed_path.proofs.lemmas.queries.Simplified.{simple_text, simple_of}
 use Rattle.typed_path.proofs.lemmas.scan.Steps.{last_of-push, last_pushed}
 use Rattle.typed_path.proofs.lemmas.components.WrittenForms.{written-drop, written-but_last, written-first, written-last, written-parts_of}
 
@@ -154,25 +155,34 @@ stem_of-cut name is = by (extension_of name) refl
     by None e = let whole : length name ≡ length (stem_of name) = ap length (sym (stem_of-whole name e)) in subst (IsCharBoundary name) whole (IsCharBoundary-end name)
     by (Some ext) e = (ascii-cuts name (stem_of name) ext dot is (stem_of-extension name ext e).0 (omega arith)).0
 
--- where the stem of the file name ends, a text may be cut
-stem_end-cut : (d : Dialect) (t : List ℕ) (end : ℕ) → is_utf8 t ≡ true → stem_end d t ≡ Some end → IsCharBoundary t end
-stem_end-cut d t end is e = by (comps d t) (comps-cut d t (IsUtf8-from_is_utf8 t is)) refl e
+-- where the front of a file name ends that may be cut there, the text may be
+front_end-cut : (front : List ℕ → List ℕ) → ((name : List ℕ) → IsUtf8 name → IsCharBoundary name (length (front name)))
+    → (d : Dialect) (t : List ℕ) (end : ℕ) → is_utf8 t ≡ true
+    → option_map (λ name. start_of_last (last_of (comps d t)) + length (front name)) (file_name_of d t) ≡ Some end → IsCharBoundary t end
+front_end-cut front cuts d t end is e = by (comps d t) (comps-cut d t (IsUtf8-from_is_utf8 t is)) refl e
   where
-    named : (c : Placed) → IsCut t c → (o : Option (List ℕ)) → name_of c.part.kind ≡ o → option_map (λ n. c.start + length (stem_of n)) o ≡ Some end → IsCharBoundary t end
+    named : (c : Placed) → IsCut t c → (o : Option (List ℕ)) → name_of c.part.kind ≡ o → option_map (λ n. c.start + length (front n)) o ≡ Some end → IsCharBoundary t end
     named c cut None f e = cc
     named c cut (Some name) f e =
         let text = some_text (name_of c.part.kind) name f (name_of-text c.part.kind (and_parts (is_utf8 c.part.text) _ cut.part).1) in
-        let place : c.start + length (stem_of name) ≡ end = cc in
-        subst (IsCharBoundary t) place (cut.inside name (length (stem_of name)) f (stem_of-cut name text))
+        let place : c.start + length (front name) ≡ end = cc in
+        subst (IsCharBoundary t) place (cut.inside name (length (front name)) f (cuts name text))
 
     by : (cs : List Placed) → AllByRecursion (IsCut t) cs → comps d t ≡ cs
-        → option_map (λ name. start_of_last (last_of cs) + length (stem_of name)) (option_and_then (λ last. name_of last.part.kind) (last_of cs)) ≡ Some end → IsCharBoundary t end
+        → option_map (λ name. start_of_last (last_of cs) + length (front name)) (option_and_then (λ last. name_of last.part.kind) (last_of cs)) ≡ Some end → IsCharBoundary t end
     by [] each f e = cc
     by (c ∷ cs) each f e =
         let last = last_pushed c cs in
         let is_last : last_of (c ∷ cs) ≡ Some last.0 = ap last_of last.1 ∙ last_of-push (but_last (c ∷ cs)) last.0 in
         named last.0 (AllByRecursion-last (IsCut t) (but_last (c ∷ cs)) last.0 (subst (AllByRecursion (IsCut t)) last.1 each)) (name_of last.0.part.kind) refl
-        (ap (λ o. option_map (λ name. start_of_last o + length (stem_of name)) (option_and_then (λ x. name_of x.part.kind) o)) (sym is_last) ∙ e)
+        (ap (λ o. option_map (λ name. start_of_last o + length (front name)) (option_and_then (λ x. name_of x.part.kind) o)) (sym is_last) ∙ e)
+
+-- so it may be cut behind the stem of its file name, and behind the name
+stem_end-cut : (d : Dialect) (t : List ℕ) (end : ℕ) → is_utf8 t ≡ true → stem_end d t ≡ Some end → IsCharBoundary t end
+stem_end-cut = front_end-cut stem_of stem_of-cut
+
+name_end-cut : (d : Dialect) (t : List ℕ) (end : ℕ) → is_utf8 t ≡ true → name_end d t ≡ Some end → IsCharBoundary t end
+name_end-cut = front_end-cut (λ name. name) (λ name is. IsCharBoundary-end name)
 
 -- an extension and the dot before it
 dotted-utf8 : (ext : List ℕ) → IsUtf8 ext → IsUtf8 (dotted ext)
@@ -195,19 +205,37 @@ module _ (d : Dialect) (t : List ℕ) (is : is_utf8 t ≡ true) where
   pub normal_text-text : is_utf8 (normal_text d t) ≡ true
   normal_text-text = is_utf8-from_IsUtf8 _ (normal_text-utf8 d t text)
 
+  -- without the mark of a verbatim drive
+  pub simplified-text : is_utf8 (simplified_text d t) ≡ true
+  simplified-text = by d
+    where
+      choose : (simple : Bool) → can_be_simplified t ≡ simple → is_utf8 (if simple then drop 4 t else t) ≡ true
+      choose true e = is_utf8-from_IsUtf8 _ (after_mark-utf8 question t (drop 4 t) text (simple_text t (simple_of t e)).marked)
+      choose false e = is
+
+      by : (e : Dialect) → is_utf8 (simplified_text e t) ≡ true
+      by unix = is
+      by windows = choose (can_be_simplified t) refl
+
   -- with another file name
   pub with_file_name-text : (name : List ℕ) → is_utf8 name ≡ true → is_utf8 (with_file_name d t name) ≡ true
   with_file_name-text name other =
       is_utf8-from_IsUtf8 _ (push-utf8 d (without_file_name d t) name (IsUtf8-from_is_utf8 _ (without_file_name-text d t is)) (IsUtf8-from_is_utf8 name other))
 
+  -- cut where it may be, with an extension put there
+  cut_at-text : (ext : List ℕ) (o : Option ℕ) → is_utf8 ext ≡ true → ((end : ℕ) → o ≡ Some end → IsCharBoundary t end) → is_utf8 (cut_at t ext o) ≡ true
+  cut_at-text ext None other cuts = is
+  cut_at-text ext (Some end) other cuts =
+      is_utf8-from_IsUtf8 _ (IsUtf8-append (take end t) (dotted ext) (IsUtf8-take t end text (cuts end refl)) (dotted-utf8 ext (IsUtf8-from_is_utf8 ext other)))
+
   -- with another extension
   pub with_extension-text : (ext : List ℕ) → is_utf8 ext ≡ true → is_utf8 (with_extension d t ext) ≡ true
-  with_extension-text ext other = by (stem_end d t) refl
-    where
-      by : (o : Option ℕ) → stem_end d t ≡ o → is_utf8 (cut_at t ext o) ≡ true
-      by None e = is
-      by (Some end) e =
-          is_utf8-from_IsUtf8 _ (IsUtf8-append (take end t) (dotted ext) (IsUtf8-take t end text (stem_end-cut d t end is e)) (dotted-utf8 ext (IsUtf8-from_is_utf8 ext other)))
+  with_extension-text ext other = cut_at-text ext (stem_end d t) other (λ end e. stem_end-cut d t end is e)
+
+  -- with one more
+  pub with_added_extension-text : (ext : List ℕ) → is_utf8 ext ≡ true → is_utf8 (with_added_extension d t ext) ≡ true
+  with_added_extension-text [] other = is
+  with_added_extension-text (b ∷ bs) other = cut_at-text (b ∷ bs) (name_end d t) other (λ end e. name_end-cut d t end is e)
 
 -- A text in another dialect, or made absolute, is a text.
 
@@ -277,11 +305,17 @@ file_name-some d t u is e = text_from _ u (file_name-text d t is) e
 pub file_stem-some : (d : Dialect) (t u : List ℕ) → is_utf8 t ≡ true → file_stem_of d t ≡ Some u → is_utf8 u ≡ true
 file_stem-some d t u is e = text_from _ u (file_stem-text d t is) e
 
+pub file_prefix-some : (d : Dialect) (t u : List ℕ) → is_utf8 t ≡ true → file_prefix_of d t ≡ Some u → is_utf8 u ≡ true
+file_prefix-some d t u is e = text_from _ u (file_prefix-text d t is) e
+
 pub extension-some : (d : Dialect) (t u : List ℕ) → is_utf8 t ≡ true → extension d t ≡ Some u → is_utf8 u ≡ true
 extension-some d t u is e = text_from _ u (extension-text d t is) e
 
 pub stripped-some : (d : Dialect) (t b u : List ℕ) → is_utf8 t ≡ true → stripped d t b ≡ Some u → is_utf8 u ≡ true
 stripped-some d t b u is e = text_from _ u (stripped-text d t is b) e
+
+pub common_ancestor-some : (d : Dialect) (t o u : List ℕ) → is_utf8 t ≡ true → common_ancestor_of d t o ≡ Some u → is_utf8 u ≡ true
+common_ancestor-some d t o u is e = text_from _ u (common_ancestor-text d t is o) e
 
 pub absolute_from-some : (d : Dialect) (directory t u : List ℕ) → is_utf8 directory ≡ true → is_utf8 t ≡ true → absolute_from d directory t ≡ Some u → is_utf8 u ≡ true
 absolute_from-some d directory t u base is e = text_from _ u (absolute_from-text d directory t base is) e
@@ -304,7 +338,7 @@ pub written-last_some : (d : Dialect) (p : Piece) (cs : List Placed) → parts c
 written-last_some d p cs all e = written-last (written d) p cs all e
 
 -- what a path of text answers and what changes it
-pub ruleset text_laws = (IsUtf8-from_is_utf8, is_utf8-from_IsUtf8, string-text, components-text, single-text, first-text, last-text, parent-text, parent-some, ancestors-text, file_name-text, file_name-some, file_stem-text, file_stem-some, extension-text, extension-some, stem_of-text, extension_of-text, stripped-text, stripped-some, popped-text, without_file_name-text, push-text, push_all-text, normal_text-text, with_file_name-text, with_extension-text, converted-text, converted_checked-text, absolute_from-text, absolute_from-some)
+pub ruleset text_laws = (IsUtf8-from_is_utf8, is_utf8-from_IsUtf8, string-text, components-text, single-text, first-text, last-text, parent-text, parent-some, ancestors-text, file_name-text, file_name-some, file_stem-text, file_stem-some, file_prefix-text, file_prefix-some, extension-text, extension-some, stem_of-text, extension_of-text, stripped-text, stripped-some, common_ancestor-text, common_ancestor-some, popped-text, without_file_name-text, push-text, push_all-text, normal_text-text, simplified-text, with_file_name-text, with_extension-text, with_added_extension-text, converted-text, converted_checked-text, absolute_from-text, absolute_from-some)
 
 -- what is left of a reading
 pub ruleset reading_laws = (IsUtf8-from_is_utf8, is_utf8-from_IsUtf8, reading-starts, reading-front, reading-back, reading-slice, reading-first, reading-last, reading-first_some, reading-last_some, reading-parts, reading-texts, reading-above, reading-behind, written-starts, written-front, written-back, written-first_some, written-last_some)

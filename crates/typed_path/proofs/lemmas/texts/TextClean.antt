@@ -15,7 +15,7 @@ use Rattle.typed_path.proofs.lemmas.texts.TextsLeft.{parts_of-text}
 use Rattle.typed_path.proofs.lemmas.texts.TextChanges.{IsWritten, parts_of-written}
 
 -- the names that are kept
-names-utf8 : (ps : List Part) → are_text_parts ps ≡ true → AllByRecursion IsUtf8 (kept_names (kinds ps))
+pub names-utf8 : (ps : List Part) → are_text_parts ps ≡ true → AllByRecursion IsUtf8 (kept_names (kinds ps))
 names-utf8 [] each = tt
 names-utf8 (p ∷ ps) each =
     let both = and_parts (is_text_part p) (are_text_parts ps) each in
@@ -29,25 +29,25 @@ names-utf8 (p ∷ ps) each =
     by (normal name) own rest =
         cond_both (unmet (kinds ps) == 0) (name ∷ kept_names (kinds ps)) (kept_names (kinds ps)) (AllByRecursion IsUtf8) (λ kept. (IsUtf8-from_is_utf8 name own, rest)) (λ taken. rest)
 
-dots-utf8 : (n : ℕ) → AllByRecursion IsUtf8 (dots n)
+pub dots-utf8 : (n : ℕ) → AllByRecursion IsUtf8 (dots n)
 dots-utf8 zero = tt
 dots-utf8 (suc n) = (IsUtf8-append (dot ∷ []) (dot ∷ []) (byte-utf8 dot (omega arith)) (byte-utf8 dot (omega arith)), dots-utf8 n)
 
-joined-utf8 : (sep : ℕ) (segments : List (List ℕ)) → sep < 128 → AllByRecursion IsUtf8 segments → IsUtf8 (join_with_byte sep segments)
+pub joined-utf8 : (sep : ℕ) (segments : List (List ℕ)) → sep < 128 → AllByRecursion IsUtf8 segments → IsUtf8 (join_with_byte sep segments)
 joined-utf8 sep [] low each = IsUtf8-nil
 joined-utf8 sep (s ∷ []) low each = each.0
 joined-utf8 sep (s ∷ next ∷ segments) low each =
     IsUtf8-append s (sep ∷ join_with_byte sep (next ∷ segments)) each.0
     (IsUtf8-append (sep ∷ []) (join_with_byte sep (next ∷ segments)) (byte-utf8 sep low) (joined-utf8 sep (next ∷ segments) low each.1))
 
-separator-low : (d : Dialect) → own_separator d < 128
+pub separator-low : (d : Dialect) → own_separator d < 128
 separator-low unix = omega arith
 separator-low windows = omega arith
 
 separator-utf8 : (d : Dialect) → IsUtf8 (own_separator d ∷ [])
 separator-utf8 d = byte-utf8 (own_separator d) (separator-low d)
 
-unheaded-utf8 : (d : Dialect) (text : List ℕ) → IsUtf8 text → IsUtf8 (unheaded d text)
+pub unheaded-utf8 : (d : Dialect) (text : List ℕ) → IsUtf8 text → IsUtf8 (unheaded d text)
 unheaded-utf8 d [] is = byte-utf8 dot (omega arith)
 unheaded-utf8 d (b ∷ bs) is =
     cond_both (is_some (prefix_of d (b ∷ bs))) (dot ∷ own_separator d ∷ b ∷ bs) (b ∷ bs) IsUtf8

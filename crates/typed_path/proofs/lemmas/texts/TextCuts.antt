@@ -159,7 +159,7 @@ after_four-utf8 p q r s low (a ∷ b ∷ c ∷ d ∷ text) rest is e =
 after_four-utf8 p q r s low text rest is e = cc
 
 -- so is what stands behind a mark
-after_mark-utf8 : (sign : ℕ) (text rest : List ℕ) → IsUtf8 text → after_mark sign text ≡ Some rest → IsUtf8 rest
+pub after_mark-utf8 : (sign : ℕ) (text rest : List ℕ) → IsUtf8 text → after_mark sign text ≡ Some rest → IsUtf8 rest
 after_mark-utf8 sign text rest is e = after_four-utf8 (is_separator Either) (is_separator Either) (λ b. b == sign) (is_separator Either) (separator-ascii Either) text rest is e
 
 -- behind `UNC` and a separator

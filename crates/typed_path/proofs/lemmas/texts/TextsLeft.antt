@@ -3,20 +3,20 @@ use Rattle.std.proofs.Common.{◌≡◌, List, [], ◌∷◌, ◌++◌, drop, le
 use Rattle.std.specs.List.{AllByRecursion}
 use Rattle.std.specs.Str.{IsUtf8, is_utf8, IsCharBoundary}
 use Rattle.std.proofs.lemmas.Bool.{cases_lt, cond_both, and_parts, and_from}
-use Rattle.std.proofs.lemmas.Str.{IsUtf8-nil, IsCharBoundary-start, IsCharBoundary-end, IsUtf8-from_is_utf8, is_utf8-from_IsUtf8}
+use Rattle.std.proofs.lemmas.Str.{IsUtf8-nil, IsCharBoundary-start, IsCharBoundary-end, IsUtf8-from_is_utf8, is_utf8-from_IsUtf8, IsUtf8-take}
 use Rattle.std.proofs.Math.Bool.{Bool-set}
 use Rattle.std.proofs.Math.Logic.{∥∥₁_elim, ∥∥₁_map}
 use Rattle.typed_path.specs.components.{Part, Placed, parts, texts, Kind, normal, Dialect, dot, comps, parts_of}
 use Rattle.typed_path.specs.scan.{but_last, start_at, end_at, left, Side, front, back, last_of, slice_after_front, slice_after_back, first_part, last_part, items_after, slice_after, fronts, backs, items_behind, slice_behind}
 use Rattle.typed_path.specs.texts.{are_texts, is_text_part, is_text_part_option, are_text_parts, is_text_option, is_text_kind, IsTextReading}
-use Rattle.typed_path.specs.queries.{stem_of, extension_of, is_root, parent_of, name_of, file_name_of, file_stem_of, extension, path_starts_with, stripped, is_prefix, prefix_among, is_top, upwards_from, readings_above, readings_behind, ancestors_of}
+use Rattle.typed_path.specs.queries.{stem_of, first_stem_of, extension_of, is_root, parent_of, name_of, file_name_of, file_stem_of, file_prefix_of, extension, shared_count, shared_end, end_of_first, unless_empty, common_ancestor_of, path_starts_with, stripped, is_prefix, prefix_among, is_top, upwards_from, readings_above, readings_behind, ancestors_of}
 use Rattle.typed_path.specs.changes.{popped, without_file_name}
 use Rattle.typed_path.proofs.lemmas.scan.Steps.{last_part-push, last_pushed}
 use Rattle.typed_path.proofs.lemmas.components.Cuts.{comps-laid_out}
 use Rattle.typed_path.proofs.lemmas.scan.Readings.{slice_after-nil, stepwise_slices, stepwise_end}
 use Rattle.typed_path.proofs.lemmas.lists.Lists.{AllByRecursion-weaker}
 use Rattle.typed_path.proofs.lemmas.texts.TextCuts.{range-utf8, IsCut, comps-cut, utf8-around}
-use Rattle.typed_path.proofs.lemmas.queries.FileNames.{stem_of-whole, stem_of-extension}
+use Rattle.typed_path.proofs.lemmas.queries.FileNames.{stem_of-whole, stem_of-extension, first_stem_of-parted}
 use Rattle.typed_path.proofs.lemmas.queries.Parents.{ancestors-reading}
 
 -- What is left of a text, and the components left, are texts.
@@ -147,6 +147,13 @@ stem_of-text name is = by (extension_of name) refl
     by None e = ap is_utf8 (stem_of-whole name e) ∙ is
     by (Some ext) e = is_utf8-from_IsUtf8 _ (utf8-around (stem_of name) ext dot (subst IsUtf8 (stem_of-extension name ext e).0 (IsUtf8-from_is_utf8 name is)) (omega arith)).0
 
+-- a name up to its first dot
+pub first_stem_of-text : (name : List ℕ) → is_utf8 name ≡ true → is_utf8 (first_stem_of name) ≡ true
+first_stem_of-text name is = elim (first_stem_of-parted name) [
+  | inl whole ↦ ap is_utf8 whole ∙ is
+  | inr parted ↦ is_utf8-from_IsUtf8 _ (utf8-around (first_stem_of name) parted.0 dot (subst IsUtf8 parted.1 (IsUtf8-from_is_utf8 name is)) (omega arith)).0
+]
+
 -- its extension
 pub extension_of-text : (name : List ℕ) → is_utf8 name ≡ true → is_text_option (extension_of name) ≡ true
 extension_of-text name is = by (extension_of name) refl
@@ -198,6 +205,14 @@ module _ (d : Dialect) (t : List ℕ) (is : is_utf8 t ≡ true) where
       by None e = refl
       by (Some name) e = stem_of-text name e
 
+  -- its first stem
+  pub file_prefix-text : is_text_option (file_prefix_of d t) ≡ true
+  file_prefix-text = by (file_name_of d t) file_name-text
+    where
+      by : (o : Option (List ℕ)) → is_text_option o ≡ true → is_text_option (option_map first_stem_of o) ≡ true
+      by None e = refl
+      by (Some name) e = first_stem_of-text name e
+
   -- and its extension
   pub extension-text : is_text_option (extension d t) ≡ true
   extension-text = by (file_name_of d t) file_name-text
@@ -209,6 +224,18 @@ module _ (d : Dialect) (t : List ℕ) (is : is_utf8 t ≡ true) where
   -- what is left behind a base
   pub stripped-text : (b : List ℕ) → is_text_option (stripped d t b) ≡ true
   stripped-text b = where_text (path_starts_with d t b) _ (is_utf8-from_IsUtf8 _ (left-utf8 d t (length (comps d b)) 0 text))
+
+  -- what the path and another begin with
+  pub common_ancestor-text : (u : List ℕ) → is_text_option (common_ancestor_of d t u) ≡ true
+  common_ancestor-text u = unless (take (shared_end d t u) t) (is_utf8-from_IsUtf8 _ (IsUtf8-take t (shared_end d t u) text (cut (shared_count (texts (parts_of d t)) (texts (parts_of d u))))))
+    where
+      cut : (n : ℕ) → IsCharBoundary t (end_of_first (comps d t) n)
+      cut zero = IsCharBoundary-start t text
+      cut (suc k) = end_at-cut t text (comps d t) k (comps-cut d t text)
+
+      unless : (v : List ℕ) → is_utf8 v ≡ true → is_text_option (unless_empty v) ≡ true
+      unless [] e = refl
+      unless (b ∷ bs) e = e
 
   -- the path cut to its parent
   pub popped-text : is_utf8 (popped d t) ≡ true

@@ -2,22 +2,24 @@
 
 ghost use Rattle.std.specs.Prelude.{◌≡◌, [], IfOk, IsOk, Ok, not, bytes_eq, IfSome, option_map, option_copied};
 ghost use Rattle.typed_path.specs.typed.{kind_dialect, derived_dialect, typed_dialect};
-ghost use Rattle.typed_path.specs.typed.Outcomes.{JoinsChecked, Normalizes, ConvertsChecked, Absolutizes};
+ghost use Rattle.typed_path.specs.typed.Outcomes.{JoinsChecked, LeadsFrom, Normalizes, ConvertsChecked, Absolutizes};
 ghost use Rattle.typed_path.specs.views.TypedTextViews.{typed_text, typed_text_items, typed_text_slice, typed_text_iter_items, typed_text_iter_slice, typed_text_ancestors_left};
 ghost use Rattle.typed_path.specs.components.{unix, windows, kinds, comps, parts_of};
-ghost use Rattle.typed_path.specs.changes.{with_file_name, with_extension};
+ghost use Rattle.typed_path.specs.changes.{with_file_name, with_extension, with_added_extension};
 ghost use Rattle.typed_path.specs.conversions.{converted};
 ghost use Rattle.typed_path.specs.places.{clean_text, is_within};
 ghost use Rattle.typed_path.specs.promises.{keeps_prefix};
 ghost use Rattle.typed_path.specs.views.TextViews.{utf8_bytes};
 ghost use Rattle.typed_path.specs.views.TypedViews.{owned_bytes, reading_dialect};
 ghost use Rattle.typed_path.specs.changes.Push as push_spec;
-ghost use Rattle.typed_path.specs.queries.{is_absolute, has_root, parent_of, file_name_of, file_stem_of, stripped, path_starts_with, path_ends_with, ancestors_of, stripped_to, extension};
+ghost use Rattle.typed_path.specs.queries.{is_absolute, has_root, parent_of, file_name_of, file_stem_of, stripped, path_starts_with, path_ends_with, ancestors_of, stripped_to, extension, file_prefix_of, has_trailing_separator, simplified_text, common_ancestor_of};
 
 use crate::errors::{AbsolutizeError, PathError, StripPrefixError};
 use crate::typed::utf8::path_buf::Utf8TypedPathBuf;
 use crate::typed::utf8::reading::Utf8TypedComponents;
-use crate::typed::variant::{PathType, Typed, each, made_as, typed, typed_option, typed_result};
+use crate::typed::variant::{
+    PathType, Typed, each, made_as, typed, typed_option, typed_option_result, typed_result,
+};
 use crate::utf8::{
     Utf8Ancestors, Utf8Iter, Utf8Path, Utf8PlatformPath, Utf8UnixEncoding, Utf8UnixPath,
     Utf8WindowsEncoding, Utf8WindowsPath,
@@ -115,6 +117,19 @@ impl<'a> Utf8TypedPath<'a> {
         each!(self, path => path.keeps_prefix())
     }
 
+    /// The path of a verbatim drive of Windows without its `\\?\`, where that means the same to Windows;
+    /// else the path itself, as each one of Unix.
+    pub fn simplified(self) -> Utf8TypedPath<'a>
+        ensures dialect { typed_dialect result ≡ typed_dialect self.entry }
+        ensures bytes { typed_text result
+            ≡ simplified_text (typed_dialect self.entry) (typed_text self.entry) }
+    {
+        match self {
+            Typed::Unix(_) => self,
+            Typed::Windows(path) => Typed::Windows(path.simplified()),
+        }
+    }
+
     /// The path without its last component, or none where there is no component or nothing is above
     /// the last one.
     pub fn parent(self) -> Option<Utf8TypedPath<'a>>
@@ -159,6 +174,21 @@ impl<'a> Utf8TypedPath<'a> {
         each!(self, path => path.extension())
     }
 
+    /// The file name up to its first dot that is not its first character.
+    pub fn file_prefix(self) -> Option<&'a str>
+        ensures { option_copied result
+            ≡ file_prefix_of (typed_dialect self.entry) (typed_text self.entry) }
+    {
+        each!(self, path => path.file_prefix())
+    }
+
+    /// Whether the last character separates components of the path.
+    pub fn has_trailing_separator(self) -> bool
+        ensures { result ≡ has_trailing_separator (typed_dialect self.entry) (typed_text self.entry) }
+    {
+        each!(self, path => path.has_trailing_separator())
+    }
+
     /// What is left of the path behind a base of its kind.
     ///
     /// # Errors
@@ -181,11 +211,36 @@ impl<'a> Utf8TypedPath<'a> {
         each!(self, path => path.starts_with(Utf8Path::new(base)))
     }
 
+    /// The front of the path up to where the components end with which another of its kind begins too,
+    /// as they are written; none where the two begin with none alike.
+    pub fn common_ancestor(self, other: &str) -> Option<Utf8TypedPath<'a>>
+        ensures dialect { IfSome result (λ p. typed_dialect p ≡ typed_dialect self.entry) }
+        ensures bytes { option_map typed_text result
+            ≡ common_ancestor_of (typed_dialect self.entry) (typed_text self.entry) other.now }
+    {
+        typed_option!(self, path => path.common_ancestor(Utf8Path::new(other)))
+    }
+
     /// Whether the path lies at a base of its kind or below it, from whatever directory both are read.
     pub fn is_within(self, base: &str) -> bool
         ensures { result ≡ is_within (typed_dialect self.entry) (typed_text self.entry) base.now }
     {
         each!(self, path => path.is_within(Utf8Path::new(base)))
+    }
+
+    /// The path that leads from a base of its kind to this one, where there is one, as
+    /// [`Utf8Path::relative_to`] has it.
+    pub fn relative_to(
+        self,
+        alloc: Global,
+        base: &str,
+    ) -> Result<Option<Utf8TypedPathBuf>, AllocError>
+        ensures dialect { IfOk result (λ found. IfSome found
+            (λ p. typed_dialect p ≡ typed_dialect self.entry)) }
+        ensures leads { LeadsFrom (typed_dialect self.entry) owned_bytes base.now
+            (typed_text self.entry) result }
+    {
+        typed_option_result!(self, path => path.relative_to(alloc, Utf8Path::new(base)))
     }
 
     /// Whether the path ends with the components of another of its kind, as they are written.
@@ -282,6 +337,20 @@ impl<'a> Utf8TypedPath<'a> {
             ≡ with_extension (typed_dialect self.entry) (typed_text self.entry) extension.now) }
     {
         typed_result!(self, path => path.with_extension(alloc, extension))
+    }
+
+    /// A copy with one extension more behind its file name. Without a file name, or with an empty
+    /// extension, it is a mere copy.
+    pub fn with_added_extension(
+        self,
+        alloc: Global,
+        extension: &str,
+    ) -> Result<Utf8TypedPathBuf, AllocError>
+        ensures dialect { IfOk result (λ p. typed_dialect p ≡ typed_dialect self.entry) }
+        ensures bytes { IfOk result (λ p. owned_bytes p
+            ≡ with_added_extension (typed_dialect self.entry) (typed_text self.entry) extension.now) }
+    {
+        typed_result!(self, path => path.with_added_extension(alloc, extension))
     }
 
     /// The path without `.`, and without `..` and the names that these take away, in the form of

@@ -4,11 +4,11 @@ ghost use Rattle.std.specs.Prelude.{◌≡◌, [], IfOk, IsOk, not, bytes_eq, Ok
 ghost use Rattle.std.specs.String.{string_bytes, string_capacity};
 ghost use Rattle.typed_path.specs.components.{unix, windows, kinds, comps, parts_of};
 ghost use Rattle.typed_path.specs.typed.{kind_dialect, derived_dialect, typed_dialect, KeepsDialect, held_unix, held_windows};
-ghost use Rattle.typed_path.specs.typed.Outcomes.{Pushes, PushesChecked, Pops, SetsFileName, SetsExtension, Clears, Reserves, ReservesExactly, ShrinksTo, JoinsChecked, Normalizes, ConvertsChecked, Absolutizes};
+ghost use Rattle.typed_path.specs.typed.Outcomes.{Pushes, PushesChecked, Pops, SetsFileName, SetsExtension, Clears, Reserves, ReservesExactly, ShrinksTo, JoinsChecked, Normalizes, ConvertsChecked, Absolutizes, AddsExtension, LeadsFrom};
 ghost use Rattle.typed_path.specs.views.TypedViews.{typed_owned, owned_bytes, reading_dialect};
 ghost use Rattle.typed_path.specs.views.TypedTextViews.{typed_text, typed_text_items, typed_text_slice, typed_text_iter_items, typed_text_iter_slice, typed_text_ancestors_left};
-ghost use Rattle.typed_path.specs.queries.{is_absolute, has_root, parent_of, file_name_of, file_stem_of, extension, stripped, path_starts_with, path_ends_with, ancestors_of, stripped_to};
-ghost use Rattle.typed_path.specs.changes.{with_file_name, with_extension};
+ghost use Rattle.typed_path.specs.queries.{is_absolute, has_root, parent_of, file_name_of, file_stem_of, extension, stripped, path_starts_with, path_ends_with, ancestors_of, stripped_to, file_prefix_of, has_trailing_separator, simplified_text, common_ancestor_of};
+ghost use Rattle.typed_path.specs.changes.{with_file_name, with_extension, with_added_extension};
 ghost use Rattle.typed_path.specs.conversions.{converted, same_dialect};
 ghost use Rattle.typed_path.specs.places.{clean_text, is_within};
 ghost use Rattle.typed_path.specs.promises.{keeps_prefix};
@@ -137,6 +137,15 @@ impl Utf8TypedPathBuf {
         each!(self, own => own.set_extension(extension))
     }
 
+    /// As [`Utf8PathBuf::add_extension`].
+    pub fn add_extension(&mut self, extension: &str) -> Result<bool, AllocError>
+        ensures dialect { KeepsDialect self.old self.new }
+        ensures extended { AddsExtension (typed_dialect self.old) (typed_owned self.old)
+            extension.now result (typed_owned self.new) }
+    {
+        each!(self, own => own.add_extension(extension))
+    }
+
     /// As [`Utf8PathBuf::clear`].
     pub fn clear(&mut self)
         ensures dialect { KeepsDialect self.old self.new }
@@ -251,6 +260,15 @@ impl Utf8TypedPathBuf {
         self.to_path().keeps_prefix()
     }
 
+    /// As [`Utf8TypedPath::simplified`].
+    pub fn simplified(&self) -> Utf8TypedPath<'_>
+        ensures dialect { typed_dialect result ≡ typed_dialect self.now }
+        ensures bytes { typed_text result
+            ≡ simplified_text (typed_dialect self.now) (owned_bytes self.now) }
+    {
+        self.to_path().simplified()
+    }
+
     /// As [`Utf8TypedPath::parent`].
     pub fn parent(&self) -> Option<Utf8TypedPath<'_>>
         ensures dialect { IfSome result (λ p. typed_dialect p ≡ typed_dialect self.now) }
@@ -292,6 +310,21 @@ impl Utf8TypedPathBuf {
         self.to_path().extension()
     }
 
+    /// As [`Utf8TypedPath::file_prefix`].
+    pub fn file_prefix(&self) -> Option<&str>
+        ensures { option_copied result
+            ≡ file_prefix_of (typed_dialect self.now) (owned_bytes self.now) }
+    {
+        self.to_path().file_prefix()
+    }
+
+    /// As [`Utf8TypedPath::has_trailing_separator`].
+    pub fn has_trailing_separator(&self) -> bool
+        ensures { result ≡ has_trailing_separator (typed_dialect self.now) (owned_bytes self.now) }
+    {
+        self.to_path().has_trailing_separator()
+    }
+
     /// As [`Utf8TypedPath::strip_prefix`].
     pub fn strip_prefix(&self, base: &str) -> Result<Utf8TypedPath<'_>, StripPrefixError>
         ensures dialect { IfOk result (λ p. typed_dialect p ≡ typed_dialect self.now) }
@@ -309,11 +342,34 @@ impl Utf8TypedPathBuf {
         self.to_path().starts_with(base)
     }
 
+    /// As [`Utf8TypedPath::common_ancestor`].
+    pub fn common_ancestor(&self, other: &str) -> Option<Utf8TypedPath<'_>>
+        ensures dialect { IfSome result (λ p. typed_dialect p ≡ typed_dialect self.now) }
+        ensures bytes { option_map typed_text result
+            ≡ common_ancestor_of (typed_dialect self.now) (owned_bytes self.now) other.now }
+    {
+        self.to_path().common_ancestor(other)
+    }
+
     /// As [`Utf8TypedPath::is_within`].
     pub fn is_within(&self, base: &str) -> bool
         ensures { result ≡ is_within (typed_dialect self.now) (owned_bytes self.now) base.now }
     {
         self.to_path().is_within(base)
+    }
+
+    /// As [`Utf8TypedPath::relative_to`].
+    pub fn relative_to(
+        &self,
+        alloc: Global,
+        base: &str,
+    ) -> Result<Option<Utf8TypedPathBuf>, AllocError>
+        ensures dialect { IfOk result (λ found. IfSome found
+            (λ p. typed_dialect p ≡ typed_dialect self.now)) }
+        ensures leads { LeadsFrom (typed_dialect self.now) owned_bytes base.now
+            (owned_bytes self.now) result }
+    {
+        self.to_path().relative_to(alloc, base)
     }
 
     /// As [`Utf8TypedPath::ends_with`].
@@ -385,6 +441,15 @@ impl Utf8TypedPathBuf {
             ≡ with_extension (typed_dialect self.now) (owned_bytes self.now) extension.now) }
     {
         self.to_path().with_extension(alloc, extension)
+    }
+
+    /// As [`Utf8TypedPath::with_added_extension`].
+    pub fn with_added_extension(&self, alloc: Global, extension: &str) -> Result<Self, AllocError>
+        ensures dialect { IfOk result (λ p. typed_dialect p ≡ typed_dialect self.now) }
+        ensures bytes { IfOk result (λ p. owned_bytes p
+            ≡ with_added_extension (typed_dialect self.now) (owned_bytes self.now) extension.now) }
+    {
+        self.to_path().with_added_extension(alloc, extension)
     }
 
     /// As [`Utf8TypedPath::normalize`].

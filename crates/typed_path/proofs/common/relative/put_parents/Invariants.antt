@@ -1,0 +1,10 @@
+use Rattle.std.proofs.Common.{◌≡◌, ◌+◌, ◌*◌, ◌≤◌, ◌++◌, reverse, vec_len, vec_capacity}
+use Rattle.typed_path.specs.places.{dots, rows_of}
+use Rattle.typed_path.proofs.common.relative.put_parents.Given as goal
+
+abbrev pub invariant-parents : goal.invariant-parents
+invariant-parents l = record {
+  put : reverse l.text.items ≡ rows_of l.separators (dots l.counter) ++ reverse l.fn.text.items;
+  room : vec_len l.text ≡ vec_len l.fn.text + l.counter * 3;
+  capacity : vec_capacity l.fn.text ≤ vec_capacity l.text;
+}

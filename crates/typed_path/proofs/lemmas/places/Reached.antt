@@ -1,0 +1,148 @@
+-- Whether a path is reached from a base, by how many steps, and what room these take.
+use Rattle.std.proofs.Common.{◌≡◌, ℕ, zero, suc, ◌+◌, ◌*◌, ◌-◌, ◌<◌, ◌≤◌, ◌==◌, Bool, true, false, ◌&&◌, List, [], ◌∷◌, ◌++◌, if◌then◌else◌, length, drop, refl, sym, ap, ap₂, ◌∙◌, arith, nat_le, subst, length-append, length-drop, Option, Some, None}
+use Rattle.std.proofs.lemmas.Bool.{cond_both}
+use Rattle.std.proofs.lemmas.List.{length-map, map-append}
+use Rattle.typed_path.specs.declared.scan.separators.Separators.{Separators}
+use Rattle.typed_path.specs.components.{Dialect, separators, is_separator, is_verbatim, root_text, is_dot, is_dot_dot, Kind, prefix, root, current, parent, normal, Part, Placed, parts, root_part, current_part, parent_part, name_part, kinds, parts_of, Found, prefix_of}
+use Rattle.typed_path.specs.places.{AreSteps, can_stand, is_anchored, is_reached, kept_names, met_count, names_down, relative_by, rising, row_end, rows_of, same_heads, shared_count, steps_text, steps_up, unmet}
+use Rattle.typed_path.proofs.lemmas.lists.Lists.{width, width-slice_split}
+use Rattle.typed_path.proofs.lemmas.components.Segments.{body_parts, first_part, first_parts, later_part, later_parts, named_part, parts_behind, parts-comps_behind, pieces}
+use Rattle.typed_path.proofs.lemmas.places.SharedFromBack.{shared_count-least, shared_count-most}
+use Rattle.typed_path.proofs.lemmas.places.TakenNames.{rows-drop, row-size}
+
+pub met-own : (ks ls : List Kind) → met_count ks ls ≤ length (kept_names ks)
+met-own ks ls = by (rising ks == rising ls)
+  where
+    by : (b : Bool) → (if b then shared_count (kept_names ks) (kept_names ls) else 0) ≤ length (kept_names ks)
+    by true = shared_count-least (kept_names ks) (kept_names ls)
+    by false = omega arith
+
+pub met-base : (ks ls : List Kind) → met_count ks ls ≤ length (kept_names ls)
+met-base ks ls = by (rising ks == rising ls)
+  where
+    by : (b : Bool) → (if b then shared_count (kept_names ks) (kept_names ls) else 0) ≤ length (kept_names ls)
+    by true = shared_count-most (kept_names ks) (kept_names ls)
+    by false = omega arith
+
+-- no more names are kept, and parents are left over, than there are components
+few-kept : (ks : List Kind) → unmet ks + length (kept_names ks) ≤ length ks
+few-kept [] = omega arith
+few-kept (prefix p ∷ ks) = omega (arith, few-kept ks)
+few-kept (root ∷ ks) = omega (arith, few-kept ks)
+few-kept (current ∷ ks) = omega (arith, few-kept ks)
+few-kept (parent ∷ ks) = omega (arith, few-kept ks)
+few-kept (normal name ∷ ks) = by (unmet ks == 0) (few-kept ks)
+  where
+    by : (b : Bool) → unmet ks + length (kept_names ks) ≤ length ks → (unmet ks - 1) + length (if b then name ∷ kept_names ks else kept_names ks) ≤ suc (length ks)
+    by true h = omega (arith, h)
+    by false h = omega (arith, h)
+
+pub few-steps : (cs : List Placed) → rising (kinds (parts cs)) + length (kept_names (kinds (parts cs))) ≤ length cs
+few-steps cs =
+    let ks = kinds (parts cs) in
+    omega (arith, few-kept ks, less (is_anchored ks), length-map (parts cs) (λ p. p.kind), length-map cs (λ c. c.part))
+  where
+    less : (b : Bool) → (if b then 0 else unmet (kinds (parts cs))) ≤ unmet (kinds (parts cs))
+    less true = omega arith
+    less false = omega arith
+
+pub not-standing : (ks ls : List Kind) → can_stand (names_down ks ls) ≡ false → is_reached ks ls ≡ false
+not-standing ks ls e = ap (λ b. (same_heads ks ls && nat_le (rising ls) (rising ks)) && b) e ∙ by (same_heads ks ls && nat_le (rising ls) (rising ks))
+  where
+    by : (b : Bool) → b && false ≡ false
+    by true = refl
+    by false = refl
+
+-- the names behind those that are met
+pub names-down : (ks ls : List Kind) (m downs : ℕ) → m ≡ met_count ks ls → downs ≡ length (kept_names ks) - m → drop (length (kept_names ks) - downs) (kept_names ks) ≡ names_down ks ls
+names-down ks ls m downs is e =
+    let same : length (kept_names ks) - downs ≡ met_count ks ls = omega (arith, is, e, met-own ks ls) in
+    ap (λ n. drop n (kept_names ks)) same
+
+pub reached-text : (d : Dialect) (ks ls : List Kind) (ups downs : ℕ) (text : List ℕ) → AreSteps ks ls ups downs → text ≡ steps_text d ups (drop (length (kept_names ks) - downs) (kept_names ks)) → Some text ≡ relative_by d ks ls
+reached-text d ks ls ups downs text steps is =
+    ap Some (is ∙ ap₂ (steps_text d) steps.up steps.names)
+    ∙ ap (λ b. if b then Some (steps_text d (steps_up ks ls) (names_down ks ls)) else None) (sym steps.reached)
+
+pub unreached-text : (d : Dialect) (ks ls : List Kind) → is_reached ks ls ≡ false → None ≡ relative_by d ks ls
+unreached-text d ks ls e = ap (λ b. if b then Some (steps_text d (steps_up ks ls) (names_down ks ls)) else None) (sym e)
+
+pub reached-all : (ks ls : List Kind) → same_heads ks ls ≡ true → rising ls ≤ rising ks → can_stand (names_down ks ls) ≡ true → is_reached ks ls ≡ true
+reached-all ks ls heads rises stands =
+    let le : nat_le (rising ls) (rising ks) ≡ true = grind (arith, rises) in
+    ap₂ ◌&&◌ (ap₂ ◌&&◌ heads le) stands
+
+-- steps lead to a text
+pub steps-some : (d : Dialect) (ks ls : List Kind) (ups downs : ℕ) → AreSteps ks ls ups downs → relative_by d ks ls ≡ None → ⊥
+steps-some d ks ls ups downs steps none =
+    let some : Some (steps_text d (steps_up ks ls) (names_down ks ls)) ≡ None = sym (ap (λ b. if b then Some (steps_text d (steps_up ks ls) (names_down ks ls)) else None) steps.reached) ∙ none in cc
+
+-- names that are met, told by numbers and names that are those of two lists
+pub met-told : (ks ls : List Kind) (own other : ℕ) (xs ys : List (List ℕ)) → own ≡ rising ks → other ≡ rising ls → xs ≡ kept_names ks → ys ≡ kept_names ls
+    → (if own == other then shared_count xs ys else 0) ≡ met_count ks ls
+met-told ks ls own other xs ys a b e f =
+    ap₂ (λ m n. if m == n then shared_count xs ys else 0) a b ∙ ap₂ (λ us vs. if rising ks == rising ls then shared_count us vs else 0) e f
+
+-- How many bytes the names that are kept take, each with a separator behind it.
+
+abbrev name_size : Kind → ℕ
+name_size (normal name) = length name + 1
+name_size k = 0
+
+abbrev names_size : List Kind → ℕ
+names_size [] = 0
+names_size (k ∷ ks) = name_size k + names_size ks
+
+kept-size : (s : Separators) (ks : List Kind) → length (rows_of s (kept_names ks)) ≤ names_size ks
+kept-size s [] = omega arith
+kept-size s (prefix p ∷ ks) = omega (arith, kept-size s ks)
+kept-size s (root ∷ ks) = omega (arith, kept-size s ks)
+kept-size s (current ∷ ks) = omega (arith, kept-size s ks)
+kept-size s (parent ∷ ks) = omega (arith, kept-size s ks)
+kept-size s (normal name ∷ ks) = by (unmet ks == 0) (kept-size s ks)
+  where
+    by : (b : Bool) → length (rows_of s (kept_names ks)) ≤ names_size ks → length (rows_of s (if b then name ∷ kept_names ks else kept_names ks)) ≤ (length name + 1) + names_size ks
+    by true h = omega (arith, h, row-size s name (kept_names ks))
+    by false h = omega (arith, h)
+
+names_size-append : (ps qs : List Part) → names_size (kinds (ps ++ qs)) ≡ names_size (kinds ps) + names_size (kinds qs)
+names_size-append [] qs = omega arith
+names_size-append (p ∷ ps) qs = omega (arith, names_size-append ps qs)
+
+size-named : (piece : List ℕ) → name_size (named_part piece).kind ≤ length piece + 1
+size-named piece = cond_both (is_dot_dot piece) parent_part (name_part piece) (λ p. name_size p.kind ≤ length piece + 1) (λ e. omega arith) (λ e. omega arith)
+
+size-later : (s : Separators) (piece : List ℕ) → names_size (kinds (later_part s piece)) ≤ length piece + 1
+size-later s piece =
+    cond_both (length piece == 0) [] _ (λ ps. names_size (kinds ps) ≤ length piece + 1) (λ e. omega arith)
+    (λ filled. cond_both (is_dot piece) (if is_verbatim s then current_part ∷ [] else []) (named_part piece ∷ []) (λ ps. names_size (kinds ps) ≤ length piece + 1)
+    (λ e. cond_both (is_verbatim s) (current_part ∷ []) [] (λ ps. names_size (kinds ps) ≤ length piece + 1) (λ f. omega arith) (λ f. omega arith))
+    (λ e. omega (arith, size-named piece)))
+
+size-first : (s : Separators) (piece : List ℕ) → name_size (first_part s piece).kind ≤ length piece + 1
+size-first s piece =
+    cond_both (length piece == 0) (root_part (root_text s)) _ (λ p. name_size p.kind ≤ length piece + 1) (λ e. omega arith)
+    (λ filled. cond_both (is_dot piece) current_part (named_part piece) (λ p. name_size p.kind ≤ length piece + 1) (λ e. omega arith) (λ e. size-named piece))
+
+sizes-later : (s : Separators) (all : List (List ℕ)) → names_size (kinds (later_parts s all)) ≤ width all
+sizes-later s [] = omega arith
+sizes-later s (piece ∷ all) = omega (arith, size-later s piece, sizes-later s all, names_size-append (later_part s piece) (later_parts s all))
+
+sizes-first : (s : Separators) (all : List (List ℕ)) → names_size (kinds (first_parts s all)) ≤ width all
+sizes-first s [] = omega arith
+sizes-first s (piece ∷ all) = omega (arith, size-first s piece, sizes-later s all)
+
+sizes-body : (s : Separators) (text : List ℕ) → names_size (kinds (body_parts s text)) ≤ length text + 1
+sizes-body s [] = omega arith
+sizes-body s (b ∷ bs) = omega (arith, sizes-first s (pieces s (b ∷ bs)), width-slice_split (is_separator s) (b ∷ bs))
+
+sizes-whole : (d : Dialect) (t : List ℕ) → names_size (kinds (parts_of d t)) ≤ length t + 1
+sizes-whole d t = subst (λ ps. names_size (kinds ps) ≤ length t + 1) (sym (parts-comps_behind (separators d t) t (prefix_of d t))) (by (prefix_of d t))
+  where
+    by : (o : Option Found) → names_size (kinds (parts_behind (separators d t) t o)) ≤ length t + 1
+    by None = sizes-body (separators d t) t
+    by (Some f) = omega (arith, sizes-body (separators d t) (drop f.length t), length-drop f.length t)
+
+-- the last of them take a byte more than the path at the most
+pub rows-room : (s : Separators) (d : Dialect) (t : List ℕ) (n : ℕ) → length (rows_of s (drop n (kept_names (kinds (parts_of d t))))) ≤ length t + 1
+rows-room s d t n = let ks = kinds (parts_of d t) in omega (arith, rows-drop s n (kept_names ks), kept-size s ks, sizes-whole d t)

@@ -1,0 +1,146 @@
+-- The steps that lead from one list to another, put behind the first, lead where the second leads.
+use Rattle.std.proofs.Common.{◌≡◌, ℕ, suc, ◌+◌, ◌-◌, ◌≤◌, ◌==◌, Bool, true, false, not, ◌&&◌, List, [], ◌∷◌, ◌++◌, map, if◌then◌else◌, length, take, drop, refl, sym, ap, ap₂, ◌∙◌, arith, nat_le, take-append-drop, is_eq}
+use Rattle.std.specs.Prelude.{bytes_eq, Option, Some, None}
+use Rattle.std.proofs.lemmas.Bool.{and_parts, eqb-true, leb-true}
+use Rattle.std.proofs.lemmas.Cmp.{tied_itself}
+use Rattle.std.proofs.lemmas.Slice.Eq.{bytes_eq-Decides}
+use Rattle.typed_path.specs.components.{Prefix, Kind, prefix, root, current, parent, normal}
+use Rattle.typed_path.specs.queries.{begins_with_root, first_prefix}
+use Rattle.typed_path.specs.order.{are_same_prefixes, kind_cmp, kind_cmp_total}
+use Rattle.typed_path.specs.places.{can_stand, head_of, headed, is_anchored, is_reached, kept_names, names_down, rising, routed, same_heads, shared_count, steps_up, unmet}
+use Rattle.typed_path.proofs.lemmas.places.KeptNames.{AlikeKept, unmet-append, kept_names-append}
+use Rattle.typed_path.proofs.lemmas.places.SharedFromBack.{shared_count-most}
+use Rattle.typed_path.proofs.lemmas.promises.CleanRead.{LeadsAs, anchored-stays, names-ups, unmet-ups, ups}
+use Rattle.typed_path.proofs.lemmas.promises.Within.{same-prefix, same-test}
+
+-- Lists that begin alike.
+
+prefixes-same : (o : Option Prefix) → are_same_prefixes o o ≡ true
+prefixes-same None = refl
+prefixes-same (Some p) = ap is_eq (tied_itself kind_cmp_total (prefix p))
+
+test-same : (a : Bool) → (if a then a else not a) ≡ true
+test-same true = refl
+test-same false = refl
+
+pub heads-alike : (ks ls : List Kind) → same_heads ks ls ≡ true → head_of ks ≡ head_of ls
+heads-alike ks ls e =
+    let both = and_parts (are_same_prefixes (first_prefix ks) (first_prefix ls)) _ e in
+    ap₂ headed (same-prefix (first_prefix ks) (first_prefix ls) both.0) (same-test (is_anchored ks) (is_anchored ls) both.1)
+
+-- a head tells the prefix and the root
+first-headed : (o : Option Prefix) (a : Bool) → first_prefix (headed o a) ≡ o
+first-headed None true = refl
+first-headed None false = refl
+first-headed (Some p) true = refl
+first-headed (Some p) false = refl
+
+abbrev rooted_in : List Kind → Bool
+rooted_in (prefix p ∷ ks) = begins_with_root ks
+rooted_in ks = begins_with_root ks
+
+rooted-headed : (o : Option Prefix) (a : Bool) → rooted_in (headed o a) ≡ a
+rooted-headed None true = refl
+rooted-headed None false = refl
+rooted-headed (Some p) true = refl
+rooted-headed (Some p) false = refl
+
+pub same_heads-all : (ks ls : List Kind) → first_prefix ks ≡ first_prefix ls → is_anchored ks ≡ is_anchored ls → same_heads ks ls ≡ true
+same_heads-all ks ls prefixes anchored =
+    ap₂ ◌&&◌ (ap (are_same_prefixes (first_prefix ks)) (sym prefixes) ∙ prefixes-same (first_prefix ks))
+    (ap (λ b. if is_anchored ks then b else not b) (sym anchored) ∙ test-same (is_anchored ks))
+
+pub alike-heads : (ks ls : List Kind) → head_of ks ≡ head_of ls → same_heads ks ls ≡ true
+alike-heads ks ls same =
+    same_heads-all ks ls
+    (sym (first-headed (first_prefix ks) (is_anchored ks)) ∙ ap first_prefix same ∙ first-headed (first_prefix ls) (is_anchored ls))
+    (sym (rooted-headed (first_prefix ks) (is_anchored ks)) ∙ ap rooted_in same ∙ rooted-headed (first_prefix ls) (is_anchored ls))
+
+-- What it tells that a path is reached.
+
+pub record IsReached (ks ls : List Kind) : Type 0 where
+  pub heads : same_heads ks ls ≡ true
+  pub anchored : is_anchored ks ≡ is_anchored ls
+  pub rising : rising ls ≤ rising ks
+  pub stands : can_stand (names_down ks ls) ≡ true
+
+pub reached-told : (ks ls : List Kind) → is_reached ks ls ≡ true → IsReached ks ls
+reached-told ks ls e =
+    let outer = and_parts (same_heads ks ls && nat_le (rising ls) (rising ks)) (can_stand (names_down ks ls)) e in
+    let inner = and_parts (same_heads ks ls) (nat_le (rising ls) (rising ks)) outer.0 in
+    let heads = and_parts (are_same_prefixes (first_prefix ks) (first_prefix ls)) _ inner.0 in
+    record {
+      heads = inner.0;
+      anchored = same-test (is_anchored ks) (is_anchored ls) heads.1;
+      rising = leb-true (rising ls) (rising ks) inner.1;
+      stands = outer.1;
+    }
+
+-- names that are shared are the same
+shared-same : (xs ys : List (List ℕ)) → take (shared_count xs ys) ys ≡ take (shared_count xs ys) xs
+shared-same [] ys = refl
+shared-same (x ∷ xs) [] = refl
+shared-same (x ∷ xs) (y ∷ ys) = by (bytes_eq x y) refl (shared-same xs ys)
+  where
+    by : (b : Bool) → bytes_eq x y ≡ b → take (shared_count xs ys) ys ≡ take (shared_count xs ys) xs
+        → take (if b then suc (shared_count xs ys) else 0) (y ∷ ys) ≡ take (if b then suc (shared_count xs ys) else 0) (x ∷ xs)
+    by true e h = ap₂ (λ n ns. n ∷ ns) (sym ((bytes_eq-Decides x y).0 e)) h
+    by false e h = refl
+
+module _ (ks ls : List Kind) (rises : rising ls ≤ rising ks) where
+  -- the names of the base that stay, and then those of the path
+  pub names-met : take (length (kept_names ls) - steps_up ks ls) (kept_names ls) ++ names_down ks ls ≡ kept_names ks
+  names-met = by (rising ks == rising ls) refl
+    where
+      by : (b : Bool) → (rising ks == rising ls) ≡ b
+          → take (length (kept_names ls) - ((length (kept_names ls) - (if b then shared_count (kept_names ks) (kept_names ls) else 0)) + (rising ks - rising ls))) (kept_names ls)
+          ++ drop (if b then shared_count (kept_names ks) (kept_names ls) else 0) (kept_names ks) ≡ kept_names ks
+      by true e =
+          let n = shared_count (kept_names ks) (kept_names ls) in
+          let most : n ≤ length (kept_names ls) = shared_count-most (kept_names ks) (kept_names ls) in
+          let count : length (kept_names ls) - ((length (kept_names ls) - n) + (rising ks - rising ls)) ≡ n = omega (arith, most, eqb-true (rising ks) (rising ls) e) in
+          ap (λ m. take m (kept_names ls) ++ drop n (kept_names ks)) count
+          ∙ ap (λ ns. ns ++ drop n (kept_names ks)) (shared-same (kept_names ks) (kept_names ls))
+          ∙ take-append-drop n (kept_names ks)
+      by false e =
+          let count : length (kept_names ls) - ((length (kept_names ls) - 0) + (rising ks - rising ls)) ≡ 0 = omega arith in
+          ap (λ m. take m (kept_names ls) ++ kept_names ks) count
+
+  -- and the parents that are left over
+  parents-met : rising ls + (steps_up ks ls - length (kept_names ls)) ≡ rising ks
+  parents-met = by (rising ks == rising ls) refl
+    where
+      by : (b : Bool) → (rising ks == rising ls) ≡ b
+          → rising ls + (((length (kept_names ls) - (if b then shared_count (kept_names ks) (kept_names ls) else 0)) + (rising ks - rising ls)) - length (kept_names ls)) ≡ rising ks
+      by true e = omega (arith, eqb-true (rising ks) (rising ls) e)
+      by false e = omega (arith, rises)
+
+pub free-rising : (ks : List Kind) → is_anchored ks ≡ false → rising ks ≡ unmet ks
+free-rising ks e = ap (λ b. if b then 0 else unmet ks) e
+
+-- a list that begins as the base does, and that each list before it sees as the base and the steps
+pub leads-back : (ks ls ms : List Kind) → is_reached ks ls ≡ true → is_anchored ms ≡ is_anchored ls → AlikeKept ms (ls ++ ups (steps_up ks ls) (names_down ks ls)) → LeadsAs ms ks
+leads-back ks ls ms reached begins alike =
+    let h = reached-told ks ls reached in
+    let steps = ups (steps_up ks ls) (names_down ks ls) in
+    record {
+      anchored = begins ∙ sym h.anchored;
+      rising = by (is_anchored ls) refl h.anchored
+          (alike.unmet ∙ unmet-append ls steps ∙ ap (λ n. unmet ls + (n - length (kept_names ls))) (unmet-ups (steps_up ks ls) (names_down ks ls)))
+          (parents-met ks ls h.rising);
+      names = alike.names ∙ kept_names-append ls steps
+          ∙ ap₂ (λ n ns. take (length (kept_names ls) - n) (kept_names ls) ++ ns) (unmet-ups (steps_up ks ls) (names_down ks ls)) (names-ups (steps_up ks ls) (names_down ks ls))
+          ∙ names-met ks ls h.rising;
+    }
+  where
+    by : (b : Bool) → is_anchored ls ≡ b → is_anchored ks ≡ is_anchored ls → unmet ms ≡ unmet ls + (steps_up ks ls - length (kept_names ls)) → rising ls + (steps_up ks ls - length (kept_names ls)) ≡ rising ks
+        → rising ms ≡ rising ks
+    by true e same f g = anchored-stays ms (begins ∙ e) ∙ sym (anchored-stays ks (same ∙ e))
+    by false e same f g =
+        free-rising ms (begins ∙ e) ∙ f ∙ ap (λ n. n + (steps_up ks ls - length (kept_names ls))) (sym (free-rising ls e)) ∙ g
+
+-- with the prefix of the base it has the route of the path
+pub same-route : (ks ls ms : List Kind) → is_reached ks ls ≡ true → first_prefix ms ≡ first_prefix ls → LeadsAs ms ks → routed ms ≡ routed ks
+same-route ks ls ms reached prefixes h =
+    let t = reached-told ks ls reached in
+    ap₂ ◌++◌ (ap₂ headed prefixes (h.anchored ∙ t.anchored) ∙ sym (heads-alike ks ls t.heads)) (ap₂ ups h.rising h.names)

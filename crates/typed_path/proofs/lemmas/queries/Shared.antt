@@ -1,0 +1,219 @@
+-- What two paths begin with: how far they have been read alike, and that it is the longest that both begin with.
+use Rattle.std.proofs.Common.{◌≡◌, ℕ, zero, suc, ◌+◌, ◌-◌, ◌<◌, ◌≤◌, List, [], ◌∷◌, true, false, if◌then◌else◌, length, drop, replicate, refl, sym, ap, ap₂, ◌∙◌, arith, length-drop, inl, inr, Bool, ◌&&◌, take, zero-le}
+use Rattle.std.specs.Prelude.{Some, None}
+use Rattle.std.specs.Str.{bytes_eq}
+use Rattle.std.proofs.lemmas.Bool.{cases_lt, and_parts}
+use Rattle.std.proofs.lemmas.List.{drop-drop}
+use Rattle.std.proofs.lemmas.Option.{same_Some}
+use Rattle.std.specs.List.{starts_with}
+use Rattle.std.proofs.lemmas.Slice.Eq.{bytes_eq-Decides}
+use Rattle.typed_path.specs.components.{Dialect, Part, Placed, parts, texts, comps, parts_of}
+use Rattle.typed_path.specs.scan.{front, left, start_at, end_at, slice_after_front, slice_after, fronts, backs, IsLaidOut, first_part}
+use Rattle.typed_path.specs.queries.{shared_count, end_of_first, shared_end}
+use Rattle.typed_path.proofs.lemmas.components.Cuts.{comps-laid_out, ends-within, start-end}
+use Rattle.typed_path.proofs.lemmas.scan.Readings.{left-all, left-front, left-taken, stepwise_slices}
+
+fronts-replicate : (k : ℕ) → fronts (replicate k front) ≡ k
+fronts-replicate zero = refl
+fronts-replicate (suc k) = ap (λ n. 1 + n) (fronts-replicate k) ∙ omega arith
+
+backs-replicate : (k : ℕ) → backs (replicate k front) ≡ 0
+backs-replicate zero = refl
+backs-replicate (suc k) = backs-replicate k
+
+-- one more step from the front
+slice_after-more : (k : ℕ) (cs : List Placed) (slice : List ℕ) → slice_after cs slice (replicate (suc k) front) ≡ slice_after_front (drop k cs) (slice_after cs slice (replicate k front))
+slice_after-more zero cs slice = refl
+slice_after-more (suc k) cs slice =
+    let next : 1 + k ≡ suc k = omega arith in
+    slice_after-more k (drop 1 cs) (slice_after_front cs slice)
+    ∙ ap (λ ds. slice_after_front ds (slice_after cs slice (replicate (suc k) front))) (drop-drop k 1 cs ∙ ap (λ n. drop n cs) next)
+
+-- the slice left behind the first components
+left-fronts : (d : Dialect) (t : List ℕ) (k : ℕ) → k ≤ length (comps d t) → slice_after (comps d t) t (replicate k front) ≡ left (comps d t) t k 0
+left-fronts d t k within =
+    let f = fronts-replicate k in
+    let b = backs-replicate k in
+    stepwise_slices (comps d t) t (replicate k front) (comps-laid_out d t) (omega arith) ∙ ap (λ n. left (comps d t) t n (backs (replicate k front))) f ∙ ap (left (comps d t) t k) b
+
+-- it is no longer than the text
+left-fits : (cs : List Placed) (t : List ℕ) (k : ℕ) → k ≤ length cs → length (left cs t k 0) ≤ length t
+left-fits cs t zero within = omega (arith, ap length (left-all cs t))
+left-fits cs t (suc k) within = elim (cases_lt (suc k) (length cs)) [
+  | inl inside ↦ omega (arith, ap length (left-front cs t (suc k) (omega arith) inside), length-drop (start_at cs (suc k)) t)
+  | inr all ↦ omega (arith, ap length (left-taken cs t (suc k) 0 (omega arith) (omega arith)))
+]
+
+abbrev shared : List Placed → List Placed → ℕ
+shared cs ds = shared_count (texts (parts cs)) (texts (parts ds))
+
+-- how far two paths have been read: as many components of each, all alike so far, and where the last of them ends
+pub record Shares (d : Dialect) (t u : List ℕ) (own others : List Placed) (slice : List ℕ) (end : ℕ) : Type 0 where
+  pub taken : ℕ
+  pub items : own ≡ drop taken (comps d t)
+  pub slice_left : slice ≡ slice_after (comps d t) t (replicate taken front)
+  pub within : taken ≤ length (comps d t)
+  pub ends : end ≡ end_of_first (comps d t) taken
+  pub fits : end ≤ length t
+  pub alike : shared (comps d t) (comps d u) ≡ taken + shared own others
+
+pub shares_start : (d : Dialect) (t u : List ℕ) (own others : List Placed) (slice : List ℕ) → own ≡ comps d t → others ≡ comps d u → slice ≡ t → Shares d t u own others slice 0
+shares_start d t u own others slice e f g = record {
+  taken = 0;
+  items = e;
+  slice_left = g;
+  within = omega arith;
+  ends = refl;
+  fits = omega arith;
+  alike = ap₂ shared (sym e) (sym f) ∙ omega arith;
+}
+
+-- where one of the lists is at its end, or the texts differ, no more is shared
+abbrev IsEnd : List Placed → List Placed → Type 0
+IsEnd own others = shared own others ≡ 0
+
+pub no_own : (own others : List Placed) → None ≡ first_part own → IsEnd own others
+no_own [] others none = refl
+no_own (c ∷ cs) others none = cc
+
+pub no_other : (own others : List Placed) → None ≡ first_part others → IsEnd own others
+no_other [] [] none = refl
+no_other (c ∷ cs) [] none = refl
+no_other own (e ∷ es) none = cc
+
+-- one step more of two lists
+pub shared_step : (own others : List Placed) (p q : Part) → Some p ≡ first_part own → Some q ≡ first_part others
+    → shared own others ≡ (if bytes_eq p.text q.text then suc (shared (drop 1 own) (drop 1 others)) else 0)
+shared_step [] others p q some other = cc
+shared_step (c ∷ cs) [] p q some other = cc
+shared_step (c ∷ cs) (e ∷ es) p q some other =
+    ap₂ (λ r s. if bytes_eq r.text s.text then suc (shared cs es) else 0) (sym (same_Some _ _ some)) (sym (same_Some _ _ other))
+
+-- the first component that is left is the next one of the path
+first_left : (cs : List Placed) (k : ℕ) (p : Part) → Some p ≡ first_part (drop k cs) → (k < length cs) × (end_at cs k ≡ start_at cs k + length p.text)
+first_left [] zero p some = cc
+first_left [] (suc k) p some = cc
+first_left (c ∷ cs) zero p some = (omega arith, ap (λ q. c.start + length q.text) (sym (same_Some _ _ some)))
+first_left (c ∷ cs) (suc k) p some = let h = first_left cs k p some in (omega arith, h.1)
+
+module _ {d : Dialect} {t u : List ℕ} {own others : List Placed} {slice : List ℕ} {end : ℕ} (h : Shares d t u own others slice end) where
+  -- nothing more is shared
+  pub shares_end : IsEnd own others → end ≡ shared_end d t u
+  shares_end none =
+      let all : h.taken ≡ shared (comps d t) (comps d u) = sym (h.alike ∙ ap (λ n. h.taken + n) none ∙ omega arith) in
+      h.ends ∙ ap (end_of_first (comps d t)) all
+
+  -- what is left is no longer than the path
+  pub slice_fits : length slice ≤ length t
+  slice_fits = omega (arith, ap length (h.slice_left ∙ left-fronts d t h.taken h.within), left-fits (comps d t) t h.taken h.within)
+
+  -- where what is left begins
+  pub begins_at : h.taken < length (comps d t) → length t - length slice ≡ start_at (comps d t) h.taken
+  begins_at inside = by h.taken inside (h.slice_left ∙ left-fronts d t h.taken h.within)
+    where
+      laid : IsLaidOut (comps d t) t
+      laid = comps-laid_out d t
+
+      by : (k : ℕ) → k < length (comps d t) → slice ≡ left (comps d t) t k 0 → length t - length slice ≡ start_at (comps d t) k
+      by zero inside is = omega (arith, ap length (is ∙ left-all (comps d t) t), laid.from_start)
+      by (suc k) inside is =
+          omega (
+            arith,
+            ap length (is ∙ left-front (comps d t) t (suc k) (omega arith) inside),
+            length-drop (start_at (comps d t) (suc k)) t,
+            start-end (comps d t) (suc k),
+            ends-within 0 (length t) (comps d t) (suc k) laid.in_order inside,
+          )
+
+  -- the next component of the path: where it begins and ends
+  pub next_ends : (p : Part) → Some p ≡ first_part own → (length t - length slice + length p.text ≡ end_at (comps d t) h.taken) × (end_at (comps d t) h.taken ≤ length t)
+  next_ends p some =
+      let first = first_left (comps d t) h.taken p (some ∙ ap first_part h.items) in
+      (omega (arith, begins_at first.0, first.1), ends-within 0 (length t) (comps d t) h.taken (comps-laid_out d t).in_order first.0)
+
+  -- both next components are alike
+  pub shares_step : (p q : Part) (own' others' : List Placed) (slice' : List ℕ) (end' : ℕ) → Some p ≡ first_part own → Some q ≡ first_part others → bytes_eq p.text q.text ≡ true
+      → own' ≡ drop 1 own → others' ≡ drop 1 others → slice' ≡ slice_after_front own slice → end' ≡ length t - length slice + length p.text
+      → Shares d t u own' others' slice' end'
+  shares_step p q own' others' slice' end' some other alike e f g ends =
+      let first = first_left (comps d t) h.taken p (some ∙ ap first_part h.items) in
+      let next = next_ends p some in
+      let more : h.taken + 1 ≡ suc h.taken = omega arith in
+      record {
+        taken = suc h.taken;
+        items = e ∙ ap (drop 1) h.items ∙ drop-drop 1 h.taken (comps d t) ∙ ap (λ n. drop n (comps d t)) more;
+        slice_left = g ∙ ap₂ slice_after_front h.items h.slice_left ∙ sym (slice_after-more h.taken (comps d t) t);
+        within = omega (arith, first.0);
+        ends = ends ∙ next.0;
+        fits = omega (arith, ends, next.0, next.1);
+        alike =
+            h.alike
+            ∙ ap (λ n. h.taken + n) (shared_step own others p q some other ∙ ap (λ b. if b then suc (shared (drop 1 own) (drop 1 others)) else 0) alike
+            ∙ ap suc (ap₂ shared (sym e) (sym f)))
+            ∙ omega arith;
+      }
+
+-- texts that differ end what is shared
+pub differ : (own others : List Placed) (p q : Part) → Some p ≡ first_part own → Some q ≡ first_part others → bytes_eq p.text q.text ≡ false → IsEnd own others
+differ own others p q some other unlike =
+    shared_step own others p q some other ∙ ap (λ b. if b then suc (shared (drop 1 own) (drop 1 others)) else 0) unlike
+
+-- a path has as many texts as components
+pub texts-length : (d : Dialect) (t : List ℕ) → length (texts (parts_of d t)) ≡ length (comps d t)
+texts-length d t = by (comps d t)
+  where
+    by : (cs : List Placed) → length (texts (parts cs)) ≡ length cs
+    by [] = refl
+    by (c ∷ cs) = ap suc (by cs)
+
+pub count-within : (xs ys : List (List ℕ)) → shared_count xs ys ≤ length xs
+count-within [] ys = zero-le
+count-within (x ∷ xs) [] = zero-le
+count-within (x ∷ xs) (y ∷ ys) = by (bytes_eq x y) (count-within xs ys)
+  where
+    by : (same : Bool) → shared_count xs ys ≤ length xs → (if same then suc (shared_count xs ys) else 0) ≤ suc (length xs)
+    by true less = omega arith
+    by false less = zero-le
+
+same-bytes : (x : List ℕ) → bytes_eq x x ≡ true
+same-bytes x = (bytes_eq-Decides x x).1 refl
+
+-- a list begins with each front of it
+pub starts_own : (n : ℕ) (xs : List (List ℕ)) → starts_with bytes_eq xs (take n xs) ≡ true
+starts_own zero xs = refl
+starts_own (suc n) [] = refl
+starts_own (suc n) (x ∷ xs) = ap₂ (λ a b. a && b) (same-bytes x) (starts_own n xs)
+
+-- so does the other list, with what is shared
+pub starts_other : (xs ys : List (List ℕ)) → starts_with bytes_eq ys (take (shared_count xs ys) xs) ≡ true
+starts_other [] ys = refl
+starts_other (x ∷ xs) [] = refl
+starts_other (x ∷ xs) (y ∷ ys) = by (bytes_eq x y) refl (starts_other xs ys)
+  where
+    by : (same : Bool) → bytes_eq x y ≡ same → starts_with bytes_eq ys (take (shared_count xs ys) xs) ≡ true
+        → starts_with bytes_eq (y ∷ ys) (take (if same then suc (shared_count xs ys) else 0) (x ∷ xs)) ≡ true
+    by true e rest = ap₂ (λ a b. a && b) e rest
+    by false e rest = refl
+
+-- and what both begin with begins what is shared
+pub starts_shared : (xs ys zs : List (List ℕ)) → starts_with bytes_eq xs zs ≡ true → starts_with bytes_eq ys zs ≡ true → starts_with bytes_eq (take (shared_count xs ys) xs) zs ≡ true
+starts_shared xs ys [] one other = refl
+starts_shared [] ys (z ∷ zs) one other = one
+starts_shared (x ∷ xs) [] (z ∷ zs) one other = cc
+starts_shared (x ∷ xs) (y ∷ ys) (z ∷ zs) one other =
+    let own = and_parts (bytes_eq z x) (starts_with bytes_eq xs zs) one in
+    let their = and_parts (bytes_eq z y) (starts_with bytes_eq ys zs) other in
+    let first : z ≡ x = (bytes_eq-Decides z x).0 own.0 in
+    let second : z ≡ y = (bytes_eq-Decides z y).0 their.0 in
+    let same : bytes_eq x y ≡ true = (bytes_eq-Decides x y).1 (sym first ∙ second) in
+    ap (λ b. starts_with bytes_eq (take (if b then suc (shared_count xs ys) else 0) (x ∷ xs)) (z ∷ zs)) same
+    ∙ ap₂ (λ a b. a && b) own.0 (starts_shared xs ys zs own.1 their.1)
+
+pub count-own : (xs : List (List ℕ)) → shared_count xs xs ≡ length xs
+count-own [] = refl
+count-own (x ∷ xs) = ap (λ b. if b then suc (shared_count xs xs) else 0) (same-bytes x) ∙ ap suc (count-own xs)
+
+-- what begins nothing is nothing
+pub starts_nothing : (zs : List (List ℕ)) → starts_with bytes_eq [] zs ≡ true → zs ≡ []
+starts_nothing [] e = refl
+starts_nothing (z ∷ zs) e = cc

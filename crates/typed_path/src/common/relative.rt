@@ -1,0 +1,278 @@
+//! The path that leads from a base to another: up to where the two part, and from there down.
+//!
+//! Both are read from the back, as for whether one lies within the other, and so no memory is needed until
+//! the answer is written. That is written from its end too: the last name first and from its last byte, the
+//! parents behind all names, and then the whole is turned round.
+
+ghost use Rattle.std.specs.Prelude.{◌≡◌, ◌+◌, ◌*◌, ◌-◌, ◌++◌, ◌∷◌, ◌<◌, ◌≤◌, ◌^◌, ◌==◌, ◌&&◌, not, false, nat_le, [], length, take, drop, reverse, option_map, if◌then◌else◌, None, IfOk, IsOk, OnOk, MatchOption};
+ghost use Rattle.std.specs.Vec.{vec_len, vec_capacity};
+ghost use Rattle.typed_path.specs.components.{kinds, parts, parts_of};
+ghost use Rattle.typed_path.specs.places.{AreSteps, IsLast, bare_separators, can_stand, dots, is_reached, kept_names, names_under, relative_text, row_end, rows_of, shared_count, steps_text};
+ghost use Rattle.typed_path.specs.views.BodyViews.{body_items};
+ghost use Rattle.typed_path.specs.views.CursorViews.{items_left};
+
+use crate::common::clean::put_apart;
+use crate::common::encoding::Encoding;
+use crate::common::order::have_same_prefixes;
+use crate::common::path_buf::PathBuf;
+use crate::common::rows::row_end;
+use crate::common::within::{Lead, last_name, lead_of};
+use crate::common::writing::drop_separator;
+use crate::scan::{Body, Cursor, Separators};
+use std::alloc::{AllocError, Global};
+
+/// The path that leads from a base to a path, where there is one. It is written into room that is asked
+/// for once.
+pub(crate) fn relative_to<T: Encoding>(
+    alloc: Global,
+    path: &[u8],
+    base: &[u8],
+) -> Result<Option<PathBuf<T>>, AllocError>
+    ensures bytes { IfOk result (λ found. option_map (λ p. p.bytes) found
+        ≡ relative_text T.dialect path.now base.now) }
+    ensures free { relative_text T.dialect path.now base.now ≡ None → IsOk result }
+{
+    match steps_between(T::cursor(path), T::cursor(base)) {
+        Some(steps) => {
+            let room = steps.up.saturating_mul(3).saturating_add(path.len() + 2);
+            let mut text = Vec::with_capacity(alloc, room)?;
+            put_steps::<T>(&mut text, path, steps)?;
+            Ok(Some(PathBuf::from_vec(text)))
+        }
+        None => Ok(None),
+    }
+}
+
+/// How many parents lead up from a base, and how many of the last names of a path down from there.
+#[derive(Clone, Copy)]
+struct Steps {
+    up: usize,
+    down: usize,
+}
+
+/// The steps that lead from a base to a path.
+#[tactic(auto, using(crate::proofs::lemmas::places::KeptFromBack::few_behind_prefix, crate::proofs::lemmas::places::KeptFromBack::kept_behind_prefix))]
+fn steps_between(own: Cursor<'_>, other: Cursor<'_>) -> Option<Steps>
+    requires { length (items_left own) + length (items_left other) < 2 ^ 64 }
+    ensures { let ks = kinds (parts (items_left own.entry)) in
+        let ls = kinds (parts (items_left other.entry)) in
+        MatchOption result (is_reached ks ls ≡ false) (λ steps. AreSteps ks ls steps.up steps.down) }
+{
+    if !have_same_prefixes(own.prefix(), other.prefix()) {
+        return None;
+    }
+    let lead = lead_of(own);
+    let start = lead_of(other);
+    if !leads_from(lead, start) {
+        return None;
+    }
+    let met = met_count(own.body(), other.body(), lead, start);
+    let down = lead.names - met;
+    if !can_stand(own.body(), down) {
+        return None;
+    }
+    Some(Steps {
+        up: start.names - met + (lead.rising() - start.rising()),
+        down,
+    })
+}
+
+/// Whether a path leads no lower than a base, and begins with a root as that does, or with none.
+fn leads_from(lead: Lead, start: Lead) -> bool
+    ensures { result ≡ ((if lead.is_anchored then start.is_anchored else not start.is_anchored)
+        && nat_le (if start.is_anchored then 0 else start.unmet)
+        (if lead.is_anchored then 0 else lead.unmet)) }
+{
+    lead.is_anchored == start.is_anchored && start.rising() <= lead.rising()
+}
+
+/// How many first names of a base lead to a path too: none where one of the two leads higher.
+fn met_count(rest: Body<'_>, base: Body<'_>, lead: Lead, start: Lead) -> usize
+    requires fits { length (body_items rest) < 2 ^ 64 }
+    requires base_fits { length (body_items base) < 2 ^ 64 }
+    requires names { lead.names ≡ length (kept_names (kinds (parts (body_items rest)))) }
+    requires base_names { start.names ≡ length (kept_names (kinds (parts (body_items base)))) }
+    ensures { result ≡ (if (if lead.is_anchored then 0 else lead.unmet)
+        == (if start.is_anchored then 0 else start.unmet)
+        then shared_count (kept_names (kinds (parts (body_items rest.entry))))
+        (kept_names (kinds (parts (body_items base.entry)))) else 0) }
+{
+    if lead.rising() == start.rising() {
+        shared_count(rest, base, lead.names, start.names)
+    } else {
+        0
+    }
+}
+
+/// How many first names of two lists that are kept are the same. From the back the last difference is the
+/// first one that is seen, so each later one counts.
+fn shared_count(mut rest: Body<'_>, mut base: Body<'_>, names: usize, base_names: usize) -> usize
+    requires fits { length (body_items rest) < 2 ^ 64 }
+    requires base_fits { length (body_items base) < 2 ^ 64 }
+    requires names { names ≡ length (kept_names (kinds (parts (body_items rest)))) }
+    requires base_names { base_names ≡ length (kept_names (kinds (parts (body_items base)))) }
+    ensures { result ≡ shared_count (kept_names (kinds (parts (body_items rest.entry))))
+        (kept_names (kinds (parts (body_items base.entry)))) }
+{
+    let mut owed = 0;
+    let mut base_owed = 0;
+    let deeper = names.saturating_sub(base_names);
+    skip(&mut rest, &mut owed, deeper);
+    skip(&mut base, &mut base_owed, base_names.saturating_sub(names));
+    let mut below = names - deeper;
+    let mut met = below;
+    'names: while let Some(name) = last_name(&mut base, &mut base_owed) {
+        below -= 1;
+        if !is_last(&mut rest, &mut owed, name) {
+            met = below;
+        }
+    }
+    met
+}
+
+/// Takes the last name that is kept, and says whether it is the given one.
+fn is_last(rest: &mut Body<'_>, owed: &mut usize, name: &[u8]) -> bool
+    requires { owed.old + length (body_items rest.old) < 2 ^ 64 }
+    ensures is { IsLast (names_under owed.old (body_items rest.old))
+        (names_under owed.new (body_items rest.new)) name.now result }
+    ensures within { owed.new + length (body_items rest.new)
+        ≤ owed.old + length (body_items rest.old) }
+{
+    match last_name(rest, owed) {
+        Some(own) => own == name,
+        None => false,
+    }
+}
+
+/// Takes so many of the last names that are kept.
+fn skip(rest: &mut Body<'_>, owed: &mut usize, count: usize)
+    requires fits { owed.old + length (body_items rest.old) < 2 ^ 64 }
+    requires count { count ≤ length (names_under owed.old (body_items rest.old)) }
+    ensures names { names_under owed.new (body_items rest.new)
+        ≡ take (length (names_under owed.old (body_items rest.old)) - count)
+        (names_under owed.old (body_items rest.old)) }
+    ensures within { owed.new + length (body_items rest.new)
+        ≤ owed.old + length (body_items rest.old) }
+{
+    'names: for _ in 0..count {
+        last_name(rest, owed);
+    }
+}
+
+/// Whether so many of the last names that are kept hold no `/`.
+fn can_stand(mut rest: Body<'_>, count: usize) -> bool
+    requires fits { length (body_items rest) < 2 ^ 64 }
+    requires count { count ≤ length (kept_names (kinds (parts (body_items rest)))) }
+    ensures { result ≡ can_stand (drop
+        (length (kept_names (kinds (parts (body_items rest.entry)))) - count)
+        (kept_names (kinds (parts (body_items rest.entry))))) }
+{
+    let mut owed = 0;
+    'names: for _ in 0..count {
+        if let Some(name) = last_name(&mut rest, &mut owed) {
+            if name.contains(&b'/') {
+                return false;
+            }
+        }
+    }
+    true
+}
+
+/// What a path has behind its prefix: the names that are kept stand there.
+#[tactic(auto, using(crate::proofs::lemmas::places::KeptFromBack::few, crate::proofs::lemmas::places::KeptFromBack::few_behind_prefix, crate::proofs::lemmas::places::KeptFromBack::kept_behind_prefix))]
+#[inline(always)]
+fn body_of<T: Encoding>(path: &[u8]) -> Body<'_>
+    requires { length path.now < 2 ^ 64 }
+    ensures fits { length (body_items result) < 2 ^ 64 }
+    ensures names { kept_names (kinds (parts (body_items result)))
+        ≡ kept_names (kinds (parts_of T.dialect path.now)) }
+{
+    T::cursor(path).body()
+}
+
+/// Puts so many parents, and so many of the last names of a path, into an empty text.
+fn put_steps<T: Encoding>(text: &mut Vec<u8>, path: &[u8], steps: Steps) -> Result<(), AllocError>
+    requires empty { text.old.items ≡ [] }
+    requires down { steps.down ≤ length (kept_names (kinds (parts_of T.dialect path.now))) }
+    ensures ok { let names = kept_names (kinds (parts_of T.dialect path.now)) in
+        OnOk result (text.new.items ≡ steps_text T.dialect steps.up
+        (drop (length names - steps.down) names)) }
+    ensures succeeds { steps.up * 3 + length path.now + 2 ≤ vec_capacity text.old → IsOk result }
+{
+    let separators = bare_separators::<T>();
+    put_names(text, body_of::<T>(path), steps.down, separators)?;
+    put_parents(text, steps.up, separators)?;
+    text.reverse();
+    drop_separator(text, 0);
+    put_apart(text, 0, separators)
+}
+
+/// The separators of a text without a prefix.
+#[inline(always)]
+fn bare_separators<T: Encoding>() -> Separators
+    ensures { result ≡ bare_separators T.dialect }
+{
+    if T::root_text() == b"/".as_slice() {
+        Separators::Slash
+    } else {
+        Separators::Either
+    }
+}
+
+/// Puts so many of the last names that are kept into an empty text, the last one first, each behind a
+/// separator and from its end.
+fn put_names(
+    text: &mut Vec<u8>,
+    mut rest: Body<'_>,
+    count: usize,
+    separators: Separators,
+) -> Result<(), AllocError>
+    requires fits { length (body_items rest) < 2 ^ 64 }
+    requires count { count ≤ length (kept_names (kinds (parts (body_items rest)))) }
+    requires empty { text.old.items ≡ [] }
+    ensures ok { let names = kept_names (kinds (parts (body_items rest.entry))) in
+        OnOk result (reverse text.new.items
+        ≡ rows_of separators (drop (length names - count) names)) }
+    ensures capacity { vec_capacity text.old ≤ vec_capacity text.new }
+    ensures succeeds { let names = kept_names (kinds (parts (body_items rest.entry))) in
+        length (rows_of separators (drop (length names - count) names)) ≤ vec_capacity text.old
+        → IsOk result }
+{
+    let mut owed = 0;
+    'names: for _ in 0..count {
+        if let Some(name) = last_name(&mut rest, &mut owed) {
+            put_reversed(text, name, separators)?;
+        }
+    }
+    Ok(())
+}
+
+/// Puts a separator, and a name from its end, behind a text.
+fn put_reversed(text: &mut Vec<u8>, name: &[u8], separators: Separators) -> Result<(), AllocError>
+    ensures ok { OnOk result (reverse text.new.items
+        ≡ (name.now ++ row_end separators ∷ []) ++ reverse text.old.items) }
+    ensures room { OnOk result (vec_len text.new ≡ vec_len text.old + length name.now + 1) }
+    ensures capacity { vec_capacity text.old ≤ vec_capacity text.new }
+    ensures succeeds { vec_len text.old + length name.now + 1 ≤ vec_capacity text.old
+        → IsOk result }
+{
+    text.push(row_end(separators))?;
+    let start = text.len();
+    text.extend_from_slice(name)?;
+    text[start..].reverse();
+    Ok(())
+}
+
+/// Puts so many parents behind a text, each behind a separator.
+fn put_parents(text: &mut Vec<u8>, count: usize, separators: Separators) -> Result<(), AllocError>
+    ensures ok { OnOk result (reverse text.new.items
+        ≡ rows_of separators (dots count) ++ reverse text.old.items) }
+    ensures room { OnOk result (vec_len text.new ≡ vec_len text.old + count * 3) }
+    ensures capacity { vec_capacity text.old ≤ vec_capacity text.new }
+    ensures succeeds { vec_len text.old + count * 3 ≤ vec_capacity text.old → IsOk result }
+{
+    'parents: for _ in 0..count {
+        put_reversed(text, b"..", separators)?;
+    }
+    Ok(())
+}
