@@ -2,7 +2,7 @@
 # The gate: `rt ci` proves every crate and its tests from nothing, tries each must-fail edit, and runs the
 # tests and the programs; then the programs that it built are refused memory, and their transfers fail.
 # What shows in some seconds is looked at first, and progress.py says how far the rest is. At its end what
-# stands on the pages is tried, and the instructions of the jobs are counted. `./gate.sh quick` runs the tests,
+# is declared for C is looked at, what stands on the pages is tried, and the instructions of the jobs are counted. `./gate.sh quick` runs the tests,
 # the programs and the pages alone, unproved.
 set -uo pipefail
 cd "$(dirname "$0")" || exit 2
@@ -68,6 +68,7 @@ look > "$room/wrong" 2>&1 &
 if wait $! && [[ ! -s $room/wrong ]]; then
     part rt ci
     part refusals/run.sh
+    part bindings/test.sh declared
     part ./pages.py
     part bench/count
 else

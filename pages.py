@@ -3,8 +3,8 @@
 
 Each block has one fate. A whole file of Rattle is compiled in a crate over the library, which the commands of
 the README have put there, and what that page says of it is asked of it. Another piece of Rattle or of a proof
-stands line for line in a file of the repository, or is compiled and run in a function. Commands are run as they
-are pasted, in a copy of the checkout. A picture, and what takes long, is left out by name, with the reason. A
+stands line for line in a file of the repository, or is compiled and run in a function; C is compiled with its
+header. Commands are run as they are pasted, in a copy of the checkout. A picture, and what takes long, is left out by name, with the reason. A
 block without a fate fails, and so does a fate without a block. `./pages.py PAGE..` tries these pages alone. It
 takes a minute, and proves nothing. The last line is `N passed, M failed`, and the exit status says the same.
 """
@@ -37,6 +37,11 @@ LEFT_OUT = {
     ("docs/PERF.md", "git archive HEAD crates.txt"): OLDER,
     ("docs/PERF.md", "(cd ../old"): OLDER,
     ("docs/PERF.md", "bench/run ../old"): OLDER,
+    ("docs/C.md", "bindings/c/build.sh DIR"): "proves the calls for C, as bindings/test.sh does",
+    ("docs/C.md", "export PKG_CONFIG_PATH"): "takes what that lays out",
+    ("docs/C.md", "cc app.c"): "takes what that lays out",
+    ("bindings/python/README.md", ">>>"): "run by bindings/test.sh",
+    ("bindings/python/README.md", "TYPED_PATH_LIBRARY="): "takes what bindings/c/build.sh lays out, and pip",
     ("docs/PERFORMANCE.md", "parallel "): "takes the proved program, and the package parallel",
 }
 
@@ -151,8 +156,8 @@ class Block:
 
 
 def all_pages():
-    found = [*TOP.glob("*.md"), *TOP.glob("docs/*.md"), *TOP.glob("crates/*/README.md")]
-    return sorted(str(page.relative_to(TOP)) for page in found)
+    found = [TOP.glob(form) for form in ["*.md", "docs/*.md", "crates/*/README.md", "bindings/*/README.md"]]
+    return sorted(str(page.relative_to(TOP)) for pages in found for page in pages)
 
 
 FENCED = re.compile(r"^```(\w*)\n(.*?)^```$", re.MULTILINE | re.DOTALL)
@@ -196,6 +201,13 @@ def stands(block):
         if any(own[at : at + len(lines)] == lines for at, line in enumerate(own) if line == lines[0]):
             return True
     return False
+
+
+def wrong_c(block):
+    """What a C compiler says of a piece of C, which is a whole file if it includes something."""
+    text = block.text if "#include" in block.text else "#include <typed_path.h>\nvoid piece(void) {\n" + block.text + "}\n"
+    strict = ["-std=c11", "-Wall", "-Wextra", "-Werror", "-Wno-unused", "-fsyntax-only", "-I", TOP / "bindings/c/include"]
+    return ran(["cc", *strict, "-x", "c", "-"], TOP, text).stderr.splitlines()
 
 
 def compiled(repository, crate, files):
@@ -368,6 +380,8 @@ def sorted_blocks(pages, count):
             print(f"pages.py: {block.name}: left out: {reason}", flush=True)
         elif block.fate(FRAGMENTS, block.text) is not None:
             pieces.append(block)
+        elif block.language == "c":
+            count.add([block.name], wrong_c(block))
         elif block.text.startswith("crates.txt  "):
             count.add([block.name], list(lost_paths(block)))
         else:

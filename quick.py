@@ -1,9 +1,10 @@
 #!/usr/bin/env python3
 """Runs what `./gate.sh quick` runs, with no proof: the tests of each crate that has some, and both
-programs over their stored input, side by side over the processors, by `rt try`, and pages.py.
+programs over their stored input, side by side over the processors, by `rt try`, pages.py, and what
+bindings/test.sh looks at with no archive.
 
 It says four times a minute what is under way, and of each part how it ended; of one that failed, what is
-said of it. Each test counts once, each run of a program, and what pages.py counts. The last line is
+said of it. Each test counts once, each run of a program, and what the scripts count. The last line is
 `N passed, M failed`, and the exit status says the same.
 """
 
@@ -71,12 +72,13 @@ def tried(part, crate, *words):
     return printed(part, ["rt", "try", *words, "--seconds", SECONDS], TOP / "crates" / crate)
 
 
-def pages_of(part, pages):
-    """Tries what stands on the pages: how much passed and failed, and what there is to say."""
-    said = printed(part, [TOP / pages], TOP).splitlines()
+def counted_by(part, command):
+    """Runs a script that counts: how much passed and failed, and what there is to say."""
+    script, *words = command.split()
+    said = printed(part, [TOP / script, *words], TOP).splitlines()
     found = re.fullmatch(r"(\d+) passed, (\d+) failed", said[-1]) if said else None
     passed, failed = map(int, found.groups()) if found else (0, 1)
-    return passed, failed, [line for line in said[:-1] if failed and ": left out: " not in line]
+    return passed, failed, [line for line in said[:-1] if failed and "left out: " not in line and not line.endswith(": passed")]
 
 
 def tests_of(part, crate):
@@ -120,7 +122,8 @@ def parts():
         if crate == LEFT_OUT:
             continue
         yield f"runs of {crate}", runs_of, crate
-    yield "the pages", pages_of, "pages.py"
+    yield "the pages", counted_by, "pages.py"
+    yield "what is declared for C", counted_by, "bindings/test.sh declared"
 
 
 def say(begun, text):

@@ -1,0 +1,257 @@
+/* Paths of Unix and of Windows, read and written alike on every machine.
+
+   A text is a pointer and a number of bytes. It is any bytes, needs no NUL at its end, and may be NULL
+   with 0. A dialect is TYPED_PATH_UNIX or TYPED_PATH_WINDOWS. The calls that return `uint32_t`, but for
+   typed_path_derive and typed_path_version, return a status, and each comment says which. Every call of
+   these returns TYPED_PATH_BAD_DIALECT for a number that names no dialect.
+
+   A call that *puts* an answer is handed a buffer `out` of `out_size` bytes, and `len`:
+   - TYPED_PATH_DONE: the answer stands at the beginning of the buffer, its length is in `*len`, and a
+     NUL is behind it where there is room for one. The bytes behind that are as they were.
+   - TYPED_PATH_TOO_SMALL: the answer has more than `out_size` bytes. `*len` is its length, and the buffer
+     is as it was. A buffer of the bound that the comment names is large enough, and has room for the NUL.
+     To ask for the length first costs the call twice.
+   - Any other status: the buffer and `*len` are as they were.
+   Where the texts are UTF-8, so is the answer. Such calls allocate, by malloc, realloc and free, and free
+   all of it before they return; where memory is refused they return TYPED_PATH_OUT_OF_MEMORY. No other
+   call allocates, and none has a state: several threads may call at once.
+
+   The caller owes that each pointer is good for its number of bytes or items, that no pointer but that of
+   a text or an array of 0 is NULL, that no other thread writes to what is handed in, and that what a call
+   writes (`out`, `len` ..) overlaps nothing else that it is handed. So no path is changed in place. */
+#ifndef TYPED_PATH_H
+#define TYPED_PATH_H
+
+#include <stddef.h>
+#include <stdint.h>
+#ifndef __cplusplus
+#include <stdbool.h>
+#endif
+
+#ifdef __cplusplus
+extern "C" {
+#endif
+
+/* The version of this header: a part of two digits each for major, minor and patch. */
+#define TYPED_PATH_VERSION_MAJOR 0
+#define TYPED_PATH_VERSION_MINOR 1
+#define TYPED_PATH_VERSION_PATCH 0
+#define TYPED_PATH_VERSION \
+    (TYPED_PATH_VERSION_MAJOR * 10000 + TYPED_PATH_VERSION_MINOR * 100 + TYPED_PATH_VERSION_PATCH)
+
+/* The dialects. */
+#define TYPED_PATH_UNIX 0
+#define TYPED_PATH_WINDOWS 1
+
+/* The statuses. Those from 1 to 4 name what the first component that offends is refused for. */
+#define TYPED_PATH_DONE 0
+#define TYPED_PATH_INVALID_FILENAME 1      /* a name that is not allowed: a byte, or on Windows a device */
+#define TYPED_PATH_PATH_TRAVERSAL_ATTACK 2 /* a `..` that no name before it makes up for */
+#define TYPED_PATH_UNEXPECTED_PREFIX 3     /* a prefix; never on Unix */
+#define TYPED_PATH_UNEXPECTED_ROOT 4       /* a root */
+#define TYPED_PATH_OUT_OF_MEMORY 5         /* memory was refused */
+#define TYPED_PATH_TOO_SMALL 6             /* the answer does not fit */
+#define TYPED_PATH_BAD_DIALECT 7           /* a number names no dialect */
+#define TYPED_PATH_NONE 8                  /* there is no such part */
+#define TYPED_PATH_AMBIGUOUS 9             /* absolute neither alone nor behind the directory */
+#define TYPED_PATH_BAD_ENDS 10             /* an end lies before the one before it, or behind the names */
+
+/* The kinds of components. One of TYPED_PATH_PREFIX_VERBATIM or more is a prefix, which only Windows has. */
+#define TYPED_PATH_ROOT 0
+#define TYPED_PATH_CURRENT 1
+#define TYPED_PATH_PARENT 2
+#define TYPED_PATH_NAME 3
+#define TYPED_PATH_PREFIX_VERBATIM 4      /* \\?\name */
+#define TYPED_PATH_PREFIX_VERBATIM_UNC 5  /* \\?\UNC\server\share */
+#define TYPED_PATH_PREFIX_VERBATIM_DISK 6 /* \\?\C: */
+#define TYPED_PATH_PREFIX_DEVICE_NS 7     /* \\.\name */
+#define TYPED_PATH_PREFIX_UNC 8           /* \\server\share */
+#define TYPED_PATH_PREFIX_DISK 9          /* C: */
+
+/* Bounds of answers, in bytes with the NUL; of the batch, which puts none, without. */
+#define TYPED_PATH_JOIN_BOUND(path_len, other_len) ((size_t)(path_len) + (size_t)(other_len) + 4)
+#define TYPED_PATH_EXTENSION_BOUND(path_len, extension_len) \
+    ((size_t)(path_len) + (size_t)(extension_len) + 2)
+#define TYPED_PATH_NORMALIZE_BOUND(path_len) ((size_t)(path_len) + 2)
+#define TYPED_PATH_CLEAN_BOUND(path_len) ((size_t)(path_len) + 2)
+#define TYPED_PATH_RELATIVE_BOUND(path_len, base_len) ((size_t)(path_len) + 2 * (size_t)(base_len) + 4)
+#define TYPED_PATH_CONVERT_BOUND(path_len) ((size_t)(path_len) + 2)
+#define TYPED_PATH_BATCH_BOUND(base_len, names_len, count) \
+    ((size_t)(names_len) + (size_t)(count) * ((size_t)(base_len) + 3))
+/* And of the number of components. */
+#define TYPED_PATH_COMPONENTS_BOUND(path_len) ((size_t)(path_len))
+
+/* A part of the caller's text: its first byte, counted from 0, and how many bytes it has. */
+typedef struct typed_path_span {
+    size_t start;
+    size_t length;
+} typed_path_span;
+
+/* A component of the caller's text: its place, and its kind. */
+typedef struct typed_path_component {
+    size_t start;
+    size_t length;
+    uint32_t kind;
+} typed_path_component;
+
+/* The version of the library, as TYPED_PATH_VERSION. */
+uint32_t typed_path_version(void);
+
+/* The dialect that a text looks like: Windows if it begins with `\` or a prefix, else Unix. */
+uint32_t typed_path_derive(const char *path, size_t path_len);
+
+/* Paths that are made. Each call puts an answer, with the statuses from above and those that are named. */
+
+/* The path with another pushed onto it; an absolute one replaces it. TYPED_PATH_JOIN_BOUND. */
+uint32_t typed_path_join(
+    uint32_t dialect, const char *path, size_t path_len, const char *other, size_t other_len,
+    char *out, size_t out_size, size_t *len);
+
+/* The same where the other path has no component that offends: what is put lies within `path`, for a
+   path that keeps its prefix (typed_path_keeps_prefix). Else the status, from 1 to 4, names what the first
+   one is refused for; it is told before memory is asked for. TYPED_PATH_JOIN_BOUND. */
+uint32_t typed_path_join_checked(
+    uint32_t dialect, const char *path, size_t path_len, const char *other, size_t other_len,
+    char *out, size_t out_size, size_t *len);
+
+/* The path with another file name, or with the name pushed behind it where it has none.
+   TYPED_PATH_JOIN_BOUND. */
+uint32_t typed_path_with_file_name(
+    uint32_t dialect, const char *path, size_t path_len, const char *name, size_t name_len,
+    char *out, size_t out_size, size_t *len);
+
+/* The path with another extension, or with none where that is empty; a copy where there is no file name.
+   TYPED_PATH_EXTENSION_BOUND. */
+uint32_t typed_path_with_extension(
+    uint32_t dialect, const char *path, size_t path_len, const char *extension, size_t extension_len,
+    char *out, size_t out_size, size_t *len);
+
+/* The path without `.`, and without `..` and the names that these take away; a `..` that finds no name
+   vanishes. TYPED_PATH_NORMALIZE_BOUND. */
+uint32_t typed_path_normalize(
+    uint32_t dialect, const char *path, size_t path_len, char *out, size_t out_size, size_t *len);
+
+/* The path without `.`, doubled separators, and names that a `..` takes away. A relative path keeps the `..`
+   that it needs, and nothing is `.`. TYPED_PATH_CLEAN_BOUND. */
+uint32_t typed_path_clean(
+    uint32_t dialect, const char *path, size_t path_len, char *out, size_t out_size, size_t *len);
+
+/* The path that leads from the base to a path, by `..` and names; `.` where both lead alike. TYPED_PATH_NONE
+   where there is none: one begins with another prefix, or alone with a root, or the base leads higher; it is
+   told before memory is asked for. TYPED_PATH_RELATIVE_BOUND. */
+uint32_t typed_path_relative_to(
+    uint32_t dialect, const char *path, size_t path_len, const char *base, size_t base_len,
+    char *out, size_t out_size, size_t *len);
+
+/* The path as it is written in the dialect `other`; a copy where that is its own.
+   TYPED_PATH_CONVERT_BOUND. */
+uint32_t typed_path_convert(
+    uint32_t dialect, const char *path, size_t path_len, uint32_t other,
+    char *out, size_t out_size, size_t *len);
+
+/* The same by checked pushes, its own dialect too. The status, from 1 to 4, names what the first component
+   that offends there is refused for. TYPED_PATH_CONVERT_BOUND. */
+uint32_t typed_path_convert_checked(
+    uint32_t dialect, const char *path, size_t path_len, uint32_t other,
+    char *out, size_t out_size, size_t *len);
+
+/* The normal path, read from a directory of Unix where it is not absolute. TYPED_PATH_AMBIGUOUS where it
+   is not absolute behind the directory either. TYPED_PATH_JOIN_BOUND. */
+uint32_t typed_path_absolutize(
+    uint32_t dialect, const char *path, size_t path_len, const char *directory, size_t directory_len,
+    char *out, size_t out_size, size_t *len);
+
+/* Checked joins of many names onto one base. The names stand behind each other in `names`: each begins
+   where the one before it ends, the first at 0, and `ends` has where each ends. The answers are put behind
+   each other in `out`, with no NUL: `out_ends` is told where each ends, and `statuses` that it is
+   TYPED_PATH_DONE, or from 1 to 4 what the name is refused for, whose answer is empty. `*done` is told how
+   many names that was done for, and the call returns
+   - TYPED_PATH_DONE: for all.
+   - TYPED_PATH_TOO_SMALL: the answer to the next name does not fit, or its end, or its status.
+   - TYPED_PATH_OUT_OF_MEMORY: memory was refused for the next name.
+   - TYPED_PATH_BAD_ENDS: the next end lies before the one before it, or behind the names.
+   - TYPED_PATH_BAD_DIALECT: for none.
+   The bytes behind the answers and the items behind `*done` are as they were. TYPED_PATH_BATCH_BOUND. */
+uint32_t typed_path_join_checked_batch(
+    uint32_t dialect, const char *base, size_t base_len, const char *names, size_t names_len,
+    const size_t *ends, size_t ends_count, char *out, size_t out_size,
+    size_t *out_ends, size_t out_ends_count, uint32_t *statuses, size_t statuses_count, size_t *done);
+
+/* Parts of a path, told by their places. TYPED_PATH_NONE where there is no such part; then, and for a bad
+   dialect, `*span` is as it was. */
+
+/* The path without its last component. None of an empty path, a root, or a prefix but a drive. */
+uint32_t typed_path_parent(uint32_t dialect, const char *path, size_t path_len, typed_path_span *span);
+
+/* The last component, if it is a name. */
+uint32_t typed_path_file_name(uint32_t dialect, const char *path, size_t path_len, typed_path_span *span);
+
+/* The file name up to its last dot; a dot at the front is part of it. */
+uint32_t typed_path_file_stem(uint32_t dialect, const char *path, size_t path_len, typed_path_span *span);
+
+/* What stands behind that dot. */
+uint32_t typed_path_extension(uint32_t dialect, const char *path, size_t path_len, typed_path_span *span);
+
+/* What is left behind the base. None where the path does not begin with its components. */
+uint32_t typed_path_strip_prefix(
+    uint32_t dialect, const char *path, size_t path_len, const char *base, size_t base_len,
+    typed_path_span *span);
+
+/* Puts the components of a path into an array, as many as fit, and into `*count` how many there are.
+   TYPED_PATH_TOO_SMALL where that is more than `out_count`. Of a bad dialect both are as they were.
+   TYPED_PATH_COMPONENTS_BOUND. */
+uint32_t typed_path_components(
+    uint32_t dialect, const char *path, size_t path_len,
+    typed_path_component *out, size_t out_count, size_t *count);
+
+/* One component, counted from 0. TYPED_PATH_NONE where there are no more than `index`; then, and for a bad
+   dialect, `*component` is as it was. It is found by reading from the front. */
+uint32_t typed_path_component_at(
+    uint32_t dialect, const char *path, size_t path_len, size_t index, typed_path_component *component);
+
+/* Questions. The status is TYPED_PATH_DONE, or TYPED_PATH_BAD_DIALECT, and then the answer is false. */
+
+/* Whether a path leads to one place from every directory; on Windows `C:\a` does, `C:a` and `\a` do not. */
+uint32_t typed_path_is_absolute(uint32_t dialect, const char *path, size_t path_len, bool *answer);
+
+/* Whether it begins with a root, written or implied by a prefix. */
+uint32_t typed_path_has_root(uint32_t dialect, const char *path, size_t path_len, bool *answer);
+
+/* Whether each name of it is allowed: on Unix no NUL, on Windows no disallowed byte and no device. */
+uint32_t typed_path_is_valid(uint32_t dialect, const char *path, size_t path_len, bool *answer);
+
+/* Whether it begins with the components of the base, as they are written. No check of containment. */
+uint32_t typed_path_starts_with(
+    uint32_t dialect, const char *path, size_t path_len, const char *base, size_t base_len, bool *answer);
+
+/* Whether it ends with the components of another, as they are written. */
+uint32_t typed_path_ends_with(
+    uint32_t dialect, const char *path, size_t path_len, const char *end, size_t end_len, bool *answer);
+
+/* Whether it lies at the base or below it, from whatever directory both are read. */
+uint32_t typed_path_is_within(
+    uint32_t dialect, const char *path, size_t path_len, const char *base, size_t base_len, bool *answer);
+
+/* Whether every accepted join onto it has its prefix: true on Unix; on Windows of `C:\a`, `\\s\h` and `a`,
+   and not of `\\s` and `/`. */
+uint32_t typed_path_keeps_prefix(uint32_t dialect, const char *path, size_t path_len, bool *answer);
+
+/* Whether two paths have one list of components: separators, doubled or not, dots that vanish and the case
+   of a drive do not count; the case of names does. */
+uint32_t typed_path_equal(
+    uint32_t dialect, const char *path, size_t path_len, const char *other, size_t other_len, bool *answer);
+
+/* The order of two paths by their components: -1, 0 or 1. Of a bad dialect `*order` is as it was. */
+uint32_t typed_path_compare(
+    uint32_t dialect, const char *path, size_t path_len, const char *other, size_t other_len,
+    int32_t *order);
+
+/* A hash, by SipHash 1-3 with keys of zero, that is one of equal paths. Of a bad dialect `*hash` is as it
+   was. */
+uint32_t typed_path_hash(uint32_t dialect, const char *path, size_t path_len, uint64_t *hash);
+
+#ifdef __cplusplus
+}
+#endif
+
+#endif

@@ -1,0 +1,516 @@
+/* Calls the library as a caller of C does, and looks at what it must not do: a line that begins with WRONG
+   says what it did. Each part looks at the rows, or at texts from a seed.
+
+   boundary ROWS PART */
+#include "rows.h"
+
+#include <limits.h>
+#include <pthread.h>
+#include <stdio.h>
+#include <stdlib.h>
+#include <string.h>
+#include <sys/mman.h>
+#include <unistd.h>
+
+#define PATTERN 0x5a
+#define BAD_DIALECTS 3
+
+static const uint32_t BAD[BAD_DIALECTS] = {2, 7, UINT32_MAX};
+static const Text NOTHING = {"", 0};
+static size_t looks, wrong;
+
+static void look(bool holds, const char *what, const char *call, Text path, Text other) {
+    looks++;
+    if (!holds && wrong++ < 20)
+        printf("WRONG %s: %s of [%.*s] and [%.*s]\n", what, call, (int)path.length, path.bytes,
+               (int)other.length, other.bytes);
+}
+
+/* Some whole pages between two that may not be touched. */
+typedef struct Block {
+    char *first;
+    size_t size;
+} Block;
+
+static Block block_of(size_t size) {
+    size_t page = (size_t)sysconf(_SC_PAGESIZE), whole = (size + page - 1) / page * page;
+    char *all = mmap(NULL, whole + 2 * page, PROT_NONE, MAP_PRIVATE | MAP_ANONYMOUS, -1, 0);
+    if (all == MAP_FAILED || mprotect(all + page, whole, PROT_READ | PROT_WRITE) != 0)
+        exit(2);
+    return (Block){all + page, whole};
+}
+
+/* The first bytes of a block, or the last. */
+static char *place(Block block, size_t size, bool last) {
+    return last ? block.first + block.size - size : block.first;
+}
+
+static bool is_pattern(const char *bytes, size_t size) {
+    static char pattern[1 << 14];
+    if (pattern[0] != PATTERN)
+        memset(pattern, PATTERN, sizeof pattern);
+    return size <= sizeof pattern && (size == 0 || memcmp(bytes, pattern, size) == 0);
+}
+
+/* A copy of a text that may only be read; of an empty one NULL, or where its block ends. */
+static Text laid(Block block, Text text, bool last) {
+    mprotect(block.first, block.size, PROT_READ | PROT_WRITE);
+    char *to = place(block, text.length, last);
+    if (text.length > 0)
+        memcpy(to, text.bytes, text.length);
+    mprotect(block.first, block.size, PROT_READ);
+    return (Text){text.length == 0 && !last ? NULL : to, text.length};
+}
+
+static Block texts[2], answers, structs;
+
+/* Whether a call leaves a buffer of this size, between pages that may not be touched, as its answer has it. */
+static void look_at_size(
+    const Call *call, uint32_t dialect, Text path, Text other, uint32_t status, Text answer, size_t size, bool last) {
+    memset(answers.first, PATTERN, answers.size);
+    size_t len = 12345, told = status == TYPED_PATH_DONE ? answer.length : 12345;
+    char *out = place(answers, size, last);
+    uint32_t got = put_by(call, dialect, path, other, size ? out : last ? out : NULL, size, &len);
+    size_t written = 0;
+    if (status != TYPED_PATH_DONE) {
+        look(got == status, "status", call->name, path, other);
+    } else if (size < answer.length) {
+        look(got == TYPED_PATH_TOO_SMALL, "status where it is too small", call->name, path, other);
+    } else {
+        look(got == TYPED_PATH_DONE, "status where it fits", call->name, path, other);
+        look(answer.length == 0 || memcmp(out, answer.bytes, answer.length) == 0, "answer", call->name, path, other);
+        look(size == answer.length || out[answer.length] == '\0', "NUL", call->name, path, other);
+        written = answer.length + (size > answer.length);
+    }
+    look(len == told, "length", call->name, path, other);
+    size_t before = (size_t)(out - answers.first);
+    look(is_pattern(answers.first, before) && is_pattern(out + written, answers.size - before - written),
+         "bytes that are no answer", call->name, path, other);
+}
+
+/* Each size from 0 to the bound, at the beginning of a block and at its end. */
+static void look_at_sizes(const Call *call, uint32_t dialect, Text path, Text other, uint32_t status, Text answer) {
+    size_t bound = bound_of(call, path, other);
+    look(status || answer.length < bound, "bound", call->name, path, other);
+    for (int last = 0; last < 2; last++) {
+        Text one = laid(texts[0], path, last), two = laid(texts[1], other, last);
+        for (size_t size = 0; size <= bound; size++)
+            look_at_size(call, dialect, one, two, status, answer, size, last);
+        for (size_t at = 0; at < BAD_DIALECTS; at++)
+            look_at_size(call, BAD[at], one, two, TYPED_PATH_BAD_DIALECT, answer, bound, last);
+    }
+}
+
+/* What a call that puts nothing tells where a number names no dialect: it stays, and an answer is false. */
+static bool is_kept(const Row *bad, Text one, Text two) {
+    const Call *call = bad->call;
+    typed_path_component list[200], component = {5, 6, 7};
+    typed_path_span span = {1, 2};
+    bool answer = true;
+    int32_t order = 3;
+    uint64_t hash = 4;
+    size_t len, count = 8;
+    char out[1000];
+    if (call->ask || call->ask_of)
+        return told_by(bad, one, two, &answer, list, out, &len) == TYPED_PATH_BAD_DIALECT && !answer;
+    if (call->part || call->part_of)
+        return told_by(bad, one, two, &span, list, out, &len) == TYPED_PATH_BAD_DIALECT && span.start == 1
+            && span.length == 2;
+    if (strcmp(call->name, "compare") == 0)
+        return told_by(bad, one, two, &order, list, out, &len) == TYPED_PATH_BAD_DIALECT && order == 3
+            && typed_path_hash(bad->dialect, one.bytes, one.length, &hash) == TYPED_PATH_BAD_DIALECT && hash == 4;
+    if (strcmp(call->name, "components") == 0)
+        return typed_path_components(bad->dialect, one.bytes, one.length, &component, 1, &count) == TYPED_PATH_BAD_DIALECT
+            && typed_path_component_at(bad->dialect, one.bytes, one.length, 0, &component) == TYPED_PATH_BAD_DIALECT
+            && count == 8 && component.start == 5 && component.length == 6 && component.kind == 7;
+    return true;
+}
+
+/* What is not put: the same status and answer with all that it is handed between such pages. */
+static void look_at_told(const Row *row) {
+    const Call *call = row->call;
+    size_t size = call->ask || call->ask_of ? sizeof(bool) : call->part || call->part_of ? sizeof(typed_path_span)
+        : sizeof(int32_t);
+    char out[1000];
+    for (int last = 0; last < 2; last++) {
+        Text one = laid(texts[0], row->path, last), two = laid(texts[1], row->other, last);
+        memset(structs.first, PATTERN, structs.size);
+        void *told = place(structs, size, last);
+        void *list = place(answers, one.length * sizeof(typed_path_component), last);
+        if (call->ask || call->ask_of)
+            *(bool *)told = true;
+        size_t len;
+        uint32_t status = told_by(row, one, two, told, list, out, &len);
+        look(is_answered(row, status, out, len), "answer", call->name, one, two);
+        size_t written = status == TYPED_PATH_NONE ? 0 : size;
+        look(is_pattern(last ? structs.first : structs.first + written, structs.size - written),
+             "bytes that are told", call->name, one, two);
+        Row bad = *row;
+        for (size_t at = 0; at < BAD_DIALECTS; at++) {
+            bad.dialect = BAD[at];
+            look(is_kept(&bad, one, two), "bad dialect", call->name, one, two);
+        }
+    }
+}
+
+/* Arrays of each size for the components. */
+static void look_at_lists(uint32_t dialect, Text path) {
+    typed_path_component all[200], some[200];
+    size_t there = 0, count;
+    uint32_t status = typed_path_components(dialect, path.bytes, path.length, all, path.length, &there);
+    look(status == TYPED_PATH_DONE, "status", "components", path, NOTHING);
+    for (size_t size = 0; size <= there; size++) {
+        memset(answers.first, PATTERN, answers.size);
+        void *list = place(answers, size * sizeof *some, true);
+        status = typed_path_components(dialect, path.bytes, path.length, size ? list : NULL, size, &count);
+        look(status == (size < there ? TYPED_PATH_TOO_SMALL : TYPED_PATH_DONE), "status", "components", path, NOTHING);
+        look(count == there, "count", "components", path, NOTHING);
+        memcpy(some, list, size * sizeof *some);
+        for (size_t at = 0; at < size; at++)
+            look(some[at].start == all[at].start && some[at].length == all[at].length && some[at].kind == all[at].kind,
+                 "component", "components", path, NOTHING);
+        look(is_pattern(answers.first, answers.size - size * sizeof *some), "bytes before", "components", path, NOTHING);
+    }
+}
+
+static void part_rows(void) {
+    for (size_t at = 0; at < row_count; at++) {
+        Row *row = &rows[at];
+        if (puts_answer(row->call))
+            look_at_sizes(row->call, row->dialect, row->path, row->other, row->status, row->answer);
+        else
+            look_at_told(row);
+        look_at_lists(row->dialect, row->path);
+    }
+}
+
+/* Texts from a seed, mostly with something of Windows at the front. */
+static uint64_t state = 0x9e3779b97f4a7c15u;
+
+static size_t drawn(size_t below) {
+    state = state * 6364136223846793005u + 1442695040888963407u;
+    return (size_t)(state >> 33) % below;
+}
+
+static Text random_text(char *to) {
+    static const char *const PIECES[] = {
+        "", "/", "\\", "\\\\", "//", "\\\\?\\", "//?/", "\\\\.\\", "UNC\\", "UNC/", "C:", "c:", "s\\h", "..", ".",
+        "a", "b.c", "\xe6\x97\xa5", "con", ":", "?", "a/", "../", "./", "\xff", "\xe9:",
+    };
+    size_t count = drawn(7), length = 0;
+    for (size_t at = 0; at < count; at++) {
+        const char *piece = PIECES[drawn(sizeof PIECES / sizeof *PIECES)];
+        memcpy(to + length, piece, strlen(piece));
+        length += strlen(piece);
+    }
+    return (Text){to, length};
+}
+
+/* What is told with a buffer of the bound is told with each other. */
+static void part_random(void) {
+    char one[100], two[100], out[300];
+    for (size_t round = 0; round < 2000; round++) {
+        Text path = random_text(one), other = random_text(two);
+        uint32_t dialect = (uint32_t)drawn(2);
+        look_at_lists(dialect, path);
+        for (size_t at = 0; at < CALL_COUNT; at++) {
+            const Call *call = &CALLS[at];
+            size_t len = 0;
+            Text with = call->put_in ? (Text){drawn(2) ? "\1" : "\0", 1} : other;
+            if (!puts_answer(call))
+                continue;
+            uint32_t status = put_by(call, dialect, path, with, out, bound_of(call, path, with), &len);
+            look(status < TYPED_PATH_OUT_OF_MEMORY || status == TYPED_PATH_NONE || status == TYPED_PATH_AMBIGUOUS,
+                 "status", call->name, path, with);
+            look_at_sizes(call, dialect, path, with, status, (Text){out, len});
+        }
+    }
+}
+
+/* A batch, by what it is handed and tells. */
+typedef struct Batch {
+    uint32_t dialect;
+    Text base, names;
+    size_t ends[12], count;
+    size_t size, places, out_ends[12], done;
+    uint32_t statuses[12];
+} Batch;
+
+static uint32_t done_by(Batch *batch, char *out) {
+    batch->done = 999;
+    memset(batch->out_ends, PATTERN, sizeof batch->out_ends);
+    memset(batch->statuses, PATTERN, sizeof batch->statuses);
+    memset(answers.first, PATTERN, answers.size);
+    return typed_path_join_checked_batch(
+        batch->dialect, batch->base.bytes, batch->base.length, batch->names.bytes, batch->names.length, batch->ends,
+        batch->count, out, batch->size, batch->out_ends, batch->places, batch->statuses, batch->places, &batch->done);
+}
+
+/* Each name beside the call for one, as far as the batch had room and the ends were in order. */
+static void look_at_batch(Batch *batch) {
+    char *out = place(answers, batch->size, true), one[400];
+    uint32_t status = done_by(batch, out), wanted = TYPED_PATH_DONE;
+    size_t from = 0, at = 0, room = 0, len = 0;
+    for (; at < batch->count; at++) {
+        size_t end = batch->ends[at];
+        if (end < from || end > batch->names.length) {
+            wanted = TYPED_PATH_BAD_ENDS;
+            break;
+        }
+        len = 0;
+        uint32_t each = typed_path_join_checked(
+            batch->dialect, batch->base.bytes, batch->base.length, batch->names.bytes + from, end - from,
+            one, sizeof one, &len);
+        if (at >= batch->places || (each == TYPED_PATH_DONE && len > batch->size - room)) {
+            wanted = TYPED_PATH_TOO_SMALL;
+            break;
+        }
+        if (each != TYPED_PATH_DONE)
+            len = 0;
+        look(batch->statuses[at] == each, "status of a name", "batch", batch->base, batch->names);
+        look(batch->out_ends[at] == room + len, "end of a name", "batch", batch->base, batch->names);
+        look(len == 0 || memcmp(out + room, one, len) == 0, "answer of a name", "batch", batch->base, batch->names);
+        room += len;
+        from = end;
+    }
+    look(status == wanted, "status", "batch", batch->base, batch->names);
+    look(batch->done == at, "how many were done", "batch", batch->base, batch->names);
+    look(is_pattern(answers.first, answers.size - batch->size) && is_pattern(out + room, batch->size - room),
+         "bytes behind the answers", "batch", batch->base, batch->names);
+    look(is_pattern((char *)&batch->out_ends[at], (12 - at) * sizeof(size_t))
+         && is_pattern((char *)&batch->statuses[at], (12 - at) * sizeof(uint32_t)),
+         "items behind the names that are done", "batch", batch->base, batch->names);
+}
+
+static void part_batch(void) {
+    char base[100], names[1000];
+    for (size_t round = 0; round < 3000; round++) {
+        Batch batch = {.names = {names, 0}};
+        batch.dialect = (uint32_t)drawn(2);
+        batch.base = random_text(base);
+        batch.count = drawn(9);
+        for (size_t at = 0; at < batch.count; at++)
+            batch.ends[at] = batch.names.length += random_text(names + batch.names.length).length;
+        size_t bound = TYPED_PATH_BATCH_BOUND(batch.base.length, batch.names.length, batch.count);
+        batch.places = batch.count;
+        batch.size = bound;
+        look_at_batch(&batch);
+        look(done_by(&batch, place(answers, bound, true)) == TYPED_PATH_DONE, "bound", "batch", batch.base, batch.names);
+        batch.size = drawn(bound + 1);
+        look_at_batch(&batch);
+        batch.size = bound;
+        batch.places = drawn(batch.count + 1);
+        look_at_batch(&batch);
+        batch.places = batch.count;
+        if (batch.count > 0)
+            batch.ends[drawn(batch.count)] = drawn(4) ? drawn(batch.names.length + 3) : SIZE_MAX;
+        look_at_batch(&batch);
+        for (size_t at = 0; at < BAD_DIALECTS; at++) {
+            batch.dialect = BAD[at];
+            look(done_by(&batch, answers.first) == TYPED_PATH_BAD_DIALECT && batch.done == 0
+                 && is_pattern(answers.first, answers.size) && is_pattern((char *)batch.out_ends, sizeof batch.out_ends)
+                 && is_pattern((char *)batch.statuses, sizeof batch.statuses),
+                 "bad dialect", "batch", batch.base, batch.names);
+        }
+    }
+}
+
+/* Where malloc and realloc are the linker's to wrap, requests are counted, and refused by their number. */
+static size_t requests, refuse_at, refuse_from, held;
+
+#ifdef REFUSES
+void *__real_malloc(size_t size);
+void *__real_realloc(void *block, size_t size);
+void __real_free(void *block);
+void *__wrap_malloc(size_t size);
+void *__wrap_realloc(void *block, size_t size);
+void __wrap_free(void *block);
+
+static bool is_refused(void) {
+    requests++;
+    return requests == refuse_at || (refuse_from > 0 && requests >= refuse_from);
+}
+
+void *__wrap_malloc(size_t size) {
+    void *block = is_refused() ? NULL : __real_malloc(size);
+    held += block != NULL;
+    return block;
+}
+
+void *__wrap_realloc(void *block, size_t size) {
+    void *grown = is_refused() ? NULL : __real_realloc(block, size);
+    held += grown != NULL && block == NULL;
+    return grown;
+}
+
+void __wrap_free(void *block) {
+    held -= block != NULL;
+    __real_free(block);
+}
+#endif
+
+/* A call that is refused one request, or all from there on, says so and leaves all as it was, or does not need it. */
+static void look_refused(const Row *row, const char *wanted, size_t length, size_t bound, bool batch) {
+    static char out[3000];
+    size_t len = 12345, ends[1] = {row->other.length}, out_ends[1] = {12345}, before = held;
+    uint32_t statuses[1] = {12345}, status;
+    memset(out, PATTERN, sizeof out);
+    requests = 0;
+    if (batch)
+        status = typed_path_join_checked_batch(
+            row->dialect, row->path.bytes, row->path.length, row->other.bytes, row->other.length, ends, 1, out, bound,
+            out_ends, 1, statuses, 1, &len);
+    else
+        status = put_by(row->call, row->dialect, row->path, row->other, out, bound, &len);
+    refuse_at = refuse_from = 0;
+    look(held == before, "memory that is not freed", row->call->name, row->path, row->other);
+    if (status == TYPED_PATH_OUT_OF_MEMORY) {
+        look(is_pattern(out, sizeof out), "buffer where memory is refused", row->call->name, row->path, row->other);
+        look(batch ? len == 0 && out_ends[0] == 12345 && statuses[0] == 12345 : len == 12345,
+             "what is told where memory is refused", row->call->name, row->path, row->other);
+    } else if (batch) {
+        look(status == TYPED_PATH_DONE && statuses[0] == row->status && out_ends[0] == length
+             && memcmp(out, wanted, length) == 0, "answer where memory is refused", "batch", row->path, row->other);
+    } else {
+        look(status == row->status && (status || (len == length && memcmp(out, wanted, length) == 0)),
+             "answer where memory is refused", row->call->name, row->path, row->other);
+    }
+}
+
+static void part_refused(void) {
+    char out[3000];
+    size_t all = 0;
+    for (size_t at = 0; at < row_count; at++) {
+        Row row = rows[at];
+        if (!puts_answer(row.call)) {
+            typed_path_component list[200];
+            uint64_t told[2] = {0, 0};
+            size_t len;
+            requests = 0;
+            told_by(&row, row.path, row.other, told, list, out, &len);
+            look(requests == 0, "request for memory", row.call->name, row.path, row.other);
+            continue;
+        }
+        bool batch = row.call->put_of == typed_path_join_checked;
+        size_t bound = bound_of(row.call, row.path, row.other), total;
+        for (int way = 0; way < (batch ? 4 : 2); way++) {
+            requests = 0;
+            look_refused(&row, row.answer.bytes, row.status ? 0 : row.answer.length, bound, way > 1);
+            total = requests;
+            for (size_t number = 1; number <= total; number++) {
+                refuse_at = way % 2 ? 0 : number;
+                refuse_from = way % 2 ? number : 0;
+                look_refused(&row, row.answer.bytes, row.status ? 0 : row.answer.length, bound, way > 1);
+                all++;
+            }
+        }
+    }
+    look(all > 0, "none was refused", "refused", NOTHING, NOTHING);
+}
+
+/* A megabyte of some pieces, on a stack of 64 kB. */
+static void *each_long(void *wrong_texts) {
+    static const char *const PIECES[] = {"a", "a/", "/", "./", "../", "a/../", "日", "\\", "a\\", "con/", "a.b"};
+    static const Text BESIDE = {"C:\\x", 4};
+    size_t size = 1 << 20, len, count;
+    char *path = malloc(size + 20), *out = malloc(2 * size + 100), *again = malloc(2 * size + 100);
+    typed_path_component *list = malloc(size * sizeof *list);
+    if (!path || !out || !again || !list)
+        exit(2);
+    for (size_t at = 0; at < sizeof PIECES / sizeof *PIECES; at++) {
+        size_t length = 0;
+        for (; length + strlen(PIECES[at]) <= size; length += strlen(PIECES[at]))
+            memcpy(path + length, PIECES[at], strlen(PIECES[at]));
+        Text text = {path, length};
+        for (uint32_t dialect = 0; dialect < 2; dialect++) {
+            for (size_t number = 0; number < CALL_COUNT; number++) {
+                const Call *call = &CALLS[number];
+                if (!puts_answer(call))
+                    continue;
+                Text with = call->put_in ? (Text){dialect ? "\0" : "\1", 1} : BESIDE;
+                len = 0;
+                uint32_t status = put_by(call, dialect, text, with, out, bound_of(call, text, with), &len);
+                if (status == TYPED_PATH_OUT_OF_MEMORY || status == TYPED_PATH_TOO_SMALL || (!status && out[len]))
+                    *(size_t *)wrong_texts += 1;
+            }
+            len = count = 0;
+            if (typed_path_normalize(dialect, path, length, out, 2 * size, &len)
+                || typed_path_normalize(dialect, out, len, again, 2 * size, &count)
+                || count != len || memcmp(out, again, len) != 0
+                || typed_path_components(dialect, path, length, list, size, &count))
+                *(size_t *)wrong_texts += 1;
+        }
+    }
+    free(path);
+    free(out);
+    free(again);
+    free(list);
+    return NULL;
+}
+
+static void part_long(void) {
+    size_t wrong_texts = 0, stack = 65536;
+    pthread_attr_t small;
+    pthread_t thread;
+    pthread_attr_init(&small);
+    if (stack < (size_t)PTHREAD_STACK_MIN)
+        stack = (size_t)PTHREAD_STACK_MIN;
+    pthread_attr_setstacksize(&small, stack);
+    if (pthread_create(&thread, &small, each_long, &wrong_texts) != 0 || pthread_join(thread, NULL) != 0)
+        exit(2);
+    look(wrong_texts == 0, "a long text", "each call", NOTHING, NOTHING);
+}
+
+/* All rows, again and again. */
+static void *each_row(void *wrong_rows) {
+    typed_path_component list[200];
+    uint64_t told[2];
+    char out[1000];
+    for (size_t round = 0; round < 300; round++) {
+        for (size_t at = 0; at < row_count; at++) {
+            const Row *row = &rows[at];
+            size_t len = 0;
+            told[0] = told[1] = 0;
+            uint32_t status = puts_answer(row->call)
+                ? put_by(row->call, row->dialect, row->path, row->other, out, sizeof out, &len)
+                : told_by(row, row->path, row->other, told, list, out, &len);
+            if (!is_answered(row, status, out, len))
+                *(size_t *)wrong_rows += 1;
+        }
+    }
+    return NULL;
+}
+
+static void part_threads(void) {
+    pthread_t threads[8];
+    size_t wrong_rows[8] = {0};
+    for (size_t at = 0; at < 8; at++)
+        if (pthread_create(&threads[at], NULL, each_row, &wrong_rows[at]) != 0)
+            exit(2);
+    for (size_t at = 0; at < 8; at++) {
+        pthread_join(threads[at], NULL);
+        look(wrong_rows[at] == 0, "rows of a thread", "each call", NOTHING, NOTHING);
+    }
+}
+
+int main(int count, char **words) {
+    static const struct {
+        const char *name;
+        void (*run)(void);
+    } PARTS[] = {
+        {"rows", part_rows}, {"random", part_random}, {"batch", part_batch}, {"refused", part_refused},
+        {"long", part_long}, {"threads", part_threads},
+    };
+    if (count != 3)
+        return 2;
+    read_rows(words[1]);
+    texts[0] = block_of(1000);
+    texts[1] = block_of(1000);
+    answers = block_of(200 * sizeof(typed_path_component));
+    structs = block_of(1000);
+    for (size_t at = 0; at < sizeof PARTS / sizeof *PARTS; at++)
+        if (strcmp(words[2], PARTS[at].name) == 0)
+            PARTS[at].run();
+    printf("%s: %zu looks, %zu wrong\n", words[2], looks, wrong);
+    return looks == 0 || wrong > 0;
+}

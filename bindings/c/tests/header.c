@@ -1,0 +1,27 @@
+/* Stands for any file of C or C++ that includes the header: it calls some of each sort and ends with 0. */
+#include "typed_path.h"
+
+#include <string.h>
+
+static int is_put(const char *base, const char *name, const char *wanted) {
+    char out[TYPED_PATH_JOIN_BOUND(100, 100)];
+    size_t len = 0;
+    return typed_path_join_checked(TYPED_PATH_UNIX, base, strlen(base), name, strlen(name), out, sizeof out, &len)
+        == TYPED_PATH_DONE && len == strlen(wanted) && strcmp(out, wanted) == 0;
+}
+
+int main(void) {
+    typed_path_span span = {0, 0};
+    typed_path_component first = {0, 0, 0};
+    bool answer = false;
+    if (typed_path_version() != TYPED_PATH_VERSION || !is_put("/srv", "a/b", "/srv/a/b"))
+        return 1;
+    if (typed_path_file_name(TYPED_PATH_UNIX, "/a/b", 4, &span) != TYPED_PATH_DONE || span.start != 3)
+        return 2;
+    if (typed_path_component_at(TYPED_PATH_WINDOWS, "c:\\a", 4, 0, &first) != TYPED_PATH_DONE
+        || first.kind != TYPED_PATH_PREFIX_DISK)
+        return 3;
+    if (typed_path_is_within(TYPED_PATH_UNIX, "a/../b", 6, "a", 1, &answer) != TYPED_PATH_DONE || answer)
+        return 4;
+    return typed_path_join(TYPED_PATH_UNIX, NULL, 0, NULL, 0, NULL, 0, &span.length) == TYPED_PATH_DONE ? 0 : 5;
+}

@@ -1,0 +1,214 @@
+/* The rows of ../../rows.tsv, and each call by its name. */
+#include "rows.h"
+
+#include <stdio.h>
+#include <stdlib.h>
+#include <string.h>
+
+const Call CALLS[] = {
+    {.name = "join", .put_of = typed_path_join},
+    {.name = "join_checked", .put_of = typed_path_join_checked},
+    {.name = "with_file_name", .put_of = typed_path_with_file_name},
+    {.name = "with_extension", .put_of = typed_path_with_extension},
+    {.name = "normalize", .put = typed_path_normalize},
+    {.name = "clean", .put = typed_path_clean},
+    {.name = "relative_to", .put_of = typed_path_relative_to},
+    {.name = "convert", .put_in = typed_path_convert},
+    {.name = "convert_checked", .put_in = typed_path_convert_checked},
+    {.name = "absolutize", .put_of = typed_path_absolutize},
+    {.name = "parent", .part = typed_path_parent},
+    {.name = "file_name", .part = typed_path_file_name},
+    {.name = "file_stem", .part = typed_path_file_stem},
+    {.name = "extension", .part = typed_path_extension},
+    {.name = "strip_prefix", .part_of = typed_path_strip_prefix},
+    {.name = "is_absolute", .ask = typed_path_is_absolute},
+    {.name = "has_root", .ask = typed_path_has_root},
+    {.name = "is_valid", .ask = typed_path_is_valid},
+    {.name = "keeps_prefix", .ask = typed_path_keeps_prefix},
+    {.name = "starts_with", .ask_of = typed_path_starts_with},
+    {.name = "ends_with", .ask_of = typed_path_ends_with},
+    {.name = "is_within", .ask_of = typed_path_is_within},
+    {.name = "equal", .ask_of = typed_path_equal},
+    {.name = "derive"},
+    {.name = "compare"},
+    {.name = "components"},
+};
+const size_t CALL_COUNT = sizeof CALLS / sizeof *CALLS;
+
+Row *rows;
+size_t row_count;
+
+static const char *const STATUSES[] = {
+    "DONE", "INVALID_FILENAME", "PATH_TRAVERSAL_ATTACK", "UNEXPECTED_PREFIX", "UNEXPECTED_ROOT", "OUT_OF_MEMORY",
+    "TOO_SMALL", "BAD_DIALECT", "NONE", "AMBIGUOUS", "BAD_ENDS",
+};
+static const char *const KINDS[] = {
+    "root", "current", "parent", "normal", "Verbatim", "VerbatimUNC", "VerbatimDisk", "DeviceNS", "UNC", "Disk",
+};
+
+static void fail(const char *what, const char *of) {
+    fprintf(stderr, "%s: %s\n", what, of);
+    exit(2);
+}
+
+static uint32_t found(const char *word, const char *const *words, size_t count) {
+    for (size_t at = 0; at < count; at++)
+        if (strcmp(word, words[at]) == 0)
+            return (uint32_t)at;
+    fail("unknown word", word);
+    return 0;
+}
+
+static const Call *call_of(const char *name) {
+    for (size_t at = 0; at < CALL_COUNT; at++)
+        if (strcmp(name, CALLS[at].name) == 0)
+            return &CALLS[at];
+    fail("unknown call", name);
+    return NULL;
+}
+
+static uint32_t dialect_of(const char *word) {
+    static const char *const WORDS[] = {"unix", "windows"};
+    return found(*word ? word : "unix", WORDS, 2);
+}
+
+/* The text of a field, in its place. */
+static Text text_of(char *field) {
+    char *to = field;
+    for (const char *from = field; *from; to++) {
+        unsigned byte;
+        if (*from == '%' && sscanf(from + 1, "%2x", &byte) == 1) {
+            *to = (char)byte;
+            from += 3;
+        } else {
+            *to = *from++;
+        }
+    }
+    return (Text){field, (size_t)(to - field)};
+}
+
+static Row row_of(char *line) {
+    char *fields[5];
+    for (size_t at = 0; at < 5; at++) {
+        fields[at] = line;
+        line += strcspn(line, at < 4 ? "\t" : "\n");
+        *line++ = '\0';
+    }
+    bool done = fields[4][0] == '=';
+    Row row = {
+        .call = call_of(fields[0]), .dialect = dialect_of(fields[1]), .path = text_of(fields[2]),
+        .other = text_of(fields[3]), .status = done ? TYPED_PATH_DONE : found(fields[4], STATUSES, 11),
+        .answer = text_of(fields[4] + (done ? 1 : 0)),
+    };
+    if (row.call->put_in)
+        row.other = (Text){dialect_of(fields[3]) ? "\1" : "\0", 1};
+    return row;
+}
+
+void read_rows(const char *file) {
+    FILE *from = fopen(file, "rb");
+    static char line[1000];
+    if (!from)
+        fail("can't be read", file);
+    while (fgets(line, sizeof line, from)) {
+        char *copy = strdup(line);
+        Row *more = realloc(rows, (row_count + 1) * sizeof *rows);
+        if (!copy || !more)
+            fail("out of memory", file);
+        rows = more;
+        if (*copy == '#')
+            free(copy);
+        else
+            rows[row_count++] = row_of(copy);
+    }
+    fclose(from);
+}
+
+bool puts_answer(const Call *call) {
+    return call->put || call->put_of || call->put_in;
+}
+
+uint32_t put_by(const Call *call, uint32_t dialect, Text path, Text other, char *out, size_t size, size_t *len) {
+    if (call->put)
+        return call->put(dialect, path.bytes, path.length, out, size, len);
+    if (call->put_in)
+        return call->put_in(dialect, path.bytes, path.length, (unsigned char)*other.bytes, out, size, len);
+    return call->put_of(dialect, path.bytes, path.length, other.bytes, other.length, out, size, len);
+}
+
+size_t bound_of(const Call *call, Text path, Text other) {
+    if (call->put == typed_path_clean)
+        return TYPED_PATH_CLEAN_BOUND(path.length);
+    if (call->put)
+        return TYPED_PATH_NORMALIZE_BOUND(path.length);
+    if (call->put_in)
+        return TYPED_PATH_CONVERT_BOUND(path.length);
+    if (call->put_of == typed_path_with_extension)
+        return TYPED_PATH_EXTENSION_BOUND(path.length, other.length);
+    if (call->put_of == typed_path_relative_to)
+        return TYPED_PATH_RELATIVE_BOUND(path.length, other.length);
+    return TYPED_PATH_JOIN_BOUND(path.length, other.length);
+}
+
+static uint32_t listed(const Row *row, Text path, typed_path_component *list, char *out, size_t *len) {
+    size_t count = 0;
+    uint32_t status = typed_path_components(
+        row->dialect, path.bytes, path.length, list, TYPED_PATH_COMPONENTS_BOUND(path.length), &count);
+    for (size_t at = 0; status == TYPED_PATH_DONE && at < count; at++) {
+        typed_path_component one = {0, 0, 99};
+        uint32_t again = typed_path_component_at(row->dialect, path.bytes, path.length, at, &one);
+        if (again || one.start != list[at].start || one.length != list[at].length || one.kind != list[at].kind)
+            return 98;
+        *len += (size_t)sprintf(out + *len, "%s%s=", at ? "|" : "", KINDS[one.kind]);
+        memcpy(out + *len, path.bytes + one.start, one.length);
+        *len += one.length;
+    }
+    if (typed_path_component_at(row->dialect, path.bytes, path.length, count, list) != TYPED_PATH_NONE)
+        return 99;
+    return status;
+}
+
+static uint32_t compared(const Row *row, Text path, Text other, void *told, char *out, size_t *len) {
+    int32_t *order = told;
+    uint64_t one = 1, two = 2;
+    uint32_t status = typed_path_compare(row->dialect, path.bytes, path.length, other.bytes, other.length, order);
+    *len = (size_t)sprintf(out, "%d", (int)*order);
+    typed_path_hash(row->dialect, path.bytes, path.length, &one);
+    typed_path_hash(row->dialect, other.bytes, other.length, &two);
+    return one == two || *order != 0 ? status : 97;
+}
+
+uint32_t told_by(
+    const Row *row, Text path, Text other, void *told, typed_path_component *list, char *out, size_t *len) {
+    const Call *call = row->call;
+    uint32_t status;
+    *len = 0;
+    if (call->part || call->part_of) {
+        typed_path_span *span = told;
+        status = call->part ? call->part(row->dialect, path.bytes, path.length, span)
+            : call->part_of(row->dialect, path.bytes, path.length, other.bytes, other.length, span);
+        if (status == TYPED_PATH_DONE && (span->start > path.length || span->length > path.length - span->start))
+            return 96;
+        if (status == TYPED_PATH_DONE && span->length > 0)
+            memcpy(out, path.bytes + span->start, *len = span->length);
+    } else if (call->ask || call->ask_of) {
+        bool *answer = told;
+        status = call->ask ? call->ask(row->dialect, path.bytes, path.length, answer)
+            : call->ask_of(row->dialect, path.bytes, path.length, other.bytes, other.length, answer);
+        *len = (size_t)sprintf(out, "%s", *answer ? "true" : "false");
+    } else if (strcmp(call->name, "derive") == 0) {
+        status = TYPED_PATH_DONE;
+        *len = (size_t)sprintf(out, "%s", typed_path_derive(path.bytes, path.length) ? "windows" : "unix");
+    } else if (strcmp(call->name, "compare") == 0) {
+        status = compared(row, path, other, told, out, len);
+    } else {
+        status = listed(row, path, list, out, len);
+    }
+    return status;
+}
+
+bool is_answered(const Row *row, uint32_t status, const char *out, size_t len) {
+    if (status != row->status || status != TYPED_PATH_DONE)
+        return status == row->status;
+    return len == row->answer.length && (len == 0 || memcmp(out, row->answer.bytes, len) == 0);
+}

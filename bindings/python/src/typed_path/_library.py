@@ -1,0 +1,224 @@
+"""The calls of the shared object, over bytes. Each raises what its status names."""
+
+from __future__ import annotations
+
+import ctypes
+import itertools
+import os
+import pathlib
+from ctypes import POINTER, byref, c_bool, c_char, c_char_p, c_int32, c_size_t, c_uint32, c_uint64
+from typing import Callable, NamedTuple, Optional, Sequence
+
+NAME = "libtyped_path.so.0"
+VERSION = 100
+UNIX, WINDOWS = 0, 1
+
+
+class CheckedPathError(ValueError):
+    """A path was refused for its first component that offends. `path` is the path."""
+
+    message = "path was refused"
+
+    def __init__(self, path: object) -> None:
+        super().__init__(f"{self.message}: {str(path)!r}")
+        self.path = path
+
+    def __reduce__(self):
+        return type(self), (self.path,)
+
+
+class InvalidFilename(CheckedPathError):
+    """A name is not allowed: it has a disallowed byte or, on Windows, stands for a device."""
+
+    message = "path contains invalid filename"
+
+
+class PathTraversalAttack(CheckedPathError):
+    """No name before it makes up for a `..`."""
+
+    message = "path attempts to escape original path"
+
+
+class UnexpectedPrefix(CheckedPathError):
+    """There is a prefix of Windows, as a drive or a server."""
+
+    message = "path contains unexpected prefix"
+
+
+class UnexpectedRoot(CheckedPathError):
+    """There is a root."""
+
+    message = "path contains unexpected root"
+
+
+class NoRelativePath(ValueError):
+    """No relative path leads from the base to the path."""
+
+
+class Ambiguous(ValueError):
+    """A path is absolute neither alone nor behind the directory."""
+
+
+DONE, OUT_OF_MEMORY, NONE, AMBIGUOUS = 0, 5, 8, 9
+REFUSALS = {1: InvalidFilename, 2: PathTraversalAttack, 3: UnexpectedPrefix, 4: UnexpectedRoot}
+KINDS = (
+    "root", "current", "parent", "normal", "Verbatim", "VerbatimUNC", "VerbatimDisk", "DeviceNS", "UNC", "Disk",
+)
+
+
+class Span(ctypes.Structure):
+    _fields_ = (("start", c_size_t), ("length", c_size_t))
+
+
+class Piece(ctypes.Structure):
+    _fields_ = (("start", c_size_t), ("length", c_size_t), ("kind", c_uint32))
+
+
+def _loaded() -> ctypes.CDLL:
+    """The library: that which TYPED_PATH_LIBRARY names, or lies in the package, or the system finds."""
+    named = os.environ.get("TYPED_PATH_LIBRARY")
+    beside = pathlib.Path(__file__).with_name(NAME)
+    library = ctypes.CDLL(named or (str(beside) if beside.exists() else NAME))
+    if library.typed_path_version() != VERSION:
+        raise ImportError(f"{NAME} has version {library.typed_path_version()}, and this package needs {VERSION}")
+    return library
+
+
+_library = _loaded()
+_TEXT = (c_char_p, c_size_t)
+_PUT = (POINTER(c_char), c_size_t, POINTER(c_size_t))
+
+
+def _call(name: str, *kinds: object) -> Callable[..., int]:
+    call = getattr(_library, f"typed_path_{name}")
+    call.argtypes, call.restype = kinds, c_uint32
+    return call
+
+
+derive = _call("derive", *_TEXT)
+_puts = {
+    **{name: _call(name, c_uint32, *_TEXT, *_TEXT, *_PUT)
+       for name in ("join", "join_checked", "with_file_name", "with_extension", "relative_to", "absolutize")},
+    **{name: _call(name, c_uint32, *_TEXT, *_PUT) for name in ("normalize", "clean")},
+    **{name: _call(name, c_uint32, *_TEXT, c_uint32, *_PUT) for name in ("convert", "convert_checked")},
+}
+_parts = {
+    **{name: _call(name, c_uint32, *_TEXT, POINTER(Span))
+       for name in ("parent", "file_name", "file_stem", "extension")},
+    "strip_prefix": _call("strip_prefix", c_uint32, *_TEXT, *_TEXT, POINTER(Span)),
+}
+_questions = {
+    **{name: _call(name, c_uint32, *_TEXT, POINTER(c_bool))
+       for name in ("is_absolute", "has_root", "is_valid", "keeps_prefix")},
+    **{name: _call(name, c_uint32, *_TEXT, *_TEXT, POINTER(c_bool))
+       for name in ("starts_with", "ends_with", "is_within", "equal")},
+}
+_components = _call("components", c_uint32, *_TEXT, POINTER(Piece), c_size_t, POINTER(c_size_t))
+_compare = _call("compare", c_uint32, *_TEXT, *_TEXT, POINTER(c_int32))
+_hash = _call("hash", c_uint32, *_TEXT, POINTER(c_uint64))
+_batch = _call(
+    "join_checked_batch", c_uint32, *_TEXT, *_TEXT, POINTER(c_size_t), c_size_t, POINTER(c_char), c_size_t,
+    POINTER(c_size_t), c_size_t, POINTER(c_uint32), c_size_t, POINTER(c_size_t),
+)
+
+
+def _failed(status: int, path: object) -> Exception:
+    if status in REFUSALS:
+        return REFUSALS[status](path)
+    if status == OUT_OF_MEMORY:
+        return MemoryError()
+    if status == NONE:
+        return NoRelativePath(f"no relative path leads to {str(path)!r}")
+    if status == AMBIGUOUS:
+        return Ambiguous(f"path is ambiguous: {str(path)!r}")
+    return RuntimeError(f"status {status} of {path!r}")
+
+
+def _words(other: object) -> tuple:
+    """What stands for another text, or for the number of a dialect, if there is one."""
+    if other is None:
+        return ()
+    return (other, len(other)) if isinstance(other, bytes) else (other,)
+
+
+def made(name: str, dialect: int, path: bytes, other: object = None, judged: object = None) -> bytes:
+    """What a call puts. No answer has four bytes more than the path and twice the other text. `judged` is what a
+    refusal is told of."""
+    words = _words(other)
+    size = len(path) + (2 * words[1] if len(words) == 2 else 0) + 4
+    out, length = ctypes.create_string_buffer(size), c_size_t()
+    status = _puts[name](dialect, path, len(path), *words, out, size, byref(length))
+    if status != DONE:
+        raise _failed(status, judged)
+    return out[:length.value]
+
+
+def part(name: str, dialect: int, path: bytes, other: Optional[bytes] = None) -> Optional[bytes]:
+    """The part that a call lends, or None where there is none."""
+    span = Span()
+    status = _parts[name](dialect, path, len(path), *_words(other), byref(span))
+    if status == NONE:
+        return None
+    if status != DONE:
+        raise _failed(status, path)
+    return path[span.start:span.start + span.length]
+
+
+def asked(name: str, dialect: int, path: bytes, other: Optional[bytes] = None) -> bool:
+    """What a question is answered."""
+    answer = c_bool()
+    status = _questions[name](dialect, path, len(path), *_words(other), byref(answer))
+    if status != DONE:
+        raise _failed(status, path)
+    return answer.value
+
+
+def components(dialect: int, path: bytes) -> list[tuple[str, bytes]]:
+    """The kind and the bytes of each component."""
+    pieces, count = (Piece * len(path))(), c_size_t()
+    status = _components(dialect, path, len(path), pieces, len(path), byref(count))
+    if status != DONE:
+        raise _failed(status, path)
+    return [(KINDS[it.kind], path[it.start:it.start + it.length]) for it in pieces[:count.value]]
+
+
+def compare(dialect: int, path: bytes, other: bytes) -> int:
+    """-1, 0 or 1."""
+    order = c_int32()
+    status = _compare(dialect, path, len(path), other, len(other), byref(order))
+    if status != DONE:
+        raise _failed(status, path)
+    return order.value
+
+
+def hashed(dialect: int, path: bytes) -> int:
+    """A number of 64 bits that is one of equal paths."""
+    number = c_uint64()
+    status = _hash(dialect, path, len(path), byref(number))
+    if status != DONE:
+        raise _failed(status, path)
+    return number.value
+
+
+class Joined(NamedTuple):
+    """The status of each name, where each answer ends, and the answers behind each other."""
+
+    statuses: list[int]
+    ends: list[int]
+    answers: bytes
+
+
+def join_checked_batch(dialect: int, base: bytes, names: Sequence[bytes]) -> Joined:
+    """Checked joins of many names onto one base, in one call."""
+    count, all_names = len(names), b"".join(names)
+    size = len(all_names) + count * (len(base) + 3)
+    ends = (c_size_t * count)(*itertools.accumulate(map(len, names)))
+    out, done = ctypes.create_string_buffer(size + 1), c_size_t()
+    out_ends, statuses = (c_size_t * count)(), (c_uint32 * count)()
+    status = _batch(
+        dialect, base, len(base), all_names, len(all_names), ends, count, out, size, out_ends, count, statuses, count,
+        byref(done),
+    )
+    if status != DONE:
+        raise _failed(status, base)
+    return Joined(statuses[:], out_ends[:], out[:out_ends[count - 1]] if count else b"")

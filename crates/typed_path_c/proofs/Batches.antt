@@ -1,0 +1,219 @@
+-- One name more of a batch.
+use Rattle.std.proofs.Common.{◌≡◌, ℕ, suc, ◌+◌, ◌<◌, ◌≤◌, ◌⊎◌, inl, inr, ⊎_elim, List, [], ◌∷◌, ◌++◌, length, map, take, drop, set, slice_range, slice_index_or, refl, sym, ap, ap₂, subst, ◌∙◌, arith, append_assoc, append-nil}
+use Rattle.std.proofs.lemmas.List.{drop-drop, drop_at, take_at, length-append, length-map, map-append, length-take-le, length-drop}
+use Rattle.std.proofs.Math.Logic.{⊎_map}
+use Rattle.std.proofs.lemmas.Grind.{take_at_read}
+use Rattle.typed_path.specs.components.{Dialect}
+use Rattle.typed_path_c.specs.Answers.{done, bad_ends, too_small, out_of_memory}
+use Rattle.typed_path_c.specs.Batch.{names_from, last_from, AreEnds, name_answer, name_status, answers, answer_ends, ArePut, IsBatch}
+use Rattle.typed_path_c.specs.Parts.{over}
+use Rattle.typed_path_c.proofs.Spans.{over_item, over_length}
+
+module _ (names : List ℕ) where
+  names-more : (start : ℕ) (ends : List ℕ) (end : ℕ) → names_from names start (ends ++ end ∷ []) ≡ names_from names start ends ++ slice_range names (last_from start ends) end ∷ []
+  names-more start [] end = refl
+  names-more start (e ∷ ends) end = ap (λ ns. slice_range names start e ∷ ns) (names-more e ends end)
+
+  order-more : (start : ℕ) (ends : List ℕ) (end : ℕ) → AreEnds names start ends → last_from start ends ≤ end → end ≤ length names → AreEnds names start (ends ++ end ∷ [])
+  order-more start [] end order ahead within = (ahead, within, order)
+  order-more start (e ∷ ends) end order ahead within = (order.0, order.1, order-more e ends end order.2 ahead within)
+
+  length-names : (start : ℕ) (ends : List ℕ) → length (names_from names start ends) ≡ length ends
+  length-names start [] = refl
+  length-names start (e ∷ ends) = ap suc (length-names e ends)
+
+last-more : (start : ℕ) (ends : List ℕ) (end : ℕ) → last_from start (ends ++ end ∷ []) ≡ end
+last-more start [] end = refl
+last-more start (e ∷ ends) end = last-more e ends end
+
+module _ (d : Dialect) (base : List ℕ) where
+  answers-more : (names : List (List ℕ)) (name : List ℕ) → answers d base (names ++ name ∷ []) ≡ answers d base names ++ name_answer d base name
+  answers-more [] name = append-nil (name_answer d base name)
+  answers-more (n ∷ names) name =
+      ap (λ t. name_answer d base n ++ t) (answers-more names name) ∙ sym (append_assoc (name_answer d base n) (answers d base names) (name_answer d base name))
+
+  answer_ends-more : (at : ℕ) (names : List (List ℕ)) (name : List ℕ)
+      → answer_ends d base at (names ++ name ∷ []) ≡ answer_ends d base at names ++ (at + length (answers d base names) + length (name_answer d base name)) ∷ []
+  answer_ends-more at [] name = ap (λ n. n ∷ []) (omega arith)
+  answer_ends-more at (n ∷ names) name =
+      let next = at + length (name_answer d base n) in
+      ap (λ ns. next ∷ ns)
+      (answer_ends-more next names name
+      ∙ ap (λ e. answer_ends d base next names ++ e ∷ []) (omega (arith, length-append (name_answer d base n) (answers d base names))))
+
+  length-ends : (at : ℕ) (names : List (List ℕ)) → length (answer_ends d base at names) ≡ length names
+  length-ends at [] = refl
+  length-ends at (n ∷ names) = ap suc (length-ends (at + length (name_answer d base n)) names)
+
+  -- a batch that was done for the first names
+  pub record Runs (names ends old new ends_old ends_new statuses_old statuses_new : List ℕ) (n start at : ℕ) : Type 0 where
+    pub some : n ≤ length ends
+    pub in_order : AreEnds names 0 (take n ends)
+    pub put : ArePut d base (names_from names 0 (take n ends)) old new ends_old ends_new statuses_old statuses_new
+    pub starts : start ≡ last_from 0 (take n ends)
+    pub ends_at : at ≡ length (answers d base (names_from names 0 (take n ends)))
+
+  -- at first
+  pub none-run : (names ends old ends_old statuses_old : List ℕ) (n : ℕ) → n ≡ 0 → Runs names ends old old ends_old ends_old statuses_old statuses_old n 0 0
+  none-run names ends old ends_old statuses_old n e = subst (λ n. Runs names ends old old ends_old ends_old statuses_old statuses_old n 0 0) (sym e)
+      (record {
+        some = omega arith;
+        in_order = tt;
+        put = record { bytes = refl; fits = omega arith; ends = refl; statuses = refl; has_ends = omega arith; has_statuses = omega arith };
+        starts = refl;
+        ends_at = refl;
+      })
+
+  -- one more answer is put
+  module _ (done_names : List (List ℕ)) (name old new ends_old ends_new statuses_old statuses_new later : List ℕ) (at end status n : ℕ)
+      (put : ArePut d base done_names old new ends_old ends_new statuses_old statuses_new) (is : at ≡ length (answers d base done_names)) (count : length done_names ≡ n)
+      (goes : end ≡ at + length (name_answer d base name)) (within : end ≤ length new) (told : status ≡ name_status d name)
+      (stands : later ≡ take at new ++ name_answer d base name ++ drop end new) (room : n < length ends_new) (free : n < length statuses_new) where
+    abbrev pub before : List ℕ
+    before = answers d base done_names
+
+    abbrev pub own : List ℕ
+    own = name_answer d base name
+
+    kept : take at new ≡ before
+    kept = ap (take at) put.bytes ∙ take_at before (drop (length before) old) at (sym is)
+
+    behind : drop end new ≡ drop (length (before ++ own)) old
+    behind =
+        ap₂ drop goes put.bytes
+        ∙ sym (drop-drop (length own) at (before ++ drop (length before) old))
+        ∙ ap (drop (length own)) (drop_at before (drop (length before) old) at (sym is))
+        ∙ drop-drop (length own) (length before) old
+        ∙ ap (λ k. drop k old) (sym (length-append before own))
+
+    length-new : length new ≡ length old
+    length-new = omega (arith, ap length put.bytes, length-append before (drop (length before) old), length-drop (length before) old, put.fits)
+
+    pub put-more : ArePut d base (done_names ++ name ∷ []) old later ends_old (set ends_new n end) statuses_old (set statuses_new n status)
+    put-more = record {
+      bytes = stands ∙ ap₂ (λ a b. a ++ own ++ b) kept behind
+          ∙ ap (λ t. t ++ drop (length t) old) (sym (answers-more done_names name));
+      fits = omega (arith, ap length (answers-more done_names name), length-append before own, goes, is, within, length-new);
+      ends = ap₂ (λ xs k. set xs k end) put.ends (sym (length-ends 0 done_names ∙ count))
+          ∙ sym (over_item (answer_ends d base 0 done_names) ends_old end (omega (arith, length-ends 0 done_names, count, room, ap length put.ends, over_length (answer_ends d base 0 done_names) ends_old)))
+          ∙ ap (λ e. over (answer_ends d base 0 done_names ++ e ∷ []) ends_old) (omega (arith, goes, is))
+          ∙ ap (λ xs. over xs ends_old) (sym (answer_ends-more 0 done_names name));
+      statuses = ap₂ (λ xs k. set xs k status) put.statuses (sym (length-map done_names (name_status d) ∙ count))
+          ∙ sym (over_item (map (name_status d) done_names) statuses_old status (omega (arith, length-map done_names (name_status d), count, free, ap length put.statuses, over_length (map (name_status d) done_names) statuses_old)))
+          ∙ ap (λ s. over (map (name_status d) done_names ++ s ∷ []) statuses_old) told
+          ∙ ap (λ xs. over xs statuses_old) (sym (map-append (name_status d) done_names (name ∷ [])));
+      has_ends = omega (arith, length-append done_names (name ∷ []), count, room, ap length put.ends, over_length (answer_ends d base 0 done_names) ends_old);
+      has_statuses = omega (arith, length-append done_names (name ∷ []), count, free, ap length put.statuses, over_length (map (name_status d) done_names) statuses_old);
+    }
+
+  -- and the batch was done for one name more
+  module _ (names ends old new ends_old ends_new statuses_old statuses_new later : List ℕ) (n start at end status : ℕ)
+      (runs : Runs names ends old new ends_old ends_new statuses_old statuses_new n start at) (more : n < length ends)
+      (ahead : start ≤ slice_index_or ends n 0) (inside : slice_index_or ends n 0 ≤ length names) where
+    abbrev pub next : ℕ
+    next = slice_index_or ends n 0
+
+    taken : take (n + 1) ends ≡ take n ends ++ next ∷ []
+    taken = (take_at_read ends n 0 more).1
+
+    names-taken : names_from names 0 (take (n + 1) ends) ≡ names_from names 0 (take n ends) ++ slice_range names start next ∷ []
+    names-taken = ap (names_from names 0) taken ∙ names-more names 0 (take n ends) next
+        ∙ ap (λ s. names_from names 0 (take n ends) ++ slice_range names s next ∷ []) (sym runs.starts)
+
+    pub count : length (names_from names 0 (take n ends)) ≡ n
+    count = length-names names 0 (take n ends) ∙ length-take-le n ends runs.some
+
+    pub runs-on : end ≡ at + length (name_answer d base (slice_range names start next)) → end ≤ length new → status ≡ name_status d (slice_range names start next)
+        → later ≡ take at new ++ name_answer d base (slice_range names start next) ++ drop end new → n < length ends_new → n < length statuses_new
+        → Runs names ends old later ends_old (set ends_new n end) statuses_old (set statuses_new n status) (n + 1) next end
+    runs-on goes within told stands room free = record {
+      some = omega (arith, more);
+      in_order = subst (AreEnds names 0) (sym taken) (order-more names 0 (take n ends) next runs.in_order (subst (λ s. s ≤ next) runs.starts ahead) inside);
+      put = subst (λ ns. ArePut d base ns old later ends_old (set ends_new n end) statuses_old (set statuses_new n status)) (sym names-taken)
+          (put-more (names_from names 0 (take n ends)) (slice_range names start next) old new ends_old ends_new statuses_old statuses_new later at end status n runs.put runs.ends_at count goes within told stands room free);
+      starts = sym (ap (last_from 0) taken ∙ last-more 0 (take n ends) next);
+      ends_at = goes
+          ∙ ap (λ k. k + length (name_answer d base (slice_range names start next))) runs.ends_at
+          ∙ sym (length-append (answers d base (names_from names 0 (take n ends))) (name_answer d base (slice_range names start next)))
+          ∙ ap length (sym (answers-more (names_from names 0 (take n ends)) (slice_range names start next)))
+          ∙ ap (λ ns. length (answers d base ns)) (sym names-taken);
+    }
+
+  module _ (names ends old new ends_old ends_new statuses_old statuses_new : List ℕ) (n start at : ℕ)
+      (runs : Runs names ends old new ends_old ends_new statuses_old statuses_new n start at) where
+    -- what is put lies within the buffer
+    pub length-run : at ≤ length new
+    length-run =
+        let before = answers d base (names_from names 0 (take n ends)) in
+        omega (arith, runs.ends_at, ap length runs.put.bytes, length-append before (drop (length before) old))
+
+    -- a batch that was done for all
+    pub ended-all : length ends ≤ n → IsBatch d base names ends old new ends_old ends_new statuses_old statuses_new n done
+    ended-all all = record {
+      some = runs.some;
+      in_order = runs.in_order;
+      put = runs.put;
+      all = λ e. omega (arith, all, runs.some);
+      ill = λ e. absurd (omega (arith, e));
+      full = λ e. absurd (omega (arith, e));
+      known = inl refl;
+    }
+
+    long-ends : length ends_new ≡ length ends_old
+    long-ends = ap length runs.put.ends ∙ over_length (answer_ends d base 0 (names_from names 0 (take n ends))) ends_old
+
+    long-statuses : length statuses_new ≡ length statuses_old
+    long-statuses = ap length runs.put.statuses ∙ over_length (map (name_status d) (names_from names 0 (take n ends))) statuses_old
+
+    done-count : length (names_from names 0 (take n ends)) ≡ n
+    done-count = length-names names 0 (take n ends) ∙ length-take-le n ends runs.some
+
+    -- one whose next end is wrong
+    pub ended-ill : n < length ends → (slice_index_or ends n 0 < start) ⊎ ((start ≤ slice_index_or ends n 0) × (length names < slice_index_or ends n 0))
+        → IsBatch d base names ends old new ends_old ends_new statuses_old statuses_new n bad_ends
+    ended-ill more either = record {
+      some = runs.some;
+      in_order = runs.in_order;
+      put = runs.put;
+      all = λ e. absurd (omega (arith, e));
+      ill = λ e. (more, ⊎_map (λ less. subst (λ s. slice_index_or ends n 0 < s) runs.starts less) (λ both. both.1) either);
+      full = λ e. absurd (omega (arith, e));
+      known = inr (inl refl);
+    }
+
+    -- one whose next name has no room
+    pub ended-full : n < length ends → (length ends_new ≤ n) ⊎ ((n < length ends_new) × (length statuses_new ≤ n))
+        → IsBatch d base names ends old new ends_old ends_new statuses_old statuses_new n too_small
+    ended-full more either = record {
+      some = runs.some;
+      in_order = runs.in_order;
+      put = runs.put;
+      all = λ e. absurd (omega (arith, e));
+      ill = λ e. absurd (omega (arith, e));
+      full = λ e. (more, ⊎_elim (λ h. inl (omega (arith, h, long-ends, done-count))) (λ h. inr (inl (omega (arith, h.1, long-statuses, done-count)))) either);
+      known = inr (inr (inl refl));
+    }
+
+    -- one whose next name was not joined
+    pub ended-err : (later : List ℕ) (status : ℕ) → later ≡ new → n < length ends
+        → (status ≡ out_of_memory) ⊎ ((status ≡ too_small) × (length new < at + length (name_answer d base (slice_range names start (slice_index_or ends n 0)))))
+        → IsBatch d base names ends old later ends_old ends_new statuses_old statuses_new n status
+    ended-err later status same more why = record {
+      some = runs.some;
+      in_order = runs.in_order;
+      put = subst (λ t. ArePut d base (names_from names 0 (take n ends)) old t ends_old ends_new statuses_old statuses_new) (sym same) runs.put;
+      all = λ e. absurd (⊎_elim (λ w. omega (arith, w, e)) (λ w. omega (arith, w.0, e)) why);
+      ill = λ e. absurd (⊎_elim (λ w. omega (arith, w, e)) (λ w. omega (arith, w.0, e)) why);
+      full = λ e. (
+        more,
+        ⊎_elim (λ w. absurd (omega (arith, w, e))) (λ w. inr (inr (
+            subst (λ s. length old < length (answers d base (names_from names 0 (take n ends))) + length (name_answer d base (slice_range names s (slice_index_or ends n 0)))) runs.starts
+            (omega (arith, w.1, runs.ends_at, long-new))))) why,
+      );
+      known = ⊎_elim (λ w. inr (inr (inr w))) (λ w. inr (inr (inl w.0))) why;
+    }
+      where
+        long-new : length new ≡ length old
+        long-new =
+            let before = answers d base (names_from names 0 (take n ends)) in
+            omega (arith, ap length runs.put.bytes, length-append before (drop (length before) old), length-drop (length before) old, runs.put.fits)

@@ -1,0 +1,80 @@
+-- Checked joins of many names onto one base.
+use Rattle.std.specs.Prelude.{◌≡◌, ◌≤◌, ◌<◌, ◌+◌, ◌⊎◌, ℕ, List, [], ◌∷◌, ◌++◌, length, map, take, drop, slice_range, slice_index, Option, Some, None, ⊤, MatchOption}
+use Rattle.std.specs.List.{flat_map}
+use Rattle.typed_path.specs.components.Dialects.{Dialect}
+use Rattle.typed_path.specs.declared.errors.CheckedPathError.{CheckedPathError}
+use Rattle.typed_path.specs.changes.Push.{push}
+use Rattle.typed_path.specs.changes.Fault.{fault}
+use Rattle.typed_path_c.specs.Answers.{dialect_named, fault_status, done, out_of_memory, too_small, bad_dialect, bad_ends}
+use Rattle.typed_path_c.specs.Parts.{over}
+
+-- the names that stand behind each other, each from where the one before it ends
+abbrev pub names_from : List ℕ → ℕ → List ℕ → List (List ℕ)
+names_from names start [] = []
+names_from names start (end ∷ ends) = slice_range names start end ∷ names_from names end ends
+
+-- where the last of them ends
+abbrev pub last_from : ℕ → List ℕ → ℕ
+last_from start [] = start
+last_from start (end ∷ ends) = last_from end ends
+
+-- no end lies before the one before it, or behind the names
+abbrev pub AreEnds : List ℕ → ℕ → List ℕ → Type 0
+AreEnds names start [] = ⊤
+AreEnds names start (end ∷ ends) = (start ≤ end) × (end ≤ length names) × AreEnds names end ends
+
+-- the answer to a name is nothing where it is refused, and else the base with the name pushed onto it
+abbrev pub answer_unless : Dialect → List ℕ → List ℕ → Option CheckedPathError → List ℕ
+answer_unless d base name None = push d base name
+answer_unless d base name (Some e) = []
+
+abbrev pub name_answer : Dialect → List ℕ → List ℕ → List ℕ
+name_answer d base name = answer_unless d base name (fault d name)
+
+abbrev pub status_by : Option CheckedPathError → ℕ
+status_by None = done
+status_by (Some e) = fault_status e
+
+abbrev pub name_status : Dialect → List ℕ → ℕ
+name_status d name = status_by (fault d name)
+
+abbrev pub answers : Dialect → List ℕ → List (List ℕ) → List ℕ
+answers d base names = flat_map (name_answer d base) names
+
+-- where the answers end that are put behind each other
+abbrev pub answer_ends : Dialect → List ℕ → ℕ → List (List ℕ) → List ℕ
+answer_ends d base at [] = []
+answer_ends d base at (name ∷ names) = (at + length (name_answer d base name)) ∷ answer_ends d base (at + length (name_answer d base name)) names
+
+-- what a batch leaves where it was done for some names: their answers behind each other, and where these end, and their statuses
+pub record ArePut (d : Dialect) (base : List ℕ) (names : List (List ℕ)) (old new ends_old ends_new statuses_old statuses_new : List ℕ) : Type 0 where
+  pub bytes : new ≡ answers d base names ++ drop (length (answers d base names)) old
+  pub fits : length (answers d base names) ≤ length old
+  pub ends : ends_new ≡ over (answer_ends d base 0 names) ends_old
+  pub statuses : statuses_new ≡ over (map (name_status d) names) statuses_old
+  pub has_ends : length names ≤ length ends_old
+  pub has_statuses : length names ≤ length statuses_old
+
+-- the next name is not answered since there is no room for its end, its status or its answer
+abbrev pub IsFull : Dialect → List ℕ → List (List ℕ) → List ℕ → List ℕ → List ℕ → List ℕ → Type 0
+IsFull d base names old ends statuses next =
+    (length ends ≤ length names) ⊎ (length statuses ≤ length names)
+    ⊎ (length old < length (answers d base names) + length (name_answer d base next))
+
+-- a batch was done for so many names, and its status says why for no more
+pub record IsBatch (d : Dialect) (base names ends old new ends_old ends_new statuses_old statuses_new : List ℕ) (n status : ℕ) : Type 0 where
+  pub some : n ≤ length ends
+  pub in_order : AreEnds names 0 (take n ends)
+  pub put : ArePut d base (names_from names 0 (take n ends)) old new ends_old ends_new statuses_old statuses_new
+  pub all : status ≡ done → n ≡ length ends
+  pub ill : status ≡ bad_ends → (n < length ends) × ((slice_index ends n < last_from 0 (take n ends)) ⊎ (length names < slice_index ends n))
+  pub full : status ≡ too_small → (n < length ends)
+      × IsFull d base (names_from names 0 (take n ends)) old ends_old statuses_old (slice_range names (last_from 0 (take n ends)) (slice_index ends n))
+  pub known : (status ≡ done) ⊎ (status ≡ bad_ends) ⊎ (status ≡ too_small) ⊎ (status ≡ out_of_memory)
+
+-- the same for the dialect that a number names, and for one that names none
+abbrev pub Batches : ℕ → List ℕ → List ℕ → List ℕ → List ℕ → List ℕ → List ℕ → List ℕ → List ℕ → List ℕ → ℕ → ℕ → Type 0
+Batches number base names ends old new ends_old ends_new statuses_old statuses_new n status =
+    MatchOption (dialect_named number)
+    ((status ≡ bad_dialect) × (n ≡ 0) × (new ≡ old) × (ends_new ≡ ends_old) × (statuses_new ≡ statuses_old))
+    (λ d. IsBatch d base names ends old new ends_old ends_new statuses_old statuses_new n status)

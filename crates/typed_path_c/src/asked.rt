@@ -1,0 +1,219 @@
+//! What a path is asked, alone and beside another.
+
+ghost use Rattle.std.specs.Prelude.{◌≡◌, false};
+ghost use Rattle.typed_path.specs.components.{kinds, parts_of};
+ghost use Rattle.typed_path.specs.order.{is_same, path_cmp};
+ghost use Rattle.typed_path.specs.places.{is_within};
+ghost use Rattle.typed_path.specs.promises.{keeps_prefix};
+ghost use Rattle.typed_path.specs.queries.{is_absolute, has_root, is_valid, path_starts_with, path_ends_with};
+ghost use Rattle.typed_path.specs.typed.{derived_dialect};
+ghost use Rattle.typed_path_c.specs.Answers.{dialect_named, done, bad_dialect, order_number, hash_of, Tells, Orders, Hashes};
+
+use crate::status::{BAD_DIALECT, DONE, path_in};
+use std::cmp::Ordering;
+use std::hash::{DefaultHasher, Hash, Hasher};
+use typed_path::{Encoding, Path, PathType, UnixEncoding, WindowsEncoding};
+
+/// Tells an answer.
+fn tell(asked: bool, answer: &mut bool) -> u32
+    ensures status { result ≡ done }
+    ensures answer { answer.new ≡ asked }
+{
+    *answer = asked;
+    DONE
+}
+
+/// Tells that a number names no dialect, and answers no.
+fn tell_none(answer: &mut bool) -> u32
+    ensures status { result ≡ bad_dialect }
+    ensures answer { answer.new ≡ false }
+{
+    *answer = false;
+    BAD_DIALECT
+}
+
+/// The dialect that a path looks like.
+#[unsafe(no_mangle)]
+pub extern "C" fn typed_path_derive(path: &[u8]) -> u32
+    ensures { dialect_named result ≡ Some (derived_dialect path.now) }
+{
+    match PathType::derive(path) {
+        PathType::Unix => 0,
+        PathType::Windows => 1,
+    }
+}
+
+/// Whether a path leads to one place from every directory.
+#[unsafe(no_mangle)]
+pub extern "C" fn typed_path_is_absolute(dialect: u32, path: &[u8], answer: &mut bool) -> u32
+    ensures { Tells dialect (λ d. is_absolute d (kinds (parts_of d path.now))) answer.new result }
+{
+    match path_in(dialect, path) {
+        Some(path) => tell(path.is_absolute(), answer),
+        None => tell_none(answer),
+    }
+}
+
+/// Whether it begins with a root, written or implied by a prefix.
+#[unsafe(no_mangle)]
+pub extern "C" fn typed_path_has_root(dialect: u32, path: &[u8], answer: &mut bool) -> u32
+    ensures { Tells dialect (λ d. has_root d (kinds (parts_of d path.now))) answer.new result }
+{
+    match path_in(dialect, path) {
+        Some(path) => tell(path.has_root(), answer),
+        None => tell_none(answer),
+    }
+}
+
+/// Whether each name of it is allowed.
+#[unsafe(no_mangle)]
+pub extern "C" fn typed_path_is_valid(dialect: u32, path: &[u8], answer: &mut bool) -> u32
+    ensures { Tells dialect (λ d. is_valid d (kinds (parts_of d path.now))) answer.new result }
+{
+    match dialect {
+        0 => tell(is_valid::<UnixEncoding>(path), answer),
+        1 => tell(is_valid::<WindowsEncoding>(path), answer),
+        _ => tell_none(answer),
+    }
+}
+
+/// The same of a path of one encoding.
+fn is_valid<T: Encoding>(path: &[u8]) -> bool
+    ensures { result ≡ is_valid T.dialect (kinds (parts_of T.dialect path.now)) }
+{
+    Path::<T>::new(path).is_valid()
+}
+
+/// Whether every checked join onto it has its prefix.
+#[unsafe(no_mangle)]
+pub extern "C" fn typed_path_keeps_prefix(dialect: u32, path: &[u8], answer: &mut bool) -> u32
+    ensures { Tells dialect (λ d. keeps_prefix d path.now) answer.new result }
+{
+    match path_in(dialect, path) {
+        Some(path) => tell(path.keeps_prefix(), answer),
+        None => tell_none(answer),
+    }
+}
+
+/// Whether it begins with the components of a base.
+#[unsafe(no_mangle)]
+pub extern "C" fn typed_path_starts_with(
+    dialect: u32,
+    path: &[u8],
+    base: &[u8],
+    answer: &mut bool,
+) -> u32
+    ensures { Tells dialect (λ d. path_starts_with d path.now base.now) answer.new result }
+{
+    match path_in(dialect, path) {
+        Some(path) => tell(path.starts_with(base), answer),
+        None => tell_none(answer),
+    }
+}
+
+/// Whether it ends with the components of another.
+#[unsafe(no_mangle)]
+pub extern "C" fn typed_path_ends_with(
+    dialect: u32,
+    path: &[u8],
+    end: &[u8],
+    answer: &mut bool,
+) -> u32
+    ensures { Tells dialect (λ d. path_ends_with d path.now end.now) answer.new result }
+{
+    match path_in(dialect, path) {
+        Some(path) => tell(path.ends_with(end), answer),
+        None => tell_none(answer),
+    }
+}
+
+/// Whether it lies at a base or below it.
+#[unsafe(no_mangle)]
+pub extern "C" fn typed_path_is_within(
+    dialect: u32,
+    path: &[u8],
+    base: &[u8],
+    answer: &mut bool,
+) -> u32
+    ensures { Tells dialect (λ d. is_within d path.now base.now) answer.new result }
+{
+    match path_in(dialect, path) {
+        Some(path) => tell(path.is_within(base), answer),
+        None => tell_none(answer),
+    }
+}
+
+/// Whether two paths have the same components.
+#[unsafe(no_mangle)]
+pub extern "C" fn typed_path_equal(
+    dialect: u32,
+    path: &[u8],
+    other: &[u8],
+    answer: &mut bool,
+) -> u32
+    ensures { Tells dialect (λ d. is_same d path.now other.now) answer.new result }
+{
+    match dialect {
+        0 => tell(are_same::<UnixEncoding>(path, other), answer),
+        1 => tell(are_same::<WindowsEncoding>(path, other), answer),
+        _ => tell_none(answer),
+    }
+}
+
+/// The same of paths of one encoding.
+fn are_same<T: Encoding>(path: &[u8], other: &[u8]) -> bool
+    ensures { result ≡ is_same T.dialect path.now other.now }
+{
+    Path::<T>::new(path) == Path::new(other)
+}
+
+/// The order of two paths by their components.
+#[unsafe(no_mangle)]
+pub extern "C" fn typed_path_compare(
+    dialect: u32,
+    path: &[u8],
+    other: &[u8],
+    order: &mut i32,
+) -> u32
+    ensures { Orders dialect (λ d. path_cmp d path.now other.now) order.old order.new result }
+{
+    *order = match dialect {
+        0 => compared::<UnixEncoding>(path, other),
+        1 => compared::<WindowsEncoding>(path, other),
+        _ => return BAD_DIALECT,
+    };
+    DONE
+}
+
+/// The order of two paths of one encoding, as a number.
+fn compared<T: Encoding>(path: &[u8], other: &[u8]) -> i32
+    ensures { result ≡ order_number (path_cmp T.dialect path.now other.now) }
+{
+    match Path::<T>::new(path).cmp(&Path::new(other)) {
+        Ordering::Less => -1,
+        Ordering::Equal => 0,
+        Ordering::Greater => 1,
+    }
+}
+
+/// The hash of a path, which is one for equal paths.
+#[unsafe(no_mangle)]
+pub extern "C" fn typed_path_hash(dialect: u32, path: &[u8], hash: &mut u64) -> u32
+    ensures { Hashes dialect path.now hash.old hash.new result }
+{
+    *hash = match dialect {
+        0 => hash_of::<UnixEncoding>(path),
+        1 => hash_of::<WindowsEncoding>(path),
+        _ => return BAD_DIALECT,
+    };
+    DONE
+}
+
+/// The hash of a path of one encoding.
+fn hash_of<T: Encoding>(path: &[u8]) -> u64
+    ensures { result ≡ hash_of T.dialect path.now }
+{
+    let mut state = DefaultHasher::default();
+    Path::<T>::new(path).hash(&mut state);
+    state.finish()
+}

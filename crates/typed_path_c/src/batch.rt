@@ -1,0 +1,118 @@
+//! Checked joins of many names onto one base.
+
+ghost use Rattle.std.specs.Prelude.{◌≡◌, ◌≤◌, ◌<◌, ◌+◌, ◌++◌, ◌⊎◌, take, drop, length, IfOk, IfErr};
+ghost use Rattle.typed_path.specs.typed.{typed_dialect};
+ghost use Rattle.typed_path.specs.views.TypedViews.{typed_bytes};
+ghost use Rattle.typed_path_c.specs.Answers.{out_of_memory, too_small};
+ghost use Rattle.typed_path_c.specs.Batch.{name_answer, name_status, IsBatch, Batches};
+
+use crate::status::{BAD_DIALECT, BAD_ENDS, DONE, OUT_OF_MEMORY, TOO_SMALL, path_in, status_of};
+use std::alloc::Global;
+use typed_path::{PathError, TypedPath};
+
+/// Where the answer to a name ends, and its status.
+#[derive(Clone, Copy)]
+struct Joined {
+    end: usize,
+    status: u32,
+}
+
+/// Joins names onto a base, as many as there is room for, and puts the answers behind each other.
+#[unsafe(no_mangle)]
+pub extern "C" fn typed_path_join_checked_batch(
+    alloc: Global,
+    dialect: u32,
+    base: &[u8],
+    names: &[u8],
+    ends: &[usize],
+    out: &mut [u8],
+    out_ends: &mut [usize],
+    statuses: &mut [u32],
+    done: &mut usize,
+) -> u32
+    ensures { Batches dialect base.now names.now ends.now out.old out.new out_ends.old out_ends.new
+        statuses.old statuses.new done.new result }
+{
+    *done = 0;
+    match path_in(dialect, base) {
+        Some(base) => join_each(alloc, base, names, ends, out, out_ends, statuses, done),
+        None => BAD_DIALECT,
+    }
+}
+
+/// The same onto a path.
+fn join_each(
+    alloc: Global,
+    base: TypedPath<'_>,
+    names: &[u8],
+    ends: &[usize],
+    out: &mut [u8],
+    out_ends: &mut [usize],
+    statuses: &mut [u32],
+    done: &mut usize,
+) -> u32
+    requires { done.old ≡ 0 }
+    ensures { IsBatch (typed_dialect base.entry) (typed_bytes base.entry) names.now ends.now
+        out.old out.new out_ends.old out_ends.new statuses.old statuses.new done.new result }
+{
+    let mut start = 0;
+    let mut at = 0;
+    'names: while *done < ends.len() {
+        let end = ends[*done];
+        if end < start || names.len() < end {
+            return BAD_ENDS;
+        }
+        if out_ends.len() <= *done || statuses.len() <= *done {
+            return TOO_SMALL;
+        }
+        match join_one(alloc, base, &names[start..end], out, at) {
+            Ok(joined) => {
+                out_ends[*done] = joined.end;
+                statuses[*done] = joined.status;
+                at = joined.end;
+            }
+            Err(status) => return status,
+        }
+        *done += 1;
+        start = end;
+    }
+    DONE
+}
+
+/// Joins one name onto a path, and puts the answer behind the first bytes of a buffer.
+fn join_one(
+    alloc: Global,
+    base: TypedPath<'_>,
+    name: &[u8],
+    out: &mut [u8],
+    at: usize,
+) -> Result<Joined, u32>
+    requires { at ≤ length out.old }
+    ensures status { IfOk result (λ j. j.status ≡ name_status (typed_dialect base.entry) name.now) }
+    ensures end { IfOk result (λ j. j.end
+        ≡ at + length (name_answer (typed_dialect base.entry) (typed_bytes base.entry) name.now)) }
+    ensures within { IfOk result (λ j. j.end ≤ length out.old) }
+    ensures put { IfOk result (λ j. out.new ≡ take at out.old
+        ++ name_answer (typed_dialect base.entry) (typed_bytes base.entry) name.now
+        ++ drop j.end out.old) }
+    ensures kept { IfErr result (λ _. out.new ≡ out.old) }
+    ensures why { IfErr result (λ why. (why ≡ out_of_memory) ⊎ ((why ≡ too_small) × (length out.old
+        < at + length (name_answer (typed_dialect base.entry) (typed_bytes base.entry) name.now)))) }
+{
+    match base.join_checked(alloc, name) {
+        Ok(path) => {
+            let answer = path.as_bytes();
+            if out.len() - at < answer.len() {
+                return Err(TOO_SMALL);
+            }
+            let end = at + answer.len();
+            out[at..end].copy_from_slice(answer);
+            Ok(Joined { end, status: DONE })
+        }
+        Err(PathError::Checked(fault)) => Ok(Joined {
+            end: at,
+            status: status_of(fault),
+        }),
+        Err(PathError::OutOfMemory) => Err(OUT_OF_MEMORY),
+    }
+}

@@ -1,0 +1,218 @@
+//! Paths that are made of others, and put into a buffer of the caller.
+#![tactic(auto, using(typed_path::proofs::lemmas::texts::TextChanges::text_laws, typed_path::proofs::lemmas::texts::TextClean::clean_laws, typed_path::proofs::lemmas::texts::TextSteps::relative_laws, crate::proofs::Crossed::never_small, typed_path::proofs::lemmas::changes::Lengths::push_length, typed_path::proofs::lemmas::changes::Lengths::with_extension_length))]
+
+ghost use Rattle.std.specs.Prelude.{◌≡◌, ◌+◌, true, take, length};
+ghost use Rattle.std.specs.Str.{is_utf8};
+ghost use Rattle.typed_path.specs.changes.Push as push_spec;
+ghost use Rattle.typed_path.specs.changes.{with_file_name, with_extension};
+ghost use Rattle.typed_path.specs.places.{clean_text, normal_text};
+ghost use Rattle.typed_path_c.specs.Answers.{done, Makes, Joins, LiesIn, Leads, Converts, Crosses, Absolutizes, Suffices};
+
+use crate::status::{
+    BAD_DIALECT, path_in, put_absolute, put_checked, put_crossed, put_found, put_made,
+};
+use std::alloc::Global;
+use typed_path::PlatformPath;
+
+/// Puts a path with another pushed onto it.
+#[unsafe(no_mangle)]
+pub extern "C" fn typed_path_join(
+    alloc: Global,
+    dialect: u32,
+    path: &[u8],
+    other: &[u8],
+    out: &mut [u8],
+    len: &mut usize,
+) -> u32
+    ensures joined { Makes dialect (λ d. push_spec.push d path.now other.now)
+        out.old len.old out.new len.new result }
+    ensures fits { Suffices (length path.now + length other.now + 3) out.old result }
+    ensures text { is_utf8 path.now ≡ true → is_utf8 other.now ≡ true → result ≡ done
+        → is_utf8 (take len.new out.new) ≡ true }
+{
+    match path_in(dialect, path) {
+        Some(path) => put_made(path.join(alloc, other), out, len),
+        None => BAD_DIALECT,
+    }
+}
+
+/// Puts a path with another pushed onto it, unless that has a component that offends.
+#[unsafe(no_mangle)]
+pub extern "C" fn typed_path_join_checked(
+    alloc: Global,
+    dialect: u32,
+    path: &[u8],
+    other: &[u8],
+    out: &mut [u8],
+    len: &mut usize,
+) -> u32
+    ensures joined { Joins dialect path.now other.now out.old len.old out.new len.new result }
+    ensures contained { LiesIn dialect path.now other.now result out.new len.new }
+    ensures fits { Suffices (length path.now + length other.now + 3) out.old result }
+    ensures text { is_utf8 path.now ≡ true → is_utf8 other.now ≡ true → result ≡ done → is_utf8 (take len.new out.new) ≡ true }
+{
+    match path_in(dialect, path) {
+        Some(path) => put_checked(path.join_checked(alloc, other), out, len),
+        None => BAD_DIALECT,
+    }
+}
+
+/// Puts a path with another file name, or with the name pushed where it has none.
+#[unsafe(no_mangle)]
+pub extern "C" fn typed_path_with_file_name(
+    alloc: Global,
+    dialect: u32,
+    path: &[u8],
+    name: &[u8],
+    out: &mut [u8],
+    len: &mut usize,
+) -> u32
+    ensures named { Makes dialect (λ d. with_file_name d path.now name.now)
+        out.old len.old out.new len.new result }
+    ensures text { is_utf8 path.now ≡ true → is_utf8 name.now ≡ true → result ≡ done → is_utf8 (take len.new out.new) ≡ true }
+{
+    match path_in(dialect, path) {
+        Some(path) => put_made(path.with_file_name(alloc, name), out, len),
+        None => BAD_DIALECT,
+    }
+}
+
+/// Puts a path whose file name has another extension, or none where that is empty.
+#[unsafe(no_mangle)]
+pub extern "C" fn typed_path_with_extension(
+    alloc: Global,
+    dialect: u32,
+    path: &[u8],
+    extension: &[u8],
+    out: &mut [u8],
+    len: &mut usize,
+) -> u32
+    ensures extended { Makes dialect (λ d. with_extension d path.now extension.now)
+        out.old len.old out.new len.new result }
+    ensures fits { Suffices (length path.now + length extension.now + 1) out.old result }
+    ensures text { is_utf8 path.now ≡ true → is_utf8 extension.now ≡ true → result ≡ done → is_utf8 (take len.new out.new) ≡ true }
+{
+    match path_in(dialect, path) {
+        Some(path) => put_made(path.with_extension(alloc, extension), out, len),
+        None => BAD_DIALECT,
+    }
+}
+
+/// Puts a path without `.`, and without `..` and the names that these take away.
+#[unsafe(no_mangle)]
+pub extern "C" fn typed_path_normalize(
+    alloc: Global,
+    dialect: u32,
+    path: &[u8],
+    out: &mut [u8],
+    len: &mut usize,
+) -> u32
+    ensures normal { Makes dialect (λ d. normal_text d path.now) out.old len.old out.new len.new result }
+    ensures text { is_utf8 path.now ≡ true → result ≡ done → is_utf8 (take len.new out.new) ≡ true }
+{
+    match path_in(dialect, path) {
+        Some(path) => put_made(path.normalize(alloc), out, len),
+        None => BAD_DIALECT,
+    }
+}
+
+/// Puts a path without `.`, doubled separators and the names that a `..` takes away; one that finds no name
+/// stays where the path is relative.
+#[unsafe(no_mangle)]
+pub extern "C" fn typed_path_clean(
+    alloc: Global,
+    dialect: u32,
+    path: &[u8],
+    out: &mut [u8],
+    len: &mut usize,
+) -> u32
+    ensures clean { Makes dialect (λ d. clean_text d path.now) out.old len.old out.new len.new result }
+    ensures text { is_utf8 path.now ≡ true → result ≡ done → is_utf8 (take len.new out.new) ≡ true }
+{
+    match path_in(dialect, path) {
+        Some(path) => put_made(path.clean(alloc), out, len),
+        None => BAD_DIALECT,
+    }
+}
+
+/// Puts the relative path that leads from a base to a path.
+#[unsafe(no_mangle)]
+pub extern "C" fn typed_path_relative_to(
+    alloc: Global,
+    dialect: u32,
+    path: &[u8],
+    base: &[u8],
+    out: &mut [u8],
+    len: &mut usize,
+) -> u32
+    ensures leads { Leads dialect path.now base.now out.old len.old out.new len.new result }
+    ensures text { is_utf8 path.now ≡ true → is_utf8 base.now ≡ true → result ≡ done → is_utf8 (take len.new out.new) ≡ true }
+{
+    match path_in(dialect, path) {
+        Some(path) => put_found(path.relative_to(alloc, base), out, len),
+        None => BAD_DIALECT,
+    }
+}
+
+/// Puts a path as it is written in another dialect.
+#[unsafe(no_mangle)]
+pub extern "C" fn typed_path_convert(
+    alloc: Global,
+    dialect: u32,
+    path: &[u8],
+    other: u32,
+    out: &mut [u8],
+    len: &mut usize,
+) -> u32
+    ensures converted { Converts dialect other path.now out.old len.old out.new len.new result }
+    ensures text { is_utf8 path.now ≡ true → result ≡ done → is_utf8 (take len.new out.new) ≡ true }
+{
+    match (path_in(dialect, path), other) {
+        (Some(path), 0) => put_made(path.with_unix_encoding(alloc), out, len),
+        (Some(path), 1) => put_made(path.with_windows_encoding(alloc), out, len),
+        _ => BAD_DIALECT,
+    }
+}
+
+/// The same, unless a component is refused there.
+#[unsafe(no_mangle)]
+pub extern "C" fn typed_path_convert_checked(
+    alloc: Global,
+    dialect: u32,
+    path: &[u8],
+    other: u32,
+    out: &mut [u8],
+    len: &mut usize,
+) -> u32
+    ensures converted { Crosses dialect other path.now out.old len.old out.new len.new result }
+    ensures text { is_utf8 path.now ≡ true → result ≡ done → is_utf8 (take len.new out.new) ≡ true }
+{
+    match (path_in(dialect, path), other) {
+        (Some(path), 0) => put_crossed(path.with_unix_encoding_checked(alloc), out, len),
+        (Some(path), 1) => put_crossed(path.with_windows_encoding_checked(alloc), out, len),
+        _ => BAD_DIALECT,
+    }
+}
+
+/// Puts the normal text of a path, from a directory of Unix where it is not absolute.
+#[unsafe(no_mangle)]
+pub extern "C" fn typed_path_absolutize(
+    alloc: Global,
+    dialect: u32,
+    path: &[u8],
+    directory: &[u8],
+    out: &mut [u8],
+    len: &mut usize,
+) -> u32
+    ensures absolute { Absolutizes dialect directory.now path.now out.old len.old out.new len.new result }
+    ensures text { is_utf8 path.now ≡ true → is_utf8 directory.now ≡ true → result ≡ done → is_utf8 (take len.new out.new) ≡ true }
+{
+    match path_in(dialect, path) {
+        Some(path) => put_absolute(
+            path.absolutize(alloc, PlatformPath::new(directory)),
+            out,
+            len,
+        ),
+        None => BAD_DIALECT,
+    }
+}
