@@ -44,10 +44,6 @@ macro_rules! free {
         let listed = number_of!($lent.iter()) == count;
         let climbed = number_of!($lent.ancestors()) == above_count;
         let derived = PathType::derive(base.as_bytes()) == kind;
-        let kept = $lent.keeps_prefix();
-        let within = $lent.is_within($whole);
-        let shared = $lent.common_ancestor($whole) == Some($lent);
-        let apart = matches!($lent.relative_to($alloc, $parent), Ok(None));
         let joined = $lent.join_checked($alloc, $parent).err() == Some(ESCAPES);
         let pushed = $path.push_checked($parent) == Err(ESCAPES) && $bytes == base.as_bytes();
         let reserved = $path.reserve(usize::MAX).is_err() && $bytes == base.as_bytes();
@@ -69,10 +65,6 @@ macro_rules! free {
             ("iter", Ended::done(listed, base)),
             ("ancestors", Ended::done(climbed, base)),
             ("derive", Ended::done(derived, base)),
-            ("keeps_prefix", Ended::done(kept, base)),
-            ("is_within", Ended::done(within, base)),
-            ("common_ancestor", Ended::done(shared, base)),
-            ("relative_to what is apart", Ended::done(apart, base)),
             ("join_checked of a parent", Ended::done(joined, base)),
             ("push_checked of a parent", Ended::done(pushed, base)),
             ("reserve of too much", Ended::done(reserved, base)),
@@ -87,6 +79,23 @@ macro_rules! free {
             ("from_value of no text", Ended::done(refused, base)),
         ];
         tell_all($rt, $family, &told)
+    }};
+}
+
+/// How questions ended of a base, alone and beside itself and its parent.
+macro_rules! asked {
+    ($lent:expr, $alloc:expr, $parent:expr, $whole:expr, $base:expr) => {{
+        let (base, _, _, _, _) = $base;
+        let kept = $lent.keeps_prefix();
+        let within = $lent.is_within($whole);
+        let shared = $lent.common_ancestor($whole) == Some($lent);
+        let apart = matches!($lent.relative_to($alloc, $parent), Ok(None));
+        [
+            ("keeps_prefix", Ended::done(kept, base)),
+            ("is_within", Ended::done(within, base)),
+            ("common_ancestor", Ended::done(shared, base)),
+            ("relative_to what is apart", Ended::done(apart, base)),
+        ]
     }};
 }
 
@@ -126,6 +135,18 @@ macro_rules! taken_out {
     }};
 }
 
+/// Tells such questions of a path of bytes.
+fn asked_bytes<T: Encoding>(
+    rt: &impl Print,
+    alloc: Global,
+    family: &str,
+    base: Base,
+) -> io::Result<()> {
+    let lent = Path::<T>::new(base.0.as_bytes());
+    let told = asked!(lent, alloc, Path::new(b".."), lent, base);
+    tell_all(rt, family, &told)
+}
+
 /// Tells such calls of a path of bytes.
 pub fn free_bytes<T: Encoding>(
     rt: &impl Print,
@@ -133,6 +154,7 @@ pub fn free_bytes<T: Encoding>(
     family: &str,
     base: Base,
 ) -> io::Result<()> {
+    asked_bytes::<T>(rt, alloc, family, base)?;
     let (lent, parent) = (Path::<T>::new(base.0.as_bytes()), Path::new(b".."));
     let (owned, new) = (
         PathBuf::<T>::from_str(alloc, base.0),
@@ -143,6 +165,29 @@ pub fn free_bytes<T: Encoding>(
     tell_all(rt, family, &told)
 }
 
+/// Tells such questions of a path of text.
+fn asked_text<T: Utf8Encoding>(
+    rt: &impl Print,
+    alloc: Global,
+    family: &str,
+    base: Base,
+) -> io::Result<()> {
+    let lent = Utf8Path::<T>::new(base.0);
+    let told = asked!(lent, alloc, Utf8Path::new(".."), lent, base);
+    tell_all(rt, family, &told)
+}
+
+/// How a path of text ended that became one of bytes, and came back.
+fn there_and_back<T: Utf8Encoding>(alloc: Global, base: &'static str) -> Ended {
+    match Utf8PathBuf::<T>::from_str(alloc, base) {
+        Ok(path) => match Utf8PathBuf::<T>::from_bytes_path_buf(path.into_bytes_path_buf()) {
+            Ok(path) => Ended::done(path.as_path().as_str() == base, base),
+            Err(_) => Ended::Wrong(base),
+        },
+        Err(_) => Ended::Refused,
+    }
+}
+
 /// Tells such calls of a path of text.
 pub fn free_text<T: Utf8Encoding>(
     rt: &impl Print,
@@ -150,24 +195,27 @@ pub fn free_text<T: Utf8Encoding>(
     family: &str,
     base: Base,
 ) -> io::Result<()> {
+    asked_text::<T>(rt, alloc, family, base)?;
     let (lent, parent) = (Utf8Path::<T>::new(base.0), Utf8Path::new(".."));
     let (owned, new) = (
         Utf8PathBuf::<T>::from_str(alloc, base.0),
         Utf8PathBuf::<T>::new(alloc),
     );
     free!(rt, family, lent, new, owned, path: Utf8PathBuf<T> => path.as_path().as_str().as_bytes(), into_string.as_bytes, alloc, parent, lent, base)?;
-    let there_and_back = match Utf8PathBuf::<T>::from_str(alloc, base.0) {
-        Ok(path) => match Utf8PathBuf::<T>::from_bytes_path_buf(path.into_bytes_path_buf()) {
-            Ok(path) => Ended::done(path.as_path().as_str() == base.0, base.0),
-            Err(_) => Ended::Wrong(base.0),
-        },
-        Err(_) => Ended::Refused,
-    };
-    tell(rt, family, "into_bytes_path_buf and back", there_and_back)
+    let ended = there_and_back::<T>(alloc, base.0);
+    tell(rt, family, "into_bytes_path_buf and back", ended)
+}
+
+/// Tells such questions of a path of either dialect.
+fn asked_typed(rt: &impl Print, alloc: Global, family: &str, base: Base) -> io::Result<()> {
+    let lent = TypedPath::derive(base.0.as_bytes());
+    let told = asked!(lent, alloc, b"..", base.0.as_bytes(), base);
+    tell_all(rt, family, &told)
 }
 
 /// Tells such calls of a path of either dialect.
 pub fn free_typed(rt: &impl Print, alloc: Global, family: &str, base: Base) -> io::Result<()> {
+    asked_typed(rt, alloc, family, base)?;
     let lent = TypedPath::derive(base.0.as_bytes());
     let new = TypedPathBuf::new(alloc, base.4);
     free!(rt, family, lent, new, lent.to_path_buf(alloc), path: TypedPathBuf => path.as_bytes(), into_vec.as_slice, alloc, b"..", base.0.as_bytes(), base)?;
@@ -178,8 +226,16 @@ pub fn free_typed(rt: &impl Print, alloc: Global, family: &str, base: Base) -> i
     tell(rt, family, "try_from", taken)
 }
 
+/// Tells such questions of a path of text of either dialect.
+fn asked_typed_text(rt: &impl Print, alloc: Global, family: &str, base: Base) -> io::Result<()> {
+    let lent = Utf8TypedPath::derive(base.0);
+    let told = asked!(lent, alloc, "..", base.0, base);
+    tell_all(rt, family, &told)
+}
+
 /// Tells such calls of a path of text of either dialect.
 pub fn free_typed_text(rt: &impl Print, alloc: Global, family: &str, base: Base) -> io::Result<()> {
+    asked_typed_text(rt, alloc, family, base)?;
     let lent = Utf8TypedPath::derive(base.0);
     let new = Utf8TypedPathBuf::new(alloc, base.4);
     free!(rt, family, lent, new, lent.to_path_buf(alloc), path: Utf8TypedPathBuf => path.as_str().as_bytes(), into_string.as_bytes, alloc, "..", base.0, base)?;
