@@ -31,7 +31,7 @@ backs-replicate zero = refl
 backs-replicate (suc k) = backs-replicate k
 
 -- one more step from the front
-slice_after-more : (k : ℕ) (cs : List Placed) (slice : List ℕ) → slice_after cs slice (replicate (suc k) front) ≡ slice_after_front (drop k cs) (slice_after cs slice (replicate k front))
+pub slice_after-more : (k : ℕ) (cs : List Placed) (slice : List ℕ) → slice_after cs slice (replicate (suc k) front) ≡ slice_after_front (drop k cs) (slice_after cs slice (replicate k front))
 slice_after-more zero cs slice = refl
 slice_after-more (suc k) cs slice =
     let next : 1 + k ≡ suc k = omega arith in
@@ -39,7 +39,7 @@ slice_after-more (suc k) cs slice =
     ∙ ap (λ ds. slice_after_front ds (slice_after cs slice (replicate (suc k) front))) (drop-drop k 1 cs ∙ ap (λ n. drop n cs) next)
 
 -- the slice left behind the first components
-left-fronts : (d : Dialect) (t : List ℕ) (k : ℕ) → k ≤ length (comps d t) → slice_after (comps d t) t (replicate k front) ≡ left (comps d t) t k 0
+pub left-fronts : (d : Dialect) (t : List ℕ) (k : ℕ) → k ≤ length (comps d t) → slice_after (comps d t) t (replicate k front) ≡ left (comps d t) t k 0
 left-fronts d t k within =
     let f = fronts-replicate k in
     let b = backs-replicate k in

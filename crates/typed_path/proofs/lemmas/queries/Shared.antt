@@ -11,30 +11,8 @@ use Rattle.typed_path.specs.components.{Dialect, Part, Placed, parts, texts, com
 use Rattle.typed_path.specs.scan.{front, left, start_at, end_at, slice_after_front, slice_after, fronts, backs, IsLaidOut, first_part}
 use Rattle.typed_path.specs.queries.{shared_count, end_of_first, shared_end}
 use Rattle.typed_path.proofs.lemmas.components.Cuts.{comps-laid_out, ends-within, start-end}
+use Rattle.typed_path.proofs.lemmas.queries.Bases.{slice_after-more, left-fronts}
 use Rattle.typed_path.proofs.lemmas.scan.Readings.{left-all, left-front, left-taken, stepwise_slices}
-
-fronts-replicate : (k : ℕ) → fronts (replicate k front) ≡ k
-fronts-replicate zero = refl
-fronts-replicate (suc k) = ap (λ n. 1 + n) (fronts-replicate k) ∙ omega arith
-
-backs-replicate : (k : ℕ) → backs (replicate k front) ≡ 0
-backs-replicate zero = refl
-backs-replicate (suc k) = backs-replicate k
-
--- one more step from the front
-slice_after-more : (k : ℕ) (cs : List Placed) (slice : List ℕ) → slice_after cs slice (replicate (suc k) front) ≡ slice_after_front (drop k cs) (slice_after cs slice (replicate k front))
-slice_after-more zero cs slice = refl
-slice_after-more (suc k) cs slice =
-    let next : 1 + k ≡ suc k = omega arith in
-    slice_after-more k (drop 1 cs) (slice_after_front cs slice)
-    ∙ ap (λ ds. slice_after_front ds (slice_after cs slice (replicate (suc k) front))) (drop-drop k 1 cs ∙ ap (λ n. drop n cs) next)
-
--- the slice left behind the first components
-left-fronts : (d : Dialect) (t : List ℕ) (k : ℕ) → k ≤ length (comps d t) → slice_after (comps d t) t (replicate k front) ≡ left (comps d t) t k 0
-left-fronts d t k within =
-    let f = fronts-replicate k in
-    let b = backs-replicate k in
-    stepwise_slices (comps d t) t (replicate k front) (comps-laid_out d t) (omega arith) ∙ ap (λ n. left (comps d t) t n (backs (replicate k front))) f ∙ ap (left (comps d t) t k) b
 
 -- it is no longer than the text
 left-fits : (cs : List Placed) (t : List ℕ) (k : ℕ) → k ≤ length cs → length (left cs t k 0) ≤ length t
