@@ -23,7 +23,7 @@ pub(crate) use order::{
 };
 pub use path::Path;
 pub use path_buf::PathBuf;
-pub(crate) use rows::{put_kept, put_names};
+pub(crate) use rows::{put_kept_by_slashes, put_names};
 pub use texts::Display;
 pub use writing::{
     append_first, before_dot, behind_segment, cut_back, drop_name, drop_separator, has_room,

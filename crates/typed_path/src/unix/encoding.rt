@@ -6,7 +6,9 @@ ghost use Rattle.typed_path.specs.components.{unix, slash};
 ghost use Rattle.typed_path.specs.changes.{push_unix, ended_with, FitsPush};
 ghost use Rattle.typed_path.specs.places.{normal_text, IsParted};
 
-use crate::common::{Encoding, compare_texts, cut_back, drop_separator, put_kept, put_over};
+use crate::common::{
+    Encoding, compare_texts, cut_back, drop_separator, put_kept_by_slashes, put_over,
+};
 use crate::errors::CheckedPathError;
 use crate::scan::{
     Cursor, Piece, Separators, are_apart, base_end, end_behind, first_difference,
@@ -215,7 +217,7 @@ fn put_rows(text: &mut Vec<u8>, path: &[u8]) -> Result<(), AllocError>
     let (root, rest) = split_root(path);
     text.extend_from_slice(root)?;
     let len = text.len();
-    put_kept(text, rest, Separators::Slash, true)?;
+    put_kept_by_slashes(text, rest)?;
     drop_separator(text, len);
     Ok(())
 }

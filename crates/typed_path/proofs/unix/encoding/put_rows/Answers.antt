@@ -14,7 +14,7 @@ returns-clause-ok c =
     let head = before ++ root in
     let begun = c.in_ok-extend_from_slice.ensures.items in
     let size : length head ≡ c.len-len.result = omega (arith, c.len-len.ensures, c.extend_from_slice.new.self.ok, ap length begun) in
-    let text = c.in_ok-put_kept.ensures.ok ∙ ap₂ (λ t names. t ++ rows names) begun (sym (settled-kept (pieces Slash rest) [])) in
+    let text = c.in_ok-put_kept_by_slashes.ensures.ok ∙ ap₂ (λ t names. t ++ rows names) begun (sym (settled-kept (pieces Slash rest) [])) in
     parted-end c.args.path.now before root rest _ _ c.split_root.ensures text
     (λ more. c.drop_separator.ensures.named (omega (arith, size, more)))
     (λ fits. c.drop_separator.ensures.alone (omega (arith, size, fits)))
