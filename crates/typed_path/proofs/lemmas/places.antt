@@ -10,6 +10,7 @@
 -- SharedFromBack: how many first names two lists share, told from the back
 -- TakenNames: names that are taken off the end of a list one after another, whether they can stand, and the rows that they make from their ends
 -- Reached: whether a path is reached from a base, by how many steps, and what room these take
+-- StandingNames: names that are read between separators of which `/` is one, which hold none
 pub mod Resolving
 pub mod UnixRows
 pub mod WindowsRows
@@ -21,3 +22,4 @@ pub mod CleanTexts
 pub mod SharedFromBack
 pub mod TakenNames
 pub mod Reached
+pub mod StandingNames

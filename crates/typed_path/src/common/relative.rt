@@ -68,7 +68,7 @@ fn steps_between(own: Cursor<'_>, other: Cursor<'_>) -> Option<Steps>
     }
     let met = met_count(own.body(), other.body(), lead, start);
     let down = lead.names - met;
-    if !can_stand(own.body(), down) {
+    if !all_stand(own.body(), down) {
         return None;
     }
     Some(Steps {
@@ -159,7 +159,22 @@ fn skip(rest: &mut Body<'_>, owed: &mut usize, count: usize)
     }
 }
 
-/// Whether so many of the last names that are kept hold no `/`.
+/// Whether so many of the last names that are kept hold no `/`. None does where that separates.
+#[tactic(auto, using(crate::proofs::lemmas::places::StandingNames::plain_stand))]
+fn all_stand(rest: Body<'_>, count: usize) -> bool
+    requires fits { length (body_items rest) < 2 ^ 64 }
+    requires count { count ≤ length (kept_names (kinds (parts (body_items rest)))) }
+    ensures { result ≡ can_stand (drop
+        (length (kept_names (kinds (parts (body_items rest.entry)))) - count)
+        (kept_names (kinds (parts (body_items rest.entry))))) }
+{
+    if !rest.separators.is_verbatim() {
+        return true;
+    }
+    can_stand(rest, count)
+}
+
+/// The same, read name by name.
 fn can_stand(mut rest: Body<'_>, count: usize) -> bool
     requires fits { length (body_items rest) < 2 ^ 64 }
     requires count { count ≤ length (kept_names (kinds (parts (body_items rest)))) }
