@@ -4,6 +4,7 @@ mod clean;
 mod component;
 mod components;
 mod encoding;
+mod near;
 mod order;
 mod path;
 mod path_buf;

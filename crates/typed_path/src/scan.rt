@@ -13,11 +13,11 @@ pub use blanks::{before_last_separator, begins_with_long_name, has_no_blank_behi
 pub use cursor::{Begin, Body, Cursor, Span};
 pub use cut::{
     are_apart, base_end, bodies_behind_shared, cut_at, cut_at_separator, end_behind,
-    have_other_fronts, order_behind, order_of_beginning, order_of_fronts, text_behind,
-    texts_behind,
+    have_other_fronts, order_behind, order_of_beginning, order_of_fronts, rests_behind_shared,
+    text_behind, texts_behind,
 };
 pub use lanes::{first_between, first_difference, has_no_nul_or_dot_pair};
-pub use names::{has_only_names, leading_short_names};
+pub use names::{has_only_names, leading_names, leading_short_names};
 pub use prefix::{
     Found, WindowsPrefix, after_mark, begins_with_two, byte_behind_two, drive, find_prefix,
     keeps_prefix, parted_drive,

@@ -11,6 +11,7 @@
 -- TakenNames: names that are taken off the end of a list one after another, whether they can stand, and the rows that they make from their ends
 -- Reached: whether a path is reached from a base, by how many steps, and what room these take
 -- StandingNames: names that are read between separators of which `/` is one, which hold none
+-- NearSteps: the steps between two texts that go on with names alone behind the components that both begin with, and how they are written
 pub mod Resolving
 pub mod UnixRows
 pub mod WindowsRows
@@ -23,3 +24,4 @@ pub mod SharedFromBack
 pub mod TakenNames
 pub mod Reached
 pub mod StandingNames
+pub mod NearSteps

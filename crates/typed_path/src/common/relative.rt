@@ -13,6 +13,7 @@ ghost use Rattle.typed_path.specs.views.CursorViews.{items_left};
 
 use crate::common::clean::put_apart;
 use crate::common::encoding::Encoding;
+use crate::common::near::{bare_separators, relative_by_bytes};
 use crate::common::order::have_same_prefixes;
 use crate::common::path_buf::PathBuf;
 use crate::common::rows::row_end;
@@ -24,6 +25,22 @@ use std::alloc::{AllocError, Global};
 /// The path that leads from a base to a path, where there is one. It is written into room that is asked
 /// for once.
 pub(crate) fn relative_to<T: Encoding>(
+    alloc: Global,
+    path: &[u8],
+    base: &[u8],
+) -> Result<Option<PathBuf<T>>, AllocError>
+    ensures bytes { IfOk result (λ found. option_map (λ p. p.bytes) found
+        ≡ relative_text T.dialect path.now base.now) }
+    ensures free { relative_text T.dialect path.now base.now ≡ None → IsOk result }
+{
+    if let Some(told) = relative_by_bytes::<T>(alloc, path, base)? {
+        return Ok(Some(told));
+    }
+    relative_by_components(alloc, path, base)
+}
+
+/// The same, read component by component.
+fn relative_by_components<T: Encoding>(
     alloc: Global,
     path: &[u8],
     base: &[u8],
@@ -220,18 +237,6 @@ fn put_steps<T: Encoding>(text: &mut Vec<u8>, path: &[u8], steps: Steps) -> Resu
     text.reverse();
     drop_separator(text, 0);
     put_apart(text, 0, separators)
-}
-
-/// The separators of a text without a prefix.
-#[inline(always)]
-fn bare_separators<T: Encoding>() -> Separators
-    ensures { result ≡ bare_separators T.dialect }
-{
-    if T::root_text() == b"/".as_slice() {
-        Separators::Slash
-    } else {
-        Separators::Either
-    }
 }
 
 /// Puts so many of the last names that are kept into an empty text, the last one first, each behind a

@@ -171,7 +171,7 @@ pub fn put_names<'a>(
 
 /// Puts a text behind another, each of its separators written as the one that is written behind a segment.
 #[inline(always)]
-fn put_turned_where(
+pub(crate) fn put_turned_where(
     text: &mut Vec<u8>,
     source: &[u8],
     separators: Separators,
@@ -229,7 +229,7 @@ fn put_segment(
 
 /// Puts the first bytes of a text behind another, with a separator behind them.
 #[inline(always)]
-fn put_row(
+pub(crate) fn put_row(
     text: &mut Vec<u8>,
     rest: &[u8],
     len: usize,

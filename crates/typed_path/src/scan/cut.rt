@@ -9,6 +9,7 @@ ghost use Rattle.typed_path.specs.components.{is_separator, is_dot, body, later_
 ghost use Rattle.typed_path.specs.scan.{is_clean, begins_with_name, tells_name, dots_rank, IsParting, PartWithinNames, PartAt};
 ghost use Rattle.typed_path.specs.declared.scan.cursor.Begin.{Begin};
 ghost use Rattle.typed_path.specs.order.{left_cmp, bytes_cmp};
+ghost use Rattle.typed_path.specs.places.{PartInto};
 ghost use Rattle.typed_path.specs.views.BodyViews.{body_items};
 
 use crate::scan::cursor::Body;
@@ -398,6 +399,65 @@ pub fn order_of_beginning(
         return Some(order_of_longer(other, text, separators)?.reverse());
     }
     None
+}
+
+/// What two texts hold behind components that both begin with, where their bytes tell: behind the one, where the
+/// other begins with it, or behind the last separator that both begin with, where the segments there part. None says
+/// nothing.
+#[inline(always)]
+pub fn rests_behind_shared<'a>(
+    text: &'a [u8],
+    other: &'a [u8],
+    separators: Separators,
+) -> Option<(&'a [u8], &'a [u8])>
+    ensures { IfSome result
+        (λ rests. PartInto separators text.now other.now rests.0.now rests.1.now) }
+{
+    let shared = first_difference(text, other);
+    if shared == other.len() {
+        if let Some(rest) = rest_behind(text, other, separators) {
+            return Some((rest, b"".as_slice()));
+        }
+    }
+    if shared == text.len() {
+        if let Some(rest) = rest_behind(other, text, separators) {
+            return Some((b"".as_slice(), rest));
+        }
+    }
+    rests_parted(text, other, shared, separators)
+}
+
+/// What stands behind the beginning of a text and the blanks there, where no component reaches over its end. None
+/// says nothing.
+#[inline(always)]
+fn rest_behind<'a>(text: &'a [u8], beginning: &[u8], separators: Separators) -> Option<&'a [u8]>
+    requires begins { take (length beginning.now) text.now ≡ beginning.now }
+    requires long { length beginning.now ≤ length text.now }
+    ensures longer { IfSome result
+        (λ rest. PartInto separators text.now beginning.now rest.now []) }
+    ensures shorter { IfSome result
+        (λ rest. PartInto separators beginning.now text.now [] rest.now) }
+{
+    let end = end_behind(text, beginning, separators)?;
+    Some(&text[end..])
+}
+
+/// What two texts hold behind the last separator that both begin with, where the segments there part. None says
+/// nothing. It is told how many bytes the two begin with.
+#[inline(always)]
+fn rests_parted<'a>(
+    text: &'a [u8],
+    other: &'a [u8],
+    shared: usize,
+    separators: Separators,
+) -> Option<(&'a [u8], &'a [u8])>
+    requires { PartAt text.now other.now shared }
+    ensures { IfSome result
+        (λ rests. PartInto separators text.now other.now rests.0.now rests.1.now) }
+{
+    let _order = order_of_ends(&text[shared..], &other[shared..], separators)?;
+    let start = last_start(&text[..shared], separators);
+    Some((&text[start..], &other[start..]))
 }
 
 /// Whether the bytes of two texts tell that they differ in a component in one place: in a name, in their first

@@ -212,10 +212,10 @@ module _ (s : Separators) (t u : List ℕ) (k n : ℕ) (parted : IsParting s t u
   last_other : (j : ℕ) → n ≡ suc j → is_separator s (get_or u j 0) ≡ true
   last_other j e = ap (is_separator s) (sym (same-byte (get_or t j 0) (get_or u j 0) (parted.0.before j (omega arith) (omega (arith, e, low))))) ∙ last_own j e
 
-  own-at : (j : ℕ) → n ≡ suc j → body s 0 t ≡ body s 0 (take n t) ++ later_body s n (drop n t)
+  pub own-at : (j : ℕ) → n ≡ suc j → body s 0 t ≡ body s 0 (take n t) ++ later_body s n (drop n t)
   own-at j e = split t j (omega (arith, e)) (omega (arith, fits, low)) (last_own j e)
 
-  other-at : (j : ℕ) → n ≡ suc j → body s 0 u ≡ body s 0 (take n t) ++ later_body s n (drop n u)
+  pub other-at : (j : ℕ) → n ≡ suc j → body s 0 u ≡ body s 0 (take n t) ++ later_body s n (drop n u)
   other-at j e =
       split u j (omega (arith, e)) (omega (arith, fits', low)) (last_other j e)
       ∙ ap (λ x. body s 0 x ++ later_body s n (drop n u)) (take-front u fits' ∙ ap (take n) (sym same) ∙ sym (take-front t fits))

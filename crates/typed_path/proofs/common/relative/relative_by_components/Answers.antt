@@ -4,7 +4,7 @@ use Rattle.typed_path.specs.places.{kept_names, relative_by, steps_text}
 use Rattle.typed_path.specs.views.CursorViews.{items_left}
 use Rattle.typed_path.proofs.lemmas.components.Cuts.{comps-count}
 use Rattle.typed_path.proofs.lemmas.places.Reached.{reached-text, steps-some, unreached-text}
-use Rattle.typed_path.proofs.common.relative.relative_to.Goals as goal
+use Rattle.typed_path.proofs.common.relative.relative_by_components.Goals as goal
 
 pub steps_between-requires : goal.steps_between-requires
 steps_between-requires g c =

@@ -1,0 +1,11 @@
+use Rattle.std.proofs.Common.{length, ap, arith}
+use Rattle.typed_path.proofs.common.near.count_ends.Goals as goal
+
+pub ends-preserved : goal.ends-preserved
+ends-preserved c = record {
+  sum = omega (arith, c.ends.invariant.sum, ap length c.in-Some.ensures.pieces);
+  within = omega (arith, c.ends.invariant.within, c.in-Some.ensures.sizes);
+}
+
+pub returns-clause-count : goal.returns-clause-count
+returns-clause-count c = omega (arith, c.ends.invariant.sum, ap length c.in_default.ensures.pieces)

@@ -1,0 +1,300 @@
+-- Two texts that go on with names alone behind the components that both begin with: the steps from one to the other, and how they are written.
+use Rattle.std.proofs.Common.{◌≡◌, ℕ, zero, suc, ◌+◌, ◌-◌, ◌<◌, ◌≤◌, ◌==◌, ◌||◌, ◌&&◌, Bool, true, false, not, cond, List, [], ◌∷◌, ◌++◌, map, if◌then◌else◌, length, take, drop, All, refl, sym, ap, ap₂, subst, ◌∙◌, append_assoc, append-nil, arith, inl, inr, get_or, take_all, length-append, nat_le, add-one, Ordering, Less, Equal, Greater, Some, None}
+use Rattle.std.specs.List.{AllByRecursion, list_all, slice_split, before_first, position_or_len}
+use Rattle.std.specs.Ordering.{is_ne}
+use Rattle.std.specs.Str.{bytes_eq}
+use Rattle.std.specs.Cmp.Lexicographic.{bytes_decides, nat_list_cmp_total}
+use Rattle.std.proofs.lemmas.Bool.{and_parts, cases_lt, eq-eqb}
+use Rattle.std.proofs.lemmas.Cmp.{tied_itself}
+use Rattle.std.proofs.lemmas.List.{append_cancel_right, drop_at, map-append}
+use Rattle.std.proofs.lemmas.List.Splits.{slice_split_none, slice_split_first}
+use Rattle.std.proofs.lemmas.List.Sums.{fails_before_first}
+use Rattle.typed_path.specs.declared.scan.separators.Separators.{Separators}
+use Rattle.typed_path.specs.components.{Dialect, unix, windows, dot, is_separator, is_verbatim, is_empty, is_dot, is_dot_dot, Kind, normal, Part, Placed, kinds, parts, body, later_body, current_part, parent_part, name_part}
+use Rattle.typed_path.specs.changes.{is_name_piece}
+use Rattle.typed_path.specs.order.{bytes_cmp, are_same_prefixes}
+use Rattle.typed_path.specs.queries.{first_prefix}
+use Rattle.typed_path.specs.scan.{IsParting, turned}
+use Rattle.typed_path.specs.places.{AreAlone, AreNearSteps, PartInNames, PartInto, bare_separators, can_stand, dots, is_anchored, is_reached, kept_names, met_count, names_down, relative_by, rising, row_end, rows_of, same_heads, shared_count, steps_text, steps_up, unmet}
+use Rattle.typed_path.proofs.lemmas.lists.Lists.{IsUnseparated, slice_split-unseparated}
+use Rattle.typed_path.proofs.lemmas.components.Segments.{body_parts, first_part, first_parts, later_part, later_parts, parts-body, parts-later_body, pieces}
+use Rattle.typed_path.proofs.lemmas.conversions.TurnedPaths.{pieces-turned}
+use Rattle.typed_path.proofs.lemmas.order.SharedNames.{ends-order, other-at, own-at}
+use Rattle.typed_path.proofs.lemmas.places.CleanRows.{kept-names, unmet-names}
+use Rattle.typed_path.proofs.lemmas.places.KeptNames.{kept_names-append, unmet-append}
+use Rattle.typed_path.proofs.lemmas.places.StandingNames.{open-stand}
+use Rattle.typed_path.proofs.lemmas.places.UnixRows.{all-front, rows-append}
+
+-- A text that is names alone.
+
+named-later : (s : Separators) (piece : List ℕ) → is_name_piece piece ≡ true → later_part s piece ≡ name_part piece ∷ []
+named-later s piece h = by (is_empty piece) (is_dot piece) (is_dot_dot piece) (if is_verbatim s then current_part ∷ [] else []) h
+  where
+    by : (e d dd : Bool) (dotting : List Part) → not (e || d || dd) ≡ true → cond e [] (cond d dotting (cond dd parent_part (name_part piece) ∷ [])) ≡ name_part piece ∷ []
+    by false false false dotting h = refl
+    by false false true dotting h = cc
+    by false true dd dotting h = cc
+    by true d dd dotting h = cc
+
+named-first : (s : Separators) (piece : List ℕ) (rooting : Part) → is_name_piece piece ≡ true → cond (length piece == 0) rooting (cond (is_dot piece) current_part (cond (is_dot_dot piece) parent_part (name_part piece))) ≡ name_part piece
+named-first s piece rooting h = by (is_empty piece) (is_dot piece) (is_dot_dot piece) h
+  where
+    by : (e d dd : Bool) → not (e || d || dd) ≡ true → cond e rooting (cond d current_part (cond dd parent_part (name_part piece))) ≡ name_part piece
+    by false false false h = refl
+    by false false true h = cc
+    by false true dd h = cc
+    by true d dd h = cc
+
+-- the piece behind a separator at the end
+abbrev ending : Bool → List (List ℕ)
+ending ended = if ended then [] ∷ [] else []
+
+none-ending : (s : Separators) (ended : Bool) → later_parts s (ending ended) ≡ []
+none-ending s true = refl
+none-ending s false = refl
+
+later-names : (s : Separators) (ended : Bool) (names : List (List ℕ)) → list_all is_name_piece names ≡ true → kinds (later_parts s (names ++ ending ended)) ≡ map normal names
+later-names s ended [] named = ap kinds (none-ending s ended)
+later-names s ended (name ∷ names) named =
+    let both = and_parts (is_name_piece name) (list_all is_name_piece names) named in
+    ap (λ ps. kinds (ps ++ later_parts s (names ++ ending ended))) (named-later s name both.0) ∙ ap (λ ks. normal name ∷ ks) (later-names s ended names both.1)
+
+pub alone-later : (s : Separators) (at : ℕ) (text : List ℕ) (ended : Bool) (names : List (List ℕ)) → AreAlone s text ended names → kinds (parts (later_body s at text)) ≡ map normal names
+alone-later s at text ended names alone = ap kinds (parts-later_body s at text ∙ ap (later_parts s) alone.1) ∙ later-names s ended names alone.0
+
+-- a text of no name is empty
+no-name : (s : Separators) (b : ℕ) (bs : List ℕ) (ended : Bool) → pieces s (b ∷ bs) ≡ ending ended → ⊥
+no-name s b bs ended e = by ended e (pieces-turned s (row_end s) (b ∷ bs))
+  where
+    by : (ended : Bool) → pieces s (b ∷ bs) ≡ ending ended → rows_of s (pieces s (b ∷ bs)) ≡ turned s (row_end s) (b ∷ bs) ++ row_end s ∷ [] → ⊥
+    by true e rows = omega (arith, ap length rows, ap (λ ps. length (rows_of s ps)) e, length-append (turned s (row_end s) (b ∷ bs)) (row_end s ∷ []))
+    by false e rows = omega (arith, ap length rows, ap (λ ps. length (rows_of s ps)) e, length-append (turned s (row_end s) (b ∷ bs)) (row_end s ∷ []))
+
+pub none-alone : (s : Separators) (ended : Bool) (names : List (List ℕ)) → AreAlone s [] ended names → names ≡ []
+none-alone s ended [] alone = refl
+none-alone s true (name ∷ []) alone = cc
+none-alone s true (name ∷ more ∷ names) alone = cc
+none-alone s false (name ∷ []) alone = by name (ap (λ ps. ps) alone.1) (and_parts (is_name_piece name) true alone.0).0
+  where
+    by : (name : List ℕ) → [] ∷ [] ≡ name ∷ [] → is_name_piece name ≡ true → name ∷ [] ≡ []
+    by [] e h = cc
+    by (b ∷ bs) e h = cc
+none-alone s false (name ∷ more ∷ names) alone = cc
+
+pub alone-body : (s : Separators) (text : List ℕ) (ended : Bool) (names : List (List ℕ)) → AreAlone s text ended names → kinds (parts (body s 0 text)) ≡ map normal names
+alone-body s [] ended names alone = ap (map normal) (sym (none-alone s ended names alone))
+alone-body s (b ∷ bs) ended [] alone = absurd (no-name s b bs ended alone.1)
+alone-body s (b ∷ bs) ended (name ∷ names) alone =
+    let both = and_parts (is_name_piece name) (list_all is_name_piece names) alone.0 in
+    ap kinds (parts-body s 0 (b ∷ bs) ∙ ap (first_parts s) alone.1)
+    ∙ ap (λ p. p.kind ∷ kinds (later_parts s (names ++ ending ended))) (named-first s name _ both.0)
+    ∙ ap (λ ks. normal name ∷ ks) (later-names s ended names both.1)
+
+-- What two texts share.
+
+pieces-first : (p : ℕ → Bool) (xs : List ℕ) → (more : List (List ℕ)) × (slice_split p xs ≡ before_first p xs ∷ more)
+pieces-first p xs = elim (cases_lt (position_or_len p xs) (length xs)) [
+  | inl h ↦ (_, slice_split_first p xs 0 h)
+  | inr h ↦ ([], slice_split_none p xs (λ k d l. fails_before_first p xs k d (omega (arith, h, l))) ∙ ap (λ t. t ∷ []) (sym (take_all (position_or_len p xs) xs h)))
+]
+
+first-is : (s : Separators) (text : List ℕ) (ended : Bool) (name : List ℕ) (names : List (List ℕ)) → AreAlone s text ended (name ∷ names) → name ≡ before_first (is_separator s) text
+first-is s text ended name names alone = let first = pieces-first (is_separator s) text in let e : name ∷ names ++ ending ended ≡ before_first (is_separator s) text ∷ first.0 = sym alone.1 ∙ first.1 in cc
+
+unlike-names : (a b : List ℕ) (o : Ordering) → bytes_cmp a b ≡ o → is_ne o ≡ true → bytes_eq a b ≡ false
+unlike-names a b o is differ = by (bytes_eq a b) refl o is differ
+  where
+    by : (same : Bool) → bytes_eq a b ≡ same → (o : Ordering) → bytes_cmp a b ≡ o → is_ne o ≡ true → same ≡ false
+    by false e o is differ = refl
+    by true e Less is differ = let tied : bytes_cmp a b ≡ Equal = sym (ap (λ x. bytes_cmp a x) ((bytes_decides a b).0 e)) ∙ tied_itself nat_list_cmp_total a in cc
+    by true e Equal is differ = cc
+    by true e Greater is differ = let tied : bytes_cmp a b ≡ Equal = sym (ap (λ x. bytes_cmp a x) ((bytes_decides a b).0 e)) ∙ tied_itself nat_list_cmp_total a in cc
+
+names-apart : (s : Separators) (v w : List ℕ) (o : Ordering) → bytes_cmp (before_first (is_separator s) v) (before_first (is_separator s) w) ≡ o → is_ne o ≡ true
+    → (ended more : Bool) (names others : List (List ℕ)) → AreAlone s v ended names → AreAlone s w more others → shared_count names others ≡ 0
+names-apart s v w o is differ ended more [] others own other = refl
+names-apart s v w o is differ ended more (x ∷ xs) [] own other = refl
+names-apart s v w o is differ ended more (x ∷ xs) (y ∷ ys) own other =
+    let apart : bytes_eq x y ≡ false = ap₂ bytes_eq (first-is s v ended x xs own) (first-is s w more y ys other) ∙ unlike-names (before_first (is_separator s) v) (before_first (is_separator s) w) o is differ in
+    ap (λ b. if b then suc (shared_count xs ys) else 0) apart
+
+none-shared : (names : List (List ℕ)) → shared_count names [] ≡ 0
+none-shared [] = refl
+none-shared (name ∷ names) = refl
+
+behind-front : (cs : List Placed) (ds : List Placed) (names : List (List ℕ)) → kinds (parts ds) ≡ map normal names → kinds (parts (cs ++ ds)) ≡ kinds (parts cs) ++ map normal names
+behind-front cs ds names is = ap kinds (map-append (λ c. c.part) cs ds) ∙ map-append (λ p. p.kind) (parts cs) (parts ds) ∙ ap (λ ks. kinds (parts cs) ++ ks) is
+
+-- two texts that part in segments that differ
+pub parted-into : (s : Separators) (t u : List ℕ) (k n : ℕ) (o : Ordering) → IsParting s t u k n → bytes_cmp (before_first (is_separator s) (drop k t)) (before_first (is_separator s) (drop k u)) ≡ o → is_ne o ≡ true
+    → PartInto s t u (drop n t) (drop n u)
+parted-into s t u k n o parted is differ = by n refl
+  where
+    apart : (ended more : Bool) (names others : List (List ℕ)) → AreAlone s (drop n t) ended names → AreAlone s (drop n u) more others → shared_count names others ≡ 0
+    apart = names-apart s (drop n t) (drop n u) o (ends-order s t u k n parted ∙ is) differ
+
+    by : (m : ℕ) → n ≡ m → PartInto s t u (drop n t) (drop n u)
+    by zero e = record {
+      front = [];
+      own = λ ended names alone. alone-body s t ended names (subst (λ i. AreAlone s (drop i t) ended names) e alone);
+      others = λ ended names alone. alone-body s u ended names (subst (λ i. AreAlone s (drop i u) ended names) e alone);
+      apart = apart;
+    }
+    by (suc j) e = record {
+      front = kinds (parts (body s 0 (take n t)));
+      own = λ ended names alone.
+          ap (λ cs. kinds (parts cs)) (own-at s t u k n parted j e) ∙ behind-front (body s 0 (take n t)) (later_body s n (drop n t)) names (alone-later s n (drop n t) ended names alone);
+      others = λ ended names alone.
+          ap (λ cs. kinds (parts cs)) (other-at s t u k n parted j e) ∙ behind-front (body s 0 (take n t)) (later_body s n (drop n u)) names (alone-later s n (drop n u) ended names alone);
+      apart = apart;
+    }
+
+-- a text that begins with another, behind which it goes on
+module _ (s : Separators) (t beginning : List ℕ) (n : ℕ) (is : body s 0 t ≡ body s 0 beginning ++ later_body s (0 + n) (drop n t)) where
+  longer-own : (ended : Bool) (names : List (List ℕ)) → AreAlone s (drop n t) ended names → kinds (parts (body s 0 t)) ≡ kinds (parts (body s 0 beginning)) ++ map normal names
+  longer-own ended names alone =
+      ap (λ cs. kinds (parts cs)) is ∙ behind-front (body s 0 beginning) (later_body s (0 + n) (drop n t)) names (alone-later s (0 + n) (drop n t) ended names alone)
+
+  shorter-own : (ended : Bool) (names : List (List ℕ)) → AreAlone s [] ended names → kinds (parts (body s 0 beginning)) ≡ kinds (parts (body s 0 beginning)) ++ map normal names
+  shorter-own ended names alone = sym (ap (λ ns. kinds (parts (body s 0 beginning)) ++ map normal ns) (none-alone s ended names alone) ∙ append-nil (kinds (parts (body s 0 beginning))))
+
+  pub longer-into : PartInto s t beginning (drop n t) []
+  longer-into = record {
+    front = kinds (parts (body s 0 beginning));
+    own = longer-own;
+    others = shorter-own;
+    apart = λ ended more names others own other. ap (shared_count names) (none-alone s more others other) ∙ none-shared names;
+  }
+
+  pub shorter-into : PartInto s beginning t [] (drop n t)
+  shorter-into = record {
+    front = kinds (parts (body s 0 beginning));
+    own = shorter-own;
+    others = longer-own;
+    apart = λ ended more names others own other. ap (λ ns. shared_count ns others) (none-alone s ended names own);
+  }
+
+-- The steps.
+
+shared-behind : (front xs ys : List (List ℕ)) → shared_count (front ++ xs) (front ++ ys) ≡ length front + shared_count xs ys
+shared-behind [] xs ys = omega arith
+shared-behind (name ∷ front) xs ys =
+    let same : shared_count (name ∷ front ++ xs) (name ∷ front ++ ys) ≡ suc (shared_count (front ++ xs) (front ++ ys)) =
+    ap (λ b. if b then suc (shared_count (front ++ xs) (front ++ ys)) else 0) ((bytes_decides name name).1 refl) in
+    omega (arith, same, shared-behind front xs ys)
+
+unmet-front : (front : List Kind) (names : List (List ℕ)) → unmet (front ++ map normal names) ≡ unmet front
+unmet-front front names = omega (arith, unmet-append front (map normal names), unmet-names names)
+
+kept-front : (front : List Kind) (names : List (List ℕ)) → kept_names (front ++ map normal names) ≡ kept_names front ++ names
+kept-front front names =
+    kept_names-append front (map normal names)
+    ∙ ap₂ ◌++◌ (take_all (length (kept_names front) - unmet (map normal names)) (kept_names front) (omega (arith, unmet-names names))) (kept-names names)
+
+module _ (s : Separators) (ks ls kbs lbs : List Kind) (ups : ℕ) (rest : List ℕ) (ended : Bool) (plain : is_verbatim s ≡ false)
+    (heads : same_heads ks ls ≡ true) (own_names : kept_names kbs ≡ kept_names ks) (other_names : kept_names lbs ≡ kept_names ls) (own_unmet : unmet kbs ≡ unmet ks) (other_unmet : unmet lbs ≡ unmet ls)
+    (part : PartInNames s kbs lbs ups rest ended) where
+  abbrev front : List (List ℕ)
+  front = kept_names part.front
+
+  own-kept : kept_names ks ≡ front ++ part.names
+  own-kept = sym own_names ∙ ap kept_names part.own ∙ kept-front part.front part.names
+
+  other-kept : kept_names ls ≡ front ++ part.others
+  other-kept = sym other_names ∙ ap kept_names part.other ∙ kept-front part.front part.others
+
+  anchored : is_anchored ks ≡ is_anchored ls
+  anchored = by (is_anchored ks) (is_anchored ls) (and_parts (are_same_prefixes (first_prefix ks) (first_prefix ls)) (if is_anchored ks then is_anchored ls else not (is_anchored ls)) heads).1
+    where
+      by : (a b : Bool) → (if a then b else not b) ≡ true → a ≡ b
+      by true true h = refl
+      by true false h = cc
+      by false true h = cc
+      by false false h = refl
+
+  same-rising : rising ks ≡ rising ls
+  same-rising =
+      ap₂ (λ b n. if b then 0 else n) anchored
+      (sym own_unmet ∙ ap unmet part.own ∙ unmet-front part.front part.names ∙ sym (unmet-front part.front part.others) ∙ sym (ap unmet part.other) ∙ other_unmet)
+
+  met : met_count ks ls ≡ length front
+  met =
+      ap (λ n. if n == rising ls then shared_count (kept_names ks) (kept_names ls) else 0) same-rising
+      ∙ by (rising ls == rising ls) (eq-eqb (rising ls) (rising ls) refl)
+      ∙ ap₂ shared_count own-kept other-kept
+      ∙ shared-behind front part.names part.others
+      ∙ omega (arith, part.apart)
+    where
+      by : (b : Bool) → b ≡ true → (if b then shared_count (kept_names ks) (kept_names ls) else 0) ≡ shared_count (kept_names ks) (kept_names ls)
+      by true e = refl
+      by false e = cc
+
+  down : names_down ks ls ≡ part.names
+  down = ap₂ drop met own-kept ∙ drop_at front part.names (length front) refl
+
+  stands : can_stand (names_down ks ls) ≡ true
+  stands =
+      ap can_stand down
+      ∙ open-stand s part.names plain
+      (all-front (IsUnseparated (is_separator s)) part.names (ending ended) (subst (AllByRecursion (IsUnseparated (is_separator s))) part.alone.1 (slice_split-unseparated (is_separator s) rest)))
+
+  pub near-steps : AreNearSteps s ks ls ups rest ended
+  near-steps =
+      let le : nat_le (rising ls) (rising ks) ≡ true = grind (arith, same-rising) in
+      record {
+        reached = ap₂ ◌&&◌ (ap₂ ◌&&◌ heads le) stands;
+        up = part.up ∙ omega (arith, met, same-rising, ap length other-kept, length-append front part.others);
+        alone = subst (AreAlone s rest ended) (sym down) part.alone;
+      }
+
+-- How they are written.
+
+pub alone-rows : (s : Separators) (text : List ℕ) (ended : Bool) (names : List (List ℕ)) → AreAlone s text ended names → turned s (row_end s) text ++ (if ended then [] else row_end s ∷ []) ≡ rows_of s names
+alone-rows s text true names alone =
+    let e = row_end s in
+    let whole : rows_of s names ++ e ∷ [] ≡ turned s e text ++ e ∷ [] = sym (rows-append s names ([] ∷ [])) ∙ ap (rows_of s) (sym alone.1) ∙ pieces-turned s e text in
+    append-nil (turned s e text) ∙ append_cancel_right (turned s e text) (rows_of s names) (e ∷ []) (sym whole)
+alone-rows s text false names alone = sym (pieces-turned s (row_end s) text) ∙ ap (rows_of s) (alone.1 ∙ append-nil names)
+
+pub alone-shut : (s : Separators) (old new text : List ℕ) (ended : Bool) (names : List (List ℕ)) → new ≡ old ++ turned s (row_end s) text → ended ≡ true → AreAlone s text ended names → new ≡ old ++ rows_of s names
+alone-shut s old new text ended names is e alone =
+    is ∙ ap (λ t. old ++ t) (sym (append-nil (turned s (row_end s) text)) ∙ ap (λ b. turned s (row_end s) text ++ (if b then [] else row_end s ∷ [])) (sym e) ∙ alone-rows s text ended names alone)
+
+pub alone-open : (s : Separators) (old new text : List ℕ) (ended : Bool) (names : List (List ℕ)) → new ≡ (old ++ turned s (row_end s) text) ++ row_end s ∷ [] → ended ≡ false → AreAlone s text ended names
+    → new ≡ old ++ rows_of s names
+alone-open s old new text ended names is e alone =
+    is ∙ append_assoc old (turned s (row_end s) text) (row_end s ∷ [])
+    ∙ ap (λ t. old ++ t) (ap (λ b. turned s (row_end s) text ++ (if b then [] else row_end s ∷ [])) (sym e) ∙ alone-rows s text ended names alone)
+
+-- one parent more behind others
+dots-behind : (s : Separators) (n : ℕ) → rows_of s (dots n) ++ dot ∷ dot ∷ row_end s ∷ [] ≡ rows_of s (dots (suc n))
+dots-behind s zero = refl
+dots-behind s (suc n) = ap (λ t. dot ∷ dot ∷ row_end s ∷ t) (dots-behind s n)
+
+pub ups-more : (s : Separators) (n : ℕ) (old : List ℕ) → ((old ++ rows_of s (dots n)) ++ dot ∷ dot ∷ []) ++ row_end s ∷ [] ≡ old ++ rows_of s (dots (n + 1))
+ups-more s n old =
+    append_assoc (old ++ rows_of s (dots n)) (dot ∷ dot ∷ []) (row_end s ∷ [])
+    ∙ append_assoc old (rows_of s (dots n)) (dot ∷ dot ∷ row_end s ∷ [])
+    ∙ ap (λ t. old ++ t) (dots-behind s n)
+    ∙ ap (λ m. old ++ rows_of s (dots m)) (sym (add-one n))
+
+-- how many names there are, by the pieces
+pub alone-count : (s : Separators) (text : List ℕ) (ended : Bool) (names : List (List ℕ)) (ends : ℕ) → AreAlone s text ended names → ends + 1 ≡ length (pieces s text) → (if ended then ends else ends + 1) ≡ length names
+alone-count s text true names ends alone size = omega (arith, size, ap length alone.1, length-append names ([] ∷ []))
+alone-count s text false names ends alone size = omega (arith, size, ap length alone.1, length-append names [])
+
+-- what is written leads there
+pub bare-plain : (d : Dialect) → is_verbatim (bare_separators d) ≡ false
+bare-plain unix = refl
+bare-plain windows = refl
+
+pub near-text : (d : Dialect) (s : Separators) (ks ls : List Kind) (ups : ℕ) (rest : List ℕ) (ended : Bool) (text : List ℕ) → AreNearSteps s ks ls ups rest ended → s ≡ bare_separators d
+    → ((names : List (List ℕ)) → AreAlone (bare_separators d) rest ended names → text ≡ steps_text d ups names) → relative_by d ks ls ≡ Some text
+near-text d s ks ls ups rest ended text near is put =
+    ap (λ b. if b then Some (steps_text d (steps_up ks ls) (names_down ks ls)) else None) near.reached
+    ∙ ap (λ n. Some (steps_text d n (names_down ks ls))) (sym near.up)
+    ∙ ap Some (sym (put (names_down ks ls) (subst (λ r. AreAlone r rest ended (names_down ks ls)) is near.alone)))
+
+pub near-some : (d : Dialect) (s : Separators) (ks ls : List Kind) (ups : ℕ) (rest : List ℕ) (ended : Bool) → AreNearSteps s ks ls ups rest ended → relative_by d ks ls ≡ None → ⊥
+near-some d s ks ls ups rest ended near none =
+    let some : Some (steps_text d (steps_up ks ls) (names_down ks ls)) ≡ None = sym (ap (λ b. if b then Some (steps_text d (steps_up ks ls) (names_down ks ls)) else None) near.reached) ∙ none in cc
