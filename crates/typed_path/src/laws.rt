@@ -1,6 +1,6 @@
 //! The laws of paths, each as a function that does nothing and ensures the law.
 
-ghost use Rattle.std.specs.Prelude.{◌≡◌, ◌↔◌, ℕ, ◌+◌, ◌<◌, ◌≤◌, List, [], ◌∷◌, ◌++◌, true, false, length, Some, None, IfSome, pos};
+ghost use Rattle.std.specs.Prelude.{◌≡◌, ◌↔◌, ℕ, ◌+◌, ◌*◌, ◌<◌, ◌≤◌, List, [], ◌∷◌, ◌++◌, true, false, length, Some, None, IfSome, IfOk, pos};
 ghost use Rattle.std.specs.List.{list_any, last_or};
 ghost use Rattle.std.specs.Cmp.{IsTotalOrder};
 ghost use Rattle.std.specs.declared.cmp.Ordering.{Ordering};
@@ -10,8 +10,9 @@ ghost use Rattle.std.specs.Str.{is_utf8};
 ghost use Rattle.typed_path.specs.components.{Dialect, unix, dot, slash, Kind, Placed, kinds, prefix, Found, prefix_of, comps, parts_of};
 ghost use Rattle.typed_path.specs.scan.{Side, reads, left, items_between, but_last, answers_after, items_after, slice_after, fronts, backs, IsWhole, IsLaidOut};
 ghost use Rattle.typed_path.specs.queries.{is_child_of, IsOneBelow, parent_of, prefix_in, is_a_dot, stem_of, extension_of, ancestors_of, common_ancestor_of};
-ghost use Rattle.typed_path.specs.changes.{push, with_extension};
-ghost use Rattle.typed_path.specs.places.{clean_text};
+ghost use Rattle.typed_path.specs.changes.{push, with_extension, with_file_name};
+ghost use Rattle.typed_path.specs.conversions.{converted, converted_checked, absolute_from};
+ghost use Rattle.typed_path.specs.places.{clean_text, normal_text, relative_text};
 ghost use Rattle.typed_path.specs.promises.{AreCleanAlike, HasCleanForm, LeadAlike, IsWithinExactly, LeadsBelow, JoinAppends, StripJoins, ReadsAsResolved, StaysNormal, IsCanonical, HashAlike, CrossesWhereAllowed, CrossesAsItIs, CrossesBack, CrossesToUnix, IsLongest, ShareNothing, ExtendsName, CleanLeadsAlike, HasNone, HasNoneAtAll, HasNoneOnUnix, IsDotAlike, LeadsBack, StaysRelative};
 ghost use Rattle.typed_path.specs.order.{IsSame, is_same, path_cmp, kind_cmp, bytes_cmp, text_unix_words, text_prefix_words, text_kind_words, text_windows_words, text_piece_words};
 ghost use Rattle.typed_path.specs.views.PieceViews.{kind_view, part_of};
@@ -252,6 +253,48 @@ pub fn joined_is_short(base: &[u8], path: &[u8])
     ghost d: { Dialect }
     ensures joined { length (push d base.now path.now) ≤ length base.now + length path.now + 3 }
     ensures extended { length (with_extension d base.now path.now) ≤ length base.now + length path.now + 1 }
+{}
+
+/// A path with another file name has at most three bytes more than both.
+#[tactic(auto, using(crate::proofs::lemmas::changes::Lengths::with_file_name_length))]
+pub fn renamed_is_short(path: &[u8], name: &[u8])
+    ghost d: { Dialect }
+    ensures { length (with_file_name d path.now name.now) ≤ length path.now + length name.now + 3 }
+{}
+
+/// A clean path has at most one byte more than the path.
+#[tactic(auto, using(crate::proofs::lemmas::places::CleanLengths::clean_text_length))]
+pub fn cleaned_is_short(path: &[u8])
+    ghost d: { Dialect }
+    ensures { length (clean_text d path.now) ≤ length path.now + 1 }
+{}
+
+/// A path that leads from a base has at most three bytes more than the path and twice the base.
+pub fn led_is_short(path: &[u8], base: &[u8])
+    ghost d: { Dialect }
+    ensures { IfSome (relative_text d path.now base.now)
+        (λ text. length text ≤ length path.now + 2 * length base.now + 3) }
+{}
+
+/// A normal path has at most one byte more than the path.
+pub fn normalized_is_short(path: &[u8])
+    ghost d: { Dialect }
+    ensures { length (normal_text d path.now) ≤ length path.now + 1 }
+{}
+
+/// A path in another dialect has at most one byte more than the path.
+pub fn converted_is_short(path: &[u8])
+    ghost d: { Dialect }
+    ensures converted { (e : Dialect) → length (converted d e path.now) ≤ length path.now + 1 }
+    ensures checked { (e : Dialect)
+        → IfOk (converted_checked d e path.now) (λ text. length text ≤ length path.now + 1) }
+{}
+
+/// A path made absolute has at most three bytes more than the directory and the path.
+pub fn absolutized_is_short(directory: &[u8], path: &[u8])
+    ghost d: { Dialect }
+    ensures { IfSome (absolute_from d directory.now path.now)
+        (λ text. length text ≤ length directory.now + length path.now + 3) }
 {}
 
 /// Where a Unix path begins with a base, what is left behind the base, joined to it, equals the path.

@@ -8,6 +8,8 @@
 -- NamePieces: texts of which looks at their bytes tell that all their pieces are names, and how such a text is merged
 -- MergedInPlace: components as they are read, merged behind a prefix, and read again
 -- Lengths: how long a path is that another is pushed onto
+-- SpelledLengths: how long a text of Windows is that is spelled anew
+-- PushLengths: how long a path is onto which others are pushed one by one: the normal text of a path, a path in another dialect, and one made absolute
 -- Runs: lists of operations, one operation more
 -- AddedNames: a path with more behind its file name is read as before, but for that name
 -- AddedFronts: a path that gets one extension more keeps its separators and its prefix, but for the verbatim one named `UNC`; so it has its parent, and a longer name
@@ -20,6 +22,8 @@ pub mod SpelledTexts
 pub mod NamePieces
 pub mod MergedInPlace
 pub mod Lengths
+pub mod SpelledLengths
+pub mod PushLengths
 pub mod Runs
 pub mod AddedNames
 pub mod AddedFronts

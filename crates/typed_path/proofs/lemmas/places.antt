@@ -12,6 +12,7 @@
 -- Reached: whether a path is reached from a base, by how many steps, and what room these take
 -- StandingNames: names that are read between separators of which `/` is one, which hold none
 -- NearSteps: the steps between two texts that go on with names alone behind the components that both begin with, and how they are written
+-- CleanLengths: how long clean texts are, and paths that lead from a base
 pub mod Resolving
 pub mod UnixRows
 pub mod WindowsRows
@@ -25,3 +26,4 @@ pub mod TakenNames
 pub mod Reached
 pub mod StandingNames
 pub mod NearSteps
+pub mod CleanLengths
