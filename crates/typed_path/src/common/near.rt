@@ -182,6 +182,8 @@ fn put_near<T: Encoding>(text: &mut Vec<u8>, near: Near<'_>) -> Result<(), Alloc
     ensures ok { (names : List (List ℕ))
         → AreAlone (bare_separators T.dialect) near.entry.rest.now near.entry.ended names
         → OnOk result (text.new.items ≡ steps_text T.dialect near.entry.up names) }
+    ensures succeeds { near.entry.up * 3 + length near.entry.rest.now + 2 ≤ vec_capacity text.old
+        → IsOk result }
 {
     let separators = bare_separators::<T>();
     put_ups(text, near.up, separators)?;
@@ -195,6 +197,9 @@ fn put_near<T: Encoding>(text: &mut Vec<u8>, near: Near<'_>) -> Result<(), Alloc
 fn put_ups(text: &mut Vec<u8>, count: usize, separators: Separators) -> Result<(), AllocError>
     ensures ok { OnOk result
         (text.new.items ≡ text.old.items ++ rows_of separators (dots count)) }
+    ensures room { OnOk result (vec_len text.new ≤ vec_len text.old + count * 3) }
+    ensures capacity { vec_capacity text.old ≤ vec_capacity text.new }
+    ensures succeeds { vec_len text.old + count * 3 ≤ vec_capacity text.old → IsOk result }
 {
     'parents: for _ in 0..count {
         put_row(text, b"..", 2, separators)?;
@@ -208,6 +213,11 @@ fn put_alone(text: &mut Vec<u8>, near: Near<'_>, separators: Separators) -> Resu
     ensures ok { (names : List (List ℕ))
         → AreAlone separators near.entry.rest.now near.entry.ended names
         → OnOk result (text.new.items ≡ text.old.items ++ rows_of separators names) }
+    ensures room { OnOk result
+        (vec_len text.new ≤ vec_len text.old + length near.entry.rest.now + 1) }
+    ensures capacity { vec_capacity text.old ≤ vec_capacity text.new }
+    ensures succeeds { vec_len text.old + length near.entry.rest.now < vec_capacity text.old
+        → IsOk result }
 {
     put_turned_where(text, near.rest, separators)?;
     if near.ended {

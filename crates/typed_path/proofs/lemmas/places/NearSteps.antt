@@ -1,5 +1,5 @@
 -- Two texts that go on with names alone behind the components that both begin with: the steps from one to the other, and how they are written.
-use Rattle.std.proofs.Common.{◌≡◌, ℕ, zero, suc, ◌+◌, ◌-◌, ◌<◌, ◌≤◌, ◌==◌, ◌||◌, ◌&&◌, Bool, true, false, not, cond, List, [], ◌∷◌, ◌++◌, map, if◌then◌else◌, length, take, drop, All, refl, sym, ap, ap₂, subst, ◌∙◌, append_assoc, append-nil, arith, inl, inr, get_or, take_all, length-append, nat_le, add-one, Ordering, Less, Equal, Greater, Some, None}
+use Rattle.std.proofs.Common.{◌≡◌, ℕ, zero, suc, ◌+◌, ◌-◌, ◌==◌, ◌||◌, ◌&&◌, Bool, true, false, not, cond, List, [], ◌∷◌, ◌++◌, map, if◌then◌else◌, length, take, drop, refl, sym, ap, ap₂, subst, ◌∙◌, append_assoc, append-nil, arith, inl, inr, take_all, length-append, nat_le, add-one, Ordering, Less, Equal, Greater, Some, None}
 use Rattle.std.specs.List.{AllByRecursion, list_all, slice_split, before_first, position_or_len}
 use Rattle.std.specs.Ordering.{is_ne}
 use Rattle.std.specs.Str.{bytes_eq}
@@ -15,9 +15,9 @@ use Rattle.typed_path.specs.changes.{is_name_piece}
 use Rattle.typed_path.specs.order.{bytes_cmp, are_same_prefixes}
 use Rattle.typed_path.specs.queries.{first_prefix}
 use Rattle.typed_path.specs.scan.{IsParting, turned}
-use Rattle.typed_path.specs.places.{AreAlone, AreNearSteps, PartInNames, PartInto, bare_separators, can_stand, dots, is_anchored, is_reached, kept_names, met_count, names_down, relative_by, rising, row_end, rows_of, same_heads, shared_count, steps_text, steps_up, unmet}
+use Rattle.typed_path.specs.places.{AreAlone, AreNearSteps, PartInNames, PartInto, bare_separators, can_stand, dots, is_anchored, kept_names, met_count, names_down, relative_by, rising, row_end, rows_of, same_heads, shared_count, steps_text, steps_up, unmet}
 use Rattle.typed_path.proofs.lemmas.lists.Lists.{IsUnseparated, slice_split-unseparated}
-use Rattle.typed_path.proofs.lemmas.components.Segments.{body_parts, first_part, first_parts, later_part, later_parts, parts-body, parts-later_body, pieces}
+use Rattle.typed_path.proofs.lemmas.components.Segments.{first_parts, later_part, later_parts, parts-body, parts-later_body, pieces}
 use Rattle.typed_path.proofs.lemmas.conversions.TurnedPaths.{pieces-turned}
 use Rattle.typed_path.proofs.lemmas.order.SharedNames.{ends-order, other-at, own-at}
 use Rattle.typed_path.proofs.lemmas.places.CleanRows.{kept-names, unmet-names}

@@ -1,5 +1,5 @@
 -- Names that are read between separators of which `/` is one hold none.
-use Rattle.std.proofs.Common.{◌≡◌, ℕ, zero, suc, ◌==◌, ◌||◌, Bool, true, false, not, ◌&&◌, List, [], ◌∷◌, drop, refl, sym, ap₂, subst}
+use Rattle.std.proofs.Common.{◌≡◌, ℕ, ◌==◌, ◌||◌, Bool, true, false, not, ◌&&◌, List, [], ◌∷◌, drop, refl, sym, ap₂, subst}
 use Rattle.std.specs.List.{AllByRecursion}
 use Rattle.std.proofs.lemmas.List.Folds.{list_any_none}
 use Rattle.typed_path.specs.declared.scan.separators.Separators.{Separators}

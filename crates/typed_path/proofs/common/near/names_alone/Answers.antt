@@ -1,4 +1,4 @@
-use Rattle.std.proofs.Common.{◌≡◌, ◌+◌, ap, sym, ◌∙◌, if◌then◌else◌}
+use Rattle.std.proofs.Common.{◌+◌, ap, sym, ◌∙◌, if◌then◌else◌}
 use Rattle.typed_path.proofs.lemmas.places.NearSteps.{alone-count}
 use Rattle.typed_path.proofs.common.near.names_alone.Goals as goal
 
