@@ -1,11 +1,11 @@
 -- One name more of a batch.
-use Rattle.std.proofs.Common.{◌≡◌, ℕ, suc, ◌+◌, ◌<◌, ◌≤◌, ◌⊎◌, inl, inr, ⊎_elim, List, [], ◌∷◌, ◌++◌, length, map, take, drop, set, slice_range, slice_index_or, refl, sym, ap, ap₂, subst, ◌∙◌, arith, append_assoc, append-nil}
+use Rattle.std.proofs.Common.{◌≡◌, ℕ, suc, ◌+◌, ◌<◌, ◌≤◌, ◌⊎◌, inl, inr, ⊎_elim, List, [], ◌∷◌, ◌++◌, length, map, take, drop, set, slice_range, slice_index, slice_index_or, refl, sym, ap, ap₂, subst, ◌∙◌, arith, append_assoc, append-nil}
 use Rattle.std.proofs.lemmas.List.{drop-drop, drop_at, take_at, length-append, length-map, map-append, length-take-le, length-drop}
 use Rattle.std.proofs.Math.Logic.{⊎_map}
 use Rattle.std.proofs.lemmas.Grind.{take_at_read}
 use Rattle.typed_path.specs.components.{Dialect}
 use Rattle.typed_path_c.specs.Answers.{done, bad_ends, too_small, out_of_memory}
-use Rattle.typed_path_c.specs.Batch.{names_from, last_from, AreEnds, name_answer, name_status, answers, answer_ends, ArePut, IsBatch}
+use Rattle.typed_path_c.specs.Batch.{names_from, last_from, AreEnds, name_answer, name_status, answers, answer_ends, ArePut, IsBatch, IsFull}
 use Rattle.typed_path_c.specs.Parts.{over}
 use Rattle.typed_path_c.proofs.Spans.{over_item, over_length}
 
@@ -147,17 +147,15 @@ module _ (d : Dialect) (base : List ℕ) where
         let before = answers d base (names_from names 0 (take n ends)) in
         omega (arith, runs.ends_at, ap length runs.put.bytes, length-append before (drop (length before) old))
 
+    -- how it ended
+    ended : (status : ℕ) → (status ≡ done → n ≡ length ends) → (status ≡ bad_ends → (n < length ends) × ((slice_index ends n < last_from 0 (take n ends)) ⊎ (length names < slice_index ends n)))
+        → (status ≡ too_small → (n < length ends) × IsFull d base (names_from names 0 (take n ends)) old ends_old statuses_old (slice_range names (last_from 0 (take n ends)) (slice_index ends n)))
+        → (status ≡ done) ⊎ (status ≡ bad_ends) ⊎ (status ≡ too_small) ⊎ (status ≡ out_of_memory) → IsBatch d base names ends old new ends_old ends_new statuses_old statuses_new n status
+    ended status all ill full known = record { some = runs.some; in_order = runs.in_order; put = runs.put; all = all; ill = ill; full = full; known = known }
+
     -- a batch that was done for all
     pub ended-all : length ends ≤ n → IsBatch d base names ends old new ends_old ends_new statuses_old statuses_new n done
-    ended-all all = record {
-      some = runs.some;
-      in_order = runs.in_order;
-      put = runs.put;
-      all = λ e. omega (arith, all, runs.some);
-      ill = λ e. absurd (omega (arith, e));
-      full = λ e. absurd (omega (arith, e));
-      known = inl refl;
-    }
+    ended-all all = ended done (λ e. omega (arith, all, runs.some)) (λ e. absurd (omega (arith, e))) (λ e. absurd (omega (arith, e))) (inl refl)
 
     long-ends : length ends_new ≡ length ends_old
     long-ends = ap length runs.put.ends ∙ over_length (answer_ends d base 0 (names_from names 0 (take n ends))) ends_old
@@ -171,28 +169,14 @@ module _ (d : Dialect) (base : List ℕ) where
     -- one whose next end is wrong
     pub ended-ill : n < length ends → (slice_index_or ends n 0 < start) ⊎ ((start ≤ slice_index_or ends n 0) × (length names < slice_index_or ends n 0))
         → IsBatch d base names ends old new ends_old ends_new statuses_old statuses_new n bad_ends
-    ended-ill more either = record {
-      some = runs.some;
-      in_order = runs.in_order;
-      put = runs.put;
-      all = λ e. absurd (omega (arith, e));
-      ill = λ e. (more, ⊎_map (λ less. subst (λ s. slice_index_or ends n 0 < s) runs.starts less) (λ both. both.1) either);
-      full = λ e. absurd (omega (arith, e));
-      known = inr (inl refl);
-    }
+    ended-ill more either = ended bad_ends (λ e. absurd (omega (arith, e)))
+        (λ e. (more, ⊎_map (λ less. subst (λ s. slice_index_or ends n 0 < s) runs.starts less) (λ both. both.1) either)) (λ e. absurd (omega (arith, e))) (inr (inl refl))
 
     -- one whose next name has no room
     pub ended-full : n < length ends → (length ends_new ≤ n) ⊎ ((n < length ends_new) × (length statuses_new ≤ n))
         → IsBatch d base names ends old new ends_old ends_new statuses_old statuses_new n too_small
-    ended-full more either = record {
-      some = runs.some;
-      in_order = runs.in_order;
-      put = runs.put;
-      all = λ e. absurd (omega (arith, e));
-      ill = λ e. absurd (omega (arith, e));
-      full = λ e. (more, ⊎_elim (λ h. inl (omega (arith, h, long-ends, done-count))) (λ h. inr (inl (omega (arith, h.1, long-statuses, done-count)))) either);
-      known = inr (inr (inl refl));
-    }
+    ended-full more either = ended too_small (λ e. absurd (omega (arith, e))) (λ e. absurd (omega (arith, e)))
+        (λ e. (more, ⊎_elim (λ h. inl (omega (arith, h, long-ends, done-count))) (λ h. inr (inl (omega (arith, h.1, long-statuses, done-count)))) either)) (inr (inr (inl refl)))
 
     -- one whose next name was not joined
     pub ended-err : (later : List ℕ) (status : ℕ) → later ≡ new → n < length ends

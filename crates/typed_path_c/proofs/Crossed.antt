@@ -1,11 +1,18 @@
--- A checked conversion is put, or refused, as its definition has it.
-use Rattle.std.proofs.Common.{arith, ◌≡◌, ◌≤◌, ℕ, List, length, Result, Ok, Err, Some, refl, sym, subst, ⊎_elim, IfOk, MatchResult}
+-- A checked conversion is put, or refused, as its definition has it; and answers that fit into their bounds.
+use Rattle.std.proofs.Common.{arith, ◌≡◌, ◌≤◌, ◌+◌, ◌*◌, ℕ, List, length, Result, Ok, Err, Option, Some, None, IfSome, refl, sym, subst, ⊎_elim, IfOk, MatchResult}
 use Rattle.std.proofs.lemmas.Bool.{cases_lt}
 use Rattle.typed_path.specs.declared.errors.CheckedPathError.{CheckedPathError}
+use Rattle.typed_path.specs.declared.errors.AbsolutizeError.{AbsolutizeError}
+use Rattle.typed_path.specs.declared.errors.AbsolutizeError.TheVariants as absolute
 use Rattle.typed_path.specs.declared.errors.PathError.{PathError}
 use Rattle.typed_path.specs.declared.errors.PathError.TheVariants.{Checked, OutOfMemory}
 use Rattle.typed_path.specs.changes.Checked.{refusal}
-use Rattle.typed_path_c.specs.Answers.{out_of_memory, too_small, path_status, IsPut, IsRefused, IsMade, IsCrossed}
+use Rattle.typed_path_c.specs.Answers.{too_small, path_status, absolute_status, IsPut, IsRefused, IsMade, IsCrossed, IsFound}
+use Rattle.typed_path.specs.components.{Dialect}
+use Rattle.typed_path.specs.conversions.{absolute_from}
+use Rattle.typed_path.specs.places.{relative_text}
+use Rattle.typed_path.proofs.lemmas.changes.PushLengths.{absolute_known}
+use Rattle.typed_path.proofs.lemmas.places.CleanLengths.{relative_text_length}
 
 module _ (old new : List ℕ) (told len status : ℕ) where
   put-made : (answer : List ℕ) → IsPut answer old new len status → IsMade answer old told new len status
@@ -26,3 +33,20 @@ module _ (old new : List ℕ) (told len status : ℕ) where
 -- an answer of no more bytes than a buffer has is never too long for it
 pub never_small : (answer old new : List ℕ) (len status bound : ℕ) → IsPut answer old new len status → length answer ≤ bound → bound ≤ length old → status ≡ too_small → ⊥
 never_small answer old new len status bound put short room e = omega (arith, e, (put.0 (omega (arith, short, room))).0)
+
+-- nor is a path that leads from a base
+pub leads_fit : (d : Dialect) (path base old new : List ℕ) (told len status : ℕ) → IsFound (relative_text d path base) old told new len status
+    → length path + 2 * length base + 3 ≤ length old → status ≡ too_small → ⊥
+leads_fit d path base old new told len status found room small = by (relative_text d path base) (relative_text_length d path base) found
+  where
+    by : (o : Option (List ℕ)) → IfSome o (λ t. length t ≤ length path + 2 * length base + 3) → IsFound o old told new len status → ⊥
+    by None fits (st, kept) = omega (arith, st, small)
+    by (Some answer) fits made = never_small answer old new len status _ (made.1 (λ e. omega (arith, e, small))) fits room small
+
+-- nor is one made absolute
+pub absolute_fits : {P : Type 0} (bytes : P → List ℕ) (made : Result P AbsolutizeError) (d : Dialect) (directory path old new : List ℕ) (told len status : ℕ)
+    → IfOk made (λ p. absolute_from d directory path ≡ Some (bytes p)) → MatchResult made (λ p. IsPut (bytes p) old new len status) (λ e. IsRefused (absolute_status e) old told new len status)
+    → length directory + length path + 3 ≤ length old → status ≡ too_small → ⊥
+absolute_fits bytes (Ok p) d directory path old new told len status is put room small = never_small (bytes p) old new len status _ put (absolute_known d directory path (bytes p) is) room small
+absolute_fits bytes (Err absolute.Ambiguous) d directory path old new told len status is (st, kept) room small = omega (arith, st, small)
+absolute_fits bytes (Err absolute.OutOfMemory) d directory path old new told len status is (st, kept) room small = omega (arith, st, small)

@@ -9,7 +9,7 @@ ghost use Rattle.typed_path.specs.queries.{is_absolute, has_root, is_valid, path
 ghost use Rattle.typed_path.specs.typed.{derived_dialect};
 ghost use Rattle.typed_path_c.specs.Answers.{dialect_named, done, bad_dialect, order_number, hash_of, Tells, Orders, Hashes};
 
-use crate::status::{BAD_DIALECT, DONE, path_in};
+use crate::status::{BAD_DIALECT, DONE, of_path, path_in};
 use std::cmp::Ordering;
 use std::hash::{DefaultHasher, Hash, Hasher};
 use typed_path::{Encoding, Path, PathType, UnixEncoding, WindowsEncoding};
@@ -48,10 +48,7 @@ pub extern "C" fn typed_path_derive(path: &[u8]) -> u32
 pub extern "C" fn typed_path_is_absolute(dialect: u32, path: &[u8], answer: &mut bool) -> u32
     ensures { Tells dialect (λ d. is_absolute d (kinds (parts_of d path.now))) answer.new result }
 {
-    match path_in(dialect, path) {
-        Some(path) => tell(path.is_absolute(), answer),
-        None => tell_none(answer),
-    }
+    of_path!(dialect, path => tell(path.is_absolute(), answer), tell_none(answer))
 }
 
 /// Whether it begins with a root, written or implied by a prefix.
@@ -59,10 +56,7 @@ pub extern "C" fn typed_path_is_absolute(dialect: u32, path: &[u8], answer: &mut
 pub extern "C" fn typed_path_has_root(dialect: u32, path: &[u8], answer: &mut bool) -> u32
     ensures { Tells dialect (λ d. has_root d (kinds (parts_of d path.now))) answer.new result }
 {
-    match path_in(dialect, path) {
-        Some(path) => tell(path.has_root(), answer),
-        None => tell_none(answer),
-    }
+    of_path!(dialect, path => tell(path.has_root(), answer), tell_none(answer))
 }
 
 /// Whether each name of it is allowed.
@@ -89,10 +83,7 @@ fn is_valid<T: Encoding>(path: &[u8]) -> bool
 pub extern "C" fn typed_path_keeps_prefix(dialect: u32, path: &[u8], answer: &mut bool) -> u32
     ensures { Tells dialect (λ d. keeps_prefix d path.now) answer.new result }
 {
-    match path_in(dialect, path) {
-        Some(path) => tell(path.keeps_prefix(), answer),
-        None => tell_none(answer),
-    }
+    of_path!(dialect, path => tell(path.keeps_prefix(), answer), tell_none(answer))
 }
 
 /// Whether it begins with the components of a base.
@@ -105,10 +96,7 @@ pub extern "C" fn typed_path_starts_with(
 ) -> u32
     ensures { Tells dialect (λ d. path_starts_with d path.now base.now) answer.new result }
 {
-    match path_in(dialect, path) {
-        Some(path) => tell(path.starts_with(base), answer),
-        None => tell_none(answer),
-    }
+    of_path!(dialect, path => tell(path.starts_with(base), answer), tell_none(answer))
 }
 
 /// Whether it ends with the components of another.
@@ -121,10 +109,7 @@ pub extern "C" fn typed_path_ends_with(
 ) -> u32
     ensures { Tells dialect (λ d. path_ends_with d path.now end.now) answer.new result }
 {
-    match path_in(dialect, path) {
-        Some(path) => tell(path.ends_with(end), answer),
-        None => tell_none(answer),
-    }
+    of_path!(dialect, path => tell(path.ends_with(end), answer), tell_none(answer))
 }
 
 /// Whether it lies at a base or below it.
@@ -137,10 +122,7 @@ pub extern "C" fn typed_path_is_within(
 ) -> u32
     ensures { Tells dialect (λ d. is_within d path.now base.now) answer.new result }
 {
-    match path_in(dialect, path) {
-        Some(path) => tell(path.is_within(base), answer),
-        None => tell_none(answer),
-    }
+    of_path!(dialect, path => tell(path.is_within(base), answer), tell_none(answer))
 }
 
 /// Whether two paths have the same components.

@@ -1,7 +1,7 @@
 //! Paths that are made of others, and put into a buffer of the caller.
-#![tactic(auto, using(typed_path::proofs::lemmas::texts::TextChanges::text_laws, typed_path::proofs::lemmas::texts::TextClean::clean_laws, typed_path::proofs::lemmas::texts::TextSteps::relative_laws, crate::proofs::Crossed::never_small, typed_path::proofs::lemmas::changes::Lengths::push_length, typed_path::proofs::lemmas::changes::Lengths::with_extension_length))]
+#![tactic(auto, using(typed_path::proofs::lemmas::texts::TextChanges::text_laws, typed_path::proofs::lemmas::texts::TextClean::clean_laws, typed_path::proofs::lemmas::texts::TextSteps::relative_laws, crate::proofs::Crossed::never_small, typed_path::proofs::lemmas::changes::Lengths::push_length, typed_path::proofs::lemmas::changes::Lengths::with_extension_length, typed_path::proofs::lemmas::changes::Lengths::with_file_name_length, typed_path::proofs::lemmas::changes::PushLengths::normal_text_length, typed_path::proofs::lemmas::changes::PushLengths::converted_length, typed_path::proofs::lemmas::changes::PushLengths::checked_known, typed_path::proofs::lemmas::places::CleanLengths::clean_text_length))]
 
-ghost use Rattle.std.specs.Prelude.{◌≡◌, ◌+◌, true, take, length};
+ghost use Rattle.std.specs.Prelude.{◌≡◌, ◌+◌, ◌*◌, true, take, length};
 ghost use Rattle.std.specs.Str.{is_utf8};
 ghost use Rattle.typed_path.specs.changes.Push as push_spec;
 ghost use Rattle.typed_path.specs.changes.{with_file_name, with_extension};
@@ -9,7 +9,7 @@ ghost use Rattle.typed_path.specs.places.{clean_text, normal_text};
 ghost use Rattle.typed_path_c.specs.Answers.{done, Makes, Joins, LiesIn, Leads, Converts, Crosses, Absolutizes, Suffices};
 
 use crate::status::{
-    BAD_DIALECT, path_in, put_absolute, put_checked, put_crossed, put_found, put_made,
+    BAD_DIALECT, of_path, path_in, put_absolute, put_checked, put_crossed, put_found, put_made,
 };
 use std::alloc::Global;
 use typed_path::PlatformPath;
@@ -30,10 +30,7 @@ pub extern "C" fn typed_path_join(
     ensures text { is_utf8 path.now ≡ true → is_utf8 other.now ≡ true → result ≡ done
         → is_utf8 (take len.new out.new) ≡ true }
 {
-    match path_in(dialect, path) {
-        Some(path) => put_made(path.join(alloc, other), out, len),
-        None => BAD_DIALECT,
-    }
+    of_path!(dialect, path => put_made(path.join(alloc, other), out, len), BAD_DIALECT)
 }
 
 /// Puts a path with another pushed onto it, unless that has a component that offends.
@@ -51,10 +48,7 @@ pub extern "C" fn typed_path_join_checked(
     ensures fits { Suffices (length path.now + length other.now + 3) out.old result }
     ensures text { is_utf8 path.now ≡ true → is_utf8 other.now ≡ true → result ≡ done → is_utf8 (take len.new out.new) ≡ true }
 {
-    match path_in(dialect, path) {
-        Some(path) => put_checked(path.join_checked(alloc, other), out, len),
-        None => BAD_DIALECT,
-    }
+    of_path!(dialect, path => put_checked(path.join_checked(alloc, other), out, len), BAD_DIALECT)
 }
 
 /// Puts a path with another file name, or with the name pushed where it has none.
@@ -69,12 +63,10 @@ pub extern "C" fn typed_path_with_file_name(
 ) -> u32
     ensures named { Makes dialect (λ d. with_file_name d path.now name.now)
         out.old len.old out.new len.new result }
+    ensures fits { Suffices (length path.now + length name.now + 3) out.old result }
     ensures text { is_utf8 path.now ≡ true → is_utf8 name.now ≡ true → result ≡ done → is_utf8 (take len.new out.new) ≡ true }
 {
-    match path_in(dialect, path) {
-        Some(path) => put_made(path.with_file_name(alloc, name), out, len),
-        None => BAD_DIALECT,
-    }
+    of_path!(dialect, path => put_made(path.with_file_name(alloc, name), out, len), BAD_DIALECT)
 }
 
 /// Puts a path whose file name has another extension, or none where that is empty.
@@ -92,10 +84,7 @@ pub extern "C" fn typed_path_with_extension(
     ensures fits { Suffices (length path.now + length extension.now + 1) out.old result }
     ensures text { is_utf8 path.now ≡ true → is_utf8 extension.now ≡ true → result ≡ done → is_utf8 (take len.new out.new) ≡ true }
 {
-    match path_in(dialect, path) {
-        Some(path) => put_made(path.with_extension(alloc, extension), out, len),
-        None => BAD_DIALECT,
-    }
+    of_path!(dialect, path => put_made(path.with_extension(alloc, extension), out, len), BAD_DIALECT)
 }
 
 /// Puts a path without `.`, and without `..` and the names that these take away.
@@ -108,12 +97,10 @@ pub extern "C" fn typed_path_normalize(
     len: &mut usize,
 ) -> u32
     ensures normal { Makes dialect (λ d. normal_text d path.now) out.old len.old out.new len.new result }
+    ensures fits { Suffices (length path.now + 1) out.old result }
     ensures text { is_utf8 path.now ≡ true → result ≡ done → is_utf8 (take len.new out.new) ≡ true }
 {
-    match path_in(dialect, path) {
-        Some(path) => put_made(path.normalize(alloc), out, len),
-        None => BAD_DIALECT,
-    }
+    of_path!(dialect, path => put_made(path.normalize(alloc), out, len), BAD_DIALECT)
 }
 
 /// Puts a path without `.`, doubled separators and the names that a `..` takes away; one that finds no name
@@ -127,12 +114,10 @@ pub extern "C" fn typed_path_clean(
     len: &mut usize,
 ) -> u32
     ensures clean { Makes dialect (λ d. clean_text d path.now) out.old len.old out.new len.new result }
+    ensures fits { Suffices (length path.now + 1) out.old result }
     ensures text { is_utf8 path.now ≡ true → result ≡ done → is_utf8 (take len.new out.new) ≡ true }
 {
-    match path_in(dialect, path) {
-        Some(path) => put_made(path.clean(alloc), out, len),
-        None => BAD_DIALECT,
-    }
+    of_path!(dialect, path => put_made(path.clean(alloc), out, len), BAD_DIALECT)
 }
 
 /// Puts the relative path that leads from a base to a path.
@@ -146,12 +131,10 @@ pub extern "C" fn typed_path_relative_to(
     len: &mut usize,
 ) -> u32
     ensures leads { Leads dialect path.now base.now out.old len.old out.new len.new result }
+    ensures fits { Suffices (length path.now + 2 * length base.now + 3) out.old result }
     ensures text { is_utf8 path.now ≡ true → is_utf8 base.now ≡ true → result ≡ done → is_utf8 (take len.new out.new) ≡ true }
 {
-    match path_in(dialect, path) {
-        Some(path) => put_found(path.relative_to(alloc, base), out, len),
-        None => BAD_DIALECT,
-    }
+    of_path!(dialect, path => put_found(path.relative_to(alloc, base), out, len), BAD_DIALECT)
 }
 
 /// Puts a path as it is written in another dialect.
@@ -165,6 +148,7 @@ pub extern "C" fn typed_path_convert(
     len: &mut usize,
 ) -> u32
     ensures converted { Converts dialect other path.now out.old len.old out.new len.new result }
+    ensures fits { Suffices (length path.now + 1) out.old result }
     ensures text { is_utf8 path.now ≡ true → result ≡ done → is_utf8 (take len.new out.new) ≡ true }
 {
     match (path_in(dialect, path), other) {
@@ -185,6 +169,7 @@ pub extern "C" fn typed_path_convert_checked(
     len: &mut usize,
 ) -> u32
     ensures converted { Crosses dialect other path.now out.old len.old out.new len.new result }
+    ensures fits { Suffices (length path.now + 1) out.old result }
     ensures text { is_utf8 path.now ≡ true → result ≡ done → is_utf8 (take len.new out.new) ≡ true }
 {
     match (path_in(dialect, path), other) {
@@ -205,14 +190,9 @@ pub extern "C" fn typed_path_absolutize(
     len: &mut usize,
 ) -> u32
     ensures absolute { Absolutizes dialect directory.now path.now out.old len.old out.new len.new result }
+    ensures fits { Suffices (length directory.now + length path.now + 3) out.old result }
     ensures text { is_utf8 path.now ≡ true → is_utf8 directory.now ≡ true → result ≡ done → is_utf8 (take len.new out.new) ≡ true }
 {
-    match path_in(dialect, path) {
-        Some(path) => put_absolute(
-            path.absolutize(alloc, PlatformPath::new(directory)),
-            out,
-            len,
-        ),
-        None => BAD_DIALECT,
-    }
+    let directory = PlatformPath::new(directory);
+    of_path!(dialect, path => put_absolute(path.absolutize(alloc, directory), out, len), BAD_DIALECT)
 }

@@ -50,6 +50,18 @@ pub fn path_in(dialect: u32, bytes: &[u8]) -> Option<TypedPath<'_>>
     }
 }
 
+/// What is done with the path in the dialect that a number names, and what where it names none.
+macro_rules! of_path {
+    ($dialect:expr, $path:ident => $some:expr, $none:expr) => {
+        match path_in($dialect, $path) {
+            Some($path) => $some,
+            None => $none,
+        }
+    };
+}
+
+pub(super) use of_path;
+
 /// Puts an answer at the beginning of a buffer if it fits, with a NUL behind it where there is room.
 pub fn put(answer: &[u8], out: &mut [u8], len: &mut usize) -> u32
     ensures put { IsPut answer.now out.old out.new len.new result }
@@ -115,6 +127,8 @@ pub fn put_crossed(made: Result<TypedPathBuf, PathError>, out: &mut [u8], len: &
         → IfOk made (λ p. answer ≡ Ok (owned_bytes p))
         → ((why : CheckedPathError) → refusal made ≡ Some why → answer ≡ Err why)
         → IsCrossed answer out.old len.old out.new len.new result }
+    ensures made { MatchResult made (λ p. IsPut (owned_bytes p) out.old out.new len.new result)
+        (λ e. IsRefused (path_status e) out.old len.old out.new len.new result) }
     ensures stands { StandsAsMade owned_bytes made result (take len.new out.new) }
 {
     put_checked(made, out, len)
