@@ -2,8 +2,9 @@
 use Rattle.std.proofs.Common.{◌≡◌, ℕ, ◌+◌, ◌≤◌, ◌==◌, Bool, true, false, if◌then◌else◌, List, [], ◌∷◌, ◌++◌, length, take, drop, slice_range, ◌-◌, ◌&&◌, nat_lt, Option, Some, None, is_some, unwrap_or, option_and_then, refl, ap, arith, length-append, length-take, length-drop}
 use Rattle.std.proofs.lemmas.Bool.{cond_both}
 use Rattle.std.proofs.lemmas.List.Sums.{sum_by-cons, sum_by-append}
-use Rattle.typed_path.specs.declared.scan.separators.Separators.TheVariants.{Either}
-use Rattle.typed_path.specs.components.{Dialect, unix, windows, slash, backslash, separators, Kind, prefix, root, current, parent, normal, Part, kinds, is_name, prefix_part, Found, prefix_of, Placed, comps, parts_of}
+use Rattle.typed_path.specs.declared.scan.separators.Separators.{Separators}
+use Rattle.typed_path.specs.declared.scan.separators.Separators.TheVariants.{Slash, Backslash, Either}
+use Rattle.typed_path.specs.components.{Dialect, unix, windows, slash, backslash, separators, root_text, Kind, prefix, root, current, parent, normal, Part, kinds, is_name, prefix_part, Found, prefix_of, Placed, comps, parts_of}
 use Rattle.typed_path.specs.scan.{last_of, left, start_at, end_at}
 use Rattle.typed_path.specs.queries.{has_prefix, has_any_verbatim_prefix, begins_with_root, begins_with_prefix, is_root, file_name_of}
 use Rattle.typed_path.specs.changes.{push, push_unix, push_windows, push_behind, ended_with, ended_windows, is_disk_alone, raw_prefix, raw_length, spelled, merged, merge_by_kind, prefix_alone, without_last_name, joint, room_of, stem_end, cut_at, dotted, with_extension, popped, with_file_name}
@@ -14,8 +15,14 @@ use Rattle.typed_path.proofs.lemmas.changes.Joins.{joint-relative}
 use Rattle.typed_path.proofs.lemmas.changes.MergedInPlace.{room-body, room-text}
 
 -- the room that the component of a piece takes
-abbrev size : Part → ℕ
+abbrev pub size : Part → ℕ
 size p = length p.text + (if begins_with_root (p.kind ∷ []) then 0 else 1)
+
+-- a root takes one byte
+pub one-root : (s : Separators) → length (root_text s) ≡ 1
+one-root Slash = refl
+one-root Backslash = refl
+one-root Either = refl
 
 -- the components of a path take two bytes more than the path at the most
 room-parts : (t : List ℕ) → room_of (parts_of windows t) ≤ length t + 2

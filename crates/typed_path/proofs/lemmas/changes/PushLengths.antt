@@ -4,7 +4,7 @@ use Rattle.std.specs.List.{AllByRecursion}
 use Rattle.std.proofs.lemmas.Bool.{cond_both, both_ways}
 use Rattle.std.proofs.lemmas.List.Sums.{sum_by-cons}
 use Rattle.typed_path.specs.declared.scan.separators.Separators.{Separators}
-use Rattle.typed_path.specs.declared.scan.separators.Separators.TheVariants.{Slash, Backslash, Either}
+use Rattle.typed_path.specs.declared.scan.separators.Separators.TheVariants.{Slash, Either}
 use Rattle.typed_path.specs.declared.errors.CheckedPathError.{CheckedPathError}
 use Rattle.typed_path.specs.components.{Dialect, unix, windows, slash, backslash, separators, root_text, root_of, Prefix, verbatim, verbatim_unc, verbatim_disk, device_ns, unc, disk, Kind, prefix, root, current, parent, normal, Part, kinds, texts, prefix_part, Found, prefix_of, parts_of}
 use Rattle.typed_path.specs.queries.{begins_with_root, has_prefix, has_any_verbatim_prefix, is_disk, is_absolute}
@@ -17,13 +17,13 @@ use Rattle.typed_path.proofs.lemmas.components.PrefixCuts.{IsSize, prefix-size}
 use Rattle.typed_path.proofs.lemmas.components.Segments.{body_parts, body_parts-read, IsWritten, IsWrittenPart, each-written}
 use Rattle.typed_path.proofs.lemmas.changes.Faults.{parts_of-none, parts_of-some}
 use Rattle.typed_path.proofs.lemmas.changes.Joins.{Ending, parted, ending}
-use Rattle.typed_path.proofs.lemmas.changes.Lengths.{ended-length}
+use Rattle.typed_path.proofs.lemmas.changes.Lengths.{size, one-root, ended-length}
 use Rattle.typed_path.proofs.lemmas.changes.MergedInPlace.{room-body, room-text, no-prefix}
 use Rattle.typed_path.proofs.lemmas.changes.WindowsPushes.{push-prefixed, push-anew, push-rooted, push-relative}
 use Rattle.typed_path.proofs.lemmas.places.Resolving.{resolve-each}
 use Rattle.typed_path.proofs.lemmas.promises.UnixContained.{parts_of-unix}
 use Rattle.typed_path.proofs.lemmas.promises.WindowsStable.{push-first}
-use Rattle.typed_path.proofs.lemmas.changes.SpelledLengths.{size, merged-size, anew, IsMarked, has-marked, anew-most, anew-least, raw-undriven, root-undriven, joined-undriven, merged-undriven, IsDriven}
+use Rattle.typed_path.proofs.lemmas.changes.SpelledLengths.{merged-size, anew, IsMarked, has-marked, anew-most, anew-least, raw-undriven, root-undriven, joined-undriven, merged-undriven, IsDriven}
 
 -- Paths that are pushed one by one.
 
@@ -56,11 +56,6 @@ takes-more windows u room more le h = record {
 takes-nothing : (d : Dialect) → Takes d [] 0
 takes-nothing unix = omega arith
 takes-nothing windows = record { fits = omega arith; again = λ m. cc; spare = λ e. cc }
-
-one-root : (s : Separators) → length (root_text s) ≡ 1
-one-root Slash = refl
-one-root Backslash = refl
-one-root Either = refl
 
 root-size : (d : Dialect) → length (root_of d) ≡ 1
 root-size unix = refl

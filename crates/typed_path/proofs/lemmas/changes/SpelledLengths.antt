@@ -17,17 +17,13 @@ use Rattle.typed_path.proofs.lemmas.components.PartedPrefixes.{apart-behind}
 use Rattle.typed_path.proofs.lemmas.components.Segments.{pieces, first_parts, later_parts, body_parts, body_parts-read, AreRead, IsWritten, IsWrittenPart, IsLaterPart, each-written}
 use Rattle.typed_path.proofs.lemmas.changes.Faults.{parts_of-some}
 use Rattle.typed_path.proofs.lemmas.changes.Joins.{later-relative}
-use Rattle.typed_path.proofs.lemmas.changes.Lengths.{joint-size}
+use Rattle.typed_path.proofs.lemmas.changes.Lengths.{size, joint-size}
 use Rattle.typed_path.proofs.lemmas.changes.MergedInPlace.{room-body, text-mergeable}
 use Rattle.typed_path.proofs.lemmas.changes.WindowsPushes.{is_marked, verbatim-marked}
 use Rattle.typed_path.proofs.lemmas.promises.WindowsBases.{verbatim-no_drive, Rest, nothing, from_root, from_other, spelled-behind}
 use Rattle.typed_path.proofs.lemmas.promises.WindowsContained.{verbatim-none, verbatim-some}
 
 -- How long a list is where it is spelled.
-
--- the room that a component takes, with a separator unless it is a root
-abbrev pub size : Part → ℕ
-size p = length p.text + (if begins_with_root (p.kind ∷ []) then 0 else 1)
 
 spelled-size : (p : Part) (ps : List Part) → length (spelled (p ∷ ps)) ≤ length p.text + room_of ps
 spelled-size p [] = omega arith

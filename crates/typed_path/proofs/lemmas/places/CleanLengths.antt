@@ -5,7 +5,7 @@ use Rattle.std.proofs.lemmas.Bool.{cond_both, both_ways, eqb-false}
 use Rattle.std.proofs.lemmas.List.Elements.{All-head}
 use Rattle.std.proofs.lemmas.List.Sums.{sum_by-cons}
 use Rattle.typed_path.specs.declared.scan.separators.Separators.{Separators}
-use Rattle.typed_path.specs.declared.scan.separators.Separators.TheVariants.{Slash, Backslash, Either}
+use Rattle.typed_path.specs.declared.scan.separators.Separators.TheVariants.{Slash, Either}
 use Rattle.typed_path.specs.components.{Dialect, unix, windows, dot, backslash, separators, is_separator, is_dot, is_dot_dot, root_text, Kind, prefix, root, current, parent, normal, Part, parts, kinds, root_part, current_part, parent_part, name_part, Found, drive, prefix_of, body, comps_behind, parts_of}
 use Rattle.typed_path.specs.queries.{begins_with_root, is_disk}
 use Rattle.typed_path.specs.changes.{room_of}
@@ -15,6 +15,7 @@ use Rattle.typed_path.proofs.lemmas.components.FirmPrefixes.{parted, drive-apart
 use Rattle.typed_path.proofs.lemmas.components.Segments.{pieces, named_part, first_part, first_parts, later_parts, body_parts, body_parts-read, parts-body, parts_behind, parts-comps_behind, IsWritten, IsWrittenPart, each-written}
 use Rattle.typed_path.proofs.lemmas.components.WindowsNames.{unseparated-none}
 use Rattle.typed_path.proofs.lemmas.changes.Faults.{parts_of-none}
+use Rattle.typed_path.proofs.lemmas.changes.Lengths.{size, one-root}
 use Rattle.typed_path.proofs.lemmas.changes.MergedInPlace.{room-body}
 use Rattle.typed_path.proofs.lemmas.places.CleanTexts.{cleaned-rooted, cleaned-bare, cleaned-prefixed}
 
@@ -30,14 +31,6 @@ weight (normal name) = length name + 1
 abbrev weights : List Kind → ℕ
 weights [] = 0
 weights (k ∷ ks) = weight k + weights ks
-
-abbrev size : Part → ℕ
-size p = length p.text + (if begins_with_root (p.kind ∷ []) then 0 else 1)
-
-one-root : (s : Separators) → length (root_text s) ≡ 1
-one-root Slash = refl
-one-root Backslash = refl
-one-root Either = refl
 
 weight-size : (s : Separators) (k : Kind) (text : List ℕ) → IsWritten s k text → weight k ≤ size (record { kind = k; text = text })
 weight-size s (prefix p) text written = absurd written
