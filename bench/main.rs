@@ -851,9 +851,10 @@ fn starts_with(path: &Path, base: &Path) -> usize {
     usize::from(path.starts_with(base))
 }
 
-/// The first path above, or the path itself, that the other begins with, in the plain way.
+/// The components that both begin with, in the plain way: std has no such call.
 fn common_ancestor(path: &Path, other: &Path) -> usize {
-    path.ancestors().find(|above| other.starts_with(above)).map_or(1, len)
+    let pairs = path.components().zip(other.components());
+    made(pairs.take_while(|(own, others)| own == others).map(|(own, _)| own).collect())
 }
 
 /// The path without `.` and the names that a `..` takes away, in the plain way that is known to work.
