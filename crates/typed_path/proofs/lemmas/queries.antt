@@ -6,6 +6,7 @@
 -- FirstBytes: paths of Windows that begin otherwise, as their first bytes tell
 -- Simplified: a path of a verbatim drive without its `\\?\`: what the test for it finds, and what it is read as
 -- Shared: what two paths begin with: how far they have been read alike, and that it is the longest that both begin with
+-- SharedFronts: what two paths begin with, as the front of the one that their bytes tell of
 pub mod FileNames
 pub mod ValidNames
 pub mod Parents
@@ -13,3 +14,4 @@ pub mod Bases
 pub mod FirstBytes
 pub mod Simplified
 pub mod Shared
+pub mod SharedFronts

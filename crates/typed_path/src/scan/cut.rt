@@ -10,6 +10,7 @@ ghost use Rattle.typed_path.specs.scan.{is_clean, begins_with_name, tells_name, 
 ghost use Rattle.typed_path.specs.declared.scan.cursor.Begin.{Begin};
 ghost use Rattle.typed_path.specs.order.{left_cmp, bytes_cmp};
 ghost use Rattle.typed_path.specs.places.{PartInto};
+ghost use Rattle.typed_path.specs.queries.{ShareFront};
 ghost use Rattle.typed_path.specs.views.BodyViews.{body_items};
 
 use crate::scan::cursor::Body;
@@ -458,6 +459,66 @@ fn rests_parted<'a>(
     let _order = order_of_ends(&text[shared..], &other[shared..], separators)?;
     let start = last_start(&text[..shared], separators);
     Some((&text[start..], &other[start..]))
+}
+
+/// How many bytes at the front of a text hold the components that another begins with too, where their bytes tell:
+/// one begins with the other, or they part within names. None says nothing.
+#[inline(always)]
+pub fn shared_front(text: &[u8], other: &[u8], separators: Separators) -> Option<usize>
+    ensures within { IfSome result (λ n. n ≤ length text.now) }
+    ensures front { IfSome result
+        (λ n. ShareFront separators text.now other.now (take n text.now)) }
+{
+    let shared = first_difference(text, other);
+    if shared == other.len() {
+        if let Some(front) = front_of_longer(text, other, separators) {
+            return Some(front);
+        }
+    }
+    if shared == text.len() {
+        if let Some(front) = front_of_longer(other, text, separators) {
+            return Some(front);
+        }
+    }
+    front_before_names(text, other, shared, separators)
+}
+
+/// The same of a text and its beginning, where no component reaches over the end of that. None says nothing.
+#[inline(always)]
+fn front_of_longer(text: &[u8], beginning: &[u8], separators: Separators) -> Option<usize>
+    requires begins { take (length beginning.now) text.now ≡ beginning.now }
+    requires long { length beginning.now ≤ length text.now }
+    ensures len { IfSome result (λ n. n ≡ length beginning.now) }
+    ensures longer { IfSome result
+        (λ n. ShareFront separators text.now beginning.now beginning.now) }
+    ensures shorter { IfSome result
+        (λ n. ShareFront separators beginning.now text.now beginning.now) }
+{
+    let _end = end_behind(text, beginning, separators)?;
+    Some(beginning.len())
+}
+
+/// The same of two texts that part within names. It is told how many bytes the two begin with.
+#[inline(always)]
+fn front_before_names(
+    text: &[u8],
+    other: &[u8],
+    shared: usize,
+    separators: Separators,
+) -> Option<usize>
+    requires { PartAt text.now other.now shared }
+    ensures within { IfSome result (λ n. n ≤ length text.now) }
+    ensures front { IfSome result
+        (λ n. ShareFront separators text.now other.now (take n text.now)) }
+{
+    let _order = order_of_ends(&text[shared..], &other[shared..], separators)?;
+    let start = last_start(&text[..shared], separators);
+    if begins_with_name(&text[start..], separators)
+        && begins_with_name(&other[start..], separators)
+    {
+        return Some(start);
+    }
+    None
 }
 
 /// Whether the bytes of two texts tell that they differ in a component in one place: in a name, in their first

@@ -76,7 +76,7 @@ before_first-open p (m ∷ mid) rest none =
     ∙ ap (λ xs. m ∷ xs) (before_first-open p mid rest (λ k d l. none (suc k) d (omega (arith, l))))
 
 -- a text that begins with a name has it as its first component
-begins-name : (begin : Begin) (s : Separators) (at : ℕ) (text : List ℕ) → begins_with_name s text ≡ true
+pub begins-name : (begin : Begin) (s : Separators) (at : ℕ) (text : List ℕ) → begins_with_name s text ≡ true
     → (cs : List Placed) × (body_from begin s at text ≡ record { part = name_part (before_first (is_separator s) text); start = at } ∷ cs)
 begins-name begin s at [] h = cc
 begins-name begin s at (b ∷ bs) h =

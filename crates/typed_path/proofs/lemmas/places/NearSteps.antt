@@ -101,7 +101,7 @@ pieces-first p xs = elim (cases_lt (position_or_len p xs) (length xs)) [
 first-is : (s : Separators) (text : List ℕ) (ended : Bool) (name : List ℕ) (names : List (List ℕ)) → AreAlone s text ended (name ∷ names) → name ≡ before_first (is_separator s) text
 first-is s text ended name names alone = let first = pieces-first (is_separator s) text in let e : name ∷ names ++ ending ended ≡ before_first (is_separator s) text ∷ first.0 = sym alone.1 ∙ first.1 in cc
 
-unlike-names : (a b : List ℕ) (o : Ordering) → bytes_cmp a b ≡ o → is_ne o ≡ true → bytes_eq a b ≡ false
+pub unlike-names : (a b : List ℕ) (o : Ordering) → bytes_cmp a b ≡ o → is_ne o ≡ true → bytes_eq a b ≡ false
 unlike-names a b o is differ = by (bytes_eq a b) refl o is differ
   where
     by : (same : Bool) → bytes_eq a b ≡ same → (o : Ordering) → bytes_cmp a b ≡ o → is_ne o ≡ true → same ≡ false

@@ -1,7 +1,7 @@
 use Rattle.std.proofs.Common.{length}
 use Rattle.typed_path.specs.views.PathViews.{path_bytes, components_items, components_slice}
 use Rattle.typed_path.proofs.lemmas.queries.Shared.{Shares}
-use Rattle.typed_path.proofs.common.shared.shared_end.Given as goal
+use Rattle.typed_path.proofs.common.shared.shared_by_components.Given as goal
 
 abbrev pub invariant-pieces : goal.invariant-pieces
 invariant-pieces g l =
