@@ -68,8 +68,8 @@ extern "C" {
 #define TYPED_PATH_PREFIX_UNC 8           /* \\server\share */
 #define TYPED_PATH_PREFIX_DISK 9          /* C: */
 
-/* Bounds of answers, in bytes with the NUL; of the batch, which puts none, without. All but that of the
-   batch are proved. */
+/* Bounds of answers, in bytes with the NUL; of the batch, which puts none, without. All are proved,
+   where the number does not wrap; that of the batch, where ends and statuses have room for each name. */
 #define TYPED_PATH_JOIN_BOUND(path_len, other_len) ((size_t)(path_len) + (size_t)(other_len) + 4)
 #define TYPED_PATH_EXTENSION_BOUND(path_len, extension_len) \
     ((size_t)(path_len) + (size_t)(extension_len) + 2)

@@ -1,11 +1,16 @@
--- One name more of a batch.
-use Rattle.std.proofs.Common.{◌≡◌, ℕ, suc, ◌+◌, ◌<◌, ◌≤◌, ◌⊎◌, inl, inr, ⊎_elim, List, [], ◌∷◌, ◌++◌, length, map, take, drop, set, slice_range, slice_index, slice_index_or, refl, sym, ap, ap₂, subst, ◌∙◌, arith, append_assoc, append-nil}
+-- One name more of a batch, and that its bound has room for it.
+use Rattle.std.proofs.Common.{◌≡◌, ℕ, suc, ◌+◌, ◌*◌, ◌-◌, ◌<◌, ◌≤◌, ◌⊎◌, inl, inr, ⊎_elim, List, [], ◌∷◌, ◌++◌, length, map, take, drop, set, slice_range, slice_index, slice_index_or, Option, Some, None, length-take, refl, sym, ap, ap₂, subst, ◌∙◌, arith, append_assoc, append-nil}
 use Rattle.std.proofs.lemmas.List.{drop-drop, drop_at, take_at, length-append, length-map, map-append, length-take-le, length-drop}
 use Rattle.std.proofs.Math.Logic.{⊎_map}
 use Rattle.std.proofs.lemmas.Grind.{take_at_read}
+use Rattle.std.proofs.lemmas.Nat.{mul-le}
+use Rattle.std.proofs.Math.Nat.{suc-mul}
 use Rattle.typed_path.specs.components.{Dialect}
-use Rattle.typed_path_c.specs.Answers.{done, bad_ends, too_small, out_of_memory}
-use Rattle.typed_path_c.specs.Batch.{names_from, last_from, AreEnds, name_answer, name_status, answers, answer_ends, ArePut, IsBatch, IsFull}
+use Rattle.typed_path.specs.declared.errors.CheckedPathError.{CheckedPathError}
+use Rattle.typed_path.specs.changes.{fault}
+use Rattle.typed_path.proofs.lemmas.changes.Lengths.{push_length}
+use Rattle.typed_path_c.specs.Answers.{done, bad_ends, too_small, out_of_memory, Suffices}
+use Rattle.typed_path_c.specs.Batch.{names_from, last_from, AreEnds, name_answer, name_status, answers, answer_ends, answer_unless, ArePut, IsBatch, IsFull}
 use Rattle.typed_path_c.specs.Parts.{over}
 use Rattle.typed_path_c.proofs.Spans.{over_item, over_length}
 
@@ -21,6 +26,9 @@ module _ (names : List ℕ) where
   length-names : (start : ℕ) (ends : List ℕ) → length (names_from names start ends) ≡ length ends
   length-names start [] = refl
   length-names start (e ∷ ends) = ap suc (length-names e ends)
+
+  count : (n : ℕ) (ends : List ℕ) → n ≤ length ends → length (names_from names 0 (take n ends)) ≡ n
+  count n ends some = length-names 0 (take n ends) ∙ length-take-le n ends some
 
 last-more : (start : ℕ) (ends : List ℕ) (end : ℕ) → last_from start (ends ++ end ∷ []) ≡ end
 last-more start [] end = refl
@@ -45,6 +53,11 @@ module _ (d : Dialect) (base : List ℕ) where
   length-ends at [] = refl
   length-ends at (n ∷ names) = ap suc (length-ends (at + length (name_answer d base n)) names)
 
+  -- an answer has at most three bytes more than base and name
+  answer-length : (name : List ℕ) (refused : Option CheckedPathError) → length (answer_unless d base name refused) ≤ length name + (length base + 3)
+  answer-length name None = omega (arith, push_length d base name)
+  answer-length name (Some e) = omega arith
+
   -- a batch that was done for the first names
   pub record Runs (names ends old new ends_old ends_new statuses_old statuses_new : List ℕ) (n start at : ℕ) : Type 0 where
     pub some : n ≤ length ends
@@ -52,6 +65,8 @@ module _ (d : Dialect) (base : List ℕ) where
     pub put : ArePut d base (names_from names 0 (take n ends)) old new ends_old ends_new statuses_old statuses_new
     pub starts : start ≡ last_from 0 (take n ends)
     pub ends_at : at ≡ length (answers d base (names_from names 0 (take n ends)))
+    pub within : start ≤ length names
+    pub short : at ≤ start + n * (length base + 3)
 
   -- at first
   pub none-run : (names ends old ends_old statuses_old : List ℕ) (n : ℕ) → n ≡ 0 → Runs names ends old old ends_old ends_old statuses_old statuses_old n 0 0
@@ -62,7 +77,15 @@ module _ (d : Dialect) (base : List ℕ) where
         put = record { bytes = refl; fits = omega arith; ends = refl; statuses = refl; has_ends = omega arith; has_statuses = omega arith };
         starts = refl;
         ends_at = refl;
+        within = omega arith;
+        short = omega arith;
       })
+
+  -- the buffer keeps its length
+  long : (names : List (List ℕ)) (old new ends_old ends_new statuses_old statuses_new : List ℕ) → ArePut d base names old new ends_old ends_new statuses_old statuses_new → length new ≡ length old
+  long names old new ends_old ends_new statuses_old statuses_new put =
+      let before = answers d base names in
+      omega (arith, ap length put.bytes, length-append before (drop (length before) old), length-drop (length before) old, put.fits)
 
   -- one more answer is put
   module _ (done_names : List (List ℕ)) (name old new ends_old ends_new statuses_old statuses_new later : List ℕ) (at end status n : ℕ)
@@ -86,14 +109,11 @@ module _ (d : Dialect) (base : List ℕ) where
         ∙ drop-drop (length own) (length before) old
         ∙ ap (λ k. drop k old) (sym (length-append before own))
 
-    length-new : length new ≡ length old
-    length-new = omega (arith, ap length put.bytes, length-append before (drop (length before) old), length-drop (length before) old, put.fits)
-
     pub put-more : ArePut d base (done_names ++ name ∷ []) old later ends_old (set ends_new n end) statuses_old (set statuses_new n status)
     put-more = record {
       bytes = stands ∙ ap₂ (λ a b. a ++ own ++ b) kept behind
           ∙ ap (λ t. t ++ drop (length t) old) (sym (answers-more done_names name));
-      fits = omega (arith, ap length (answers-more done_names name), length-append before own, goes, is, within, length-new);
+      fits = omega (arith, ap length (answers-more done_names name), length-append before own, goes, is, within, long done_names old new ends_old ends_new statuses_old statuses_new put);
       ends = ap₂ (λ xs k. set xs k end) put.ends (sym (length-ends 0 done_names ∙ count))
           ∙ sym (over_item (answer_ends d base 0 done_names) ends_old end (omega (arith, length-ends 0 done_names, count, room, ap length put.ends, over_length (answer_ends d base 0 done_names) ends_old)))
           ∙ ap (λ e. over (answer_ends d base 0 done_names ++ e ∷ []) ends_old) (omega (arith, goes, is))
@@ -120,9 +140,6 @@ module _ (d : Dialect) (base : List ℕ) where
     names-taken = ap (names_from names 0) taken ∙ names-more names 0 (take n ends) next
         ∙ ap (λ s. names_from names 0 (take n ends) ++ slice_range names s next ∷ []) (sym runs.starts)
 
-    pub count : length (names_from names 0 (take n ends)) ≡ n
-    count = length-names names 0 (take n ends) ∙ length-take-le n ends runs.some
-
     pub runs-on : end ≡ at + length (name_answer d base (slice_range names start next)) → end ≤ length new → status ≡ name_status d (slice_range names start next)
         → later ≡ take at new ++ name_answer d base (slice_range names start next) ++ drop end new → n < length ends_new → n < length statuses_new
         → Runs names ends old later ends_old (set ends_new n end) statuses_old (set statuses_new n status) (n + 1) next end
@@ -130,32 +147,28 @@ module _ (d : Dialect) (base : List ℕ) where
       some = omega (arith, more);
       in_order = subst (AreEnds names 0) (sym taken) (order-more names 0 (take n ends) next runs.in_order (subst (λ s. s ≤ next) runs.starts ahead) inside);
       put = subst (λ ns. ArePut d base ns old later ends_old (set ends_new n end) statuses_old (set statuses_new n status)) (sym names-taken)
-          (put-more (names_from names 0 (take n ends)) (slice_range names start next) old new ends_old ends_new statuses_old statuses_new later at end status n runs.put runs.ends_at count goes within told stands room free);
+          (put-more (names_from names 0 (take n ends)) (slice_range names start next) old new ends_old ends_new statuses_old statuses_new later at end status n
+          runs.put runs.ends_at (count names n ends runs.some) goes within told stands room free);
       starts = sym (ap (last_from 0) taken ∙ last-more 0 (take n ends) next);
       ends_at = goes
           ∙ ap (λ k. k + length (name_answer d base (slice_range names start next))) runs.ends_at
           ∙ sym (length-append (answers d base (names_from names 0 (take n ends))) (name_answer d base (slice_range names start next)))
           ∙ ap length (sym (answers-more (names_from names 0 (take n ends)) (slice_range names start next)))
           ∙ ap (λ ns. length (answers d base ns)) (sym names-taken);
+      within = inside;
+      short =
+          let name = slice_range names start next in
+          omega (arith, goes, runs.short, answer-length name (fault d name), length-take (next - start) (drop start names), ahead, suc-mul n (length base + 3));
     }
 
   module _ (names ends old new ends_old ends_new statuses_old statuses_new : List ℕ) (n start at : ℕ)
       (runs : Runs names ends old new ends_old ends_new statuses_old statuses_new n start at) where
+    long-new : length new ≡ length old
+    long-new = long (names_from names 0 (take n ends)) old new ends_old ends_new statuses_old statuses_new runs.put
+
     -- what is put lies within the buffer
     pub length-run : at ≤ length new
-    length-run =
-        let before = answers d base (names_from names 0 (take n ends)) in
-        omega (arith, runs.ends_at, ap length runs.put.bytes, length-append before (drop (length before) old))
-
-    -- how it ended
-    ended : (status : ℕ) → (status ≡ done → n ≡ length ends) → (status ≡ bad_ends → (n < length ends) × ((slice_index ends n < last_from 0 (take n ends)) ⊎ (length names < slice_index ends n)))
-        → (status ≡ too_small → (n < length ends) × IsFull d base (names_from names 0 (take n ends)) old ends_old statuses_old (slice_range names (last_from 0 (take n ends)) (slice_index ends n)))
-        → (status ≡ done) ⊎ (status ≡ bad_ends) ⊎ (status ≡ too_small) ⊎ (status ≡ out_of_memory) → IsBatch d base names ends old new ends_old ends_new statuses_old statuses_new n status
-    ended status all ill full known = record { some = runs.some; in_order = runs.in_order; put = runs.put; all = all; ill = ill; full = full; known = known }
-
-    -- a batch that was done for all
-    pub ended-all : length ends ≤ n → IsBatch d base names ends old new ends_old ends_new statuses_old statuses_new n done
-    ended-all all = ended done (λ e. omega (arith, all, runs.some)) (λ e. absurd (omega (arith, e))) (λ e. absurd (omega (arith, e))) (inl refl)
+    length-run = omega (arith, runs.ends_at, runs.put.fits, long-new)
 
     long-ends : length ends_new ≡ length ends_old
     long-ends = ap length runs.put.ends ∙ over_length (answer_ends d base 0 (names_from names 0 (take n ends))) ends_old
@@ -163,8 +176,41 @@ module _ (d : Dialect) (base : List ℕ) where
     long-statuses : length statuses_new ≡ length statuses_old
     long-statuses = ap length runs.put.statuses ∙ over_length (map (name_status d) (names_from names 0 (take n ends))) statuses_old
 
-    done-count : length (names_from names 0 (take n ends)) ≡ n
-    done-count = length-names names 0 (take n ends) ∙ length-take-le n ends runs.some
+    counted : length (names_from names 0 (take n ends)) ≡ n
+    counted = count names n ends runs.some
+
+    -- the bound has room for the next name
+    never-full : (status : ℕ)
+        → (status ≡ too_small → (n < length ends) × IsFull d base (names_from names 0 (take n ends)) old ends_old statuses_old (slice_range names (last_from 0 (take n ends)) (slice_index ends n)))
+        → length ends ≤ length ends_old → length ends ≤ length statuses_old → Suffices (length names + length ends * (length base + 3)) old status
+    never-full status full has_ends has_statuses room small =
+        let (more, why) = full small in
+        let last = last_from 0 (take n ends) in
+        let next = slice_range names last (slice_index ends n) in
+        ⊎_elim (λ h. omega (arith, h, counted, more, has_ends)) (⊎_elim (λ h. omega (arith, h, counted, more, has_statuses)) (λ h. omega (
+          arith,
+          h,
+          room,
+          runs.ends_at,
+          runs.starts,
+          runs.short,
+          runs.within,
+          answer-length next (fault d next),
+          length-take (slice_index ends n - last) (drop last names),
+          length-drop last names,
+          suc-mul n (length base + 3),
+          mul-le (suc n) (length base + 3) (length ends) (length base + 3) (omega (arith, more)) (omega arith),
+        ))) why
+
+    -- how it ended
+    ended : (status : ℕ) → (status ≡ done → n ≡ length ends) → (status ≡ bad_ends → (n < length ends) × ((slice_index ends n < last_from 0 (take n ends)) ⊎ (length names < slice_index ends n)))
+        → (status ≡ too_small → (n < length ends) × IsFull d base (names_from names 0 (take n ends)) old ends_old statuses_old (slice_range names (last_from 0 (take n ends)) (slice_index ends n)))
+        → (status ≡ done) ⊎ (status ≡ bad_ends) ⊎ (status ≡ too_small) ⊎ (status ≡ out_of_memory) → IsBatch d base names ends old new ends_old ends_new statuses_old statuses_new n status
+    ended status all ill full known = record { some = runs.some; in_order = runs.in_order; put = runs.put; all = all; ill = ill; full = full; fits = never-full status full; known = known }
+
+    -- a batch that was done for all
+    pub ended-all : length ends ≤ n → IsBatch d base names ends old new ends_old ends_new statuses_old statuses_new n done
+    ended-all all = ended done (λ e. omega (arith, all, runs.some)) (λ e. absurd (omega (arith, e))) (λ e. absurd (omega (arith, e))) (inl refl)
 
     -- one whose next end is wrong
     pub ended-ill : n < length ends → (slice_index_or ends n 0 < start) ⊎ ((start ≤ slice_index_or ends n 0) × (length names < slice_index_or ends n 0))
@@ -176,28 +222,16 @@ module _ (d : Dialect) (base : List ℕ) where
     pub ended-full : n < length ends → (length ends_new ≤ n) ⊎ ((n < length ends_new) × (length statuses_new ≤ n))
         → IsBatch d base names ends old new ends_old ends_new statuses_old statuses_new n too_small
     ended-full more either = ended too_small (λ e. absurd (omega (arith, e))) (λ e. absurd (omega (arith, e)))
-        (λ e. (more, ⊎_elim (λ h. inl (omega (arith, h, long-ends, done-count))) (λ h. inr (inl (omega (arith, h.1, long-statuses, done-count)))) either)) (inr (inr (inl refl)))
+        (λ e. (more, ⊎_elim (λ h. inl (omega (arith, h, long-ends, counted))) (λ h. inr (inl (omega (arith, h.1, long-statuses, counted)))) either)) (inr (inr (inl refl)))
 
     -- one whose next name was not joined
     pub ended-err : (later : List ℕ) (status : ℕ) → later ≡ new → n < length ends
         → (status ≡ out_of_memory) ⊎ ((status ≡ too_small) × (length new < at + length (name_answer d base (slice_range names start (slice_index_or ends n 0)))))
         → IsBatch d base names ends old later ends_old ends_new statuses_old statuses_new n status
-    ended-err later status same more why = record {
-      some = runs.some;
-      in_order = runs.in_order;
-      put = subst (λ t. ArePut d base (names_from names 0 (take n ends)) old t ends_old ends_new statuses_old statuses_new) (sym same) runs.put;
-      all = λ e. absurd (⊎_elim (λ w. omega (arith, w, e)) (λ w. omega (arith, w.0, e)) why);
-      ill = λ e. absurd (⊎_elim (λ w. omega (arith, w, e)) (λ w. omega (arith, w.0, e)) why);
-      full = λ e. (
-        more,
-        ⊎_elim (λ w. absurd (omega (arith, w, e))) (λ w. inr (inr (
-            subst (λ s. length old < length (answers d base (names_from names 0 (take n ends))) + length (name_answer d base (slice_range names s (slice_index_or ends n 0)))) runs.starts
-            (omega (arith, w.1, runs.ends_at, long-new))))) why,
-      );
-      known = ⊎_elim (λ w. inr (inr (inr w))) (λ w. inr (inr (inl w.0))) why;
-    }
-      where
-        long-new : length new ≡ length old
-        long-new =
-            let before = answers d base (names_from names 0 (take n ends)) in
-            omega (arith, ap length runs.put.bytes, length-append before (drop (length before) old), length-drop (length before) old, runs.put.fits)
+    ended-err later status same more why =
+        let name = ap (λ s. length (name_answer d base (slice_range names s (slice_index ends n)))) runs.starts in
+        subst (λ t. IsBatch d base names ends old t ends_old ends_new statuses_old statuses_new n status) (sym same) (ended status
+        (λ e. absurd (⊎_elim (λ w. omega (arith, w, e)) (λ w. omega (arith, w.0, e)) why))
+        (λ e. absurd (⊎_elim (λ w. omega (arith, w, e)) (λ w. omega (arith, w.0, e)) why))
+        (λ e. (more, ⊎_elim (λ w. absurd (omega (arith, w, e))) (λ w. inr (inr (omega (arith, w.1, runs.ends_at, long-new, name)))) why))
+        (⊎_elim (λ w. inr (inr (inr w))) (λ w. inr (inr (inl w.0))) why))

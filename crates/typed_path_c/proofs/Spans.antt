@@ -51,6 +51,11 @@ module _ (d : Dialect) (path : List ℕ) where
   pub left-behind : (seen items : List Placed) (left : List ℕ) (n : ℕ) → IsBehind d path seen items left → length seen ≡ n → drop n (comps d path) ≡ items
   left-behind seen items left n behind long = ap (drop n) behind.0 ∙ drop_at seen items n long
 
+  -- where none is left, all were seen
+  pub all-seen : (seen items : List Placed) (left : List ℕ) → IsBehind d path seen items left → None ≡ option_map told (first_of items) → comps d path ≡ seen
+  all-seen seen [] left behind none = behind.0 ∙ append-nil seen
+  all-seen seen (c ∷ items) left behind none = cc none
+
   -- one step from the front
   pub behind_front : (seen items : List Placed) (left : List ℕ) (c : Placed) → first_of items ≡ Some c → IsBehind d path seen items left
       → IsBehind d path (seen ++ c ∷ []) (drop 1 items) (slice_after_front items left)
@@ -93,14 +98,6 @@ over_length (x ∷ items) (o ∷ old) = ap suc (over_length items old)
 pub first-told : (o : Option Placed) (x : Component) → Some x ≡ option_map told o → (c : Placed) × (o ≡ Some c) × (x ≡ told c)
 first-told None x e = absurd (true≢false (ap is_some e))
 first-told (Some c) x e = (c, refl, cc e)
-
-pub none-told : (o : Option Placed) → None ≡ option_map told o → o ≡ None
-none-told None e = refl
-none-told (Some c) e = cc e
-
-pub none-left : (items : List Placed) → first_of items ≡ None → items ≡ []
-none-left [] e = refl
-none-left (c ∷ items) e = cc e
 
 -- the components that were seen stand in an array, and one more
 pub over-told : (seen : List Placed) (c : Placed) (x : Component) → x ≡ told c → map told seen ++ x ∷ [] ≡ map told (seen ++ c ∷ [])

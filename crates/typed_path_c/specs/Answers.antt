@@ -3,10 +3,8 @@ use Rattle.std.specs.Prelude.{◌≡◌, ◌≤◌, ◌<◌, ℕ, zero, suc, Lis
 use Rattle.std.specs.declared.cmp.Ordering.{Ordering}
 use Rattle.std.specs.declared.cmp.Ordering.TheVariants.{Less, Equal, Greater}
 use Rattle.std.specs.Hash.DefaultHasher as sip
-use Rattle.typed_path.specs.components.Parts.{kinds}
-use Rattle.typed_path.specs.components.Comps.{parts_of}
 use Rattle.typed_path.specs.order.Words.{kinds_words}
-use Rattle.typed_path.specs.components.Dialects.{Dialect, unix, windows}
+use Rattle.typed_path.specs.components.{Dialect, unix, windows, kinds, parts_of}
 use Rattle.typed_path.specs.declared.errors.CheckedPathError.{CheckedPathError}
 use Rattle.typed_path.specs.declared.errors.CheckedPathError.TheVariants.{InvalidFilename, PathTraversalAttack, UnexpectedPrefix, UnexpectedRoot}
 use Rattle.typed_path.specs.declared.errors.PathError.{PathError}
@@ -15,12 +13,10 @@ use Rattle.typed_path.specs.declared.errors.PathError.TheVariants.{Checked}
 use Rattle.typed_path.specs.declared.errors.AbsolutizeError.{AbsolutizeError}
 use Rattle.typed_path.specs.declared.errors.AbsolutizeError.TheVariants as absolute
 use Rattle.typed_path.specs.declared.errors.AbsolutizeError.TheVariants.{Ambiguous}
-use Rattle.typed_path.specs.changes.Push.{push}
-use Rattle.typed_path.specs.changes.Fault.{fault}
+use Rattle.typed_path.specs.changes.{push, fault}
 use Rattle.typed_path.specs.conversions.Convert.{converted, converted_checked, absolute_from}
 use Rattle.typed_path.specs.places.{relative_text}
-use Rattle.typed_path.specs.promises.Promises.{HasPrefixOf, LiesWithin}
-use Rattle.typed_path.specs.promises.Below.{LiesBelow}
+use Rattle.typed_path.specs.promises.{HasPrefixOf, LiesWithin, LiesBelow}
 
 -- the dialect that a number names
 abbrev pub dialect_named : ℕ → Option Dialect

@@ -1,11 +1,10 @@
 -- Checked joins of many names onto one base.
-use Rattle.std.specs.Prelude.{◌≡◌, ◌≤◌, ◌<◌, ◌+◌, ◌⊎◌, ℕ, List, [], ◌∷◌, ◌++◌, length, map, take, drop, slice_range, slice_index, Option, Some, None, ⊤, MatchOption}
+use Rattle.std.specs.Prelude.{◌≡◌, ◌≤◌, ◌<◌, ◌+◌, ◌*◌, ◌⊎◌, ℕ, List, [], ◌∷◌, ◌++◌, length, map, take, drop, slice_range, slice_index, Option, Some, None, ⊤, MatchOption}
 use Rattle.std.specs.List.{flat_map}
 use Rattle.typed_path.specs.components.Dialects.{Dialect}
 use Rattle.typed_path.specs.declared.errors.CheckedPathError.{CheckedPathError}
-use Rattle.typed_path.specs.changes.Push.{push}
-use Rattle.typed_path.specs.changes.Fault.{fault}
-use Rattle.typed_path_c.specs.Answers.{dialect_named, fault_status, done, out_of_memory, too_small, bad_dialect, bad_ends}
+use Rattle.typed_path.specs.changes.{push, fault}
+use Rattle.typed_path_c.specs.Answers.{dialect_named, fault_status, done, out_of_memory, too_small, bad_dialect, bad_ends, Suffices}
 use Rattle.typed_path_c.specs.Parts.{over}
 
 -- the names that stand behind each other, each from where the one before it ends
@@ -61,7 +60,7 @@ IsFull d base names old ends statuses next =
     (length ends ≤ length names) ⊎ (length statuses ≤ length names)
     ⊎ (length old < length (answers d base names) + length (name_answer d base next))
 
--- a batch was done for so many names, and its status says why for no more
+-- a batch was done for so many names, and its status says why for no more; where ends and statuses have room, a buffer of the bound is never too small
 pub record IsBatch (d : Dialect) (base names ends old new ends_old ends_new statuses_old statuses_new : List ℕ) (n status : ℕ) : Type 0 where
   pub some : n ≤ length ends
   pub in_order : AreEnds names 0 (take n ends)
@@ -70,6 +69,7 @@ pub record IsBatch (d : Dialect) (base names ends old new ends_old ends_new stat
   pub ill : status ≡ bad_ends → (n < length ends) × ((slice_index ends n < last_from 0 (take n ends)) ⊎ (length names < slice_index ends n))
   pub full : status ≡ too_small → (n < length ends)
       × IsFull d base (names_from names 0 (take n ends)) old ends_old statuses_old (slice_range names (last_from 0 (take n ends)) (slice_index ends n))
+  pub fits : length ends ≤ length ends_old → length ends ≤ length statuses_old → Suffices (length names + length ends * (length base + 3)) old status
   pub known : (status ≡ done) ⊎ (status ≡ bad_ends) ⊎ (status ≡ too_small) ⊎ (status ≡ out_of_memory)
 
 -- the same for the dialect that a number names, and for one that names none

@@ -9,10 +9,10 @@ ghost use Rattle.typed_path.specs.queries.{is_absolute, has_root, is_valid, path
 ghost use Rattle.typed_path.specs.typed.{derived_dialect};
 ghost use Rattle.typed_path_c.specs.Answers.{dialect_named, done, bad_dialect, order_number, hash_of, Tells, Orders, Hashes};
 
-use crate::status::{BAD_DIALECT, DONE, of_path, path_in};
+use crate::status::{BAD_DIALECT, DONE, of_encoding, of_path, path_in};
 use std::cmp::Ordering;
 use std::hash::{DefaultHasher, Hash, Hasher};
-use typed_path::{Encoding, Path, PathType, UnixEncoding, WindowsEncoding};
+use typed_path::{Encoding, Path, PathType};
 
 /// Tells an answer.
 fn tell(asked: bool, answer: &mut bool) -> u32
@@ -64,11 +64,8 @@ pub extern "C" fn typed_path_has_root(dialect: u32, path: &[u8], answer: &mut bo
 pub extern "C" fn typed_path_is_valid(dialect: u32, path: &[u8], answer: &mut bool) -> u32
     ensures { Tells dialect (λ d. is_valid d (kinds (parts_of d path.now))) answer.new result }
 {
-    match dialect {
-        0 => tell(is_valid::<UnixEncoding>(path), answer),
-        1 => tell(is_valid::<WindowsEncoding>(path), answer),
-        _ => tell_none(answer),
-    }
+    let asked = of_encoding!(dialect, is_valid(path), return tell_none(answer));
+    tell(asked, answer)
 }
 
 /// The same of a path of one encoding.
@@ -135,11 +132,8 @@ pub extern "C" fn typed_path_equal(
 ) -> u32
     ensures { Tells dialect (λ d. is_same d path.now other.now) answer.new result }
 {
-    match dialect {
-        0 => tell(are_same::<UnixEncoding>(path, other), answer),
-        1 => tell(are_same::<WindowsEncoding>(path, other), answer),
-        _ => tell_none(answer),
-    }
+    let asked = of_encoding!(dialect, are_same(path, other), return tell_none(answer));
+    tell(asked, answer)
 }
 
 /// The same of paths of one encoding.
@@ -159,11 +153,7 @@ pub extern "C" fn typed_path_compare(
 ) -> u32
     ensures { Orders dialect (λ d. path_cmp d path.now other.now) order.old order.new result }
 {
-    *order = match dialect {
-        0 => compared::<UnixEncoding>(path, other),
-        1 => compared::<WindowsEncoding>(path, other),
-        _ => return BAD_DIALECT,
-    };
+    *order = of_encoding!(dialect, compared(path, other), return BAD_DIALECT);
     DONE
 }
 
@@ -183,11 +173,7 @@ fn compared<T: Encoding>(path: &[u8], other: &[u8]) -> i32
 pub extern "C" fn typed_path_hash(dialect: u32, path: &[u8], hash: &mut u64) -> u32
     ensures { Hashes dialect path.now hash.old hash.new result }
 {
-    *hash = match dialect {
-        0 => hash_of::<UnixEncoding>(path),
-        1 => hash_of::<WindowsEncoding>(path),
-        _ => return BAD_DIALECT,
-    };
+    *hash = of_encoding!(dialect, hash_of(path), return BAD_DIALECT);
     DONE
 }
 

@@ -9,10 +9,8 @@ ghost use Rattle.typed_path_c.specs.declared.parts.Component.{Component};
 ghost use Rattle.typed_path_c.specs.Answers.{done, none_there};
 ghost use Rattle.typed_path_c.specs.Parts.{last_view, parent_place, file_name_place, file_stem_place, extension_place, stripped_place, Lends, kind_number, over, told, ListsIn, Lists, LendsAt, IsBehind};
 
-use crate::status::{BAD_DIALECT, DONE, NONE, TOO_SMALL, path_in};
-use typed_path::{
-    Components, Encoding, Path, Piece, PieceKind, UnixEncoding, WindowsEncoding, WindowsPrefix,
-};
+use crate::status::{BAD_DIALECT, DONE, NONE, TOO_SMALL, of_encoding, path_in};
+use typed_path::{Components, Encoding, Path, Piece, PieceKind, WindowsPrefix};
 
 /// A part of the caller's path: its first byte, counted from 0, and how many bytes it has.
 #[repr(C)]
@@ -22,14 +20,14 @@ pub struct Span {
     pub length: usize,
 }
 
-/// Tells a place, or that there is no such part.
-fn lend(found: Option<Span>, span: &mut Span) -> u32
-    ensures { MatchOption found ((result ≡ none_there) × (span.new ≡ span.old))
-        (λ f. (result ≡ done) × (span.new ≡ f)) }
+/// Tells a part, or that there is no such one.
+fn lend<T: Copy>(found: Option<T>, part: &mut T) -> u32
+    ensures { MatchOption found ((result ≡ none_there) × (part.new ≡ part.old))
+        (λ f. (result ≡ done) × (part.new ≡ f)) }
 {
     match found {
         Some(found) => {
-            *span = found;
+            *part = found;
             DONE
         }
         None => NONE,
@@ -84,11 +82,8 @@ pub extern "C" fn typed_path_parent(dialect: u32, path: &[u8], span: &mut Span) 
 pub extern "C" fn typed_path_file_name(dialect: u32, path: &[u8], span: &mut Span) -> u32
     ensures { Lends dialect (λ d. file_name_place d path.now) span.old span.new result }
 {
-    match dialect {
-        0 => lend(file_name::<UnixEncoding>(path), span),
-        1 => lend(file_name::<WindowsEncoding>(path), span),
-        _ => BAD_DIALECT,
-    }
+    let found = of_encoding!(dialect, file_name(path), return BAD_DIALECT);
+    lend(found, span)
 }
 
 fn file_name<T: Encoding>(path: &[u8]) -> Option<Span>
@@ -108,11 +103,8 @@ fn file_name<T: Encoding>(path: &[u8]) -> Option<Span>
 pub extern "C" fn typed_path_file_stem(dialect: u32, path: &[u8], span: &mut Span) -> u32
     ensures { Lends dialect (λ d. file_stem_place d path.now) span.old span.new result }
 {
-    match dialect {
-        0 => lend(file_stem::<UnixEncoding>(path), span),
-        1 => lend(file_stem::<WindowsEncoding>(path), span),
-        _ => BAD_DIALECT,
-    }
+    let found = of_encoding!(dialect, file_stem(path), return BAD_DIALECT);
+    lend(found, span)
 }
 
 fn file_stem<T: Encoding>(path: &[u8]) -> Option<Span>
@@ -135,11 +127,8 @@ fn file_stem<T: Encoding>(path: &[u8]) -> Option<Span>
 pub extern "C" fn typed_path_extension(dialect: u32, path: &[u8], span: &mut Span) -> u32
     ensures { Lends dialect (λ d. extension_place d path.now) span.old span.new result }
 {
-    match dialect {
-        0 => lend(extension::<UnixEncoding>(path), span),
-        1 => lend(extension::<WindowsEncoding>(path), span),
-        _ => BAD_DIALECT,
-    }
+    let found = of_encoding!(dialect, extension(path), return BAD_DIALECT);
+    lend(found, span)
 }
 
 fn extension<T: Encoding>(path: &[u8]) -> Option<Span>
@@ -241,11 +230,7 @@ pub extern "C" fn typed_path_components(
 ) -> u32
     ensures { Lists dialect path.now out.old count.old out.new count.new result }
 {
-    match dialect {
-        0 => list::<UnixEncoding>(path, out, count),
-        1 => list::<WindowsEncoding>(path, out, count),
-        _ => BAD_DIALECT,
-    }
+    of_encoding!(dialect, list(path, out, count), BAD_DIALECT)
 }
 
 /// The same of a path of one encoding.
@@ -283,18 +268,8 @@ pub extern "C" fn typed_path_component_at(
 ) -> u32
     ensures { LendsAt dialect path.now index component.old component.new result }
 {
-    let found = match dialect {
-        0 => component_at::<UnixEncoding>(path, index),
-        1 => component_at::<WindowsEncoding>(path, index),
-        _ => return BAD_DIALECT,
-    };
-    match found {
-        Some(found) => {
-            *component = found;
-            DONE
-        }
-        None => NONE,
-    }
+    let found = of_encoding!(dialect, component_at(path, index), return BAD_DIALECT);
+    lend(found, component)
 }
 
 /// The same of a path of one encoding.

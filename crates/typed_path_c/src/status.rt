@@ -60,6 +60,18 @@ macro_rules! of_path {
     };
 }
 
+/// What a function gives at the encoding that a number names, and what where it names none.
+macro_rules! of_encoding {
+    ($dialect:expr, $asked:ident($($argument:expr),*), $none:expr) => {
+        match $dialect {
+            0 => $asked::<typed_path::UnixEncoding>($($argument),*),
+            1 => $asked::<typed_path::WindowsEncoding>($($argument),*),
+            _ => $none,
+        }
+    };
+}
+
+pub(super) use of_encoding;
 pub(super) use of_path;
 
 /// Puts an answer at the beginning of a buffer if it fits, with a NUL behind it where there is room.

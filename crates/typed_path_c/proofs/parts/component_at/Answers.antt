@@ -1,9 +1,9 @@
-use Rattle.std.proofs.Common.{◌∙◌, ◌++◌, ◌∷◌, [], ap, sym, refl, option_map, drop, arith, append-nil}
+use Rattle.std.proofs.Common.{◌∙◌, ◌++◌, ◌∷◌, [], ap, sym, refl, option_map, drop, arith}
 use Rattle.std.proofs.lemmas.List.{drop_all}
 use Rattle.typed_path.specs.components.{comps}
 use Rattle.typed_path.specs.scan.{first_of}
 use Rattle.typed_path_c.specs.Parts.{told}
-use Rattle.typed_path_c.proofs.Spans.{starts, left-behind, first-told, none-told, none-left, length-more, shorter}
+use Rattle.typed_path_c.proofs.Spans.{starts, left-behind, first-told, all-seen, length-more, shorter}
 use Rattle.typed_path_c.proofs.parts.component_at.Goals as goal
 
 pub components-init : goal.components-init
@@ -41,5 +41,5 @@ components-preserved g c =
 pub returns : goal.returns
 returns g c =
     let (seen, behind, long, within) = c.components.invariant in
-    let none = none-left _ (none-told _ (c.in_default.ensures.told seen behind)) in
-    ap (λ cs. option_map told (first_of cs)) (sym (ap (drop c.args.index) (behind.0 ∙ ap (λ cs. seen ++ cs) none ∙ append-nil seen) ∙ drop_all c.args.index seen (omega (arith, long, within))))
+    let all = all-seen g.T.Encoding.dialect c.args.path.now seen _ _ behind (c.in_default.ensures.told seen behind) in
+    ap (λ cs. option_map told (first_of cs)) (sym (ap (drop c.args.index) all ∙ drop_all c.args.index seen (omega (arith, long, within))))

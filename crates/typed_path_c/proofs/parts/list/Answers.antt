@@ -1,9 +1,9 @@
-use Rattle.std.proofs.Common.{◌≡◌, ◌∙◌, ◌++◌, ◌∷◌, [], ap, sym, refl, length, map, arith, append-nil}
+use Rattle.std.proofs.Common.{◌∙◌, ◌++◌, ◌∷◌, [], ap, sym, refl, length, map, arith}
 use Rattle.typed_path.specs.components.{comps}
 use Rattle.typed_path.specs.scan.{first_of}
 use Rattle.typed_path.specs.views.PathViews.{components_items}
 use Rattle.typed_path_c.specs.Parts.{over, told}
-use Rattle.typed_path_c.proofs.Spans.{starts, first-told, none-told, none-left, length-more, length-told, over-told, shorter, seen-within}
+use Rattle.typed_path_c.proofs.Spans.{starts, first-told, all-seen, length-more, length-told, over-told, shorter, seen-within}
 use Rattle.typed_path_c.proofs.parts.list.Goals as goal
 
 pub components-init : goal.components-init
@@ -40,13 +40,11 @@ components-preserved g c =
 pub returns-then-at-out : goal.returns-then-at-out
 returns-then-at-out g c =
     let (seen, behind, long, is) = c.components.invariant in
-    let none = none-left _ (none-told _ (c.in_default.ensures.told seen behind)) in
-    let all : comps g.T.Encoding.dialect c.args.path.now ≡ seen = behind.0 ∙ ap (λ cs. seen ++ cs) none ∙ append-nil seen in
+    let all = all-seen g.T.Encoding.dialect c.args.path.now seen _ _ behind (c.in_default.ensures.told seen behind) in
     (is ∙ ap (λ cs. over (map told cs) c.args.out.now) (sym all), sym long ∙ ap length (sym all), λ fits. refl, λ more. absurd (omega (arith, more, long, ap length all, c.if-at-out.true)))
 
 pub returns-else-at-out : goal.returns-else-at-out
 returns-else-at-out g c =
     let (seen, behind, long, is) = c.components.invariant in
-    let none = none-left _ (none-told _ (c.in_default.ensures.told seen behind)) in
-    let all : comps g.T.Encoding.dialect c.args.path.now ≡ seen = behind.0 ∙ ap (λ cs. seen ++ cs) none ∙ append-nil seen in
+    let all = all-seen g.T.Encoding.dialect c.args.path.now seen _ _ behind (c.in_default.ensures.told seen behind) in
     (is ∙ ap (λ cs. over (map told cs) c.args.out.now) (sym all), sym long ∙ ap length (sym all), λ fits. absurd (omega (arith, fits, long, ap length all, c.if-at-out.false)), λ more. refl)
