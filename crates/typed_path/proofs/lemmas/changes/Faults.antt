@@ -1,5 +1,5 @@
 -- A path judged component by component, and what holds of one that is not refused.
-use Rattle.std.proofs.Common.{◌≡◌, ℕ, zero, suc, ◌+◌, Bool, true, false, if◌then◌else◌, List, [], ◌∷◌, ◌++◌, refl, sym, ap, arith, length, drop, ◌==◌, not, ◌&&◌, ◌∙◌, ◌-◌, ◌<◌, ◌||◌, cond, slice_index, subst, Some, None, Option, nat_eq, le-leb, ne_eqb, eq-eqb, ⊎_elim}
+use Rattle.std.proofs.Common.{◌≡◌, ℕ, zero, suc, ◌+◌, Bool, true, false, if◌then◌else◌, List, [], ◌∷◌, ◌++◌, refl, sym, ap, arith, length, ◌==◌, not, ◌&&◌, ◌∙◌, ◌-◌, ◌<◌, ◌||◌, cond, slice_index, subst, Some, None, Option, nat_eq, le-leb, ne_eqb, eq-eqb, ⊎_elim}
 use Rattle.std.specs.List.{count_by, list_any, slice_split, onto_first, starts_with, AllByRecursion}
 use Rattle.std.specs.Option.{option_or}
 use Rattle.std.specs.Slice.Scan.{HoldsNowhere}
@@ -10,7 +10,7 @@ use Rattle.std.proofs.lemmas.List.{get_or_past, map-append}
 use Rattle.typed_path.specs.declared.errors.CheckedPathError.TheVariants.{InvalidFilename}
 use Rattle.typed_path.specs.declared.scan.separators.Separators.{Separators}
 use Rattle.typed_path.specs.declared.scan.separators.Separators.TheVariants.{Either, Backslash, Slash}
-use Rattle.typed_path.specs.components.{Dialect, windows, dot, is_separator, is_verbatim, root_text, separators, unix, slash, Kind, prefix, root, current, parent, normal, is_name, is_parent, Part, Placed, kinds, parts, current_part, root_part, parent_part, name_part, Prefix, prefix_part, Found, prefix_of, is_dot, parts_of, is_dot_dot}
+use Rattle.typed_path.specs.components.{Dialect, windows, dot, is_separator, is_verbatim, root_text, separators, unix, slash, Kind, prefix, root, current, parent, normal, is_name, is_parent, Part, kinds, current_part, root_part, parent_part, name_part, Prefix, prefix_part, Found, prefix_of, is_dot, parts_of, is_dot_dot}
 use Rattle.typed_path.specs.scan.{TellsWhether}
 use Rattle.typed_path.specs.queries.{is_valid_name, begins_with_root, has_prefix, has_any_verbatim_prefix, is_disallowed, is_disk}
 use Rattle.typed_path.specs.changes.{fault_behind, fault_at, fault, offence, merged, spelled, ended_windows, push, begins_with_nul_or_dot_pair, has_no_nul_or_dot_pair, is_nul_or_dot_pair, nul_or_dot_pair_at}

@@ -1,10 +1,10 @@
 -- Whether a path is reached from a base, by how many steps, and what room these take.
-use Rattle.std.proofs.Common.{◌≡◌, ℕ, zero, suc, ◌+◌, ◌*◌, ◌-◌, ◌<◌, ◌≤◌, ◌==◌, Bool, true, false, ◌&&◌, List, [], ◌∷◌, ◌++◌, if◌then◌else◌, length, drop, refl, sym, ap, ap₂, ◌∙◌, arith, nat_le, subst, length-append, length-drop, Option, Some, None}
+use Rattle.std.proofs.Common.{◌≡◌, ℕ, suc, ◌+◌, ◌-◌, ◌≤◌, ◌==◌, Bool, true, false, ◌&&◌, List, [], ◌∷◌, ◌++◌, if◌then◌else◌, length, drop, refl, sym, ap, ap₂, ◌∙◌, arith, nat_le, subst, length-drop, Option, Some, None}
 use Rattle.std.proofs.lemmas.Bool.{cond_both}
-use Rattle.std.proofs.lemmas.List.{length-map, map-append}
+use Rattle.std.proofs.lemmas.List.{length-map}
 use Rattle.typed_path.specs.declared.scan.separators.Separators.{Separators}
 use Rattle.typed_path.specs.components.{Dialect, separators, is_separator, is_verbatim, root_text, is_dot, is_dot_dot, Kind, prefix, root, current, parent, normal, Part, Placed, parts, root_part, current_part, parent_part, name_part, kinds, parts_of, Found, prefix_of}
-use Rattle.typed_path.specs.places.{AreSteps, can_stand, is_anchored, is_reached, kept_names, met_count, names_down, relative_by, rising, row_end, rows_of, same_heads, shared_count, steps_text, steps_up, unmet}
+use Rattle.typed_path.specs.places.{AreSteps, can_stand, is_anchored, is_reached, kept_names, met_count, names_down, relative_by, rising, rows_of, same_heads, shared_count, steps_text, steps_up, unmet}
 use Rattle.typed_path.proofs.lemmas.lists.Lists.{width, width-slice_split}
 use Rattle.typed_path.proofs.lemmas.components.Segments.{body_parts, first_part, first_parts, later_part, later_parts, named_part, parts_behind, parts-comps_behind, pieces}
 use Rattle.typed_path.proofs.lemmas.places.SharedFromBack.{shared_count-least, shared_count-most}

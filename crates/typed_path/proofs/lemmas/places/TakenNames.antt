@@ -1,5 +1,5 @@
 -- Names that are taken off the end of a list one after another: what is left and what was taken, whether these can stand, and the rows that they make from their ends.
-use Rattle.std.proofs.Common.{◌≡◌, ℕ, zero, suc, ◌+◌, ◌*◌, ◌-◌, ◌<◌, ◌≤◌, ◌==◌, Bool, true, false, not, ◌&&◌, List, [], ◌∷◌, ◌++◌, if◌then◌else◌, length, take, drop, reverse, refl, sym, ap, ap₂, ◌∙◌, append_assoc, append-nil, arith, take-append-drop, length-append, add-one}
+use Rattle.std.proofs.Common.{◌≡◌, ℕ, zero, suc, ◌+◌, ◌*◌, ◌-◌, ◌<◌, ◌≤◌, ◌==◌, Bool, true, false, not, ◌&&◌, List, [], ◌∷◌, ◌++◌, length, take, drop, reverse, refl, sym, ap, ap₂, ◌∙◌, append_assoc, append-nil, arith, take-append-drop, length-append, add-one}
 use Rattle.std.specs.Prelude.{Option, Some, None, MatchOption}
 use Rattle.std.specs.List.{list_any, join_with_byte}
 use Rattle.std.proofs.lemmas.List.{length-take-le, take_at, drop_at, drop_all, take_all, drop-drop, reverse-append, reverse-reverse, length-reverse}

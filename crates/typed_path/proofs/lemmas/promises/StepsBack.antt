@@ -1,12 +1,12 @@
 -- The steps that lead from one list to another, put behind the first, lead where the second leads.
-use Rattle.std.proofs.Common.{◌≡◌, ℕ, suc, ◌+◌, ◌-◌, ◌≤◌, ◌==◌, Bool, true, false, not, ◌&&◌, List, [], ◌∷◌, ◌++◌, map, if◌then◌else◌, length, take, drop, refl, sym, ap, ap₂, ◌∙◌, arith, nat_le, take-append-drop, is_eq}
+use Rattle.std.proofs.Common.{◌≡◌, ℕ, suc, ◌+◌, ◌-◌, ◌≤◌, ◌==◌, Bool, true, false, not, ◌&&◌, List, [], ◌∷◌, ◌++◌, if◌then◌else◌, length, take, drop, refl, sym, ap, ap₂, ◌∙◌, arith, nat_le, take-append-drop, is_eq}
 use Rattle.std.specs.Prelude.{bytes_eq, Option, Some, None}
 use Rattle.std.proofs.lemmas.Bool.{and_parts, eqb-true, leb-true}
 use Rattle.std.proofs.lemmas.Cmp.{tied_itself}
 use Rattle.std.proofs.lemmas.Slice.Eq.{bytes_eq-Decides}
-use Rattle.typed_path.specs.components.{Prefix, Kind, prefix, root, current, parent, normal}
+use Rattle.typed_path.specs.components.{Prefix, Kind, prefix}
 use Rattle.typed_path.specs.queries.{begins_with_root, first_prefix}
-use Rattle.typed_path.specs.order.{are_same_prefixes, kind_cmp, kind_cmp_total}
+use Rattle.typed_path.specs.order.{are_same_prefixes, kind_cmp_total}
 use Rattle.typed_path.specs.places.{can_stand, head_of, headed, is_anchored, is_reached, kept_names, names_down, rising, routed, same_heads, shared_count, steps_up, unmet}
 use Rattle.typed_path.proofs.lemmas.places.KeptNames.{AlikeKept, unmet-append, kept_names-append}
 use Rattle.typed_path.proofs.lemmas.places.SharedFromBack.{shared_count-most}

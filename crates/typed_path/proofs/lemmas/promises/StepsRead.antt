@@ -9,7 +9,7 @@ use Rattle.typed_path.specs.declared.scan.separators.Separators.TheVariants.{Sla
 use Rattle.typed_path.specs.components.{Dialect, unix, windows, slash, separators, begins_verbatim, Kind, root, kinds, parts_of, Found, prefix_of}
 use Rattle.typed_path.specs.queries.{begins_with_root}
 use Rattle.typed_path.specs.places.{can_stand, is_anchored, is_reached, kept_names, names_down, relative_text, steps_text, steps_up}
-use Rattle.typed_path.specs.promises.{IsRelative, StaysRelative}
+use Rattle.typed_path.specs.promises.{IsRelative}
 use Rattle.typed_path.proofs.lemmas.components.Segments.{IsCleanName, body_parts, body_parts-read, each-written, parts_behind, parts-comps_behind}
 use Rattle.typed_path.proofs.lemmas.promises.CleanForms.{ReadsPlain, parts-plain, plain, reads-plain}
 use Rattle.typed_path.proofs.lemmas.promises.CleanRead.{names-clean}

@@ -1,5 +1,5 @@
 -- On Unix the path that leads from a base to another, joined to the base, leads where that leads; and there is none exactly where no relative path does so.
-use Rattle.std.proofs.Common.{◌≡◌, ℕ, suc, ◌+◌, ◌-◌, ◌<◌, ◌≤◌, ◌==◌, Bool, true, false, not, ◌||◌, ◌&&◌, List, [], ◌∷◌, ◌++◌, if◌then◌else◌, length, drop, refl, sym, ap, ap₂, ◌∙◌, append-nil, arith, subst, inl, inr, eq-eqb, Option, Some, None}
+use Rattle.std.proofs.Common.{◌≡◌, ℕ, suc, ◌+◌, ◌-◌, ◌<◌, ◌≤◌, ◌==◌, Bool, true, false, not, ◌||◌, ◌&&◌, List, [], ◌∷◌, ◌++◌, if◌then◌else◌, length, refl, sym, ap, ap₂, ◌∙◌, append-nil, arith, subst, inl, inr, eq-eqb, Option, Some, None}
 use Rattle.std.specs.Prelude.{◌⊎◌, ◌≢◌}
 use Rattle.std.specs.List.{AllByRecursion}
 use Rattle.std.proofs.lemmas.Bool.{cases_lt, cond_both}
@@ -10,7 +10,7 @@ use Rattle.typed_path.specs.declared.scan.separators.Separators.TheVariants.{Sla
 use Rattle.typed_path.specs.components.{Dialect, unix, windows, slash, dot, is_separator, Kind, prefix, root, current, parent, normal, Part, kinds, parts_of, prefix_of}
 use Rattle.typed_path.specs.queries.{begins_with_root, first_prefix}
 use Rattle.typed_path.specs.changes.{push, push_unix, ended_with}
-use Rattle.typed_path.specs.places.{can_stand, head_of, headed, is_anchored, is_reached, kept_names, met_count, names_down, relative_text, rising, route, same_heads, shared_count, steps_text, steps_up, unmet}
+use Rattle.typed_path.specs.places.{can_stand, headed, is_anchored, is_reached, kept_names, met_count, names_down, relative_text, rising, route, same_heads, shared_count, steps_text, steps_up, unmet}
 use Rattle.typed_path.specs.promises.{HasNone, HasNoneAtAll, HasNoneOnUnix, IsDotAlike, IsUnreached, apart, higher, unreadable, without_leading_current}
 use Rattle.typed_path.proofs.lemmas.lists.Lists.{slice_split-some}
 use Rattle.typed_path.proofs.lemmas.components.Segments.{AreRead, IsCleanName, IsWritten, body_parts, body_parts-read, first_parts}

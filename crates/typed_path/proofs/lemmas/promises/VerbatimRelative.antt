@@ -1,9 +1,9 @@
 -- On Windows the path that leads from a base to another leads back behind each base that keeps its prefix, and if that is verbatim ends with enough names.
-use Rattle.std.proofs.Common.{◌≡◌, ℕ, suc, ◌+◌, ◌-◌, ◌≤◌, Bool, true, false, not, ◌||◌, List, [], ◌∷◌, ◌++◌, map, length, take, drop, refl, sym, ap, ap₂, ◌∙◌, append_assoc, arith, Option, Some, None, length-append}
-use Rattle.typed_path.specs.components.{windows, separators, Prefix, Kind, prefix, root, normal, kinds, Found, prefix_of}
+use Rattle.std.proofs.Common.{◌≡◌, ℕ, suc, ◌-◌, ◌≤◌, Bool, true, false, not, ◌||◌, List, [], ◌∷◌, ◌++◌, map, length, take, drop, refl, sym, ap, ap₂, ◌∙◌, append_assoc, arith, Option, Some, None, length-append}
+use Rattle.typed_path.specs.components.{windows, separators, Prefix, normal, kinds, Found, prefix_of}
 use Rattle.typed_path.specs.queries.{begins_with_root, first_prefix, has_any_verbatim_prefix, is_verbatim_prefix}
 use Rattle.typed_path.specs.changes.{push}
-use Rattle.typed_path.specs.places.{head_of, headed, is_anchored, kept_names, names_down, relative_text, rising, route, steps_up, unmet}
+use Rattle.typed_path.specs.places.{headed, is_anchored, kept_names, names_down, relative_text, route, steps_up}
 use Rattle.typed_path.specs.promises.{LeadsBackOnWindows, names_at_end}
 use Rattle.typed_path.proofs.lemmas.components.FirmPrefixes.{is_firm}
 use Rattle.typed_path.proofs.lemmas.places.KeptNames.{place-kept}

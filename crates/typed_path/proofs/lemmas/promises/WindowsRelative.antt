@@ -1,14 +1,13 @@
 -- On Windows the path that leads from a base to another, joined to a base that is not verbatim and keeps its prefix, leads where that leads.
-use Rattle.std.proofs.Common.{◌≡◌, ℕ, suc, ◌==◌, ◌<◌, ◌≤◌, Bool, true, false, not, ◌||◌, inl, inr, List, [], ◌∷◌, ◌++◌, if◌then◌else◌, length, drop, refl, sym, ap, ap₂, ◌∙◌, append_assoc, append-nil, arith, ne_eqb, subst, Option, Some, None, option_map, length-append}
+use Rattle.std.proofs.Common.{◌≡◌, ℕ, suc, ◌<◌, ◌≤◌, Bool, true, false, not, ◌||◌, inl, inr, List, [], ◌∷◌, ◌++◌, length, drop, refl, sym, ap, ap₂, ◌∙◌, append_assoc, append-nil, arith, ne_eqb, subst, Option, Some, None, option_map, length-append}
 use Rattle.std.proofs.lemmas.List.{map-append, drop-append-le, drop_all}
 use Rattle.std.proofs.lemmas.Bool.{both_ways, cases_lt, cases_Bool, cond-false, false_from_ne_true}
-use Rattle.typed_path.specs.declared.scan.separators.Separators.{Separators}
 use Rattle.typed_path.specs.declared.scan.separators.Separators.TheVariants.{Either}
-use Rattle.typed_path.specs.components.{windows, backslash, separators, is_separator, Prefix, disk, Kind, prefix, root, kinds, parts_of, Found, prefix_of}
+use Rattle.typed_path.specs.components.{windows, backslash, separators, is_separator, Prefix, disk, prefix, root, kinds, parts_of, Found, prefix_of}
 use Rattle.typed_path.specs.queries.{begins_with_root, first_prefix, has_any_verbatim_prefix, is_disk, is_verbatim_prefix}
 use Rattle.typed_path.specs.changes.{push, push_windows, push_behind, raw_prefix, ended_windows, is_disk_alone, spelled, merged}
 use Rattle.typed_path.specs.places.{is_anchored, kept_names, names_down, relative_text, route, steps_up, unmet}
-use Rattle.typed_path.specs.promises.{keeps_by_prefix, keeps_prefix, without_leading_current}
+use Rattle.typed_path.specs.promises.{keeps_by_prefix, keeps_prefix}
 use Rattle.typed_path.proofs.lemmas.components.Segments.{body_parts, body_parts-read, later_parts, pieces}
 use Rattle.typed_path.proofs.lemmas.components.Prefixes.{FoundFits, prefix-fits, prefix-read, Read, of_disk}
 use Rattle.typed_path.proofs.lemmas.components.FirmPrefixes.{is_firm, firm-long, drive-stays}

@@ -8,11 +8,11 @@ use Rattle.std.proofs.lemmas.Option.{same_Some}
 use Rattle.std.specs.List.{starts_with}
 use Rattle.std.proofs.lemmas.Slice.Eq.{bytes_eq-Decides}
 use Rattle.typed_path.specs.components.{Dialect, Part, Placed, parts, texts, comps, parts_of}
-use Rattle.typed_path.specs.scan.{front, left, start_at, end_at, slice_after_front, slice_after, fronts, backs, IsLaidOut, first_part}
+use Rattle.typed_path.specs.scan.{front, left, start_at, end_at, slice_after_front, slice_after, IsLaidOut, first_part}
 use Rattle.typed_path.specs.queries.{shared_count, end_of_first, shared_end}
 use Rattle.typed_path.proofs.lemmas.components.Cuts.{comps-laid_out, ends-within, start-end}
 use Rattle.typed_path.proofs.lemmas.queries.Bases.{slice_after-more, left-fronts}
-use Rattle.typed_path.proofs.lemmas.scan.Readings.{left-all, left-front, left-taken, stepwise_slices}
+use Rattle.typed_path.proofs.lemmas.scan.Readings.{left-all, left-front, left-taken}
 
 -- it is no longer than the text
 left-fits : (cs : List Placed) (t : List ℕ) (k : ℕ) → k ≤ length cs → length (left cs t k 0) ≤ length t

@@ -1,5 +1,5 @@
 -- What two paths begin with, as the front of the one that their bytes tell of.
-use Rattle.std.proofs.Common.{◌≡◌, ℕ, zero, suc, ◌+◌, ◌-◌, ◌<◌, ◌≤◌, List, [], ◌∷◌, ◌++◌, Bool, true, false, if◌then◌else◌, length, take, drop, Ordering, refl, sym, ap, ap₂, subst, ◌∙◌, append-nil, arith, zero-le}
+use Rattle.std.proofs.Common.{◌≡◌, ℕ, zero, suc, ◌+◌, ◌≤◌, List, [], ◌∷◌, ◌++◌, true, false, if◌then◌else◌, length, take, drop, Ordering, refl, sym, ap, ap₂, ◌∙◌, append-nil, arith, zero-le}
 use Rattle.std.specs.Option.{unwrap_or}
 use Rattle.std.specs.Prelude.{option_map}
 use Rattle.std.specs.List.{before_first}

@@ -1,4 +1,4 @@
-use Rattle.std.proofs.Common.{◌≡◌, ◌<◌, ◌-◌, ◌+◌, [], length, drop, sym, ap, ◌∙◌, arith, reverse, true≢false, false, vec_len, vec_capacity}
+use Rattle.std.proofs.Common.{◌<◌, ◌-◌, length, drop, sym, ap, ◌∙◌, arith, reverse, true≢false, false, vec_len, vec_capacity}
 use Rattle.typed_path.specs.views.BodyViews.{body_items}
 use Rattle.typed_path.specs.places.{names_under, rows_of}
 use Rattle.typed_path.proofs.lemmas.places.KeptFromBack.{names-alone}

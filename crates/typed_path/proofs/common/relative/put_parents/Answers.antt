@@ -1,5 +1,5 @@
-use Rattle.std.proofs.Common.{◌≡◌, ◌+◌, ◌++◌, ◌∷◌, [], ap, sym, ◌∙◌, arith, true≢false, false}
-use Rattle.typed_path.specs.places.{dots, row_end, rows_of}
+use Rattle.std.proofs.Common.{◌++◌, ◌∷◌, [], ap, sym, ◌∙◌, arith, true≢false, false}
+use Rattle.typed_path.specs.places.{row_end}
 use Rattle.typed_path.specs.components.{dot}
 use Rattle.typed_path.proofs.lemmas.places.TakenNames.{dots-more}
 use Rattle.typed_path.proofs.common.relative.put_parents.Goals as goal

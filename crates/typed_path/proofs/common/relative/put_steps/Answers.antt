@@ -1,7 +1,7 @@
-use Rattle.std.proofs.Common.{◌≡◌, ◌-◌, ◌+◌, ◌++◌, false, length, drop, reverse, ap, sym, ◌∙◌, arith, true≢false}
+use Rattle.std.proofs.Common.{◌≡◌, ◌-◌, ◌++◌, false, length, drop, reverse, ap, sym, ◌∙◌, arith, true≢false}
 use Rattle.std.proofs.lemmas.List.{length-reverse}
 use Rattle.std.proofs.lemmas.Result.{on_ok_weaker}
-use Rattle.typed_path.specs.components.{kinds, parts, parts_of}
+use Rattle.typed_path.specs.components.{kinds, parts_of}
 use Rattle.typed_path.specs.places.{dots, kept_names, rows_of}
 use Rattle.typed_path.proofs.lemmas.places.Reached.{rows-room}
 use Rattle.typed_path.proofs.lemmas.places.TakenNames.{rows-steps, unended-size}

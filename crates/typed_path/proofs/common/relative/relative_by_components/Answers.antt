@@ -1,4 +1,4 @@
-use Rattle.std.proofs.Common.{◌≡◌, ◌-◌, ap, ap₂, sym, ◌∙◌, arith, drop, length}
+use Rattle.std.proofs.Common.{◌-◌, ap, ap₂, sym, ◌∙◌, arith, drop, length}
 use Rattle.typed_path.specs.components.{kinds, parts}
 use Rattle.typed_path.specs.places.{kept_names, relative_by, steps_text}
 use Rattle.typed_path.specs.views.CursorViews.{items_left}

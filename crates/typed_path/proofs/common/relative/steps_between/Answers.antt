@@ -1,8 +1,8 @@
-use Rattle.std.proofs.Common.{◌≡◌, ◌≤◌, ◌-◌, ◌&&◌, true, not, if◌then◌else◌, length, drop, ap, ap₂, sym, ◌∙◌, arith}
+use Rattle.std.proofs.Common.{◌≡◌, ◌-◌, ◌&&◌, true, not, if◌then◌else◌, length, drop, ap, ap₂, sym, ◌∙◌, arith}
 use Rattle.std.proofs.lemmas.Bool.{and_parts, leb-true}
 use Rattle.typed_path.specs.components.{kinds, parts}
 use Rattle.typed_path.specs.order.{are_same_prefixes}
-use Rattle.typed_path.specs.places.{can_stand, kept_names, met_count, names_down, rising, same_heads}
+use Rattle.typed_path.specs.places.{can_stand, kept_names, met_count, names_down, same_heads}
 use Rattle.typed_path.specs.views.BodyViews.{body_items}
 use Rattle.typed_path.specs.views.CursorViews.{items_left}
 use Rattle.typed_path.proofs.lemmas.places.KeptFromBack.{kept_behind_prefix}

@@ -1,4 +1,4 @@
-use Rattle.std.proofs.Common.{◌≡◌, ◌∙◌, arith, take, ap, subst, sym, take_all}
+use Rattle.std.proofs.Common.{◌∙◌, arith, take, ap, subst, sym, take_all}
 use Rattle.typed_path.specs.queries.{ShareFront}
 use Rattle.typed_path.proofs.lemmas.order.SharedNames.{shared-begins}
 use Rattle.typed_path.proofs.scan.cut.shared_front.Goals as goal

@@ -1,4 +1,4 @@
-use Rattle.std.proofs.Common.{sym, ap, ◌∙◌, ◌-◌, length}
+use Rattle.std.proofs.Common.{sym, ap, ◌∙◌}
 use Rattle.std.proofs.lemmas.List.{take_rest}
 use Rattle.typed_path.specs.components.{windows, body, comps}
 use Rattle.typed_path.specs.changes.{raw_length, HaveOnePrefix}
