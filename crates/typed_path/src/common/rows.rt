@@ -51,7 +51,7 @@ pub fn put_kept(
 }
 
 /// The same where `/` alone separates and a root stands before all. The compiler knows both here, which saves
-/// a sixth of the time, and up to a quarter where few names stand side by side.
+/// a tenth of the time, and a sixth where few names stand side by side.
 pub fn put_kept_by_slashes(text: &mut Vec<u8>, path: &[u8]) -> Result<(), AllocError>
     ensures ok { OnOk result (text.new.items ≡ text.old.items ++ rows_of Separators.Slash
         (kept_segments true (segment_kinds Separators.Slash path.now))) }
