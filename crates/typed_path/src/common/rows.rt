@@ -4,7 +4,7 @@
 //! again. One that finds no name is dropped where the path is anchored; else it is put too, and from there on
 //! the names begin behind it.
 
-ghost use Rattle.std.specs.Prelude.{◌≡◌, ◌<◌, ◌≤◌, ◌+◌, ◌++◌, ◌∷◌, List, ℕ, [], true, take, length, IfOk, IsOk, OnOk, OnErr, MatchOption};
+ghost use Rattle.std.specs.Prelude.{◌≡◌, ◌<◌, ◌≤◌, ◌+◌, ◌++◌, ◌∷◌, List, ℕ, [], take, length, IfOk, IsOk, OnOk, OnErr, MatchOption};
 ghost use Rattle.std.specs.List.{slice_split};
 ghost use Rattle.std.specs.Vec.{vec_len, vec_capacity};
 ghost use Rattle.typed_path.specs.components.{Kind, is_separator};
@@ -18,7 +18,28 @@ use std::alloc::AllocError;
 /// Puts the parents that are left over and the names that are kept of a path behind a text, each with a
 /// separator behind it. Where names stand side by side they are put at once; all others are settled segment by
 /// segment, and so are all where there is no room for the whole path.
+#[inline(always)]
 pub fn put_kept(
+    text: &mut Vec<u8>,
+    path: &[u8],
+    separators: Separators,
+    anchored: bool,
+) -> Result<(), AllocError>
+    ensures ok { OnOk result (text.new.items ≡ text.old.items
+        ++ rows_of separators (kept_segments anchored (segment_kinds separators path.now))) }
+    ensures kept { take (length text.old.items) text.new.items ≡ text.old.items }
+    ensures room { OnOk result (vec_len text.new ≤ vec_len text.old + length path.now + 1) }
+    ensures capacity { vec_capacity text.old ≤ vec_capacity text.new }
+    ensures succeeds { vec_len text.old + length path.now < vec_capacity text.old → IsOk result }
+{
+    match separators {
+        Separators::Slash => put_kept_by_slashes(text, path, anchored),
+        Separators::Backslash | Separators::Either => put_kept_by(text, path, separators, anchored),
+    }
+}
+
+/// The same between any separators.
+fn put_kept_by(
     text: &mut Vec<u8>,
     path: &[u8],
     separators: Separators,
@@ -50,12 +71,17 @@ pub fn put_kept(
     }
 }
 
-/// The same where `/` alone separates and a root stands before all. The compiler knows both here, which saves
-/// a tenth of the time, and a sixth where few names stand side by side.
-pub fn put_kept_by_slashes(text: &mut Vec<u8>, path: &[u8]) -> Result<(), AllocError>
+/// The same where `/` alone separates, which the compiler knows here. That saves a tenth of the time, and more
+/// where few names stand side by side.
+pub fn put_kept_by_slashes(
+    text: &mut Vec<u8>,
+    path: &[u8],
+    anchored: bool,
+) -> Result<(), AllocError>
     ensures ok { OnOk result (text.new.items ≡ text.old.items ++ rows_of Separators.Slash
-        (kept_segments true (segment_kinds Separators.Slash path.now))) }
+        (kept_segments anchored (segment_kinds Separators.Slash path.now))) }
     ensures kept { take (length text.old.items) text.new.items ≡ text.old.items }
+    ensures room { OnOk result (vec_len text.new ≤ vec_len text.old + length path.now + 1) }
     ensures capacity { vec_capacity text.old ≤ vec_capacity text.new }
     ensures succeeds { vec_len text.old + length path.now < vec_capacity text.old → IsOk result }
 {
@@ -64,16 +90,16 @@ pub fn put_kept_by_slashes(text: &mut Vec<u8>, path: &[u8]) -> Result<(), AllocE
     'segments: loop {
         let names = leading_names(rest, Separators::Slash);
         if matches!(names, Some(0)) || !has_room(text, rest) {
-            return put_each_by_slashes(text, floor, rest);
+            return put_each_by_slashes(text, floor, rest, anchored);
         }
         let Some(left) = put_names(text, rest, names, Separators::Slash)? else {
             return Ok(());
         };
         let Some((segment, behind)) = cut_at_separator(Separators::Slash, left) else {
-            put_segment(text, floor, left, left, Separators::Slash, true)?;
+            put_segment(text, floor, left, left, Separators::Slash, anchored)?;
             return Ok(());
         };
-        floor = put_segment(text, floor, segment, left, Separators::Slash, true)?;
+        floor = put_segment(text, floor, segment, left, Separators::Slash, anchored)?;
         rest = behind_segment(segment, behind, Separators::Slash);
     }
 }
@@ -115,25 +141,31 @@ fn put_one_by_one(
     Ok(())
 }
 
-/// The same where `/` alone separates and a root stands before all.
+/// The same where `/` alone separates.
 #[inline(always)]
-fn put_each_by_slashes(text: &mut Vec<u8>, floor: usize, path: &[u8]) -> Result<(), AllocError>
+fn put_each_by_slashes(
+    text: &mut Vec<u8>,
+    floor: usize,
+    path: &[u8],
+    anchored: bool,
+) -> Result<(), AllocError>
     requires { floor ≤ length text.old.items }
     ensures ok { OnOk result ((head : List ℕ) (whole : List Kind)
-        → AreKept Separators.Slash true head text.old.items floor
+        → AreKept Separators.Slash anchored head text.old.items floor
         (segment_kinds Separators.Slash path.now) whole
-        → text.new.items ≡ head ++ rows_of Separators.Slash (kept_segments true whole)) }
+        → text.new.items ≡ head ++ rows_of Separators.Slash (kept_segments anchored whole)) }
     ensures kept { take floor text.new.items ≡ take floor text.old.items }
+    ensures room { OnOk result (vec_len text.new ≤ vec_len text.old + length path.now + 1) }
     ensures capacity { vec_capacity text.old ≤ vec_capacity text.new }
     ensures succeeds { vec_len text.old + length path.now < vec_capacity text.old → IsOk result }
 {
     let mut begin = floor;
     let mut rest = path;
     'segments: while let Some((segment, behind)) = cut_at_separator(Separators::Slash, rest) {
-        begin = put_segment(text, begin, segment, rest, Separators::Slash, true)?;
+        begin = put_segment(text, begin, segment, rest, Separators::Slash, anchored)?;
         rest = behind_segment(segment, behind, Separators::Slash);
     }
-    put_segment(text, begin, rest, rest, Separators::Slash, true)?;
+    put_segment(text, begin, rest, rest, Separators::Slash, anchored)?;
     Ok(())
 }
 

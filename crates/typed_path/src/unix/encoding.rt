@@ -217,7 +217,7 @@ fn put_rows(text: &mut Vec<u8>, path: &[u8]) -> Result<(), AllocError>
     let (root, rest) = split_root(path);
     text.extend_from_slice(root)?;
     let len = text.len();
-    put_kept_by_slashes(text, rest)?;
+    put_kept_by_slashes(text, rest, true)?;
     drop_separator(text, len);
     Ok(())
 }

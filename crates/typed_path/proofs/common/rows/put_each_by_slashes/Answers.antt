@@ -1,4 +1,4 @@
-use Rattle.std.proofs.Common.{true, ◌∙◌, arith}
+use Rattle.std.proofs.Common.{◌∙◌, arith}
 use Rattle.typed_path.specs.declared.scan.separators.Separators.TheVariants.{Slash}
 use Rattle.typed_path.proofs.lemmas.places.CleanRows.{kept-next, kept-last}
 use Rattle.typed_path.proofs.lemmas.places.NamedRows.{kept-shorter}
@@ -10,7 +10,7 @@ segments-preserved c =
     let did = c.in_ok-begin.ensures in
     record {
       are = λ head whole given.
-          kept-next Slash true head c.segments.text.items _ c.segments.begin c.in_ok-begin.begin whole c.segments.rest.now c.in-Some.segment.now c.in-Some.behind.now c.behind_segment-rest.result.now c.in-Some.ensures.pieces
+          kept-next Slash c.args.anchored head c.segments.text.items _ c.segments.begin c.in_ok-begin.begin whole c.segments.rest.now c.in-Some.segment.now c.in-Some.behind.now c.behind_segment-rest.result.now c.in-Some.ensures.pieces
           (λ left. did.ok head left whole c.in-Some.ensures.open) c.behind_segment-rest.ensures.same (was.are head whole given);
       above = omega (arith, was.above, did.within.0);
       within = did.within.1;
@@ -21,7 +21,7 @@ segments-preserved c =
 
 pub returns-clause-ok : goal.returns-clause-ok
 returns-clause-ok c = λ head whole given.
-    kept-last Slash true head c.segments.text.items _ c.segments.begin _ whole c.segments.rest.now c.in_default.ensures.pieces
+    kept-last Slash c.args.anchored head c.segments.text.items _ c.segments.begin _ whole c.segments.rest.now c.in_default.ensures.pieces
     (λ left. c.in_ok-put_segment.ensures.ok head left whole c.in_default.ensures.pieces) (c.segments.invariant.are head whole given)
 
 pub returns-clause-kept : goal.returns-clause-kept

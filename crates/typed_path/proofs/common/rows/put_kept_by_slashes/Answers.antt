@@ -1,4 +1,4 @@
-use Rattle.std.proofs.Common.{true, ◌≡◌, ◌∙◌, length, refl, arith}
+use Rattle.std.proofs.Common.{◌≡◌, ◌∙◌, length, refl, arith}
 use Rattle.std.proofs.lemmas.List.{take_all}
 use Rattle.std.proofs.lemmas.Result.{on_ok_weaker}
 use Rattle.typed_path.specs.declared.scan.separators.Separators.TheVariants.{Slash}
@@ -15,8 +15,8 @@ segments-init c =
     let h = c.behind_segment-rest in
     let size : c.len-floor.result ≡ length text = omega (arith, c.len-floor.ensures, c.args.text.now.ok) in
     record {
-      are = kept-alike Slash true text text c.len-floor.result (segment_kinds Slash path) (segment_kinds Slash path) _ (alike-settled (pieces Slash path) _ h.ensures.same)
-          (kept-start Slash true text text c.len-floor.result (segment_kinds Slash path) refl size);
+      are = kept-alike Slash c.args.anchored text text c.len-floor.result (segment_kinds Slash path) (segment_kinds Slash path) _ (alike-settled (pieces Slash path) _ h.ensures.same)
+          (kept-start Slash c.args.anchored text text c.len-floor.result (segment_kinds Slash path) refl size);
       above = omega (arith, size);
       within = omega (arith, size);
       kept = take_all (length text) text (omega arith);
@@ -32,9 +32,9 @@ segments-preserved c =
     let did = c.in_ok-floor.ensures in
     let text = c.args.text.now.items in
     let whole = segment_kinds Slash c.args.path.now in
-    let there = kept-names_put Slash true text c.segments.text.items _ c.segments.floor whole c.segments.rest.now (pieces Slash c.in-Some.left.now) put was.are in
+    let there = kept-names_put Slash c.args.anchored text c.segments.text.items _ c.segments.floor whole c.segments.rest.now (pieces Slash c.in-Some.left.now) put was.are in
     record {
-      are = kept-next Slash true text _ _ c.segments.floor c.in_ok-floor.floor whole c.in-Some.left.now c.in-Some-cut_at_separator.segment.now c.in-Some-cut_at_separator.behind.now c.behind_segment-rest-in-segments.result.now
+      are = kept-next Slash c.args.anchored text _ _ c.segments.floor c.in_ok-floor.floor whole c.in-Some.left.now c.in-Some-cut_at_separator.segment.now c.in-Some-cut_at_separator.behind.now c.behind_segment-rest-in-segments.result.now
           c.in-Some-cut_at_separator.ensures.pieces (λ left. did.ok text left whole c.in-Some-cut_at_separator.ensures.open) c.behind_segment-rest-in-segments.ensures.same there;
       above = omega (arith, was.above, did.within.0);
       within = did.within.1;
@@ -52,14 +52,14 @@ returns-then-matches-clause-ok c = on_ok_weaker c.put_each_by_slashes.result (λ
 pub returns-in_default-2-clause-ok : goal.returns-in_default-2-clause-ok
 returns-in_default-2-clause-ok c =
     let text = c.args.text.now.items in
-    kept-end Slash true text _ c.segments.floor (segment_kinds Slash c.args.path.now)
-    (kept-names_put Slash true text c.segments.text.items _ c.segments.floor (segment_kinds Slash c.args.path.now) c.segments.rest.now _ (rw c.in_default-2.is at c.in_ok-left.ensures.ok) c.segments.invariant.are)
+    kept-end Slash c.args.anchored text _ c.segments.floor (segment_kinds Slash c.args.path.now)
+    (kept-names_put Slash c.args.anchored text c.segments.text.items _ c.segments.floor (segment_kinds Slash c.args.path.now) c.segments.rest.now _ (rw c.in_default-2.is at c.in_ok-left.ensures.ok) c.segments.invariant.are)
 
 pub returns-in_default-cut_at_separator-clause-ok : goal.returns-in_default-cut_at_separator-clause-ok
 returns-in_default-cut_at_separator-clause-ok c =
     let text = c.args.text.now.items in
     let whole = segment_kinds Slash c.args.path.now in
     let put = rw c.in-Some.is at c.in_ok-left.ensures.ok in
-    let there = kept-names_put Slash true text c.segments.text.items _ c.segments.floor whole c.segments.rest.now (pieces Slash c.in-Some.left.now) put c.segments.invariant.are in
-    kept-last Slash true text _ _ c.segments.floor _ whole c.in-Some.left.now c.in_default-cut_at_separator.ensures.pieces
+    let there = kept-names_put Slash c.args.anchored text c.segments.text.items _ c.segments.floor whole c.segments.rest.now (pieces Slash c.in-Some.left.now) put c.segments.invariant.are in
+    kept-last Slash c.args.anchored text _ _ c.segments.floor _ whole c.in-Some.left.now c.in_default-cut_at_separator.ensures.pieces
     (λ left. c.in_ok-put_segment.ensures.ok text left whole c.in_default-cut_at_separator.ensures.pieces) there

@@ -1,6 +1,6 @@
 use Rattle.std.proofs.Common.{◌≡◌, ◌≤◌, ◌+◌, vec_len, vec_capacity, length, take}
 use Rattle.typed_path.specs.places.{AreKept, segment_kinds}
-use Rattle.typed_path.proofs.common.rows.put_kept.Given as goal
+use Rattle.typed_path.proofs.common.rows.put_kept_by.Given as goal
 
 abbrev pub invariant-segments : goal.invariant-segments
 invariant-segments l = record {
