@@ -10,6 +10,7 @@
 -- SharedFromBack: how many first names two lists share, told from the back
 -- TakenNames: names that are taken off the end of a list one after another, whether they can stand, and the rows that they make from their ends
 -- Reached: whether a path is reached from a base, by how many steps, and what room these take
+-- ReachedWithin: that a path which is reached from a base lies within it exactly where no step leads up
 -- StandingNames: names that are read between separators of which `/` is one, which hold none
 -- NearSteps: the steps between two texts that go on with names alone behind the components that both begin with, and how they are written
 -- CleanLengths: how long clean texts are, and paths that lead from a base
@@ -24,6 +25,7 @@ pub mod CleanTexts
 pub mod SharedFromBack
 pub mod TakenNames
 pub mod Reached
+pub mod ReachedWithin
 pub mod StandingNames
 pub mod NearSteps
 pub mod CleanLengths

@@ -47,15 +47,19 @@ pub(crate) fn relative_by_bytes<T: Encoding>(
 /// So many parents, and then the names of a text that is names alone: whether a separator stands behind the last
 /// one too.
 #[derive(Clone, Copy)]
-struct Near<'a> {
-    up: usize,
+pub(crate) struct Near<'a> {
+    pub up: usize,
     rest: &'a [u8],
     ended: bool,
 }
 
 /// The steps that lead from a base to a path, where the bytes of both tell. None says nothing.
 #[inline(always)]
-fn near_steps<'a>(own: Cursor<'a>, other: Cursor<'a>, separators: Separators) -> Option<Near<'a>>
+pub(crate) fn near_steps<'a>(
+    own: Cursor<'a>,
+    other: Cursor<'a>,
+    separators: Separators,
+) -> Option<Near<'a>>
     requires { is_verbatim separators ≡ false }
     ensures { IfSome result (λ near. AreNearSteps separators
         (kinds (parts (items_left own.entry))) (kinds (parts (items_left other.entry)))

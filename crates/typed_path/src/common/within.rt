@@ -1,5 +1,5 @@
-//! Whether a path lies at another or below it: the names of each that no parent takes away, read from
-//! the back, and what stands before them.
+//! Whether a path lies at another or below it: as the bytes of the two tell, or by the names of each
+//! that no parent takes away, read from the back, and what stands before them.
 //!
 //! A reading from the back owes each parent a name, so it needs one number and no memory. The first one
 //! counts, the second one compares.
@@ -13,12 +13,24 @@ ghost use Rattle.typed_path.specs.views.BodyViews.{body_items};
 ghost use Rattle.typed_path.specs.views.CursorViews.{items_left};
 
 use crate::common::encoding::Encoding;
+use crate::common::near::{bare_separators, near_steps};
 use crate::common::order::have_same_prefixes;
 use crate::scan::{Body, Cursor, StepKind};
 
-/// Whether a path lies at a base or below it.
-#[tactic(auto, using(crate::proofs::lemmas::places::KeptFromBack::few, crate::proofs::lemmas::places::KeptFromBack::few_behind_prefix, crate::proofs::lemmas::places::KeptFromBack::kept_behind_prefix))]
+/// Whether a path lies at a base or below it. Where bytes tell the steps from the base to it, it does
+/// if none of these leads up.
 pub(crate) fn is_within<T: Encoding>(path: &[u8], base: &[u8]) -> bool
+    ensures { result ≡ is_within T.dialect path.now base.now }
+{
+    match near_steps(T::cursor(path), T::cursor(base), bare_separators::<T>()) {
+        Some(near) => near.up == 0,
+        None => within_by_components::<T>(path, base),
+    }
+}
+
+/// The same, read component by component.
+#[tactic(auto, using(crate::proofs::lemmas::places::KeptFromBack::few, crate::proofs::lemmas::places::KeptFromBack::few_behind_prefix, crate::proofs::lemmas::places::KeptFromBack::kept_behind_prefix))]
+fn within_by_components<T: Encoding>(path: &[u8], base: &[u8]) -> bool
     ensures { result ≡ is_within T.dialect path.now base.now }
 {
     let own = T::cursor(path);
