@@ -1,6 +1,6 @@
 -- What changes a path.
 -- Faults: a path judged component by component, and what holds of one that is not refused
--- ValidPaths: paths of Windows of which looks at their bytes tell that they have no fault, or that a name is it
+-- ValidPaths: paths of Windows of which looks at their bytes tell that they have no fault, or that a name is it: by the bytes that devices begin with, the search for devices behind separators, and two dots side by side
 -- MayBegins: marks of separators behind which a device may stand, and the search by them
 -- Joins: how a text put behind another is read, a list merged into another, and lists spelled and read again
 -- WindowsPushes: what a push of Windows asks of its base, which paths it puts behind that, and what stands behind a prefix that is written anew

@@ -2,7 +2,7 @@
 -- Segments: segments, a body taken apart at a separator, the components read off its pieces, and the first component of a clean text
 -- Prefixes: the prefix of a Windows text: its separators, how many bytes it takes, its marks and what it was read from
 -- Cuts: where the components of a text begin and end, how many they are, and what is read before and behind such a place
--- PrefixCuts: the names of a prefix, a Windows text that is cut behind its prefix, and how many bytes a prefix takes of it
+-- PrefixCuts: the names of a prefix, a Windows text that is cut behind its prefix, how many bytes a prefix takes of it, and which texts begin with `\\?\`, as their prefixes tell
 -- FirmPrefixes: a prefix stays where its text is cut behind it and something put apart behind that
 -- PartedPrefixes: a prefix with more of its text behind it: where it ends, and what stands right behind it
 -- WrittenForms: components are written as their kinds tell, and where prefixes and roots stand in a list

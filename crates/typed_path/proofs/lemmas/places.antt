@@ -1,5 +1,5 @@
 -- Where a path leads.
--- Resolving: what a list resolves to: names that it comes down to, lists put behind one another, and a root put in
+-- Resolving: what a list resolves to: names that it comes down to, lists put behind one another, lists as they are read, and a root put in
 -- UnixRows: the normal text of Unix, written row by row
 -- WindowsRows: the normal text of Windows, written row by row
 -- NamedRows: the rows of names that stand side by side in a text, which are its bytes there

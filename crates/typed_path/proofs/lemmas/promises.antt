@@ -1,7 +1,7 @@
 -- What is promised of paths.
 -- UnixContained: the normal text of Unix, a relative path joined on Unix, and where a checked one leads
 -- WindowsBases: where a base of Windows leads with a faultless path behind it, and how a list is spelled behind a prefix
--- WindowsContained: a checked push on Windows stays within its base, and the bases that keep their prefix
+-- WindowsContained: a checked push on Windows stays within its base, and the bases that keep their prefix; and whether the list of a base begins with a verbatim prefix, as its prefix tells
 -- Within: a path that is within a base lies below it, from each directory of which is known where paths lead behind it
 -- UnixWithin: on Unix a path is within a base exactly where it lies below it from every absolute directory
 -- WindowsWithin: the same on Windows, from each absolute directory that keeps its prefix and is not verbatim

@@ -5,7 +5,7 @@
 -- Bases: the beginning and the end of a path compared with another, and a base taken off
 -- FirstBytes: paths of Windows that begin otherwise, as their first bytes tell
 -- Simplified: a path of a verbatim drive without its `\\?\`: what the test for it finds, and what it is read as
--- Shared: what two paths begin with: how far they have been read alike, and that it is the longest that both begin with
+-- Shared: what two paths begin with: how far they have been read alike, and that it is the longest that both begin with; and which lists of texts begin another
 -- SharedFronts: what two paths begin with, as the front of the one that their bytes tell of
 pub mod FileNames
 pub mod ValidNames

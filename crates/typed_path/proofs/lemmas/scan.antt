@@ -1,7 +1,7 @@
 -- Readings from both ends.
--- LastComponent: the end of a text: what belongs to no component, the last component, and the text before it
+-- LastComponent: the end of a text, as its bytes are read: what belongs to no component, the last component, and the text before it
 -- Readings: a reading from both ends, step by step, and the slice that it leaves
--- Steps: a step from either end, of a list, an iterator and a cursor
+-- Steps: a step from either end, of a list, an iterator and a cursor; the first and the last component of a list, whether it has one, and what is left without it
 -- Searches: what masks say of places, and searches of a range put together from what was seen of it
 -- Tables: tables that bytes are looked up in by their low bits
 -- Blanks: segments that count for nothing behind others: how marks tell that there is none, and what that tells of the pieces of a text
