@@ -1,11 +1,11 @@
 -- What changes a path.
--- Faults: a path judged component by component, and what holds of one that is not refused
+-- Faults: a path judged component by component, and what holds of one that is not refused; what a text of Windows is read as, with a prefix and without one; and the place of a list with more behind it
 -- ValidPaths: paths of Windows of which looks at their bytes tell that they have no fault, or that a name is it: by the bytes that devices begin with, the search for devices behind separators, and two dots side by side
 -- MayBegins: marks of separators behind which a device may stand, and the search by them
 -- Joins: how a text put behind another is read, a list merged into another, and lists spelled and read again
 -- WindowsPushes: what a push of Windows asks of its base, which paths it puts behind that, and what stands behind a prefix that is written anew
 -- SpelledTexts: a text of Windows that is spelled as it is read, and what a push writes anew
--- NamePieces: texts of which looks at their bytes tell that all their pieces are names, and how such a text is merged
+-- NamePieces: texts of which looks at their bytes tell that all their pieces are names, how such a text is merged, and how it is written behind another with a `\` between them
 -- MergedInPlace: components as they are read, merged behind a prefix, and read again
 -- Lengths: how long a path is that another is pushed onto
 -- SpelledLengths: how long a text of Windows is that is spelled anew
