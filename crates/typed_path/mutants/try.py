@@ -1,7 +1,7 @@
 #!/usr/bin/env python3
-"""Tries wrong bodies of this crate: `rt check` has to refuse each.
+"""Tries wrong bodies of a crate: `rt check` has to refuse each.
 
-Without names it tries all the edits beside this file. They are tried in N temporary copies of the
+Without names it tries all the edits in the crate's folder `mutants`. They are tried in N temporary copies of the
 repository at once, in each copy one after the other, over what earlier checks kept in out/. The
 modules that an edit changes are checked first, and the whole crate only where these do not refuse it.
 The repository itself is not changed.
@@ -24,9 +24,7 @@ import tempfile
 import threading
 import time
 
-HERE = pathlib.Path(__file__).resolve().parent
-CRATE = HERE.parent
-TOP = CRATE.parent.parent
+TOP = pathlib.Path(__file__).resolve().parents[3]
 
 REFUSED, NOT_APPLIED = "refused", "NOT APPLIED"
 OUTCOMES = {
@@ -112,10 +110,10 @@ def judged(edit, crate, logs):
     return outcome, why
 
 
-def work(copy, edits, outcomes, logs):
-    """Tries edits in one copy of the repository until none is left."""
+def work(copy, name, edits, outcomes, logs):
+    """Tries edits of a crate in one copy of the repository until none is left."""
     shutil.copytree(TOP, copy, ignore=shutil.ignore_patterns(".git"), symlinks=True)
-    crate = copy / CRATE.relative_to(TOP)
+    crate = copy / "crates" / name
     if check(crate)[0] != 0:
         print("the crate is not proved with no edit: see rt check", flush=True)
         return
@@ -128,9 +126,9 @@ def work(copy, edits, outcomes, logs):
         print(f"{edit.name}: {outcomes[edit]}{', ' if why else ''}{why}", flush=True)
 
 
-def listed(edits):
+def listed(edits, crate):
     """Names the edits, and what hinders each that cannot be applied; 2 where there is such a one."""
-    whys = [edited(edit, CRATE)[1] for edit in edits]
+    whys = [edited(edit, crate)[1] for edit in edits]
     for edit, why in zip(edits, whys):
         print(f"{edit.name}: {NOT_APPLIED}, {why}" if why else edit.name)
     return 2 if any(whys) else 0
@@ -138,28 +136,34 @@ def listed(edits):
 
 def main():
     words = argparse.ArgumentParser(description=__doc__, formatter_class=argparse.RawDescriptionHelpFormatter)
+    words.add_argument("--crate", default="typed_path", metavar="NAME", help="the crate: typed_path where it is left out")
     words.add_argument("--jobs", type=int, default=2, metavar="N", help="how many copies: 2 where it is left out")
     words.add_argument("--logs", type=pathlib.Path, metavar="FOLDER", help="keep what each check said in FOLDER/NAME.txt")
     words.add_argument("--list", action="store_true", help="name the edits, and those that cannot be applied, and try none")
-    words.add_argument("names", nargs="*", default=[HERE], help="edits beside this file, files of edits, or folders of such files")
+    words.add_argument("names", nargs="*", help="edits of the crate, files of edits, or folders of such files")
     given = words.parse_args()
+    crate = TOP / "crates" / given.crate
+    mutants = crate / "mutants"
+    if not mutants.is_dir():
+        words.error(f"no wrong bodies of {given.crate}")
     if given.logs:
         given.logs.mkdir(parents=True, exist_ok=True)
-    beside = {edit.name: [edit] for edit in edits_in(HERE)}
-    found = {name: beside.get(name) or (edits_in(pathlib.Path(name)) if pathlib.Path(name).exists() else []) for name in given.names}
+    beside = {edit.name: [edit] for edit in edits_in(mutants)}
+    names = given.names or [mutants]
+    found = {name: beside.get(name) or (edits_in(pathlib.Path(name)) if pathlib.Path(name).exists() else []) for name in names}
     if lost := [str(name) for name in found if not found[name]]:
         words.error(f"no such edit: {', '.join(lost)}")
     named = list(dict.fromkeys(edit for name in found for edit in found[name]))
     if twice := sorted(name for name, times in collections.Counter(edit.name for edit in named).items() if times > 1):
         words.error(f"several edits of one name: {', '.join(twice)}")
     if given.list:
-        return listed(named)
+        return listed(named, crate)
     edits, outcomes, begun = queue.Queue(), {}, time.time()
     for edit in named:
         edits.put(edit)
     with tempfile.TemporaryDirectory(prefix="mutants-") as room:
         copies = [pathlib.Path(room, str(n)) for n in range(min(given.jobs, len(named)))]
-        threads = [threading.Thread(target=work, args=(copy, edits, outcomes, given.logs)) for copy in copies]
+        threads = [threading.Thread(target=work, args=(copy, given.crate, edits, outcomes, given.logs)) for copy in copies]
         for thread in threads:
             thread.start()
         for thread in threads:
