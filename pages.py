@@ -43,6 +43,8 @@ LEFT_OUT = {
     ("bindings/python/README.md", ">>>"): "run by bindings/test.sh",
     ("bindings/python/README.md", "TYPED_PATH_LIBRARY="): "takes what bindings/c/build.sh lays out, and pip",
     ("docs/PERFORMANCE.md", "parallel "): "takes the proved program, and the package parallel",
+    (TYPATH, "# over all cores"): "says what the next line does",
+    (TYPATH, "parallel "): "takes the package parallel",
 }
 
 # The folder in which commands are run, if that is not the copy of the checkout.
