@@ -27,7 +27,7 @@ OLDER = "proves an older state, which takes an hour"
 LEFT_OUT = {
     (README, "  C:  "): "a picture",
     (README, "                  "): "a picture",
-    (README, "cp -a ../typed_path/crates/typed_path/out"): "takes a built checkout, and 3 GB",
+    (README, "cp -a ../typed_path/crates/typed_path/out"): "takes a built checkout, and 6 GB",
     (README, "./gate.sh quick"): "takes minutes, and runs this",
     (README, "./gate.sh  "): "takes more than an hour, and runs this",
     (README, "(cd crates/typath && rt run < stdin)"): "takes half an hour",
