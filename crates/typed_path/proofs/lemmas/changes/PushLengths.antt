@@ -21,7 +21,7 @@ use Rattle.typed_path.proofs.lemmas.changes.Lengths.{size, one-root, ended-lengt
 use Rattle.typed_path.proofs.lemmas.changes.MergedInPlace.{room-body, room-text, no-prefix}
 use Rattle.typed_path.proofs.lemmas.changes.WindowsPushes.{push-prefixed, push-anew, push-rooted, push-relative}
 use Rattle.typed_path.proofs.lemmas.places.Resolving.{resolve-each}
-use Rattle.typed_path.proofs.lemmas.promises.UnixContained.{parts_of-unix}
+use Rattle.typed_path.proofs.lemmas.promises.UnixContained.{parts_of-unix, push_unix-nothing}
 use Rattle.typed_path.proofs.lemmas.promises.WindowsStable.{push-first}
 use Rattle.typed_path.proofs.lemmas.changes.SpelledLengths.{merged-size, anew, IsMarked, has-marked, anew-most, anew-least, raw-undriven, root-undriven, joined-undriven, merged-undriven, IsDriven}
 
@@ -290,19 +290,11 @@ crossed-each e s t =
     AllByRecursion-weaker (IsWrittenPart s) (λ p. Costs e (crossed e p) (size p)) (λ p. crossed-cost e s p.kind p.text) ps (each-written s ps (body_parts-read s t))
 
 -- and a prefix, pushed first
-unix-first : (x : List ℕ) → push_unix [] x ≡ x
-unix-first [] = refl
-unix-first (b ∷ x) = by (b == slash)
-  where
-    by : (rooted : Bool) → (if rooted then b ∷ x else b ∷ x) ≡ b ∷ x
-    by true = refl
-    by false = refl
-
 crossed-first : (e : Dialect) (t : List ℕ) (f : Found) → prefix_of windows t ≡ Some f → Takes e (push e [] (crossed e (prefix_part f.prefix (take f.length t)))) f.length
 crossed-first unix t f is =
     let raw = take f.length t in
     cond_both (not (is_disk f.prefix)) (slash ∷ []) raw (λ x. length (push_unix [] x) ≤ f.length)
-    (λ e. omega (arith, ap length (unix-first (slash ∷ [])), (prefix-fits windows t f is).filled)) (λ e. omega (arith, ap length (unix-first raw), length-take f.length t))
+    (λ e. omega (arith, ap length (push_unix-nothing (slash ∷ [])), (prefix-fits windows t f is).filled)) (λ e. omega (arith, ap length (push_unix-nothing raw), length-take f.length t))
 crossed-first windows t f is =
     let raw = take f.length t in
     cond_both (not (is_disk f.prefix)) (backslash ∷ []) raw (λ x. IsTaken (push_windows [] x) f.length)

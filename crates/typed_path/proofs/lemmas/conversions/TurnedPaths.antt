@@ -22,7 +22,7 @@ use Rattle.typed_path.proofs.lemmas.components.FirmPrefixes.{drive-letter}
 use Rattle.typed_path.proofs.lemmas.changes.Faults.{parts_of-some}
 use Rattle.typed_path.proofs.lemmas.places.UnixRows.{take-ended}
 use Rattle.typed_path.proofs.lemmas.places.WindowsRows.{IsWithoutSlash, pieces-own, separates-own}
-use Rattle.typed_path.proofs.lemmas.promises.UnixContained.{parts_of-unix}
+use Rattle.typed_path.proofs.lemmas.promises.UnixContained.{parts_of-unix, push_unix-nothing}
 use Rattle.typed_path.proofs.lemmas.promises.WindowsStable.{push-first}
 use Rattle.typed_path.proofs.lemmas.promises.WindowsContained.{verbatim-none}
 use Rattle.typed_path.proofs.lemmas.scan.Blanks.{segment-byte}
@@ -226,15 +226,6 @@ step-unix : (text piece : List ℕ) → ⊤ → IsUnixPiece piece → (push_unix
 step-unix text [] base own = absurd (true≢false own.0)
 step-unix text (b ∷ bs) base own = (rw (All-head (λ c. is_separator Slash c ≡ false) b bs own.1) refl, tt)
 
--- a path pushed onto the empty one
-push_unix-first : (t : List ℕ) → push_unix [] t ≡ t
-push_unix-first [] = refl
-push_unix-first (b ∷ bs) = by (b == slash)
-  where
-    by : (rooted : Bool) → (if rooted then b ∷ bs else b ∷ bs) ≡ b ∷ bs
-    by true = refl
-    by false = refl
-
 -- what holds no separator of Windows holds none of Unix
 unslashed : (piece : List ℕ) → IsUnseparated (is_separator Either) piece → IsUnseparated (is_separator Slash) piece
 unslashed piece unseparated = λ k d l. (or_parts (get_or piece k d == slash) (get_or piece k d == backslash) (unseparated k d l)).0
@@ -405,7 +396,7 @@ module _ (s : Separators) (w : OfWindows s) (x : ℕ) (xs : List ℕ) (without :
 
   -- behind nothing
   body-alone : crossed_all unix (body_parts s (x ∷ xs)) ≡ turned Either slash (x ∷ xs)
-  body-alone = ap (push_all unix []) body-listed ∙ ap (λ t. push_all unix t others) (push_unix-first (first_text unix head)) ∙ body-turned
+  body-alone = ap (push_all unix []) body-listed ∙ ap (λ t. push_all unix t others) (push_unix-nothing (first_text unix head)) ∙ body-turned
 
   -- behind a prefix, where a root stands at its front
   body-rooted : (p : Part) → is_separator Either x ≡ true → crossed_all unix (p ∷ body_parts s (x ∷ xs)) ≡ turned Either slash (x ∷ xs)
@@ -497,8 +488,8 @@ crosses-prefix path f is whole = by (is_disk f.prefix) refl
     by true e =
         let listed : map (crossed unix) (parts_of windows path) ≡ path ∷ [] = ap (map (crossed unix)) read ∙ ap (λ d. (if not d then slash ∷ [] else path) ∷ []) e in
         record {
-          is = ap (push_all unix []) listed ∙ push_unix-first path ∙ sym (drive-turned path f (prefix-read path f is) e whole);
-          fits = λ room fits. let long = fits-unix room [] path [] (subst (FitsEach unix room []) listed fits) in omega (arith, long, ap length (push_unix-first path));
+          is = ap (push_all unix []) listed ∙ push_unix-nothing path ∙ sym (drive-turned path f (prefix-read path f is) e whole);
+          fits = λ room fits. let long = fits-unix room [] path [] (subst (FitsEach unix room []) listed fits) in omega (arith, long, ap length (push_unix-nothing path));
         }
     by false e =
         let listed : map (crossed unix) (parts_of windows path) ≡ (slash ∷ []) ∷ [] = ap (map (crossed unix)) read ∙ ap (λ d. (if not d then slash ∷ [] else path) ∷ []) e in

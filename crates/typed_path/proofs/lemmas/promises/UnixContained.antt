@@ -213,7 +213,7 @@ place-unix : (t : List ℕ) → place unix t ≡ kinds (resolve (parts_of unix t
 place-unix t = with_implied_root-read (resolve (parts_of unix t)) (resolved-read t)
 
 -- pushed onto the empty path, a path stays as it is
-push_unix-nothing : (path : List ℕ) → push_unix [] path ≡ path
+pub push_unix-nothing : (path : List ℕ) → push_unix [] path ≡ path
 push_unix-nothing [] = refl
 push_unix-nothing (b ∷ path) = by (b == slash)
   where
