@@ -1,5 +1,5 @@
 -- What changes a path.
--- Faults: a path judged component by component, and what holds of one that is not refused; what a text of Windows is read as, with a prefix and without one; and the place of a list with more behind it
+-- Faults: a path judged component by component, what holds of one that is not refused, and the place of a list with more behind it
 -- ValidPaths: paths of Windows of which looks at their bytes tell that they have no fault, or that a name is it: by the bytes that devices begin with, the search for devices behind separators, and two dots side by side
 -- MayBegins: marks of separators behind which a device may stand, and the search by them
 -- Joins: how a text put behind another is read, a list merged into another, and lists spelled and read again

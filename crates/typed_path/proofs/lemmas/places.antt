@@ -3,9 +3,9 @@
 -- UnixRows: the normal text of Unix, written row by row
 -- WindowsRows: the normal text of Windows, written row by row
 -- NamedRows: the rows of names that stand side by side in a text, which are its bytes there
--- KeptNames: the names that are kept of a list, of one with another behind it and of one that is resolved; and the place of a path, read off them
+-- KeptNames: the names that are kept of a list, of names alone, of one with another behind it and of one that is resolved; and the place of a path, read off them
 -- KeptFromBack: the names that are kept of a list, one component less at its end, and whether they begin with others
--- CleanRows: the parents and names that are kept of a path, of names alone and of segments, put behind a head segment by segment
+-- CleanRows: the parents and names that are kept of a path and of segments, put behind a head segment by segment
 -- CleanTexts: the clean text of a path, as it is written behind a text
 -- SharedFromBack: how many first names two lists share, told from the back
 -- TakenNames: names that are taken off the end of a list one after another, whether they can stand, and the rows that they make from their ends

@@ -1,10 +1,10 @@
 -- What is promised of paths.
 -- UnixContained: the normal text of Unix, a relative path joined on Unix, and where a checked one leads
 -- WindowsBases: where a base of Windows leads with a faultless path behind it, and how a list is spelled behind a prefix
--- WindowsContained: a checked push on Windows stays within its base, and the bases that keep their prefix; and whether the list of a base begins with a verbatim prefix, as its prefix tells
+-- WindowsContained: a checked push on Windows stays within its base, and the bases that keep their prefix
 -- Within: a path that is within a base lies below it, from each directory of which is known where paths lead behind it
 -- UnixWithin: on Unix a path is within a base exactly where it lies below it from every absolute directory, so the test for it is exact
--- WindowsWithin: the same on Windows, from each absolute directory that keeps its prefix and is not verbatim; what is read of a path with a prefix and of one without, and that it is not read verbatim where its prefix is not
+-- WindowsWithin: the same on Windows, from each absolute directory that keeps its prefix and is not verbatim; and the kinds that are read of a path with a prefix, and of one without
 -- VerbatimWithin: and from each verbatim one that keeps its prefix
 -- StepsRead: the path that leads from a base to another, read again
 -- StepsBack: the steps that lead from one list to another, put behind the first, lead where the second leads

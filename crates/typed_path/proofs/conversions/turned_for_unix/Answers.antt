@@ -7,7 +7,7 @@ use Rattle.typed_path.specs.components.{unix, windows, body, parts_of, prefix_of
 use Rattle.typed_path.specs.views.PieceViews.{found_of}
 use Rattle.typed_path.proofs.lemmas.components.Prefixes.{prefix-fits, separators-windows}
 use Rattle.typed_path.proofs.lemmas.components.Segments.{body_parts}
-use Rattle.typed_path.proofs.lemmas.changes.Faults.{parts_of-none, parts_of-some}
+use Rattle.typed_path.proofs.lemmas.components.PrefixCuts.{parts_of-none, parts_of-some}
 use Rattle.typed_path.proofs.lemmas.conversions.TurnedPaths.{crosses-unix, crosses-rooted, crosses-root, crosses-prefix, body-same}
 use Rattle.typed_path.proofs.conversions.turned_for_unix.Goals as goal
 use Rattle.typed_path.proofs.conversions.turned_for_unix.Goals.{then-text-eq1, else-text-eq1}

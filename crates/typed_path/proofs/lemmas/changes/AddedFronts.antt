@@ -17,8 +17,7 @@ use Rattle.typed_path.specs.promises.{ExtendsName, is_verbatim_unc_name, prefix_
 use Rattle.typed_path.proofs.lemmas.components.Prefixes.{Read, of_verbatim_unc, of_verbatim_disk, of_verbatim, of_device, of_unc, of_disk, prefix-read, drive-take}
 use Rattle.typed_path.proofs.lemmas.components.PrefixCuts.{prefix_by, name-filled, or-none, not_none, plain-none, verbatim-take}
 use Rattle.typed_path.proofs.lemmas.components.FirmPrefixes.{Apart, nothing, parted, share_made, prefix-apart, three_separators, drive-stays, drive-extends, verbatim_disk-stays}
-use Rattle.typed_path.proofs.lemmas.components.PartedPrefixes.{apart-behind, shares-prefix}
-use Rattle.typed_path.proofs.lemmas.promises.WindowsStable.{drive-plain}
+use Rattle.typed_path.proofs.lemmas.components.PartedPrefixes.{apart-behind, shares-prefix, drive-plain}
 use Rattle.typed_path.proofs.lemmas.lists.Lists.{IsUnseparated}
 use Rattle.typed_path.proofs.lemmas.scan.Steps.{last_of-behind}
 use Rattle.typed_path.proofs.lemmas.queries.Parents.{HasName, name_end-name}

@@ -9,14 +9,14 @@ use Rattle.std.proofs.lemmas.List.Splits.{slice_split-cons_yes}
 use Rattle.std.proofs.lemmas.List.{get_or_past, map-append}
 use Rattle.typed_path.specs.declared.errors.CheckedPathError.TheVariants.{InvalidFilename}
 use Rattle.typed_path.specs.declared.scan.separators.Separators.{Separators}
-use Rattle.typed_path.specs.declared.scan.separators.Separators.TheVariants.{Either, Backslash, Slash}
+use Rattle.typed_path.specs.declared.scan.separators.Separators.TheVariants.{Either, Slash}
 use Rattle.typed_path.specs.components.{Dialect, windows, dot, is_separator, is_verbatim, root_text, separators, unix, slash, Kind, prefix, root, current, parent, normal, is_name, is_parent, Part, kinds, current_part, root_part, parent_part, name_part, Prefix, prefix_part, Found, prefix_of, is_dot, parts_of, is_dot_dot}
 use Rattle.typed_path.specs.scan.{TellsWhether}
 use Rattle.typed_path.specs.queries.{is_valid_name, begins_with_root, has_prefix, has_any_verbatim_prefix, is_disallowed, is_disk}
 use Rattle.typed_path.specs.changes.{fault_behind, fault_at, fault, offence, merged, spelled, ended_windows, push, begins_with_nul_or_dot_pair, has_no_nul_or_dot_pair, is_nul_or_dot_pair, nul_or_dot_pair_at}
 use Rattle.typed_path.specs.places.{overdraws, stays, resolve, with_implied_root}
-use Rattle.typed_path.proofs.lemmas.components.Segments.{pieces, named_part, later_parts, first_parts, body_parts, parts_behind, parts-comps_behind, later_part, parts-body}
-use Rattle.typed_path.proofs.lemmas.components.PrefixCuts.{plain-none}
+use Rattle.typed_path.proofs.lemmas.components.Segments.{pieces, named_part, later_parts, first_parts, body_parts, parts_behind, later_part, parts-body}
+use Rattle.typed_path.proofs.lemmas.components.PrefixCuts.{parts_of-none, parts_of-some}
 use Rattle.typed_path.proofs.lemmas.places.Resolving.{Alike, current-alike, is_head, no_heads, resolve-append}
 use Rattle.typed_path.proofs.lemmas.lists.Lists.{slice_split-some, AllByRecursion-append}
 
@@ -100,17 +100,6 @@ pub record IsFaultless (path : List ℕ) : Type 0 where
   pub read : parts_of windows path ≡ body_parts Either path
   pub closed : overdraws zero (kinds (body_parts Either path)) ≡ false
   pub headless : no_heads (kinds (body_parts Either path)) ≡ true
-
--- the components of a text without a prefix
-pub parts_of-none : (t : List ℕ) → prefix_of windows t ≡ None → parts_of windows t ≡ body_parts Either t
-parts_of-none t none =
-    parts-comps_behind (separators windows t) t (prefix_of windows t)
-    ∙ ap (parts_behind (separators windows t) t) none
-    ∙ ap (λ b. body_parts (if b then Backslash else Either) t) (plain-none t none)
-
--- the components of a text with a prefix
-pub parts_of-some : (t : List ℕ) (f : Found) → prefix_of windows t ≡ Some f → parts_of windows t ≡ parts_behind (separators windows t) t (Some f)
-parts_of-some t f some = parts-comps_behind (separators windows t) t (prefix_of windows t) ∙ ap (parts_behind (separators windows t) t) some
 
 -- a path that is not refused is faultless
 pub faultless : (path : List ℕ) → fault windows path ≡ None → IsFaultless path

@@ -10,7 +10,7 @@ use Rattle.typed_path.specs.queries.{has_prefix, has_any_verbatim_prefix, begins
 use Rattle.typed_path.specs.changes.{push, push_unix, push_windows, push_behind, ended_with, ended_windows, is_disk_alone, raw_prefix, raw_length, spelled, merged, merge_by_kind, prefix_alone, without_last_name, joint, room_of, stem_end, cut_at, dotted, with_extension, popped, with_file_name}
 use Rattle.typed_path.proofs.lemmas.components.Segments.{body_parts}
 use Rattle.typed_path.proofs.lemmas.components.Prefixes.{prefix-fits}
-use Rattle.typed_path.proofs.lemmas.changes.Faults.{parts_of-none, parts_of-some}
+use Rattle.typed_path.proofs.lemmas.components.PrefixCuts.{parts_of-none, parts_of-some}
 use Rattle.typed_path.proofs.lemmas.changes.Joins.{joint-relative}
 use Rattle.typed_path.proofs.lemmas.changes.MergedInPlace.{room-body, room-text}
 

@@ -14,10 +14,9 @@ use Rattle.typed_path.specs.changes.{spelled, merged, raw_length, spells_anew, w
 use Rattle.typed_path.proofs.lemmas.lists.Lists.{AllByRecursion-weaker, width, width-slice_split, AllByRecursion-append}
 use Rattle.typed_path.proofs.lemmas.components.Prefixes.{OfWindows, separators-windows, root_text-windows, prefix-fits, prefix-read}
 use Rattle.typed_path.proofs.lemmas.components.Segments.{pieces, first_part, later_part, first_parts, later_parts, body_parts, body_parts-read, AreRead, IsWritten, IsLater, IsLaterPart, IsWritten-later, named_part, each-written, IsWrittenPart}
-use Rattle.typed_path.proofs.lemmas.changes.Faults.{parts_of-none, parts_of-some}
 use Rattle.typed_path.proofs.lemmas.changes.Joins.{IsPiece, later-piece, backslash-free}
 use Rattle.typed_path.proofs.lemmas.changes.SpelledTexts.{Behind, nothing, rooted, spelled-shaped, IsUnprefixed, merged-behind, spelled-standing, stands-spelled, IsShaped, spelled-prefixed, behind-spelled, verbatim-kept}
-use Rattle.typed_path.proofs.lemmas.components.PrefixCuts.{prefix_by, prefix-size, verbatim-size, verbatim-take}
+use Rattle.typed_path.proofs.lemmas.components.PrefixCuts.{prefix_by, prefix-size, verbatim-size, verbatim-take, parts_of-none, parts_of-some}
 use Rattle.typed_path.proofs.lemmas.changes.WindowsPushes.{push-anew}
 use Rattle.typed_path.proofs.lemmas.components.WindowsNames.{clean-either}
 

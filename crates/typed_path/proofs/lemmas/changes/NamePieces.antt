@@ -13,7 +13,7 @@ use Rattle.typed_path.specs.scan.{is_one_of, stands_at, turned}
 use Rattle.typed_path.specs.changes.{AreNamesBefore, begins_no_name, begins_no_name_at, is_component, is_name_piece, merged, names_behind, names_of, HoldsNames, IsStanding, Stands, jointed}
 use Rattle.typed_path.proofs.lemmas.lists.Lists.{IsUnseparated, slice_split-some, slice_split-unseparated}
 use Rattle.typed_path.proofs.lemmas.components.Segments.{pieces, first_part, later_part, first_parts, later_parts, named_part, parts-later_body}
-use Rattle.typed_path.proofs.lemmas.changes.Faults.{parts_of-none, parts_of-some}
+use Rattle.typed_path.proofs.lemmas.components.PrefixCuts.{parts_of-none, parts_of-some}
 use Rattle.typed_path.proofs.lemmas.changes.Joins.{backslash-free}
 use Rattle.typed_path.proofs.lemmas.changes.WindowsPushes.{stands-more}
 

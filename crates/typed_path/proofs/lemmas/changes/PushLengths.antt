@@ -13,9 +13,8 @@ use Rattle.typed_path.specs.places.{stays, resolve, normal_text}
 use Rattle.typed_path.specs.conversions.{same_dialect, crossed, crossed_all, converted, crossing_fault, push_unless, push_checked_each, converted_checked, platform, absolute_from}
 use Rattle.typed_path.proofs.lemmas.lists.Lists.{AllByRecursion-weaker}
 use Rattle.typed_path.proofs.lemmas.components.Prefixes.{separators-windows, root_text-windows, prefix-fits}
-use Rattle.typed_path.proofs.lemmas.components.PrefixCuts.{IsSize, prefix-size}
+use Rattle.typed_path.proofs.lemmas.components.PrefixCuts.{IsSize, prefix-size, parts_of-none, parts_of-some}
 use Rattle.typed_path.proofs.lemmas.components.Segments.{body_parts, body_parts-read, IsWritten, IsWrittenPart, each-written}
-use Rattle.typed_path.proofs.lemmas.changes.Faults.{parts_of-none, parts_of-some}
 use Rattle.typed_path.proofs.lemmas.changes.Joins.{Ending, parted, ending}
 use Rattle.typed_path.proofs.lemmas.changes.Lengths.{size, one-root, ended-length}
 use Rattle.typed_path.proofs.lemmas.changes.MergedInPlace.{room-body, room-text, no-prefix}

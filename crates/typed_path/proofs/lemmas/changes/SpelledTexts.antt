@@ -14,11 +14,9 @@ use Rattle.typed_path.specs.queries.{is_verbatim_prefix, begins_with_root, has_p
 use Rattle.typed_path.specs.changes.{spelled, prefix_alone, without_last_name, merge_by_kind, merged, joint, IsSpelled, is_row, names_behind, IsStanding, IsMergeable, AreMergeable, Stands, room_of}
 use Rattle.typed_path.proofs.lemmas.components.Prefixes.{OfWindows, separators-windows, backslash-separates, root_text-windows, some_is, after_mark-reads, after_unc-reads, both-read, Read, of_verbatim_unc, of_verbatim_disk, of_verbatim, IsBehindMark}
 use Rattle.typed_path.proofs.lemmas.components.Segments.{pieces, first_parts, later_parts, body_parts, body_parts-read, AreRead, IsWritten, IsLaterPart}
-use Rattle.typed_path.proofs.lemmas.changes.Faults.{parts_of-some}
 use Rattle.typed_path.proofs.lemmas.changes.Joins.{later_parts-spelled, row-read, row-spelled, joint-relative, IsPiece, later-piece}
 use Rattle.typed_path.proofs.lemmas.promises.WindowsBases.{Rest, nothing as bare, from_root, from_other, spelled-behind}
-use Rattle.typed_path.proofs.lemmas.promises.WindowsContained.{verbatim-none, verbatim-some}
-use Rattle.typed_path.proofs.lemmas.components.PrefixCuts.{prefix_by, unless-none, name-length, name-filled}
+use Rattle.typed_path.proofs.lemmas.components.PrefixCuts.{prefix_by, unless-none, name-length, name-filled, parts_of-some, verbatim-none, verbatim-some}
 use Rattle.typed_path.proofs.lemmas.components.FirmPrefixes.{parted, name-recut, both-extend, mark-recut, share_made, first-some, mark-extends, unc-extends, firm-again}
 
 -- What stands behind the prefix of a text of Windows that is spelled as it is read.

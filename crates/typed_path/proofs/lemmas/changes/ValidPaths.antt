@@ -1,6 +1,6 @@
 -- Paths of Windows of which looks at their bytes tell what they are refused for: the search for devices and for two dots, and what it tells of the components.
-use Rattle.std.proofs.Common.{nat_le, ⊎_elim, ◌≡◌, ℕ, zero, suc, ◌+◌, ◌-◌, ◌≤◌, ◌<◌, Bool, true, false, take, subst, eqb-true, ne_eqb, if◌then◌else◌, cond, not, ◌&&◌, ◌||◌, ◌==◌, List, [], ◌∷◌, ◌++◌, length, drop, get_or, refl, sym, ap, ap₂, ◌∙◌, arith, Option, Some, None, true≢false, ◌⊎◌, inl, inr, append-nil}
-use Rattle.std.specs.List.{list_any, list_all, before_first, position_or_len, onto_first}
+use Rattle.std.proofs.Common.{nat_le, ⊎_elim, ◌≡◌, ℕ, zero, suc, ◌+◌, ◌-◌, ◌≤◌, ◌<◌, Bool, true, false, eqb-true, ne_eqb, if◌then◌else◌, cond, not, ◌&&◌, ◌||◌, ◌==◌, List, [], ◌∷◌, ◌++◌, length, drop, get_or, refl, sym, ap, ap₂, ◌∙◌, arith, Option, Some, None, true≢false, ◌⊎◌, inl, inr, append-nil}
+use Rattle.std.specs.List.{list_any, list_all, before_first, onto_first}
 use Rattle.std.specs.Option.{option_or}
 use Rattle.std.specs.Char.{to_ascii_lowercase}
 use Rattle.std.proofs.lemmas.Bool.{and_parts, or_parts, false_from_ne_true, not-true}
@@ -16,20 +16,12 @@ use Rattle.std.specs.Slice.Scan.{HoldsNowhere}
 use Rattle.typed_path.specs.scan.{stands_at, IsFirstOf}
 use Rattle.typed_path.specs.queries.{is_reserved, is_valid, is_valid_name}
 use Rattle.typed_path.specs.changes.{is_in, fault, fault_behind, offence, is_bare_device, is_numbered_device, is_device, is_stray, begins_like_device, may_end_stem, begins_with_device, has_device_behind, has_device, dot_pair_at, has_dot_pair, is_forbidden_or, has_stray_of, stray_of_at, begins_with_separator, has_second_colon, begins_with_nul_or_dot_pair, has_no_nul_or_dot_pair}
-use Rattle.typed_path.proofs.lemmas.components.Segments.{pieces, first_parts, later_parts, body_parts, parts-body, body_from-append, body_from-separator}
+use Rattle.typed_path.proofs.lemmas.components.Segments.{pieces, first_parts, later_parts, body_parts, parts-body, body_from-append, body_from-separator, segment-byte}
 use Rattle.typed_path.proofs.lemmas.queries.ValidNames.{reserved-device, one_of_two, valid-found}
-use Rattle.typed_path.proofs.lemmas.changes.Faults.{parts_of-none}
+use Rattle.typed_path.proofs.lemmas.components.PrefixCuts.{parts_of-none}
 use Rattle.typed_path.proofs.lemmas.scan.Searches.{any-told}
 
 -- ---- what devices begin with
-
--- what stands before the first separator, byte by byte
-segment-byte : (b : ℕ) (bs : List ℕ) → before_first (is_separator Either) (b ∷ bs) ≡ cond (is_separator Either b) [] (b ∷ before_first (is_separator Either) bs)
-segment-byte b bs = by (is_separator Either b) (position_or_len (is_separator Either) bs)
-  where
-    by : (separates : Bool) (n : ℕ) → take (cond (not separates) (1 + n) 0) (b ∷ bs) ≡ cond separates [] (b ∷ take n bs)
-    by true n = refl
-    by false n = let more : suc n ≡ 1 + n = omega arith in subst (λ m. take m (b ∷ bs) ≡ b ∷ take n bs) more refl
 
 -- a letter passes a test that it passes as a small one and as a capital
 letter : (p : ℕ → Bool) (k b : ℕ) → (to_ascii_lowercase b == k) ≡ true → p k ≡ true → p (k - 32) ≡ true → p b ≡ true
@@ -112,14 +104,14 @@ module _ (p q : ℕ → Bool) (ps : list_all p first_letters ≡ true) (qs : lis
   front : (text : List ℕ) → (p (get_or (before_first (is_separator Either) text) 0 0) && q (get_or (before_first (is_separator Either) text) 1 0)) ≡ true
       → (p (get_or text 0 0) && q (get_or text 1 0)) ≡ true
   front [] e = e
-  front (a ∷ []) e = by (is_separator Either a) (sym (ap (λ t. p (get_or t 0 0) && q (get_or t 1 0)) (segment-byte a [])) ∙ e)
+  front (a ∷ []) e = by (is_separator Either a) (sym (ap (λ t. p (get_or t 0 0) && q (get_or t 1 0)) (segment-byte Either a [])) ∙ e)
     where
       by : (separates : Bool) → (p (get_or (cond separates [] (a ∷ [])) 0 0) && q (get_or (cond separates [] (a ∷ [])) 1 0)) ≡ true → (p a && q 0) ≡ true
       by true h = absurd (true≢false (sym (and_parts (p 0) (q 0) h).0 ∙ p0))
       by false h = h
   front (a ∷ b ∷ rest) e =
       by (is_separator Either a) (is_separator Either b) (before_first (is_separator Either) rest)
-      (sym (ap (λ t. p (get_or t 0 0) && q (get_or t 1 0)) (segment-byte a (b ∷ rest) ∙ ap (λ t. cond (is_separator Either a) [] (a ∷ t)) (segment-byte b rest))) ∙ e)
+      (sym (ap (λ t. p (get_or t 0 0) && q (get_or t 1 0)) (segment-byte Either a (b ∷ rest) ∙ ap (λ t. cond (is_separator Either a) [] (a ∷ t)) (segment-byte Either b rest))) ∙ e)
     where
       by : (first second : Bool) (more : List ℕ)
           → (p (get_or (cond first [] (a ∷ cond second [] (b ∷ more))) 0 0) && q (get_or (cond first [] (a ∷ cond second [] (b ∷ more))) 1 0)) ≡ true
@@ -163,11 +155,11 @@ stem-ends (a ∷ b ∷ c ∷ d ∷ e ∷ rest) h =
     stem : before_first (is_separator Either) (a ∷ b ∷ c ∷ d ∷ e ∷ rest)
         ≡ cond (is_separator Either a) [] (a ∷ cond (is_separator Either b) [] (b ∷ cond (is_separator Either c) [] (c ∷ cond (is_separator Either d) [] (d ∷ cond (is_separator Either e) [] (e ∷ before_first (is_separator Either) rest)))))
     stem =
-        segment-byte a (b ∷ c ∷ d ∷ e ∷ rest)
-        ∙ ap (λ t. cond (is_separator Either a) [] (a ∷ t)) (segment-byte b (c ∷ d ∷ e ∷ rest)
-        ∙ ap (λ t. cond (is_separator Either b) [] (b ∷ t)) (segment-byte c (d ∷ e ∷ rest)
-        ∙ ap (λ t. cond (is_separator Either c) [] (c ∷ t)) (segment-byte d (e ∷ rest)
-        ∙ ap (λ t. cond (is_separator Either d) [] (d ∷ t)) (segment-byte e rest))))
+        segment-byte Either a (b ∷ c ∷ d ∷ e ∷ rest)
+        ∙ ap (λ t. cond (is_separator Either a) [] (a ∷ t)) (segment-byte Either b (c ∷ d ∷ e ∷ rest)
+        ∙ ap (λ t. cond (is_separator Either b) [] (b ∷ t)) (segment-byte Either c (d ∷ e ∷ rest)
+        ∙ ap (λ t. cond (is_separator Either c) [] (c ∷ t)) (segment-byte Either d (e ∷ rest)
+        ∙ ap (λ t. cond (is_separator Either d) [] (d ∷ t)) (segment-byte Either e rest))))
 
     fourth : (x y : Bool) → ((x || y) || true) ≡ true
     fourth true y = refl
@@ -260,7 +252,7 @@ split (x ∷ xs) = by (is_separator Either x) refl (split xs)
     by : (separates : Bool) → is_separator Either x ≡ separates → Split xs → Split (x ∷ xs)
     by true e rest = record {
       more = pieces Either xs;
-      cut = ap (λ s. cond s ([] ∷ pieces Either xs) (onto_first x (pieces Either xs))) e ∙ ap (λ s. s ∷ pieces Either xs) (sym (segment-byte x xs ∙ ap (λ s. cond s [] (x ∷ before_first (is_separator Either) xs)) e));
+      cut = ap (λ s. cond s ([] ∷ pieces Either xs) (onto_first x (pieces Either xs))) e ∙ ap (λ s. s ∷ pieces Either xs) (sym (segment-byte Either x xs ∙ ap (λ s. cond s [] (x ∷ before_first (is_separator Either) xs)) e));
       told =
           ap (list_any (is_reserved windows)) rest.cut
           ∙ ap (λ b. is_reserved windows (before_first (is_separator Either) xs) || b) rest.told
@@ -271,7 +263,7 @@ split (x ∷ xs) = by (is_separator Either x) refl (split xs)
       cut =
           ap (λ s. cond s ([] ∷ pieces Either xs) (onto_first x (pieces Either xs))) e
           ∙ ap (onto_first x) rest.cut
-          ∙ ap (λ s. s ∷ rest.more) (sym (segment-byte x xs ∙ ap (λ s. cond s [] (x ∷ before_first (is_separator Either) xs)) e));
+          ∙ ap (λ s. s ∷ rest.more) (sym (segment-byte Either x xs ∙ ap (λ s. cond s [] (x ∷ before_first (is_separator Either) xs)) e));
       told = rest.told ∙ ap (λ s. (s && begins_with_device xs) || has_device_behind xs) (sym e);
     }
 
@@ -396,7 +388,7 @@ body_plain [] apart none = refl
 body_plain (x ∷ xs) apart none =
     let s = split (x ∷ xs) in
     let cut : pieces Either (x ∷ xs) ≡ (x ∷ before_first (is_separator Either) xs) ∷ s.more =
-    s.cut ∙ ap (λ p. p ∷ s.more) (segment-byte x xs ∙ ap (λ b. cond b [] (x ∷ before_first (is_separator Either) xs)) apart) in
+    s.cut ∙ ap (λ p. p ∷ s.more) (segment-byte Either x xs ∙ ap (λ b. cond b [] (x ∷ before_first (is_separator Either) xs)) apart) in
     ap (λ ps. list_all is_plain (kinds (first_parts Either ps))) cut
     ∙ first_plain x (before_first (is_separator Either) xs) s.more (ap (list_any is_dot_dot) (sym cut) ∙ none)
 

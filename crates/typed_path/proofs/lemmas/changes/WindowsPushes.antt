@@ -14,7 +14,7 @@ use Rattle.typed_path.specs.changes.{push, push_windows, merged, without_last_na
 use Rattle.typed_path.proofs.lemmas.components.Segments.{AreRead, body_parts, body_parts-read, first_parts, later_parts}
 use Rattle.typed_path.proofs.lemmas.components.Prefixes.{drive-size, Read, of_verbatim_unc, of_verbatim_disk, of_verbatim, of_device, of_unc, of_disk, prefix-read}
 use Rattle.typed_path.proofs.lemmas.components.WindowsNames.{unseparated-none}
-use Rattle.typed_path.proofs.lemmas.changes.Faults.{parts_of-none, parts_of-some}
+use Rattle.typed_path.proofs.lemmas.components.PrefixCuts.{parts_of-none, parts_of-some}
 use Rattle.typed_path.proofs.lemmas.promises.WindowsBases.{read-no_drive, disk_alone-filled}
 use Rattle.typed_path.proofs.lemmas.lists.Lists.{AllByRecursion-append, IsLastPlace, place-none, place-behind}
 

@@ -1,12 +1,12 @@
--- A prefix with more of its text behind it: where it ends, and what stands right behind it.
-use Rattle.std.proofs.Common.{◌≡◌, ℕ, suc, ◌+◌, ◌<◌, Bool, true, false, not, cond, if◌then◌else◌, List, [], ◌∷◌, length, drop, Some, None, refl, sym, ap, ◌∙◌, subst, length-drop, arith, ◌≤◌, nat_lt, ◌++◌, take, inl, inr, length-take, ◌⊎◌, ◌==◌, append-nil, le-ltb, eqb-true, drop-drop, take_all, get_or, take-append-drop}
+-- A prefix with more of its text behind it: where it ends, and what stands right behind it; and which texts with a prefix are not read verbatim.
+use Rattle.std.proofs.Common.{◌≡◌, ℕ, suc, ◌+◌, ◌<◌, Bool, true, false, not, cond, if◌then◌else◌, List, [], ◌∷◌, length, drop, Some, None, refl, sym, ap, ◌∙◌, subst, length-drop, arith, ◌≤◌, nat_lt, ◌++◌, take, inl, inr, length-take, ◌⊎◌, ◌==◌, append-nil, le-ltb, eqb-true, drop-drop, take_all, get_or, take-append-drop, ◌-◌}
 use Rattle.std.specs.List.{position_or_len, after_first, list_any}
-use Rattle.std.proofs.lemmas.Bool.{not-true, false_from_ne_true, cases_lt, cond-false, both_ways, or_cases}
+use Rattle.std.proofs.lemmas.Bool.{not-true, false_from_ne_true, cases_lt, cond-false, both_ways, or_cases, cases_Bool}
 use Rattle.std.proofs.lemmas.List.{take-append-le, drop_more}
 use Rattle.std.proofs.lemmas.List.Splits.{slice_split-cons_yes}
 use Rattle.typed_path.specs.declared.scan.separators.Separators.{Separators}
 use Rattle.typed_path.specs.declared.scan.separators.Separators.TheVariants.{Backslash, Either, Slash}
-use Rattle.typed_path.specs.components.{windows, separators, is_separator, question, begins_verbatim, is_verbatim, slash, backslash, Found, after_mark, name, second_name, names_length, prefix_of, found, verbatim, Prefix, verbatim_unc, verbatim_disk, device_ns, unc, disk, kinds}
+use Rattle.typed_path.specs.components.{windows, separators, is_separator, question, begins_verbatim, is_verbatim, slash, backslash, Found, after_mark, name, second_name, names_length, prefix_of, found, verbatim, Prefix, verbatim_unc, verbatim_disk, device_ns, unc, disk, kinds, drive}
 use Rattle.typed_path.specs.queries.{is_disk, is_verbatim_prefix, begins_with_root}
 use Rattle.typed_path.specs.promises.{is_verbatim_unc_name}
 use Rattle.typed_path.specs.changes.{raw_length}
@@ -86,6 +86,28 @@ firm-more s text f (of_verbatim rest mark filled no_unc no_drive) firm other = o
 firm-more s text f (of_device rest mark filled) firm other = omega (arith, mark.size, filled-long _ filled, name-fits Either rest)
 firm-more s text f (of_unc rest mark filled no_verbatim no_device) firm other = omega (arith, mark.size, names-long Either rest filled (not-true _ firm), names-fit Either rest)
 firm-more s text f (of_disk letter drives) firm other = cc
+
+-- a text that begins with a drive is not read verbatim
+pub drive-plain : (t : List ℕ) (letter : ℕ) → drive t ≡ Some letter → begins_verbatim t ≡ false
+drive-plain t letter is = false_from_ne_true _ (λ marked. no_drive (sym (ap drive (verbatim_text t marked)) ∙ is))
+  where
+    no_drive : None ≡ Some letter → ⊥
+    no_drive e = cc
+
+-- so its separators are both
+pub drive-either : (t : List ℕ) (letter : ℕ) → drive t ≡ Some letter → separators windows t ≡ Either
+drive-either t letter is = ap (λ v. if v then Backslash else Either) (drive-plain t letter is)
+
+-- a text with a prefix that is not verbatim is not read verbatim
+on-drive : (text : List ℕ) (f : Found) → Read (separators windows text) text f → is_disk f.prefix ≡ true → separators windows text ≡ Either
+on-drive text f (of_disk letter drives) kind = drive-either text letter drives
+on-drive text f read kind = cc
+
+pub either : (text : List ℕ) (f : Found) → prefix_of windows text ≡ Some f → is_verbatim_prefix f.prefix ≡ false → (is_disk f.prefix ≡ false → 4 < length text) → separators windows text ≡ Either
+either text f is plain long = elim (cases_Bool (is_disk f.prefix)) [
+  | inl drives ↦ on-drive text f (prefix-read text f is) drives
+  | inr other ↦ ap (λ c. if c then Backslash else Either) (plain-kind text f is plain (long other))
+]
 
 -- A prefix with more of its text behind it stays where something else is put apart in the place of that.
 

@@ -1,4 +1,4 @@
--- The names of a prefix, a Windows text that is cut behind its prefix, and how many bytes a prefix takes of it.
+-- The names of a prefix, a Windows text that is cut behind its prefix, what it is read as, and how many bytes a prefix takes of it.
 use Rattle.std.proofs.Common.{◌≡◌, ℕ, zero, suc, ◌+◌, ◌-◌, ◌<◌, ◌≤◌, Bool, true, false, not, cond, nat_lt, List, [], ◌∷◌, inl, inr, length, min, take, drop, sym, ap, ap₂, ◌∙◌, arith, length-take, take_all, take-take, if◌then◌else◌, Option, Some, None, option_and_then, refl, subst, ne_eqb, nat_eq, ◌⊎◌, ◌++◌, lt-ltb, le-ltb, eq-eqb, eqb-true, length-append, length-drop}
 use Rattle.std.specs.List.{position_or_len, prefix_len, after_first}
 use Rattle.std.proofs.lemmas.Bool.{cases_lt, cond-true, cond-false, cases_Bool, false_from_ne_true, eqb-false, both_ways}
@@ -10,10 +10,10 @@ use Rattle.std.proofs.lemmas.Bool.Decides.{Decides-eqb}
 use Rattle.std.proofs.lemmas.Slice.Eq.{starts_is}
 use Rattle.typed_path.specs.declared.scan.separators.Separators.{Separators}
 use Rattle.typed_path.specs.declared.scan.separators.Separators.TheVariants.{Either, Backslash}
-use Rattle.typed_path.specs.components.{is_separator, question, dot, windows, backslash, separators, begins_verbatim, is_empty, name, second_name, names_length, Found, found, drive, after_two, after_mark, after_unc, verbatim_unc_case, verbatim_disk_case, verbatim_case, device_case, unc_case, disk_case, prefix_of, Prefix, verbatim, verbatim_unc, verbatim_disk, device_ns, unc, disk}
-use Rattle.typed_path.specs.queries.{is_disk, is_verbatim_prefix}
+use Rattle.typed_path.specs.components.{is_separator, question, dot, windows, backslash, separators, begins_verbatim, is_empty, name, second_name, names_length, Found, found, drive, after_two, after_mark, after_unc, verbatim_unc_case, verbatim_disk_case, verbatim_case, device_case, unc_case, disk_case, prefix_of, Prefix, verbatim, verbatim_unc, verbatim_disk, device_ns, unc, disk, parts_of, Kind, prefix, Part, kinds}
+use Rattle.typed_path.specs.queries.{is_disk, is_verbatim_prefix, begins_with_prefix, has_any_verbatim_prefix}
 use Rattle.typed_path.proofs.lemmas.components.Prefixes.{and_then-some, unless-some, some_is, ReadsMark, IsFront, after_mark-reads, after_unc-reads, after_two-reads, both-read, drive-take, drive-none, OfWindows, separators-windows, backslash-separates, name-fits, Read, of_verbatim_unc, of_verbatim_disk, of_verbatim, of_device, of_unc, of_disk, prefix-read}
-use Rattle.typed_path.proofs.lemmas.components.Segments.{position-append}
+use Rattle.typed_path.proofs.lemmas.components.Segments.{position-append, body_parts, parts_behind, parts-comps_behind, body_parts-read, AreRead, IsWritten}
 
 -- The names at the front of a text that is cut behind them.
 
@@ -275,8 +275,8 @@ or-none None p e = e
 or-none (Some x) p e = cc
 
 -- a text that is read verbatim with more behind its mark has a verbatim name
-pub verbatim-some : (b : ℕ) (bs : List ℕ) → verbatim_case Backslash (backslash ∷ backslash ∷ question ∷ backslash ∷ b ∷ bs) ≡ Some (found (verbatim (name Backslash (b ∷ bs))) (4 + length (name Backslash (b ∷ bs))))
-verbatim-some b bs = cond-false (is_empty (b ∷ bs)) None (Some (found (verbatim (name Backslash (b ∷ bs))) (4 + length (name Backslash (b ∷ bs))))) (ne_eqb _ 0 (λ none. omega arith))
+verbatim_case-some : (b : ℕ) (bs : List ℕ) → verbatim_case Backslash (backslash ∷ backslash ∷ question ∷ backslash ∷ b ∷ bs) ≡ Some (found (verbatim (name Backslash (b ∷ bs))) (4 + length (name Backslash (b ∷ bs))))
+verbatim_case-some b bs = cond-false (is_empty (b ∷ bs)) None (Some (found (verbatim (name Backslash (b ∷ bs))) (4 + length (name Backslash (b ∷ bs))))) (ne_eqb _ 0 (λ none. omega arith))
 
 -- a text that is read verbatim has a prefix of four bytes or more
 pub verbatim-long : (rest : List ℕ) (f : Found) → prefix_of windows (backslash ∷ backslash ∷ question ∷ backslash ∷ rest) ≡ Some f → 4 ≤ f.length
@@ -300,7 +300,7 @@ verbatim-long (b ∷ bs) f e =
 
     third : (g : Found) → option_or (verbatim_case Backslash text) (option_or (device_case text) (option_or (unc_case text) (disk_case text))) ≡ Some g → 4 ≤ g.length
     third g is =
-        let same = sym (ap (λ o. option_or o (option_or (device_case text) (option_or (unc_case text) (disk_case text)))) (verbatim-some b bs)) ∙ is in
+        let same = sym (ap (λ o. option_or o (option_or (device_case text) (option_or (unc_case text) (disk_case text)))) (verbatim_case-some b bs)) ∙ is in
         omega (arith, ap (λ h. h.length) (some_is same))
 
 -- a text that is read verbatim has a prefix
@@ -310,7 +310,7 @@ verbatim-found (b ∷ bs) e =
     let text = backslash ∷ backslash ∷ question ∷ backslash ∷ b ∷ bs in
     let others = option_or (device_case text) (option_or (unc_case text) (disk_case text)) in
     let third : option_or (verbatim_case Backslash text) others ≡ None = or-none (verbatim_disk_case text) _ (or-none (verbatim_unc_case Backslash text) _ e) in
-    not_none _ (sym (ap (λ o. option_or o others) (verbatim-some b bs)) ∙ third)
+    not_none _ (sym (ap (λ o. option_or o others) (verbatim_case-some b bs)) ∙ third)
 
 -- a text with a prefix keeps it, and its separators
 pub record SamePrefix (text : List ℕ) (e : ℕ) : Type 0 where
@@ -341,7 +341,39 @@ plain-none text is = false_from_ne_true _ (λ marked. verbatim-found (drop 4 tex
 pub same-none : (text : List ℕ) (e : ℕ) → prefix_of windows text ≡ None → SamePrefix text e
 same-none text e is = same_from text e (plain-take text e (plain-none text is) ∙ sym (plain-none text is)) ((prefix-keeps (separators windows text) text e).none is ∙ sym is)
 
+-- What a Windows text is read as, without a prefix and with one.
+
+-- the components of a text without a prefix
+pub parts_of-none : (t : List ℕ) → prefix_of windows t ≡ None → parts_of windows t ≡ body_parts Either t
+parts_of-none t none =
+    parts-comps_behind (separators windows t) t (prefix_of windows t)
+    ∙ ap (parts_behind (separators windows t) t) none
+    ∙ ap (λ b. body_parts (if b then Backslash else Either) t) (plain-none t none)
+
+-- the components of a text with a prefix
+pub parts_of-some : (t : List ℕ) (f : Found) → prefix_of windows t ≡ Some f → parts_of windows t ≡ parts_behind (separators windows t) t (Some f)
+parts_of-some t f some = parts-comps_behind (separators windows t) t (prefix_of windows t) ∙ ap (parts_behind (separators windows t) t) some
+
 -- How many bytes a Windows prefix takes of its text: its kind tells, but for one separator behind a server alone.
+
+-- the prefix tells whether a push spells its base anew
+pub verbatim-some : (t : List ℕ) (f : Found) → prefix_of windows t ≡ Some f → has_any_verbatim_prefix (kinds (parts_of windows t)) ≡ is_verbatim_prefix f.prefix
+verbatim-some t f is = ap (λ ps. has_any_verbatim_prefix (kinds ps)) (parts_of-some t f is)
+
+-- without one the list begins with none
+pub unprefixed : (test : Prefix → Bool) (t : List ℕ) → prefix_of windows t ≡ None → begins_with_prefix test (kinds (parts_of windows t)) ≡ false
+unprefixed test t none = ap (λ ps. begins_with_prefix test (kinds ps)) (parts_of-none t none) ∙ by (body_parts Either t) (body_parts-read Either t)
+  where
+    kind : (k : Kind) (text : List ℕ) (ps : List Part) → IsWritten Either k text → begins_with_prefix test (k ∷ kinds ps) ≡ false
+    kind (prefix q) text ps written = absurd written
+    kind k text ps written = refl
+
+    by : (ps : List Part) → AreRead Either ps → begins_with_prefix test (kinds ps) ≡ false
+    by [] read = refl
+    by (p ∷ ps) read = kind p.kind p.text ps read.0
+
+pub verbatim-none : (t : List ℕ) → prefix_of windows t ≡ None → has_any_verbatim_prefix (kinds (parts_of windows t)) ≡ false
+verbatim-none t none = unprefixed is_verbatim_prefix t none
 
 -- a text that does not end with `\`
 abbrev pub IsUnended : List ℕ → Type 0
@@ -453,7 +485,7 @@ marked-kind b bs _ (of_verbatim_unc rest mark filled) = refl
 marked-kind b bs _ (of_verbatim_disk rest letter mark drives) = refl
 marked-kind b bs _ (of_verbatim rest mark filled no_unc no_drive) = refl
 marked-kind b bs _ (of_device rest mark filled) = let marked = mark.marked in cc
-marked-kind b bs _ (of_unc rest mark filled no_verbatim no_device) = absurd (not_none _ (sym (verbatim-some b bs) ∙ no_verbatim))
+marked-kind b bs _ (of_unc rest mark filled no_verbatim no_device) = absurd (not_none _ (sym (verbatim_case-some b bs) ∙ no_verbatim))
 marked-kind b bs _ (of_disk letter drives) = cc
 
 -- so a longer text of another kind does not begin with it

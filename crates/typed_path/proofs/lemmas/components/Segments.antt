@@ -1,5 +1,5 @@
 -- Segments, a body taken apart at a separator, the components read off its pieces, and the first component of a clean text.
-use Rattle.std.proofs.Common.{◌≡◌, ℕ, ◌==◌, Bool, true, false, cond, List, [], ◌∷◌, length, refl, eqb-true, ◌+◌, ◌-◌, ◌<◌, ◌≤◌, ◌++◌, not, ◌&&◌, ◌||◌, eqb, take, drop, get_or, slice_range, sym, ap, ◌∙◌, add-zero, arith, All, inl, inr, append-nil, append_assoc, if◌then◌else◌, map, Option, Some, None, flat_map, ap₂, drop-drop, take_all, length-take-le, length-take, length-drop}
+use Rattle.std.proofs.Common.{◌≡◌, ℕ, ◌==◌, Bool, true, false, cond, List, [], ◌∷◌, length, refl, eqb-true, ◌+◌, ◌-◌, ◌<◌, ◌≤◌, ◌++◌, not, ◌&&◌, ◌||◌, eqb, take, drop, get_or, slice_range, sym, ap, ◌∙◌, add-zero, arith, All, inl, inr, append-nil, append_assoc, if◌then◌else◌, map, Option, Some, None, flat_map, ap₂, drop-drop, take_all, length-take-le, length-take, length-drop, suc, subst}
 use Rattle.std.specs.List.{slice_split, before_first, after_first, position_or_len, onto_first, AllByRecursion}
 use Rattle.std.proofs.lemmas.List.{drop-take, drop_more, drop_all, take-append-le, map-append}
 use Rattle.std.proofs.lemmas.List.Splits.{slice_split-cons_yes, slice_split_none, slice_split_first}
@@ -51,6 +51,14 @@ seen s g = by (length g.text == 0) refl (is_dot g.text) refl (is_verbatim s) (is
     by false e false f verbatim false h = word e
 
 -- A body, taken apart at its first separator.
+
+-- what stands before the first separator, byte by byte
+pub segment-byte : (s : Separators) (b : ℕ) (bs : List ℕ) → before_first (is_separator s) (b ∷ bs) ≡ cond (is_separator s b) [] (b ∷ before_first (is_separator s) bs)
+segment-byte s b bs = by (is_separator s b) (position_or_len (is_separator s) bs)
+  where
+    by : (separates : Bool) (n : ℕ) → take (cond (not separates) (1 + n) 0) (b ∷ bs) ≡ cond separates [] (b ∷ take n bs)
+    by true n = refl
+    by false n = let more : suc n ≡ 1 + n = omega arith in subst (λ m. take m (b ∷ bs) ≡ b ∷ take n bs) more refl
 
 -- a separator at the front of what stands behind a component is nothing
 pub later_body-separator : (s : Separators) (at x : ℕ) (xs : List ℕ) → is_separator s x ≡ true → later_body s at (x ∷ xs) ≡ later_body s (at + 1) xs
@@ -402,6 +410,11 @@ pub IsWritten-later : (s : Separators) (k : Kind) (text : List ℕ) → IsLater 
 IsWritten-later s root text later = absurd later
 IsWritten-later s current text later = later.1
 IsWritten-later s k text later = later
+
+-- later components are a list as it is read
+pub AreRead-later : (s : Separators) (ps : List Part) → AllByRecursion (IsLaterPart s) ps → AreRead s ps
+AreRead-later s [] each = tt
+AreRead-later s (p ∷ ps) each = (IsWritten-later s p.kind p.text each.0, each.1)
 
 -- the first piece gives a component that is written as its kind tells
 first_part-written : (s : Separators) (piece : List ℕ) → IsUnseparated (is_separator s) piece → IsWrittenPart s (first_part s piece)

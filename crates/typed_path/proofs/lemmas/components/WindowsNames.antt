@@ -17,7 +17,7 @@ use Rattle.typed_path.proofs.lemmas.components.Segments.{IsCleanName, IsWritten,
 use Rattle.typed_path.proofs.lemmas.places.Resolving.{IsKept, resolve-each}
 use Rattle.typed_path.proofs.lemmas.components.FirmPrefixes.{Apart, nothing, drive-apart, prefix-apart}
 use Rattle.typed_path.proofs.lemmas.changes.Joins.{body_parts-name, spelled-filled, body_parts-spelled}
-use Rattle.typed_path.proofs.lemmas.changes.Faults.{parts_of-none}
+use Rattle.typed_path.proofs.lemmas.components.PrefixCuts.{parts_of-none}
 use Rattle.typed_path.proofs.lemmas.promises.UnixContained.{parts_of-unix}
 
 -- Names that are read as names in each Windows text: without separators of either kind, and no drives.

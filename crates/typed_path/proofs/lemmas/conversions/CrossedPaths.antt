@@ -15,11 +15,10 @@ use Rattle.typed_path.proofs.lemmas.components.Segments.{pieces, later_parts, bo
 use Rattle.typed_path.proofs.lemmas.components.WindowsNames.{IsPlain, unseparated-none, plain-no_prefix, rooted-none, plain-read, a_name, ended_with-append, ended-spelled, plain-clean, allowed-plain}
 use Rattle.typed_path.proofs.lemmas.components.FirmPrefixes.{nothing, parted, drive-letter}
 use Rattle.typed_path.proofs.lemmas.changes.Joins.{later_parts-name, body_parts-name, body_parts-ended}
-use Rattle.typed_path.proofs.lemmas.changes.Faults.{parts_of-none, parts_of-some}
+use Rattle.typed_path.proofs.lemmas.components.PrefixCuts.{parts_of-none, parts_of-some, verbatim-none}
 use Rattle.typed_path.proofs.lemmas.changes.WindowsPushes.{push-relative}
 use Rattle.typed_path.proofs.lemmas.conversions.Crossings.{crossed-plain, valid-allowed, converted_checked-ok}
 use Rattle.typed_path.proofs.lemmas.promises.WindowsBases.{read-no_drive}
-use Rattle.typed_path.proofs.lemmas.promises.WindowsContained.{verbatim-none}
 use Rattle.typed_path.proofs.lemmas.promises.WindowsStable.{push-first}
 use Rattle.typed_path.proofs.lemmas.promises.UnixContained.{parts_of-unix, push_unix-name, push_unix-behind}
 use Rattle.typed_path.proofs.lemmas.components.Prefixes.{OfWindows, separators-windows, Read, of_disk, prefix-read}

@@ -13,19 +13,17 @@ use Rattle.typed_path.specs.queries.{is_disk}
 use Rattle.typed_path.specs.conversions.{crossed, crossed_all, CrossesTurned}
 use Rattle.typed_path.specs.scan.{is_one_of, is_blank, begins_blank, has_blank_behind, turned}
 use Rattle.typed_path.proofs.lemmas.lists.Lists.{IsUnseparated, slice_split-some, slice_split-unseparated, AllByRecursion-weaker}
-use Rattle.typed_path.proofs.lemmas.components.Segments.{pieces, named_part, first_part, later_parts, first_parts, body_parts, parts-body}
+use Rattle.typed_path.proofs.lemmas.components.Segments.{pieces, named_part, first_part, later_parts, first_parts, body_parts, parts-body, segment-byte}
 use Rattle.typed_path.proofs.lemmas.components.WindowsNames.{IsPlain, ended_with-append}
 use Rattle.typed_path.proofs.lemmas.changes.WindowsPushes.{fits-plain}
 use Rattle.typed_path.proofs.lemmas.conversions.CrossedPaths.{IsStep, a_parent, a_plain, IsBare, step-read, bare-next, push-step, bare-root, bare-current, bare-parent, bare-name}
 use Rattle.typed_path.proofs.lemmas.components.Prefixes.{OfWindows, Read, of_disk, of_verbatim_unc, of_verbatim_disk, of_verbatim, of_device, of_unc, prefix-read}
 use Rattle.typed_path.proofs.lemmas.components.FirmPrefixes.{drive-letter}
-use Rattle.typed_path.proofs.lemmas.changes.Faults.{parts_of-some}
+use Rattle.typed_path.proofs.lemmas.components.PrefixCuts.{parts_of-some, verbatim-none}
 use Rattle.typed_path.proofs.lemmas.places.UnixRows.{take-ended}
 use Rattle.typed_path.proofs.lemmas.places.WindowsRows.{IsWithoutSlash, pieces-own, separates-own}
 use Rattle.typed_path.proofs.lemmas.promises.UnixContained.{parts_of-unix, push_unix-nothing}
 use Rattle.typed_path.proofs.lemmas.promises.WindowsStable.{push-first}
-use Rattle.typed_path.proofs.lemmas.promises.WindowsContained.{verbatim-none}
-use Rattle.typed_path.proofs.lemmas.scan.Blanks.{segment-byte}
 
 -- ---- the pieces of a text, and its bytes
 

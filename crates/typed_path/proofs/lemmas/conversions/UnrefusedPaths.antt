@@ -18,7 +18,7 @@ use Rattle.typed_path.proofs.lemmas.components.FirmPrefixes.{drive-letter}
 use Rattle.typed_path.proofs.lemmas.conversions.Crossings.{free-byte}
 use Rattle.typed_path.proofs.lemmas.components.Prefixes.{OfWindows, Read, of_disk, of_verbatim_unc, prefix-read, separators-windows}
 use Rattle.typed_path.proofs.lemmas.places.WindowsRows.{IsWithoutSlash, without_slash-behind}
-use Rattle.typed_path.proofs.lemmas.changes.Faults.{parts_of-none, parts_of-some}
+use Rattle.typed_path.proofs.lemmas.components.PrefixCuts.{parts_of-none, parts_of-some}
 use Rattle.typed_path.proofs.lemmas.changes.ValidPaths.{any-pieces}
 use Rattle.typed_path.proofs.lemmas.scan.Blanks.{free-behind}
 use Rattle.typed_path.proofs.lemmas.conversions.TurnedPaths.{pieces-slash, read-unix}

@@ -14,7 +14,7 @@ use Rattle.typed_path.proofs.lemmas.lists.Lists.{width, slice_split-some, slice_
 use Rattle.typed_path.proofs.lemmas.components.FirmPrefixes.{parted, drive-apart, drive-stays}
 use Rattle.typed_path.proofs.lemmas.components.Segments.{pieces, named_part, first_part, first_parts, later_parts, body_parts, body_parts-read, parts-body, parts_behind, parts-comps_behind, IsWritten, IsWrittenPart, each-written}
 use Rattle.typed_path.proofs.lemmas.components.WindowsNames.{unseparated-none}
-use Rattle.typed_path.proofs.lemmas.changes.Faults.{parts_of-none}
+use Rattle.typed_path.proofs.lemmas.components.PrefixCuts.{parts_of-none}
 use Rattle.typed_path.proofs.lemmas.changes.Lengths.{size, one-root}
 use Rattle.typed_path.proofs.lemmas.changes.MergedInPlace.{room-body}
 use Rattle.typed_path.proofs.lemmas.places.CleanTexts.{cleaned-rooted, cleaned-bare, cleaned-prefixed}

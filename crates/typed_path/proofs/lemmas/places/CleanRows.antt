@@ -9,24 +9,11 @@ use Rattle.typed_path.specs.changes.{is_name_piece}
 use Rattle.typed_path.specs.places.{unmet, kept_names, row_end, rows_of, settled, AreRowsOf, ArePut, AreKept, TellsNamesOf, dots, kept_segments, segment_kind, segment_kinds}
 use Rattle.typed_path.proofs.lemmas.lists.Lists.{IsUnseparated, slice_split-some, slice_split-unseparated, AllByRecursion-append}
 use Rattle.typed_path.proofs.lemmas.components.Segments.{pieces, later_parts, first_parts, body_parts, parts-body}
-use Rattle.typed_path.proofs.lemmas.places.KeptNames.{AlikeKept, kept_names-append}
+use Rattle.typed_path.proofs.lemmas.places.KeptNames.{AlikeKept, kept_names-append, unmet-names, kept-names}
 use Rattle.typed_path.proofs.lemmas.places.KeptFromBack.{alike-append, alike-cons, met-alike}
 use Rattle.typed_path.proofs.lemmas.places.UnixRows.{Ended, none, some, ended, take-ended, rows-append, rows-more, all-front}
 
 -- What is kept of names and of segments behind them.
-
--- names alone take no parent up, and all are kept
-pub unmet-names : (names : List (List ℕ)) → unmet (map normal names) ≡ 0
-unmet-names [] = refl
-unmet-names (name ∷ names) = ap (λ n. n - 1) (unmet-names names)
-
-pub kept-names : (names : List (List ℕ)) → kept_names (map normal names) ≡ names
-kept-names [] = refl
-kept-names (name ∷ names) = by (unmet (map normal names) == 0) (ap (λ n. n == 0) (unmet-names names)) ∙ ap (λ ns. name ∷ ns) (kept-names names)
-  where
-    by : (b : Bool) → b ≡ true → (if b then name ∷ kept_names (map normal names) else kept_names (map normal names)) ≡ name ∷ kept_names (map normal names)
-    by true e = refl
-    by false e = cc
 
 -- lists that begin with the same names, and go on alike
 names-alike : (names : List (List ℕ)) (ks ls : List Kind) → AlikeKept ks ls → AlikeKept (map normal names ++ ks) (map normal names ++ ls)

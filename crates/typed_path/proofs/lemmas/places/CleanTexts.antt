@@ -9,9 +9,8 @@ use Rattle.typed_path.specs.components.{Dialect, unix, windows, slash, separator
 use Rattle.typed_path.specs.places.{row_end, rows_of, behind_head, cleaned, clean_text, dots, kept_segments, own_separator, segment_kinds, unheaded}
 use Rattle.typed_path.specs.queries.{begins_with_root, is_disk}
 use Rattle.typed_path.proofs.lemmas.components.Prefixes.{separators-windows}
-use Rattle.typed_path.proofs.lemmas.components.PrefixCuts.{plain-none}
+use Rattle.typed_path.proofs.lemmas.components.PrefixCuts.{plain-none, parts_of-some}
 use Rattle.typed_path.proofs.lemmas.components.Segments.{AreRead, IsWritten, body_parts-read, parts-body}
-use Rattle.typed_path.proofs.lemmas.changes.Faults.{parts_of-some}
 use Rattle.typed_path.proofs.lemmas.places.CleanRows.{body-alike}
 
 -- rows are the segments with one separator between, and one more

@@ -1,4 +1,4 @@
--- The names that are kept of a list: of one with another behind it, and of one that is resolved; and the place of a path, read off them.
+-- The names that are kept of a list: of names alone, of one with another behind it, and of one that is resolved; and the place of a path, read off them.
 use Rattle.std.proofs.Common.{◌≡◌, ℕ, zero, suc, ◌+◌, ◌-◌, ◌==◌, ◌<◌, ◌≤◌, Bool, true, false, not, ◌||◌, List, [], ◌∷◌, ◌++◌, map, if◌then◌else◌, length, take, drop, refl, sym, ap, ◌∙◌, arith, Option, Some, None}
 use Rattle.std.proofs.lemmas.Bool.{eqb-true, eqb-false, and_parts}
 use Rattle.typed_path.specs.declared.scan.separators.Separators.{Separators}
@@ -8,8 +8,22 @@ use Rattle.typed_path.specs.places.{overdraws, resolve, place, with_implied_root
 use Rattle.typed_path.specs.promises.{without_leading_current}
 use Rattle.typed_path.specs.queries.{begins_with_root, is_disk}
 use Rattle.typed_path.proofs.lemmas.components.Segments.{body_parts, body_parts-read, parts-body, AreRead, IsWritten}
-use Rattle.typed_path.proofs.lemmas.changes.Faults.{place_of, parts_of-none, parts_of-some}
+use Rattle.typed_path.proofs.lemmas.changes.Faults.{place_of}
 use Rattle.typed_path.proofs.lemmas.places.Resolving.{no_heads, is_head, written-headless}
+use Rattle.typed_path.proofs.lemmas.components.PrefixCuts.{parts_of-none, parts_of-some}
+
+-- names alone take no parent up, and all are kept
+pub unmet-names : (names : List (List ℕ)) → unmet (map normal names) ≡ 0
+unmet-names [] = refl
+unmet-names (name ∷ names) = ap (λ n. n - 1) (unmet-names names)
+
+pub kept-names : (names : List (List ℕ)) → kept_names (map normal names) ≡ names
+kept-names [] = refl
+kept-names (name ∷ names) = by (unmet (map normal names) == 0) (ap (λ n. n == 0) (unmet-names names)) ∙ ap (λ ns. name ∷ ns) (kept-names names)
+  where
+    by : (b : Bool) → b ≡ true → (if b then name ∷ kept_names (map normal names) else kept_names (map normal names)) ≡ name ∷ kept_names (map normal names)
+    by true e = refl
+    by false e = cc
 
 -- the parents that are left over of the second list take names of the first
 pub unmet-append : (ks ls : List Kind) → unmet (ks ++ ls) ≡ unmet ks + (unmet ls - length (kept_names ks))

@@ -20,8 +20,7 @@ use Rattle.typed_path.proofs.lemmas.lists.Lists.{IsUnseparated, slice_split-unse
 use Rattle.typed_path.proofs.lemmas.components.Segments.{first_parts, later_part, later_parts, parts-body, parts-later_body, pieces}
 use Rattle.typed_path.proofs.lemmas.conversions.TurnedPaths.{pieces-turned}
 use Rattle.typed_path.proofs.lemmas.order.SharedNames.{ends-order, other-at, own-at}
-use Rattle.typed_path.proofs.lemmas.places.CleanRows.{kept-names, unmet-names}
-use Rattle.typed_path.proofs.lemmas.places.KeptNames.{kept_names-append, unmet-append}
+use Rattle.typed_path.proofs.lemmas.places.KeptNames.{kept_names-append, unmet-append, kept-names, unmet-names}
 use Rattle.typed_path.proofs.lemmas.places.StandingNames.{open-stand}
 use Rattle.typed_path.proofs.lemmas.places.UnixRows.{all-front, rows-append}
 

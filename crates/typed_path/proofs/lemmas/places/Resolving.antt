@@ -10,7 +10,7 @@ use Rattle.typed_path.specs.places.{overdraws, stays, resolve, with_implied_root
 use Rattle.typed_path.specs.promises.{with_drive_root, without_leading_current}
 use Rattle.typed_path.proofs.lemmas.lists.Lists.{AllByRecursion-append}
 use Rattle.typed_path.specs.queries.{begins_with_root}
-use Rattle.typed_path.proofs.lemmas.components.Segments.{IsLater, IsLaterPart, IsWritten, IsWritten-later, AreRead}
+use Rattle.typed_path.proofs.lemmas.components.Segments.{IsLater, IsLaterPart, IsWritten, AreRead, AreRead-later}
 
 -- Names that a list comes down to, one component at a time.
 
@@ -246,11 +246,6 @@ resolve-same (p ∷ ps) each = rw (by p.kind each.0) (ap (λ qs. p ∷ qs) (reso
 -- a second pass changes nothing
 pub resolve-resolve : (ps : List Part) → resolve (resolve ps) ≡ resolve ps
 resolve-resolve ps = resolve-same (resolve ps) (resolve-kept ps)
-
--- later components are a list as it is read
-pub AreRead-later : (s : Separators) (ps : List Part) → AllByRecursion (IsLaterPart s) ps → AreRead s ps
-AreRead-later s [] each = tt
-AreRead-later s (p ∷ ps) each = (IsWritten-later s p.kind p.text each.0, each.1)
 
 -- later components are no prefixes and no roots
 pub written-headless : (s : Separators) (ps : List Part) → AllByRecursion (IsLaterPart s) ps → no_heads (kinds ps) ≡ true

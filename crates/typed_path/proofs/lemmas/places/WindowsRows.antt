@@ -16,11 +16,11 @@ use Rattle.typed_path.proofs.lemmas.components.Prefixes.{OfWindows, root_text-wi
 use Rattle.typed_path.proofs.lemmas.components.Segments.{pieces, first_parts, later_parts, body_parts, IsCleanName}
 use Rattle.typed_path.proofs.lemmas.components.WrittenForms.{heads_first-parts_of}
 use Rattle.typed_path.proofs.lemmas.components.WindowsNames.{IsPlain, IsHead, a_root, a_name, Settled, push_all-settled}
-use Rattle.typed_path.proofs.lemmas.components.PartedPrefixes.{raw-whole}
-use Rattle.typed_path.proofs.lemmas.changes.Faults.{parts_of-none, parts_of-some}
+use Rattle.typed_path.proofs.lemmas.components.PartedPrefixes.{raw-whole, drive-plain}
+use Rattle.typed_path.proofs.lemmas.components.PrefixCuts.{parts_of-none, parts_of-some}
 use Rattle.typed_path.proofs.lemmas.places.Resolving.{Comes, comes-head}
 use Rattle.typed_path.proofs.lemmas.places.UnixRows.{comes-left, comes-unrooted, left-clean, rowed-alone, rowed-named}
-use Rattle.typed_path.proofs.lemmas.promises.WindowsStable.{drive-plain, settled-none, settled-drive, settled-parted, push-first, drive-raw, prefix-alone, push-root, push-drive}
+use Rattle.typed_path.proofs.lemmas.promises.WindowsStable.{settled-none, settled-drive, settled-parted, push-first, drive-raw, prefix-alone, push-root, push-drive}
 
 -- names spelled, with a separator behind them, are their rows
 spelled-rows : (name : List ℕ) (names : List (List ℕ)) → spelled (name_part name ∷ map name_part names) ++ backslash ∷ [] ≡ rows_of Either (name ∷ names)

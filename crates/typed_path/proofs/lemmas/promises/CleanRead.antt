@@ -10,7 +10,7 @@ use Rattle.typed_path.specs.components.{dot, is_separator, is_verbatim, root_tex
 use Rattle.typed_path.specs.places.{unmet, kept_names, is_anchored, rising, headed, parents, dots}
 use Rattle.typed_path.proofs.lemmas.lists.Lists.{IsUnseparated}
 use Rattle.typed_path.proofs.lemmas.components.Segments.{IsCleanName, IsWritten, IsWrittenPart, body_parts, pieces, named_part, later_part, later_parts, first_part, first_parts}
-use Rattle.typed_path.proofs.lemmas.places.CleanRows.{unmet-names, kept-names}
+use Rattle.typed_path.proofs.lemmas.places.KeptNames.{unmet-names, kept-names}
 
 -- Where parents and names lead.
 

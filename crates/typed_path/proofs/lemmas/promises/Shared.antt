@@ -15,10 +15,9 @@ use Rattle.typed_path.specs.scan.{end_at}
 use Rattle.typed_path.proofs.lemmas.components.Segments.{body_parts}
 use Rattle.typed_path.proofs.lemmas.components.Cuts.{body-take}
 use Rattle.typed_path.proofs.lemmas.components.Prefixes.{Read, of_verbatim, of_disk, prefix-read, prefix-fits, after_mark-reads, drive-take, drive-size}
-use Rattle.typed_path.proofs.lemmas.components.PrefixCuts.{same-none, same-found, prefix_by}
+use Rattle.typed_path.proofs.lemmas.components.PrefixCuts.{same-none, same-found, prefix_by, parts_of-some}
 use Rattle.typed_path.proofs.lemmas.components.FirmPrefixes.{drive-stays, first-none, first-some, share_made}
 use Rattle.typed_path.proofs.lemmas.components.PartedPrefixes.{raw-whole}
-use Rattle.typed_path.proofs.lemmas.changes.Faults.{parts_of-some}
 use Rattle.typed_path.proofs.lemmas.queries.Shared.{texts-length, count-within, starts_own, starts_other, starts_shared, starts_nothing}
 
 abbrev texts_of : List Placed → List (List ℕ)

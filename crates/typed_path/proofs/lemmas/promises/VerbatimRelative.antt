@@ -12,7 +12,7 @@ use Rattle.typed_path.proofs.lemmas.promises.CleanRead.{anchored-stays, names-up
 use Rattle.typed_path.proofs.lemmas.promises.StepsRead.{read-relative, stays_relative}
 use Rattle.typed_path.proofs.lemmas.promises.VerbatimWithin.{end, front-names, left_behind, relative-place}
 use Rattle.typed_path.proofs.lemmas.promises.WindowsBases.{verbatim-no_drive}
-use Rattle.typed_path.proofs.lemmas.promises.WindowsContained.{verbatim-some, verbatim-none}
+use Rattle.typed_path.proofs.lemmas.components.PrefixCuts.{verbatim-some, verbatim-none}
 use Rattle.typed_path.proofs.lemmas.promises.WindowsRelative.{firm-kept, leads_plain, relative-alike}
 use Rattle.typed_path.proofs.lemmas.promises.WindowsWithin.{body_kinds, kinds-found, under}
 use Rattle.typed_path.proofs.lemmas.promises.Within.{kinds_of}

@@ -14,16 +14,16 @@ use Rattle.typed_path.specs.promises.{LeadsBelow, keeps_by_prefix, keeps_prefix,
 use Rattle.typed_path.proofs.lemmas.lists.Lists.{AllByRecursion-append, AllByRecursion-weaker}
 use Rattle.typed_path.proofs.lemmas.components.Segments.{body_parts, body_parts-read, AreRead, IsWritten, IsWrittenPart, IsLaterPart, IsWritten-later, IsCleanName, each-written}
 use Rattle.typed_path.proofs.lemmas.components.Prefixes.{OfWindows, FoundFits, prefix-fits, prefix-read, separators-windows, backslash-separates, root_text-windows, unseparated-either, Read, of_verbatim_unc, of_verbatim_disk, of_verbatim}
-use Rattle.typed_path.proofs.lemmas.components.PrefixCuts.{name-filled}
+use Rattle.typed_path.proofs.lemmas.components.PrefixCuts.{name-filled, parts_of-none, parts_of-some, verbatim-some, unprefixed}
 use Rattle.typed_path.proofs.lemmas.components.FirmPrefixes.{is_firm, filled-long, firm-long, firm-stays}
-use Rattle.typed_path.proofs.lemmas.changes.Faults.{place_of, parts_of-none, parts_of-some, faultless}
+use Rattle.typed_path.proofs.lemmas.changes.Faults.{place_of, faultless}
 use Rattle.typed_path.proofs.lemmas.changes.WindowsPushes.{without_last_name-name}
 use Rattle.typed_path.proofs.lemmas.places.KeptNames.{kept_names-append, place_of-kept, read-body}
 use Rattle.typed_path.proofs.lemmas.places.Resolving.{no_heads, is_head, read-headless, written-headless}
 use Rattle.typed_path.proofs.lemmas.places.UnixRows.{Ended, none as no_last, some as with_last, ended, all-front}
 use Rattle.typed_path.proofs.lemmas.promises.UnixContained.{separated-rooted}
 use Rattle.typed_path.proofs.lemmas.promises.WindowsBases.{Rest, AreRead-append, place-rest, spelled-behind, rest-separated, separators-spelled, verbatim-no_drive}
-use Rattle.typed_path.proofs.lemmas.promises.WindowsContained.{verbatim-some, unprefixed, rest-apart, rest-filled, keeps_by_prefix-firm}
+use Rattle.typed_path.proofs.lemmas.promises.WindowsContained.{rest-apart, rest-filled, keeps_by_prefix-firm}
 use Rattle.typed_path.proofs.lemmas.promises.Within.{kinds_of, Leading, within-below}
 use Rattle.typed_path.proofs.lemmas.promises.UnixWithin.{unix_below}
 use Rattle.typed_path.proofs.lemmas.promises.WindowsWithin.{body_kinds, kinds-none, prefix_of-none, push-bare, replaces, under, absolute-prefixed, bare-leading}

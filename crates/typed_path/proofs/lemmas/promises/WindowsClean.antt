@@ -12,11 +12,10 @@ use Rattle.typed_path.specs.places.{resolve, stays, unmet, kept_names, is_anchor
 use Rattle.typed_path.specs.promises.{HasCleanForm, IsCleanForm, is_verbatim_unc_name, prefix_kind}
 use Rattle.typed_path.proofs.lemmas.components.Prefixes.{separators-windows, backslash-separates, drive-take, drive-size, Read, of_disk, prefix-read}
 use Rattle.typed_path.proofs.lemmas.components.FirmPrefixes.{Apart, nothing, parted, drive-stays, drive-extends}
-use Rattle.typed_path.proofs.lemmas.components.PartedPrefixes.{parted-stays, root-behind}
+use Rattle.typed_path.proofs.lemmas.components.PartedPrefixes.{parted-stays, root-behind, drive-plain}
 use Rattle.typed_path.proofs.lemmas.components.Segments.{IsCleanName, IsLater, IsLaterPart, AreRead, body_parts, body_parts-read, each-written}
 use Rattle.typed_path.proofs.lemmas.places.Resolving.{resolve-each}
-use Rattle.typed_path.proofs.lemmas.changes.Faults.{parts_of-some}
-use Rattle.typed_path.proofs.lemmas.promises.WindowsStable.{drive-plain}
+use Rattle.typed_path.proofs.lemmas.components.PrefixCuts.{parts_of-some}
 use Rattle.typed_path.proofs.lemmas.promises.CleanRead.{ups, lead, leads-by, anchored-stays, LeadsAs, unmet-ups, names-ups, names-clean, read-ups, read-root}
 use Rattle.typed_path.proofs.lemmas.promises.CleanForms.{plain-form}
 

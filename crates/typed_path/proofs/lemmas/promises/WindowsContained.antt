@@ -1,18 +1,18 @@
 -- A checked push on Windows stays within its base, and the bases that keep their prefix.
-use Rattle.std.proofs.Common.{◌≡◌, ℕ, ◌<◌, Bool, true, false, if◌then◌else◌, List, [], ◌∷◌, ◌++◌, length, take, refl, sym, ap, ap₂, ◌∙◌, subst, append-nil, append_assoc, arith, ◌==◌, ◌&&◌, inl, inr, drop, Option, Some, None, option_and_then, take-append-drop, length-append, length-drop, ◌+◌, ◌⊎◌, ne_eqb, option_map, eqb-true}
+use Rattle.std.proofs.Common.{◌≡◌, ℕ, ◌<◌, true, false, if◌then◌else◌, List, [], ◌∷◌, ◌++◌, length, take, refl, sym, ap, ap₂, ◌∙◌, subst, append-nil, append_assoc, arith, ◌==◌, ◌&&◌, inl, inr, drop, Option, Some, None, option_and_then, take-append-drop, length-append, length-drop, ◌+◌, ◌⊎◌, ne_eqb, option_map, eqb-true}
 use Rattle.std.proofs.lemmas.Bool.{cond_both, both_ways, false_from_ne_true, cases_Bool, and_parts, cond-true, cond-false, and_left, and_right, or_cases, true_from_ne_false}
 use Rattle.std.specs.Option.{option_or}
 use Rattle.std.proofs.lemmas.List.{same_from_push}
 use Rattle.typed_path.specs.declared.scan.separators.Separators.TheVariants.{Backslash, Either}
 use Rattle.typed_path.specs.declared.scan.separators.Separators.{Separators}
-use Rattle.typed_path.specs.components.{windows, begins_verbatim, separators, slash, backslash, colon, is_separator, Prefix, Kind, prefix, Part, kinds, unc, disk, verbatim, verbatim_unc, verbatim_disk, device_ns, Found, prefix_of, found, is_empty, is_drive_letter, to_upper, drive, name, verbatim_unc_case, verbatim_disk_case, verbatim_case, device_case, unc_case, disk_case, parts_of}
-use Rattle.typed_path.specs.queries.{begins_with_prefix, is_verbatim_prefix, has_any_verbatim_prefix, is_disk}
+use Rattle.typed_path.specs.components.{windows, begins_verbatim, separators, slash, backslash, colon, is_separator, Prefix, Part, kinds, unc, disk, verbatim, verbatim_unc, verbatim_disk, device_ns, Found, prefix_of, found, is_empty, is_drive_letter, to_upper, drive, name, verbatim_unc_case, verbatim_disk_case, verbatim_case, device_case, unc_case, disk_case, parts_of}
+use Rattle.typed_path.specs.queries.{is_verbatim_prefix, has_any_verbatim_prefix, is_disk}
 use Rattle.typed_path.specs.changes.{push_windows, spelled, merged, ended_windows, is_disk_alone, fault}
 use Rattle.typed_path.specs.places.{resolve, place}
 use Rattle.typed_path.specs.promises.{prefix_kind, LiesWithin, keeps_by_prefix, HasPrefixOf}
-use Rattle.typed_path.proofs.lemmas.components.Segments.{body_parts, body_parts-read, AreRead, IsWritten, parts_behind, first_part, later_parts}
-use Rattle.typed_path.proofs.lemmas.components.PrefixCuts.{verbatim_text, unless-none, name-filled, or-none}
-use Rattle.typed_path.proofs.lemmas.changes.Faults.{place_of, IsFaultless, faultless, parts_of-none, parts_of-some, push-faultless, no_heads-relative, body_parts-relative}
+use Rattle.typed_path.proofs.lemmas.components.Segments.{body_parts, body_parts-read, AreRead, parts_behind, first_part, later_parts}
+use Rattle.typed_path.proofs.lemmas.components.PrefixCuts.{verbatim_text, unless-none, name-filled, or-none, parts_of-none, parts_of-some, verbatim-some, verbatim-none}
+use Rattle.typed_path.proofs.lemmas.changes.Faults.{place_of, IsFaultless, faultless, push-faultless, no_heads-relative, body_parts-relative}
 use Rattle.typed_path.proofs.lemmas.changes.Joins.{Ending, ending, empty, ended, drive_alone, parted as put, spelled-filled}
 use Rattle.typed_path.proofs.lemmas.promises.WindowsBases.{none-place, plain-joined, found-place, spelled-rest, separators-spelled, spelled-place, Rest, from_root, from_other, read-no_drive, disk_alone-disk, rest-separated, verbatim-no_drive, merged-read}
 use Rattle.typed_path.proofs.lemmas.components.Prefixes.{FoundFits, prefix-fits, prefix-read, separators-windows, backslash-separates, Read, of_disk}
@@ -44,25 +44,6 @@ plain-front front rest plain = false_from_ne_true _ (λ marked. both_ways (begin
 -- a text with a prefix that is not read verbatim
 parts_of-plain : (t : List ℕ) (f : Found) → prefix_of windows t ≡ Some f → begins_verbatim t ≡ false → parts_of windows t ≡ parts_behind Either t (Some f)
 parts_of-plain t f is plain = parts_of-some t f is ∙ ap (λ b. parts_behind (if b then Backslash else Either) t (Some f)) plain
-
--- the prefix tells whether a push spells its base anew
-pub verbatim-some : (t : List ℕ) (f : Found) → prefix_of windows t ≡ Some f → has_any_verbatim_prefix (kinds (parts_of windows t)) ≡ is_verbatim_prefix f.prefix
-verbatim-some t f is = ap (λ ps. has_any_verbatim_prefix (kinds ps)) (parts_of-some t f is)
-
--- without one the list begins with none
-pub unprefixed : (test : Prefix → Bool) (t : List ℕ) → prefix_of windows t ≡ None → begins_with_prefix test (kinds (parts_of windows t)) ≡ false
-unprefixed test t none = ap (λ ps. begins_with_prefix test (kinds ps)) (parts_of-none t none) ∙ by (body_parts Either t) (body_parts-read Either t)
-  where
-    kind : (k : Kind) (text : List ℕ) (ps : List Part) → IsWritten Either k text → begins_with_prefix test (k ∷ kinds ps) ≡ false
-    kind (prefix q) text ps written = absurd written
-    kind k text ps written = refl
-
-    by : (ps : List Part) → AreRead Either ps → begins_with_prefix test (kinds ps) ≡ false
-    by [] read = refl
-    by (p ∷ ps) read = kind p.kind p.text ps read.0
-
-pub verbatim-none : (t : List ℕ) → prefix_of windows t ≡ None → has_any_verbatim_prefix (kinds (parts_of windows t)) ≡ false
-verbatim-none t none = unprefixed is_verbatim_prefix t none
 
 module _ (base path : List ℕ) (fine : IsFaultless path) where
   -- a base without a prefix

@@ -11,7 +11,7 @@ use Rattle.typed_path.specs.promises.{keeps_by_prefix, keeps_prefix}
 use Rattle.typed_path.proofs.lemmas.components.Segments.{body_parts, body_parts-read, later_parts, pieces}
 use Rattle.typed_path.proofs.lemmas.components.Prefixes.{FoundFits, prefix-fits, prefix-read, Read, of_disk}
 use Rattle.typed_path.proofs.lemmas.components.FirmPrefixes.{is_firm, firm-long, drive-stays}
-use Rattle.typed_path.proofs.lemmas.components.PartedPrefixes.{firm-more}
+use Rattle.typed_path.proofs.lemmas.components.PartedPrefixes.{firm-more, either}
 use Rattle.typed_path.proofs.lemmas.changes.Faults.{body_parts-relative}
 use Rattle.typed_path.proofs.lemmas.changes.Joins.{Ending, ending, empty, ended, drive_alone, parted, body_parts-more, body_parts-behind}
 use Rattle.typed_path.proofs.lemmas.places.KeptFromBack.{alike-append}
@@ -22,10 +22,11 @@ use Rattle.typed_path.proofs.lemmas.promises.StepsBack.{free-rising, leads-back,
 use Rattle.typed_path.proofs.lemmas.promises.StepsRead.{IsRelativeRead, read-relative, stays_relative}
 use Rattle.typed_path.proofs.lemmas.promises.UnixContained.{body_parts-later, rooted-separated, separated-rooted}
 use Rattle.typed_path.proofs.lemmas.promises.WindowsBases.{read-no_drive, disk_alone-disk, disk_alone-filled}
-use Rattle.typed_path.proofs.lemmas.promises.WindowsContained.{firm-joined, keeps_by_prefix-firm, none-joined, verbatim-some}
+use Rattle.typed_path.proofs.lemmas.promises.WindowsContained.{firm-joined, keeps_by_prefix-firm, none-joined}
 use Rattle.typed_path.proofs.lemmas.promises.WindowsStable.{push-first}
-use Rattle.typed_path.proofs.lemmas.promises.WindowsWithin.{body_kinds, either, kinds-found, kinds-none, kinds-plain, push-bare}
+use Rattle.typed_path.proofs.lemmas.promises.WindowsWithin.{body_kinds, kinds-found, kinds-none, kinds-plain, push-bare}
 use Rattle.typed_path.proofs.lemmas.promises.Within.{bare-anchored, kinds_of}
+use Rattle.typed_path.proofs.lemmas.components.PrefixCuts.{verbatim-some}
 
 -- What is put behind the rest of a base: nothing behind nothing, or behind a separator, and a separator behind another.
 data End : List ℕ → List ℕ → Type 0 where

@@ -1,12 +1,12 @@
 -- The normal text of Windows is stable, where no name has a byte that no name may have.
 use Rattle.std.proofs.Common.{◌≡◌, ℕ, Bool, true, false, if◌then◌else◌, List, [], ◌∷◌, ◌++◌, map, Option, Some, None, refl, sym, ap, ◌∙◌, ◌<◌, length, take, append_assoc, append-nil, length-take, arith, ◌≤◌, ◌⊎◌, inl, inr, drop, option_map, ap₂, subst, take_all}
 use Rattle.std.specs.List.{AllByRecursion}
-use Rattle.std.proofs.lemmas.Bool.{both_ways, false_from_ne_true, cases_Bool, cases_lt, cond-true}
+use Rattle.std.proofs.lemmas.Bool.{both_ways, cases_Bool, cases_lt, cond-true}
 use Rattle.std.proofs.lemmas.List.Elements.{All-head}
 use Rattle.std.proofs.lemmas.List.{drop_all}
 use Rattle.typed_path.specs.declared.scan.separators.Separators.{Separators}
 use Rattle.typed_path.specs.declared.scan.separators.Separators.TheVariants.{Backslash, Either}
-use Rattle.typed_path.specs.components.{windows, backslash, separators, begins_verbatim, is_separator, Dialect, unix, Part, kinds, texts, name_part, disk, root_part, verbatim, verbatim_disk, prefix_part, Found, found, drive, prefix_of, parts_of}
+use Rattle.typed_path.specs.components.{windows, backslash, separators, is_separator, Dialect, unix, Part, kinds, texts, name_part, disk, root_part, verbatim, verbatim_disk, prefix_part, Found, found, drive, prefix_of, parts_of}
 use Rattle.typed_path.specs.queries.{begins_with_root, has_prefix, is_disk, is_verbatim_prefix, has_any_verbatim_prefix, have_allowed_bytes}
 use Rattle.typed_path.specs.changes.{push_all, push_windows, spelled, is_disk_alone, ended_with, ended_windows, merged, raw_prefix, raw_length}
 use Rattle.typed_path.specs.places.{normal_text, resolve, with_implied_root}
@@ -14,11 +14,10 @@ use Rattle.typed_path.specs.promises.{with_drive_root, IsStableForm, is_verbatim
 use Rattle.typed_path.proofs.lemmas.places.Resolving.{texts-names, resolve-kept, resolve-same, with_drive_root-kept, with_drive_root-place, resolve-read, with_drive_root-rooted}
 use Rattle.typed_path.proofs.lemmas.components.WindowsNames.{IsPlain, Settled, prefix_parts, text_of, settled-read, push_all-settled, plain-no_prefix, rooted-none, IsHead, a_root, a_name, Resolved, unrooted, rooted, resolved, allowed-resolve, push-plain}
 use Rattle.typed_path.proofs.lemmas.components.Prefixes.{OfWindows, separators-windows, backslash-separates, drive-size, some_is, drive-take, prefix-fits, Read, of_disk, prefix-read}
-use Rattle.typed_path.proofs.lemmas.components.PrefixCuts.{verbatim_text, plain-none}
+use Rattle.typed_path.proofs.lemmas.components.PrefixCuts.{plain-none, parts_of-none, parts_of-some}
 use Rattle.typed_path.proofs.lemmas.components.FirmPrefixes.{Apart, nothing, parted, drive-extends, drive-stays}
-use Rattle.typed_path.proofs.lemmas.components.PartedPrefixes.{parted-stays, root-behind, raw-whole}
+use Rattle.typed_path.proofs.lemmas.components.PartedPrefixes.{parted-stays, root-behind, raw-whole, drive-plain}
 use Rattle.typed_path.proofs.lemmas.components.Segments.{body_parts, body_parts-read}
-use Rattle.typed_path.proofs.lemmas.changes.Faults.{parts_of-none, parts_of-some}
 use Rattle.typed_path.proofs.lemmas.promises.UnixContained.{canonical_form}
 
 -- Lists whose texts, pushed one by one onto the empty text of Windows, are read as the list again.
@@ -106,13 +105,6 @@ settled-none q head = record {
   where
     none : {f : Found} → None ≡ Some f → ⊥
     none e = cc
-
--- a text that begins with a drive is not read verbatim
-pub drive-plain : (t : List ℕ) (letter : ℕ) → drive t ≡ Some letter → begins_verbatim t ≡ false
-drive-plain t letter is = false_from_ne_true _ (λ marked. no_drive (sym (ap drive (verbatim_text t marked)) ∙ is))
-  where
-    no_drive : None ≡ Some letter → ⊥
-    no_drive e = cc
 
 -- under a drive
 pub settled-drive : (t : List ℕ) (letter : ℕ) (q : Part) → drive t ≡ Some letter → IsHead q → Settled (take 2 t) (Some (found (disk letter) 2)) Either q

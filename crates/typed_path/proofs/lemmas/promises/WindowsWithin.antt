@@ -1,10 +1,10 @@
 -- On Windows a path that is within a base lies below it, from each absolute directory that keeps its prefix and is not verbatim.
-use Rattle.std.proofs.Common.{◌≡◌, ℕ, suc, ◌-◌, ◌<◌, ◌≤◌, true, false, not, ◌||◌, inl, inr, List, [], ◌∷◌, ◌++◌, map, if◌then◌else◌, length, take, drop, refl, sym, ap, ap₂, ◌∙◌, append_assoc, append-nil, arith, ne_eqb, subst, Option, Some, None, length-append}
+use Rattle.std.proofs.Common.{◌≡◌, ℕ, suc, ◌-◌, ◌≤◌, true, false, not, ◌||◌, inl, inr, List, [], ◌∷◌, ◌++◌, map, if◌then◌else◌, length, take, drop, refl, sym, ap, ap₂, ◌∙◌, append_assoc, append-nil, arith, ne_eqb, subst, Option, Some, None, length-append}
 use Rattle.std.proofs.Math.Seq.{drop-append_seam}
 use Rattle.std.proofs.lemmas.List.{map-append, drop-append-le, drop_all, length-take-le, take_all}
 use Rattle.std.proofs.lemmas.Bool.{both_ways, cases_lt, cases_Bool, cond-true, cond-false}
 use Rattle.typed_path.specs.declared.scan.separators.Separators.{Separators}
-use Rattle.typed_path.specs.declared.scan.separators.Separators.TheVariants.{Backslash, Either}
+use Rattle.typed_path.specs.declared.scan.separators.Separators.TheVariants.{Either}
 use Rattle.typed_path.specs.components.{windows, backslash, separators, Prefix, disk, Kind, prefix, root, normal, kinds, Found, prefix_of, parts_of}
 use Rattle.typed_path.specs.queries.{begins_with_root, first_prefix, has_prefix, has_any_verbatim_prefix, is_absolute, is_disk, is_verbatim_prefix}
 use Rattle.typed_path.specs.changes.{push, push_windows, push_behind, raw_prefix, raw_length, ended_windows, is_disk_alone, spelled, merged}
@@ -12,16 +12,14 @@ use Rattle.typed_path.specs.places.{place, unmet, kept_names, headed, head_of, i
 use Rattle.typed_path.specs.promises.{IsBelow, without_leading_current}
 use Rattle.typed_path.proofs.lemmas.components.Segments.{body_parts}
 use Rattle.typed_path.proofs.lemmas.components.Prefixes.{FoundFits, drive-take, prefix-fits, prefix-read, Read, of_disk}
-use Rattle.typed_path.proofs.lemmas.components.PrefixCuts.{plain-kind}
+use Rattle.typed_path.proofs.lemmas.components.PrefixCuts.{parts_of-none, parts_of-some, verbatim-some, unprefixed}
 use Rattle.typed_path.proofs.lemmas.components.FirmPrefixes.{Apart, parted as apart, is_firm, firm-long, firm-stays, drive-stays}
-use Rattle.typed_path.proofs.lemmas.components.PartedPrefixes.{firm-end, firm-more}
-use Rattle.typed_path.proofs.lemmas.changes.Faults.{parts_of-none, parts_of-some}
+use Rattle.typed_path.proofs.lemmas.components.PartedPrefixes.{firm-end, firm-more, either}
 use Rattle.typed_path.proofs.lemmas.changes.Joins.{Ending, ending, empty, ended, drive_alone, parted, body_parts-more, body_parts-behind}
 use Rattle.typed_path.proofs.lemmas.order.DifferentPrefixes.{first-found}
 use Rattle.typed_path.proofs.lemmas.places.KeptNames.{kept_names-append, without_leading_current-kept, place-kept}
 use Rattle.typed_path.proofs.lemmas.promises.UnixContained.{body_parts-later, begins-append, rooted-separated, separated-rooted}
-use Rattle.typed_path.proofs.lemmas.promises.WindowsContained.{firm-joined, verbatim-some, unprefixed}
-use Rattle.typed_path.proofs.lemmas.promises.WindowsStable.{drive-plain}
+use Rattle.typed_path.proofs.lemmas.promises.WindowsContained.{firm-joined}
 use Rattle.typed_path.proofs.lemmas.promises.Within.{kinds_of, Leading, Replaces, prefixed-below}
 
 -- What is read of a path with a prefix, and of one without.
@@ -82,17 +80,6 @@ disk-rooted : (p : Prefix) (ks : List Kind) → (is_disk p ≡ true → begins_w
 disk-rooted (disk letter) [] h = let e : false ≡ true = h refl in cc
 disk-rooted (disk letter) (k ∷ ks) h = refl
 disk-rooted p ks h = refl
-
--- a text with a prefix that is not verbatim is not read verbatim
-on-drive : (text : List ℕ) (f : Found) → Read (separators windows text) text f → is_disk f.prefix ≡ true → separators windows text ≡ Either
-on-drive text f (of_disk letter drives) kind = ap (λ b. if b then Backslash else Either) (drive-plain text letter drives)
-on-drive text f read kind = cc
-
-pub either : (text : List ℕ) (f : Found) → prefix_of windows text ≡ Some f → is_verbatim_prefix f.prefix ≡ false → (is_disk f.prefix ≡ false → 4 < length text) → separators windows text ≡ Either
-either text f is plain long = elim (cases_Bool (is_disk f.prefix)) [
-  | inl drives ↦ on-drive text f (prefix-read text f is) drives
-  | inr other ↦ ap (λ c. if c then Backslash else Either) (plain-kind text f is plain (long other))
-]
 
 pub kinds-plain : (text : List ℕ) (f : Found) → prefix_of windows text ≡ Some f → separators windows text ≡ Either → kinds_of windows text ≡ prefix f.prefix ∷ body_kinds Either (drop f.length text)
 kinds-plain text f is plain = kinds-found text f is ∙ ap (λ s. prefix f.prefix ∷ body_kinds s (drop f.length text)) plain

@@ -23,9 +23,9 @@ use Rattle.typed_path.proofs.lemmas.components.Segments.{later_parts, first_part
 use Rattle.typed_path.proofs.lemmas.components.Prefixes.{Read, of_verbatim_disk, prefix-read, prefix-fits}
 use Rattle.typed_path.proofs.lemmas.components.FirmPrefixes.{drive-stays, separates-either}
 use Rattle.typed_path.proofs.lemmas.components.WindowsNames.{allowed-unseparated}
-use Rattle.typed_path.proofs.lemmas.changes.Faults.{parts_of-none, parts_of-some}
+use Rattle.typed_path.proofs.lemmas.components.PrefixCuts.{parts_of-none, parts_of-some}
 use Rattle.typed_path.proofs.lemmas.scan.Steps.{last_of-behind}
-use Rattle.typed_path.proofs.lemmas.promises.WindowsStable.{drive-plain}
+use Rattle.typed_path.proofs.lemmas.components.PartedPrefixes.{drive-either}
 
 pub none_exact : (cs : List Placed) → None ≡ first_part cs → true ≡ list_all is_exact (kinds (parts cs))
 none_exact [] none = refl
@@ -224,9 +224,6 @@ of_either t = by (begins_verbatim t)
     by : (v : Bool) → ((if v then Backslash else Either) ≡ Backslash) ⊎ ((if v then Backslash else Either) ≡ Either)
     by true = inl refl
     by false = inr refl
-
-drive-either : (t : List ℕ) (letter : ℕ) → drive t ≡ Some letter → separators windows t ≡ Either
-drive-either t letter is = ap (λ v. if v then Backslash else Either) (drive-plain t letter is)
 
 -- a path of a verbatim drive, and the same without its mark: all but the prefix is the same
 pub record IsReread (t : List ℕ) : Type 0 where

@@ -1,14 +1,14 @@
 -- Segments that count for nothing behind others: how marks tell that there is none, and what that tells of the pieces of a text.
-use Rattle.std.proofs.Common.{◌≡◌, ℕ, zero, suc, ◌+◌, ◌-◌, ◌*◌, ◌^◌, ◌/◌, ◌%◌, ◌≤◌, ◌<◌, List, [], ◌∷◌, Bool, true, false, cond, not, ◌&&◌, ◌||◌, ◌==◌, w64, length, take, take_all, drop, ◌++◌, slice_index, refl, sym, ap, ◌∙◌, arith, bit_or, bit_and, shr-shr, subst, true≢false, drop-drop, inl, inr}
+use Rattle.std.proofs.Common.{◌≡◌, ℕ, zero, suc, ◌+◌, ◌-◌, ◌*◌, ◌^◌, ◌/◌, ◌%◌, ◌≤◌, ◌<◌, List, [], ◌∷◌, Bool, true, false, cond, ◌&&◌, ◌||◌, ◌==◌, w64, length, take, take_all, drop, ◌++◌, slice_index, refl, sym, ap, ◌∙◌, arith, bit_or, bit_and, shr-shr, true≢false, drop-drop, inl, inr}
 use Rattle.std.specs.Int.{bit_at}
-use Rattle.std.specs.List.{before_first, list_any, position_or_len}
+use Rattle.std.specs.List.{before_first, list_any}
 use Rattle.std.proofs.lemmas.Bool.{and_parts, or_parts, false_from_ne_true, cases_lt}
 use Rattle.std.proofs.lemmas.List.{drop_more, drop_all, take_more}
 use Rattle.std.proofs.lemmas.Nat.Bits.{bit_at-zero, bit_at_or, bit_at_and, bit_at-lt, bit_at_set_same}
 use Rattle.typed_path.specs.declared.scan.separators.Separators.{Separators}
 use Rattle.typed_path.specs.components.{dot, is_separator, body}
 use Rattle.typed_path.specs.declared.scan.cursor.Begin.TheVariants.{Body}
-use Rattle.typed_path.proofs.lemmas.components.Segments.{body_from-separator}
+use Rattle.typed_path.proofs.lemmas.components.Segments.{body_from-separator, segment-byte}
 use Rattle.typed_path.specs.scan.{IsMask, stands_at, is_one_of, MarksNoBlank, is_blank, begins_blank, has_blank_behind}
 
 -- ---- marks
@@ -40,14 +40,6 @@ ends_segment s (b ∷ bs) = is_separator s b
 abbrev pub begins_with_dot : List ℕ → Bool
 begins_with_dot [] = false
 begins_with_dot (b ∷ bs) = b == dot
-
--- what stands before the first separator, byte by byte
-pub segment-byte : (s : Separators) (b : ℕ) (bs : List ℕ) → before_first (is_separator s) (b ∷ bs) ≡ cond (is_separator s b) [] (b ∷ before_first (is_separator s) bs)
-segment-byte s b bs = by (is_separator s b) (position_or_len (is_separator s) bs)
-  where
-    by : (separates : Bool) (n : ℕ) → take (cond (not separates) (1 + n) 0) (b ∷ bs) ≡ cond separates [] (b ∷ take n bs)
-    by true n = refl
-    by false n = let more : suc n ≡ 1 + n = omega arith in subst (λ m. take m (b ∷ bs) ≡ b ∷ take n bs) more refl
 
 -- it is no blank one where it ends neither at once nor behind a dot
 unblank : (s : Separators) (text : List ℕ) → ends_segment s text ≡ false → (begins_with_dot text ≡ true → ends_segment s (drop 1 text) ≡ false) → begins_blank s text ≡ false

@@ -7,7 +7,7 @@ use Rattle.typed_path.specs.places.{IsRowHead}
 use Rattle.typed_path.specs.views.PieceViews.{found_of, prefix_view}
 use Rattle.typed_path.proofs.lemmas.components.Prefixes.{prefix-fits}
 use Rattle.typed_path.proofs.lemmas.components.PartedPrefixes.{head-cut, plain-takes}
-use Rattle.typed_path.proofs.lemmas.changes.Faults.{parts_of-some}
+use Rattle.typed_path.proofs.lemmas.components.PrefixCuts.{parts_of-some}
 use Rattle.typed_path.proofs.lemmas.places.WindowsRows.{none-head, drive-head, marked-head}
 use Rattle.typed_path.proofs.windows.normal.row_head.Goals as goal
 
