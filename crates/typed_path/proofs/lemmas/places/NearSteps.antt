@@ -278,9 +278,11 @@ ups-more s n old =
     ∙ ap (λ m. old ++ rows_of s (dots m)) (sym (add-one n))
 
 -- how many names there are, by the pieces
-pub alone-count : (s : Separators) (text : List ℕ) (ended : Bool) (names : List (List ℕ)) (ends : ℕ) → AreAlone s text ended names → ends + 1 ≡ length (pieces s text) → (if ended then ends else ends + 1) ≡ length names
-alone-count s text true names ends alone size = omega (arith, size, ap length alone.1, length-append names ([] ∷ []))
-alone-count s text false names ends alone size = omega (arith, size, ap length alone.1, length-append names [])
+pub alone-count : (s : Separators) (text : List ℕ) (ended b : Bool) (names : List (List ℕ)) (ends : ℕ) → ended ≡ b → AreAlone s text ended names → ends + 1 ≡ length (pieces s text) → (if b then ends else ends + 1) ≡ length names
+alone-count s text true true names ends is alone size = omega (arith, size, ap length alone.1, length-append names ([] ∷ []))
+alone-count s text false false names ends is alone size = omega (arith, size, ap length alone.1, length-append names [])
+alone-count s text true false names ends is alone size = cc
+alone-count s text false true names ends is alone size = cc
 
 -- what is written leads there
 pub bare-plain : (d : Dialect) → is_verbatim (bare_separators d) ≡ false
