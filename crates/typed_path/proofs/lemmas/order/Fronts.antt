@@ -11,7 +11,7 @@ use Rattle.typed_path.specs.scan.{dots_rank, IsParting}
 use Rattle.typed_path.specs.order.{left_cmp, kinds_cmp, bytes_cmp}
 use Rattle.typed_path.proofs.lemmas.components.Segments.{body_from-first, pieces, first_parts, later_parts, body_parts, parts-body}
 use Rattle.typed_path.proofs.lemmas.lists.Lists.{slice_split-some}
-use Rattle.typed_path.proofs.lemmas.order.SharedNames.{before_first-cons, ends-order, same-byte, unlike}
+use Rattle.typed_path.proofs.lemmas.order.SharedNames.{AreInOrder, before_first-cons, ends-order, same-byte, unlike}
 
 -- what stands at the front of a text that begins with a byte that does not separate
 data IsFront (b : ℕ) : Kind → Type 0 where
@@ -145,7 +145,7 @@ module _ (s : Separators) where
       ap₂ left_cmp f.1 g.1 ∙ ranked (is_dot p) (is_dot_dot p) (is_dot q) (is_dot_dot q) p q f.0 g.0 o h n
 
   -- two texts that part in their first segments do not begin with one component
-  pub firsts-apart : (t u : List ℕ) (k : ℕ) (o : Ordering) → IsParting s t u k 0 → 0 < k → bytes_cmp (before_first (is_separator s) (drop k t)) (before_first (is_separator s) (drop k u)) ≡ o → is_ne o ≡ true
+  pub firsts-apart : (t u : List ℕ) (k : ℕ) (o : Ordering) → IsParting s t u k 0 → 0 < k → AreInOrder s t u k o → is_ne o ≡ true
       → starts_with bytes_eq (texts (parts (body s 0 t))) (texts (parts (body s 0 u))) ≡ false
   firsts-apart [] u k o parted some is ne = absurd (omega (arith, some, parted.0.high))
   firsts-apart (a ∷ xs) [] k o parted some is ne = absurd (omega (arith, some, parted.0.high))
@@ -158,4 +158,4 @@ module _ (s : Separators) where
       let g = unrooted b ys other in
       ap₂ (λ cs ds. starts_with bytes_eq (texts (parts cs)) (texts (parts ds))) f.1 g.1
       ∙ ap₂ (starts_with bytes_eq) (first-text (is_dot p) (is_dot_dot p) p f.0 refl refl) (first-text (is_dot q) (is_dot_dot q) q g.0 refl refl)
-      ∙ ap (λ r. r && starts_with bytes_eq (texts (parts f.0)) (texts (parts g.0))) (unlike p q o (ends-order s (a ∷ xs) (b ∷ ys) k 0 parted ∙ is) ne)
+      ∙ ap (λ r. r && starts_with bytes_eq (texts (parts f.0)) (texts (parts g.0))) (unlike p q o (ends-order s (a ∷ xs) (b ∷ ys) k 0 parted o is) ne).1

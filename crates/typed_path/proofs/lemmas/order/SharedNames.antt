@@ -6,7 +6,7 @@ use Rattle.std.specs.Str.{bytes_eq}
 use Rattle.std.specs.Cmp.Lexicographic.{bytes_decides, nat_list_cmp_total}
 use Rattle.std.proofs.Math.Bool.{and-false}
 use Rattle.std.proofs.Math.Seq.{get_or-append_seam}
-use Rattle.std.proofs.lemmas.Bool.{and_parts, cases_lt, not-true}
+use Rattle.std.proofs.lemmas.Bool.{and_parts, cases_lt, false_from_ne_true, not-true}
 use Rattle.std.proofs.lemmas.List.{drop-append-le, take-append-le, take_more, take_rest}
 use Rattle.std.proofs.Math.Dec.{eqb-suc-zero}
 use Rattle.std.proofs.lemmas.Cmp.{tied_itself, nat_cmp_total}
@@ -166,20 +166,21 @@ begins-behind [] cs ds = refl
 begins-behind (f ∷ fs) cs ds = ap (λ b. b && begins (fs ++ cs) (fs ++ ds)) ((bytes_decides f.part.text f.part.text).1 refl) ∙ begins-behind fs cs ds
 
 -- names that are in an order are not one
-pub unlike : (a b : List ℕ) (o : Ordering) → bytes_cmp a b ≡ o → is_ne o ≡ true → bytes_eq b a ≡ false
-unlike a b o is differ = by (bytes_eq b a) refl o is differ
+pub unlike : (a b : List ℕ) (o : Ordering) → bytes_cmp a b ≡ o → is_ne o ≡ true → (bytes_eq a b ≡ false) × (bytes_eq b a ≡ false)
+unlike a b o is differ = (false_from_ne_true _ (λ same. apart ((bytes_decides a b).0 same)), false_from_ne_true _ (λ same. apart (sym ((bytes_decides b a).0 same))))
   where
-    by : (same : Bool) → bytes_eq b a ≡ same → (o : Ordering) → bytes_cmp a b ≡ o → is_ne o ≡ true → same ≡ false
-    by false e o is differ = refl
-    by true e Less is differ = let tied : bytes_cmp a b ≡ Equal = ap (λ x. bytes_cmp a x) ((bytes_decides b a).0 e) ∙ tied_itself nat_list_cmp_total a in cc
-    by true e Equal is differ = cc
-    by true e Greater is differ = let tied : bytes_cmp a b ≡ Equal = ap (λ x. bytes_cmp a x) ((bytes_decides b a).0 e) ∙ tied_itself nat_list_cmp_total a in cc
+    apart : a ≡ b → ⊥
+    apart e = let tied : is_ne Equal ≡ true = subst (λ r. is_ne r ≡ true) (sym is ∙ sym (ap (bytes_cmp a) e) ∙ tied_itself nat_list_cmp_total a) differ in cc
 
 -- so the one does not begin with the other
 pub parted-begins : (s : Separators) (t u : List ℕ) (o : Ordering) → Parted s t u o → is_ne o ≡ true → begins (body s 0 t) (body s 0 u) ≡ false
 parted-begins s t u o p differ =
     ap₂ begins p.own_is p.other_is
-    ∙ begins-apart p.front p.front (record { part = name_part p.own; start = p.at }) (record { part = name_part p.other; start = p.at }) p.behind_own p.behind_other refl (unlike p.own p.other o p.order differ)
+    ∙ begins-apart p.front p.front (record { part = name_part p.own; start = p.at }) (record { part = name_part p.other; start = p.at }) p.behind_own p.behind_other refl (unlike p.own p.other o p.order differ).1
+
+-- the first segments of what two texts hold behind a place are in an order
+abbrev pub AreInOrder : Separators → List ℕ → List ℕ → ℕ → Ordering → Type 0
+AreInOrder s t u k o = bytes_cmp (before_first (is_separator s) (take (length t - k) (drop k t))) (before_first (is_separator s) (take (length u - k) (drop k u))) ≡ o
 
 -- two texts, and behind the last separator that both begin with
 module _ (s : Separators) (t u : List ℕ) (k n : ℕ) (parted : IsParting s t u k n) where
@@ -279,20 +280,20 @@ module _ (s : Separators) (t u : List ℕ) (k n : ℕ) (parted : IsParting s t u
           ∙ holds-name (drop n before) b rest (not-true _ both.1)
 
   -- these are in the order of their ends
-  pub ends-order : bytes_cmp (before_first (is_separator s) (drop n t)) (before_first (is_separator s) (drop n u)) ≡ bytes_cmp (before_first (is_separator s) (drop k t)) (before_first (is_separator s) (drop k u))
-  ends-order =
+  pub ends-order : (o : Ordering) → AreInOrder s t u k o → bytes_cmp (before_first (is_separator s) (drop n t)) (before_first (is_separator s) (drop n u)) ≡ o
+  ends-order o is =
       ap₂ bytes_cmp own-piece other-piece
       ∙ bytes-shared mid (before_first (is_separator s) (drop k t)) (before_first (is_separator s) (drop k u))
+      ∙ ap₂ (λ x y. bytes_cmp (before_first (is_separator s) x) (before_first (is_separator s) y)) (sym (take_rest t k)) (sym (take_rest u k))
+      ∙ is
 
   -- where they are names, the texts are in the order of their ends
-  pub names-parted : (o : Ordering) → begins_with_name s (drop n t) ≡ true → begins_with_name s (drop n u) ≡ true
-      → bytes_cmp (before_first (is_separator s) (drop k t)) (before_first (is_separator s) (drop k u)) ≡ o
-      → Parted s t u o
+  pub names-parted : (o : Ordering) → begins_with_name s (drop n t) ≡ true → begins_with_name s (drop n u) ≡ true → AreInOrder s t u k o → Parted s t u o
   names-parted o named-own named-other is =
       by n refl
     where
       named : bytes_cmp (before_first (is_separator s) (drop n t)) (before_first (is_separator s) (drop n u)) ≡ o
-      named = ends-order ∙ is
+      named = ends-order o is
 
       by : (m : ℕ) → n ≡ m → Parted s t u o
       by zero e =

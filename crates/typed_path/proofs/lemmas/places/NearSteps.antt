@@ -1,11 +1,10 @@
 -- Two texts that go on with names alone behind the components that both begin with: the steps from one to the other, and how they are written.
-use Rattle.std.proofs.Common.{◌≡◌, ℕ, zero, suc, ◌+◌, ◌-◌, ◌==◌, ◌||◌, ◌&&◌, Bool, true, false, not, cond, List, [], ◌∷◌, ◌++◌, map, if◌then◌else◌, length, take, drop, refl, sym, ap, ap₂, subst, ◌∙◌, append_assoc, append-nil, arith, inl, inr, take_all, length-append, nat_le, add-one, Ordering, Less, Equal, Greater, Some, None}
+use Rattle.std.proofs.Common.{◌≡◌, ℕ, zero, suc, ◌+◌, ◌-◌, ◌==◌, ◌||◌, ◌&&◌, Bool, true, false, not, cond, List, [], ◌∷◌, ◌++◌, map, if◌then◌else◌, length, take, drop, refl, sym, ap, ap₂, subst, ◌∙◌, append_assoc, append-nil, arith, inl, inr, take_all, length-append, nat_le, add-one, Ordering, Some, None}
 use Rattle.std.specs.List.{AllByRecursion, list_all, slice_split, before_first, position_or_len}
 use Rattle.std.specs.Ordering.{is_ne}
 use Rattle.std.specs.Str.{bytes_eq}
-use Rattle.std.specs.Cmp.Lexicographic.{bytes_decides, nat_list_cmp_total}
+use Rattle.std.specs.Cmp.Lexicographic.{bytes_decides}
 use Rattle.std.proofs.lemmas.Bool.{and_parts, cases_lt, eq-eqb}
-use Rattle.std.proofs.lemmas.Cmp.{tied_itself}
 use Rattle.std.proofs.lemmas.List.{append_cancel_right, drop_at, map-append}
 use Rattle.std.proofs.lemmas.List.Splits.{slice_split_none, slice_split_first}
 use Rattle.std.proofs.lemmas.List.Sums.{fails_before_first}
@@ -19,7 +18,7 @@ use Rattle.typed_path.specs.places.{AreAlone, AreNearSteps, PartInNames, PartInt
 use Rattle.typed_path.proofs.lemmas.lists.Lists.{IsUnseparated, slice_split-unseparated}
 use Rattle.typed_path.proofs.lemmas.components.Segments.{first_parts, later_part, later_parts, parts-body, parts-later_body, pieces}
 use Rattle.typed_path.proofs.lemmas.conversions.TurnedPaths.{pieces-turned}
-use Rattle.typed_path.proofs.lemmas.order.SharedNames.{ends-order, other-at, own-at}
+use Rattle.typed_path.proofs.lemmas.order.SharedNames.{AreInOrder, ends-order, other-at, own-at, unlike}
 use Rattle.typed_path.proofs.lemmas.places.KeptNames.{kept_names-append, unmet-append, kept-names, unmet-names}
 use Rattle.typed_path.proofs.lemmas.places.StandingNames.{open-stand}
 use Rattle.typed_path.proofs.lemmas.places.UnixRows.{all-front, rows-append}
@@ -100,21 +99,12 @@ pieces-first p xs = elim (cases_lt (position_or_len p xs) (length xs)) [
 first-is : (s : Separators) (text : List ℕ) (ended : Bool) (name : List ℕ) (names : List (List ℕ)) → AreAlone s text ended (name ∷ names) → name ≡ before_first (is_separator s) text
 first-is s text ended name names alone = let first = pieces-first (is_separator s) text in let e : name ∷ names ++ ending ended ≡ before_first (is_separator s) text ∷ first.0 = sym alone.1 ∙ first.1 in cc
 
-pub unlike-names : (a b : List ℕ) (o : Ordering) → bytes_cmp a b ≡ o → is_ne o ≡ true → bytes_eq a b ≡ false
-unlike-names a b o is differ = by (bytes_eq a b) refl o is differ
-  where
-    by : (same : Bool) → bytes_eq a b ≡ same → (o : Ordering) → bytes_cmp a b ≡ o → is_ne o ≡ true → same ≡ false
-    by false e o is differ = refl
-    by true e Less is differ = let tied : bytes_cmp a b ≡ Equal = sym (ap (λ x. bytes_cmp a x) ((bytes_decides a b).0 e)) ∙ tied_itself nat_list_cmp_total a in cc
-    by true e Equal is differ = cc
-    by true e Greater is differ = let tied : bytes_cmp a b ≡ Equal = sym (ap (λ x. bytes_cmp a x) ((bytes_decides a b).0 e)) ∙ tied_itself nat_list_cmp_total a in cc
-
 names-apart : (s : Separators) (v w : List ℕ) (o : Ordering) → bytes_cmp (before_first (is_separator s) v) (before_first (is_separator s) w) ≡ o → is_ne o ≡ true
     → (ended more : Bool) (names others : List (List ℕ)) → AreAlone s v ended names → AreAlone s w more others → shared_count names others ≡ 0
 names-apart s v w o is differ ended more [] others own other = refl
 names-apart s v w o is differ ended more (x ∷ xs) [] own other = refl
 names-apart s v w o is differ ended more (x ∷ xs) (y ∷ ys) own other =
-    let apart : bytes_eq x y ≡ false = ap₂ bytes_eq (first-is s v ended x xs own) (first-is s w more y ys other) ∙ unlike-names (before_first (is_separator s) v) (before_first (is_separator s) w) o is differ in
+    let apart : bytes_eq x y ≡ false = ap₂ bytes_eq (first-is s v ended x xs own) (first-is s w more y ys other) ∙ (unlike (before_first (is_separator s) v) (before_first (is_separator s) w) o is differ).0 in
     ap (λ b. if b then suc (shared_count xs ys) else 0) apart
 
 none-shared : (names : List (List ℕ)) → shared_count names [] ≡ 0
@@ -125,12 +115,12 @@ behind-front : (cs : List Placed) (ds : List Placed) (names : List (List ℕ)) �
 behind-front cs ds names is = ap kinds (map-append (λ c. c.part) cs ds) ∙ map-append (λ p. p.kind) (parts cs) (parts ds) ∙ ap (λ ks. kinds (parts cs) ++ ks) is
 
 -- two texts that part in segments that differ
-pub parted-into : (s : Separators) (t u : List ℕ) (k n : ℕ) (o : Ordering) → IsParting s t u k n → bytes_cmp (before_first (is_separator s) (drop k t)) (before_first (is_separator s) (drop k u)) ≡ o → is_ne o ≡ true
+pub parted-into : (s : Separators) (t u : List ℕ) (k n : ℕ) (o : Ordering) → IsParting s t u k n → AreInOrder s t u k o → is_ne o ≡ true
     → PartInto s t u (drop n t) (drop n u)
 parted-into s t u k n o parted is differ = by n refl
   where
     apart : (ended more : Bool) (names others : List (List ℕ)) → AreAlone s (drop n t) ended names → AreAlone s (drop n u) more others → shared_count names others ≡ 0
-    apart = names-apart s (drop n t) (drop n u) o (ends-order s t u k n parted ∙ is) differ
+    apart = names-apart s (drop n t) (drop n u) o (ends-order s t u k n parted o is) differ
 
     by : (m : ℕ) → n ≡ m → PartInto s t u (drop n t) (drop n u)
     by zero e = record {

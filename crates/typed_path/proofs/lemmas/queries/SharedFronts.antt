@@ -4,7 +4,6 @@ use Rattle.std.specs.Option.{unwrap_or}
 use Rattle.std.specs.Prelude.{option_map}
 use Rattle.std.specs.List.{before_first}
 use Rattle.std.specs.Ordering.{is_ne}
-use Rattle.std.specs.Str.{bytes_eq}
 use Rattle.std.specs.Cmp.Lexicographic.{bytes_decides}
 use Rattle.std.proofs.lemmas.List.{map-append}
 use Rattle.typed_path.specs.declared.scan.separators.Separators.{Separators}
@@ -12,13 +11,11 @@ use Rattle.typed_path.specs.declared.scan.cursor.Begin.{Begin}
 use Rattle.typed_path.specs.declared.scan.cursor.Begin.TheVariants.{Body, Inside}
 use Rattle.typed_path.specs.declared.scan.cursor.Body.{Body as Reading}
 use Rattle.typed_path.specs.components.{Dialect, is_separator, Kind, prefix, root, current, parent, normal, kinds, Placed, body, comps, end_of, later_body, parts, parts_of, texts}
-use Rattle.typed_path.specs.order.{bytes_cmp}
 use Rattle.typed_path.specs.scan.{IsParting, begins_with_name, body_from, end_at, end_from, last_of}
 use Rattle.typed_path.specs.queries.{IsSharedEnd, ShareFront, behind_prefix, end_of_first, has_prefix, is_prefix, shared_count, shared_end}
 use Rattle.typed_path.specs.views.BodyViews.{body_items, body_slice}
 use Rattle.typed_path.proofs.lemmas.components.Cuts.{comps-laid_out, ends-within}
-use Rattle.typed_path.proofs.lemmas.order.SharedNames.{begins-name, ends-order, other-at, own-at}
-use Rattle.typed_path.proofs.lemmas.places.NearSteps.{unlike-names}
+use Rattle.typed_path.proofs.lemmas.order.SharedNames.{AreInOrder, begins-name, ends-order, other-at, own-at, unlike}
 use Rattle.typed_path.proofs.lemmas.queries.Shared.{count-within, texts-length}
 use Rattle.typed_path.proofs.lemmas.scan.Steps.{last_of-behind}
 
@@ -88,15 +85,13 @@ module _ (s : Separators) (t beginning : List ℕ) (n : ℕ) (is : body s 0 t �
   }
 
 module _ (s : Separators) (t u : List ℕ) (k n : ℕ) (o : Ordering) (parted : IsParting s t u k n) (own : begins_with_name s (drop n t) ≡ true) (other : begins_with_name s (drop n u) ≡ true)
-    (is : bytes_cmp (before_first (is_separator s) (drop k t)) (before_first (is_separator s) (drop k u)) ≡ o) (differ : is_ne o ≡ true) where
-  unlike : bytes_eq (before_first (is_separator s) (drop n t)) (before_first (is_separator s) (drop n u)) ≡ false
-  unlike = unlike-names (before_first (is_separator s) (drop n t)) (before_first (is_separator s) (drop n u)) o (ends-order s t u k n parted ∙ is) differ
-
+    (is : AreInOrder s t u k o) (differ : is_ne o ≡ true) where
   apart : (begin : Begin) (at : ℕ) → shared_count (texts (parts (body_from begin s at (drop n t)))) (texts (parts (body_from begin s at (drop n u)))) ≡ 0
   apart begin at =
       let a = begins-name begin s at (drop n t) own in
       let b = begins-name begin s at (drop n u) other in
-      ap₂ (λ xs ys. shared_count (texts (parts xs)) (texts (parts ys))) a.1 b.1 ∙ ap (λ same. if same then suc (shared_count (texts (parts a.0)) (texts (parts b.0))) else 0) unlike
+      ap₂ (λ xs ys. shared_count (texts (parts xs)) (texts (parts ys))) a.1 b.1 ∙ ap (λ same. if same then suc (shared_count (texts (parts a.0)) (texts (parts b.0))) else 0)
+      (unlike (before_first (is_separator s) (drop n t)) (before_first (is_separator s) (drop n u)) o (ends-order s t u k n parted o is) differ).0
 
   pub parted-front : ShareFront s t u (take n t)
   parted-front = by n refl

@@ -1,8 +1,5 @@
-use Rattle.std.proofs.Common.{◌≡◌, ◌∙◌, drop, ap, ap₂, sym}
-use Rattle.std.specs.List.{before_first}
+use Rattle.std.proofs.Common.{◌∙◌, ap, sym}
 use Rattle.std.proofs.lemmas.List.{take_rest}
-use Rattle.typed_path.specs.components.{is_separator}
-use Rattle.typed_path.specs.order.{bytes_cmp}
 use Rattle.typed_path.specs.scan.{begins_with_name}
 use Rattle.typed_path.proofs.lemmas.queries.SharedFronts.{parted-front}
 use Rattle.typed_path.proofs.scan.cut.front_before_names.Goals as goal
@@ -12,12 +9,9 @@ returns-then-begins_with_name-2-clause-front c =
     let s = c.args.separators in
     let t = c.args.text.now in
     let u = c.args.other.now in
-    let k = c.args.shared in
     let n = c.last_start-start.result in
     let told = c.in_ok-_order.ensures in
-    let is : bytes_cmp (before_first (is_separator s) (drop k t)) (before_first (is_separator s) (drop k u)) ≡ c.in_ok-_order._order =
-    ap₂ (λ x y. bytes_cmp (before_first (is_separator s) x) (before_first (is_separator s) y)) (sym (take_rest t k)) (sym (take_rest u k)) ∙ told.1 in
-    parted-front s t u k n c.in_ok-_order._order (c.requires, c.last_start-start.ensures.last, c.last_start-start.ensures.within)
+    parted-front s t u c.args.shared n c.in_ok-_order._order (c.requires, c.last_start-start.ensures.last, c.last_start-start.ensures.within)
     (ap (begins_with_name s) (sym (take_rest t n)) ∙ c.begins_with_name.ensures c.if-begins_with_name.true)
     (ap (begins_with_name s) (sym (take_rest u n)) ∙ c.begins_with_name-then-begins_with_name.ensures c.if-begins_with_name-2.true)
-    is told.0
+    told.1 told.0
