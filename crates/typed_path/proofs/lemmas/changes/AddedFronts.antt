@@ -8,13 +8,13 @@ use Rattle.std.proofs.lemmas.List.Splits.{slice_split-cons_yes}
 use Rattle.std.proofs.lemmas.Option.{same_Some}
 use Rattle.std.specs.List.{list_any}
 use Rattle.typed_path.specs.declared.scan.separators.Separators.{Separators}
-use Rattle.typed_path.specs.declared.scan.separators.Separators.TheVariants.{Slash, Backslash, Either}
+use Rattle.typed_path.specs.declared.scan.separators.Separators.TheVariants.{Backslash, Either}
 use Rattle.typed_path.specs.components.{Dialect, unix, windows, dot, is_separator, separators, root_text, root, prefix, Placed, component, root_part, prefix_part, first, body, body_of, placed, comps_behind, Found, prefix_of, found, unc, disk, verbatim_disk, name, second_name, names_length, is_empty, is_drive_letter, to_upper, drive, after_mark, question, begins_verbatim, verbatim_unc_case, verbatim_disk_case, verbatim_case, device_case, unc_case, disk_case}
 use Rattle.typed_path.specs.scan.{last_of}
 use Rattle.typed_path.specs.queries.{file_name_of, parent_of, is_disk}
 use Rattle.typed_path.specs.changes.{cut_at, with_added_extension}
 use Rattle.typed_path.specs.promises.{ExtendsName, is_verbatim_unc_name, prefix_kind}
-use Rattle.typed_path.proofs.lemmas.components.Prefixes.{Read, of_verbatim_unc, of_verbatim_disk, of_verbatim, of_device, of_unc, of_disk, prefix-read, drive-take}
+use Rattle.typed_path.proofs.lemmas.components.Prefixes.{Read, of_verbatim_unc, of_verbatim_disk, of_verbatim, of_device, of_unc, of_disk, prefix-read, drive-take, dot-unseparated}
 use Rattle.typed_path.proofs.lemmas.components.PrefixCuts.{prefix_by, name-filled, or-none, not_none, plain-none, verbatim-take}
 use Rattle.typed_path.proofs.lemmas.components.FirmPrefixes.{Apart, nothing, parted, share_made, prefix-apart, three_separators, drive-stays, drive-extends, verbatim_disk-stays}
 use Rattle.typed_path.proofs.lemmas.components.PartedPrefixes.{apart-behind, shares-prefix, drive-plain}
@@ -187,11 +187,6 @@ module _ (t name : List ℕ) (b : ℕ) (bs : List ℕ) (h : HasName windows t na
 
 -- An extension that separates nothing.
 
-dot-plain : (s : Separators) → is_separator s dot ≡ false
-dot-plain Slash = refl
-dot-plain Backslash = refl
-dot-plain Either = refl
-
 none_passes : (test : ℕ → Bool) (bs : List ℕ) → list_any test bs ≡ false → IsUnseparated test bs
 none_passes test [] e = All-nil _
 none_passes test (b ∷ bs) e = by (test b) refl e (λ more. none_passes test bs more)
@@ -213,7 +208,7 @@ extends_name d t (b ∷ bs) no_unc free name e =
     let h = name-last d t name e in
     let x = dot ∷ b ∷ bs in
     let cut : with_added_extension d t (b ∷ bs) ≡ take (h.last.start + length name) t ++ x = ap (cut_at t (b ∷ bs)) (name_end-name d t name h) in
-    let plain : IsUnseparated (is_separator (separators d t)) x = All-cons (λ c. is_separator (separators d t) c ≡ false) dot (b ∷ bs) (dot-plain (separators d t)) (none_passes (is_separator (separators d t)) (b ∷ bs) free) in
+    let plain : IsUnseparated (is_separator (separators d t)) x = All-cons (λ c. is_separator (separators d t) c ≡ false) dot (b ∷ bs) (dot-unseparated (separators d t)) (none_passes (is_separator (separators d t)) (b ∷ bs) free) in
     let front = front_stays d t name b bs h plain no_unc in
     record {
       named = ap (file_name_of d) cut ∙ grown-name d t name x h (omega arith) plain front;

@@ -20,6 +20,7 @@ use Rattle.typed_path.proofs.lemmas.scan.LastComponent.{later_body-last}
 use Rattle.typed_path.proofs.lemmas.scan.Readings.{between-last, between-all}
 use Rattle.typed_path.proofs.lemmas.scan.Steps.{last_of-push, but_last-push, last_of-behind, but_last-behind, last_pushed}
 use Rattle.typed_path.proofs.lemmas.queries.Parents.{HasName, last-filled, parent_left}
+use Rattle.typed_path.proofs.lemmas.components.FirmPrefixes.{filled-long}
 
 -- Lists of components: their last one.
 
@@ -57,11 +58,6 @@ end_of_last cs c is =
 -- a kind that is no name is none
 pub clash : (k : Kind) (name : List ℕ) → k ≡ normal name → is_name k ≡ false → ⊥
 clash k name is other = both_ways (is_name k) other (ap is_name is)
-
--- a text of some bytes is not empty
-filled-from : (v : List ℕ) → (length v == 0) ≡ false → 0 < length v
-filled-from [] e = cc
-filled-from (y ∷ ys) e = omega arith
 
 -- A body that ends in a name, with more of that name behind it.
 
@@ -121,7 +117,7 @@ module _ (text : List ℕ) (at : ℕ) (name : List ℕ) (c : Placed) (part : c.p
       by true e dotted twice is = absurd (no_other [] (root_part (root_text s)) at refl is)
       by false e true twice is = absurd (no_other [] current_part at refl is)
       by false e false true is = absurd (no_other [] parent_part at refl is)
-      by false e false false is = that_name [] (filled-from text e) is
+      by false e false false is = that_name [] (filled-long text e) is
 
   -- of a later one, unless it is none
   later_name : (s : Separators) (others : List Placed) → last_of (others ++ later s (record { text = text; start = at })) ≡ Some c
@@ -139,7 +135,7 @@ module _ (text : List ℕ) (at : ℕ) (name : List ℕ) (c : Placed) (part : c.p
       by false e true false twice is = inl (ap last_of (sym (append-nil others)) ∙ is)
       by false e true true twice is = absurd (no_other others current_part at refl is)
       by false e false verbatim true is = absurd (no_other others parent_part at refl is)
-      by false e false verbatim false is = inr (that_name others (filled-from text e) is)
+      by false e false verbatim false is = inr (that_name others (filled-long text e) is)
 
 module _ (s : Separators) (at : ℕ) (b x : List ℕ) (unseparated : IsUnseparated (is_separator s) x) (long : 1 < length x) (c : Placed) (name : List ℕ)
     (is_last : last_of (body s at b) ≡ Some c) (part : c.part ≡ name_part name) (ends : c.start + length name ≡ at + length b) where

@@ -14,7 +14,7 @@ use Rattle.typed_path.specs.changes.{ended_with, is_disk_alone, ended_windows, w
 use Rattle.typed_path.specs.places.{overdraws, resolve}
 use Rattle.typed_path.specs.queries.{begins_with_root}
 use Rattle.typed_path.proofs.lemmas.lists.Lists.{slice_split-some, slice_split-append, AllByRecursion-append, IsUnseparated, slice_split-unseparated}
-use Rattle.typed_path.proofs.lemmas.components.Segments.{pieces, first_parts, first_parts-append, later_parts, body_parts, IsCleanName, later_part, first_part, IsWritten, IsWrittenPart, IsLater, IsLaterPart, AreRead, later_parts-later}
+use Rattle.typed_path.proofs.lemmas.components.Segments.{pieces, first_parts, first_parts-append, later_parts, body_parts, IsCleanName, later_part, first_part, IsWritten, IsWrittenPart, IsLater, IsLaterPart, AreRead, later_parts-later, dot-is, dot_dot-is}
 use Rattle.typed_path.proofs.lemmas.components.PrefixCuts.{IsUnended}
 use Rattle.typed_path.proofs.lemmas.places.Resolving.{IsKept, resolve-same, Alike, Alike-append, current-alike, no_heads}
 use Rattle.typed_path.proofs.lemmas.components.Prefixes.{OfWindows, backslash-separates, root_text-windows, dot-unseparated}
@@ -328,15 +328,6 @@ record IsOne (s : Separators) (piece : List ℕ) : Type 0 where
   pub is : later_part s piece ≡ part ∷ []
   pub same : part.text ≡ piece
   pub relative : begins_with_root (part.kind ∷ []) ≡ false
-
--- what `.` and `..` are
-dot-is : (piece : List ℕ) → is_dot piece ≡ true → piece ≡ dot ∷ []
-dot-is (b ∷ []) h = ap (λ c. c ∷ []) (eqb-true b dot h)
-dot-is piece h = cc
-
-dot_dot-is : (piece : List ℕ) → is_dot_dot piece ≡ true → piece ≡ dot ∷ dot ∷ []
-dot_dot-is (b ∷ c ∷ []) h = let both = and_parts (b == dot) (c == dot) h in ap₂ (λ x y. x ∷ y ∷ []) (eqb-true b dot both.0) (eqb-true c dot both.1)
-dot_dot-is piece h = cc
 
 -- so is each component of a row
 one-component : (s : Separators) (piece : List ℕ) → is_component s piece ≡ true → IsOne s piece

@@ -2,9 +2,8 @@
 use Rattle.std.proofs.Common.{◌≡◌, ℕ, ◌+◌, ◌≤◌, ◌==◌, Bool, true, false, if◌then◌else◌, List, [], ◌∷◌, ◌++◌, length, take, drop, slice_range, ◌-◌, ◌&&◌, nat_lt, Option, Some, None, is_some, unwrap_or, option_and_then, refl, ap, arith, length-append, length-take, length-drop}
 use Rattle.std.proofs.lemmas.Bool.{cond_both}
 use Rattle.std.proofs.lemmas.List.Sums.{sum_by-cons, sum_by-append}
-use Rattle.typed_path.specs.declared.scan.separators.Separators.{Separators}
-use Rattle.typed_path.specs.declared.scan.separators.Separators.TheVariants.{Slash, Backslash, Either}
-use Rattle.typed_path.specs.components.{Dialect, unix, windows, slash, backslash, separators, root_text, Kind, prefix, root, current, parent, normal, Part, kinds, is_name, prefix_part, Found, prefix_of, Placed, comps, parts_of}
+use Rattle.typed_path.specs.declared.scan.separators.Separators.TheVariants.{Either}
+use Rattle.typed_path.specs.components.{Dialect, unix, windows, slash, backslash, separators, Kind, prefix, root, current, parent, normal, Part, kinds, is_name, prefix_part, Found, prefix_of, Placed, comps, parts_of}
 use Rattle.typed_path.specs.scan.{last_of, left, start_at, end_at}
 use Rattle.typed_path.specs.queries.{has_prefix, has_any_verbatim_prefix, begins_with_root, begins_with_prefix, is_root, file_name_of}
 use Rattle.typed_path.specs.changes.{push, push_unix, push_windows, push_behind, ended_with, ended_windows, is_disk_alone, raw_prefix, raw_length, spelled, merged, merge_by_kind, prefix_alone, without_last_name, joint, room_of, stem_end, cut_at, dotted, with_extension, popped, with_file_name}
@@ -13,16 +12,11 @@ use Rattle.typed_path.proofs.lemmas.components.Prefixes.{prefix-fits}
 use Rattle.typed_path.proofs.lemmas.components.PrefixCuts.{parts_of-none, parts_of-some}
 use Rattle.typed_path.proofs.lemmas.changes.Joins.{joint-relative}
 use Rattle.typed_path.proofs.lemmas.changes.MergedInPlace.{room-body, room-text}
+use Rattle.typed_path.proofs.lemmas.promises.WindowsBases.{joint-root}
 
 -- the room that the component of a piece takes
 abbrev pub size : Part → ℕ
 size p = length p.text + (if begins_with_root (p.kind ∷ []) then 0 else 1)
-
--- a root takes one byte
-pub one-root : (s : Separators) → length (root_text s) ≡ 1
-one-root Slash = refl
-one-root Backslash = refl
-one-root Either = refl
 
 -- the components of a path take two bytes more than the path at the most
 room-parts : (t : List ℕ) → room_of (parts_of windows t) ≤ length t + 2
@@ -73,18 +67,13 @@ joint-from_root : (k l : Kind) → begins_with_root (k ∷ []) ≡ true → join
 joint-from_root root l e = refl
 joint-from_root k l e = cc
 
-joint-to_root : (k l : Kind) → begins_with_root (l ∷ []) ≡ true → joint k l ≡ []
-joint-to_root root root e = refl
-joint-to_root k root e = refl
-joint-to_root k l e = cc
-
 pub joint-size : (k l : Kind) → (length (joint k l) ≤ (if begins_with_root (k ∷ []) then 0 else 1)) × (length (joint k l) ≤ (if begins_with_root (l ∷ []) then 0 else 1))
 joint-size k l = by (begins_with_root (k ∷ [])) (begins_with_root (l ∷ [])) refl refl
   where
     by : (b c : Bool) → begins_with_root (k ∷ []) ≡ b → begins_with_root (l ∷ []) ≡ c → (length (joint k l) ≤ (if b then 0 else 1)) × (length (joint k l) ≤ (if c then 0 else 1))
     by true true e f = let none = ap length (joint-from_root k l e) in (omega (arith, none), omega (arith, none))
     by true false e f = let none = ap length (joint-from_root k l e) in (omega (arith, none), omega (arith, none))
-    by false true e f = let none = ap length (joint-to_root k l f) in (omega (arith, none), omega (arith, none))
+    by false true e f = let none = ap length (joint-root k l f) in (omega (arith, none), omega (arith, none))
     by false false e f = let one = ap length (joint-relative k l e f) in (omega (arith, one), omega (arith, one))
 
 -- a list takes so much room where it is written anew

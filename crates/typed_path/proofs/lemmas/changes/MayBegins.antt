@@ -1,5 +1,5 @@
 -- Marks of separators behind which a device may stand: what the bytes behind them tell, and the search by such marks.
-use Rattle.std.proofs.Common.{◌≡◌, ℕ, zero, suc, ◌+◌, ◌-◌, ◌*◌, ◌^◌, ◌/◌, ◌%◌, ◌≤◌, ◌<◌, List, [], ◌∷◌, Bool, true, false, cond, ◌&&◌, ◌||◌, ◌==◌, min, max, length, drop, get_or, refl, sym, ap, ◌∙◌, arith, bit_or, bit_and, shr-shr, subst, true≢false, ◌⊎◌, inl, inr, get_or-drop, length-drop}
+use Rattle.std.proofs.Common.{◌≡◌, ℕ, zero, suc, ◌+◌, ◌-◌, ◌*◌, ◌^◌, ◌/◌, ◌≤◌, ◌<◌, List, [], ◌∷◌, Bool, true, false, cond, ◌&&◌, ◌||◌, ◌==◌, min, max, length, drop, get_or, refl, sym, ap, ◌∙◌, arith, bit_or, bit_and, subst, true≢false, ◌⊎◌, inl, inr, get_or-drop, length-drop}
 use Rattle.std.specs.Int.{bit_at}
 use Rattle.std.specs.List.{before_first}
 use Rattle.std.proofs.lemmas.Bool.{and_parts, false_from_ne_true, cases_lt}
@@ -12,14 +12,11 @@ use Rattle.typed_path.specs.scan.{IsMask, stands_at}
 use Rattle.typed_path.specs.changes.{dot_pair_at, AreMayBegins, BeginsNone, TellsBegins, is_letter_of, ends_stem, may_end_stem, begins_with_device, has_device_behind}
 use Rattle.typed_path.proofs.lemmas.queries.ValidNames.{reserved-device}
 use Rattle.typed_path.proofs.lemmas.changes.ValidPaths.{device-front, stem-ends}
+use Rattle.typed_path.proofs.lemmas.scan.Blanks.{set-of, shifted}
 
 -- Marks of separators behind which a device may stand: what the bytes behind them tell, and the search by such marks.
 
 -- ---- marks
-
--- a bit of a mask without its lowest bits
-shifted : (mask s k : ℕ) → bit_at (mask / 2 ^ s) k ≡ bit_at mask (s + k)
-shifted mask s k = ap (λ x. x % 2) (shr-shr mask s k)
 
 -- marks put together
 pub marks-together : (separators firsts seconds ends : ℕ) → AreMayBegins separators firsts seconds ends (bit_and separators (bit_and (firsts / 2) (bit_and (seconds / 4) (bit_or (ends / 16) (ends / 32)))))
@@ -48,10 +45,6 @@ tells-later text from n s mask told = record {
 }
 
 -- ---- a block of 32 bytes, by its marks
-
--- a bit that is set by a test that holds
-set-of : (p : ℕ → Bool) (n mask k : ℕ) → IsMask p n mask → k < n → p k ≡ true → bit_at mask k ≡ 1
-set-of p n mask k marks l h = marks.within k l ∙ ap (λ b. cond b 1 0) h
 
 -- a test that holds by a bit that is set
 of-set : (p : ℕ → Bool) (n mask k : ℕ) → IsMask p n mask → bit_at mask k ≡ 1 → (k < n) × (p k ≡ true)

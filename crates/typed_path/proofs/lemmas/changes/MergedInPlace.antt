@@ -7,18 +7,20 @@ use Rattle.std.proofs.lemmas.List.Elements.{All-nil, All-cons}
 use Rattle.std.proofs.lemmas.List.Sums.{sum_by-cons, sum_by-append}
 use Rattle.std.proofs.Math.Seq.{drop-append_seam, take-append_seam}
 use Rattle.typed_path.specs.declared.scan.separators.Separators.{Separators}
-use Rattle.typed_path.specs.declared.scan.separators.Separators.TheVariants.{Slash, Backslash, Either}
+use Rattle.typed_path.specs.declared.scan.separators.Separators.TheVariants.{Backslash, Either}
 use Rattle.typed_path.specs.components.{windows, backslash, dot, separators, is_separator, is_verbatim, root_text, begins_verbatim, Kind, prefix, root, current, parent, normal, Part, kinds, root_part, prefix_part, current_part, parent_part, name_part, is_name, Found, prefix_of, is_empty, is_dot, is_dot_dot, parts_of}
 use Rattle.typed_path.specs.queries.{has_prefix, has_any_verbatim_prefix, begins_with_root}
 use Rattle.typed_path.specs.changes.{spelled, merged, raw_length, spells_anew, without_last_name, merge_by_kind, push_windows, IsStanding, IsReadFirst, AreReadBehind, IsMergeable, AreMergeable, Stands, IsSpelled, names_behind, room_of, IsKnown}
 use Rattle.typed_path.proofs.lemmas.lists.Lists.{AllByRecursion-weaker, width, width-slice_split, AllByRecursion-append}
 use Rattle.typed_path.proofs.lemmas.components.Prefixes.{OfWindows, separators-windows, root_text-windows, prefix-fits, prefix-read}
-use Rattle.typed_path.proofs.lemmas.components.Segments.{pieces, first_part, later_part, first_parts, later_parts, body_parts, body_parts-read, AreRead, IsWritten, IsLater, IsLaterPart, IsWritten-later, named_part, each-written, IsWrittenPart}
+use Rattle.typed_path.proofs.lemmas.components.Segments.{pieces, first_part, later_part, first_parts, later_parts, body_parts, body_parts-read, AreRead, IsWritten, IsLater, IsLaterPart, IsWritten-later, named_part, each-written, IsWrittenPart, dot_dot-is}
 use Rattle.typed_path.proofs.lemmas.changes.Joins.{IsPiece, later-piece, backslash-free}
 use Rattle.typed_path.proofs.lemmas.changes.SpelledTexts.{Behind, nothing, rooted, spelled-shaped, IsUnprefixed, merged-behind, spelled-standing, stands-spelled, IsShaped, spelled-prefixed, behind-spelled, verbatim-kept}
 use Rattle.typed_path.proofs.lemmas.components.PrefixCuts.{prefix_by, prefix-size, verbatim-size, verbatim-take, parts_of-none, parts_of-some}
 use Rattle.typed_path.proofs.lemmas.changes.WindowsPushes.{push-anew}
 use Rattle.typed_path.proofs.lemmas.components.WindowsNames.{clean-either}
+use Rattle.typed_path.proofs.lemmas.components.FirmPrefixes.{filled-long}
+use Rattle.typed_path.proofs.lemmas.components.Cuts.{root_text-length}
 
 -- Components as they are read, which stand behind a prefix or are merged there, and the room that they take.
 
@@ -98,33 +100,20 @@ text-mergeable t h = subst AreMergeable (sym (parts_of-none t (no-prefix t h))) 
 abbrev size : Part → ℕ
 size p = length p.text + (if begins_with_root (p.kind ∷ []) then 0 else 1)
 
-some-bytes : (piece : List ℕ) → (length piece == 0) ≡ false → 0 < length piece
-some-bytes [] e = cc
-some-bytes (b ∷ bs) e = omega arith
-
-two-bytes : (piece : List ℕ) → is_dot_dot piece ≡ true → length piece ≡ 2
-two-bytes (a ∷ b ∷ []) e = refl
-two-bytes piece e = cc
-
 named-size : (piece : List ℕ) → size (named_part piece) ≤ length piece + 1
-named-size piece = cond_both (is_dot_dot piece) parent_part (name_part piece) (λ p. size p ≤ length piece + 1) (λ e. omega (arith, two-bytes piece e)) (λ e. omega arith)
-
-root-size : (s : Separators) → length (root_text s) ≤ 1
-root-size Slash = omega arith
-root-size Backslash = omega arith
-root-size Either = omega arith
+named-size piece = cond_both (is_dot_dot piece) parent_part (name_part piece) (λ p. size p ≤ length piece + 1) (λ e. omega (arith, ap length (dot_dot-is piece e))) (λ e. omega arith)
 
 module _ (s : Separators) where
   first-size : (piece : List ℕ) → size (first_part s piece) ≤ length piece + 1
   first-size piece =
-      cond_both (length piece == 0) (root_part (root_text s)) _ (λ p. size p ≤ length piece + 1) (λ e. omega (arith, root-size s))
-      (λ filled. cond_both (is_dot piece) current_part (named_part piece) (λ p. size p ≤ length piece + 1) (λ e. omega (arith, some-bytes piece filled)) (λ e. named-size piece))
+      cond_both (length piece == 0) (root_part (root_text s)) _ (λ p. size p ≤ length piece + 1) (λ e. omega (arith, root_text-length s))
+      (λ filled. cond_both (is_dot piece) current_part (named_part piece) (λ p. size p ≤ length piece + 1) (λ e. omega (arith, filled-long piece filled)) (λ e. named-size piece))
 
   later-size : (piece : List ℕ) → room_of (later_part s piece) ≤ length piece + 1
   later-size piece =
       cond_both (length piece == 0) [] _ (λ ps. room_of ps ≤ length piece + 1) (λ e. omega arith)
       (λ filled. cond_both (is_dot piece) (if is_verbatim s then current_part ∷ [] else []) (named_part piece ∷ []) (λ ps. room_of ps ≤ length piece + 1)
-      (λ e. cond_both (is_verbatim s) (current_part ∷ []) [] (λ ps. room_of ps ≤ length piece + 1) (λ v. omega (arith, some-bytes piece filled)) (λ v. omega arith))
+      (λ e. cond_both (is_verbatim s) (current_part ∷ []) [] (λ ps. room_of ps ≤ length piece + 1) (λ v. omega (arith, filled-long piece filled)) (λ v. omega arith))
       (λ e. omega (arith, named-size piece)))
 
   later-sizes : (ns : List (List ℕ)) → room_of (later_parts s ns) ≤ width ns

@@ -1,21 +1,22 @@
 -- Texts of which looks at their bytes tell that all their pieces are names, and how such a text is merged and written.
-use Rattle.std.proofs.Common.{◌≡◌, ℕ, zero, suc, ◌+◌, ◌-◌, ◌<◌, ◌≤◌, ◌==◌, Bool, true, false, not, ◌&&◌, ◌||◌, if◌then◌else◌, List, [], ◌∷◌, ◌++◌, map, length, take, drop, slice_index, Option, Some, None, refl, sym, ap, subst, ◌∙◌, append_assoc, append-nil, arith, ne_eqb, eq-eqb, eqb-true, true≢false, ⊎_elim, length-append, length-drop, take_all}
+use Rattle.std.proofs.Common.{◌≡◌, ℕ, zero, suc, ◌+◌, ◌-◌, ◌<◌, ◌≤◌, ◌==◌, Bool, true, false, not, ◌&&◌, ◌||◌, if◌then◌else◌, List, [], ◌∷◌, ◌++◌, map, length, take, drop, slice_index, refl, sym, ap, subst, ◌∙◌, append_assoc, append-nil, arith, ne_eqb, eq-eqb, eqb-true, true≢false, ⊎_elim, length-append, length-drop, take_all}
 use Rattle.std.specs.List.{list_all, slice_split, onto_first, AllByRecursion}
 use Rattle.std.specs.Slice.Scan.{HoldsNowhere}
-use Rattle.std.proofs.lemmas.Bool.{and_parts, or_parts, both_ways, cases_lt}
+use Rattle.std.proofs.lemmas.Bool.{and_parts, or_parts, cases_lt}
 use Rattle.std.proofs.lemmas.List.{drop-append-le, take_at, drop_at}
 use Rattle.std.proofs.lemmas.List.Splits.{slice_split-cons_yes, slice_split-cons_no}
 use Rattle.typed_path.specs.declared.scan.separators.Separators.{Separators}
 use Rattle.typed_path.specs.declared.scan.separators.Separators.TheVariants.{Backslash, Either}
-use Rattle.typed_path.specs.components.{windows, dot, backslash, is_separator, is_verbatim, is_dot, is_dot_dot, is_empty, Part, parts, kinds, current_part, parent_part, name_part, Found, prefix_of, parts_of, later_body}
+use Rattle.typed_path.specs.components.{windows, dot, backslash, is_separator, is_verbatim, is_dot, is_dot_dot, is_empty, Part, parts, kinds, current_part, parent_part, name_part, parts_of, later_body}
 use Rattle.typed_path.specs.queries.{has_prefix}
 use Rattle.typed_path.specs.scan.{is_one_of, stands_at, turned}
 use Rattle.typed_path.specs.changes.{AreNamesBefore, begins_no_name, begins_no_name_at, is_component, is_name_piece, merged, names_behind, names_of, HoldsNames, IsStanding, Stands, jointed}
 use Rattle.typed_path.proofs.lemmas.lists.Lists.{IsUnseparated, slice_split-some, slice_split-unseparated}
 use Rattle.typed_path.proofs.lemmas.components.Segments.{pieces, first_part, later_part, first_parts, later_parts, named_part, parts-later_body}
-use Rattle.typed_path.proofs.lemmas.components.PrefixCuts.{parts_of-none, parts_of-some}
+use Rattle.typed_path.proofs.lemmas.components.PrefixCuts.{parts_of-none}
 use Rattle.typed_path.proofs.lemmas.changes.Joins.{backslash-free}
 use Rattle.typed_path.proofs.lemmas.changes.WindowsPushes.{stands-more}
+use Rattle.typed_path.proofs.lemmas.changes.MergedInPlace.{no-prefix}
 
 -- ---- what the looks tell of the pieces
 module _ (pair : ℕ × ℕ) where
@@ -252,21 +253,13 @@ merged-first ps qs piece filled = rw filled (by (is_dot piece) (named_part piece
     by true p = refl
     by false p = refl
 
--- a list without a prefix is that of a text without one
-without-prefix : (t : List ℕ) → has_prefix (kinds (parts_of windows t)) ≡ false → prefix_of windows t ≡ None
-without-prefix t h = by (prefix_of windows t) refl
-  where
-    by : (o : Option Found) → prefix_of windows t ≡ o → o ≡ None
-    by None e = refl
-    by (Some f) e = absurd (both_ways _ h (ap (λ ps. has_prefix (kinds ps)) (parts_of-some t f e)))
-
 -- so is each of a path without a prefix and a root
 merged-later : (b : ℕ) (bs : List ℕ) (ps : List Part) → has_prefix (kinds (parts_of windows (b ∷ bs))) ≡ false → is_separator Either b ≡ false
     → merged ps (parts_of windows (b ∷ bs)) ≡ merged ps (parts (later_body Either 0 (b ∷ bs)))
 merged-later b bs ps no_prefix apart =
     let some = slice_split-some (is_separator Either) bs in
     let cut : pieces Either (b ∷ bs) ≡ (b ∷ some.0) ∷ some.1 = slice_split-cons_no (is_separator Either) b bs apart ∙ ap (onto_first b) some.2 in
-    ap (merged ps) (parts_of-none (b ∷ bs) (without-prefix (b ∷ bs) no_prefix) ∙ ap (first_parts Either) cut)
+    ap (merged ps) (parts_of-none (b ∷ bs) (no-prefix (b ∷ bs) no_prefix) ∙ ap (first_parts Either) cut)
     ∙ merged-first ps (later_parts Either some.1) (b ∷ some.0) (ne_eqb (length (b ∷ some.0)) 0 (λ none. omega (arith, none)))
     ∙ ap (merged ps) (sym (parts-later_body Either 0 (b ∷ bs) ∙ ap (later_parts Either) cut))
 

@@ -16,13 +16,14 @@ use Rattle.typed_path.proofs.lemmas.components.Prefixes.{separators-windows, roo
 use Rattle.typed_path.proofs.lemmas.components.PrefixCuts.{IsSize, prefix-size, parts_of-none, parts_of-some}
 use Rattle.typed_path.proofs.lemmas.components.Segments.{body_parts, body_parts-read, IsWritten, IsWrittenPart, each-written}
 use Rattle.typed_path.proofs.lemmas.changes.Joins.{Ending, parted, ending}
-use Rattle.typed_path.proofs.lemmas.changes.Lengths.{size, one-root, ended-length}
+use Rattle.typed_path.proofs.lemmas.changes.Lengths.{size, ended-length}
 use Rattle.typed_path.proofs.lemmas.changes.MergedInPlace.{room-body, room-text, no-prefix}
 use Rattle.typed_path.proofs.lemmas.changes.WindowsPushes.{push-prefixed, push-anew, push-rooted, push-relative}
 use Rattle.typed_path.proofs.lemmas.places.Resolving.{resolve-each}
 use Rattle.typed_path.proofs.lemmas.promises.UnixContained.{parts_of-unix, push_unix-nothing}
 use Rattle.typed_path.proofs.lemmas.promises.WindowsStable.{push-first}
 use Rattle.typed_path.proofs.lemmas.changes.SpelledLengths.{merged-size, anew, IsMarked, has-marked, anew-most, anew-least, raw-undriven, root-undriven, joined-undriven, merged-undriven, IsDriven}
+use Rattle.typed_path.proofs.lemmas.components.Cuts.{root_text-length}
 
 -- Paths that are pushed one by one.
 
@@ -277,7 +278,7 @@ normal_text_length windows t = by (prefix_of windows t) refl
 crossed-cost : (e : Dialect) (s : Separators) (k : Kind) (text : List ℕ) → IsWritten s k text
     → Costs e (crossed e (record { kind = k; text = text })) (size (record { kind = k; text = text }))
 crossed-cost e s (prefix p) text written = absurd written
-crossed-cost e s root text written = inr (refl, omega (arith, ap length written, one-root s))
+crossed-cost e s root text written = inr (refl, omega (arith, ap length written, root_text-length s))
 crossed-cost e s current text written = inl (omega arith)
 crossed-cost e s parent text written = inl (omega arith)
 crossed-cost e s (normal name) text written = inl (omega arith)

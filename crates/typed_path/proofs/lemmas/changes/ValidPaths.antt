@@ -11,7 +11,7 @@ use Rattle.typed_path.specs.declared.errors.CheckedPathError.{CheckedPathError}
 use Rattle.typed_path.specs.declared.errors.CheckedPathError.TheVariants.{InvalidFilename}
 use Rattle.typed_path.specs.declared.scan.cursor.Begin.TheVariants.{Body}
 use Rattle.typed_path.specs.declared.scan.separators.Separators.TheVariants.{Either}
-use Rattle.typed_path.specs.components.{windows, dot, slash, backslash, colon, question, is_separator, is_dot, is_dot_dot, root_text, Kind, prefix, root, current, parent, normal, kinds, parts, Placed, body, later_body, current_part, root_part, parent_part, name_part, parts_of, prefix_of, after_mark, after_two, drive, is_drive_letter, to_upper}
+use Rattle.typed_path.specs.components.{windows, dot, slash, backslash, colon, question, is_separator, is_dot, is_dot_dot, root_text, Kind, prefix, root, current, parent, normal, kinds, parts, body, later_body, current_part, root_part, parent_part, name_part, parts_of, prefix_of, after_mark, after_two, drive, is_drive_letter, to_upper}
 use Rattle.std.specs.Slice.Scan.{HoldsNowhere}
 use Rattle.typed_path.specs.scan.{stands_at, IsFirstOf}
 use Rattle.typed_path.specs.queries.{is_reserved, is_valid, is_valid_name}
@@ -20,6 +20,7 @@ use Rattle.typed_path.proofs.lemmas.components.Segments.{pieces, first_parts, la
 use Rattle.typed_path.proofs.lemmas.queries.ValidNames.{reserved-device, one_of_two, valid-found}
 use Rattle.typed_path.proofs.lemmas.components.PrefixCuts.{parts_of-none}
 use Rattle.typed_path.proofs.lemmas.scan.Searches.{any-told}
+use Rattle.typed_path.proofs.lemmas.order.Comparisons.{kinds-append}
 
 -- ---- what devices begin with
 
@@ -471,11 +472,6 @@ fault-front before (k ∷ ks) ls e is = by (offence windows before k) is (fault-
         → option_or o (fault_behind windows (before ++ k ∷ []) (ks ++ ls)) ≡ Some e
     by None h later = later h
     by (Some f) h later = h
-
--- the kinds of two lists put together
-kinds-append : (cs ds : List Placed) → kinds (parts (cs ++ ds)) ≡ kinds (parts cs) ++ kinds (parts ds)
-kinds-append [] ds = refl
-kinds-append (c ∷ cs) ds = ap (λ ks. c.part.kind ∷ ks) (kinds-append cs ds)
 
 -- so a path without a prefix is refused for what the segments in front of it are
 pub front-refused : (front rest : List ℕ) (e : CheckedPathError) → (rest ≡ []) ⊎ (begins_with_separator rest ≡ true) → begins_with_separator (front ++ rest) ≡ false → has_second_colon (front ++ rest) ≡ false

@@ -4,7 +4,7 @@ use Rattle.std.specs.List.{slice_split, before_first, after_first, position_or_l
 use Rattle.std.proofs.lemmas.List.{drop-take, drop_more, drop_all, take-append-le, map-append}
 use Rattle.std.proofs.lemmas.List.Splits.{slice_split-cons_yes, slice_split_none, slice_split_first}
 use Rattle.std.proofs.lemmas.List.Sums.{prefix_len_passes, prefix_len_stops, prefix_len-le-length}
-use Rattle.std.proofs.lemmas.Bool.{cases_lt, not-true, not-false, not_from_true, cond_both}
+use Rattle.std.proofs.lemmas.Bool.{and_parts, cases_lt, not-true, not-false, not_from_true, cond_both}
 use Rattle.std.proofs.lemmas.List.Concat.{flat_map-append}
 use Rattle.std.specs.Prelude.{⊤}
 use Rattle.typed_path.specs.declared.scan.separators.Separators.{Separators}
@@ -24,18 +24,14 @@ pub data Seen (s : Separators) (g : Segment) : List Placed → List Placed → T
   dot_dot : length g.text ≡ 2 → Seen s g (component parent_part g.start) (component parent_part g.start)
   word : (length g.text == 0) ≡ false → Seen s g (component (name_part g.text) g.start) (component (name_part g.text) g.start)
 
--- `.` is one byte
-is_dot-length : (text : List ℕ) → is_dot text ≡ true → length text ≡ 1
-is_dot-length [] h = cc
-is_dot-length (a ∷ []) h = refl
-is_dot-length (a ∷ b ∷ text) h = cc
+-- `.` and `..` are told by their tests
+pub dot-is : (piece : List ℕ) → is_dot piece ≡ true → piece ≡ dot ∷ []
+dot-is (b ∷ []) h = ap (λ c. c ∷ []) (eqb-true b dot h)
+dot-is piece h = cc
 
--- `..` is two
-is_dot_dot-length : (text : List ℕ) → is_dot_dot text ≡ true → length text ≡ 2
-is_dot_dot-length [] h = cc
-is_dot_dot-length (a ∷ []) h = cc
-is_dot_dot-length (a ∷ b ∷ []) h = refl
-is_dot_dot-length (a ∷ b ∷ c ∷ text) h = cc
+pub dot_dot-is : (piece : List ℕ) → is_dot_dot piece ≡ true → piece ≡ dot ∷ dot ∷ []
+dot_dot-is (b ∷ c ∷ []) h = let both = and_parts (b == dot) (c == dot) h in ap₂ (λ x y. x ∷ y ∷ []) (eqb-true b dot both.0) (eqb-true c dot both.1)
+dot_dot-is piece h = cc
 
 -- every segment is one of these
 pub seen : (s : Separators) (g : Segment) → Seen s g (later s g) (first s g)
@@ -45,9 +41,9 @@ seen s g = by (length g.text == 0) refl (is_dot g.text) refl (is_verbatim s) (is
         → Seen s g (cond none [] (cond dotted (cond verbatim (component current_part g.start) []) (cond twice (component parent_part g.start) (component (name_part g.text) g.start))))
         (cond none (component (root_part (root_text s)) g.start) (cond dotted (component current_part g.start) (cond twice (component parent_part g.start) (component (name_part g.text) g.start))))
     by true e dotted f verbatim twice h = empty (eqb-true _ 0 e)
-    by false e true f true twice h = kept_dot (is_dot-length g.text f)
-    by false e true f false twice h = passed_dot (is_dot-length g.text f)
-    by false e false f verbatim true h = dot_dot (is_dot_dot-length g.text h)
+    by false e true f true twice h = kept_dot (ap length (dot-is g.text f))
+    by false e true f false twice h = passed_dot (ap length (dot-is g.text f))
+    by false e false f verbatim true h = dot_dot (ap length (dot_dot-is g.text h))
     by false e false f verbatim false h = word e
 
 -- A body, taken apart at its first separator.

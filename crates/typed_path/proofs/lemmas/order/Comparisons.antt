@@ -57,7 +57,7 @@ module _ {X : Type 0} (R : X → X → Ordering) where
       ∙ sym (and_assoc (is_eq (R w z)) (is_eq (slice_cmp R ws zs)) (is_eq (R x y)))
       ∙ ap (λ b. b && is_eq (R x y)) (sym (is_eq-then (R w z) (slice_cmp R ws zs)))
 
-kinds-push : (cs : List Placed) (c : Placed) → kinds (parts (cs ++ c ∷ [])) ≡ kinds (parts cs) ++ c.part.kind ∷ []
+pub kinds-push : (cs : List Placed) (c : Placed) → kinds (parts (cs ++ c ∷ [])) ≡ kinds (parts cs) ++ c.part.kind ∷ []
 kinds-push cs c = ap kinds (map-append (λ x. x.part) cs (c ∷ [])) ∙ map-append (λ x. x.kind) (parts cs) (c.part ∷ [])
 
 -- from the back: both have a last component
@@ -157,7 +157,7 @@ cmp-shared : (ks us vs : List Kind) → kinds_cmp (ks ++ us) (ks ++ vs) ≡ kind
 cmp-shared [] us vs = refl
 cmp-shared (k ∷ ks) us vs = ap (λ a. ordering_then a (kinds_cmp (ks ++ us) (ks ++ vs))) (tied_itself kind_cmp_total k) ∙ cmp-shared ks us vs
 
-kinds-append : (cs ds : List Placed) → kinds (parts (cs ++ ds)) ≡ kinds (parts cs) ++ kinds (parts ds)
+pub kinds-append : (cs ds : List Placed) → kinds (parts (cs ++ ds)) ≡ kinds (parts cs) ++ kinds (parts ds)
 kinds-append cs ds = ap kinds (map-append (λ x. x.part) cs ds) ∙ map-append (λ x. x.kind) (parts cs) (parts ds)
 
 -- so two lists compare as what stands behind the components that they share

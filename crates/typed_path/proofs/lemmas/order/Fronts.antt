@@ -9,7 +9,7 @@ use Rattle.typed_path.specs.declared.scan.cursor.Begin.TheVariants.{Body}
 use Rattle.typed_path.specs.components.{dot, is_separator, root_text, is_empty, is_dot, is_dot_dot, Kind, current, parent, normal, kinds, parts, texts, Placed, component, body, later_body, root_part, current_part, parent_part, name_part}
 use Rattle.typed_path.specs.scan.{dots_rank, IsParting}
 use Rattle.typed_path.specs.order.{left_cmp, kinds_cmp, bytes_cmp}
-use Rattle.typed_path.proofs.lemmas.components.Segments.{body_from-first, pieces, first_parts, later_parts, body_parts, parts-body}
+use Rattle.typed_path.proofs.lemmas.components.Segments.{body_from-first, pieces, first_parts, later_parts, body_parts, parts-body, dot-is, dot_dot-is}
 use Rattle.typed_path.proofs.lemmas.lists.Lists.{slice_split-some}
 use Rattle.typed_path.proofs.lemmas.order.SharedNames.{AreInOrder, before_first-cons, ends-order, same-byte, unlike}
 
@@ -100,22 +100,10 @@ ranked false false true ee p q cs ds o h n = h
 ranked false false false true p q cs ds o h n = h
 ranked false false false false p q cs ds o h n = let no = ap is_ne h ∙ n in cc
 
--- a segment that is `.` or `..`, by its bytes
-one-dot : (p : List ℕ) → is_dot p ≡ true → p ≡ dot ∷ []
-one-dot [] h = cc
-one-dot (a ∷ []) h = ap (λ x. x ∷ []) (eqb-true a dot h)
-one-dot (a ∷ b ∷ p) h = cc
-
-two-dots : (p : List ℕ) → is_dot_dot p ≡ true → p ≡ dot ∷ dot ∷ []
-two-dots [] h = cc
-two-dots (a ∷ []) h = cc
-two-dots (a ∷ b ∷ []) h = let both = and_parts (a == dot) (b == dot) h in ap₂ (λ x y. x ∷ y ∷ []) (eqb-true a dot both.0) (eqb-true b dot both.1)
-two-dots (a ∷ b ∷ c ∷ p) h = cc
-
 -- the first component of a list is written as its segment
 first-text : (d dd : Bool) (p : List ℕ) (cs : List Placed) → is_dot p ≡ d → is_dot_dot p ≡ dd → texts (parts (cond d (component current_part 0) (cond dd (component parent_part 0) (component (name_part p) 0)) ++ cs)) ≡ p ∷ texts (parts cs)
-first-text true dd p cs i j = ap (λ x. x ∷ texts (parts cs)) (sym (one-dot p i))
-first-text false true p cs i j = ap (λ x. x ∷ texts (parts cs)) (sym (two-dots p j))
+first-text true dd p cs i j = ap (λ x. x ∷ texts (parts cs)) (sym (dot-is p i))
+first-text false true p cs i j = ap (λ x. x ∷ texts (parts cs)) (sym (dot_dot-is p j))
 first-text false false p cs i j = refl
 
 module _ (s : Separators) where

@@ -15,9 +15,10 @@ use Rattle.typed_path.proofs.lemmas.components.FirmPrefixes.{parted, drive-apart
 use Rattle.typed_path.proofs.lemmas.components.Segments.{pieces, named_part, first_part, first_parts, later_parts, body_parts, body_parts-read, parts-body, parts_behind, parts-comps_behind, IsWritten, IsWrittenPart, each-written}
 use Rattle.typed_path.proofs.lemmas.components.WindowsNames.{unseparated-none}
 use Rattle.typed_path.proofs.lemmas.components.PrefixCuts.{parts_of-none}
-use Rattle.typed_path.proofs.lemmas.changes.Lengths.{size, one-root}
+use Rattle.typed_path.proofs.lemmas.changes.Lengths.{size}
 use Rattle.typed_path.proofs.lemmas.changes.MergedInPlace.{room-body}
 use Rattle.typed_path.proofs.lemmas.places.CleanTexts.{cleaned-rooted, cleaned-bare, cleaned-prefixed}
+use Rattle.typed_path.proofs.lemmas.components.Cuts.{root_text-length}
 
 -- The room that components take by their kinds, each but a root with a separator.
 
@@ -34,7 +35,7 @@ weights (k ∷ ks) = weight k + weights ks
 
 weight-size : (s : Separators) (k : Kind) (text : List ℕ) → IsWritten s k text → weight k ≤ size (record { kind = k; text = text })
 weight-size s (prefix p) text written = absurd written
-weight-size s root text written = omega (arith, ap length written, one-root s)
+weight-size s root text written = omega (arith, ap length written, root_text-length s)
 weight-size s current text written = omega (arith, ap length written)
 weight-size s parent text written = omega (arith, ap length written)
 weight-size s (normal name) text written = omega (arith, ap length written.0)

@@ -1,5 +1,5 @@
 -- The parents and names that are kept of a path, put behind a head segment by segment.
-use Rattle.std.proofs.Common.{◌≡◌, ℕ, ◌+◌, ◌-◌, ◌<◌, ◌≤◌, ◌==◌, ◌||◌, Bool, true, false, cond, List, [], ◌∷◌, ◌++◌, map, replicate, fold, length, take, if◌then◌else◌, refl, sym, ap, ap₂, ◌∙◌, append_assoc, append-nil, arith, subst, length-append, length-take, drop, eqb-true, Some, None}
+use Rattle.std.proofs.Common.{◌≡◌, ℕ, ◌+◌, ◌-◌, ◌<◌, ◌≤◌, ◌==◌, ◌||◌, Bool, true, false, cond, List, [], ◌∷◌, ◌++◌, map, replicate, fold, length, take, if◌then◌else◌, refl, sym, ap, ap₂, ◌∙◌, append_assoc, append-nil, arith, subst, length-append, length-take, drop, Some, None}
 use Rattle.std.specs.List.{AllByRecursion, list_all, slice_split}
 use Rattle.std.proofs.lemmas.Bool.{and_parts, or_parts, not-true}
 use Rattle.std.proofs.lemmas.List.{map-append, replicate_more, length-replicate}
@@ -8,7 +8,7 @@ use Rattle.typed_path.specs.components.{dot, is_separator, is_verbatim, root_tex
 use Rattle.typed_path.specs.changes.{is_name_piece}
 use Rattle.typed_path.specs.places.{unmet, kept_names, row_end, rows_of, settled, AreRowsOf, ArePut, AreKept, TellsNamesOf, dots, kept_segments, segment_kind, segment_kinds}
 use Rattle.typed_path.proofs.lemmas.lists.Lists.{IsUnseparated, slice_split-some, slice_split-unseparated, AllByRecursion-append}
-use Rattle.typed_path.proofs.lemmas.components.Segments.{pieces, later_parts, first_parts, body_parts, parts-body}
+use Rattle.typed_path.proofs.lemmas.components.Segments.{pieces, later_parts, first_parts, body_parts, parts-body, dot_dot-is}
 use Rattle.typed_path.proofs.lemmas.places.KeptNames.{AlikeKept, kept_names-append, unmet-names, kept-names}
 use Rattle.typed_path.proofs.lemmas.places.KeptFromBack.{alike-append, alike-cons, met-alike}
 use Rattle.typed_path.proofs.lemmas.places.UnixRows.{Ended, none, some, ended, take-ended, rows-append, rows-more, all-front}
@@ -136,16 +136,8 @@ segment-kind s segment p e = by (length segment == 0) (is_dot segment) (is_dot_d
     by false false false h = ap (kind_by segment) (ap kind_at h)
 
 -- a parent is written as two dots
-two-dots : (segment : List ℕ) → is_dot_dot segment ≡ true → segment ≡ dot ∷ dot ∷ []
-two-dots [] e = cc
-two-dots (a ∷ []) e = cc
-two-dots (a ∷ b ∷ c ∷ segment) e = cc
-two-dots (a ∷ b ∷ []) e =
-    let both = and_parts (a == dot) (b == dot) e in
-    ap₂ (λ x y. x ∷ y ∷ []) (eqb-true a dot both.0) (eqb-true b dot both.1)
-
 pub parent-dots : (segment : List ℕ) → segment_kind segment ≡ parent → segment ≡ dot ∷ dot ∷ []
-parent-dots segment e = two-dots segment (by (length segment == 0 || is_dot segment) (is_dot_dot segment) e)
+parent-dots segment e = dot_dot-is segment (by (length segment == 0 || is_dot segment) (is_dot_dot segment) e)
   where
     by : (blank twice : Bool) → cond blank current (cond twice parent (normal segment)) ≡ parent → twice ≡ true
     by true twice h = cc

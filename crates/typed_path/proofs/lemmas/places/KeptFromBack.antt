@@ -3,7 +3,7 @@ use Rattle.std.proofs.Common.{◌≡◌, ℕ, zero, suc, ◌+◌, ◌-◌, ◌==
 use Rattle.std.specs.Prelude.{Option, Some, None}
 use Rattle.std.specs.List.{starts_with}
 use Rattle.std.specs.Str.{bytes_eq}
-use Rattle.std.proofs.lemmas.List.{map-append, take_all}
+use Rattle.std.proofs.lemmas.List.{take_all}
 use Rattle.std.proofs.lemmas.Option.{same_Some}
 use Rattle.typed_path.specs.components.{Dialect, Prefix, Kind, prefix, root, current, parent, normal, Part, Placed, parts, kinds, comps}
 use Rattle.typed_path.specs.places.{unmet, kept_names, parents, names_under, unmet_under}
@@ -14,8 +14,8 @@ use Rattle.typed_path.specs.declared.scan.step.StepKind.TheVariants.{RootDir, Cu
 use Rattle.typed_path.specs.views.PieceViews.{step_view}
 use Rattle.typed_path.proofs.lemmas.components.Cuts.{comps-count}
 use Rattle.typed_path.proofs.lemmas.places.KeptNames.{AlikeKept, unmet-append, kept_names-append}
-use Rattle.typed_path.proofs.lemmas.order.Comparisons.{bare, kinds-prefixed}
-use Rattle.typed_path.proofs.lemmas.scan.Steps.{last_pushed, last_part-push}
+use Rattle.typed_path.proofs.lemmas.order.Comparisons.{bare, kinds-prefixed, kinds-push}
+use Rattle.typed_path.proofs.lemmas.scan.Steps.{last_pushed, last_part-push, empty-last}
 
 -- Lists that are seen alike by each list before them.
 
@@ -47,9 +47,6 @@ unmet-push ks name = omega (arith, unmet-append ks (normal name ∷ []))
 
 pub kept_names-push : (ks : List Kind) (name : List ℕ) → kept_names (ks ++ normal name ∷ []) ≡ kept_names ks ++ name ∷ []
 kept_names-push ks name = kept_names-append ks (normal name ∷ []) ∙ ap (λ names. names ++ name ∷ []) (take_all (length (kept_names ks) - 0) (kept_names ks) (omega arith))
-
-kinds-push : (cs : List Placed) (c : Placed) → kinds (parts (cs ++ c ∷ [])) ≡ kinds (parts cs) ++ c.part.kind ∷ []
-kinds-push cs c = ap kinds (map-append (λ x. x.part) cs (c ∷ [])) ∙ map-append (λ x. x.kind) (parts cs) (c.part ∷ [])
 
 -- what one step from the back takes
 pub taken-last : (cs : List Placed) (p : Part) → Some p ≡ last_part cs → (kinds (parts cs) ≡ kinds (parts (but_last cs)) ++ p.kind ∷ []) × (length cs ≡ length (but_last cs) + 1)
@@ -128,20 +125,14 @@ unmet-parents zero = refl
 unmet-parents (suc n) = ap suc (unmet-parents n)
 
 -- nothing is left
-pub none-left : (cs : List Placed) → None ≡ last_part cs → cs ≡ []
-none-left [] none = refl
-none-left (c ∷ cs) none =
-    let d = last_pushed c cs in
-    let some : None ≡ Some d.0.part = none ∙ ap last_part d.1 ∙ last_part-push (but_last (c ∷ cs)) d.0 in cc
-
 pub none-names : (cs : List Placed) (n : ℕ) → None ≡ last_part cs → names_under n cs ≡ []
-none-names cs n none = rw (none-left cs none) (names-parents n)
+none-names cs n none = rw (empty-last cs none) (names-parents n)
 
 none-behind : (cs ds : List Placed) → None ≡ last_part cs → ds ≡ but_last cs → ds ≡ []
-none-behind cs ds none left = left ∙ ap but_last (none-left cs none)
+none-behind cs ds none left = left ∙ ap but_last (empty-last cs none)
 
 pub none-unmet : (cs ds : List Placed) (n : ℕ) → None ≡ last_part cs → ds ≡ but_last cs → unmet_under n ds ≡ unmet_under n cs
-none-unmet cs ds n none left = ap (unmet_under n) (none-behind cs ds none left ∙ sym (none-left cs none))
+none-unmet cs ds n none left = ap (unmet_under n) (none-behind cs ds none left ∙ sym (empty-last cs none))
 
 -- behind which no parents stand
 pub names-alone : (cs : List Placed) → names_under 0 cs ≡ kept_names (kinds (parts cs))

@@ -1,5 +1,5 @@
 -- The names that are kept of a list: of names alone, of one with another behind it, and of one that is resolved; and the place of a path, read off them.
-use Rattle.std.proofs.Common.{◌≡◌, ℕ, zero, suc, ◌+◌, ◌-◌, ◌==◌, ◌<◌, ◌≤◌, Bool, true, false, not, ◌||◌, List, [], ◌∷◌, ◌++◌, map, if◌then◌else◌, length, take, drop, refl, sym, ap, ◌∙◌, arith, Option, Some, None}
+use Rattle.std.proofs.Common.{◌≡◌, ℕ, zero, suc, ◌+◌, ◌-◌, ◌==◌, ◌<◌, ◌≤◌, Bool, true, false, not, ◌||◌, List, [], ◌∷◌, ◌++◌, map, if◌then◌else◌, length, take, drop, refl, sym, ap, ◌∙◌, arith, Option, Some, None, ap₂}
 use Rattle.std.proofs.lemmas.Bool.{eqb-true, eqb-false, and_parts}
 use Rattle.typed_path.specs.declared.scan.separators.Separators.{Separators}
 use Rattle.typed_path.specs.declared.scan.separators.Separators.TheVariants.{Slash, Either}
@@ -25,6 +25,16 @@ kept-names (name ∷ names) = by (unmet (map normal names) == 0) (ap (λ n. n ==
     by true e = refl
     by false e = cc
 
+-- these are known by their kinds
+pub names-same : (ns ms : List (List ℕ)) → map normal ns ≡ map normal ms → ns ≡ ms
+names-same [] [] e = refl
+names-same [] (m ∷ ms) e = cc
+names-same (n ∷ ns) [] e = cc
+names-same (n ∷ ns) (m ∷ ms) e =
+    let first : n ≡ m = cc in
+    let rest : map normal ns ≡ map normal ms = cc in
+    ap₂ (λ x xs. x ∷ xs) first (names-same ns ms rest)
+
 -- the parents that are left over of the second list take names of the first
 pub unmet-append : (ks ls : List Kind) → unmet (ks ++ ls) ≡ unmet ks + (unmet ls - length (kept_names ks))
 unmet-append [] ls = omega arith
@@ -42,7 +52,7 @@ unmet-append (normal name ∷ ks) ls = by (unmet-append ks ls) (unmet ks == 0) r
 take-none : (n : ℕ) (names : List (List ℕ)) → n ≡ 0 → take n names ≡ []
 take-none n names e = ap (λ m. take m names) e
 
-take-nothing : (n : ℕ) → take {A = List ℕ} n [] ≡ []
+pub take-nothing : (n : ℕ) → take {A = List ℕ} n [] ≡ []
 take-nothing zero = refl
 take-nothing (suc n) = refl
 

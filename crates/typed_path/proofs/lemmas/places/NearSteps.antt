@@ -107,7 +107,7 @@ names-apart s v w o is differ ended more (x ∷ xs) (y ∷ ys) own other =
     let apart : bytes_eq x y ≡ false = ap₂ bytes_eq (first-is s v ended x xs own) (first-is s w more y ys other) ∙ (unlike (before_first (is_separator s) v) (before_first (is_separator s) w) o is differ).0 in
     ap (λ b. if b then suc (shared_count xs ys) else 0) apart
 
-none-shared : (names : List (List ℕ)) → shared_count names [] ≡ 0
+pub none-shared : (names : List (List ℕ)) → shared_count names [] ≡ 0
 none-shared [] = refl
 none-shared (name ∷ names) = refl
 

@@ -5,12 +5,12 @@ use Rattle.std.proofs.lemmas.List.Elements.{All-nil, All-cons}
 use Rattle.std.proofs.lemmas.List.Splits.{slice_split_none, slice_split_at, slice_split-cons_yes}
 use Rattle.std.proofs.lemmas.Bool.{cond_both}
 use Rattle.typed_path.specs.declared.scan.separators.Separators.{Separators}
-use Rattle.typed_path.specs.declared.scan.separators.Separators.TheVariants.{Slash, Backslash, Either}
 use Rattle.typed_path.specs.components.{dot, is_separator, is_verbatim, root_text, Kind, prefix, root, current, parent, normal, Part, kinds, root_part, current_part, parent_part, name_part, is_dot, is_dot_dot}
 use Rattle.typed_path.specs.places.{unmet, kept_names, is_anchored, rising, headed, parents, dots}
 use Rattle.typed_path.proofs.lemmas.lists.Lists.{IsUnseparated}
 use Rattle.typed_path.proofs.lemmas.components.Segments.{IsCleanName, IsWritten, IsWrittenPart, body_parts, pieces, named_part, later_part, later_parts, first_part, first_parts}
 use Rattle.typed_path.proofs.lemmas.places.KeptNames.{unmet-names, kept-names}
+use Rattle.typed_path.proofs.lemmas.components.Prefixes.{dot-unseparated}
 
 -- Where parents and names lead.
 
@@ -84,12 +84,6 @@ alike-lead ls ks h = ap (λ a. lead a (rising ls) (kept_names ls)) h.anchored �
 
 -- Segments with one separator between.
 
--- a dot separates nothing
-dot-plain : (s : Separators) → is_separator s dot ≡ false
-dot-plain Slash = refl
-dot-plain Backslash = refl
-dot-plain Either = refl
-
 -- a segment that is read as one component
 pub record IsRead (s : Separators) (segment : List ℕ) : Type 0 where
   pub filled : (length segment == 0) ≡ false
@@ -152,7 +146,7 @@ module _ (s : Separators) where
   read-segments (suc n) names each = (record { filled = refl; no_dot = refl; unseparated = dots-unseparated }, read-segments n names each)
     where
       dots-unseparated : IsUnseparated (is_separator s) (dot ∷ dot ∷ [])
-      dots-unseparated = All-cons (λ b. is_separator s b ≡ false) dot (dot ∷ []) (dot-plain s) (All-cons (λ b. is_separator s b ≡ false) dot [] (dot-plain s) (All-nil _))
+      dots-unseparated = All-cons (λ b. is_separator s b ≡ false) dot (dot ∷ []) (dot-unseparated s) (All-cons (λ b. is_separator s b ≡ false) dot [] (dot-unseparated s) (All-nil _))
   read-segments zero [] each = tt
   read-segments zero (name ∷ names) each = (record { filled = each.0.filled; no_dot = each.0.no_dot; unseparated = each.0.unseparated }, read-segments zero names each.1)
 
@@ -196,5 +190,5 @@ module _ (s : Separators) where
 
       pub read-dot : kinds (body_parts s (dot ∷ sep ∷ join_with_byte sep (dots n ++ names))) ≡ current ∷ ups n names
       read-dot =
-          ap (λ ss. kinds (first_parts s ss)) (slice_split_at (is_separator s) (dot ∷ []) sep (join_with_byte sep (dots n ++ names)) (All-cons (λ b. is_separator s b ≡ false) dot [] (dot-plain s) (All-nil _)) separates)
+          ap (λ ss. kinds (first_parts s ss)) (slice_split_at (is_separator s) (dot ∷ []) sep (join_with_byte sep (dots n ++ names)) (All-cons (λ b. is_separator s b ≡ false) dot [] (dot-unseparated s) (All-nil _)) separates)
           ∙ ap (λ ps. current ∷ kinds ps) (later-joined (dots n ++ names) (read-segments n names each)) ∙ ap (λ ks. current ∷ ks) (kinds-segments n names each)

@@ -18,7 +18,9 @@ use Rattle.typed_path.proofs.lemmas.components.Prefixes.{Read, of_verbatim, of_d
 use Rattle.typed_path.proofs.lemmas.components.PrefixCuts.{same-none, same-found, prefix_by, parts_of-some}
 use Rattle.typed_path.proofs.lemmas.components.FirmPrefixes.{drive-stays, first-none, first-some, share_made}
 use Rattle.typed_path.proofs.lemmas.components.PartedPrefixes.{raw-whole}
-use Rattle.typed_path.proofs.lemmas.queries.Shared.{texts-length, count-within, starts_own, starts_other, starts_shared, starts_nothing}
+use Rattle.typed_path.proofs.lemmas.queries.Shared.{texts-length, starts_own, starts_other, starts_shared, starts_nothing}
+use Rattle.typed_path.proofs.lemmas.queries.Parents.{take-front, nonempty-cut}
+use Rattle.typed_path.proofs.lemmas.places.SharedFromBack.{shared_count-least}
 
 abbrev texts_of : List Placed → List (List ℕ)
 texts_of cs = texts (parts cs)
@@ -53,9 +55,6 @@ unc_read s raw mark =
     (first-none (verbatim_disk_case raw) _ _ (ap (λ o. option_and_then (λ letter. Some (found (verbatim_disk letter) 6)) (option_and_then drive o)) mark)
     (first-some (verbatim_case s raw) _ _ (ap (option_and_then (verbatim_made s)) mark ∙ unc_made s)))
 
-take-front : (e : ℕ) (t : List ℕ) → take (length (take e t)) t ≡ take e t
-take-front e t = ap (λ n. take n t) (length-take e t) ∙ take_min e t
-
 unc_whole : (s : Separators) (t : List ℕ) (f : Found) → Read s t f → is_verbatim_unc_name (Some f.prefix) ≡ true → f.length ≤ length t → IsWhole (take f.length t)
 unc_whole s t f (of_verbatim rest mark filled no_unc no_drive) named fits =
     let own : name s rest ≡ 85 ∷ 78 ∷ 67 ∷ [] = (bytes_eq-Decides (name s rest) (85 ∷ 78 ∷ 67 ∷ [])).0 named in
@@ -84,14 +83,6 @@ raw_whole t f is = elim (cases_lt f.length (length t)) [
     by false e true g more r = unc_whole (separators windows t) t f r g (prefix-fits windows t f is).fits
     by false e false g more r = raw-whole t f is e g more
 
--- what is cut behind a place and has a component reaches beyond that place
-beyond : (s : Separators) (at e : ℕ) (text : List ℕ) (c : Placed) (cs : List Placed) → body s at (take (e - at) text) ≡ c ∷ cs → at < e
-beyond s at e text c cs is = by (e - at) refl is
-  where
-    by : (m : ℕ) → e - at ≡ m → body s at (take m text) ≡ c ∷ cs → at < e
-    by zero size is = cc
-    by (suc m) size is = omega arith
-
 -- a text behind a prefix, cut where a component ends
 found_front : (t : List ℕ) (f : Found) → prefix_of windows t ≡ Some f → (B : List Placed) → body (separators windows t) f.length (drop f.length t) ≡ B → (k : ℕ) → k < suc (length B)
     → texts (parts_of windows (take (end_at (component (prefix_part f.prefix (take f.length t)) 0 ++ B) k) t)) ≡ take (suc k) (texts_of (component (prefix_part f.prefix (take f.length t)) 0 ++ B))
@@ -107,7 +98,7 @@ found_front t f is (c ∷ B) read (suc k) inside =
     let raw = component (prefix_part f.prefix (take L t)) 0 in
     let kept : body s L (take (e - L) (drop L t)) ≡ take (suc k) (c ∷ B) =
     subst (λ ds. body s L (take (end_at ds k - L) (drop L t)) ≡ take (suc k) ds) read (body-take s L (drop L t) k (omega (arith, ap length read))) in
-    let less : L < e = beyond s L e (drop L t) c (take k B) kept in
+    let less : L < e = nonempty-cut s L e (drop L t) c (take k B) kept in
     let size : e ≡ L + (e - L) = omega arith in
     let same = same-found t e f is (record { fits = omega arith; joint = λ eq b bs rest. absurd (omega arith) }) in
     ap texts_of (ap₂ (λ r p. comps_behind r (take e t) p) same.same_separators (same.same_prefix ∙ is)
@@ -147,7 +138,7 @@ first_texts d t (suc k) within = front_texts d t k (omega arith)
 shared_texts : (d : Dialect) (t u : List ℕ) → texts (parts_of d (take (shared_end d t u) t)) ≡ take (shared_count (texts (parts_of d t)) (texts (parts_of d u))) (texts (parts_of d t))
 shared_texts d t u =
     first_texts d t (shared_count (texts (parts_of d t)) (texts (parts_of d u)))
-    (omega (arith, count-within (texts (parts_of d t)) (texts (parts_of d u)), texts-length d t))
+    (omega (arith, shared_count-least (texts (parts_of d t)) (texts (parts_of d u)), texts-length d t))
 
 pub shared_longest : (d : Dialect) (t u : List ℕ) → IsLongest d t u (take (shared_end d t u) t)
 shared_longest d t u =

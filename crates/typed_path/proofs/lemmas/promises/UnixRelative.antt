@@ -1,14 +1,13 @@
 -- On Unix the path that leads from a base to another, joined to the base, leads where that leads; and there is none exactly where no relative path does so.
-use Rattle.std.proofs.Common.{◌≡◌, ℕ, suc, ◌+◌, ◌-◌, ◌<◌, ◌≤◌, ◌==◌, Bool, true, false, not, ◌||◌, ◌&&◌, List, [], ◌∷◌, ◌++◌, if◌then◌else◌, length, refl, sym, ap, ap₂, ◌∙◌, append-nil, arith, subst, inl, inr, eq-eqb, Option, Some, None}
+use Rattle.std.proofs.Common.{◌≡◌, ℕ, ◌+◌, ◌-◌, ◌<◌, ◌≤◌, ◌==◌, Bool, true, false, not, ◌||◌, ◌&&◌, List, [], ◌∷◌, ◌++◌, if◌then◌else◌, length, refl, sym, ap, ap₂, ◌∙◌, append-nil, arith, subst, inl, inr, eq-eqb, Option, Some, None}
 use Rattle.std.specs.Prelude.{◌⊎◌, ◌≢◌}
 use Rattle.std.specs.List.{AllByRecursion}
 use Rattle.std.proofs.lemmas.Bool.{cases_lt, cond_both}
 use Rattle.std.proofs.lemmas.List.{drop_all, map-append}
 use Rattle.std.proofs.lemmas.List.Folds.{list_any_none}
-use Rattle.std.proofs.lemmas.Slice.Eq.{bytes_eq-Decides}
 use Rattle.typed_path.specs.declared.scan.separators.Separators.TheVariants.{Slash}
 use Rattle.typed_path.specs.components.{Dialect, unix, windows, slash, dot, is_separator, Kind, prefix, root, current, parent, normal, Part, kinds, parts_of, prefix_of}
-use Rattle.typed_path.specs.queries.{begins_with_root, first_prefix}
+use Rattle.typed_path.specs.queries.{begins_with_root}
 use Rattle.typed_path.specs.changes.{push, push_unix, ended_with}
 use Rattle.typed_path.specs.places.{can_stand, headed, is_anchored, is_reached, kept_names, met_count, names_down, relative_text, rising, route, same_heads, shared_count, steps_text, steps_up, unmet}
 use Rattle.typed_path.specs.promises.{HasNone, HasNoneAtAll, HasNoneOnUnix, IsDotAlike, IsUnreached, apart, higher, unreadable, without_leading_current}
@@ -19,13 +18,12 @@ use Rattle.typed_path.proofs.lemmas.places.KeptNames.{AlikeKept, unmet-append, w
 use Rattle.typed_path.proofs.lemmas.places.Reached.{reached-all}
 use Rattle.typed_path.proofs.lemmas.promises.StepsBack.{alike-heads, free-rising, heads-alike, leads-back, reached-told, same-route, same_heads-all}
 use Rattle.typed_path.proofs.lemmas.promises.StepsRead.{body-clean, clean-drop, names-unix, read-relative, stays_relative}
-use Rattle.typed_path.proofs.lemmas.promises.CleanForms.{head-plain, parts-plain, plain, route-plain, route-tells}
+use Rattle.typed_path.proofs.lemmas.promises.CleanForms.{parts-plain, plain, route-plain, route-tells}
 use Rattle.typed_path.proofs.lemmas.promises.CleanRead.{anchored-stays, names-ups, unmet-ups, ups}
 use Rattle.typed_path.proofs.lemmas.promises.UnixContained.{parts_of-unix, join_appends}
 use Rattle.typed_path.proofs.lemmas.promises.Within.{bare-anchored, kinds_of}
-
-first-none : (t : List ℕ) → first_prefix (kinds_of unix t) ≡ None
-first-none t = (head-plain unix t refl).bare
+use Rattle.typed_path.proofs.lemmas.promises.UnixWithin.{first-none}
+use Rattle.typed_path.proofs.lemmas.queries.Shared.{count-own}
 
 -- a list of Unix is anchored where it begins with a root
 anchored-unix : (t : List ℕ) → is_anchored (kinds_of unix t) ≡ begins_with_root (kinds_of unix t)
@@ -206,15 +204,11 @@ module _ (path base : List ℕ) where
 
 -- Where it is `.`.
 
-shared-itself : (xs : List (List ℕ)) → shared_count xs xs ≡ length xs
-shared-itself [] = refl
-shared-itself (x ∷ xs) = ap (λ b. if b then suc (shared_count xs xs) else 0) ((bytes_eq-Decides x x).1 refl) ∙ ap suc (shared-itself xs)
-
 module _ (ks ls : List Kind) (over : rising ks ≡ rising ls) (names : kept_names ks ≡ kept_names ls) where
   all-met : met_count ks ls ≡ length (kept_names ks)
   all-met =
       ap (λ b. if b then shared_count (kept_names ks) (kept_names ls) else 0) (eq-eqb (rising ks) (rising ls) over)
-      ∙ ap (shared_count (kept_names ks)) (sym names) ∙ shared-itself (kept_names ks)
+      ∙ ap (shared_count (kept_names ks)) (sym names) ∙ count-own (kept_names ks)
 
   none-up : steps_up ks ls ≡ 0
   none-up = omega (arith, all-met, over, ap length names)

@@ -13,13 +13,13 @@ use Rattle.typed_path.specs.promises.{IsBelow, LeadsBelow, IsWithinExactly, with
 use Rattle.typed_path.proofs.lemmas.components.Segments.{IsCleanName}
 use Rattle.typed_path.proofs.lemmas.changes.Joins.{body_parts-name}
 use Rattle.typed_path.proofs.lemmas.order.DifferentPrefixes.{body-bare}
-use Rattle.typed_path.proofs.lemmas.places.KeptNames.{kept_names-append, without_leading_current-kept, place-kept}
+use Rattle.typed_path.proofs.lemmas.places.KeptNames.{kept_names-append, without_leading_current-kept, place-kept, names-same}
 use Rattle.typed_path.proofs.lemmas.promises.UnixContained.{parts_of-unix, join_appends, begins-append, rooted-separated}
 use Rattle.typed_path.proofs.lemmas.promises.Within.{kinds_of, has_prefix-first, bare-anchored, bare-head, Leading, Replaces, within-below, within-true, root-true, parents-true}
 
 -- Where a path leads behind an absolute directory.
 
-first-none : (t : List ℕ) → first_prefix (kinds_of unix t) ≡ None
+pub first-none : (t : List ℕ) → first_prefix (kinds_of unix t) ≡ None
 first-none t = body-bare Slash t
 
 -- a path with a root replaces
@@ -152,21 +152,12 @@ module _ (x : List ℕ) (clean : IsCleanName Slash x) where
           ∙ ap (λ m. root ∷ map normal (take (m - unmet (kinds_of unix v)) (replicate n x) ++ kept_names (kinds_of unix v))) (length-replicate n x)
           ∙ ap (λ ns. root ∷ map normal (ns ++ kept_names (kinds_of unix v))) (take-replicate (n - unmet (kinds_of unix v)) n x (omega arith))
 
-  names-injective : (xs ys : List (List ℕ)) → map normal xs ≡ map normal ys → xs ≡ ys
-  names-injective [] [] e = refl
-  names-injective [] (y ∷ ys) e = cc
-  names-injective (x ∷ xs) [] e = cc
-  names-injective (x ∷ xs) (y ∷ ys) e =
-      let f : map normal xs ≡ map normal ys = cc in
-      let g : x ≡ y = cc in
-      ap₂ (λ n ns. n ∷ ns) g (names-injective xs ys f)
-
   -- what is below it there has its names
   below-names : (n : ℕ) (base t : List ℕ) → IsBelow unix (push unix (deep n) base) (push unix (deep n) t) → (more : List (List ℕ)) × (left_at n t ≡ left_at n base ++ more)
   below-names n base t below =
       let e : root ∷ map normal (left_at n t) ≡ root ∷ map normal (left_at n base ++ below.names) =
       sym (deep-place n t) ∙ below.leads ∙ ap (λ ks. ks ++ map normal below.names) (deep-place n base) ∙ ap (λ ks. root ∷ ks) (sym (map-append normal (left_at n base) below.names)) in
-      (below.names, names-injective (left_at n t) (left_at n base ++ below.names) (cc))
+      (below.names, names-same (left_at n t) (left_at n base ++ below.names) (cc))
 
 -- The test from what lies below.
 

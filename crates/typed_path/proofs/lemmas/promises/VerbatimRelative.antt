@@ -6,7 +6,7 @@ use Rattle.typed_path.specs.changes.{push}
 use Rattle.typed_path.specs.places.{headed, is_anchored, kept_names, names_down, relative_text, route, steps_up}
 use Rattle.typed_path.specs.promises.{LeadsBackOnWindows, names_at_end}
 use Rattle.typed_path.proofs.lemmas.components.FirmPrefixes.{is_firm}
-use Rattle.typed_path.proofs.lemmas.places.KeptNames.{place-kept}
+use Rattle.typed_path.proofs.lemmas.places.KeptNames.{place-kept, names-same}
 use Rattle.typed_path.proofs.lemmas.promises.StepsBack.{names-met, reached-told, same-route}
 use Rattle.typed_path.proofs.lemmas.promises.CleanRead.{anchored-stays, names-ups, unmet-ups}
 use Rattle.typed_path.proofs.lemmas.promises.StepsRead.{read-relative, stays_relative}
@@ -18,15 +18,6 @@ use Rattle.typed_path.proofs.lemmas.promises.WindowsWithin.{body_kinds, kinds-fo
 use Rattle.typed_path.proofs.lemmas.promises.Within.{kinds_of}
 
 -- A place behind a prefix and a root tells what a list begins with and which names are kept.
-
-names-same : (ns ms : List (List ℕ)) → map normal ns ≡ map normal ms → ns ≡ ms
-names-same [] [] e = refl
-names-same [] (m ∷ ms) e = cc
-names-same (n ∷ ns) [] e = cc
-names-same (n ∷ ns) (m ∷ ms) e =
-    let first : n ≡ m = cc in
-    let rest : map normal ns ≡ map normal ms = cc in
-    ap₂ (λ x xs. x ∷ xs) first (names-same ns ms rest)
 
 record IsUnder (o : Option Prefix) (a : Bool) (ns : List (List ℕ)) (p : Prefix) (below : List (List ℕ)) : Type 0 where
   prefix : o ≡ Some p

@@ -1,5 +1,5 @@
 -- On Windows a path that is within a base lies below it, from each verbatim directory that keeps its prefix, and so from each that keeps its prefix.
-use Rattle.std.proofs.Common.{◌≡◌, ℕ, zero, suc, ◌+◌, ◌-◌, ◌==◌, ◌<◌, Bool, true, false, not, ◌||◌, ◌&&◌, ◌⊎◌, inl, inr, List, [], ◌∷◌, ◌++◌, map, if◌then◌else◌, length, take, drop, refl, sym, ap, ap₂, ◌∙◌, append_assoc, append-nil, take-append-drop, arith, subst, Option, Some, None, option_map, length-append}
+use Rattle.std.proofs.Common.{◌≡◌, ℕ, suc, ◌+◌, ◌-◌, ◌==◌, ◌<◌, Bool, true, false, not, ◌||◌, ◌&&◌, ◌⊎◌, inl, inr, List, [], ◌∷◌, ◌++◌, map, if◌then◌else◌, length, take, drop, refl, sym, ap, ap₂, ◌∙◌, append_assoc, append-nil, take-append-drop, arith, subst, Option, Some, None, option_map, length-append}
 use Rattle.std.proofs.Math.Seq.{drop-append_seam}
 use Rattle.std.proofs.lemmas.List.{map-append, length-map, length-take-le, take_all, take-append-le}
 use Rattle.std.proofs.lemmas.Bool.{both_ways, cases_Bool, cond-true, true_from_ne_false, eqb-true, eqb-false, and_parts}
@@ -13,12 +13,12 @@ use Rattle.typed_path.specs.places.{place, unmet, kept_names, headed}
 use Rattle.typed_path.specs.promises.{LeadsBelow, keeps_by_prefix, keeps_prefix, names_at_end}
 use Rattle.typed_path.proofs.lemmas.lists.Lists.{AllByRecursion-append, AllByRecursion-weaker}
 use Rattle.typed_path.proofs.lemmas.components.Segments.{body_parts, body_parts-read, AreRead, IsWritten, IsWrittenPart, IsLaterPart, IsWritten-later, IsCleanName, each-written}
-use Rattle.typed_path.proofs.lemmas.components.Prefixes.{OfWindows, FoundFits, prefix-fits, prefix-read, separators-windows, backslash-separates, root_text-windows, unseparated-either, Read, of_verbatim_unc, of_verbatim_disk, of_verbatim}
+use Rattle.typed_path.proofs.lemmas.components.Prefixes.{OfWindows, FoundFits, prefix-fits, prefix-read, separators-windows, backslash-separates, root_text-windows, Read, of_verbatim_unc, of_verbatim_disk, of_verbatim}
 use Rattle.typed_path.proofs.lemmas.components.PrefixCuts.{name-filled, parts_of-none, parts_of-some, verbatim-some, unprefixed}
 use Rattle.typed_path.proofs.lemmas.components.FirmPrefixes.{is_firm, filled-long, firm-long, firm-stays}
 use Rattle.typed_path.proofs.lemmas.changes.Faults.{place_of, faultless}
 use Rattle.typed_path.proofs.lemmas.changes.WindowsPushes.{without_last_name-name}
-use Rattle.typed_path.proofs.lemmas.places.KeptNames.{kept_names-append, place_of-kept, read-body}
+use Rattle.typed_path.proofs.lemmas.places.KeptNames.{kept_names-append, place_of-kept, read-body, take-nothing}
 use Rattle.typed_path.proofs.lemmas.places.Resolving.{no_heads, is_head, read-headless, written-headless}
 use Rattle.typed_path.proofs.lemmas.places.UnixRows.{Ended, none as no_last, some as with_last, ended, all-front}
 use Rattle.typed_path.proofs.lemmas.promises.UnixContained.{separated-rooted}
@@ -27,15 +27,12 @@ use Rattle.typed_path.proofs.lemmas.promises.WindowsContained.{rest-apart, rest-
 use Rattle.typed_path.proofs.lemmas.promises.Within.{kinds_of, Leading, within-below}
 use Rattle.typed_path.proofs.lemmas.promises.UnixWithin.{unix_below}
 use Rattle.typed_path.proofs.lemmas.promises.WindowsWithin.{body_kinds, kinds-none, prefix_of-none, push-bare, replaces, under, absolute-prefixed, bare-leading}
+use Rattle.typed_path.proofs.lemmas.components.WindowsNames.{clean-either}
 
 -- A list that takes another: names at its end meet the parents that are left over, and the names that are kept stand behind.
 
 abbrev pub named : List (List ℕ) → List Part
 named names = map name_part names
-
-take-nothing : (n : ℕ) → take {A = List ℕ} n [] ≡ []
-take-nothing zero = refl
-take-nothing (suc n) = refl
 
 named-more : (ps : List Part) (names : List (List ℕ)) (name : List ℕ) → (ps ++ named names) ++ name_part name ∷ [] ≡ ps ++ named (names ++ name ∷ [])
 named-more ps names name = append_assoc ps (named names) (name_part name ∷ []) ∙ ap (λ qs. ps ++ qs) (sym (map-append name_part names (name ∷ [])))
@@ -195,9 +192,6 @@ left-clean s (p ∷ ps) written = by p.kind p.text written.0 (left-clean s ps wr
         either false = rest
 
 -- Such lists are read as they are spelled.
-
-clean-either : (s : Separators) (name : List ℕ) → IsCleanName Either name → IsCleanName s name
-clean-either s name clean = record { filled = clean.filled; no_dot = clean.no_dot; no_dot_dot = clean.no_dot_dot; unseparated = λ k d l. unseparated-either s _ (clean.unseparated k d l) }
 
 later-named : (s : Separators) (names : List (List ℕ)) → AllByRecursion (IsCleanName s) names → AllByRecursion (IsLaterPart s) (named names)
 later-named s [] clean = tt

@@ -12,12 +12,13 @@ use Rattle.typed_path.specs.queries.{is_disk, is_verbatim_prefix, begins_with_ro
 use Rattle.typed_path.specs.changes.{is_disk_alone, joint, spelled, merged}
 use Rattle.typed_path.specs.places.{resolve, with_implied_root}
 use Rattle.typed_path.proofs.lemmas.lists.Lists.{slice_split-some, AllByRecursion-append}
-use Rattle.typed_path.proofs.lemmas.components.Prefixes.{OfWindows, backslash-separates, prefix-fits, separators-windows, root_text-windows, unseparated-either}
+use Rattle.typed_path.proofs.lemmas.components.Prefixes.{OfWindows, backslash-separates, prefix-fits, separators-windows, root_text-windows}
 use Rattle.typed_path.proofs.lemmas.components.Segments.{pieces, first_parts, later_parts, body_parts, body_parts-read, AreRead, IsWritten, parts_behind, each-written, IsWrittenPart, IsLater, IsLaterPart, AreRead-later}
 use Rattle.typed_path.proofs.lemmas.components.PrefixCuts.{IsSize, prefix-size, IsGrown, same-sizes, plain-kind, verbatim_text, verbatim-size, verbatim-take, parts_of-none, parts_of-some}
 use Rattle.typed_path.proofs.lemmas.places.Resolving.{no_heads, is_head, read-headless, IsKept, resolve-kept, resolve-read, resolve-resolve, overdraws-kept}
 use Rattle.typed_path.proofs.lemmas.changes.Faults.{place_of, place_of-append, place_of-rooted, IsFaultless, no_heads-relative, no_heads-resolve, body_parts-alike}
 use Rattle.typed_path.proofs.lemmas.changes.Joins.{body_parts-more, body_parts-behind, Ending, empty, ended, drive_alone, parted, merged-resolve, joint-relative, later-relative, body_parts-spelled}
+use Rattle.typed_path.proofs.lemmas.components.WindowsNames.{clean-either}
 
 -- Where a base of Windows leads with a faultless path behind it, under a prefix that is not verbatim and under none.
 
@@ -229,8 +230,7 @@ names-later s (p ∷ ps) written kept headless = (by p.kind p.text written.0 kep
   where
     by : (k : Kind) (text : List ℕ) → IsWritten Either k text → IsKept (record { kind = k; text = text }) → not (is_head k) ≡ true → IsLater s k text
     by (normal name) text written kept other =
-        let clean = written.1 in
-        (written.0, record { filled = clean.filled; no_dot = clean.no_dot; no_dot_dot = clean.no_dot_dot; unseparated = λ k d l. unseparated-either s _ (clean.unseparated k d l) })
+        (written.0, clean-either s name written.1)
     by (prefix q) text written kept other = cc
     by root text written kept other = cc
     by k text written kept other = cc
@@ -242,7 +242,7 @@ pub data Rest : List Part → List ℕ → Type 0 where
   from_other : (p : Part) (ps : List Part) → begins_with_root (p.kind ∷ []) ≡ false → Rest (p ∷ ps) (backslash ∷ spelled (p ∷ ps))
 
 -- before a root stands no separator
-joint-root : (k l : Kind) → begins_with_root (l ∷ []) ≡ true → joint k l ≡ []
+pub joint-root : (k l : Kind) → begins_with_root (l ∷ []) ≡ true → joint k l ≡ []
 joint-root root root e = refl
 joint-root k root e = refl
 joint-root k l e = cc

@@ -94,7 +94,7 @@ parent_left d t p h e =
     above (last_of (comps d t)) p (left (comps d t) t 0 1) h e ∙ ap Some (sym (stepwise_slices (comps d t) t (back ∷ []) (comps-laid_out d t) (omega arith)))
 
 -- a front of a text is as many bytes of it as it has
-take-front : (e : ℕ) (t : List ℕ) → take (length (take e t)) t ≡ take e t
+pub take-front : (e : ℕ) (t : List ℕ) → take (length (take e t)) t ≡ take e t
 take-front e t = ap (λ n. take n t) (length-take e t) ∙ take_min e t
 
 -- a parent is a front of its path
@@ -124,7 +124,7 @@ root-first s at b bs c separates is =
     first_same e = cc
 
 -- what is cut behind a place and has a component reaches beyond that place
-nonempty-cut : (s : Separators) (at e : ℕ) (text : List ℕ) (c : Placed) (cs : List Placed) → body s at (take (e - at) text) ≡ c ∷ cs → at < e
+pub nonempty-cut : (s : Separators) (at e : ℕ) (text : List ℕ) (c : Placed) (cs : List Placed) → body s at (take (e - at) text) ≡ c ∷ cs → at < e
 nonempty-cut s at e text c cs is = by (e - at) refl is
   where
     by : (m : ℕ) → e - at ≡ m → body s at (take m text) ≡ c ∷ cs → at < e

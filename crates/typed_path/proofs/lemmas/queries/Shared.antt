@@ -1,5 +1,5 @@
 -- What two paths begin with: how far they have been read alike, and that it is the longest that both begin with.
-use Rattle.std.proofs.Common.{◌≡◌, ℕ, zero, suc, ◌+◌, ◌-◌, ◌<◌, ◌≤◌, List, [], ◌∷◌, true, false, if◌then◌else◌, length, drop, replicate, refl, sym, ap, ap₂, ◌∙◌, arith, length-drop, inl, inr, Bool, ◌&&◌, take, zero-le}
+use Rattle.std.proofs.Common.{◌≡◌, ℕ, zero, suc, ◌+◌, ◌-◌, ◌<◌, ◌≤◌, List, [], ◌∷◌, true, false, if◌then◌else◌, length, drop, replicate, refl, sym, ap, ap₂, ◌∙◌, arith, length-drop, inl, inr, Bool, ◌&&◌, take}
 use Rattle.std.specs.Prelude.{Some, None}
 use Rattle.std.specs.Str.{bytes_eq}
 use Rattle.std.proofs.lemmas.Bool.{cases_lt, and_parts}
@@ -143,15 +143,6 @@ texts-length d t = by (comps d t)
     by : (cs : List Placed) → length (texts (parts cs)) ≡ length cs
     by [] = refl
     by (c ∷ cs) = ap suc (by cs)
-
-pub count-within : (xs ys : List (List ℕ)) → shared_count xs ys ≤ length xs
-count-within [] ys = zero-le
-count-within (x ∷ xs) [] = zero-le
-count-within (x ∷ xs) (y ∷ ys) = by (bytes_eq x y) (count-within xs ys)
-  where
-    by : (same : Bool) → shared_count xs ys ≤ length xs → (if same then suc (shared_count xs ys) else 0) ≤ suc (length xs)
-    by true less = omega arith
-    by false less = zero-le
 
 same-bytes : (x : List ℕ) → bytes_eq x x ≡ true
 same-bytes x = (bytes_eq-Decides x x).1 refl

@@ -16,8 +16,10 @@ use Rattle.typed_path.specs.queries.{IsSharedEnd, ShareFront, behind_prefix, end
 use Rattle.typed_path.specs.views.BodyViews.{body_items, body_slice}
 use Rattle.typed_path.proofs.lemmas.components.Cuts.{comps-laid_out, ends-within}
 use Rattle.typed_path.proofs.lemmas.order.SharedNames.{AreInOrder, begins-name, ends-order, other-at, own-at, unlike}
-use Rattle.typed_path.proofs.lemmas.queries.Shared.{count-within, texts-length}
+use Rattle.typed_path.proofs.lemmas.queries.Shared.{texts-length}
 use Rattle.typed_path.proofs.lemmas.scan.Steps.{last_of-behind}
+use Rattle.typed_path.proofs.lemmas.places.SharedFromBack.{shared_count-least}
+use Rattle.typed_path.proofs.lemmas.places.NearSteps.{none-shared}
 
 -- Where the components of a front end.
 
@@ -53,17 +55,13 @@ whole-items b s text same slice begins first =
 
 -- what is shared ends within the path
 pub shared-within : (d : Dialect) (t u : List ℕ) → shared_end d t u ≤ length t
-shared-within d t u = by (shared_count (texts (parts_of d t)) (texts (parts_of d u))) (omega (arith, count-within (texts (parts_of d t)) (texts (parts_of d u)), texts-length d t))
+shared-within d t u = by (shared_count (texts (parts_of d t)) (texts (parts_of d u))) (omega (arith, shared_count-least (texts (parts_of d t)) (texts (parts_of d u)), texts-length d t))
   where
     by : (k : ℕ) → k ≤ length (comps d t) → end_of_first (comps d t) k ≤ length t
     by zero less = zero-le
     by (suc k) less = ends-within 0 (length t) (comps d t) k (comps-laid_out d t).in_order (omega (arith, less))
 
 -- Which front it is.
-
-none-shared : (xs : List (List ℕ)) → shared_count xs [] ≡ 0
-none-shared [] = refl
-none-shared (x ∷ xs) = refl
 
 module _ (s : Separators) (t beginning : List ℕ) (n : ℕ) (is : body s 0 t ≡ body s 0 beginning ++ later_body s (0 + n) (drop n t)) where
   pub longer-front : ShareFront s t beginning beginning

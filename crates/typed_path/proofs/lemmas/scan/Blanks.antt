@@ -14,7 +14,7 @@ use Rattle.typed_path.specs.scan.{IsMask, stands_at, is_one_of, MarksNoBlank, is
 -- ---- marks
 
 -- a bit of a mask without its lowest bits
-shifted : (mask s k : ℕ) → bit_at (mask / 2 ^ s) k ≡ bit_at mask (s + k)
+pub shifted : (mask s k : ℕ) → bit_at (mask / 2 ^ s) k ≡ bit_at mask (s + k)
 shifted mask s k = ap (λ x. x % 2) (shr-shr mask s k)
 
 -- where no mark is left, none stands before a blank segment
@@ -99,7 +99,7 @@ module _ (s : Separators) (text : List ℕ) (at n bound separators ends dots : �
           (λ d. let own = ap begins_with_dot (sym at_one) ∙ d in unended (2 + k) _ at_two (two own) (m.1 (dotted (1 + k) one own)))
 
 -- a bit that is set by a test that holds
-set-of : (p : ℕ → Bool) (n mask k : ℕ) → IsMask p n mask → k < n → p k ≡ true → bit_at mask k ≡ 1
+pub set-of : (p : ℕ → Bool) (n mask k : ℕ) → IsMask p n mask → k < n → p k ≡ true → bit_at mask k ≡ 1
 set-of p n mask k marks low h = marks.within k low ∙ ap (λ b. cond b 1 0) h
 
 -- a block of n bytes, by the marks of its separators and dots

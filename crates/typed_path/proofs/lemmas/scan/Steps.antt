@@ -72,6 +72,11 @@ slice_range-earlier text left from k to e h =
 
 -- A step from either end, as the step of an iterator; and the prefix taken before all steps.
 
+-- what is left of a list behind its first component
+pub parts-rest : (cs : List Placed) → parts (drop 1 cs) ≡ drop 1 (parts cs)
+parts-rest [] = refl
+parts-rest (c ∷ cs) = refl
+
 -- a component taken from the front is one fewer
 pub fewer : (p : Part) (cs ds : List Placed) → Some p ≡ first_part cs → ds ≡ drop 1 cs → length ds < length cs
 fewer p [] ds taken items = cc

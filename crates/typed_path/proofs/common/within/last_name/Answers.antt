@@ -1,9 +1,10 @@
 use Rattle.std.proofs.Common.{arith, sym, ap, ◌∙◌, length}
 use Rattle.typed_path.specs.views.BodyViews.{body_items}
 use Rattle.typed_path.specs.views.PieceViews.{step_part}
-use Rattle.typed_path.proofs.lemmas.places.KeptFromBack.{taken-last, goes-parent, goes-met, goes-passed, stays-name, stays-unmet, none-names, none-left, none-unmet, unmet-parents}
+use Rattle.typed_path.proofs.lemmas.places.KeptFromBack.{taken-last, goes-parent, goes-met, goes-passed, stays-name, stays-unmet, none-names, none-unmet, unmet-parents}
 use Rattle.typed_path.specs.places.{unmet_under}
 use Rattle.typed_path.proofs.common.within.last_name.Goals as goal
+use Rattle.typed_path.proofs.lemmas.scan.Steps.{empty-last}
 
 pub steps-preserved-in-ParentDir : goal.steps-preserved-in-ParentDir
 steps-preserved-in-ParentDir c =
@@ -70,5 +71,5 @@ returns-clause-unmet c =
 pub returns-clause-end : goal.returns-clause-end
 returns-clause-end c =
     sym (unmet-parents c.steps.owed)
-    ∙ ap (λ cs. unmet_under c.steps.owed cs) (sym (none-left (body_items c.steps.rest) c.in_default.ensures.taken))
+    ∙ ap (λ cs. unmet_under c.steps.owed cs) (sym (empty-last (body_items c.steps.rest) c.in_default.ensures.taken))
     ∙ c.steps.invariant.unmet

@@ -1,16 +1,12 @@
-use Rattle.std.proofs.Common.{◌≡◌, ◌++◌, ◌∷◌, [], List, length, drop, take, refl, sym, ap, subst, ◌∙◌, length-append, arith, Some, None, not, true}
+use Rattle.std.proofs.Common.{◌≡◌, ◌++◌, ◌∷◌, [], length, drop, take, refl, sym, ap, subst, ◌∙◌, length-append, arith, Some, None, not, true}
 use Rattle.std.proofs.lemmas.List.{drop-append-le, drop_all, take-append-le}
-use Rattle.typed_path.specs.components.{backslash, Placed, parts}
+use Rattle.typed_path.specs.components.{backslash, parts}
 use Rattle.typed_path.specs.views.CursorViews.{items_left}
 use Rattle.typed_path.specs.views.PieceViews.{part_of}
-use Rattle.typed_path.proofs.lemmas.scan.Steps.{yields_first}
+use Rattle.typed_path.proofs.lemmas.scan.Steps.{yields_first, parts-rest}
 use Rattle.typed_path.proofs.lemmas.changes.MergedInPlace.{ArePut, put-relative, put-rooted, put-next, put-end}
 use Rattle.typed_path.proofs.windows.push.put_each.Goals as goal
 use Rattle.typed_path.proofs.windows.push.put_each.Goals.{then-not-parted+in_ok-push, else-not-parted}
-
-parts-rest : (cs : List Placed) → parts (drop 1 cs) ≡ drop 1 (parts cs)
-parts-rest [] = refl
-parts-rest (x ∷ cs) = refl
 
 pub pieces-init : goal.pieces-init
 pieces-init c =

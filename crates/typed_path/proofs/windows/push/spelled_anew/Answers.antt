@@ -1,13 +1,10 @@
-use Rattle.std.proofs.Common.{◌≡◌, ◌++◌, ◌∷◌, List, [], refl, take, drop, sym, ap, subst, ◌∙◌, length-take-le, arith, take_all}
-use Rattle.typed_path.specs.components.{Placed, parts, windows, parts_of}
+use Rattle.std.proofs.Common.{◌≡◌, ◌++◌, take, drop, sym, ap, subst, ◌∙◌, length-take-le, arith, take_all}
+use Rattle.typed_path.specs.components.{parts, windows, parts_of}
 use Rattle.typed_path.specs.changes.{AreReadBehind, Stands}
 use Rattle.typed_path.specs.views.CursorViews.{items_left}
 use Rattle.typed_path.proofs.lemmas.changes.MergedInPlace.{prefixed-based, merged-text}
 use Rattle.typed_path.proofs.windows.push.spelled_anew.Goals as goal
-
-parts-rest : (cs : List Placed) → parts (drop 1 cs) ≡ drop 1 (parts cs)
-parts-rest [] = refl
-parts-rest (x ∷ cs) = refl
+use Rattle.typed_path.proofs.lemmas.scan.Steps.{parts-rest}
 
 pub put_each-requires-clause-read : goal.put_each-requires-clause-read
 put_each-requires-clause-read c =
