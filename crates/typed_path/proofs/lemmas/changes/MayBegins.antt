@@ -1,8 +1,8 @@
 -- Marks of separators behind which a device may stand: what the bytes behind them tell, and the search by such marks.
-use Rattle.std.proofs.Common.{◌≡◌, ℕ, zero, suc, ◌+◌, ◌-◌, ◌*◌, ◌^◌, ◌/◌, ◌≤◌, ◌<◌, List, [], ◌∷◌, Bool, true, false, cond, ◌&&◌, ◌||◌, ◌==◌, min, max, length, drop, get_or, refl, sym, ap, ◌∙◌, arith, bit_or, bit_and, subst, true≢false, ◌⊎◌, inl, inr, get_or-drop, length-drop}
+use Rattle.std.proofs.Common.{◌≡◌, ℕ, zero, suc, ◌+◌, ◌-◌, ◌*◌, ◌^◌, ◌/◌, ◌≤◌, ◌<◌, List, [], ◌∷◌, true, false, ◌&&◌, ◌||◌, ◌==◌, min, max, length, drop, get_or, refl, sym, ap, ◌∙◌, arith, bit_or, bit_and, subst, true≢false, inl, inr, get_or-drop, length-drop}
 use Rattle.std.specs.Int.{bit_at}
 use Rattle.std.specs.List.{before_first}
-use Rattle.std.proofs.lemmas.Bool.{and_parts, false_from_ne_true, cases_lt}
+use Rattle.std.proofs.lemmas.Bool.{and_parts, false_from_ne_true, cases_lt, or_cases}
 use Rattle.std.proofs.lemmas.List.{drop_more}
 use Rattle.std.proofs.lemmas.Nat.Bits.{bit_at-zero, bit_at_or, bit_at_and, bit_at-lt, bit_at_mask_above, bit_at_mask_inside}
 use Rattle.typed_path.specs.declared.scan.separators.Separators.TheVariants.{Either}
@@ -12,7 +12,8 @@ use Rattle.typed_path.specs.scan.{IsMask, stands_at}
 use Rattle.typed_path.specs.changes.{dot_pair_at, AreMayBegins, BeginsNone, TellsBegins, is_letter_of, ends_stem, may_end_stem, begins_with_device, has_device_behind}
 use Rattle.typed_path.proofs.lemmas.queries.ValidNames.{reserved-device}
 use Rattle.typed_path.proofs.lemmas.changes.ValidPaths.{device-front, stem-ends}
-use Rattle.typed_path.proofs.lemmas.scan.Blanks.{set-of, shifted}
+use Rattle.typed_path.proofs.lemmas.scan.Blanks.{shifted}
+use Rattle.typed_path.proofs.lemmas.scan.Searches.{of-set, set-of}
 
 -- Marks of separators behind which a device may stand: what the bytes behind them tell, and the search by such marks.
 
@@ -46,17 +47,6 @@ tells-later text from n s mask told = record {
 
 -- ---- a block of 32 bytes, by its marks
 
--- a test that holds by a bit that is set
-of-set : (p : ℕ → Bool) (n mask k : ℕ) → IsMask p n mask → bit_at mask k ≡ 1 → (k < n) × (p k ≡ true)
-of-set p n mask k marks set = elim (cases_lt k n) [
-  | inl l ↦ (l, by (p k) (sym (marks.within k l) ∙ set))
-  | inr h ↦ absurd (omega (arith, marks.beyond k h, set))
-]
-  where
-    by : (b : Bool) → cond {A = ℕ} b 1 0 ≡ 1 → b ≡ true
-    by true e = refl
-    by false e = absurd (omega arith)
-
 module _ (text : List ℕ) (at separators firsts seconds dots behind mask : ℕ)
     (separated : IsMask (λ k. stands_at (slash, backslash) text (at + k)) 32 separators) (dotted : IsMask (λ k. stands_at (dot, dot) text (at + k)) 32 dots)
     (first : IsMask (λ k. is_letter_of FIRSTS (get_or text (at + k) 0)) 32 firsts) (second : IsMask (λ k. is_letter_of SECONDS (get_or text (at + k) 0)) 32 seconds)
@@ -71,14 +61,10 @@ module _ (text : List ℕ) (at separators firsts seconds dots behind mask : ℕ)
   -- what ends a stem is marked
   end-set : (k : ℕ) → k < 32 → ends_stem (get_or text (at + k) 0) ≡ true → bit_at ends k ≡ 1
   end-set k l h =
-      elim (either (get_or text (at + k) 0 == dot) (is_separator Either (get_or text (at + k) 0)) h) [
+      elim (or_cases (get_or text (at + k) 0 == dot) (is_separator Either (get_or text (at + k) 0)) h) [
         | inl d ↦ omega (arith, bit_at_or (bit_or separators dots) behind k, bit_at_or separators dots k, set-of _ 32 dots k dotted l (ap (λ b. b || b) d), bit_at-lt separators k, bit_at-lt behind k)
         | inr s ↦ omega (arith, bit_at_or (bit_or separators dots) behind k, bit_at_or separators dots k, set-of _ 32 separators k separated l s, bit_at-lt dots k, bit_at-lt behind k)
       ]
-    where
-      either : (p q : Bool) → (p || q) ≡ true → (p ≡ true) ⊎ (q ≡ true)
-      either true q e = inl refl
-      either false q e = inr e
 
   -- a separator with no mark has none behind it, where the bytes that tell are those of the block, or the text ends
   module _ (k : ℕ) (inside : k < 32) (short : (j : ℕ) → j ≤ 5 + k → at + j < length text → j < 32) (ended : (j : ℕ) → j ≤ 5 + k → length text ≤ at + j → bit_at ends j ≡ 1) where
@@ -123,14 +109,10 @@ module _ (text : List ℕ) (at separators firsts seconds dots behind mask : ℕ)
         ending (a ∷ b ∷ c ∷ d ∷ []) e stem = omega (arith, past 4 (omega arith) (omega (arith, ap length e)))
         ending (a ∷ b ∷ c ∷ d ∷ f ∷ rest) e stem =
             let of = λ (i j : ℕ) (same : at + k + 1 + i ≡ at + j). ap (λ t. get_or t i 0) e ∙ byte i j same in
-            elim (either (ends_stem d) (ends_stem f) stem) [
+            elim (or_cases (ends_stem d) (ends_stem f) stem) [
               | inl h ↦ omega (arith, end-set (4 + k) (within 3 (omega arith) (omega (arith, ap length e))) (ap ends_stem (sym (of 3 (4 + k) (omega arith))) ∙ h))
               | inr h ↦ omega (arith, end-set (5 + k) (within 4 (omega arith) (omega (arith, ap length e))) (ap ends_stem (sym (of 4 (5 + k) (omega arith))) ∙ h))
             ]
-          where
-            either : (p q : Bool) → (p || q) ≡ true → (p ≡ true) ⊎ (q ≡ true)
-            either true q i = inl refl
-            either false q i = inr i
 
     block-none : bit_at mask k ≡ 0 → BeginsNone text (at + k)
     block-none clear = false_from_ne_true _ (λ h.

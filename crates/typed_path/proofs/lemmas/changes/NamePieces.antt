@@ -17,6 +17,7 @@ use Rattle.typed_path.proofs.lemmas.components.PrefixCuts.{parts_of-none}
 use Rattle.typed_path.proofs.lemmas.changes.Joins.{backslash-free}
 use Rattle.typed_path.proofs.lemmas.changes.WindowsPushes.{stands-more}
 use Rattle.typed_path.proofs.lemmas.changes.MergedInPlace.{no-prefix}
+use Rattle.typed_path.proofs.lemmas.components.FirmPrefixes.{filled-long}
 
 -- ---- what the looks tell of the pieces
 module _ (pair : ℕ × ℕ) where
@@ -345,16 +346,12 @@ stands-names parted ps old middle new names h named joined apart put =
     let all : AllByRecursion IsStanding (name_part piece ∷ others) =
     subst (AllByRecursion IsStanding) list (named-standing (slice_split (is_separator Either) names) named (slice_split-unseparated (is_separator Either) names)) in
     let first = stands-more parted ps (name_part piece) old middle (middle ++ piece) piece h all.0 refl joined apart refl in
-    let size : 1 < length (middle ++ piece) = omega (arith, length-append middle piece, some-bytes piece all.0.filled, some-middle) in
+    let size : 1 < length (middle ++ piece) = omega (arith, length-append middle piece, filled-long piece all.0.filled, some-middle) in
     subst (λ rs. Stands parted (ps ++ rs) new) (sym list)
     (subst (λ rs. Stands parted rs new) (append_assoc ps (name_part piece ∷ []) others)
     (subst (Stands parted ((ps ++ name_part piece ∷ []) ++ others)) (append_assoc middle piece (names_behind true others) ∙ ap (λ t. middle ++ t) (ap (names_behind false) (sym list) ∙ written-names names) ∙ sym put)
     (stands-others parted (ps ++ name_part piece ∷ []) others (middle ++ piece) first size all.1)))
   where
-    some-bytes : (piece : List ℕ) → is_empty piece ≡ false → 0 < length piece
-    some-bytes [] e = cc
-    some-bytes (b ∷ bs) e = omega arith
-
     some-middle : 0 < length middle
     some-middle = by (length old == 1) refl
       where

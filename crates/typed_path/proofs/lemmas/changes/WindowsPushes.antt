@@ -17,6 +17,7 @@ use Rattle.typed_path.proofs.lemmas.components.WindowsNames.{unseparated-none}
 use Rattle.typed_path.proofs.lemmas.components.PrefixCuts.{parts_of-none, parts_of-some}
 use Rattle.typed_path.proofs.lemmas.promises.WindowsBases.{read-no_drive, disk_alone-filled}
 use Rattle.typed_path.proofs.lemmas.lists.Lists.{AllByRecursion-append, IsLastPlace, place-none, place-behind}
+use Rattle.typed_path.proofs.lemmas.components.FirmPrefixes.{filled-long}
 
 -- What a push of Windows asks of its base, and a base that is written anew.
 
@@ -311,11 +312,7 @@ behind-rooted n ns p = ap (λ t. n.text ++ t) (behind-parted ns p) ∙ sym (appe
 
 -- what stands has bytes
 filled-length : (p : Part) → IsStanding p → 0 < length p.text
-filled-length p is = by p.text is.filled
-  where
-    by : (text : List ℕ) → is_empty text ≡ false → 0 < length text
-    by [] e = cc
-    by (b ∷ bs) e = omega arith
+filled-length p is = filled-long p.text is.filled
 
 -- how many bytes are written
 parted-length : (ns : List Part) → AllByRecursion IsStanding ns → length (names_behind true ns) ≡ 1 → ⊥

@@ -2,7 +2,7 @@
 use Rattle.std.proofs.Common.{◌≡◌, ℕ, zero, suc, List, [], ◌∷◌, ◌++◌, Bool, true, false, not, ◌&&◌, cond, map, append_assoc, append-nil, refl, ap, sym, ◌∙◌, if◌then◌else◌}
 use Rattle.std.proofs.lemmas.List.{map-append}
 use Rattle.std.specs.List.{list_all, AllByRecursion}
-use Rattle.std.proofs.lemmas.Bool.{and_parts, cond_both}
+use Rattle.std.proofs.lemmas.Bool.{and_parts, cond_both, not-true}
 use Rattle.typed_path.specs.declared.scan.separators.Separators.{Separators}
 use Rattle.typed_path.specs.components.{Dialect, backslash, Kind, prefix, root, current, parent, normal, Part, kinds, texts, name_part, Prefix, verbatim_disk, root_part, prefix_part}
 use Rattle.typed_path.specs.changes.{push, push_all}
@@ -88,11 +88,7 @@ no_heads-without (l ∷ ks) k ls h =
     ap (λ b. b && no_heads (ks ++ ls)) head ∙ rest
 
 no_heads-at : (ks : List Kind) (k : Kind) (ls : List Kind) → no_heads (ks ++ k ∷ ls) ≡ true → is_head k ≡ false
-no_heads-at [] k ls h = by_head (is_head k) (and_parts _ _ h).0
-  where
-    by_head : (b : Bool) → not b ≡ true → b ≡ false
-    by_head true e = cc
-    by_head false e = refl
+no_heads-at [] k ls h = not-true (is_head k) (and_parts _ _ h).0
 no_heads-at (l ∷ ks) k ls h = no_heads-at ks k ls (and_parts (not (is_head l)) _ h).1
 
 heads_first-without : (ks : List Kind) (k : Kind) (ls : List Kind) → heads_first (ks ++ k ∷ ls) ≡ true → heads_first (ks ++ ls) ≡ true

@@ -1,5 +1,5 @@
 -- Names that are read between separators of which `/` is one hold none.
-use Rattle.std.proofs.Common.{◌≡◌, ℕ, ◌==◌, ◌||◌, Bool, true, false, not, ◌&&◌, List, [], ◌∷◌, drop, refl, sym, ap₂, subst}
+use Rattle.std.proofs.Common.{◌≡◌, ℕ, ◌==◌, true, false, not, ◌&&◌, List, [], ◌∷◌, drop, refl, sym, ap₂, subst}
 use Rattle.std.specs.List.{AllByRecursion}
 use Rattle.std.proofs.lemmas.List.Folds.{list_any_none}
 use Rattle.typed_path.specs.declared.scan.separators.Separators.{Separators}
@@ -15,16 +15,13 @@ use Rattle.typed_path.proofs.lemmas.lists.Lists.{AllByRecursion-weaker, IsUnsepa
 use Rattle.typed_path.proofs.lemmas.components.Segments.{IsCleanName, IsLaterPart, IsWritten-later, IsWrittenPart, body_parts, body_parts-read, each-written, later_parts-later, parts-body, parts-later_body, pieces}
 use Rattle.typed_path.proofs.lemmas.promises.CleanRead.{names-clean}
 use Rattle.typed_path.proofs.lemmas.promises.StepsRead.{clean-drop}
+use Rattle.std.proofs.lemmas.Bool.{or_parts}
 
 -- a byte that does not separate is no `/`
 other-byte : (s : Separators) (b : ℕ) → is_verbatim s ≡ false → is_separator s b ≡ false → (b == slash) ≡ false
 other-byte Slash b plain e = e
 other-byte Backslash b plain e = cc
-other-byte Either b plain e = by (b == slash) (b == 92) e
-  where
-    by : (p q : Bool) → (p || q) ≡ false → p ≡ false
-    by true q e = cc
-    by false q e = refl
+other-byte Either b plain e = (or_parts (b == slash) (b == 92) e).0
 
 pub open-stand : (s : Separators) (names : List (List ℕ)) → is_verbatim s ≡ false → AllByRecursion (IsUnseparated (is_separator s)) names → can_stand names ≡ true
 open-stand s [] plain each = refl

@@ -11,17 +11,13 @@ use Rattle.typed_path.specs.places.{can_stand, head_of, headed, is_anchored, is_
 use Rattle.typed_path.proofs.lemmas.places.KeptNames.{AlikeKept, unmet-append, kept_names-append}
 use Rattle.typed_path.proofs.lemmas.places.SharedFromBack.{shared_count-most}
 use Rattle.typed_path.proofs.lemmas.promises.CleanRead.{LeadsAs, anchored-stays, names-ups, unmet-ups, ups}
-use Rattle.typed_path.proofs.lemmas.promises.Within.{same-prefix, same-test}
+use Rattle.typed_path.proofs.lemmas.promises.Within.{same-prefix, same-test, test-same}
 
 -- Lists that begin alike.
 
 prefixes-same : (o : Option Prefix) → are_same_prefixes o o ≡ true
 prefixes-same None = refl
 prefixes-same (Some p) = ap is_eq (tied_itself kind_cmp_total (prefix p))
-
-test-same : (a : Bool) → (if a then a else not a) ≡ true
-test-same true = refl
-test-same false = refl
 
 pub heads-alike : (ks ls : List Kind) → same_heads ks ls ≡ true → head_of ks ≡ head_of ls
 heads-alike ks ls e =

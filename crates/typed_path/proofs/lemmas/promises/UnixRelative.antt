@@ -1,8 +1,8 @@
 -- On Unix the path that leads from a base to another, joined to the base, leads where that leads; and there is none exactly where no relative path does so.
-use Rattle.std.proofs.Common.{◌≡◌, ℕ, ◌+◌, ◌-◌, ◌<◌, ◌≤◌, ◌==◌, Bool, true, false, not, ◌||◌, ◌&&◌, List, [], ◌∷◌, ◌++◌, if◌then◌else◌, length, refl, sym, ap, ap₂, ◌∙◌, append-nil, arith, subst, inl, inr, eq-eqb, Option, Some, None}
+use Rattle.std.proofs.Common.{◌≡◌, ℕ, ◌+◌, ◌-◌, ◌<◌, ◌≤◌, ◌==◌, Bool, true, false, not, ◌&&◌, List, [], ◌∷◌, ◌++◌, if◌then◌else◌, length, refl, sym, ap, ap₂, ◌∙◌, append-nil, arith, subst, inl, inr, eq-eqb, Option, Some, None}
 use Rattle.std.specs.Prelude.{◌⊎◌, ◌≢◌}
 use Rattle.std.specs.List.{AllByRecursion}
-use Rattle.std.proofs.lemmas.Bool.{cases_lt, cond_both}
+use Rattle.std.proofs.lemmas.Bool.{cases_lt, cond_both, or_parts}
 use Rattle.std.proofs.lemmas.List.{drop_all, map-append}
 use Rattle.std.proofs.lemmas.List.Folds.{list_any_none}
 use Rattle.typed_path.specs.declared.scan.separators.Separators.TheVariants.{Slash}
@@ -97,11 +97,7 @@ leads_unix path base r e =
 -- names that are read without a prefix hold no `/`
 bare-slash : (d : Dialect) (b : ℕ) → is_separator (plain d) b ≡ false → (b == slash) ≡ false
 bare-slash unix b e = e
-bare-slash windows b e = by (b == slash) (b == 92) e
-  where
-    by : (p q : Bool) → (p || q) ≡ false → p ≡ false
-    by true q e = cc
-    by false q e = refl
+bare-slash windows b e = (or_parts (b == slash) (b == 92) e).0
 
 clean-can : (d : Dialect) (names : List (List ℕ)) → AllByRecursion (IsCleanName (plain d)) names → can_stand names ≡ true
 clean-can d [] each = refl

@@ -4,7 +4,7 @@ use Rattle.std.specs.Prelude.{is_some}
 use Rattle.std.specs.List.{starts_with}
 use Rattle.std.specs.Str.{bytes_eq}
 use Rattle.std.specs.Cmp.{Equal-is}
-use Rattle.std.proofs.lemmas.Bool.{eqb-true, and_parts, or_cases, both_ways, leb-true, le-leb}
+use Rattle.std.proofs.lemmas.Bool.{eqb-true, and_parts, or_cases, both_ways, leb-true, le-leb, not-true, or_right}
 use Rattle.std.proofs.lemmas.List.{map-append, take-take}
 use Rattle.std.proofs.lemmas.Slice.Eq.{starts_is, bytes_eq-Decides}
 use Rattle.typed_path.specs.components.{Dialect, Prefix, Kind, prefix, normal, kinds, parts_of}
@@ -52,14 +52,14 @@ same-prefix (Some p) (Some q) e = let same : prefix p ≡ prefix q = exact_kinds
 same-prefix None (Some q) e = cc
 same-prefix (Some p) None e = cc
 
+pub test-same : (a : Bool) → (if a then a else not a) ≡ true
+test-same true = refl
+test-same false = refl
+
 pub same-test : (a b : Bool) → (if a then b else not b) ≡ true → a ≡ b
 same-test true b e = sym e
 same-test false true e = cc
 same-test false false e = refl
-
-not-true : (b : Bool) → not b ≡ true → b ≡ false
-not-true true e = cc
-not-true false e = refl
 
 nothing : (names : List (List ℕ)) → (length names == 0) ≡ true → names ≡ []
 nothing [] e = refl
@@ -106,20 +106,12 @@ module _ (ks ls : List Kind) (bare : first_prefix ks ≡ None) (bare_base : firs
       ap (λ b. b || holds_all ks ls)
       (ap₂ (λ o r. are_same_prefixes o r && (if is_anchored ks then is_anchored ls else not (is_anchored ls)) && (rising ks == rising ls) && starts_with bytes_eq (kept_names ks) (kept_names ls)) bare bare_base
       ∙ ap (λ b. (if b then is_anchored ls else not (is_anchored ls)) && (rising ks == rising ls) && starts_with bytes_eq (kept_names ks) (kept_names ls)) same
-      ∙ ap (λ b. b && (rising ks == rising ls) && starts_with bytes_eq (kept_names ks) (kept_names ls)) (alike (is_anchored ls))
+      ∙ ap (λ b. b && (rising ks == rising ls) && starts_with bytes_eq (kept_names ks) (kept_names ls)) (test-same (is_anchored ls))
       ∙ ap₂ (λ b c. b && c) (eq-eqb (rising ks) (rising ls) level) begun)
-    where
-      alike : (b : Bool) → (if b then b else not b) ≡ true
-      alike true = refl
-      alike false = refl
-
-  or-right : (a b : Bool) → b ≡ true → (a || b) ≡ true
-  or-right true b e = refl
-  or-right false b e = e
 
   held : (b : Bool) → is_anchored ls ≡ b → (if b then not (has_prefix ls) else not (is_anchored ks) && nat_le (unmet ks) (unmet ls)) ≡ true → kept_names ls ≡ [] → (leads_within ks ls || holds_all ks ls) ≡ true
   held b e why none =
-      or-right (leads_within ks ls) (holds_all ks ls)
+      or_right (leads_within ks ls) (holds_all ks ls)
       (ap₂ (λ o r. are_same_prefixes o r && (length (kept_names ls) == 0) && (if is_anchored ls then not (has_prefix ls) else not (is_anchored ks) && nat_le (unmet ks) (unmet ls))) bare bare_base
       ∙ ap (λ names. (length names == 0) && (if is_anchored ls then not (has_prefix ls) else not (is_anchored ks) && nat_le (unmet ks) (unmet ls))) none
       ∙ ap (λ c. if c then not (has_prefix ls) else not (is_anchored ks) && nat_le (unmet ks) (unmet ls)) e

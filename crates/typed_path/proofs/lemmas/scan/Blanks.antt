@@ -10,6 +10,7 @@ use Rattle.typed_path.specs.components.{dot, is_separator, body}
 use Rattle.typed_path.specs.declared.scan.cursor.Begin.TheVariants.{Body}
 use Rattle.typed_path.proofs.lemmas.components.Segments.{body_from-separator, segment-byte}
 use Rattle.typed_path.specs.scan.{IsMask, stands_at, is_one_of, MarksNoBlank, is_blank, begins_blank, has_blank_behind}
+use Rattle.typed_path.proofs.lemmas.scan.Searches.{set-of}
 
 -- ---- marks
 
@@ -97,10 +98,6 @@ module _ (s : Separators) (text : List ℕ) (at n bound separators ends dots : �
           let m = none k (separated k low separates) in
           unblank s (drop (suc (at + k)) text) (unended (1 + k) _ at_one one m.0)
           (λ d. let own = ap begins_with_dot (sym at_one) ∙ d in unended (2 + k) _ at_two (two own) (m.1 (dotted (1 + k) one own)))
-
--- a bit that is set by a test that holds
-pub set-of : (p : ℕ → Bool) (n mask k : ℕ) → IsMask p n mask → k < n → p k ≡ true → bit_at mask k ≡ 1
-set-of p n mask k marks low h = marks.within k low ∙ ap (λ b. cond b 1 0) h
 
 -- a block of n bytes, by the marks of its separators and dots
 module _ (s : Separators) (pair : ℕ × ℕ) (paired : (b : ℕ) → is_separator s b ≡ is_one_of pair b) (text : List ℕ) (at n marks dots : ℕ) (fits : at + n ≤ length text)

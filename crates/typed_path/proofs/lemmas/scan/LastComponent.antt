@@ -10,12 +10,12 @@ use Rattle.std.specs.Option.{unwrap_or}
 use Rattle.typed_path.specs.declared.scan.separators.Separators.{Separators}
 use Rattle.typed_path.specs.declared.scan.cursor.Begin.{Begin}
 use Rattle.typed_path.specs.declared.scan.cursor.Begin.TheVariants.{Body, Inside}
-use Rattle.typed_path.specs.declared.scan.separators.Separators.TheVariants.{Slash, Backslash, Either}
 use Rattle.typed_path.specs.components.{is_separator, is_verbatim, dot, root_text, Placed, Part, end_of, current_part, parent_part, name_part, root_part, Segment, named, is_dot, later, later_body, component, first, parts}
 use Rattle.typed_path.specs.scan.{body_from, is_clean, is_trimmed, counts, end_from}
 use Rattle.typed_path.proofs.lemmas.lists.Lists.{IsUnseparated, last_place, after_last-drop, behind_last-unseparated, cut_last, IsLastPlace, slice_split-append}
 use Rattle.typed_path.proofs.lemmas.components.Segments.{body_from-append, body_from-separator, is_clean-append, is_clean-separator, later_body-separator, later-first, body_from-empty, body_from-first, later_part, later_parts, parts-later_body}
 use Rattle.typed_path.proofs.lemmas.scan.Steps.{last_of-push}
+use Rattle.typed_path.proofs.lemmas.components.Cuts.{root_text-length}
 
 -- The bytes at the end of a text that belong to no component.
 
@@ -238,12 +238,7 @@ is_clean-kept begin s text start place clean = elim (cases_lt 0 start) [
 
 -- a segment gives a component of its width
 component-width : (s : Separators) (at : ℕ) (segment : List ℕ) → (p : Part) × (first s (record { text = segment; start = at }) ≡ component p at) × (length p.text ≡ width segment)
-component-width s at [] = (root_part (root_text s), refl, root-width s)
-  where
-    root-width : (r : Separators) → length (root_text r) ≡ 1
-    root-width Slash = refl
-    root-width Backslash = refl
-    root-width Either = refl
+component-width s at [] = (root_part (root_text s), refl, root_text-length s)
 component-width s at (a ∷ []) = by_test (a == dot)
   where
     by_test : (dotted : Bool) → (p : Part) × (cond dotted (component current_part at) (component (name_part (a ∷ [])) at) ≡ component p at) × (length p.text ≡ 1)

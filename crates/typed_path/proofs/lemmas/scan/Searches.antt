@@ -1,10 +1,10 @@
 -- What masks say of places, and searches of a range put together from what was seen of it.
-use Rattle.std.proofs.Common.{◌≡◌, ℕ, suc, ◌+◌, ◌-◌, ◌*◌, ◌^◌, ◌/◌, ◌%◌, ◌≤◌, ◌<◌, List, Bool, true, false, not, ◌&&◌, ◌||◌, ◌==◌, max, min, w64, cond, length, slice_index, slice_range, take, drop, get_or, map, refl, sym, ap, ap₂, eqb, replicate, ◌∙◌, arith, bit_or, bit_and, ⊎_elim, pow_pos, pow_mono, div-lt_iff_lt-mul, le-div_iff_mul-le, [], ◌∷◌, nat_lt, true≢false, subst, shr-shr, eqb-true, ltb-true, lt-ltb, get_or-take, get_or-drop, length-take-le, length-drop, take_all}
+use Rattle.std.proofs.Common.{◌≡◌, ℕ, suc, ◌+◌, ◌-◌, ◌*◌, ◌^◌, ◌/◌, ◌%◌, ◌≤◌, ◌<◌, List, Bool, true, false, not, ◌&&◌, ◌||◌, ◌==◌, max, min, w64, cond, length, slice_index, slice_range, take, drop, get_or, map, refl, sym, ap, ap₂, eqb, replicate, ◌∙◌, arith, bit_or, bit_and, ⊎_elim, pow_pos, pow_mono, div-lt_iff_lt-mul, le-div_iff_mul-le, [], ◌∷◌, nat_lt, true≢false, subst, shr-shr, eqb-true, ltb-true, lt-ltb, get_or-take, get_or-drop, length-take-le, length-drop, take_all, inl, inr}
 use Rattle.std.specs.Int.{bit_at, trailing_zeros}
 use Rattle.std.specs.Slice.Scan.{HoldsNowhere, IsFirstPlace, IsLastPlace, HoldsSomewhere}
 use Rattle.std.specs.Simd.Lanes.{mask_l}
 use Rattle.std.proofs.Math.Nat.{two-pow-succ, div-eq_of_lt}
-use Rattle.std.proofs.lemmas.Bool.{cases_lt, eqb-false, and_parts}
+use Rattle.std.proofs.lemmas.Bool.{cases_lt, eqb-false, and_parts, false_from_ne_true}
 use Rattle.std.proofs.lemmas.List.{get_or-map, get_or_past, length-map}
 use Rattle.std.proofs.lemmas.Nat.Bits.{bit_at-zero, bit_at_or, bit_at_and, bit_at-trailing_zeros}
 use Rattle.std.proofs.lemmas.Simd.{bit_mask_l, length-chunk, get_or-chunk, length-zip2, get_or-zip2, zip2_splat, mask_l-mod}
@@ -147,25 +147,36 @@ pub clear_above : (mask j k : ℕ) → mask < 2 * 2 ^ j → j < k → bit_at mas
 clear_above mask j k high l = ap (λ x. x % 2) (div-eq_of_lt (omega (arith, two-pow-succ j, pow_mono {i = suc j} {j = k} (omega arith))))
 
 -- ---- a block of places, and its mask
+module _ (p : ℕ → Bool) (n mask k : ℕ) (marks : IsMask p n mask) where
+  -- a bit is set by a test that holds
+  pub set-of : k < n → p k ≡ true → bit_at mask k ≡ 1
+  set-of low h = marks.within k low ∙ ap (λ b. cond b 1 0) h
+
+  -- a test holds by a bit that is set
+  pub of-set : bit_at mask k ≡ 1 → (k < n) × (p k ≡ true)
+  of-set set = elim (cases_lt k n) [
+    | inl low ↦ (low, by (p k) (sym (marks.within k low) ∙ set))
+    | inr high ↦ absurd (omega (arith, marks.beyond k high, set))
+  ]
+    where
+      by : (b : Bool) → cond {A = ℕ} b 1 0 ≡ 1 → b ≡ true
+      by true e = refl
+      by false e = absurd (omega arith)
+
+  -- and does not by one that is not
+  pub of-unset : k < n → bit_at mask k ≡ 0 → p k ≡ false
+  of-unset low clear = false_from_ne_true (p k) (λ h. absurd (omega (arith, clear, set-of low h)))
+
 module _ (q : ℕ → Bool) (at n mask : ℕ) (marks : IsMask (λ k. q (at + k)) n mask) where
   -- a bit that is set
   block-set : (k : ℕ) → bit_at mask k ≡ 1 → (k < n) × (q (at + k) ≡ true)
-  block-set k set =
-      ⊎_elim (λ l. (l, is_set (q (at + k)) (sym (marks.within k l) ∙ set))) (λ l. absurd (omega (arith, marks.beyond k l))) (cases_lt k n)
-    where
-      is_set : (b : Bool) → cond {A = ℕ} b 1 0 ≡ 1 → b ≡ true
-      is_set true e = refl
-      is_set false e = absurd (omega arith)
+  block-set k set = of-set (λ k. q (at + k)) n mask k marks set
 
   -- one that is not
   block-clear : (k : ℕ) → at ≤ k → k < at + n → bit_at mask (k - at) ≡ 0 → q k ≡ false
   block-clear k low high clear =
       let same : at + (k - at) ≡ k = omega arith in
-      is_clear (q k) (sym (marks.within (k - at) (omega arith) ∙ ap (λ j. cond (q j) 1 0) same) ∙ clear)
-    where
-      is_clear : (b : Bool) → cond {A = ℕ} b 1 0 ≡ 0 → b ≡ false
-      is_clear true e = absurd (omega arith)
-      is_clear false e = refl
+      ap q (sym same) ∙ of-unset (λ k. q (at + k)) n mask (k - at) marks (omega arith) clear
 
   -- no bit is set
   pub block-none : mask ≡ 0 → HoldsNowhere q at (at + n)

@@ -258,6 +258,10 @@ empty-last (c ∷ cs) h =
     let last = last_pushed c cs in
     let pushed = ap last_part last.1 ∙ last_part-push (but_last (c ∷ cs)) last.0 in cc
 
+pub empty-first : (cs : List Placed) → None ≡ first_part cs → cs ≡ []
+empty-first [] h = refl
+empty-first (c ∷ cs) h = cc
+
 -- Steps of a cursor whose prefix is still to be taken.
 
 -- the component that is the prefix, before a body that begins at a place

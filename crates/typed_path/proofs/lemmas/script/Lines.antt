@@ -1,9 +1,9 @@
 -- Lines of an input that comes in pieces: their ends, their commands, their fields.
-use Rattle.std.proofs.Common.{◌≡◌, ℕ, List, [], ◌∷◌, ◌++◌, Bool, true, false, cond, append_assoc, eqb, refl, sym, ap, ◌∙◌, ◌≢◌, ◌==◌, subst, ◌||◌, All, length, take, append-nil, arith, map, drop, take_all, codes, bytes_eq, Result, OnOk, Option, Some, None, Ok, Err, IfOk, is_ok, take-append-drop}
+use Rattle.std.proofs.Common.{◌≡◌, ℕ, List, [], ◌∷◌, ◌++◌, Bool, true, false, cond, append_assoc, eqb, refl, sym, ap, ◌∙◌, ◌≢◌, ◌==◌, subst, All, length, take, append-nil, arith, map, drop, take_all, codes, bytes_eq, Result, OnOk, Option, Some, None, Ok, Err, IfOk, is_ok, take-append-drop}
 use Rattle.std.specs.List.{slice_split, onto_first, join_with_byte, flat_map}
 use Rattle.std.proofs.lemmas.List.Splits.{slice_split-cons_no, join_with_byte-slice_split, slice_split_none}
 use Rattle.std.proofs.lemmas.Slice.Eq.{bytes_eq-Decides}
-use Rattle.std.proofs.lemmas.Bool.{false_from_ne_true}
+use Rattle.std.proofs.lemmas.Bool.{false_from_ne_true, or_parts}
 use Rattle.std.proofs.lemmas.Result.{IfOk-weaker}
 use Rattle.std.proofs.lemmas.List.Elements.{All-weaker}
 use Rattle.std.proofs.Math.Seq.{take-append_seam}
@@ -254,19 +254,11 @@ module _ (input : List ℕ) (at : ℕ) (found : IsFirstOf (tab, line_feed) input
 
   -- what stands before it is one field
   pub field-before : fields_of (take at input) ≡ take at input ∷ []
-  field-before = slice_split_none (λ b. b == tab) (take at input) (All-weaker (λ b. is_one_of (tab, line_feed) b ≡ false) (λ b. (b == tab) ≡ false) (λ b e. first (b == tab) (b == line_feed) e) (take at input) neither_before)
-    where
-      first : (x y : Bool) → (x || y) ≡ false → x ≡ false
-      first true y e = e
-      first false y e = refl
+  field-before = slice_split_none (λ b. b == tab) (take at input) (All-weaker (λ b. is_one_of (tab, line_feed) b ≡ false) (λ b. (b == tab) ≡ false) (λ b e. (or_parts (b == tab) (b == line_feed) e).0) (take at input) neither_before)
 
   -- and stands in one line
   pub line-before : split_lines (take at input) ≡ take at input ∷ []
-  line-before = slice_split_none (λ b. b == line_feed) (take at input) (All-weaker (λ b. is_one_of (tab, line_feed) b ≡ false) (λ b. (b == line_feed) ≡ false) (λ b e. second (b == tab) (b == line_feed) e) (take at input) neither_before)
-    where
-      second : (x y : Bool) → (x || y) ≡ false → y ≡ false
-      second true y e = cc
-      second false y e = e
+  line-before = slice_split_none (λ b. b == line_feed) (take at input) (All-weaker (λ b. is_one_of (tab, line_feed) b ≡ false) (λ b. (b == line_feed) ≡ false) (λ b e. (or_parts (b == tab) (b == line_feed) e).1) (take at input) neither_before)
 
   -- as does the whole input, where there is none
   pub line-whole : at ≡ length input → split_lines input ≡ input ∷ []

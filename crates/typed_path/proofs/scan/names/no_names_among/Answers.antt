@@ -4,27 +4,8 @@ use Rattle.std.proofs.lemmas.Bool.{cases_lt, false_from_ne_true}
 use Rattle.typed_path.specs.components.{dot}
 use Rattle.typed_path.specs.scan.{stands_at, IsMask}
 use Rattle.typed_path.specs.changes.{begins_no_name, begins_no_name_at}
-use Rattle.typed_path.proofs.lemmas.scan.Searches.{mask-and, mask-or, mask-behind}
+use Rattle.typed_path.proofs.lemmas.scan.Searches.{mask-and, mask-or, mask-behind, of-set, of-unset}
 use Rattle.typed_path.proofs.scan.names.no_names_among.Goals as goal
-
--- a test tells of a bit of a mask, and the bit of the test
-module _ (p : ℕ → Bool) (n mask k : ℕ) (marks : IsMask p n mask) where
-  unset : k < n → bit_at mask k ≡ 0 → p k ≡ false
-  unset low clear = by (p k) (sym (marks.within k low) ∙ clear)
-    where
-      by : (b : Bool) → cond {A = ℕ} b 1 0 ≡ 0 → b ≡ false
-      by true e = absurd (omega arith)
-      by false e = refl
-
-  set : bit_at mask k ≡ 1 → p k ≡ true
-  set is = elim (cases_lt k n) [
-    | inl low ↦ by (p k) (sym (marks.within k low) ∙ is)
-    | inr high ↦ absurd (omega (arith, marks.beyond k high, is))
-  ]
-    where
-      by : (b : Bool) → cond {A = ℕ} b 1 0 ≡ 1 → b ≡ true
-      by true e = refl
-      by false e = absurd (omega arith)
 
 -- the marks of a block, as those of a longer one, in which nothing is marked behind it
 longer : (p : ℕ → Bool) (n more mask : ℕ) → n ≤ more → IsMask p n mask → IsMask (λ k. nat_lt k n && p k) more mask
@@ -79,7 +60,7 @@ module _ (text : List ℕ) (pair : ℕ × ℕ) (at ends dots : ℕ) (marked : Is
   is-set : (k : ℕ) → bit_at marks k ≡ 1 → (k < 31) × (begins_no_name_at pair text (at + k) ≡ true)
   is-set k is =
       let both = within-block (nat_lt k 32) (nat_lt (1 + k) 32) (nat_lt (2 + k) 32) (stands_at pair text (at + k)) (stands_at pair text (at + (1 + k))) (slice_index text (at + (1 + k)) == dot)
-      (stands_at pair text (at + (2 + k))) (slice_index text (at + (2 + k)) == dot) (set told 40 marks k together is) in (
+      (stands_at pair text (at + (2 + k))) (slice_index text (at + (2 + k)) == dot) (of-set told 40 marks k together is).1 in (
         omega (arith, ltb-true (1 + k) 32 both.0),
         behind k ∙ both.1,
       )
@@ -93,7 +74,7 @@ module _ (text : List ℕ) (pair : ℕ × ℕ) (at ends dots : ℕ) (marked : Is
       let dotted = λ (j : ℕ). slice_index text (at + j) == dot in
       behind k
       ∙ sym (λ i. (first i && marked k) && ((second i && marked (1 + k)) || ((second i && dotted (1 + k)) && ((third i && marked (2 + k)) || (third i && dotted (2 + k))))))
-      ∙ unset told 40 marks k together (omega (arith, low)) is
+      ∙ of-unset told 40 marks k together (omega (arith, low)) is
 
 pub returns-clause-set : goal.returns-clause-set
 returns-clause-set c = is-set c.args.text.now c.args.pair c.args.at c.args.ends c.marks_of-dots.result c.requires.ends c.marks_of-dots.ensures

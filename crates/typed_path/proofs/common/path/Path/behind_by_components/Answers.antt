@@ -1,15 +1,10 @@
-use Rattle.std.proofs.Common.{◌≡◌, List, [], ◌∷◌, refl, sym, ap, ◌∙◌, rules, option_map, Some, None}
+use Rattle.std.proofs.Common.{◌≡◌, sym, ap, ◌∙◌, rules, option_map, Some, None}
 use Rattle.std.proofs.lemmas.Bool.{not-true, not-false}
-use Rattle.typed_path.specs.components.{Placed}
-use Rattle.typed_path.specs.scan.{first_part}
 use Rattle.typed_path.specs.views.PathViews.{path_bytes}
 use Rattle.typed_path.specs.views.PieceViews.{part_of}
 use Rattle.typed_path.proofs.lemmas.queries.Bases.{Strips-start, Strips-end, Strips-short, Strips-differ, Strips-step}
 use Rattle.typed_path.proofs.common.path.Path.behind_by_components.Goals as goal
-
-nothing_left : (cs : List Placed) → None ≡ first_part cs → cs ≡ []
-nothing_left [] h = refl
-nothing_left (c ∷ cs) h = cc
+use Rattle.typed_path.proofs.lemmas.scan.Steps.{empty-first}
 
 pub pieces-init : goal.pieces-init
 pieces-init g c =
@@ -32,4 +27,4 @@ pieces-preserved g c =
 
 pub returns : goal.returns
 returns g c =
-    ap Some (c.new.ensures ∙ c.as_bytes.ensures) ∙ sym (Strips-end c.pieces.invariant (nothing_left _ c.in_default.ensures.taken))
+    ap Some (c.new.ensures ∙ c.as_bytes.ensures) ∙ sym (Strips-end c.pieces.invariant (empty-first _ c.in_default.ensures.taken))

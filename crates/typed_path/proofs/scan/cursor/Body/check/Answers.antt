@@ -1,7 +1,6 @@
-use Rattle.std.proofs.Common.{◌≡◌, ◌-◌, List, [], ◌∷◌, drop, length, true, refl, sym, ap, subst, ◌∙◌, arith, Some, None, Result, Ok, Err, length-take-le, length-drop}
-use Rattle.typed_path.specs.components.{Placed, kinds, parts, dialect_of}
+use Rattle.std.proofs.Common.{◌≡◌, ◌-◌, [], ◌∷◌, drop, length, true, refl, sym, ap, subst, ◌∙◌, arith, Some, Result, Ok, Err, length-take-le, length-drop}
+use Rattle.typed_path.specs.components.{kinds, parts, dialect_of}
 use Rattle.typed_path.specs.views.BodyViews.{body_slice, body_items}
-use Rattle.typed_path.specs.scan.{first_part}
 use Rattle.typed_path.specs.views.PieceViews.{step_part}
 use Rattle.typed_path.specs.changes.{fault_behind, fault_at, error_of, SeparatesDisallowed}
 use Rattle.typed_path.specs.queries.{kind_has_allowed_bytes}
@@ -9,7 +8,7 @@ use Rattle.typed_path.proofs.lemmas.queries.FileNames.{AllowsEach, allowed-body_
 use Rattle.std.specs.Result.{IsErrAnd}
 use Rattle.typed_path.proofs.lemmas.components.Cuts.{body_from-count}
 use Rattle.typed_path.proofs.lemmas.changes.Faults.{fault_behind-at}
-use Rattle.typed_path.proofs.lemmas.scan.Steps.{taken-first}
+use Rattle.typed_path.proofs.lemmas.scan.Steps.{taken-first, empty-first}
 use Rattle.typed_path.proofs.scan.cursor.Body.check.Goals as goal
 use Rattle.typed_path.proofs.scan.cursor.Body.check.Goals.{After-depth_behind}
 
@@ -66,12 +65,7 @@ steps-preserved c =
       deep = omega (arith, some.1, c.steps.invariant.deep, c.in_ok-depth.ensures.within, ap length c.in-Some.ensures.items);
     }
 
--- no component is left
-nothing_left : (cs : List Placed) → None ≡ first_part cs → cs ≡ []
-nothing_left [] e = refl
-nothing_left (c ∷ cs) e = cc
-
 pub returns : goal.returns
 returns c =
     sym (c.steps.invariant.fault
-    ∙ ap (λ cs. fault_at (dialect_of c.steps.self.separators) c.steps.depth (kinds (parts cs))) (nothing_left _ c.in_default.ensures.taken))
+    ∙ ap (λ cs. fault_at (dialect_of c.steps.self.separators) c.steps.depth (kinds (parts cs))) (empty-first _ c.in_default.ensures.taken))
