@@ -7,6 +7,7 @@ use Rattle.std.proofs.lemmas.List.Sums.{sum_by_push}
 use Rattle.std.proofs.lemmas.Bool.{cases_lt, lt-leb, and_parts, false_from_ne_true, or_parts, not-true, eqb-false}
 use Rattle.std.proofs.lemmas.List.Splits.{slice_split-cons_yes}
 use Rattle.std.proofs.lemmas.List.{get_or_past, map-append}
+use Rattle.typed_path.specs.declared.errors.CheckedPathError.{CheckedPathError}
 use Rattle.typed_path.specs.declared.errors.CheckedPathError.TheVariants.{InvalidFilename}
 use Rattle.typed_path.specs.declared.scan.separators.Separators.{Separators}
 use Rattle.typed_path.specs.declared.scan.separators.Separators.TheVariants.{Either, Slash}
@@ -50,6 +51,11 @@ fault_behind-at d before depth (normal name ∷ ks) e =
     by true h = h
     by false h = refl
 
+-- what stands behind a name is not refused where the name and it are not
+named-more : (b : Bool) (o : Option CheckedPathError) → (if b then o else Some InvalidFilename) ≡ None → o ≡ None
+named-more true o e = e
+named-more false o e = cc
+
 -- a list that is not refused never holds more parents than names
 pub fault_at-overdraws : (d : Dialect) (depth : ℕ) (ks : List Kind) → fault_at d depth ks ≡ None → overdraws depth ks ≡ false
 fault_at-overdraws d depth [] e = refl
@@ -58,11 +64,7 @@ fault_at-overdraws d depth (root ∷ ks) e = cc
 fault_at-overdraws d depth (current ∷ ks) e = fault_at-overdraws d depth ks e
 fault_at-overdraws d zero (parent ∷ ks) e = cc
 fault_at-overdraws d (suc depth) (parent ∷ ks) e = fault_at-overdraws d depth ks e
-fault_at-overdraws d depth (normal name ∷ ks) e = fault_at-overdraws d (suc depth) ks (by (is_valid_name d name) e)
-  where
-    by : (b : Bool) → (if b then fault_at d (suc depth) ks else Some InvalidFilename) ≡ None → fault_at d (suc depth) ks ≡ None
-    by true h = h
-    by false h = cc
+fault_at-overdraws d depth (normal name ∷ ks) e = fault_at-overdraws d (suc depth) ks (named-more (is_valid_name d name) (fault_at d (suc depth) ks) e)
 
 -- nor does it begin with a root
 pub fault_at-relative : (d : Dialect) (depth : ℕ) (ks : List Kind) → fault_at d depth ks ≡ None → begins_with_root ks ≡ false
@@ -83,11 +85,7 @@ fault_at-no_heads d depth (root ∷ ks) e = cc
 fault_at-no_heads d depth (current ∷ ks) e = fault_at-no_heads d depth ks e
 fault_at-no_heads d zero (parent ∷ ks) e = cc
 fault_at-no_heads d (suc depth) (parent ∷ ks) e = fault_at-no_heads d depth ks e
-fault_at-no_heads d depth (normal name ∷ ks) e = fault_at-no_heads d (suc depth) ks (by (is_valid_name d name) e)
-  where
-    by : (b : Bool) → (if b then fault_at d (suc depth) ks else Some InvalidFilename) ≡ None → fault_at d (suc depth) ks ≡ None
-    by true h = h
-    by false h = cc
+fault_at-no_heads d depth (normal name ∷ ks) e = fault_at-no_heads d (suc depth) ks (named-more (is_valid_name d name) (fault_at d (suc depth) ks) e)
 
 -- so it does not begin with a root
 pub no_heads-relative : (ks : List Kind) → no_heads ks ≡ true → begins_with_root ks ≡ false

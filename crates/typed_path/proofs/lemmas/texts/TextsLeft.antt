@@ -134,6 +134,11 @@ unless_text : (b : Bool) (t : List ℕ) → is_utf8 t ≡ true → is_text_optio
 unless_text true t is = refl
 unless_text false t is = is
 
+-- one that is made of another
+map_text : (f : List ℕ → List ℕ) → ((name : List ℕ) → is_utf8 name ≡ true → is_utf8 (f name) ≡ true) → (o : Option (List ℕ)) → is_text_option o ≡ true → is_text_option (option_map f o) ≡ true
+map_text f each None e = refl
+map_text f each (Some name) e = each name e
+
 -- the name that a kind is
 pub name_of-text : (k : Kind) → is_text_kind k ≡ true → is_text_option (name_of k) ≡ true
 name_of-text (normal name) e = e
@@ -199,19 +204,11 @@ module _ (d : Dialect) (t : List ℕ) (is : is_utf8 t ≡ true) where
 
   -- its stem
   pub file_stem-text : is_text_option (file_stem_of d t) ≡ true
-  file_stem-text = by (file_name_of d t) file_name-text
-    where
-      by : (o : Option (List ℕ)) → is_text_option o ≡ true → is_text_option (option_map stem_of o) ≡ true
-      by None e = refl
-      by (Some name) e = stem_of-text name e
+  file_stem-text = map_text stem_of stem_of-text (file_name_of d t) file_name-text
 
   -- its first stem
   pub file_prefix-text : is_text_option (file_prefix_of d t) ≡ true
-  file_prefix-text = by (file_name_of d t) file_name-text
-    where
-      by : (o : Option (List ℕ)) → is_text_option o ≡ true → is_text_option (option_map first_stem_of o) ≡ true
-      by None e = refl
-      by (Some name) e = first_stem_of-text name e
+  file_prefix-text = map_text first_stem_of first_stem_of-text (file_name_of d t) file_name-text
 
   -- and its extension
   pub extension-text : is_text_option (extension d t) ≡ true
