@@ -22,10 +22,7 @@ use Rattle.typed_path.proofs.lemmas.lists.Lists.{IsUnseparated}
 use Rattle.typed_path.proofs.lemmas.scan.Steps.{last_of-behind}
 use Rattle.typed_path.proofs.lemmas.queries.Parents.{HasName, name_end-name}
 use Rattle.typed_path.proofs.lemmas.changes.AddedNames.{clash, name-last, within, fits, cut_body, behind, grown-name, same_front, grown-parent, KeepsFront}
-
-and-false : (b : Bool) → (b && false) ≡ false
-and-false true = refl
-and-false false = refl
+use Rattle.std.proofs.Math.Bool.{and-false}
 
 -- two separators and a byte that is none begin a prefix
 two_found : (p q c : ℕ) (u : List ℕ) → is_separator Either p ≡ true → is_separator Either q ≡ true → is_separator Either c ≡ false → prefix_of windows (p ∷ q ∷ c ∷ u) ≡ None → ⊥

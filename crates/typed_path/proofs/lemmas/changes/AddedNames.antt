@@ -221,16 +221,13 @@ of_name : (k : Kind) (name : List ℕ) → name_of k ≡ Some name → k ≡ nor
 of_name (normal n) name e = ap normal (same_Some _ _ e)
 of_name k name e = cc
 
+heads : {q r : Part} {qs rs : List Part} → q ∷ qs ≡ r ∷ rs → (q ≡ r) × (qs ≡ rs)
+heads h = (cc, cc)
+
 written-last_of : (d : Dialect) (cs : List Placed) (c : Placed) → parts cs ≡ as_written d (parts cs) → last_of cs ≡ Some c → c.part ≡ written d c.part
 written-last_of d [] c all is = cc
 written-last_of d (p ∷ []) c all is = let same : p ≡ c = same_Some _ _ is in subst (λ q. q.part ≡ written d q.part) same (heads all).0
-  where
-    heads : {q r : Part} {qs rs : List Part} → q ∷ qs ≡ r ∷ rs → (q ≡ r) × (qs ≡ rs)
-    heads h = (cc, cc)
 written-last_of d (p ∷ q ∷ cs) c all is = written-last_of d (q ∷ cs) c (heads all).1 (sym (last_of-behind p q cs) ∙ is)
-  where
-    heads : {q r : Part} {qs rs : List Part} → q ∷ qs ≡ r ∷ rs → (q ≡ r) × (qs ≡ rs)
-    heads h = (cc, cc)
 
 pub name-last : (d : Dialect) (t name : List ℕ) → file_name_of d t ≡ Some name → HasName d t name
 name-last d t name e = by (last_of (comps d t)) refl e

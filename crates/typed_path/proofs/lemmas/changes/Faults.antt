@@ -20,6 +20,7 @@ use Rattle.typed_path.proofs.lemmas.components.Segments.{pieces, named_part, lat
 use Rattle.typed_path.proofs.lemmas.components.PrefixCuts.{parts_of-none, parts_of-some}
 use Rattle.typed_path.proofs.lemmas.places.Resolving.{Alike, current-alike, is_head, no_heads, resolve-append}
 use Rattle.typed_path.proofs.lemmas.lists.Lists.{slice_split-some, AllByRecursion-append}
+use Rattle.std.proofs.Math.Bool.{and-false}
 
 -- A path judged component by component, and what holds of one that is not refused.
 
@@ -197,11 +198,7 @@ no_pair-nowhere (x ∷ xs) none =
 no_pair-somewhere : (text : List ℕ) (k : ℕ) → k < length text → nul_or_dot_pair_at text k ≡ true → has_no_nul_or_dot_pair text ≡ false
 no_pair-somewhere [] k within here = absurd (omega arith)
 no_pair-somewhere (x ∷ xs) zero within here = ap (λ harm. not harm && has_no_nul_or_dot_pair xs) (sym (front-place x xs) ∙ here)
-no_pair-somewhere (x ∷ xs) (suc k) within here = ap (λ rest. not (begins_with_nul_or_dot_pair (x ∷ xs)) && rest) (no_pair-somewhere xs k (omega arith) (sym (later-place x k xs) ∙ here)) ∙ never (not (begins_with_nul_or_dot_pair (x ∷ xs)))
-  where
-    never : (b : Bool) → b && false ≡ false
-    never true = refl
-    never false = refl
+no_pair-somewhere (x ∷ xs) (suc k) within here = ap (λ rest. not (begins_with_nul_or_dot_pair (x ∷ xs)) && rest) (no_pair-somewhere xs k (omega arith) (sym (later-place x k xs) ∙ here)) ∙ and-false (not (begins_with_nul_or_dot_pair (x ∷ xs)))
 
 module _ (text : List ℕ) (some : 0 < length text) where
   -- behind the last byte of a text stands no dot

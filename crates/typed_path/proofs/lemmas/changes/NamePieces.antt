@@ -18,6 +18,7 @@ use Rattle.typed_path.proofs.lemmas.changes.Joins.{backslash-free}
 use Rattle.typed_path.proofs.lemmas.changes.WindowsPushes.{stands-more}
 use Rattle.typed_path.proofs.lemmas.changes.MergedInPlace.{no-prefix}
 use Rattle.typed_path.proofs.lemmas.components.FirmPrefixes.{filled-long}
+use Rattle.std.proofs.Math.Bool.{or_self}
 
 -- ---- what the looks tell of the pieces
 module _ (pair : ℕ × ℕ) where
@@ -213,12 +214,8 @@ module _ (pair : ℕ × ℕ) where
 
 -- names are components
 pub names-components : (s : Separators) (text : List ℕ) → list_all is_name_piece (slice_split (is_one_of (backslash, backslash)) text) ≡ true → true ≡ list_all (is_component s) (slice_split (is_separator Backslash) text)
-names-components s text e = sym (ap (λ p. list_all (is_component s) (slice_split p text)) (λ i b. once (b == backslash) i) ∙ each (slice_split (is_one_of (backslash, backslash)) text) e)
+names-components s text e = sym (ap (λ p. list_all (is_component s) (slice_split p text)) (λ i b. sym (or_self (b == backslash)) i) ∙ each (slice_split (is_one_of (backslash, backslash)) text) e)
   where
-    once : (x : Bool) → x ≡ (x || x)
-    once true = refl
-    once false = refl
-
     one : (empty dotted twice verbatim : Bool) → not (empty || dotted || twice) ≡ true → not (empty || (dotted && not verbatim)) ≡ true
     one true dotted twice verbatim h = h
     one false true twice verbatim h = cc

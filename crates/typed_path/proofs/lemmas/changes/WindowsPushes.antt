@@ -18,6 +18,7 @@ use Rattle.typed_path.proofs.lemmas.components.PrefixCuts.{parts_of-none, parts_
 use Rattle.typed_path.proofs.lemmas.promises.WindowsBases.{read-no_drive, disk_alone-filled}
 use Rattle.typed_path.proofs.lemmas.lists.Lists.{AllByRecursion-append, IsLastPlace, place-none, place-behind}
 use Rattle.typed_path.proofs.lemmas.components.FirmPrefixes.{filled-long}
+use Rattle.std.proofs.Math.Bool.{and-false}
 
 -- What a push of Windows asks of its base, and a base that is written anew.
 
@@ -282,11 +283,7 @@ module _ (room : ℕ) (base path : List ℕ) where
   fits-by b e fits = subst (FitsBy windows room base path) e fits
 
   pub fits-plain : spells_anew windows base ≡ false → FitsPush windows room base path → length (push windows base path) ≤ room
-  fits-plain e = fits-by false (ap (λ b. not (is_empty path || has_prefix (kinds (parts_of windows path))) && b) e ∙ by (not (is_empty path || has_prefix (kinds (parts_of windows path)))))
-    where
-      by : (b : Bool) → b && false ≡ false
-      by true = refl
-      by false = refl
+  fits-plain e = fits-by false (ap (λ b. not (is_empty path || has_prefix (kinds (parts_of windows path))) && b) e ∙ and-false (not (is_empty path || has_prefix (kinds (parts_of windows path)))))
 
   pub fits-prefixed : has_prefix (kinds (parts_of windows path)) ≡ true → FitsPush windows room base path → length (push windows base path) ≤ room
   fits-prefixed e = fits-by false (ap (λ b. not (is_empty path || b) && spells_anew windows base) e ∙ by (is_empty path))

@@ -257,7 +257,7 @@ parts_behind-raw s raw rest (Some f) whole =
     ∙ ap₂ (λ t u. prefix_part f.prefix t ∷ body_parts s u) (take-append_seam raw rest) (drop-append_seam raw rest)
 
 -- a prefix with more behind it is no drive alone
-disk_alone-more : (p : Prefix) (k : Kind) (ks : List Kind) → is_disk_alone (prefix p ∷ k ∷ ks) ≡ false
+pub disk_alone-more : (p : Prefix) (k : Kind) (ks : List Kind) → is_disk_alone (prefix p ∷ k ∷ ks) ≡ false
 disk_alone-more (disk letter) k ks = refl
 disk_alone-more p k ks = refl
 

@@ -22,6 +22,7 @@ use Rattle.typed_path.proofs.lemmas.promises.WindowsBases.{read-no_drive}
 use Rattle.typed_path.proofs.lemmas.promises.WindowsStable.{push-first}
 use Rattle.typed_path.proofs.lemmas.promises.UnixContained.{parts_of-unix, push_unix-name, push_unix-behind}
 use Rattle.typed_path.proofs.lemmas.components.Prefixes.{OfWindows, separators-windows, Read, of_disk, prefix-read}
+use Rattle.std.proofs.Math.Dec.{eqb-suc-zero}
 
 -- What a path of Unix is read as once it is converted to Windows.
 
@@ -92,10 +93,6 @@ ended-first b bs = by (length (b ∷ bs) == 0 || slice_index (b ∷ bs) (length 
     by true = (bs, refl)
     by false = (bs ++ backslash ∷ [], refl)
 
--- a text that is not empty
-cons-filled : (b : ℕ) (bs : List ℕ) → (length (b ∷ bs) == 0) ≡ false
-cons-filled b bs = ne_eqb (length (b ∷ bs)) 0 (λ none. omega (arith, none))
-
 module _ (text : List ℕ) (bare : IsBare text) where
   -- a step behind it leaves it so
   pub bare-next : (b : ℕ) (bs : List ℕ) → is_separator Either b ≡ false → IsBare (ended_with backslash text ++ b ∷ bs)
@@ -106,7 +103,7 @@ module _ (text : List ℕ) (bare : IsBare text) where
         filled = ne_eqb (length (front ++ b ∷ bs)) 0 (λ none. omega (arith, none, length-append front (b ∷ bs)));
         no_prefix = bare.stays b bs plain;
         stays = λ c rest other.
-            ap (λ t. prefix_of windows (t ++ c ∷ rest)) (ended_with-append backslash front (b ∷ bs) (cons-filled b bs) ∙ ap (λ t. front ++ t) first.1)
+            ap (λ t. prefix_of windows (t ++ c ∷ rest)) (ended_with-append backslash front (b ∷ bs) (eqb-suc-zero (length bs)) ∙ ap (λ t. front ++ t) first.1)
             ∙ ap (prefix_of windows) (append_assoc front (b ∷ first.0) (c ∷ rest))
             ∙ bare.stays b (first.0 ++ c ∷ rest) plain;
       }
@@ -123,7 +120,7 @@ module _ (text : List ℕ) (bare : IsBare text) where
   pub push-step : (p : Part) (b : ℕ) (bs : List ℕ) → IsReadAlone p b bs → push_windows text p.text ≡ ended_with backslash text ++ b ∷ bs
   push-step p b bs is =
       ap (push_windows text) is.text
-      ∙ push-relative text (b ∷ bs) (cons-filled b bs) (ap (λ ps. has_prefix (kinds ps)) is.alone ∙ is.no_prefix) (verbatim-none text bare.no_prefix) (ap (λ ps. begins_with_root (kinds ps)) is.alone ∙ is.relative)
+      ∙ push-relative text (b ∷ bs) (eqb-suc-zero (length bs)) (ap (λ ps. has_prefix (kinds ps)) is.alone ∙ is.no_prefix) (verbatim-none text bare.no_prefix) (ap (λ ps. begins_with_root (kinds ps)) is.alone ∙ is.relative)
       ∙ ap (λ t. t ++ b ∷ bs) (cond-false (is_disk_alone (kinds (parts_of windows text))) text (ended_with backslash text) bare-no_drive)
 
 -- steps pushed one by one add one component each

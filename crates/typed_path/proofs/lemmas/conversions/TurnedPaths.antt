@@ -456,6 +456,10 @@ crosses-root path (x ∷ []) s p w read without one rooted =
       fits = λ room fits. fits-unix room [] (crossed unix p) ((slash ∷ []) ∷ []) (subst (FitsEach unix room []) listed fits);
     }
 
+-- a byte that is no letter is not that of a drive
+pub letter_is : (a c : ℕ) → is_drive_letter c ≡ false → is_drive_letter a ≡ true → (a == c) ≡ false
+letter_is a c other own = false_from_ne_true _ (λ h. both_ways (is_drive_letter a) (ap is_drive_letter (eqb-true a c h) ∙ other) own)
+
 -- a drive alone has no separator
 drive-turned : (path : List ℕ) (f : Found) → Read (separators windows path) path f → is_disk f.prefix ≡ true → length path ≡ f.length → turned Either slash path ≡ path
 drive-turned [] _ (of_disk letter of) disk whole = cc
@@ -463,9 +467,6 @@ drive-turned (a ∷ []) _ (of_disk letter of) disk whole = cc
 drive-turned (a ∷ b ∷ []) _ (of_disk letter of) disk whole =
     let own = drive-letter a b [] letter of in
     ap₂ (λ c d. (if c then slash else a) ∷ (if d then slash else b) ∷ []) (ap₂ (λ c d. c || d) (letter_is a slash refl own.0) (letter_is a backslash refl own.0)) (ap (is_separator Either) own.1)
-  where
-    letter_is : (a c : ℕ) → is_drive_letter c ≡ false → is_drive_letter a ≡ true → (a == c) ≡ false
-    letter_is a c other own = false_from_ne_true _ (λ h. both_ways (is_drive_letter a) (ap is_drive_letter (eqb-true a c h) ∙ other) own)
 drive-turned (a ∷ b ∷ c ∷ text) _ (of_disk letter of) disk whole = absurd (omega (arith, whole))
 drive-turned path _ (of_verbatim_unc rest mark server) disk whole = cc
 drive-turned path _ (of_verbatim_disk rest letter mark of) disk whole = cc

@@ -1,11 +1,11 @@
 -- Paths of which looks at their bytes tell that no component is refused as it crosses.
-use Rattle.std.proofs.Common.{All, Option, not, Ok, take, drop, ◌≡◌, ℕ, ◌==◌, ◌||◌, ◌&&◌, Bool, true, false, if◌then◌else◌, List, [], ◌∷◌, map, length, refl, sym, ap, ◌∙◌, subst, eqb-true, true≢false, Some, None}
+use Rattle.std.proofs.Common.{All, Option, not, Ok, take, drop, ◌≡◌, ℕ, ◌==◌, ◌||◌, ◌&&◌, Bool, true, false, if◌then◌else◌, List, [], ◌∷◌, map, length, refl, sym, ap, ◌∙◌, subst, true≢false, Some, None}
 use Rattle.std.specs.List.{AllByRecursion, list_any}
-use Rattle.std.proofs.lemmas.Bool.{and_parts, and_right, or_parts, false_from_ne_true, both_ways}
+use Rattle.std.proofs.lemmas.Bool.{and_parts, and_right, or_parts}
 use Rattle.std.proofs.lemmas.List.Elements.{All-nil, All-cons}
 use Rattle.typed_path.specs.declared.scan.separators.Separators.{Separators}
 use Rattle.typed_path.specs.declared.scan.separators.Separators.TheVariants.{Slash, Backslash, Either}
-use Rattle.typed_path.specs.components.{Dialect, unix, windows, dot, slash, backslash, colon, question, is_separator, is_dot, root_text, is_verbatim, Part, current_part, root_part, drive, is_drive_letter, parts_of, separators, Found, prefix_of, prefix_part, Kind, prefix, root, current, parent, normal, kinds}
+use Rattle.typed_path.specs.components.{Dialect, unix, windows, dot, slash, backslash, colon, question, is_separator, is_dot, root_text, is_verbatim, Part, current_part, root_part, drive, parts_of, separators, Found, prefix_of, prefix_part, Kind, prefix, root, current, parent, normal, kinds}
 use Rattle.typed_path.specs.changes.{push, push_all, fault, has_device, is_stray, is_forbidden, is_forbidden_or}
 use Rattle.typed_path.specs.queries.{is_valid, is_valid_kind, is_disallowed, kind_has_allowed_bytes, is_reserved}
 use Rattle.typed_path.specs.conversions.{AllowsCrossing, crossed, IsUnrefused, crossing_fault, push_checked_each, push_unless}
@@ -21,7 +21,7 @@ use Rattle.typed_path.proofs.lemmas.places.WindowsRows.{IsWithoutSlash, without_
 use Rattle.typed_path.proofs.lemmas.components.PrefixCuts.{parts_of-none, parts_of-some}
 use Rattle.typed_path.proofs.lemmas.changes.ValidPaths.{any-pieces}
 use Rattle.typed_path.proofs.lemmas.scan.Blanks.{free-behind}
-use Rattle.typed_path.proofs.lemmas.conversions.TurnedPaths.{pieces-slash, read-unix}
+use Rattle.typed_path.proofs.lemmas.conversions.TurnedPaths.{pieces-slash, read-unix, letter_is}
 
 -- ---- checked pushes of what is not refused
 
@@ -148,9 +148,6 @@ body-unrefused s w text without free = valid-unrefused unix s (body_parts s text
 prefix-unrefused : (path : List ℕ) (f : Found) → prefix_of windows path ≡ Some f → crossing_fault unix (prefix_part f.prefix (take f.length path)) ≡ None
 prefix-unrefused path f is = by path f (prefix-read path f is)
   where
-    letter_is : (a c : ℕ) → is_drive_letter c ≡ false → is_drive_letter a ≡ true → (a == c) ≡ false
-    letter_is a c other own = false_from_ne_true _ (λ h. both_ways (is_drive_letter a) (ap is_drive_letter (eqb-true a c h) ∙ other) own)
-
     by : (path : List ℕ) (f : Found) → Read (separators windows path) path f → crossing_fault unix (prefix_part f.prefix (take f.length path)) ≡ None
     by [] _ (of_disk letter drive) = cc
     by (a ∷ []) _ (of_disk letter drive) = cc

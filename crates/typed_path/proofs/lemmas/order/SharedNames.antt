@@ -27,9 +27,6 @@ use Rattle.typed_path.specs.queries.{path_starts_with}
 use Rattle.typed_path.proofs.lemmas.queries.Bases.{begins, body-ended}
 use Rattle.typed_path.proofs.lemmas.order.Comparisons.{cmp-behind}
 
-filled : (b : ℕ) (rest : List ℕ) → (length (b ∷ rest) == 0) ≡ false
-filled b rest = eqb-suc-zero (length rest)
-
 -- a segment that is a name is read as one
 first-name : (s : Separators) (piece : List ℕ) (at : ℕ) → is_name_piece piece ≡ true → first s (record { text = piece; start = at }) ≡ component (name_part piece) at
 first-name s piece at h = by (is_empty piece) (is_dot piece) (is_dot_dot piece) _ _ _ _ h
@@ -51,7 +48,7 @@ counts-name s piece h = by (is_empty piece) (is_dot piece) (is_dot_dot piece) (i
 
 -- three bytes or more are a name
 long-name : (a b c : ℕ) (rest : List ℕ) → is_name_piece (a ∷ b ∷ c ∷ rest) ≡ true
-long-name a b c rest = ap (λ e. not (e || false || false)) (filled a (b ∷ c ∷ rest))
+long-name a b c rest = ap (λ e. not (e || false || false)) (eqb-suc-zero (length (b ∷ c ∷ rest)))
 
 -- a segment that holds another byte than a dot is a name
 holds-name : (xs : List ℕ) (b : ℕ) (ys : List ℕ) → (b == dot) ≡ false → is_name_piece (xs ++ b ∷ ys) ≡ true

@@ -16,6 +16,7 @@ use Rattle.typed_path.proofs.lemmas.components.Cuts.{comps-count}
 use Rattle.typed_path.proofs.lemmas.places.KeptNames.{AlikeKept, unmet-append, kept_names-append}
 use Rattle.typed_path.proofs.lemmas.order.Comparisons.{bare, kinds-prefixed, kinds-push}
 use Rattle.typed_path.proofs.lemmas.scan.Steps.{last_pushed, last_part-push, empty-last}
+use Rattle.std.proofs.Math.Bool.{and-false, and-true}
 
 -- Lists that are seen alike by each list before them.
 
@@ -202,14 +203,6 @@ ends-taken xs ys more_xs more_ys a b same e f size told =
     ap₂ (starts_with bytes_eq) e f ∙ both-longer xs ys a b less ∙ ap (λ t. starts_with bytes_eq xs ys && t) (sym told) in
     record {
       size = less;
-      alike = λ yes. answer ∙ ap (λ t. starts_with bytes_eq xs ys && t) yes ∙ by_true (starts_with bytes_eq xs ys);
-      unlike = λ no. answer ∙ ap (λ t. starts_with bytes_eq xs ys && t) no ∙ by_false (starts_with bytes_eq xs ys);
+      alike = λ yes. answer ∙ ap (λ t. starts_with bytes_eq xs ys && t) yes ∙ and-true (starts_with bytes_eq xs ys);
+      unlike = λ no. answer ∙ ap (λ t. starts_with bytes_eq xs ys && t) no ∙ and-false (starts_with bytes_eq xs ys);
     }
-  where
-    by_true : (t : Bool) → t && true ≡ t
-    by_true true = refl
-    by_true false = refl
-
-    by_false : (t : Bool) → t && false ≡ false
-    by_false true = refl
-    by_false false = refl

@@ -1,5 +1,5 @@
 -- Whether a path is reached from a base, by how many steps, and what room these take.
-use Rattle.std.proofs.Common.{◌≡◌, ℕ, suc, ◌+◌, ◌-◌, ◌≤◌, ◌==◌, Bool, true, false, ◌&&◌, List, [], ◌∷◌, ◌++◌, if◌then◌else◌, length, drop, refl, sym, ap, ap₂, ◌∙◌, arith, nat_le, subst, length-drop, Option, Some, None}
+use Rattle.std.proofs.Common.{◌≡◌, ℕ, suc, ◌+◌, ◌-◌, ◌≤◌, ◌==◌, Bool, true, false, ◌&&◌, List, [], ◌∷◌, ◌++◌, if◌then◌else◌, length, drop, sym, ap, ap₂, ◌∙◌, arith, nat_le, subst, length-drop, Option, Some, None}
 use Rattle.std.proofs.lemmas.Bool.{cond_both}
 use Rattle.std.proofs.lemmas.List.{length-map}
 use Rattle.typed_path.specs.declared.scan.separators.Separators.{Separators}
@@ -9,6 +9,7 @@ use Rattle.typed_path.proofs.lemmas.lists.Lists.{width, width-slice_split}
 use Rattle.typed_path.proofs.lemmas.components.Segments.{body_parts, first_part, first_parts, later_part, later_parts, named_part, parts_behind, parts-comps_behind, pieces}
 use Rattle.typed_path.proofs.lemmas.places.SharedFromBack.{shared_count-least, shared_count-most}
 use Rattle.typed_path.proofs.lemmas.places.TakenNames.{rows-drop, row-size}
+use Rattle.std.proofs.Math.Bool.{and-false}
 
 pub met-own : (ks ls : List Kind) → met_count ks ls ≤ length (kept_names ks)
 met-own ks ls = by (rising ks == rising ls)
@@ -47,11 +48,7 @@ few-steps cs =
     less false = omega arith
 
 pub not-standing : (ks ls : List Kind) → can_stand (names_down ks ls) ≡ false → is_reached ks ls ≡ false
-not-standing ks ls e = ap (λ b. (same_heads ks ls && nat_le (rising ls) (rising ks)) && b) e ∙ by (same_heads ks ls && nat_le (rising ls) (rising ks))
-  where
-    by : (b : Bool) → b && false ≡ false
-    by true = refl
-    by false = refl
+not-standing ks ls e = ap (λ b. (same_heads ks ls && nat_le (rising ls) (rising ks)) && b) e ∙ and-false (same_heads ks ls && nat_le (rising ls) (rising ks))
 
 -- the names behind those that are met
 pub names-down : (ks ls : List Kind) (m downs : ℕ) → m ≡ met_count ks ls → downs ≡ length (kept_names ks) - m → drop (length (kept_names ks) - downs) (kept_names ks) ≡ names_down ks ls

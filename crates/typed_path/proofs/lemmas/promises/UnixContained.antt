@@ -4,7 +4,7 @@ use Rattle.std.proofs.lemmas.List.{map-append, drop-map, drop_all, length-map}
 use Rattle.std.specs.List.{AllByRecursion, onto_first}
 use Rattle.std.proofs.lemmas.List.Elements.{All-head}
 use Rattle.std.proofs.lemmas.List.Splits.{slice_split-cons_yes, slice_split-cons_no}
-use Rattle.std.proofs.lemmas.Bool.{both_ways, cases_lt, cond_both, true_from_ne_false}
+use Rattle.std.proofs.lemmas.Bool.{both_ways, cases_lt, true_from_ne_false}
 use Rattle.std.proofs.lemmas.Slice.Eq.{starts_is, bytes_eq-Decides}
 use Rattle.typed_path.specs.declared.errors.CheckedPathError.TheVariants.{InvalidFilename}
 use Rattle.typed_path.specs.declared.scan.separators.Separators.{Separators}
@@ -280,11 +280,6 @@ kinds-begin t b begins =
     ∙ map-append kind_by_text B (drop n T)
     ∙ ap₂ ◌++◌ (sym (kinds-texts b)) (sym (drop-map kind_by_text n T) ∙ ap (drop n) (sym (kinds-texts t)))
 
--- pushed onto the empty text, a path is itself
-push_unix-empty : (t : List ℕ) → push_unix [] t ≡ t
-push_unix-empty [] = refl
-push_unix-empty (b ∷ t) = cond_both (b == slash) (b ∷ t) (b ∷ t) (λ u. u ≡ b ∷ t) (λ e. refl) (λ e. refl)
-
 -- a text whose first piece is filled has no root
 filled-relative : (s : Separators) (text head : List ℕ) (others : List (List ℕ)) → pieces s text ≡ head ∷ others → (length head == 0) ≡ false → begins_with_root (kinds (body_parts s text)) ≡ false
 filled-relative s [] head others split filled = refl
@@ -332,7 +327,7 @@ count t = length-map (parts_of unix t) (λ p. p.kind) ∙ length-map (comps unix
 
 -- what is left of a path behind a base, joined to that base
 left_joins : (t b : List ℕ) → path_starts_with unix t b ≡ true → kinds (parts_of unix (push_unix b (left (comps unix t) t (length (comps unix b)) 0))) ≡ kinds (parts_of unix t)
-left_joins t [] begins = ap (λ u. kinds (parts_of unix u)) (push_unix-empty (left (comps unix t) t 0 0) ∙ left-all (comps unix t) t)
+left_joins t [] begins = ap (λ u. kinds (parts_of unix u)) (push_unix-nothing (left (comps unix t) t 0 0) ∙ left-all (comps unix t) t)
 left_joins t (b ∷ bs) begins = by (length (comps unix (b ∷ bs))) refl (body-filled Slash 0 b bs)
   where
     by : (n : ℕ) → length (comps unix (b ∷ bs)) ≡ n → 0 < n → kinds (parts_of unix (push_unix (b ∷ bs) (left (comps unix t) t n 0))) ≡ kinds (parts_of unix t)

@@ -2,13 +2,13 @@
 use Rattle.std.proofs.Common.{◌≡◌, ℕ, ◌+◌, ◌-◌, ◌<◌, ◌≤◌, ◌==◌, Bool, true, false, not, ◌&&◌, List, [], ◌∷◌, ◌++◌, if◌then◌else◌, length, refl, sym, ap, ap₂, ◌∙◌, append-nil, arith, subst, inl, inr, eq-eqb, Option, Some, None}
 use Rattle.std.specs.Prelude.{◌⊎◌, ◌≢◌}
 use Rattle.std.specs.List.{AllByRecursion}
-use Rattle.std.proofs.lemmas.Bool.{cases_lt, cond_both, or_parts}
+use Rattle.std.proofs.lemmas.Bool.{cases_lt, or_parts}
 use Rattle.std.proofs.lemmas.List.{drop_all, map-append}
 use Rattle.std.proofs.lemmas.List.Folds.{list_any_none}
 use Rattle.typed_path.specs.declared.scan.separators.Separators.TheVariants.{Slash}
 use Rattle.typed_path.specs.components.{Dialect, unix, windows, slash, dot, is_separator, Kind, prefix, root, current, parent, normal, Part, kinds, parts_of, prefix_of}
 use Rattle.typed_path.specs.queries.{begins_with_root}
-use Rattle.typed_path.specs.changes.{push, push_unix, ended_with}
+use Rattle.typed_path.specs.changes.{push, push_unix}
 use Rattle.typed_path.specs.places.{can_stand, headed, is_anchored, is_reached, kept_names, met_count, names_down, relative_text, rising, route, same_heads, shared_count, steps_text, steps_up, unmet}
 use Rattle.typed_path.specs.promises.{HasNone, HasNoneAtAll, HasNoneOnUnix, IsDotAlike, IsUnreached, apart, higher, unreadable, without_leading_current}
 use Rattle.typed_path.proofs.lemmas.lists.Lists.{slice_split-some}
@@ -20,7 +20,7 @@ use Rattle.typed_path.proofs.lemmas.promises.StepsBack.{alike-heads, free-rising
 use Rattle.typed_path.proofs.lemmas.promises.StepsRead.{body-clean, clean-drop, names-unix, read-relative, stays_relative}
 use Rattle.typed_path.proofs.lemmas.promises.CleanForms.{parts-plain, plain, route-plain, route-tells}
 use Rattle.typed_path.proofs.lemmas.promises.CleanRead.{anchored-stays, names-ups, unmet-ups, ups}
-use Rattle.typed_path.proofs.lemmas.promises.UnixContained.{parts_of-unix, join_appends}
+use Rattle.typed_path.proofs.lemmas.promises.UnixContained.{parts_of-unix, join_appends, push_unix-nothing}
 use Rattle.typed_path.proofs.lemmas.promises.Within.{bare-anchored, kinds_of}
 use Rattle.typed_path.proofs.lemmas.promises.UnixWithin.{first-none}
 use Rattle.typed_path.proofs.lemmas.queries.Shared.{count-own}
@@ -58,16 +58,12 @@ record Joined (base r : List ℕ) : Type 0 where
 
 joined : (base r : List ℕ) → begins_with_root (kinds_of unix r) ≡ false → Joined base r
 joined [] r relative =
-    let e : push_unix [] r ≡ r = alone r in
+    let e = push_unix-nothing r in
     let free : is_anchored (kinds_of unix r) ≡ false = anchored-unix r ∙ relative in
     record {
       anchored = ap (λ t. is_anchored (kinds_of unix t)) e ∙ free;
       alike = record { unmet = ap (λ t. unmet (kinds_of unix t)) e; names = ap (λ t. kept_names (kinds_of unix t)) e };
     }
-  where
-    alone : (t : List ℕ) → push_unix [] t ≡ t
-    alone [] = refl
-    alone (c ∷ cs) = cond_both (c == slash) (c ∷ cs) (ended_with slash [] ++ c ∷ cs) (λ t. t ≡ c ∷ cs) (λ e. refl) (λ e. refl)
 joined (b ∷ bs) r relative =
     let base = b ∷ bs in
     let whole : kinds_of unix (push_unix base r) ≡ kinds_of unix base ++ kinds (without_leading_current (parts_of unix r)) =

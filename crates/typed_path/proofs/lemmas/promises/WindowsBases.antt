@@ -18,7 +18,7 @@ use Rattle.typed_path.proofs.lemmas.components.PrefixCuts.{IsSize, prefix-size, 
 use Rattle.typed_path.proofs.lemmas.places.Resolving.{no_heads, is_head, read-headless, IsKept, resolve-kept, resolve-read, resolve-resolve, overdraws-kept}
 use Rattle.typed_path.proofs.lemmas.changes.Faults.{place_of, place_of-append, place_of-rooted, IsFaultless, no_heads-relative, no_heads-resolve, body_parts-alike}
 use Rattle.typed_path.proofs.lemmas.changes.Joins.{body_parts-more, body_parts-behind, Ending, empty, ended, drive_alone, parted, merged-resolve, joint-relative, later-relative, body_parts-spelled}
-use Rattle.typed_path.proofs.lemmas.components.WindowsNames.{clean-either}
+use Rattle.typed_path.proofs.lemmas.components.WindowsNames.{clean-either, disk_alone-more}
 
 -- Where a base of Windows leads with a faultless path behind it, under a prefix that is not verbatim and under none.
 
@@ -56,11 +56,7 @@ prefix_alone-disk p e = refl
 
 -- nor is one that goes on behind its prefix
 pub disk_alone-filled : (s : Separators) (p : Prefix) (b : ℕ) (bs : List ℕ) → is_disk_alone (prefix p ∷ kinds (body_parts s (b ∷ bs))) ≡ false
-disk_alone-filled s p b bs = let some = slice_split-some (is_separator s) (b ∷ bs) in rw some.2 (by p _ _)
-  where
-    by : (p : Prefix) (k : Kind) (ks : List Kind) → is_disk_alone (prefix p ∷ k ∷ ks) ≡ false
-    by (disk letter) k ks = refl
-    by p k ks = refl
+disk_alone-filled s p b bs = let some = slice_split-some (is_separator s) (b ∷ bs) in rw some.2 (disk_alone-more p _ _)
 
 -- what is put behind the rest of a text that stands behind its prefix
 data Behind (p : Prefix) (rest : List ℕ) : List ℕ → Type 0 where

@@ -26,6 +26,7 @@ use Rattle.typed_path.proofs.lemmas.components.WindowsNames.{allowed-unseparated
 use Rattle.typed_path.proofs.lemmas.components.PrefixCuts.{parts_of-none, parts_of-some}
 use Rattle.typed_path.proofs.lemmas.scan.Steps.{last_of-behind}
 use Rattle.typed_path.proofs.lemmas.components.PartedPrefixes.{drive-either}
+use Rattle.std.proofs.Math.Bool.{and-false}
 
 pub none_exact : (cs : List Placed) → None ≡ first_part cs → true ≡ list_all is_exact (kinds (parts cs))
 none_exact [] none = refl
@@ -304,10 +305,6 @@ alike_behind t = by (can_be_simplified t) refl
 pub simplified_again : (t : List ℕ) → simplified_text windows (simplified_text windows t) ≡ simplified_text windows t
 simplified_again t = by (can_be_simplified t) refl
   where
-    and-false : (a : Bool) → (a && false) ≡ false
-    and-false true = refl
-    and-false false = refl
-
     not_again : IsReread t → can_be_simplified (drop 4 t) ≡ false
     not_again h = ap (λ b. nat_lt (length (drop 4 t)) 264 && b) (ap (λ ps. is_simple (kinds ps)) h.reread ∙ unsimple h.behind) ∙ and-false (nat_lt (length (drop 4 t)) 264)
       where

@@ -4,14 +4,11 @@ use Rattle.typed_path.specs.scan.{stands_at}
 use Rattle.typed_path.specs.changes.{begins_no_name_at}
 use Rattle.typed_path.proofs.scan.names.first_no_name_by_one.Goals as goal
 use Rattle.typed_path.proofs.scan.names.first_no_name_by_one.Goals.{then-is_one_of, else-is_one_of}
+use Rattle.std.proofs.Math.Bool.{and-false}
 
 neither : (x y : Bool) → x ≡ false → x && y ≡ false
 neither true y e = cc
 neither false y e = refl
-
-always : (x : Bool) → x && false ≡ false
-always true = refl
-always false = refl
 
 pub loop-at-preserved : goal.loop-at-preserved
 loop-at-preserved c =
@@ -20,7 +17,7 @@ loop-at-preserved c =
     let at = c.loop-at.at in
     let none : begins_no_name_at pair text at ≡ false =
     elim c.if-is_one_of.branch [
-      | then-is_one_of w ↦ ap (λ x. stands_at pair text at && x) (sym w.begins_no_name.ensures ∙ sym w.value-is ∙ c.if-not-begins_no_name.true) ∙ always (stands_at pair text at)
+      | then-is_one_of w ↦ ap (λ x. stands_at pair text at && x) (sym w.begins_no_name.ensures ∙ sym w.value-is ∙ c.if-not-begins_no_name.true) ∙ and-false (stands_at pair text at)
       | else-is_one_of w ↦ neither _ _ (sym c.is_one_of.ensures ∙ w.if-is_one_of.false)
     ] in
     record {
