@@ -15,6 +15,44 @@ use crate::common::writing::{append_first, behind_segment, drop_name, has_room, 
 use crate::scan::{Separators, StepKind, cut_at_separator, leading_short_names, step_of};
 use std::alloc::AllocError;
 
+/// What puts what is kept of a path behind a text. The separators stand in each body: the compiler is to know them
+/// there where `/` alone separates, which saves a tenth of the time, and more where few names stand side by side.
+macro_rules! settle {
+    ($text:ident, $path:ident, $anchored:ident, $separators:expr, $each:ident $(, $own:ident)?) => {{
+        let mut floor = $text.len();
+        let mut rest = behind_segment(b"", $path, $separators);
+        'segments: loop {
+            let names = leading_names(rest, $separators);
+            if matches!(names, Some(0)) || !has_room($text, rest) {
+                return $each($text, floor, rest, $($own,)? $anchored);
+            }
+            let Some(left) = put_names($text, rest, names, $separators)? else {
+                return Ok(());
+            };
+            let Some((segment, behind)) = cut_at_separator($separators, left) else {
+                put_segment($text, floor, left, left, $separators, $anchored)?;
+                return Ok(());
+            };
+            floor = put_segment($text, floor, segment, left, $separators, $anchored)?;
+            rest = behind_segment(segment, behind, $separators);
+        }
+    }};
+}
+
+/// The same, segment by segment.
+macro_rules! settle_each {
+    ($text:ident, $floor:ident, $path:ident, $separators:expr, $anchored:ident) => {{
+        let mut begin = $floor;
+        let mut rest = $path;
+        'segments: while let Some((segment, behind)) = cut_at_separator($separators, rest) {
+            begin = put_segment($text, begin, segment, rest, $separators, $anchored)?;
+            rest = behind_segment(segment, behind, $separators);
+        }
+        put_segment($text, begin, rest, rest, $separators, $anchored)?;
+        Ok(())
+    }};
+}
+
 /// Puts the parents that are left over and the names that are kept of a path behind a text, each with a
 /// separator behind it. Where names stand side by side they are put at once; all others are settled segment by
 /// segment, and so are all where there is no room for the whole path.
@@ -52,27 +90,10 @@ fn put_kept_by(
     ensures capacity { vec_capacity text.old ≤ vec_capacity text.new }
     ensures succeeds { vec_len text.old + length path.now < vec_capacity text.old → IsOk result }
 {
-    let mut floor = text.len();
-    let mut rest = behind_segment(b"", path, separators);
-    'segments: loop {
-        let names = leading_names(rest, separators);
-        if matches!(names, Some(0)) || !has_room(text, rest) {
-            return put_one_by_one(text, floor, rest, separators, anchored);
-        }
-        let Some(left) = put_names(text, rest, names, separators)? else {
-            return Ok(());
-        };
-        let Some((segment, behind)) = cut_at_separator(separators, left) else {
-            put_segment(text, floor, left, left, separators, anchored)?;
-            return Ok(());
-        };
-        floor = put_segment(text, floor, segment, left, separators, anchored)?;
-        rest = behind_segment(segment, behind, separators);
-    }
+    settle!(text, path, anchored, separators, put_one_by_one, separators)
 }
 
-/// The same where `/` alone separates, which the compiler knows here. That saves a tenth of the time, and more
-/// where few names stand side by side.
+/// The same where `/` alone separates.
 pub fn put_kept_by_slashes(
     text: &mut Vec<u8>,
     path: &[u8],
@@ -85,23 +106,7 @@ pub fn put_kept_by_slashes(
     ensures capacity { vec_capacity text.old ≤ vec_capacity text.new }
     ensures succeeds { vec_len text.old + length path.now < vec_capacity text.old → IsOk result }
 {
-    let mut floor = text.len();
-    let mut rest = behind_segment(b"", path, Separators::Slash);
-    'segments: loop {
-        let names = leading_names(rest, Separators::Slash);
-        if matches!(names, Some(0)) || !has_room(text, rest) {
-            return put_each_by_slashes(text, floor, rest, anchored);
-        }
-        let Some(left) = put_names(text, rest, names, Separators::Slash)? else {
-            return Ok(());
-        };
-        let Some((segment, behind)) = cut_at_separator(Separators::Slash, left) else {
-            put_segment(text, floor, left, left, Separators::Slash, anchored)?;
-            return Ok(());
-        };
-        floor = put_segment(text, floor, segment, left, Separators::Slash, anchored)?;
-        rest = behind_segment(segment, behind, Separators::Slash);
-    }
+    settle!(text, path, anchored, Separators::Slash, put_each_by_slashes)
 }
 
 /// How many bytes at the front of a text are names, each with a separator behind it, as looks at its bytes
@@ -131,14 +136,7 @@ fn put_one_by_one(
     ensures capacity { vec_capacity text.old ≤ vec_capacity text.new }
     ensures succeeds { vec_len text.old + length path.now < vec_capacity text.old → IsOk result }
 {
-    let mut begin = floor;
-    let mut rest = path;
-    'segments: while let Some((segment, behind)) = cut_at_separator(separators, rest) {
-        begin = put_segment(text, begin, segment, rest, separators, anchored)?;
-        rest = behind_segment(segment, behind, separators);
-    }
-    put_segment(text, begin, rest, rest, separators, anchored)?;
-    Ok(())
+    settle_each!(text, floor, path, separators, anchored)
 }
 
 /// The same where `/` alone separates.
@@ -159,14 +157,7 @@ fn put_each_by_slashes(
     ensures capacity { vec_capacity text.old ≤ vec_capacity text.new }
     ensures succeeds { vec_len text.old + length path.now < vec_capacity text.old → IsOk result }
 {
-    let mut begin = floor;
-    let mut rest = path;
-    'segments: while let Some((segment, behind)) = cut_at_separator(Separators::Slash, rest) {
-        begin = put_segment(text, begin, segment, rest, Separators::Slash, anchored)?;
-        rest = behind_segment(segment, behind, Separators::Slash);
-    }
-    put_segment(text, begin, rest, rest, Separators::Slash, anchored)?;
-    Ok(())
+    settle_each!(text, floor, path, Separators::Slash, anchored)
 }
 
 /// Puts the names that a path is told to begin with behind a text, each with a separator behind it, and answers
