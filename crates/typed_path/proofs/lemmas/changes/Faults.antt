@@ -20,7 +20,7 @@ use Rattle.typed_path.proofs.lemmas.components.Segments.{pieces, named_part, lat
 use Rattle.typed_path.proofs.lemmas.components.PrefixCuts.{parts_of-none, parts_of-some}
 use Rattle.typed_path.proofs.lemmas.places.Resolving.{Alike, current-alike, is_head, no_heads, resolve-append}
 use Rattle.typed_path.proofs.lemmas.lists.Lists.{slice_split-some, AllByRecursion-append}
-use Rattle.std.proofs.Math.Bool.{and-false}
+use Rattle.std.proofs.Math.Bool.{and-false, and-true}
 
 -- A path judged component by component, and what holds of one that is not refused.
 
@@ -304,11 +304,7 @@ whole b bs relative harmless = by (slice_split-some (is_separator Slash) bs) (ha
         (first (b ∷ some.0) each.0 (length (b ∷ some.0) == 0) (is_dot (b ∷ some.0)) (is_dot_dot (b ∷ some.0)) (ne_eqb (length (b ∷ some.0)) 0 (λ h. omega arith)) refl, harmless-later some.1 each.1)
 
 not_first : (b : ℕ) (bs : List ℕ) → starts_with nat_eq (b ∷ bs) (slash ∷ []) ≡ false → (b == slash) ≡ false
-not_first b bs e = ne_eqb b slash (λ h. eqb-false slash b (alone (slash == b) e) (sym h))
-  where
-    alone : (x : Bool) → (x && true) ≡ false → x ≡ false
-    alone true h = h
-    alone false h = h
+not_first b bs e = ne_eqb b slash (λ h. eqb-false slash b (sym (and-true (slash == b)) ∙ e) (sym h))
 
 -- a path without a root that does no harm is not refused
 pub harmless : (path : List ℕ) → has_no_nul_or_dot_pair path ≡ true → starts_with nat_eq path (slash ∷ []) ≡ false → fault unix path ≡ None

@@ -1,7 +1,7 @@
 -- What a push of Windows asks of its base, which paths it puts behind that, and what stands behind a prefix that is written anew.
 use Rattle.std.proofs.Common.{ne_eqb, ◌≡◌, ℕ, ◌+◌, ◌-◌, ◌<◌, ◌≤◌, ◌==◌, ◌||◌, Bool, true, false, if◌then◌else◌, List, [], ◌∷◌, ◌++◌, length, take, drop, slice_index, Option, Some, None, is_some, refl, sym, ap, subst, ◌∙◌, append-nil, arith, suc, not, append_assoc, length-append, option_and_then, ◌&&◌, slice_range, eq-eqb, eqb-true, length-drop, length-take-le, take-take}
 use Rattle.std.specs.Option.{option_or}
-use Rattle.std.proofs.lemmas.Bool.{false_from_ne_true, both_ways}
+use Rattle.std.proofs.lemmas.Bool.{false_from_ne_true, both_ways, or_right}
 use Rattle.std.proofs.Math.Seq.{take-add, take-append_seam, drop-append-add}
 use Rattle.std.proofs.lemmas.List.{nil_from_length}
 use Rattle.std.specs.List.{AllByRecursion, slice_split, onto_first}
@@ -33,11 +33,7 @@ ended-empty [] h = refl
 ended-empty (b ∷ bs) h = absurd (omega arith)
 
 pub ended-ended : (t : List ℕ) → slice_index t (length t - 1) ≡ backslash → ended_windows t ≡ t ++ []
-ended-ended t h = kept t (t ++ backslash ∷ []) (is_disk_alone (kinds (parts_of windows t))) (length t == 0 || slice_index t (length t - 1) == backslash) (either (length t == 0) (eq-eqb _ backslash h))
-  where
-    either : (x : Bool) {y : Bool} → y ≡ true → x || y ≡ true
-    either true e = refl
-    either false e = e
+ended-ended t h = kept t (t ++ backslash ∷ []) (is_disk_alone (kinds (parts_of windows t))) (length t == 0 || slice_index t (length t - 1) == backslash) (or_right (length t == 0) _ (eq-eqb _ backslash h))
 
 -- a list with an element is not empty
 filled : (b : ℕ) (bs : List ℕ) → is_empty (b ∷ bs) ≡ false

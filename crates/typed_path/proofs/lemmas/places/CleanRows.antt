@@ -1,7 +1,7 @@
 -- The parents and names that are kept of a path, put behind a head segment by segment.
 use Rattle.std.proofs.Common.{◌≡◌, ℕ, ◌+◌, ◌-◌, ◌<◌, ◌≤◌, ◌==◌, ◌||◌, Bool, true, false, cond, List, [], ◌∷◌, ◌++◌, map, replicate, fold, length, take, if◌then◌else◌, refl, sym, ap, ap₂, ◌∙◌, append_assoc, append-nil, arith, subst, length-append, length-take, drop, Some, None}
 use Rattle.std.specs.List.{AllByRecursion, list_all, slice_split}
-use Rattle.std.proofs.lemmas.Bool.{and_parts, or_parts, not-true}
+use Rattle.std.proofs.lemmas.Bool.{and_parts, or_parts, not-true, both_ways}
 use Rattle.std.proofs.lemmas.List.{map-append, replicate_more, length-replicate}
 use Rattle.typed_path.specs.declared.scan.separators.Separators.{Separators}
 use Rattle.typed_path.specs.components.{dot, is_separator, is_verbatim, root_text, Kind, current, parent, normal, Part, root_part, current_part, parent_part, name_part, Placed, parts, kinds, is_dot, is_dot_dot, component, first, body}
@@ -293,13 +293,10 @@ module _ (s : Separators) (anchored : Bool) (head : List ℕ) where
               names = [];
               rows = record { unseparated = tt; is = more ∙ sym (append-nil (front (are.over + 1))) };
               begin = size ∙ ap length more;
-              fixed = λ f. absurd (by_both f loose);
+              fixed = λ f. absurd (both_ways anchored loose f);
               left = left;
               rises = λ f. omega (arith, rises f);
             }
-          where
-            by_both : {b : Bool} → b ≡ true → b ≡ false → ⊥
-            by_both f g = cc
         by _ (some ns n) is left rises = absurd (omega (
           arith,
           alone,

@@ -12,6 +12,7 @@ use Rattle.typed_path.proofs.lemmas.components.Prefixes.{separators-windows}
 use Rattle.typed_path.proofs.lemmas.components.PrefixCuts.{plain-none, parts_of-some}
 use Rattle.typed_path.proofs.lemmas.components.Segments.{AreRead, IsWritten, body_parts-read, parts-body}
 use Rattle.typed_path.proofs.lemmas.places.CleanRows.{body-alike}
+use Rattle.std.proofs.Math.Bool.{or-true}
 
 -- rows are the segments with one separator between, and one more
 pub rows-joined : (s : Separators) (segment : List ℕ) (segments : List (List ℕ)) → rows_of s (segment ∷ segments) ≡ join_with_byte (row_end s) (segment ∷ segments) ++ row_end s ∷ []
@@ -51,11 +52,7 @@ module _ (s : Separators) (old raw text new : List ℕ) (rooted implied : Bool) 
 
       none : (r i : Bool) → text ≡ front (i || r) ++ [] → alone ≡ length (old ++ raw) + length (if r then sep else [])
           → new ≡ old ++ ((raw ++ (if r || (i && false) then sep else [])) ++ [])
-      none true i e f = let whole = e ∙ ap (λ b. front b ++ []) (always i) in stays (omega (arith, f, ap length (whole ∙ append-nil (front true)), size true)) ∙ whole ∙ grouped sep []
-        where
-          always : (b : Bool) → (b || true) ≡ true
-          always true = refl
-          always false = refl
+      none true i e f = let whole = e ∙ ap (λ b. front b ++ []) (or-true i) in stays (omega (arith, f, ap length (whole ∙ append-nil (front true)), size true)) ∙ whole ∙ grouped sep []
       none false true e f =
           let whole : text ≡ (old ++ raw) ++ sep = e ∙ append-nil (front true) in
           named (omega (arith, f, ap length whole, size true))

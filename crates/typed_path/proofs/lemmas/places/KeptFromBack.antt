@@ -176,11 +176,7 @@ few_behind_prefix (c ∷ cs) ds behind less = by (is_prefix c.part.kind) behind
 
 -- lists of one length, each with one more
 both-longer : (xs ys : List (List ℕ)) (a b : List ℕ) → length xs ≡ length ys → starts_with bytes_eq (xs ++ a ∷ []) (ys ++ b ∷ []) ≡ starts_with bytes_eq xs ys && bytes_eq b a
-both-longer [] [] a b size = by (bytes_eq b a)
-  where
-    by : (t : Bool) → t && true ≡ true && t
-    by true = refl
-    by false = refl
+both-longer [] [] a b size = and-true (bytes_eq b a)
 both-longer (x ∷ xs) [] a b size = absurd (omega (arith, size))
 both-longer [] (y ∷ ys) a b size = absurd (omega (arith, size))
 both-longer (x ∷ xs) (y ∷ ys) a b size = ap (λ t. bytes_eq y x && t) (both-longer xs ys a b (omega (arith, size))) ∙ by (bytes_eq y x)

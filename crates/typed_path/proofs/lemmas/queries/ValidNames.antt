@@ -16,6 +16,7 @@ use Rattle.typed_path.specs.changes.{is_bare_device, is_numbered_device, is_devi
 use Rattle.typed_path.proofs.lemmas.components.Segments.{pieces, first_part, first_parts, later_part, later_parts, body_parts, parts-body}
 use Rattle.typed_path.proofs.lemmas.components.Prefixes.{separators-windows}
 use Rattle.typed_path.proofs.lemmas.lists.Lists.{slice_split-some}
+use Rattle.std.proofs.Math.Bool.{and-true}
 
 -- Names that stand for devices: how they begin, and where their first dot comes.
 
@@ -373,11 +374,7 @@ stray-nul b = by (b == slash) refl
   where
     by : (separates : Bool) → (b == slash) ≡ separates → ((separates || b == 0) && not separates) ≡ (b == 0)
     by true e = sym (ne_eqb b 0 (λ none. omega (arith, eqb-true b slash e)))
-    by false e = other (b == 0)
-      where
-        other : (nul : Bool) → (nul && true) ≡ nul
-        other true = refl
-        other false = refl
+    by false e = and-true (b == 0)
 
 -- the search for NUL finds a byte that strays
 pub stray-slash : (text : List ℕ) (found : Option ℕ) → IsFirstByte (is_byte 0) text found → is_some found ≡ list_any (is_stray Slash) text

@@ -13,6 +13,7 @@ use Rattle.typed_path.specs.texts.{is_text_kind, is_text_prefix, has_text_names,
 use Rattle.typed_path.proofs.lemmas.components.WrittenForms.{WritesBody, written-body}
 use Rattle.typed_path.proofs.lemmas.scan.Steps.{last_pushed, last_part-push}
 use Rattle.typed_path.proofs.lemmas.texts.TextCuts.{prefix-names}
+use Rattle.std.proofs.Math.Bool.{not-or_self}
 
 -- Single components.
 
@@ -26,11 +27,7 @@ text_kind-named p named = by (is_utf8 p.text)
 
 -- a name is its own text
 name-named : (name : List ℕ) → has_text_names (name_part name) ≡ true
-name-named name = by (is_utf8 name)
-  where
-    by : (b : Bool) → not b || b ≡ true
-    by true = refl
-    by false = refl
+name-named name = not-or_self (is_utf8 name)
 
 -- a prefix whose names are texts where its own text is one
 prefix-named : (p : Prefix) (raw : List ℕ) → (IsUtf8 raw → is_text_prefix p ≡ true) → has_text_names (prefix_part p raw) ≡ true

@@ -1,7 +1,7 @@
 use Rattle.std.proofs.Common.{◌≡◌, ◌≤◌, true, false, ◌||◌, Bool, List, ℕ, sym, ap, ◌∙◌, ◌+◌, ◌-◌, ◌/◌, ◌^◌, bit_and, drop, length, subst, arith, refl, inl, inr}
 use Rattle.std.specs.Slice.Scan.{HoldsNowhere}
-use Rattle.std.proofs.lemmas.Bool.{both_ways, cases_lt}
-use Rattle.std.proofs.Math.Bool.{or-false, or-true}
+use Rattle.std.proofs.lemmas.Bool.{both_ways, cases_lt, or_right}
+use Rattle.std.proofs.Math.Bool.{or-false}
 use Rattle.typed_path.specs.changes.{TellsBegins, has_device_behind, has_dot_pair, dot_pair_at}
 use Rattle.typed_path.proofs.lemmas.changes.MayBegins.{block-front, tells-later}
 use Rattle.typed_path.proofs.lemmas.changes.ValidPaths.{behind-end, nowhere-dots, nowhere-strays}
@@ -29,14 +29,10 @@ has_device_at-requires-clause-marked c =
 found : (told rest whole behind : Bool) → whole ≡ behind → behind ≡ (told || rest) → told ≡ true → whole ≡ true
 found told rest whole behind same own is = same ∙ own ∙ ap (λ b. b || rest) is
 
--- so something offends
-offends : (strays device : Bool) → device ≡ true → (strays || device) ≡ true
-offends strays device is = ap (λ b. strays || b) is ∙ or-true strays
-
 pub returns-then-has_device_at-clause-offence : goal.returns-then-has_device_at-clause-offence
 returns-then-has_device_at-clause-offence c = λ n same.
     let size : c.wholes.at + 32 ≡ n = cc in
-    (omega (arith, size, c.wholes-test.true), offends _ _ (found _ _ _ _ c.wholes.invariant.same c.has_device_at.ensures c.if-has_device_at.true))
+    (omega (arith, size, c.wholes-test.true), or_right _ _ (found _ _ _ _ c.wholes.invariant.same c.has_device_at.ensures c.if-has_device_at.true))
 
 pub wholes-smaller : goal.wholes-smaller
 wholes-smaller c = omega (arith, c.wholes-test.true)
@@ -94,7 +90,7 @@ has_device_at-requires-2-clause-marked c =
 pub returns-then-has_device_at-2-clause-offence : goal.returns-then-has_device_at-2-clause-offence
 returns-then-has_device_at-2-clause-offence c = λ n same.
     let size : length c.args.text.now ≡ n = cc in
-    (omega (arith, size), offends _ _ (found _ _ _ _ c.wholes.invariant.same c.has_device_at-2.ensures c.if-has_device_at-2.true))
+    (omega (arith, size), or_right _ _ (found _ _ _ _ c.wholes.invariant.same c.has_device_at-2.ensures c.if-has_device_at-2.true))
 
 pub returns-then-has_device_at-2-clause-whole : goal.returns-then-has_device_at-2-clause-whole
 returns-then-has_device_at-2-clause-whole c = λ asked same. elim c.else-dots-2.branch [
