@@ -162,11 +162,6 @@ stem-ends (a ∷ b ∷ c ∷ d ∷ e ∷ rest) h =
         ∙ ap (λ t. cond (is_separator Either c) [] (c ∷ t)) (segment-byte Either d (e ∷ rest)
         ∙ ap (λ t. cond (is_separator Either d) [] (d ∷ t)) (segment-byte Either e rest))))
 
-    fourth : (x y : Bool) → ((x || y) || true) ≡ true
-    fourth true y = refl
-    fourth false true = refl
-    fourth false false = refl
-
     third : (x y : Bool) → ((x || true) || y) ≡ true
     third true y = refl
     third false y = refl

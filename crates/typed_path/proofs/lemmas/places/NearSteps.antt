@@ -1,5 +1,5 @@
 -- Two texts that go on with names alone behind the components that both begin with: the steps from one to the other, and how they are written.
-use Rattle.std.proofs.Common.{◌≡◌, ℕ, zero, suc, ◌+◌, ◌-◌, ◌==◌, ◌||◌, ◌&&◌, Bool, true, false, not, cond, List, [], ◌∷◌, ◌++◌, map, if◌then◌else◌, length, take, drop, refl, sym, ap, ap₂, subst, ◌∙◌, append_assoc, append-nil, arith, inl, inr, take_all, length-append, nat_le, add-one, Ordering, Some, None}
+use Rattle.std.proofs.Common.{◌≡◌, ℕ, zero, suc, ◌+◌, ◌-◌, ◌==◌, ◌||◌, ◌&&◌, Bool, true, false, not, cond, List, [], ◌∷◌, ◌++◌, map, if◌then◌else◌, length, take, drop, refl, sym, ap, ap₂, subst, ◌∙◌, append_assoc, append-nil, arith, inl, inr, take_all, length-append, nat_le, add-one, Ordering}
 use Rattle.std.specs.List.{AllByRecursion, list_all, slice_split, before_first, position_or_len}
 use Rattle.std.specs.Ordering.{is_ne}
 use Rattle.std.specs.Str.{bytes_eq}
@@ -14,7 +14,7 @@ use Rattle.typed_path.specs.changes.{is_name_piece}
 use Rattle.typed_path.specs.order.{bytes_cmp, are_same_prefixes}
 use Rattle.typed_path.specs.queries.{first_prefix}
 use Rattle.typed_path.specs.scan.{IsParting, turned}
-use Rattle.typed_path.specs.places.{AreAlone, AreNearSteps, PartInNames, PartInto, bare_separators, can_stand, dots, is_anchored, kept_names, met_count, names_down, relative_by, rising, row_end, rows_of, same_heads, shared_count, steps_text, steps_up, unmet}
+use Rattle.typed_path.specs.places.{AreAlone, AreNearSteps, PartInNames, PartInto, bare_separators, can_stand, dots, is_anchored, kept_names, met_count, names_down, rising, row_end, rows_of, same_heads, shared_count, unmet}
 use Rattle.typed_path.proofs.lemmas.lists.Lists.{IsUnseparated, slice_split-unseparated}
 use Rattle.typed_path.proofs.lemmas.components.Segments.{first_parts, later_part, later_parts, parts-body, parts-later_body, pieces}
 use Rattle.typed_path.proofs.lemmas.conversions.TurnedPaths.{pieces-turned}
@@ -278,14 +278,3 @@ alone-count s text false true names ends is alone size = cc
 pub bare-plain : (d : Dialect) → is_verbatim (bare_separators d) ≡ false
 bare-plain unix = refl
 bare-plain windows = refl
-
-pub near-text : (d : Dialect) (s : Separators) (ks ls : List Kind) (ups : ℕ) (rest : List ℕ) (ended : Bool) (text : List ℕ) → AreNearSteps s ks ls ups rest ended → s ≡ bare_separators d
-    → ((names : List (List ℕ)) → AreAlone (bare_separators d) rest ended names → text ≡ steps_text d ups names) → relative_by d ks ls ≡ Some text
-near-text d s ks ls ups rest ended text near is put =
-    ap (λ b. if b then Some (steps_text d (steps_up ks ls) (names_down ks ls)) else None) near.reached
-    ∙ ap (λ n. Some (steps_text d n (names_down ks ls))) (sym near.up)
-    ∙ ap Some (sym (put (names_down ks ls) (subst (λ r. AreAlone r rest ended (names_down ks ls)) is near.alone)))
-
-pub near-some : (d : Dialect) (s : Separators) (ks ls : List Kind) (ups : ℕ) (rest : List ℕ) (ended : Bool) → AreNearSteps s ks ls ups rest ended → relative_by d ks ls ≡ None → ⊥
-near-some d s ks ls ups rest ended near none =
-    let some : Some (steps_text d (steps_up ks ls) (names_down ks ls)) ≡ None = sym (ap (λ b. if b then Some (steps_text d (steps_up ks ls) (names_down ks ls)) else None) near.reached) ∙ none in cc

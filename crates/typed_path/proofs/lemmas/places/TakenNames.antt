@@ -1,5 +1,5 @@
 -- Names that are taken off the end of a list one after another: what is left and what was taken, whether these can stand, and the rows that they make from their ends.
-use Rattle.std.proofs.Common.{◌≡◌, ℕ, zero, suc, ◌+◌, ◌*◌, ◌-◌, ◌<◌, ◌≤◌, ◌==◌, Bool, true, false, not, ◌&&◌, List, [], ◌∷◌, ◌++◌, length, take, drop, reverse, refl, sym, ap, ap₂, ◌∙◌, append_assoc, append-nil, arith, take-append-drop, length-append, add-one}
+use Rattle.std.proofs.Common.{◌≡◌, ℕ, zero, suc, ◌+◌, ◌-◌, ◌<◌, ◌≤◌, ◌==◌, Bool, true, false, not, ◌&&◌, List, [], ◌∷◌, ◌++◌, length, take, drop, reverse, refl, sym, ap, ap₂, ◌∙◌, append_assoc, append-nil, arith, take-append-drop, length-append, add-one}
 use Rattle.std.specs.Prelude.{Option, Some, None, MatchOption}
 use Rattle.std.specs.List.{list_any, join_with_byte}
 use Rattle.std.proofs.lemmas.List.{length-take-le, take_at, drop_at, drop_all, take_all, drop-drop, reverse-append, reverse-reverse, length-reverse}
@@ -116,10 +116,6 @@ module _ (s : Separators) where
       let h = rows-drop ((length whole - (n + 1)) - (length whole - count)) (drop (length whole - count) whole) in
       let e = ap (λ ns. length (rows_of s ns)) (drop-drop ((length whole - (n + 1)) - (length whole - count)) (length whole - count) whole ∙ ap (λ m. drop m whole) more ∙ is) in
       omega (arith, h, e, row-size name (drop (length whole - n) whole))
-
-  pub dots-size : (n : ℕ) → length (rows_of s (dots n)) ≡ n * 3
-  dots-size zero = refl
-  dots-size (suc n) = omega (arith, dots-size n)
 
 -- one parent more in front of parents
 pub dots-more : (s : Separators) (n : ℕ) (rest : List ℕ) → (dot ∷ dot ∷ row_end s ∷ []) ++ (rows_of s (dots n) ++ rest) ≡ rows_of s (dots (n + 1)) ++ rest

@@ -5,7 +5,6 @@ use Rattle.std.specs.Prelude.{option_map}
 use Rattle.std.specs.List.{before_first}
 use Rattle.std.specs.Ordering.{is_ne}
 use Rattle.std.specs.Cmp.Lexicographic.{bytes_decides}
-use Rattle.std.proofs.lemmas.List.{map-append}
 use Rattle.typed_path.specs.declared.scan.separators.Separators.{Separators}
 use Rattle.typed_path.specs.declared.scan.cursor.Begin.{Begin}
 use Rattle.typed_path.specs.declared.scan.cursor.Begin.TheVariants.{Body, Inside}
@@ -30,9 +29,6 @@ end-last c (e ∷ es) more = end-last e es more ∙ ap (λ o. unwrap_or (option_
 end-front : (cs more : List Placed) → end_of_first (cs ++ more) (length cs) ≡ end_from 0 cs
 end-front [] more = refl
 end-front (c ∷ cs) more = end-last c cs more
-
-texts-behind : (cs ds : List Placed) → texts (parts (cs ++ ds)) ≡ texts (parts cs) ++ texts (parts ds)
-texts-behind cs ds = ap texts (map-append (λ c. c.part) cs ds) ∙ map-append (λ p. p.text) (parts cs) (parts ds)
 
 count-behind : (cs ds es : List Placed) → shared_count (texts (parts (cs ++ ds))) (texts (parts (cs ++ es))) ≡ length cs + shared_count (texts (parts ds)) (texts (parts es))
 count-behind [] ds es = omega arith

@@ -249,11 +249,6 @@ simple_read t is =
           ∙ ap (λ ps. prefix_part (disk h.letter) (take 2 rest) ∷ ps) (same_behind s (drop 6 t) h.names.0 h.names.1 h.names.2 (of_either t));
     }
 
-pub simple_behind : (t : List ℕ) → is_simple (kinds (parts_of windows t)) ≡ true → drop 1 (parts_of windows (drop 4 t)) ≡ drop 1 (parts_of windows t)
-simple_behind t is =
-    let h = simple_read t is in
-    ap (drop 1) h.reread ∙ sym (ap (drop 1) h.read)
-
 pub simple_of : (t : List ℕ) → can_be_simplified t ≡ true → is_simple (kinds (parts_of windows t)) ≡ true
 simple_of t e = (and_parts (nat_lt (length t) 264) (is_simple (kinds (parts_of windows t))) e).1
 
