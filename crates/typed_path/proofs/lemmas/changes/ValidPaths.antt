@@ -21,6 +21,7 @@ use Rattle.typed_path.proofs.lemmas.queries.ValidNames.{reserved-device, one_of_
 use Rattle.typed_path.proofs.lemmas.components.PrefixCuts.{parts_of-none}
 use Rattle.typed_path.proofs.lemmas.scan.Searches.{any-told}
 use Rattle.typed_path.proofs.lemmas.order.Comparisons.{kinds-append}
+use Rattle.typed_path.proofs.lemmas.scan.Blanks.{split}
 
 -- ---- what devices begin with
 
@@ -235,37 +236,9 @@ module _ (text : List ℕ) (at to found : ℕ) (within : to ≤ length text) (fi
 
 -- ---- what the search tells of the pieces
 
--- a text is the segment before its first separator, and the pieces behind that, of which the search tells
-record Split (text : List ℕ) : Type 0 where
-  more : List (List ℕ)
-  cut : pieces Either text ≡ before_first (is_separator Either) text ∷ more
-  told : list_any (is_reserved windows) more ≡ has_device_behind text
-
-split : (text : List ℕ) → Split text
-split [] = record { more = []; cut = refl; told = refl }
-split (x ∷ xs) = by (is_separator Either x) refl (split xs)
-  where
-    by : (separates : Bool) → is_separator Either x ≡ separates → Split xs → Split (x ∷ xs)
-    by true e rest = record {
-      more = pieces Either xs;
-      cut = ap (λ s. cond s ([] ∷ pieces Either xs) (onto_first x (pieces Either xs))) e ∙ ap (λ s. s ∷ pieces Either xs) (sym (segment-byte Either x xs ∙ ap (λ s. cond s [] (x ∷ before_first (is_separator Either) xs)) e));
-      told =
-          ap (list_any (is_reserved windows)) rest.cut
-          ∙ ap (λ b. is_reserved windows (before_first (is_separator Either) xs) || b) rest.told
-          ∙ ap (λ s. (s && begins_with_device xs) || has_device_behind xs) (sym e);
-    }
-    by false e rest = record {
-      more = rest.more;
-      cut =
-          ap (λ s. cond s ([] ∷ pieces Either xs) (onto_first x (pieces Either xs))) e
-          ∙ ap (onto_first x) rest.cut
-          ∙ ap (λ s. s ∷ rest.more) (sym (segment-byte Either x xs ∙ ap (λ s. cond s [] (x ∷ before_first (is_separator Either) xs)) e));
-      told = rest.told ∙ ap (λ s. (s && begins_with_device xs) || has_device_behind xs) (sym e);
-    }
-
--- so of all pieces
+-- the search behind separators, and at the front, tells of all pieces
 pub any-pieces : (text : List ℕ) → list_any (is_reserved windows) (pieces Either text) ≡ has_device text
-any-pieces text = let s = split text in ap (list_any (is_reserved windows)) s.cut ∙ ap (λ b. begins_with_device text || b) s.told
+any-pieces text = let s = split Either (is_reserved windows) has_device_behind refl (λ b bs. refl) text in ap (list_any (is_reserved windows)) s.cut ∙ ap (λ b. begins_with_device text || b) s.told
 
 -- ---- texts without two dots side by side
 
@@ -382,7 +355,7 @@ first_plain x p ps e =
 body_plain : (text : List ℕ) → begins_with_separator text ≡ false → list_any is_dot_dot (pieces Either text) ≡ false → list_all is_plain (kinds (body_parts Either text)) ≡ true
 body_plain [] apart none = refl
 body_plain (x ∷ xs) apart none =
-    let s = split (x ∷ xs) in
+    let s = split Either (is_reserved windows) has_device_behind refl (λ b bs. refl) (x ∷ xs) in
     let cut : pieces Either (x ∷ xs) ≡ (x ∷ before_first (is_separator Either) xs) ∷ s.more =
     s.cut ∙ ap (λ p. p ∷ s.more) (segment-byte Either x xs ∙ ap (λ b. cond b [] (x ∷ before_first (is_separator Either) xs)) apart) in
     ap (λ ps. list_all is_plain (kinds (first_parts Either ps))) cut

@@ -2,7 +2,7 @@
 use Rattle.std.proofs.Common.{take, not, take_all, get_or, ◌≡◌, ℕ, ◌-◌, ◌≤◌, ◌<◌, ◌==◌, ◌||◌, ◌&&◌, Bool, true, false, if◌then◌else◌, cond, List, [], ◌∷◌, ◌++◌, map, length, fold, flat_map, slice_index, refl, sym, ap, ap₂, ◌∙◌, subst, append_assoc, arith, eqb-true, true≢false, length-append, Some, None}
 use Rattle.std.specs.Prelude.{⊤}
 use Rattle.std.specs.List.{AllByRecursion, list_any, onto_first, before_first}
-use Rattle.std.proofs.lemmas.Bool.{and_parts, and_right, or_parts, false_from_ne_true, both_ways, cond-false, eqb-false}
+use Rattle.std.proofs.lemmas.Bool.{and_right, or_parts, false_from_ne_true, both_ways, cond-false, eqb-false}
 use Rattle.std.proofs.lemmas.List.{length-map, drop_all}
 use Rattle.std.proofs.lemmas.List.Elements.{All-head}
 use Rattle.typed_path.specs.declared.scan.separators.Separators.{Separators}
@@ -11,9 +11,9 @@ use Rattle.typed_path.specs.components.{Dialect, unix, windows, dot, slash, back
 use Rattle.typed_path.specs.changes.{ended_with, push_all, push_unix, push_windows, spells_anew, FitsEach, begins_with_separator}
 use Rattle.typed_path.specs.queries.{is_disk}
 use Rattle.typed_path.specs.conversions.{crossed, crossed_all, CrossesTurned}
-use Rattle.typed_path.specs.scan.{is_one_of, is_blank, begins_blank, has_blank_behind, turned}
+use Rattle.typed_path.specs.scan.{is_one_of, is_blank, has_blank_behind, turned}
 use Rattle.typed_path.proofs.lemmas.lists.Lists.{IsUnseparated, slice_split-some, slice_split-unseparated, AllByRecursion-weaker}
-use Rattle.typed_path.proofs.lemmas.components.Segments.{pieces, named_part, first_part, later_parts, first_parts, body_parts, parts-body, segment-byte}
+use Rattle.typed_path.proofs.lemmas.components.Segments.{pieces, named_part, first_part, later_parts, first_parts, body_parts, parts-body, dot-is, dot_dot-is}
 use Rattle.typed_path.proofs.lemmas.components.WindowsNames.{IsPlain, ended_with-append}
 use Rattle.typed_path.proofs.lemmas.changes.WindowsPushes.{fits-plain}
 use Rattle.typed_path.proofs.lemmas.conversions.CrossedPaths.{IsStep, a_parent, a_plain, IsBare, step-read, bare-next, push-step, bare-root, bare-current, bare-parent, bare-name}
@@ -24,6 +24,7 @@ use Rattle.typed_path.proofs.lemmas.places.UnixRows.{take-ended}
 use Rattle.typed_path.proofs.lemmas.places.WindowsRows.{IsWithoutSlash, pieces-own, separates-own}
 use Rattle.typed_path.proofs.lemmas.promises.UnixContained.{parts_of-unix, push_unix-nothing}
 use Rattle.typed_path.proofs.lemmas.promises.WindowsStable.{push-first}
+use Rattle.typed_path.proofs.lemmas.scan.Blanks.{split}
 
 -- ---- the pieces of a text, and its bytes
 
@@ -53,56 +54,16 @@ pieces-free s q (x ∷ xs) free = let some = slice_split-some (is_separator s) x
         let each = subst (AllByRecursion (λ piece. list_any q piece ≡ false)) e rest in
         subst (λ qs. AllByRecursion (λ piece. list_any q piece ≡ false) (onto_first x qs)) (sym e) (ap (λ b. b || list_any q piece) own ∙ each.0, each.1)
 
--- a text is the segment before its first separator, and the pieces behind that, of which the search for blank ones tells
-record Split (s : Separators) (text : List ℕ) : Type 0 where
-  more : List (List ℕ)
-  cut : pieces s text ≡ before_first (is_separator s) text ∷ more
-  told : list_any is_blank more ≡ has_blank_behind s text
-
-split : (s : Separators) (text : List ℕ) → Split s text
-split s [] = record { more = []; cut = refl; told = refl }
-split s (x ∷ xs) = by (is_separator s x) refl (split s xs)
-  where
-    by : (separates : Bool) → is_separator s x ≡ separates → Split s xs → Split s (x ∷ xs)
-    by true e rest = record {
-      more = pieces s xs;
-      cut = ap (λ b. cond b ([] ∷ pieces s xs) (onto_first x (pieces s xs))) e ∙ ap (λ t. t ∷ pieces s xs) (sym (segment-byte s x xs ∙ ap (λ b. cond b [] (x ∷ before_first (is_separator s) xs)) e));
-      told =
-          ap (list_any is_blank) rest.cut
-          ∙ ap (λ b. is_blank (before_first (is_separator s) xs) || b) rest.told
-          ∙ ap (λ b. (b && begins_blank s xs) || has_blank_behind s xs) (sym e);
-    }
-    by false e rest = record {
-      more = rest.more;
-      cut =
-          ap (λ b. cond b ([] ∷ pieces s xs) (onto_first x (pieces s xs))) e
-          ∙ ap (onto_first x) rest.cut
-          ∙ ap (λ t. t ∷ rest.more) (sym (segment-byte s x xs ∙ ap (λ b. cond b [] (x ∷ before_first (is_separator s) xs)) e));
-      told = rest.told ∙ ap (λ b. (b && begins_blank s xs) || has_blank_behind s xs) (sym e);
-    }
-
 -- the pieces of a text, where none but the first is blank
 pub tight-pieces : (s : Separators) (text : List ℕ) → has_blank_behind s text ≡ false
     → (head : List ℕ) × (others : List (List ℕ)) × (pieces s text ≡ head ∷ others) × (list_any is_blank others ≡ false)
-tight-pieces s text none = let cut = split s text in (before_first (is_separator s) text, cut.more, cut.cut, cut.told ∙ none)
+tight-pieces s text none = let cut = split s is_blank (has_blank_behind s) refl (λ b bs. refl) text in (before_first (is_separator s) text, cut.more, cut.cut, cut.told ∙ none)
 
 -- ---- the components of such pieces, as they cross
 
--- `.` and `..` are written so
-dot-text : (text : List ℕ) → is_dot text ≡ true → dot ∷ [] ≡ text
-dot-text [] e = cc
-dot-text (a ∷ []) e = ap (λ b. b ∷ []) (sym (eqb-true a dot e))
-dot-text (a ∷ b ∷ text) e = cc
-
-dots-text : (text : List ℕ) → is_dot_dot text ≡ true → dot ∷ dot ∷ [] ≡ text
-dots-text [] e = cc
-dots-text (a ∷ []) e = cc
-dots-text (a ∷ b ∷ []) e = let both = and_parts (a == dot) (b == dot) e in ap₂ (λ c d. c ∷ d ∷ []) (sym (eqb-true a dot both.0)) (sym (eqb-true b dot both.1))
-dots-text (a ∷ b ∷ c ∷ text) e = cc
-
 -- a parent or a name crosses as it is written
 named-crossed : (e : Dialect) (piece : List ℕ) → crossed e (named_part piece) ≡ piece
-named-crossed e piece = by (is_dot_dot piece) (dots-text piece)
+named-crossed e piece = by (is_dot_dot piece) (λ e. sym (dot_dot-is piece e))
   where
     by : (twice : Bool) → (twice ≡ true → dot ∷ dot ∷ [] ≡ piece) → crossed e (if twice then parent_part else name_part piece) ≡ piece
     by true two = two refl
@@ -134,7 +95,7 @@ first_text e (b ∷ bs) = b ∷ bs
 
 first-crossed : (e : Dialect) (s : Separators) (piece : List ℕ) → crossed e (first_part s piece) ≡ first_text e piece
 first-crossed e s [] = refl
-first-crossed e s (b ∷ bs) = by (length (b ∷ bs) == 0) (is_dot (b ∷ bs)) (false_from_ne_true _ (λ h. absurd (omega (arith, eqb-true _ 0 h)))) (dot-text (b ∷ bs))
+first-crossed e s (b ∷ bs) = by (length (b ∷ bs) == 0) (is_dot (b ∷ bs)) (false_from_ne_true _ (λ h. absurd (omega (arith, eqb-true _ 0 h)))) (λ e. sym (dot-is (b ∷ bs) e))
   where
     by : (empty dotted : Bool) → empty ≡ false → (dotted ≡ true → dot ∷ [] ≡ b ∷ bs)
         → crossed e (if empty then root_part (root_text s) else (if dotted then current_part else named_part (b ∷ bs))) ≡ b ∷ bs
@@ -267,7 +228,7 @@ windows-pieces (p ∷ ps) none unseparated free =
 
 -- what such a piece is written as
 step-text : (piece : List ℕ) → (named_part piece).text ≡ piece
-step-text piece = by (is_dot_dot piece) (dots-text piece)
+step-text piece = by (is_dot_dot piece) (λ e. sym (dot_dot-is piece e))
   where
     by : (twice : Bool) → (twice ≡ true → dot ∷ dot ∷ [] ≡ piece) → (if twice then parent_part else name_part piece).text ≡ piece
     by true two = two refl
@@ -288,8 +249,8 @@ bare-first : (head : List ℕ) → (length head == 0) ≡ false → IsUnseparate
 bare-first head is unseparated free = by (is_dot head) (is_dot_dot head) refl refl
   where
     by : (one two : Bool) → is_dot head ≡ one → is_dot_dot head ≡ two → IsBare head
-    by true two e f = subst IsBare (dot-text head e) bare-current
-    by false true e f = subst IsBare (dots-text head f) bare-parent
+    by true two e f = subst IsBare (sym (dot-is head e)) bare-current
+    by false true e f = subst IsBare (sym (dot_dot-is head f)) bare-parent
     by false false e f = bare-name head (plain-free head is e f unseparated free)
 
 -- the pieces of a text without blank ones, pushed on Unix one by one, are the text with its separators turned

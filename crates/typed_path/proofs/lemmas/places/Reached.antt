@@ -7,23 +7,20 @@ use Rattle.typed_path.specs.components.{Dialect, separators, is_separator, is_ve
 use Rattle.typed_path.specs.places.{AreSteps, can_stand, is_anchored, is_reached, kept_names, met_count, names_down, relative_by, rising, rows_of, same_heads, shared_count, steps_text, steps_up, unmet}
 use Rattle.typed_path.proofs.lemmas.lists.Lists.{width, width-slice_split}
 use Rattle.typed_path.proofs.lemmas.components.Segments.{body_parts, first_part, first_parts, later_part, later_parts, named_part, parts_behind, parts-comps_behind, pieces}
-use Rattle.typed_path.proofs.lemmas.places.SharedFromBack.{shared_count-least, shared_count-most}
+use Rattle.typed_path.proofs.lemmas.places.SharedFromBack.{shared_count-fits}
 use Rattle.typed_path.proofs.lemmas.places.TakenNames.{rows-drop, row-size}
 use Rattle.std.proofs.Math.Bool.{and-false}
 
-pub met-own : (ks ls : List Kind) → met_count ks ls ≤ length (kept_names ks)
-met-own ks ls = by (rising ks == rising ls)
+-- no more names meet than either list keeps
+pub met-fits : (ks ls : List Kind) → (met_count ks ls ≤ length (kept_names ks)) × (met_count ks ls ≤ length (kept_names ls))
+met-fits ks ls = by (rising ks == rising ls)
   where
-    by : (b : Bool) → (if b then shared_count (kept_names ks) (kept_names ls) else 0) ≤ length (kept_names ks)
-    by true = shared_count-least (kept_names ks) (kept_names ls)
-    by false = omega arith
+    n : ℕ
+    n = shared_count (kept_names ks) (kept_names ls)
 
-pub met-base : (ks ls : List Kind) → met_count ks ls ≤ length (kept_names ls)
-met-base ks ls = by (rising ks == rising ls)
-  where
-    by : (b : Bool) → (if b then shared_count (kept_names ks) (kept_names ls) else 0) ≤ length (kept_names ls)
-    by true = shared_count-most (kept_names ks) (kept_names ls)
-    by false = omega arith
+    by : (b : Bool) → ((if b then n else 0) ≤ length (kept_names ks)) × ((if b then n else 0) ≤ length (kept_names ls))
+    by true = shared_count-fits (kept_names ks) (kept_names ls)
+    by false = (omega arith, omega arith)
 
 -- no more names are kept, and parents are left over, than there are components
 few-kept : (ks : List Kind) → unmet ks + length (kept_names ks) ≤ length ks
@@ -53,7 +50,7 @@ not-standing ks ls e = ap (λ b. (same_heads ks ls && nat_le (rising ls) (rising
 -- the names behind those that are met
 pub names-down : (ks ls : List Kind) (m downs : ℕ) → m ≡ met_count ks ls → downs ≡ length (kept_names ks) - m → drop (length (kept_names ks) - downs) (kept_names ks) ≡ names_down ks ls
 names-down ks ls m downs is e =
-    let same : length (kept_names ks) - downs ≡ met_count ks ls = omega (arith, is, e, met-own ks ls) in
+    let same : length (kept_names ks) - downs ≡ met_count ks ls = omega (arith, is, e, (met-fits ks ls).0) in
     ap (λ n. drop n (kept_names ks)) same
 
 pub reached-text : (d : Dialect) (ks ls : List Kind) (ups downs : ℕ) (text : List ℕ) → AreSteps ks ls ups downs → text ≡ steps_text d ups (drop (length (kept_names ks) - downs) (kept_names ks)) → Some text ≡ relative_by d ks ls

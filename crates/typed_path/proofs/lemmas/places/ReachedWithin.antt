@@ -9,7 +9,7 @@ use Rattle.typed_path.specs.components.{Kind}
 use Rattle.typed_path.specs.order.{are_same_prefixes}
 use Rattle.typed_path.specs.queries.{first_prefix, has_prefix}
 use Rattle.typed_path.specs.places.{AreNearSteps, can_stand, holds_all, is_anchored, is_reached, kept_names, leads_within, met_count, names_down, rising, same_heads, shared_count, steps_up, unmet}
-use Rattle.typed_path.proofs.lemmas.places.Reached.{met-base}
+use Rattle.typed_path.proofs.lemmas.places.Reached.{met-fits}
 
 -- names that share all of others begin with these, and share all that they begin with
 starts-shared : (xs ys : List (List ℕ)) → shared_count xs ys ≡ length ys → starts_with bytes_eq xs ys ≡ true
@@ -45,7 +45,7 @@ module _ (ks ls : List Kind) (reached : is_reached ks ls ≡ true) where
   no-step : steps_up ks ls ≡ 0 → leads_within ks ls ≡ true
   no-step none =
       let level : rising ks ≡ rising ls = omega (arith, none, rises) in
-      let all : shared_count (kept_names ks) (kept_names ls) ≡ length (kept_names ls) = omega (arith, none, met-base ks ls, level-met ks ls level) in
+      let all : shared_count (kept_names ks) (kept_names ls) ≡ length (kept_names ls) = omega (arith, none, (met-fits ks ls).1, level-met ks ls level) in
       ap₂ ◌&&◌ (ap₂ ◌&&◌ heads (eq-eqb (rising ks) (rising ls) level)) (starts-shared (kept_names ks) (kept_names ls) all)
 
   within-no-step : leads_within ks ls ≡ true → steps_up ks ls ≡ 0

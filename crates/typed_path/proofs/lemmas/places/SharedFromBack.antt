@@ -6,23 +6,15 @@ use Rattle.std.proofs.lemmas.Bool.{cases_lt}
 use Rattle.typed_path.specs.places.{IsLast, shared_count}
 
 -- no more than either has
-pub shared_count-least : (xs ys : List (List ℕ)) → shared_count xs ys ≤ length xs
-shared_count-least [] ys = omega arith
-shared_count-least (x ∷ xs) [] = omega arith
-shared_count-least (x ∷ xs) (y ∷ ys) = by (bytes_eq x y) (shared_count-least xs ys)
+pub shared_count-fits : (xs ys : List (List ℕ)) → (shared_count xs ys ≤ length xs) × (shared_count xs ys ≤ length ys)
+shared_count-fits [] ys = (omega arith, omega arith)
+shared_count-fits (x ∷ xs) [] = (omega arith, omega arith)
+shared_count-fits (x ∷ xs) (y ∷ ys) = by (bytes_eq x y) (shared_count-fits xs ys)
   where
-    by : (b : Bool) → shared_count xs ys ≤ length xs → (if b then suc (shared_count xs ys) else 0) ≤ suc (length xs)
-    by true h = omega (arith, h)
-    by false h = omega arith
-
-pub shared_count-most : (xs ys : List (List ℕ)) → shared_count xs ys ≤ length ys
-shared_count-most [] ys = omega arith
-shared_count-most (x ∷ xs) [] = omega arith
-shared_count-most (x ∷ xs) (y ∷ ys) = by (bytes_eq x y) (shared_count-most xs ys)
-  where
-    by : (b : Bool) → shared_count xs ys ≤ length ys → (if b then suc (shared_count xs ys) else 0) ≤ suc (length ys)
-    by true h = omega (arith, h)
-    by false h = omega arith
+    by : (b : Bool) → (shared_count xs ys ≤ length xs) × (shared_count xs ys ≤ length ys)
+        → ((if b then suc (shared_count xs ys) else 0) ≤ suc (length xs)) × ((if b then suc (shared_count xs ys) else 0) ≤ suc (length ys))
+    by true h = (omega (arith, h.0), omega (arith, h.1))
+    by false h = (omega arith, omega arith)
 
 -- what another name at the end of each does
 record More (before after n : ℕ) (same : Bool) : Type 0 where
@@ -114,7 +106,7 @@ module _ (all : ℕ) (xs ys xs' ys' : List (List ℕ)) (n known : ℕ) (a b : Li
 pub tells-end : (all : ℕ) (xs ys : List (List ℕ)) (n known : ℕ) → Tells all xs ys n known → ys ≡ [] → all ≡ known
 tells-end all xs ys n known h none =
     let zero : n ≡ 0 = omega (arith, h.other, ap length none) in
-    h.same (omega (arith, zero, h.size, shared_count-least xs ys))
+    h.same (omega (arith, zero, h.size, (shared_count-fits xs ys).0))
 
 -- of two lists, the deeper one cut to the length of the other
 pub tells-start : (xs ys left others : List (List ℕ)) (names base_names n deeper base_deeper : ℕ) → length xs ≡ names → length ys ≡ base_names → deeper ≡ names - base_names → base_deeper ≡ base_names - names → n ≡ names - deeper

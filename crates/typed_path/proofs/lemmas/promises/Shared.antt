@@ -20,7 +20,7 @@ use Rattle.typed_path.proofs.lemmas.components.FirmPrefixes.{drive-stays, first-
 use Rattle.typed_path.proofs.lemmas.components.PartedPrefixes.{raw-whole}
 use Rattle.typed_path.proofs.lemmas.queries.Shared.{texts-length, starts_own, starts_other, starts_shared, starts_nothing}
 use Rattle.typed_path.proofs.lemmas.queries.Parents.{take-front, nonempty-cut}
-use Rattle.typed_path.proofs.lemmas.places.SharedFromBack.{shared_count-least}
+use Rattle.typed_path.proofs.lemmas.places.SharedFromBack.{shared_count-fits}
 
 abbrev texts_of : List Placed → List (List ℕ)
 texts_of cs = texts (parts cs)
@@ -138,7 +138,7 @@ first_texts d t (suc k) within = front_texts d t k (omega arith)
 shared_texts : (d : Dialect) (t u : List ℕ) → texts (parts_of d (take (shared_end d t u) t)) ≡ take (shared_count (texts (parts_of d t)) (texts (parts_of d u))) (texts (parts_of d t))
 shared_texts d t u =
     first_texts d t (shared_count (texts (parts_of d t)) (texts (parts_of d u)))
-    (omega (arith, shared_count-least (texts (parts_of d t)) (texts (parts_of d u)), texts-length d t))
+    (omega (arith, (shared_count-fits (texts (parts_of d t)) (texts (parts_of d u))).0, texts-length d t))
 
 pub shared_longest : (d : Dialect) (t u : List ℕ) → IsLongest d t u (take (shared_end d t u) t)
 shared_longest d t u =

@@ -9,7 +9,7 @@ use Rattle.typed_path.specs.queries.{begins_with_root, first_prefix}
 use Rattle.typed_path.specs.order.{are_same_prefixes, kind_cmp_total}
 use Rattle.typed_path.specs.places.{can_stand, head_of, headed, is_anchored, is_reached, kept_names, names_down, rising, routed, same_heads, shared_count, steps_up, unmet}
 use Rattle.typed_path.proofs.lemmas.places.KeptNames.{AlikeKept, unmet-append, kept_names-append}
-use Rattle.typed_path.proofs.lemmas.places.SharedFromBack.{shared_count-most}
+use Rattle.typed_path.proofs.lemmas.places.SharedFromBack.{shared_count-fits}
 use Rattle.typed_path.proofs.lemmas.promises.CleanRead.{LeadsAs, anchored-stays, names-ups, unmet-ups, ups}
 use Rattle.typed_path.proofs.lemmas.promises.Within.{same-prefix, same-test, test-same}
 
@@ -93,7 +93,7 @@ module _ (ks ls : List Kind) (rises : rising ls ≤ rising ks) where
           ++ drop (if b then shared_count (kept_names ks) (kept_names ls) else 0) (kept_names ks) ≡ kept_names ks
       by true e =
           let n = shared_count (kept_names ks) (kept_names ls) in
-          let most : n ≤ length (kept_names ls) = shared_count-most (kept_names ks) (kept_names ls) in
+          let most : n ≤ length (kept_names ls) = (shared_count-fits (kept_names ks) (kept_names ls)).1 in
           let count : length (kept_names ls) - ((length (kept_names ls) - n) + (rising ks - rising ls)) ≡ n = omega (arith, most, eqb-true (rising ks) (rising ls) e) in
           ap (λ m. take m (kept_names ls) ++ drop n (kept_names ks)) count
           ∙ ap (λ ns. ns ++ drop n (kept_names ks)) (shared-same (kept_names ks) (kept_names ls))

@@ -17,7 +17,7 @@ use Rattle.typed_path.proofs.lemmas.components.Cuts.{comps-laid_out, ends-within
 use Rattle.typed_path.proofs.lemmas.order.SharedNames.{AreInOrder, begins-name, ends-order, other-at, own-at, unlike}
 use Rattle.typed_path.proofs.lemmas.queries.Shared.{texts-length}
 use Rattle.typed_path.proofs.lemmas.scan.Steps.{last_of-behind}
-use Rattle.typed_path.proofs.lemmas.places.SharedFromBack.{shared_count-least}
+use Rattle.typed_path.proofs.lemmas.places.SharedFromBack.{shared_count-fits}
 use Rattle.typed_path.proofs.lemmas.places.NearSteps.{none-shared}
 
 -- Where the components of a front end.
@@ -51,7 +51,7 @@ whole-items b s text same slice begins first =
 
 -- what is shared ends within the path
 pub shared-within : (d : Dialect) (t u : List ℕ) → shared_end d t u ≤ length t
-shared-within d t u = by (shared_count (texts (parts_of d t)) (texts (parts_of d u))) (omega (arith, shared_count-least (texts (parts_of d t)) (texts (parts_of d u)), texts-length d t))
+shared-within d t u = by (shared_count (texts (parts_of d t)) (texts (parts_of d u))) (omega (arith, (shared_count-fits (texts (parts_of d t)) (texts (parts_of d u))).0, texts-length d t))
   where
     by : (k : ℕ) → k ≤ length (comps d t) → end_of_first (comps d t) k ≤ length t
     by zero less = zero-le

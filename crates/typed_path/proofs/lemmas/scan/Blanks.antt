@@ -1,14 +1,14 @@
 -- Segments that count for nothing behind others: how marks tell that there is none, and what that tells of the pieces of a text.
 use Rattle.std.proofs.Common.{◌≡◌, ℕ, zero, suc, ◌+◌, ◌-◌, ◌*◌, ◌^◌, ◌/◌, ◌%◌, ◌≤◌, ◌<◌, List, [], ◌∷◌, Bool, true, false, cond, ◌&&◌, ◌||◌, ◌==◌, w64, length, take, take_all, drop, ◌++◌, slice_index, refl, sym, ap, ◌∙◌, arith, bit_or, bit_and, shr-shr, true≢false, drop-drop, inl, inr}
 use Rattle.std.specs.Int.{bit_at}
-use Rattle.std.specs.List.{before_first, list_any}
+use Rattle.std.specs.List.{before_first, list_any, onto_first}
 use Rattle.std.proofs.lemmas.Bool.{and_parts, or_parts, false_from_ne_true, cases_lt}
 use Rattle.std.proofs.lemmas.List.{drop_more, drop_all, take_more}
 use Rattle.std.proofs.lemmas.Nat.Bits.{bit_at-zero, bit_at_or, bit_at_and, bit_at-lt, bit_at_set_same}
 use Rattle.typed_path.specs.declared.scan.separators.Separators.{Separators}
 use Rattle.typed_path.specs.components.{dot, is_separator, body}
 use Rattle.typed_path.specs.declared.scan.cursor.Begin.TheVariants.{Body}
-use Rattle.typed_path.proofs.lemmas.components.Segments.{body_from-separator, segment-byte}
+use Rattle.typed_path.proofs.lemmas.components.Segments.{body_from-separator, segment-byte, pieces}
 use Rattle.typed_path.specs.scan.{IsMask, stands_at, is_one_of, MarksNoBlank, is_blank, begins_blank, has_blank_behind}
 use Rattle.typed_path.proofs.lemmas.scan.Searches.{set-of}
 
@@ -42,7 +42,37 @@ abbrev pub begins_with_dot : List ℕ → Bool
 begins_with_dot [] = false
 begins_with_dot (b ∷ bs) = b == dot
 
--- it is no blank one where it ends neither at once nor behind a dot
+-- a text is that, and the pieces behind it, of which a search tells that tests what stands behind each separator
+module _ (s : Separators) (test behind : List ℕ → Bool) (none : behind [] ≡ false)
+    (one : (b : ℕ) (bs : List ℕ) → behind (b ∷ bs) ≡ ((is_separator s b && test (before_first (is_separator s) bs)) || behind bs)) where
+  pub record Split (text : List ℕ) : Type 0 where
+    pub more : List (List ℕ)
+    pub cut : pieces s text ≡ before_first (is_separator s) text ∷ more
+    pub told : list_any test more ≡ behind text
+
+  pub split : (text : List ℕ) → Split text
+  split [] = record { more = []; cut = refl; told = sym none }
+  split (x ∷ xs) = by (is_separator s x) refl (split xs)
+    where
+      by : (separates : Bool) → is_separator s x ≡ separates → Split xs → Split (x ∷ xs)
+      by true e rest = record {
+        more = pieces s xs;
+        cut = ap (λ b. cond b ([] ∷ pieces s xs) (onto_first x (pieces s xs))) e ∙ ap (λ t. t ∷ pieces s xs) (sym (segment-byte s x xs ∙ ap (λ b. cond b [] (x ∷ before_first (is_separator s) xs)) e));
+        told =
+            ap (list_any test) rest.cut
+            ∙ ap (λ b. test (before_first (is_separator s) xs) || b) rest.told
+            ∙ sym (one x xs ∙ ap (λ b. (b && test (before_first (is_separator s) xs)) || behind xs) e);
+      }
+      by false e rest = record {
+        more = rest.more;
+        cut =
+            ap (λ b. cond b ([] ∷ pieces s xs) (onto_first x (pieces s xs))) e
+            ∙ ap (onto_first x) rest.cut
+            ∙ ap (λ t. t ∷ rest.more) (sym (segment-byte s x xs ∙ ap (λ b. cond b [] (x ∷ before_first (is_separator s) xs)) e));
+        told = rest.told ∙ sym (one x xs ∙ ap (λ b. (b && test (before_first (is_separator s) xs)) || behind xs) e);
+      }
+
+-- the first segment is no blank one where it ends neither at once nor behind a dot
 unblank : (s : Separators) (text : List ℕ) → ends_segment s text ≡ false → (begins_with_dot text ≡ true → ends_segment s (drop 1 text) ≡ false) → begins_blank s text ≡ false
 unblank s [] e f = absurd (true≢false e)
 unblank s (a ∷ rest) e f = ap is_blank (segment-byte s a rest ∙ ap (λ p. cond p [] (a ∷ before_first (is_separator s) rest)) e) ∙ behind rest f

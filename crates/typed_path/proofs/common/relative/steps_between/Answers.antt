@@ -6,7 +6,7 @@ use Rattle.typed_path.specs.places.{can_stand, kept_names, met_count, names_down
 use Rattle.typed_path.specs.views.BodyViews.{body_items}
 use Rattle.typed_path.specs.views.CursorViews.{items_left}
 use Rattle.typed_path.proofs.lemmas.places.KeptFromBack.{kept_behind_prefix}
-use Rattle.typed_path.proofs.lemmas.places.Reached.{few-steps, met-base, met-own, met-told, names-down, not-standing, reached-all}
+use Rattle.typed_path.proofs.lemmas.places.Reached.{few-steps, met-fits, met-told, names-down, not-standing, reached-all}
 use Rattle.typed_path.proofs.common.relative.steps_between.Goals as goal
 
 pub overflow_sub-down : goal.overflow_sub-down
@@ -19,7 +19,7 @@ overflow_sub-down c =
     let others = ap₂ (λ a n. if a then 0 else n) c.lead_of-start.ensures.anchored c.lead_of-start.ensures.unmet in
     let met : c.met_count-met.result ≡ met_count ks ls =
     c.met_count-met.ensures ∙ met-told ks ls _ _ _ _ rises others (kept_behind_prefix cs (body_items c.body.result) c.body.ensures) (kept_behind_prefix ds (body_items c.body-2.result) c.body-2.ensures) in
-    omega (arith, c.lead_of-lead.ensures.names, met, met-own ks ls)
+    omega (arith, c.lead_of-lead.ensures.names, met, (met-fits ks ls).0)
 
 pub overflow_sub-result : goal.overflow_sub-result
 overflow_sub-result c =
@@ -31,7 +31,7 @@ overflow_sub-result c =
     let others = ap₂ (λ a n. if a then 0 else n) c.lead_of-start.ensures.anchored c.lead_of-start.ensures.unmet in
     let met : c.met_count-met.result ≡ met_count ks ls =
     c.met_count-met.ensures ∙ met-told ks ls _ _ _ _ rises others (kept_behind_prefix cs (body_items c.body.result) c.body.ensures) (kept_behind_prefix ds (body_items c.body-2.result) c.body-2.ensures) in
-    omega (arith, c.lead_of-start.ensures.names, met, met-base ks ls)
+    omega (arith, c.lead_of-start.ensures.names, met, (met-fits ks ls).1)
 
 pub overflow_add-result : goal.overflow_add-result
 overflow_add-result c =
