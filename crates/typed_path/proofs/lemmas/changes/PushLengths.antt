@@ -306,7 +306,7 @@ crossed-first windows t f is =
     (λ e. subst (λ u. IsTaken u f.length) (sym (push-first raw)) (raw-taken t f is))
 
 -- a checked push that is not refused makes what a push makes
-checked-all : (e : Dialect) (ps : List Part) (base u : List ℕ) → push_checked_each e (Ok base) ps ≡ Ok u → u ≡ push_all e base (map (crossed e) ps)
+pub checked-all : (e : Dialect) (ps : List Part) (base u : List ℕ) → push_checked_each e (Ok base) ps ≡ Ok u → u ≡ push_all e base (map (crossed e) ps)
 checked-all e [] base u done = let is : base ≡ u = cc in sym is
 checked-all e (p ∷ ps) base u done = by (checked-all e ps) (crossing_fault e p) done
   where

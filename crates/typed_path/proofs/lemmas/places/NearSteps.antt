@@ -5,7 +5,7 @@ use Rattle.std.specs.Ordering.{is_ne}
 use Rattle.std.specs.Str.{bytes_eq}
 use Rattle.std.specs.Cmp.Lexicographic.{bytes_decides}
 use Rattle.std.proofs.lemmas.Bool.{and_parts, cases_lt, eq-eqb}
-use Rattle.std.proofs.lemmas.List.{append_cancel_right, drop_at, map-append}
+use Rattle.std.proofs.lemmas.List.{append_cancel_right, drop_at, map-append, take_rest}
 use Rattle.std.proofs.lemmas.List.Splits.{slice_split_none, slice_split_first}
 use Rattle.std.proofs.lemmas.List.Sums.{fails_before_first}
 use Rattle.typed_path.specs.declared.scan.separators.Separators.{Separators}
@@ -116,8 +116,9 @@ behind-front cs ds names is = ap kinds (map-append (λ c. c.part) cs ds) ∙ map
 
 -- two texts that part in segments that differ
 pub parted-into : (s : Separators) (t u : List ℕ) (k n : ℕ) (o : Ordering) → IsParting s t u k n → AreInOrder s t u k o → is_ne o ≡ true
-    → PartInto s t u (drop n t) (drop n u)
-parted-into s t u k n o parted is differ = by n refl
+    → PartInto s t u (take (length t - n) (drop n t)) (take (length u - n) (drop n u))
+parted-into s t u k n o parted is differ =
+    subst (λ v. PartInto s t u v (take (length u - n) (drop n u))) (sym (take_rest t n)) (subst (PartInto s t u (drop n t)) (sym (take_rest u n)) (by n refl))
   where
     apart : (ended more : Bool) (names others : List (List ℕ)) → AreAlone s (drop n t) ended names → AreAlone s (drop n u) more others → shared_count names others ≡ 0
     apart = names-apart s (drop n t) (drop n u) o (ends-order s t u k n parted o is) differ
@@ -147,21 +148,21 @@ module _ (s : Separators) (t beginning : List ℕ) (n : ℕ) (is : body s 0 t �
   shorter-own : (ended : Bool) (names : List (List ℕ)) → AreAlone s [] ended names → kinds (parts (body s 0 beginning)) ≡ kinds (parts (body s 0 beginning)) ++ map normal names
   shorter-own ended names alone = sym (ap (λ ns. kinds (parts (body s 0 beginning)) ++ map normal ns) (none-alone s ended names alone) ∙ append-nil (kinds (parts (body s 0 beginning))))
 
-  pub longer-into : PartInto s t beginning (drop n t) []
-  longer-into = record {
+  pub longer-into : PartInto s t beginning (take (length t - n) (drop n t)) []
+  longer-into = subst (λ v. PartInto s t beginning v []) (sym (take_rest t n)) (record {
     front = kinds (parts (body s 0 beginning));
     own = longer-own;
     others = shorter-own;
     apart = λ ended more names others own other. ap (shared_count names) (none-alone s more others other) ∙ none-shared names;
-  }
+  })
 
-  pub shorter-into : PartInto s beginning t [] (drop n t)
-  shorter-into = record {
+  pub shorter-into : PartInto s beginning t [] (take (length t - n) (drop n t))
+  shorter-into = subst (PartInto s beginning t []) (sym (take_rest t n)) (record {
     front = kinds (parts (body s 0 beginning));
     own = shorter-own;
     others = longer-own;
     apart = λ ended more names others own other. ap (λ ns. shared_count ns others) (none-alone s ended names own);
-  }
+  })
 
 -- The steps.
 

@@ -1,12 +1,11 @@
 -- What changes a text leaves a text, and what the search is told of texts.
-use Rattle.std.proofs.Common.{◌≡◌, ℕ, ◌-◌, ◌<◌, ◌==◌, ◌||◌, true, List, [], ◌∷◌, ◌++◌, length, take, slice_index, refl, arith, ◌+◌, sym, ap, subst, ◌∙◌, map, drop, Option, Some, None, option_and_then, option_map, Ok, Err, Bool, false, if◌then◌else◌}
+use Rattle.std.proofs.Common.{◌≡◌, ℕ, ◌-◌, ◌<◌, ◌==◌, ◌||◌, true, List, [], ◌∷◌, ◌++◌, length, take, slice_index, refl, arith, ◌+◌, sym, ap, subst, ◌∙◌, map, drop, Option, Some, None, option_and_then, option_map, Ok, Bool, false, if◌then◌else◌}
 use Rattle.std.specs.List.{AllByRecursion}
 use Rattle.std.specs.Str.{IsUtf8, is_utf8, IsCharBoundary}
 use Rattle.std.proofs.lemmas.Bool.{cond_both, and_parts}
 use Rattle.std.proofs.lemmas.Str.{IsUtf8-nil, IsUtf8-append, IsUtf8-take, IsUtf8-from_is_utf8, is_utf8-from_IsUtf8, IsCharBoundary-end, IsUtf8-string_bytes}
 use Rattle.std.specs.String.{string_bytes}
 use Rattle.std.specs.declared.string.String.{String}
-use Rattle.typed_path.specs.declared.errors.CheckedPathError.{CheckedPathError}
 use Rattle.typed_path.specs.declared.scan.step.Piece.{Piece}
 use Rattle.typed_path.specs.components.{Dialect, unix, windows, slash, backslash, dot, question, root_of, Kind, root, current, parent, Part, kinds, is_name, texts, Placed, parts, Found, prefix_of, parts_of, comps, written, as_written}
 use Rattle.typed_path.specs.queries.{begins_with_root, begins_with_prefix, has_prefix, has_any_verbatim_prefix, name_of, is_root, is_absolute, parent_of, file_name_of, file_stem_of, file_prefix_of, extension, can_be_simplified, simplified_text, common_ancestor_of, stripped, stem_of, extension_of}
@@ -14,7 +13,7 @@ use Rattle.typed_path.specs.changes.{ended_with, push_unix, prefix_alone, withou
 use Rattle.typed_path.specs.texts.{are_texts, is_text_part, are_text_parts, is_text_option}
 use Rattle.typed_path.specs.scan.{last_of, but_last, first_part, last_part}
 use Rattle.typed_path.specs.places.{stays, resolve, normal_text}
-use Rattle.typed_path.specs.conversions.{same_dialect, crossed, crossed_all, converted, crossing_fault, push_unless, push_checked_each, converted_checked, platform, absolute_from}
+use Rattle.typed_path.specs.conversions.{same_dialect, crossed, crossed_all, converted, converted_checked, platform, absolute_from}
 use Rattle.typed_path.specs.views.PieceViews.{part_of}
 use Rattle.typed_path.proofs.lemmas.lists.Lists.{AllByRecursion-append}
 use Rattle.typed_path.proofs.lemmas.texts.TextCuts.{byte-utf8, after_mark-utf8, prefix-text, ascii-cuts, IsCut, comps-cut, slash-text, backslash-text, current-text, parent-text as parent_part-text, name-text}
@@ -23,6 +22,7 @@ use Rattle.typed_path.proofs.lemmas.queries.FileNames.{stem_of-whole, stem_of-ex
 use Rattle.typed_path.proofs.lemmas.queries.Simplified.{simple_text, simple_of}
 use Rattle.typed_path.proofs.lemmas.scan.Steps.{last_of-push, last_pushed}
 use Rattle.typed_path.proofs.lemmas.components.WrittenForms.{written-drop, written-but_last, written-first, written-last, written-parts_of}
+use Rattle.typed_path.proofs.lemmas.changes.PushLengths.{checked-all}
 
 -- A text pushed onto a text makes a text.
 
@@ -252,30 +252,19 @@ crossed_each-utf8 : (e : Dialect) (ps : List Part) → AllByRecursion IsWritten 
 crossed_each-utf8 e [] each = tt
 crossed_each-utf8 e (p ∷ ps) each = (crossed-utf8 e p each.0, crossed_each-utf8 e ps each.1)
 
--- components pushed one by one by checked pushes
-checked-utf8 : (e : Dialect) (base : List ℕ) (ps : List Part) (u : List ℕ) → IsUtf8 base → AllByRecursion IsWritten ps → push_checked_each e (Ok base) ps ≡ Ok u → IsUtf8 u
-checked-utf8 e base [] u is each made = let same : base ≡ u = cc in subst IsUtf8 same is
-checked-utf8 e base (p ∷ ps) u is each made = by (crossing_fault e p) (λ next text more. checked-utf8 e next ps u text each.1 more) made
-  where
-    refused : (f : CheckedPathError) (qs : List Part) → push_checked_each e (Err f) qs ≡ Ok u → ⊥
-    refused f [] h = cc
-    refused f (q ∷ qs) h = cc
-
-    by : (o : Option CheckedPathError) → ((next : List ℕ) → IsUtf8 next → push_checked_each e (Ok next) ps ≡ Ok u → IsUtf8 u)
-        → push_checked_each e (push_unless e base o (crossed e p)) ps ≡ Ok u → IsUtf8 u
-    by None again h = again (push e base (crossed e p)) (push-utf8 e base (crossed e p) is (crossed-utf8 e p each.0)) h
-    by (Some f) again h = absurd (refused f ps h)
-
 module _ (d e : Dialect) (t : List ℕ) (is : is_utf8 t ≡ true) where
+  crossed-text : IsUtf8 (push_all e [] (map (crossed e) (parts_of d t)))
+  crossed-text = push_all-utf8 e [] (map (crossed e) (parts_of d t)) IsUtf8-nil (crossed_each-utf8 e (parts_of d t) (parts_of-written d t (IsUtf8-from_is_utf8 t is)))
+
   -- a text in another dialect
   pub converted-text : is_utf8 (converted d e t) ≡ true
   converted-text =
       cond_both (same_dialect d e) t (crossed_all e (parts_of d t)) (λ bs. is_utf8 bs ≡ true) (λ same. is)
-      (λ other. is_utf8-from_IsUtf8 _ (push_all-utf8 e [] (map (crossed e) (parts_of d t)) IsUtf8-nil (crossed_each-utf8 e (parts_of d t) (parts_of-written d t (IsUtf8-from_is_utf8 t is)))))
+      (λ other. is_utf8-from_IsUtf8 _ crossed-text)
 
   -- the same by checked pushes
   pub converted_checked-text : (u : List ℕ) → converted_checked d e t ≡ Ok u → is_utf8 u ≡ true
-  converted_checked-text u made = is_utf8-from_IsUtf8 u (checked-utf8 e [] (parts_of d t) u IsUtf8-nil (parts_of-written d t (IsUtf8-from_is_utf8 t is)) made)
+  converted_checked-text u made = is_utf8-from_IsUtf8 u (subst IsUtf8 (sym (checked-all e (parts_of d t) [] u made)) crossed-text)
 
 -- a text that is made absolute
 pub absolute_from-text : (d : Dialect) (directory t : List ℕ) → is_utf8 directory ≡ true → is_utf8 t ≡ true → is_text_option (absolute_from d directory t) ≡ true
