@@ -1,5 +1,5 @@
 -- A path with more behind its file name is read as before, but for that name.
-use Rattle.std.proofs.Common.{◌≡◌, ℕ, ◌+◌, ◌-◌, ◌<◌, ◌≤◌, ◌==◌, Bool, true, false, if◌then◌else◌, List, [], ◌∷◌, ◌++◌, length, take, drop, inl, inr, ◌⊎◌, refl, sym, ap, ap₂, subst, ◌∙◌, arith, append-nil, append_assoc, length-append, length-drop, Some, None, Option, option_map, option_and_then, unwrap_or, slice_get, not, ne_eqb, suc}
+use Rattle.std.proofs.Common.{◌≡◌, ℕ, ◌+◌, ◌-◌, ◌<◌, ◌≤◌, ◌==◌, Bool, true, false, if◌then◌else◌, List, [], ◌∷◌, ◌++◌, length, take, drop, inl, inr, ◌⊎◌, refl, sym, ap, ap₂, subst, ◌∙◌, arith, append-nil, append_assoc, length-append, length-drop, Some, None, Option, option_map, option_and_then, unwrap_or, slice_get, not, suc}
 use Rattle.std.proofs.lemmas.Bool.{cases_lt, cond-false, cond-true, lt-ltb, both_ways}
 use Rattle.std.proofs.lemmas.List.{take_all, take-take, take-append-le, drop-append-le, drop-take, length-take-le}
 use Rattle.std.proofs.lemmas.List.Elements.{All-append}
@@ -21,6 +21,7 @@ use Rattle.typed_path.proofs.lemmas.scan.Readings.{between-last, between-all}
 use Rattle.typed_path.proofs.lemmas.scan.Steps.{last_of-push, but_last-push, last_of-behind, but_last-behind, last_pushed}
 use Rattle.typed_path.proofs.lemmas.queries.Parents.{HasName, last-filled, parent_left}
 use Rattle.typed_path.proofs.lemmas.components.FirmPrefixes.{filled-long}
+use Rattle.std.proofs.Math.Dec.{eqb-suc-zero}
 
 -- Lists of components: their last one.
 
@@ -62,17 +63,12 @@ clash k name is other = both_ways (is_name k) other (ap is_name is)
 -- A body that ends in a name, with more of that name behind it.
 
 -- three bytes or more between separators are a name
-long-first : (s : Separators) (v : List ℕ) (at : ℕ) → 2 < length v → first s (record { text = v; start = at }) ≡ component (name_part v) at
-long-first s [] at long = absurd (omega arith)
-long-first s (a ∷ []) at long = absurd (omega arith)
-long-first s (a ∷ b ∷ []) at long = absurd (omega arith)
-long-first s (a ∷ b ∷ c ∷ v) at long = cond-false (length (a ∷ b ∷ c ∷ v) == 0) _ _ (ne_eqb (length (a ∷ b ∷ c ∷ v)) 0 (λ e. omega arith))
-
-long-later : (s : Separators) (v : List ℕ) (at : ℕ) → 2 < length v → later s (record { text = v; start = at }) ≡ component (name_part v) at
-long-later s [] at long = absurd (omega arith)
-long-later s (a ∷ []) at long = absurd (omega arith)
-long-later s (a ∷ b ∷ []) at long = absurd (omega arith)
-long-later s (a ∷ b ∷ c ∷ v) at long = cond-false (length (a ∷ b ∷ c ∷ v) == 0) _ _ (ne_eqb (length (a ∷ b ∷ c ∷ v)) 0 (λ e. omega arith))
+long-name : (s : Separators) (v : List ℕ) (at : ℕ) → 2 < length v
+    → (first s (record { text = v; start = at }) ≡ component (name_part v) at) × (later s (record { text = v; start = at }) ≡ component (name_part v) at)
+long-name s [] at long = absurd (omega arith)
+long-name s (a ∷ []) at long = absurd (omega arith)
+long-name s (a ∷ b ∷ []) at long = absurd (omega arith)
+long-name s (a ∷ b ∷ c ∷ v) at long = let filled = eqb-suc-zero (length (b ∷ c ∷ v)) in (cond-false (length (a ∷ b ∷ c ∷ v) == 0) _ _ filled, cond-false (length (a ∷ b ∷ c ∷ v) == 0) _ _ filled)
 
 -- a text without a separator is one component
 alone : (s : Separators) (at : ℕ) (v : List ℕ) → 0 < length v → IsUnseparated (is_separator s) v → body s at v ≡ first s (record { text = v; start = at })
@@ -148,7 +144,7 @@ module _ (s : Separators) (at : ℕ) (b x : List ℕ) (unseparated : IsUnseparat
       let h = first_name b at name c part s (sym (ap last_of (alone s at b some none)) ∙ is_last) in (
         omega (arith, h.filled, ap length h.same),
         alone s at (b ++ x) (omega (arith, length-append b x)) (All-append (λ y. is_separator s y ≡ false) b x none unseparated)
-            ∙ long-first s (b ++ x) at (omega (arith, length-append b x))
+            ∙ (long-name s (b ++ x) at (omega (arith, length-append b x))).0
             ∙ ap₂ (λ v n. component (name_part (v ++ x)) n) h.same h.place
             ∙ ap (λ cs. cs ++ component (name_part (name ++ x)) c.start) (sym h.before ∙ ap but_last (sym (alone s at b some none))),
       )
@@ -173,7 +169,7 @@ module _ (s : Separators) (at : ℕ) (b x : List ℕ) (unseparated : IsUnseparat
           ∙ body_from-append s at m separates Body us (vs ++ x)
           ∙ ap (λ cs. kept ++ cs)
           (later_body-last s place (vs ++ x) (All-append (λ y. is_separator s y ≡ false) vs x none unseparated)
-          ∙ long-later s (vs ++ x) place (omega (arith, length-append vs x, h.filled))
+          ∙ (long-name s (vs ++ x) place (omega (arith, length-append vs x, h.filled))).1
           ∙ ap₂ (λ v n. component (name_part (v ++ x)) n) h.same h.place)
           ∙ ap (λ cs. cs ++ component (name_part (name ++ x)) c.start) (sym h.before ∙ ap but_last (sym cut)),
     )

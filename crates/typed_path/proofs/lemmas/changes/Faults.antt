@@ -57,38 +57,19 @@ named-more : (b : Bool) (o : Option CheckedPathError) → (if b then o else Some
 named-more true o e = e
 named-more false o e = cc
 
--- a list that is not refused never holds more parents than names
-pub fault_at-overdraws : (d : Dialect) (depth : ℕ) (ks : List Kind) → fault_at d depth ks ≡ None → overdraws depth ks ≡ false
-fault_at-overdraws d depth [] e = refl
-fault_at-overdraws d depth (prefix p ∷ ks) e = cc
-fault_at-overdraws d depth (root ∷ ks) e = cc
-fault_at-overdraws d depth (current ∷ ks) e = fault_at-overdraws d depth ks e
-fault_at-overdraws d zero (parent ∷ ks) e = cc
-fault_at-overdraws d (suc depth) (parent ∷ ks) e = fault_at-overdraws d depth ks e
-fault_at-overdraws d depth (normal name ∷ ks) e = fault_at-overdraws d (suc depth) ks (named-more (is_valid_name d name) (fault_at d (suc depth) ks) e)
-
--- nor does it begin with a root
-pub fault_at-relative : (d : Dialect) (depth : ℕ) (ks : List Kind) → fault_at d depth ks ≡ None → begins_with_root ks ≡ false
-fault_at-relative d depth [] e = refl
-fault_at-relative d depth (root ∷ ks) e = cc
-fault_at-relative d depth (prefix p ∷ ks) e = refl
-fault_at-relative d depth (current ∷ ks) e = refl
-fault_at-relative d depth (parent ∷ ks) e = refl
-fault_at-relative d depth (normal name ∷ ks) e = refl
+-- a list that is not refused never holds more parents than names, and holds no prefix and no root
+pub fault_at-closed : (d : Dialect) (depth : ℕ) (ks : List Kind) → fault_at d depth ks ≡ None → (overdraws depth ks ≡ false) × (no_heads ks ≡ true)
+fault_at-closed d depth [] e = (refl, refl)
+fault_at-closed d depth (prefix p ∷ ks) e = (cc, cc)
+fault_at-closed d depth (root ∷ ks) e = (cc, cc)
+fault_at-closed d depth (current ∷ ks) e = fault_at-closed d depth ks e
+fault_at-closed d zero (parent ∷ ks) e = (cc, cc)
+fault_at-closed d (suc depth) (parent ∷ ks) e = fault_at-closed d depth ks e
+fault_at-closed d depth (normal name ∷ ks) e = fault_at-closed d (suc depth) ks (named-more (is_valid_name d name) (fault_at d (suc depth) ks) e)
 
 -- A path of Windows that is not refused has no prefix and no root.
 
--- a list that is not refused holds no prefix and no root
-fault_at-no_heads : (d : Dialect) (depth : ℕ) (ks : List Kind) → fault_at d depth ks ≡ None → no_heads ks ≡ true
-fault_at-no_heads d depth [] e = refl
-fault_at-no_heads d depth (prefix p ∷ ks) e = cc
-fault_at-no_heads d depth (root ∷ ks) e = cc
-fault_at-no_heads d depth (current ∷ ks) e = fault_at-no_heads d depth ks e
-fault_at-no_heads d zero (parent ∷ ks) e = cc
-fault_at-no_heads d (suc depth) (parent ∷ ks) e = fault_at-no_heads d depth ks e
-fault_at-no_heads d depth (normal name ∷ ks) e = fault_at-no_heads d (suc depth) ks (named-more (is_valid_name d name) (fault_at d (suc depth) ks) e)
-
--- so it does not begin with a root
+-- a list without a prefix and a root does not begin with a root
 pub no_heads-relative : (ks : List Kind) → no_heads ks ≡ true → begins_with_root ks ≡ false
 no_heads-relative (root ∷ ks) e = cc
 no_heads-relative ks e = refl
@@ -117,8 +98,8 @@ faultless path accepted = by (prefix_of windows path) refl
         record {
           no_prefix = none;
           read = read;
-          closed = fault_at-overdraws windows zero (kinds (body_parts Either path)) body;
-          headless = fault_at-no_heads windows zero (kinds (body_parts Either path)) body;
+          closed = (fault_at-closed windows zero (kinds (body_parts Either path)) body).0;
+          headless = (fault_at-closed windows zero (kinds (body_parts Either path)) body).1;
         }
     by (Some f) some = absurd (refused f (ap (λ ps. fault_at windows zero (kinds ps)) (sym (parts_of-some path f some)) ∙ judged))
 

@@ -15,7 +15,7 @@ use Rattle.typed_path.specs.changes.{fault, fault_at, ended_with, push_unix, pus
 use Rattle.typed_path.specs.places.{overdraws, resolve, place, stays, normal_text, with_implied_root}
 use Rattle.typed_path.specs.promises.{keeps_prefix, HasPrefixOf, LiesWithin, ReadsAsResolved, StaysNormal, IsCanonical, IsCanonicalForm, IsBelow, without_leading_current, JoinAppends, StripJoins}
 use Rattle.typed_path.specs.scan.{left, start_at}
-use Rattle.typed_path.proofs.lemmas.changes.Faults.{fault_behind-at, fault_at-overdraws, fault_at-relative}
+use Rattle.typed_path.proofs.lemmas.changes.Faults.{fault_behind-at, fault_at-closed, no_heads-relative}
 use Rattle.typed_path.proofs.lemmas.components.Segments.{body_parts, parts-body, body_parts-read, IsCleanName, IsLaterPart, IsWritten, IsLater, AreRead, text_by_kind, texts-read, pieces, first_parts, later_parts, parts-later_body, IsWrittenPart, each-written}
 use Rattle.typed_path.proofs.lemmas.changes.Joins.{later_parts-name, body_parts-name, body_parts-ended}
 use Rattle.typed_path.proofs.lemmas.places.Resolving.{IsKept, resolve-kept, resolve-read, resolve-resolve, resolve-append, overdraws-without_leading_current, resolve-without_leading_current}
@@ -226,8 +226,8 @@ resolve-pushed : (base path : List ℕ) → fault unix path ≡ None → resolve
 resolve-pushed [] path accepted = ap (λ t. resolve (parts_of unix t)) (push_unix-nothing path)
 resolve-pushed (b ∷ base) path accepted =
     let judged = sym (fault_behind-at unix [] zero (kinds (parts_of unix path)) refl) ∙ accepted in
-    let closed = overdraws-without_leading_current zero (parts_of unix path) ∙ fault_at-overdraws unix zero (kinds (parts_of unix path)) judged in
-    ap resolve (join_appends (b ∷ base) path (omega arith) (fault_at-relative unix zero (kinds (parts_of unix path)) judged))
+    let closed = overdraws-without_leading_current zero (parts_of unix path) ∙ (fault_at-closed unix zero (kinds (parts_of unix path)) judged).0 in
+    ap resolve (join_appends (b ∷ base) path (omega arith) (no_heads-relative (kinds (parts_of unix path)) (fault_at-closed unix zero (kinds (parts_of unix path)) judged).1))
     ∙ resolve-append (parts_of unix (b ∷ base)) (without_leading_current (parts_of unix path)) closed
     ∙ ap (λ ps. resolve (parts_of unix (b ∷ base)) ++ ps) (resolve-without_leading_current (parts_of unix path))
 
