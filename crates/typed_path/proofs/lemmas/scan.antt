@@ -4,7 +4,7 @@
 -- Steps: a step from either end, of a list, an iterator and a cursor; the first and the last component of a list, whether it has one, and what is left without it
 -- Searches: what masks say of places, and searches of a range put together from what was seen of it
 -- Tables: tables that bytes are looked up in by their low bits
--- Blanks: segments that count for nothing behind others: how marks tell that there is none, what that tells of the pieces of a text, and what its first bytes tell of its first segment
+-- Blanks: segments that count for nothing behind others: how marks tell that there is none, what that tells of the pieces of a text, what its first bytes tell of its first segment, and a search behind separators of its pieces
 pub mod LastComponent
 pub mod Readings
 pub mod Steps

@@ -7,6 +7,7 @@ use Rattle.std.proofs.lemmas.List.Elements.{All-nil, All-cons}
 use Rattle.std.proofs.lemmas.List.Splits.{slice_split-cons_yes}
 use Rattle.std.proofs.lemmas.Option.{same_Some}
 use Rattle.std.specs.List.{list_any}
+use Rattle.std.proofs.Math.Bool.{and-false}
 use Rattle.typed_path.specs.declared.scan.separators.Separators.{Separators}
 use Rattle.typed_path.specs.declared.scan.separators.Separators.TheVariants.{Backslash, Either}
 use Rattle.typed_path.specs.components.{Dialect, unix, windows, dot, is_separator, separators, root_text, root, prefix, Placed, component, root_part, prefix_part, first, body, body_of, placed, comps_behind, Found, prefix_of, found, unc, disk, verbatim_disk, name, second_name, names_length, is_empty, is_drive_letter, to_upper, drive, after_mark, question, begins_verbatim, verbatim_unc_case, verbatim_disk_case, verbatim_case, device_case, unc_case, disk_case}
@@ -22,7 +23,6 @@ use Rattle.typed_path.proofs.lemmas.lists.Lists.{IsUnseparated}
 use Rattle.typed_path.proofs.lemmas.scan.Steps.{last_of-behind}
 use Rattle.typed_path.proofs.lemmas.queries.Parents.{HasName, name_end-name}
 use Rattle.typed_path.proofs.lemmas.changes.AddedNames.{clash, name-last, within, fits, cut_body, behind, grown-name, same_front, grown-parent, KeepsFront}
-use Rattle.std.proofs.Math.Bool.{and-false}
 
 -- two separators and a byte that is none begin a prefix
 two_found : (p q c : ℕ) (u : List ℕ) → is_separator Either p ≡ true → is_separator Either q ≡ true → is_separator Either c ≡ false → prefix_of windows (p ∷ q ∷ c ∷ u) ≡ None → ⊥

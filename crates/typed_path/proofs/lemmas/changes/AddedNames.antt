@@ -6,6 +6,7 @@ use Rattle.std.proofs.lemmas.List.Elements.{All-append}
 use Rattle.std.proofs.lemmas.List.Splits.{slice_split_none, slice_split-cons_yes}
 use Rattle.std.proofs.lemmas.Option.{same_Some}
 use Rattle.std.specs.List.{suffix_len}
+use Rattle.std.proofs.Math.Dec.{eqb-suc-zero}
 use Rattle.typed_path.specs.declared.scan.separators.Separators.{Separators}
 use Rattle.typed_path.specs.declared.scan.cursor.Begin.TheVariants.{Body}
 use Rattle.typed_path.specs.components.{Dialect, unix, windows, is_separator, is_verbatim, separators, root_text, Kind, root, normal, prefix, Part, Placed, parts, is_name, end_of, component, name_part, root_part, current_part, parent_part, prefix_part, is_dot, is_dot_dot, first, later, body, body_of, placed, comps, comps_behind, Found, prefix_of, written, as_written}
@@ -21,7 +22,6 @@ use Rattle.typed_path.proofs.lemmas.scan.Readings.{between-last, between-all}
 use Rattle.typed_path.proofs.lemmas.scan.Steps.{last_of-push, but_last-push, last_of-behind, but_last-behind, last_pushed}
 use Rattle.typed_path.proofs.lemmas.queries.Parents.{HasName, last-filled, parent_left}
 use Rattle.typed_path.proofs.lemmas.components.FirmPrefixes.{filled-long}
-use Rattle.std.proofs.Math.Dec.{eqb-suc-zero}
 
 -- Lists of components: their last one.
 

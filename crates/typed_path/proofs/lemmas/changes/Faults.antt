@@ -7,6 +7,7 @@ use Rattle.std.proofs.lemmas.List.Sums.{sum_by_push}
 use Rattle.std.proofs.lemmas.Bool.{cases_lt, lt-leb, and_parts, false_from_ne_true, or_parts, not-true, eqb-false}
 use Rattle.std.proofs.lemmas.List.Splits.{slice_split-cons_yes}
 use Rattle.std.proofs.lemmas.List.{get_or_past, map-append}
+use Rattle.std.proofs.Math.Bool.{and-false, and-true}
 use Rattle.typed_path.specs.declared.errors.CheckedPathError.{CheckedPathError}
 use Rattle.typed_path.specs.declared.errors.CheckedPathError.TheVariants.{InvalidFilename}
 use Rattle.typed_path.specs.declared.scan.separators.Separators.{Separators}
@@ -20,7 +21,6 @@ use Rattle.typed_path.proofs.lemmas.components.Segments.{pieces, named_part, lat
 use Rattle.typed_path.proofs.lemmas.components.PrefixCuts.{parts_of-none, parts_of-some}
 use Rattle.typed_path.proofs.lemmas.places.Resolving.{Alike, current-alike, is_head, no_heads, resolve-append}
 use Rattle.typed_path.proofs.lemmas.lists.Lists.{slice_split-some, AllByRecursion-append}
-use Rattle.std.proofs.Math.Bool.{and-false, and-true}
 
 -- A path judged component by component, and what holds of one that is not refused.
 

@@ -5,6 +5,7 @@ use Rattle.std.specs.Slice.Scan.{HoldsNowhere}
 use Rattle.std.proofs.lemmas.Bool.{and_parts, or_parts, cases_lt}
 use Rattle.std.proofs.lemmas.List.{drop-append-le, take_at, drop_at}
 use Rattle.std.proofs.lemmas.List.Splits.{slice_split-cons_yes, slice_split-cons_no}
+use Rattle.std.proofs.Math.Bool.{or_self}
 use Rattle.typed_path.specs.declared.scan.separators.Separators.{Separators}
 use Rattle.typed_path.specs.declared.scan.separators.Separators.TheVariants.{Backslash, Either}
 use Rattle.typed_path.specs.components.{windows, dot, backslash, is_separator, is_verbatim, is_dot, is_dot_dot, is_empty, Part, parts, kinds, current_part, parent_part, name_part, parts_of, later_body}
@@ -18,7 +19,6 @@ use Rattle.typed_path.proofs.lemmas.changes.Joins.{backslash-free}
 use Rattle.typed_path.proofs.lemmas.changes.WindowsPushes.{stands-more}
 use Rattle.typed_path.proofs.lemmas.changes.MergedInPlace.{no-prefix}
 use Rattle.typed_path.proofs.lemmas.components.FirmPrefixes.{filled-long}
-use Rattle.std.proofs.Math.Bool.{or_self}
 
 -- ---- what the looks tell of the pieces
 module _ (pair : ℕ × ℕ) where

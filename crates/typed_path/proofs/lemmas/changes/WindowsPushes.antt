@@ -6,6 +6,7 @@ use Rattle.std.proofs.Math.Seq.{take-add, take-append_seam, drop-append-add}
 use Rattle.std.proofs.lemmas.List.{nil_from_length}
 use Rattle.std.specs.List.{AllByRecursion, slice_split, onto_first}
 use Rattle.std.proofs.lemmas.List.Splits.{slice_split-cons_no}
+use Rattle.std.proofs.Math.Bool.{and-false}
 use Rattle.typed_path.specs.declared.scan.separators.Separators.{Separators}
 use Rattle.typed_path.specs.declared.scan.separators.Separators.TheVariants.{Either, Backslash}
 use Rattle.typed_path.specs.components.{current_part, parent_part, name_part, windows, backslash, question, dot, separators, is_separator, Kind, prefix, root, current, parent, normal, disk, device_ns, unc, verbatim, verbatim_disk, verbatim_unc, Part, kinds, is_name, root_part, Found, found, is_empty, drive, after_mark, after_two, after_unc, name, second_name, names_length, prefix_of, device_case, unc_case, disk_case, parts_of, is_dot, is_dot_dot}
@@ -18,7 +19,6 @@ use Rattle.typed_path.proofs.lemmas.components.PrefixCuts.{parts_of-none, parts_
 use Rattle.typed_path.proofs.lemmas.promises.WindowsBases.{read-no_drive, disk_alone-filled}
 use Rattle.typed_path.proofs.lemmas.lists.Lists.{AllByRecursion-append, IsLastPlace, place-none, place-behind}
 use Rattle.typed_path.proofs.lemmas.components.FirmPrefixes.{filled-long}
-use Rattle.std.proofs.Math.Bool.{and-false}
 
 -- What a push of Windows asks of its base, and a base that is written anew.
 

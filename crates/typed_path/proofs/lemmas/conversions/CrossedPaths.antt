@@ -4,6 +4,7 @@ use Rattle.std.specs.List.{AllByRecursion, list_any}
 use Rattle.std.proofs.lemmas.Bool.{and_parts, cond-false, false_from_ne_true, and_left, both_ways, cases_Bool, not-true}
 use Rattle.std.proofs.lemmas.List.Elements.{All-head, All-nil, All-cons, filter-append}
 use Rattle.std.proofs.Math.Bool.{or-false}
+use Rattle.std.proofs.Math.Dec.{eqb-suc-zero}
 use Rattle.typed_path.specs.declared.scan.separators.Separators.TheVariants.{Slash, Either}
 use Rattle.typed_path.specs.declared.scan.separators.Separators.{Separators}
 use Rattle.typed_path.specs.components.{unix, windows, backslash, dot, is_separator, slash, root_of, separators, Kind, prefix, root, current, parent, normal, Part, kinds, texts, parent_part, name_part, root_part, Prefix, disk, prefix_part, is_name, is_parent, prefix_of, Found, is_drive_letter, drive, parts_of, written_windows}
@@ -22,7 +23,6 @@ use Rattle.typed_path.proofs.lemmas.promises.WindowsBases.{read-no_drive}
 use Rattle.typed_path.proofs.lemmas.promises.WindowsStable.{push-first}
 use Rattle.typed_path.proofs.lemmas.promises.UnixContained.{parts_of-unix, push_unix-name, push_unix-behind}
 use Rattle.typed_path.proofs.lemmas.components.Prefixes.{OfWindows, separators-windows, Read, of_disk, prefix-read}
-use Rattle.std.proofs.Math.Dec.{eqb-suc-zero}
 
 -- What a path of Unix is read as once it is converted to Windows.
 

@@ -3,6 +3,7 @@ use Rattle.std.proofs.Common.{◌≡◌, ℕ, suc, ◌+◌, ◌-◌, ◌<◌, �
 use Rattle.std.specs.List.{join_with_byte}
 use Rattle.std.specs.Str.{bytes_eq}
 use Rattle.std.proofs.lemmas.List.{take_at}
+use Rattle.std.proofs.Math.Bool.{or-true}
 use Rattle.typed_path.specs.declared.scan.separators.Separators.{Separators}
 use Rattle.typed_path.specs.declared.scan.separators.Separators.TheVariants.{Slash, Backslash, Either}
 use Rattle.typed_path.specs.components.{Dialect, unix, windows, slash, separators, dialect_of, root_of, Kind, prefix, root, current, parent, normal, Part, parts, kinds, body, Found, prefix_of, comps_behind}
@@ -12,7 +13,6 @@ use Rattle.typed_path.proofs.lemmas.components.Prefixes.{separators-windows}
 use Rattle.typed_path.proofs.lemmas.components.PrefixCuts.{plain-none, parts_of-some}
 use Rattle.typed_path.proofs.lemmas.components.Segments.{AreRead, IsWritten, body_parts-read, parts-body}
 use Rattle.typed_path.proofs.lemmas.places.CleanRows.{body-alike}
-use Rattle.std.proofs.Math.Bool.{or-true}
 
 -- rows are the segments with one separator between, and one more
 pub rows-joined : (s : Separators) (segment : List ℕ) (segments : List (List ℕ)) → rows_of s (segment ∷ segments) ≡ join_with_byte (row_end s) (segment ∷ segments) ++ row_end s ∷ []

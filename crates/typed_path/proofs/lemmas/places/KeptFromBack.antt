@@ -5,6 +5,7 @@ use Rattle.std.specs.List.{starts_with}
 use Rattle.std.specs.Str.{bytes_eq}
 use Rattle.std.proofs.lemmas.List.{take_all}
 use Rattle.std.proofs.lemmas.Option.{same_Some}
+use Rattle.std.proofs.Math.Bool.{and-false, and-true}
 use Rattle.typed_path.specs.components.{Dialect, Prefix, Kind, prefix, root, current, parent, normal, Part, Placed, parts, kinds, comps}
 use Rattle.typed_path.specs.places.{unmet, kept_names, parents, names_under, unmet_under}
 use Rattle.typed_path.specs.queries.{behind_prefix, first_prefix, is_prefix}
@@ -16,7 +17,6 @@ use Rattle.typed_path.proofs.lemmas.components.Cuts.{comps-count}
 use Rattle.typed_path.proofs.lemmas.places.KeptNames.{AlikeKept, unmet-append, kept_names-append}
 use Rattle.typed_path.proofs.lemmas.order.Comparisons.{bare, kinds-prefixed, kinds-push}
 use Rattle.typed_path.proofs.lemmas.scan.Steps.{last_pushed, last_part-push, empty-last}
-use Rattle.std.proofs.Math.Bool.{and-false, and-true}
 
 -- Lists that are seen alike by each list before them.
 

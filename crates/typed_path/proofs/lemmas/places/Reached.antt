@@ -2,6 +2,7 @@
 use Rattle.std.proofs.Common.{◌≡◌, ℕ, suc, ◌+◌, ◌-◌, ◌≤◌, ◌==◌, Bool, true, false, ◌&&◌, List, [], ◌∷◌, ◌++◌, if◌then◌else◌, length, drop, sym, ap, ap₂, ◌∙◌, arith, nat_le, subst, length-drop, Option, Some, None}
 use Rattle.std.proofs.lemmas.Bool.{cond_both}
 use Rattle.std.proofs.lemmas.List.{length-map}
+use Rattle.std.proofs.Math.Bool.{and-false}
 use Rattle.typed_path.specs.declared.scan.separators.Separators.{Separators}
 use Rattle.typed_path.specs.components.{Dialect, separators, is_separator, is_verbatim, root_text, is_dot, is_dot_dot, Kind, prefix, root, current, parent, normal, Part, Placed, parts, root_part, current_part, parent_part, name_part, kinds, parts_of, Found, prefix_of}
 use Rattle.typed_path.specs.places.{AreSteps, can_stand, is_anchored, is_reached, kept_names, met_count, names_down, relative_by, rising, rows_of, same_heads, shared_count, steps_text, steps_up, unmet}
@@ -9,7 +10,6 @@ use Rattle.typed_path.proofs.lemmas.lists.Lists.{width, width-slice_split}
 use Rattle.typed_path.proofs.lemmas.components.Segments.{body_parts, first_part, first_parts, later_part, later_parts, named_part, parts_behind, parts-comps_behind, pieces}
 use Rattle.typed_path.proofs.lemmas.places.SharedFromBack.{shared_count-fits}
 use Rattle.typed_path.proofs.lemmas.places.TakenNames.{rows-drop, row-size}
-use Rattle.std.proofs.Math.Bool.{and-false}
 
 -- no more names meet than either list keeps
 pub met-fits : (ks ls : List Kind) → (met_count ks ls ≤ length (kept_names ks)) × (met_count ks ls ≤ length (kept_names ls))

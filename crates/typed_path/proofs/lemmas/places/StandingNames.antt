@@ -2,6 +2,7 @@
 use Rattle.std.proofs.Common.{◌≡◌, ℕ, ◌==◌, true, false, not, ◌&&◌, List, [], ◌∷◌, drop, refl, sym, ap₂, subst}
 use Rattle.std.specs.List.{AllByRecursion}
 use Rattle.std.proofs.lemmas.List.Folds.{list_any_none}
+use Rattle.std.proofs.lemmas.Bool.{or_parts}
 use Rattle.typed_path.specs.declared.scan.separators.Separators.{Separators}
 use Rattle.typed_path.specs.declared.scan.separators.Separators.TheVariants.{Slash, Backslash, Either}
 use Rattle.typed_path.specs.declared.scan.cursor.Begin.{Begin}
@@ -15,7 +16,6 @@ use Rattle.typed_path.proofs.lemmas.lists.Lists.{AllByRecursion-weaker, IsUnsepa
 use Rattle.typed_path.proofs.lemmas.components.Segments.{IsCleanName, IsLaterPart, IsWritten-later, IsWrittenPart, body_parts, body_parts-read, each-written, later_parts-later, parts-body, parts-later_body, pieces}
 use Rattle.typed_path.proofs.lemmas.promises.CleanRead.{names-clean}
 use Rattle.typed_path.proofs.lemmas.promises.StepsRead.{clean-drop}
-use Rattle.std.proofs.lemmas.Bool.{or_parts}
 
 -- a byte that does not separate is no `/`
 other-byte : (s : Separators) (b : ℕ) → is_verbatim s ≡ false → is_separator s b ≡ false → (b == slash) ≡ false

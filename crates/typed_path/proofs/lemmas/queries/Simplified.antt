@@ -11,6 +11,7 @@ use Rattle.std.specs.Str.{str_eq_ignore_ascii_case, str_to_ascii_lowercase}
 use Rattle.std.specs.Char.{to_ascii_lowercase}
 use Rattle.std.specs.Bool.{one_answer, IsTrue}
 use Rattle.std.proofs.lemmas.Slice.Eq.{bytes_eq-Decides}
+use Rattle.std.proofs.Math.Bool.{and-false}
 use Rattle.typed_path.specs.declared.scan.separators.Separators.{Separators}
 use Rattle.typed_path.specs.declared.scan.separators.Separators.TheVariants.{Backslash, Either}
 use Rattle.typed_path.specs.components.{Part, Placed, kinds, parts, windows, separators, begins_verbatim, is_separator, is_verbatim, backslash, Prefix, verbatim_disk, disk, Kind, prefix, root, current, parent, normal, prefix_part, parent_part, name_part, current_part, root_part, Found, found, prefix_of, drive, parts_of, is_dot, is_dot_dot, comps, after_mark, question}
@@ -26,7 +27,6 @@ use Rattle.typed_path.proofs.lemmas.components.WindowsNames.{allowed-unseparated
 use Rattle.typed_path.proofs.lemmas.components.PrefixCuts.{parts_of-none, parts_of-some}
 use Rattle.typed_path.proofs.lemmas.scan.Steps.{last_of-behind}
 use Rattle.typed_path.proofs.lemmas.components.PartedPrefixes.{drive-either}
-use Rattle.std.proofs.Math.Bool.{and-false}
 
 pub none_exact : (cs : List Placed) → None ≡ first_part cs → true ≡ list_all is_exact (kinds (parts cs))
 none_exact [] none = refl

@@ -8,6 +8,7 @@ use Rattle.std.proofs.lemmas.Bool.{false_from_ne_true, and_parts, leb-true, eqb-
 use Rattle.std.proofs.lemmas.List.{get_or_default}
 use Rattle.memchr.specs.Find.{IsFirstByte, is_byte}
 use Rattle.std.proofs.lemmas.List.Folds.{list_any_at, list_any_none}
+use Rattle.std.proofs.Math.Bool.{and-true}
 use Rattle.typed_path.specs.declared.scan.separators.Separators.{Separators}
 use Rattle.typed_path.specs.declared.scan.separators.Separators.TheVariants.{Slash}
 use Rattle.typed_path.specs.components.{windows, dot, Dialect, unix, slash, dialect_of, separators, is_separator, is_verbatim, root_text, Part, kinds, parts, root_part, current_part, parent_part, name_part, Found, prefix_of, is_dot, is_dot_dot, body, comps_behind, parts_of}
@@ -16,7 +17,6 @@ use Rattle.typed_path.specs.changes.{is_bare_device, is_numbered_device, is_devi
 use Rattle.typed_path.proofs.lemmas.components.Segments.{pieces, first_part, first_parts, later_part, later_parts, body_parts, parts-body}
 use Rattle.typed_path.proofs.lemmas.components.Prefixes.{separators-windows}
 use Rattle.typed_path.proofs.lemmas.lists.Lists.{slice_split-some}
-use Rattle.std.proofs.Math.Bool.{and-true}
 
 -- Names that stand for devices: how they begin, and where their first dot comes.
 

@@ -5,6 +5,7 @@ use Rattle.std.proofs.lemmas.Bool.{cond-true, cond-false, and_parts, and_from}
 use Rattle.std.proofs.lemmas.List.{map-append}
 use Rattle.std.proofs.lemmas.Option.{same_Some}
 use Rattle.std.proofs.lemmas.Str.{IsUtf8-from_is_utf8}
+use Rattle.std.proofs.Math.Bool.{not-or_self}
 use Rattle.typed_path.specs.declared.scan.separators.Separators.{Separators}
 use Rattle.typed_path.specs.declared.scan.separators.Separators.TheVariants.{Slash}
 use Rattle.typed_path.specs.components.{Dialect, unix, windows, separators, root_text, Part, Prefix, prefix_part, root_part, current_part, parent_part, name_part, Placed, parts, Found, prefix_of, comps_behind, parts_of, comps}
@@ -13,7 +14,6 @@ use Rattle.typed_path.specs.texts.{is_text_kind, is_text_prefix, has_text_names,
 use Rattle.typed_path.proofs.lemmas.components.WrittenForms.{WritesBody, written-body}
 use Rattle.typed_path.proofs.lemmas.scan.Steps.{last_pushed, last_part-push}
 use Rattle.typed_path.proofs.lemmas.texts.TextCuts.{prefix-names}
-use Rattle.std.proofs.Math.Bool.{not-or_self}
 
 -- Single components.
 

@@ -1,10 +1,10 @@
 use Rattle.std.proofs.Common.{◌≡◌, ◌&&◌, Bool, true, false, sym, ap, ◌∙◌, refl, arith, ⊎_elim}
 use Rattle.std.proofs.lemmas.Bool.{cases_lt}
+use Rattle.std.proofs.Math.Bool.{and-false}
 use Rattle.typed_path.specs.scan.{stands_at}
 use Rattle.typed_path.specs.changes.{begins_no_name_at}
 use Rattle.typed_path.proofs.scan.names.first_no_name_by_one.Goals as goal
 use Rattle.typed_path.proofs.scan.names.first_no_name_by_one.Goals.{then-is_one_of, else-is_one_of}
-use Rattle.std.proofs.Math.Bool.{and-false}
 
 neither : (x y : Bool) → x ≡ false → x && y ≡ false
 neither true y e = cc

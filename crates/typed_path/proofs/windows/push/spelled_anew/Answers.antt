@@ -3,8 +3,8 @@ use Rattle.typed_path.specs.components.{parts, windows, parts_of}
 use Rattle.typed_path.specs.changes.{AreReadBehind, Stands}
 use Rattle.typed_path.specs.views.CursorViews.{items_left}
 use Rattle.typed_path.proofs.lemmas.changes.MergedInPlace.{prefixed-based, merged-text}
-use Rattle.typed_path.proofs.windows.push.spelled_anew.Goals as goal
 use Rattle.typed_path.proofs.lemmas.scan.Steps.{parts-rest}
+use Rattle.typed_path.proofs.windows.push.spelled_anew.Goals as goal
 
 pub put_each-requires-clause-read : goal.put_each-requires-clause-read
 put_each-requires-clause-read c =

@@ -3,8 +3,8 @@ use Rattle.std.proofs.lemmas.Bool.{not-true, not-false}
 use Rattle.typed_path.specs.views.PathViews.{path_bytes}
 use Rattle.typed_path.specs.views.PieceViews.{part_of}
 use Rattle.typed_path.proofs.lemmas.queries.Bases.{Strips-start, Strips-end, Strips-short, Strips-differ, Strips-step}
-use Rattle.typed_path.proofs.common.path.Path.behind_by_components.Goals as goal
 use Rattle.typed_path.proofs.lemmas.scan.Steps.{empty-first}
+use Rattle.typed_path.proofs.common.path.Path.behind_by_components.Goals as goal
 
 pub pieces-init : goal.pieces-init
 pieces-init g c =
