@@ -1,5 +1,5 @@
 -- Segments, a body taken apart at a separator, the components read off its pieces, and the first component of a clean text.
-use Rattle.std.proofs.Common.{◌≡◌, ℕ, ◌==◌, Bool, true, false, cond, List, [], ◌∷◌, length, refl, eqb-true, ◌+◌, ◌-◌, ◌<◌, ◌≤◌, ◌++◌, not, ◌&&◌, ◌||◌, eqb, take, drop, get_or, slice_range, sym, ap, ◌∙◌, add-zero, arith, All, inl, inr, append-nil, append_assoc, if◌then◌else◌, map, Option, Some, None, flat_map, ap₂, drop-drop, take_all, length-take-le, length-take, length-drop, suc, subst}
+use Rattle.std.proofs.Common.{◌≡◌, ℕ, ◌==◌, Bool, true, false, cond, List, [], ◌∷◌, length, refl, eqb-true, ◌+◌, ◌-◌, ◌<◌, ◌≤◌, ◌++◌, not, ◌&&◌, ◌||◌, eqb, take, drop, get_or, slice_range, sym, ap, ◌∙◌, add-zero, arith, All, inl, inr, append-nil, append_assoc, if◌then◌else◌, map, Option, Some, None, flat_map, ap₂, drop-drop, take_all, length-take-le, length-take, length-drop}
 use Rattle.std.specs.List.{slice_split, before_first, after_first, position_or_len, onto_first, AllByRecursion}
 use Rattle.std.proofs.lemmas.List.{drop-take, drop_more, drop_all, take-append-le, map-append}
 use Rattle.std.proofs.lemmas.List.Splits.{slice_split-cons_yes, slice_split_none, slice_split_first}
@@ -12,7 +12,7 @@ use Rattle.typed_path.specs.declared.scan.cursor.Begin.{Begin}
 use Rattle.typed_path.specs.declared.scan.cursor.Begin.TheVariants.{Body, Inside}
 use Rattle.typed_path.specs.components.{is_verbatim, root_text, is_separator, dot, Placed, current_part, parent_part, name_part, root_part, Part, Kind, prefix, root, current, parent, normal, parts, kinds, texts, prefix_part, Segment, component, later, first, is_dot, is_dot_dot, placed, segments, later_body, body_of, named, body, comps_behind, Found}
 use Rattle.typed_path.specs.scan.{body_from, is_clean, counts, slice_after_front}
-use Rattle.typed_path.proofs.lemmas.lists.Lists.{slice_split-some, slice_split-append, choice, IsUnseparated, slice_split-unseparated, AllByRecursion-append, AllByRecursion-weaker, map-through}
+use Rattle.typed_path.proofs.lemmas.lists.Lists.{slice_split-some, slice_split-append, choice, IsUnseparated, slice_split-unseparated, AllByRecursion-append, AllByRecursion-weaker, map-through, before_first-byte}
 
 -- What a segment is, and what is made of it as a later one and as the first one.
 
@@ -50,11 +50,7 @@ seen s g = by (length g.text == 0) refl (is_dot g.text) refl (is_verbatim s) (is
 
 -- what stands before the first separator, byte by byte
 pub segment-byte : (s : Separators) (b : ℕ) (bs : List ℕ) → before_first (is_separator s) (b ∷ bs) ≡ cond (is_separator s b) [] (b ∷ before_first (is_separator s) bs)
-segment-byte s b bs = by (is_separator s b) (position_or_len (is_separator s) bs)
-  where
-    by : (separates : Bool) (n : ℕ) → take (cond (not separates) (1 + n) 0) (b ∷ bs) ≡ cond separates [] (b ∷ take n bs)
-    by true n = refl
-    by false n = let more : suc n ≡ 1 + n = omega arith in subst (λ m. take m (b ∷ bs) ≡ b ∷ take n bs) more refl
+segment-byte s b bs = before_first-byte (is_separator s) b bs
 
 -- a separator at the front of what stands behind a component is nothing
 pub later_body-separator : (s : Separators) (at x : ℕ) (xs : List ℕ) → is_separator s x ≡ true → later_body s at (x ∷ xs) ≡ later_body s (at + 1) xs

@@ -1,6 +1,6 @@
 -- Lists: what a split gives, and a list cut at an element that passes a test.
-use Rattle.std.proofs.Common.{◌≡◌, ℕ, ◌+◌, Bool, true, false, cond, List, [], ◌∷◌, ◌++◌, map, All, flat_map, sum_by, fold, refl, sym, ap₂, ◌<◌, ◌≤◌, ◌==◌, suc, not, ◌||◌, length, take, drop, ap, ◌∙◌, arith, ◌-◌, inl, inr, length-append, get_or, reverse, zero, zero-le, get_or-take, length-take-le, length-drop, get_or-drop, take-append-drop, take_all, eq-eqb, eqb-true, ne_eqb}
-use Rattle.std.specs.List.{slice_split, onto_first, AllByRecursion, position_or_len, list_any, IsAfterLastMatch, after_last, suffix_len}
+use Rattle.std.proofs.Common.{◌≡◌, ℕ, ◌+◌, Bool, true, false, cond, List, [], ◌∷◌, ◌++◌, map, All, flat_map, sum_by, fold, refl, sym, ap₂, ◌<◌, ◌≤◌, ◌==◌, suc, not, ◌||◌, length, take, drop, ap, ◌∙◌, arith, ◌-◌, inl, inr, length-append, get_or, reverse, zero, zero-le, get_or-take, length-take-le, length-drop, get_or-drop, take-append-drop, take_all, eq-eqb, eqb-true, ne_eqb, subst}
+use Rattle.std.specs.List.{slice_split, onto_first, AllByRecursion, position_or_len, list_any, IsAfterLastMatch, after_last, suffix_len, before_first}
 use Rattle.std.proofs.lemmas.List.Elements.{All-nil, All-cons}
 use Rattle.std.proofs.lemmas.List.Splits.{slice_split-cons_yes, slice_split_none, slice_split_first, slice_split-cons_no}
 use Rattle.std.proofs.lemmas.List.{length-reverse, get_or-reverse, drop_more, take_more, drop_all}
@@ -14,6 +14,14 @@ use Rattle.std.proofs.Math.Seq.{get_or-append-add}
 pub choice : {A B : Type 0} (f : A → B) (b : Bool) (x y : A) → f (cond b x y) ≡ cond b (f x) (f y)
 choice f true x y = refl
 choice f false x y = refl
+
+-- what stands before the first match, by the first element
+pub before_first-byte : (p : ℕ → Bool) (b : ℕ) (bs : List ℕ) → before_first p (b ∷ bs) ≡ cond (p b) [] (b ∷ before_first p bs)
+before_first-byte p b bs = by (p b) (position_or_len p bs)
+  where
+    by : (here : Bool) (n : ℕ) → take (cond (not here) (1 + n) 0) (b ∷ bs) ≡ cond here [] (b ∷ take n bs)
+    by true n = refl
+    by false n = let more : suc n ≡ 1 + n = omega arith in subst (λ m. take m (b ∷ bs) ≡ b ∷ take n bs) more refl
 
 -- a split has a first part
 pub slice_split-some : {X : Type 0} (p : X → Bool) (xs : List X) → (piece : List X) × (pieces : List (List X)) × (slice_split p xs ≡ piece ∷ pieces)

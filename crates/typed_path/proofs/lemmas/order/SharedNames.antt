@@ -19,7 +19,7 @@ use Rattle.typed_path.specs.components.{is_separator, is_verbatim, dot, Placed, 
 use Rattle.typed_path.specs.scan.{body_from, is_clean, counts, begins_with_name, tells_name, differs_at, IsParting, PartWithinNames, PartAt}
 use Rattle.typed_path.specs.order.{bytes_cmp, left_cmp, kinds_cmp, path_cmp, kind_cmp_total, kinds_cmp_total}
 use Rattle.typed_path.specs.views.BodyViews.{body_slice, body_items}
-use Rattle.typed_path.proofs.lemmas.lists.Lists.{last_place}
+use Rattle.typed_path.proofs.lemmas.lists.Lists.{last_place, before_first-byte}
 use Rattle.typed_path.proofs.lemmas.components.Segments.{body_from-first, parts-body}
 use Rattle.typed_path.proofs.lemmas.components.Prefixes.{some_is, prefix-fits}
 use Rattle.typed_path.specs.changes.{HaveOnePrefix, raw_length, is_name_piece}
@@ -62,9 +62,7 @@ holds-name (a ∷ c ∷ d ∷ xs) b ys h = long-name a c d (xs ++ b ∷ ys)
 
 -- what stands before the first match, where the first elements do not match
 pub before_first-cons : (p : ℕ → Bool) (b : ℕ) (bs : List ℕ) → p b ≡ false → before_first p (b ∷ bs) ≡ b ∷ before_first p bs
-before_first-cons p b bs h =
-    let next : 1 + position_or_len p bs ≡ suc (position_or_len p bs) = omega arith in
-    ap (λ c. take (cond (not c) (1 + position_or_len p bs) 0) (b ∷ bs)) h ∙ ap (λ n. take n (b ∷ bs)) next
+before_first-cons p b bs h = before_first-byte p b bs ∙ ap (λ c. cond c [] (b ∷ before_first p bs)) h
 
 before_first-open : (p : ℕ → Bool) (mid rest : List ℕ) → All (λ b. p b ≡ false) mid → before_first p (mid ++ rest) ≡ mid ++ before_first p rest
 before_first-open p [] rest none = refl

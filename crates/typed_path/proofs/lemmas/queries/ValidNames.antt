@@ -1,6 +1,6 @@
 -- Names are valid where no byte strays and none stands for a device.
-use Rattle.std.proofs.Common.{◌≡◌, ◌≤◌, ◌<◌, nat_le, ℕ, zero, suc, Bool, true, false, ◌||◌, ◌&&◌, ◌==◌, cond, not, List, [], ◌∷◌, ◌+◌, take, length, arith, refl, sym, ap, subst, ◌∙◌, true≢false, if◌then◌else◌, ◌++◌, drop, slice_index, Option, Some, None, is_some, eqb-true, ne_eqb}
-use Rattle.std.specs.List.{list_any, before_first, position_or_len, AllByRecursion, onto_first, list_all}
+use Rattle.std.proofs.Common.{◌≡◌, ◌≤◌, ◌<◌, nat_le, ℕ, zero, suc, Bool, true, false, ◌||◌, ◌&&◌, ◌==◌, cond, not, List, [], ◌∷◌, ◌+◌, length, arith, refl, sym, ap, ◌∙◌, true≢false, if◌then◌else◌, ◌++◌, drop, slice_index, Option, Some, None, is_some, eqb-true, ne_eqb}
+use Rattle.std.specs.List.{list_any, before_first, AllByRecursion, onto_first, list_all}
 use Rattle.std.specs.Str.{bytes_eq, str_eq_ignore_ascii_case, str_to_ascii_lowercase}
 use Rattle.std.specs.Char.{to_ascii_lowercase}
 use Rattle.std.proofs.lemmas.Slice.Eq.{bytes_eq-Decides}
@@ -16,7 +16,7 @@ use Rattle.typed_path.specs.queries.{is_a_dot, reserved_names, is_reserved, is_d
 use Rattle.typed_path.specs.changes.{is_bare_device, is_numbered_device, is_device, is_stray, raw_length}
 use Rattle.typed_path.proofs.lemmas.components.Segments.{pieces, first_part, first_parts, later_part, later_parts, body_parts, parts-body}
 use Rattle.typed_path.proofs.lemmas.components.Prefixes.{separators-windows}
-use Rattle.typed_path.proofs.lemmas.lists.Lists.{slice_split-some}
+use Rattle.typed_path.proofs.lemmas.lists.Lists.{slice_split-some, before_first-byte}
 
 -- Names that stand for devices: how they begin, and where their first dot comes.
 
@@ -50,11 +50,7 @@ stem-like name h = one_of like_device (before_first is_a_dot name) reserved_name
 
 -- what stands before the first dot, byte by byte
 stem-byte : (b : ℕ) (bs : List ℕ) → before_first is_a_dot (b ∷ bs) ≡ cond (b == dot) [] (b ∷ before_first is_a_dot bs)
-stem-byte b bs = by (b == dot) (position_or_len is_a_dot bs)
-  where
-    by : (dotted : Bool) (n : ℕ) → take (cond (not dotted) (1 + n) 0) (b ∷ bs) ≡ cond dotted [] (b ∷ take n bs)
-    by true n = refl
-    by false n = let more : suc n ≡ 1 + n = omega arith in subst (λ m. take m (b ∷ bs) ≡ b ∷ take n bs) more refl
+stem-byte b bs = before_first-byte is_a_dot b bs
 
 -- so a name that stands for a device is one that may: by where its first dot stands
 pub reserved-device : (name : List ℕ) → is_reserved windows name ≡ true → is_device name ≡ true
