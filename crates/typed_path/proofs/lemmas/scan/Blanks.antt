@@ -42,7 +42,7 @@ abbrev pub begins_with_dot : List ℕ → Bool
 begins_with_dot [] = false
 begins_with_dot (b ∷ bs) = b == dot
 
--- a text is that, and the pieces behind it, of which a search tells that tests what stands behind each separator
+-- a text is its first segment, and the pieces behind that, of which a search tells that tests what stands behind each separator
 module _ (s : Separators) (test behind : List ℕ → Bool) (none : behind [] ≡ false)
     (one : (b : ℕ) (bs : List ℕ) → behind (b ∷ bs) ≡ ((is_separator s b && test (before_first (is_separator s) bs)) || behind bs)) where
   pub record Split (text : List ℕ) : Type 0 where
