@@ -16,7 +16,7 @@ use Rattle.typed_path.proofs.lemmas.components.Prefixes.{OfWindows, separators-w
 use Rattle.typed_path.proofs.lemmas.components.Segments.{pieces, first_part, later_part, first_parts, later_parts, body_parts, body_parts-read, AreRead, IsWritten, IsLater, IsLaterPart, IsWritten-later, named_part, each-written, IsWrittenPart, dot_dot-is}
 use Rattle.typed_path.proofs.lemmas.changes.Joins.{IsPiece, later-piece, backslash-free}
 use Rattle.typed_path.proofs.lemmas.changes.SpelledTexts.{Behind, nothing, rooted, spelled-shaped, IsUnprefixed, merged-behind, spelled-standing, stands-spelled, IsShaped, spelled-prefixed, behind-spelled, verbatim-kept}
-use Rattle.typed_path.proofs.lemmas.components.PrefixCuts.{prefix_by, prefix-size, verbatim-size, verbatim-take, parts_of-none, parts_of-some}
+use Rattle.typed_path.proofs.lemmas.components.PrefixCuts.{prefix_by, prefix-size, verbatim-size, verbatim-take, parts_of-none, parts_of-some, unprefixed}
 use Rattle.typed_path.proofs.lemmas.changes.WindowsPushes.{push-anew}
 use Rattle.typed_path.proofs.lemmas.components.WindowsNames.{clean-either}
 use Rattle.typed_path.proofs.lemmas.components.FirmPrefixes.{filled-long}
@@ -202,9 +202,6 @@ read-unprefixed (p ∷ ps) read = by p.kind p.text read.0
     by parent text first = refl
     by (normal name) text first = refl
 
-pub none-unprefixed : (t : List ℕ) → prefix_of windows t ≡ None → IsUnprefixed (parts_of windows t)
-none-unprefixed t none = ap (λ ps. has_prefix (kinds ps)) (parts_of-none t none) ∙ read-unprefixed (body_parts Either t) (read-behind Either refl (body_parts Either t) (body_parts-read Either t))
-
 -- a base with a prefix, and the list behind it
 pub record IsBased (base : List ℕ) : Type 0 where
   pub found : Found
@@ -219,7 +216,7 @@ prefixed-based base h = by (prefix_of windows base) refl
     s = separators windows base
 
     by : (o : Option Found) → prefix_of windows base ≡ o → IsBased base
-    by None none = absurd (both_ways _ (none-unprefixed base none) h)
+    by None none = absurd (both_ways _ (unprefixed (λ p. true) base none) h)
     by (Some f) some =
         let list = parts_of-some base f some in
         let rest : drop 1 (parts_of windows base) ≡ body_parts s (drop f.length base) = ap (drop 1) list in
@@ -397,6 +394,6 @@ pub keeps-known : (t n : List ℕ) (head : ℕ) → IsKnown windows (Some head) 
 keeps-known t [] head known none more = known
 keeps-known t (b ∷ bs) head known none more =
     let n = b ∷ bs in
-    let no_prefix = none-unprefixed n none in
+    let no_prefix = unprefixed (λ p. true) n none in
     subst (IsKnown windows (Some head)) (sym (push-anew t n (ne_eqb (suc (length bs)) 0 (λ e. cc)) no_prefix known.0.0))
     (subst (λ h. IsKnown windows (Some h) (spelled (merged (parts_of windows t) (parts_of windows n)))) (sym known.1) (known-again t n known.0 no_prefix (omega (arith, more, known.1))))

@@ -9,13 +9,13 @@ use Rattle.std.proofs.lemmas.List.Splits.{slice_split-cons_no}
 use Rattle.std.proofs.Math.Bool.{and-false}
 use Rattle.typed_path.specs.declared.scan.separators.Separators.{Separators}
 use Rattle.typed_path.specs.declared.scan.separators.Separators.TheVariants.{Either, Backslash}
-use Rattle.typed_path.specs.components.{current_part, parent_part, name_part, windows, backslash, question, dot, separators, is_separator, Kind, prefix, root, current, parent, normal, disk, device_ns, unc, verbatim, verbatim_disk, verbatim_unc, Part, kinds, is_name, root_part, Found, found, is_empty, drive, after_mark, after_two, after_unc, name, second_name, names_length, prefix_of, device_case, unc_case, disk_case, parts_of, is_dot, is_dot_dot}
+use Rattle.typed_path.specs.components.{current_part, parent_part, name_part, windows, backslash, question, dot, separators, is_separator, prefix, disk, device_ns, unc, verbatim, verbatim_disk, verbatim_unc, Part, kinds, is_name, root_part, Found, found, is_empty, drive, after_mark, after_two, after_unc, name, second_name, names_length, prefix_of, device_case, unc_case, disk_case, parts_of, is_dot, is_dot_dot}
 use Rattle.typed_path.specs.queries.{has_prefix, has_any_verbatim_prefix, begins_with_root, is_verbatim_prefix}
 use Rattle.typed_path.specs.changes.{push, push_windows, merged, without_last_name, raw_prefix, spelled, spells_anew, ended_windows, is_disk_alone, merges, FitsBy, FitsPush, IsPutBehind, names_behind, IsStanding, Stands}
-use Rattle.typed_path.proofs.lemmas.components.Segments.{AreRead, body_parts, body_parts-read, first_parts, later_parts}
+use Rattle.typed_path.proofs.lemmas.components.Segments.{body_parts, body_parts-read, first_parts, later_parts}
 use Rattle.typed_path.proofs.lemmas.components.Prefixes.{drive-size, Read, of_verbatim_unc, of_verbatim_disk, of_verbatim, of_device, of_unc, of_disk, prefix-read}
 use Rattle.typed_path.proofs.lemmas.components.WindowsNames.{unseparated-none}
-use Rattle.typed_path.proofs.lemmas.components.PrefixCuts.{parts_of-none, parts_of-some}
+use Rattle.typed_path.proofs.lemmas.components.PrefixCuts.{parts_of-none, parts_of-some, verbatim-none, verbatim-some}
 use Rattle.typed_path.proofs.lemmas.promises.WindowsBases.{read-no_drive, disk_alone-filled}
 use Rattle.typed_path.proofs.lemmas.lists.Lists.{AllByRecursion-append, IsLastPlace, place-none, place-behind}
 use Rattle.typed_path.proofs.lemmas.components.FirmPrefixes.{filled-long}
@@ -119,25 +119,13 @@ verbatim_found-marked t = by (after_mark question t)
     by (Some []) = plain-others t
     by (Some (b ∷ bs)) = let e = filled b bs in named (b ∷ bs) e ∙ sym (ap not e)
 
--- a list that is read behind a prefix begins with none
-read-no_verbatim : (s : Separators) (ps : List Part) → AreRead s ps → has_any_verbatim_prefix (kinds ps) ≡ false
-read-no_verbatim s [] read = refl
-read-no_verbatim s (p ∷ ps) read = by p.kind read
-  where
-    by : (k : Kind) → AreRead s (record { kind = k; text = p.text } ∷ ps) → has_any_verbatim_prefix (k ∷ kinds ps) ≡ false
-    by (prefix q) r = absurd r.0
-    by root r = refl
-    by current r = refl
-    by parent r = refl
-    by (normal name) r = refl
-
 -- so the list tells it too
 pub verbatim-marked : (t : List ℕ) → has_any_verbatim_prefix (kinds (parts_of windows t)) ≡ is_marked (after_mark question t)
 verbatim-marked t = by (prefix_of windows t) refl ∙ verbatim_found-marked t
   where
     by : (o : Option Found) → prefix_of windows t ≡ o → has_any_verbatim_prefix (kinds (parts_of windows t)) ≡ is_verbatim_found (prefix_of windows t)
-    by None e = ap (λ ps. has_any_verbatim_prefix (kinds ps)) (parts_of-none t e) ∙ read-no_verbatim Either (body_parts Either t) (body_parts-read Either t) ∙ sym (ap is_verbatim_found e)
-    by (Some f) e = ap (λ ps. has_any_verbatim_prefix (kinds ps)) (parts_of-some t f e) ∙ sym (ap is_verbatim_found e)
+    by None e = verbatim-none t e ∙ sym (ap is_verbatim_found e)
+    by (Some f) e = verbatim-some t f e ∙ sym (ap is_verbatim_found e)
 
 -- and a text that does not begin with two separators has none of these kinds
 pub unmarked-two : (t : List ℕ) → is_some (after_two t) ≡ false → has_any_verbatim_prefix (kinds (parts_of windows t)) ≡ false

@@ -1,13 +1,13 @@
 use Rattle.std.proofs.Common.{◌≡◌, ◌++◌, false, true≢false, refl, ap, sym, subst, ◌∙◌}
 use Rattle.typed_path.specs.declared.scan.prefix.WindowsPrefix.{WindowsPrefix}
 use Rattle.typed_path.specs.declared.scan.prefix.WindowsPrefix.TheVariants.{Disk}
-use Rattle.typed_path.specs.components.{windows, kinds}
-use Rattle.typed_path.specs.queries.{is_disk, has_any_verbatim_prefix}
+use Rattle.typed_path.specs.components.{windows}
+use Rattle.typed_path.specs.queries.{is_disk}
 use Rattle.typed_path.specs.places.{IsRowHead}
 use Rattle.typed_path.specs.views.PieceViews.{found_of, prefix_view}
 use Rattle.typed_path.proofs.lemmas.components.Prefixes.{prefix-fits}
 use Rattle.typed_path.proofs.lemmas.components.PartedPrefixes.{head-cut, plain-takes}
-use Rattle.typed_path.proofs.lemmas.components.PrefixCuts.{parts_of-some}
+use Rattle.typed_path.proofs.lemmas.components.PrefixCuts.{verbatim-some}
 use Rattle.typed_path.proofs.lemmas.places.WindowsRows.{none-head, drive-head, marked-head}
 use Rattle.typed_path.proofs.windows.normal.row_head.Goals as goal
 
@@ -54,6 +54,6 @@ returns-in_default-2 c =
       rows = tt;
       head = tt;
       found = λ plain.
-          let kind = sym (ap (λ ps. has_any_verbatim_prefix (kinds ps)) (parts_of-some path f is)) ∙ plain in
+          let kind = sym (verbatim-some path f is) ∙ plain in
           absurd (true≢false (sym (c.if-takes_rows.ensures.told (plain-takes path head.root.now head.rest.now f is (no_disk c.in-Some.found.kind c.in_default-2.not-Disk) kind c.head_behind-head.ensures.parted))));
     }
