@@ -3,7 +3,7 @@
 //! Behind the head, what is kept is put in rows, as the normal text is. What would be read as a prefix, where
 //! there is no head, is put behind `.` at the end.
 
-ghost use Rattle.std.specs.Prelude.{◌≡◌, ◌≤◌, ◌+◌, ◌++◌, ◌∷◌, ◌||◌, [], false, take, drop, length, is_some, if◌then◌else◌, Some, IfOk, IsOk, OnOk, OnErr};
+ghost use Rattle.std.specs.Prelude.{◌≡◌, ◌<◌, ◌≤◌, ◌+◌, ◌++◌, ◌∷◌, ◌||◌, [], false, take, drop, length, is_some, if◌then◌else◌, Some, IfOk, IsOk, OnOk, OnErr};
 ghost use Rattle.std.specs.Vec.{vec_len, vec_capacity};
 ghost use Rattle.typed_path.specs.components.{windows, dialect_of, prefix_of, body, parts, kinds};
 ghost use Rattle.typed_path.specs.places.{behind_head, clean_text, cleaned, kept_segments, row_end, unheaded};
@@ -12,7 +12,7 @@ ghost use Rattle.typed_path.specs.views.PieceViews.{found_of, prefix_view};
 
 use crate::common::encoding::Encoding;
 use crate::common::rows::{put_kept, row_end};
-use crate::common::writing::{cut_back, drop_separator};
+use crate::common::writing::{append_first, cut_back, drop_separator};
 use crate::scan::{Body, Found, Separators, WindowsPrefix, find_prefix};
 use std::alloc::AllocError;
 
@@ -58,7 +58,7 @@ fn put_bare(text: &mut Vec<u8>, path: &[u8], separators: Separators) -> Result<(
         → IsOk result }
 {
     let start = text.len();
-    if put_headed(text, b"", path, false, separators)? {
+    if put_headed(text, path, 0, false, separators)? {
         return Ok(());
     }
     put_apart(text, start, separators)
@@ -75,9 +75,8 @@ fn put_prefixed(text: &mut Vec<u8>, path: &[u8], found: Found<'_>) -> Result<(),
     ensures succeeds { vec_len text.old + length path.now + 2 ≤ vec_capacity text.old
         → IsOk result }
 {
-    let (prefix, rest) = path.split_at(found.length);
     let implied = !is_disk(found.kind);
-    put_headed(text, prefix, rest, implied, Separators::of_windows(path))?;
+    put_headed(text, path, found.length, implied, Separators::of_windows(path))?;
     Ok(())
 }
 
@@ -92,36 +91,53 @@ fn is_disk(prefix: WindowsPrefix<'_>) -> bool
     }
 }
 
-/// Puts a prefix or nothing behind a text, then the root, written or implied, and then what is kept of the
-/// rest of a path. Answers whether the root is written.
+/// Puts the prefix of a path, which ends at a place, behind a text, then the root, written or implied, and then
+/// what is kept of the rest. Answers whether the root is written.
 #[inline(always)]
 fn put_headed(
     text: &mut Vec<u8>,
-    prefix: &[u8],
-    rest: &[u8],
+    path: &[u8],
+    end: usize,
     implied: bool,
     separators: Separators,
 ) -> Result<bool, AllocError>
+    requires { end ≤ length path.now }
     ensures ok { IfOk result (λ rooted. text.new.items ≡ text.old.items
-        ++ behind_head (row_end separators) prefix.now rooted implied
-        (kept_segments (implied || rooted) (kinds (parts (body separators 0 rest.now))))) }
-    ensures rooted { IfOk result
-        (λ rooted. rooted ≡ begins_with_root (kinds (parts (body separators 0 rest.now)))) }
+        ++ behind_head (row_end separators) (take end path.now) rooted implied (kept_segments
+        (implied || rooted) (kinds (parts (body separators 0 (drop end path.now)))))) }
+    ensures rooted { IfOk result (λ rooted. rooted
+        ≡ begins_with_root (kinds (parts (body separators 0 (drop end path.now))))) }
     ensures kept { take (length text.old.items) text.new.items ≡ text.old.items }
     ensures short { IfOk result (λ rooted. rooted ≡ false → implied ≡ false
-        → vec_len text.new ≤ vec_len text.old + length prefix.now + length rest.now) }
+        → vec_len text.new ≤ vec_len text.old + length path.now) }
     ensures capacity { vec_capacity text.old ≤ vec_capacity text.new }
-    ensures succeeds { vec_len text.old + length prefix.now + length rest.now + 2
-        ≤ vec_capacity text.old → IsOk result }
+    ensures succeeds { vec_len text.old + length path.now + 2 ≤ vec_capacity text.old
+        → IsOk result }
 {
+    let rest = &path[end..];
     let rooted = Body::new(rest, 0, separators).has_physical_root();
     let anchored = implied | rooted;
-    text.extend_from_slice(prefix)?;
+    append_first(text, path, end)?;
     let alone = text.len() + root_where(rooted, separators).len();
-    text.extend_from_slice(root_where(anchored, separators))?;
+    put_root_where(text, anchored, separators)?;
     put_kept(text, rest, separators, anchored)?;
     drop_separator(text, alone);
     Ok(rooted)
+}
+
+/// Puts the root behind a text, where there is one.
+#[inline(always)]
+fn put_root_where(text: &mut Vec<u8>, there: bool, separators: Separators) -> Result<(), AllocError>
+    ensures ok { OnOk result (text.new.items
+        ≡ text.old.items ++ (if there then row_end separators ∷ [] else [])) }
+    ensures kept { take (length text.old.items) text.new.items ≡ text.old.items }
+    ensures capacity { vec_capacity text.old ≤ vec_capacity text.new }
+    ensures succeeds { vec_len text.old < vec_capacity text.old → IsOk result }
+{
+    if there {
+        text.push(row_end(separators))?;
+    }
+    Ok(())
 }
 
 /// The root as it is written, where there is one.

@@ -166,10 +166,10 @@ module _ (s : Separators) (text : List ℕ) (rooted : Bool) (told : rooted ≡ b
       ∙ sym (cleaned-bare d s text (sym told ∙ e))
 
 -- a prefix, and what is behind it
-pub prefixed-text : (path raw rest : List ℕ) (f : Found) (s : Separators) (rooted drives : Bool) → prefix_of windows path ≡ Some f → raw ≡ take f.length path → rest ≡ drop f.length path → s ≡ separators windows path
-    → rooted ≡ begins_with_root (kinds (parts (body s 0 rest))) → drives ≡ is_disk f.prefix
-    → behind_head (row_end s) raw rooted (not drives) (kept_segments (not drives || rooted) (kinds (parts (body s 0 rest)))) ≡ clean_text windows path
-prefixed-text path raw rest f s rooted drives is front back own told drive = rw (told, drive, front, back, own) (cleaned-prefixed path f is)
+pub prefixed-text : (path : List ℕ) (f : Found) (s : Separators) (rooted drives : Bool) → prefix_of windows path ≡ Some f → s ≡ separators windows path
+    → rooted ≡ begins_with_root (kinds (parts (body s 0 (drop f.length path)))) → drives ≡ is_disk f.prefix
+    → behind_head (row_end s) (take f.length path) rooted (not drives) (kept_segments (not drives || rooted) (kinds (parts (body s 0 (drop f.length path))))) ≡ clean_text windows path
+prefixed-text path f s rooted drives is own told drive = rw (told, drive, own) (cleaned-prefixed path f is)
 
 -- Texts by the encoding.
 

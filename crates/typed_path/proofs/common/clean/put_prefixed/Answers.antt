@@ -5,12 +5,12 @@ use Rattle.typed_path.proofs.lemmas.components.Prefixes.{prefix-fits}
 use Rattle.typed_path.proofs.lemmas.places.CleanTexts.{prefixed-text}
 use Rattle.typed_path.proofs.common.clean.put_prefixed.Goals as goal
 
-pub split_at-requires : goal.split_at-requires
-split_at-requires c = (prefix-fits windows c.args.path.now (found_of c.args.found) (sym c.requires)).fits
+pub put_headed-requires : goal.put_headed-requires
+put_headed-requires c = (prefix-fits windows c.args.path.now (found_of c.args.found) (sym c.requires)).fits
 
 pub returns-clause-ok : goal.returns-clause-ok
 returns-clause-ok c =
     let h = c.in_ok-put_headed.ensures in
     h.ok
     ∙ ap (λ t. c.args.text.now.items ++ t)
-    (prefixed-text c.args.path.now _ _ (found_of c.args.found) _ _ c.is_disk-implied.result (sym c.requires) c.split_at.ensures.front c.split_at.ensures.back c.of_windows.ensures h.rooted c.is_disk-implied.ensures)
+    (prefixed-text c.args.path.now (found_of c.args.found) _ _ c.is_disk-implied.result (sym c.requires) c.of_windows.ensures h.rooted c.is_disk-implied.ensures)
