@@ -76,7 +76,13 @@ fn put_prefixed(text: &mut Vec<u8>, path: &[u8], found: Found<'_>) -> Result<(),
         → IsOk result }
 {
     let implied = !is_disk(found.kind);
-    put_headed(text, path, found.length, implied, Separators::of_windows(path))?;
+    put_headed(
+        text,
+        path,
+        found.length,
+        implied,
+        Separators::of_windows(path),
+    )?;
     Ok(())
 }
 

@@ -136,20 +136,11 @@ fn ends_alone(text: &[u8], separators: Separators) -> Option<bool>
     ensures { IfSome result
         (λ ended. (names : List (List ℕ)) × AreAlone separators text.now ended names) }
 {
-    match front_names(text, separators) {
+    match leading_names(text, separators.pair()) {
         None => Some(false),
         Some(names) if names == text.len() => Some(true),
         Some(_) => None,
     }
-}
-
-/// How many bytes at the front of a text are names, each with a separator behind it; none where each segment is
-/// a name.
-#[inline(always)]
-fn front_names(text: &[u8], separators: Separators) -> Option<usize>
-    ensures { TellsNamesOf separators text.now result }
-{
-    leading_names(text, separators.pair())
 }
 
 /// How many separators a text has.

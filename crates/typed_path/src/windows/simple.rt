@@ -4,7 +4,7 @@ ghost use Rattle.std.specs.Prelude.{◌≡◌, ◌≤◌, ◌&&◌, drop, length
 ghost use Rattle.std.specs.List.{list_all};
 ghost use Rattle.std.specs.Str.{str_eq_ignore_ascii_case};
 ghost use Rattle.typed_path.specs.components.{kinds, windows};
-ghost use Rattle.typed_path.specs.queries.{is_device_stem, is_exact, is_exact_name, is_further_device, is_simple, is_taken_for_device, is_verbatim_drive, is_written_root, simplified_text, without_last_spaces};
+ghost use Rattle.typed_path.specs.queries.{is_device_stem, is_exact, is_exact_name, is_further_device, is_simple, is_verbatim_drive, is_written_root, simplified_text, without_last_spaces};
 ghost use Rattle.typed_path.specs.views.PathViews.{path_bytes, components_parts};
 ghost use Rattle.typed_path.specs.views.PieceViews.{part_of};
 
@@ -29,19 +29,11 @@ impl<'a> Path<'a, WindowsEncoding> {
     {
         let bytes = self.as_bytes();
         if bytes.len() < LONG && is_simple(self.components()) {
-            Path::new(without_mark(bytes))
+            Path::new(bytes.split_at(4).1)
         } else {
             self
         }
     }
-}
-
-/// A text without its first four bytes.
-fn without_mark(bytes: &[u8]) -> &[u8]
-    requires { 4 ≤ length bytes.now }
-    ensures { result.now ≡ drop 4 bytes.now }
-{
-    &bytes[4..]
 }
 
 /// Whether the components that are left are a verbatim drive, a root and names that Windows takes as they
@@ -115,14 +107,8 @@ fn is_exact_name(name: &[u8]) -> bool
     WindowsEncoding::valid(name)
         && !name.ends_with(b".")
         && !name.ends_with(b" ")
-        && !is_taken_for_device(name)
-}
-
-/// Whether Windows takes a name for a device: it forgets the spaces before the first dot.
-fn is_taken_for_device(name: &[u8]) -> bool
-    ensures { result ≡ is_taken_for_device name.now }
-{
-    is_device_stem(without_last_spaces(before_dot(name)))
+        // Windows forgets the spaces before the first dot.
+        && !is_device_stem(without_last_spaces(before_dot(name)))
 }
 
 /// A text without the spaces at its end.

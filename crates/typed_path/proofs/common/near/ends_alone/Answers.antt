@@ -7,12 +7,12 @@ use Rattle.typed_path.proofs.common.near.ends_alone.Goals as goal
 pub returns-in-None : goal.returns-in-None
 returns-in-None c =
     let s = c.args.separators in
-    let text = c.args.text.now in (pieces s text, (told-whole s text (rw c.in-None.is at c.front_names.ensures), sym (append-nil (pieces s text))))
+    let text = c.args.text.now in (pieces s text, (told-whole s text (c.pair.result, c.pair.ensures, rw c.in-None.is at c.leading_names.ensures), sym (append-nil (pieces s text))))
 
 pub returns-in-Some : goal.returns-in-Some
 returns-in-Some c =
     let s = c.args.separators in
     let text = c.args.text.now in
     let n = c.in-Some.names in
-    let told = told-before s text n (rw c.in-Some.is at c.front_names.ensures) in
+    let told = told-before s text n (c.pair.result, c.pair.ensures, rw c.in-Some.is at c.leading_names.ensures) in
     (told.names, (told.named, told.parted ∙ ap (λ rest. told.names ++ pieces s rest) (drop_all n text (omega (arith, c.if-names-text.true)))))

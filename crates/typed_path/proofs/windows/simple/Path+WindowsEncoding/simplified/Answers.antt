@@ -7,8 +7,8 @@ use Rattle.typed_path.specs.queries.{is_simple}
 use Rattle.typed_path.proofs.lemmas.queries.Simplified.{simple_long}
 use Rattle.typed_path.proofs.windows.simple.«Path+WindowsEncoding».simplified.Goals as goal
 
-pub without_mark-requires : goal.without_mark-requires
-without_mark-requires c =
+pub split_at-requires : goal.split_at-requires
+split_at-requires c =
     let t = path_bytes c.args.self in
     let simple : is_simple (kinds (parts_of windows t)) ≡ true =
     ap (λ cs. is_simple (kinds (parts cs))) (sym c.components.ensures.items) ∙ sym c.is_simple.ensures ∙ c.if-is_simple.true in
