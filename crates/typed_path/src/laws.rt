@@ -356,7 +356,7 @@ pub fn clean_stays_a_text(path: &[u8])
 {}
 
 /// A path that leads from a base to another has neither a prefix nor a root.
-#[tactic(auto, using(crate::proofs::lemmas::promises::StepsRead::stays_relative))]
+#[tactic(auto, using(crate::proofs::lemmas::promises::StepsBack::stays_relative))]
 pub fn relative_stays_relative(path: &[u8], base: &[u8])
     ghost d: { Dialect }
     ensures { StaysRelative d path.now base.now }

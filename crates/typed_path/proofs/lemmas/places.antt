@@ -9,10 +9,8 @@
 -- CleanTexts: the clean text of a path, as it is written behind a text
 -- SharedFromBack: how many first names two lists share, told from the back
 -- TakenNames: names that are taken off the end of a list one after another, whether they can stand, and the rows that they make from their ends
--- Reached: whether a path is reached from a base, by how many steps, and what room these take
--- ReachedWithin: that a path which is reached from a base lies within it exactly where no step leads up
--- StandingNames: names that are read between separators of which `/` is one, which hold none
--- NearSteps: the steps between two texts that go on with names alone behind the components that both begin with, and how they are written
+-- Reached: whether a path is reached from a base, by how many steps, and what room these take; and that it lies within the base where no step leads up
+-- NearSteps: the steps between two texts that go on with names alone behind the components that both begin with, and how they are written; and names that hold no `/` since that separates
 -- CleanLengths: how long clean texts are, and paths that lead from a base
 pub mod Resolving
 pub mod UnixRows
@@ -25,7 +23,5 @@ pub mod CleanTexts
 pub mod SharedFromBack
 pub mod TakenNames
 pub mod Reached
-pub mod ReachedWithin
-pub mod StandingNames
 pub mod NearSteps
 pub mod CleanLengths

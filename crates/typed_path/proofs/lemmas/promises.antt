@@ -6,8 +6,7 @@
 -- UnixWithin: on Unix a path is within a base exactly where it lies below it from every absolute directory, so the test for it is exact
 -- WindowsWithin: the same on Windows, from each absolute directory that keeps its prefix and is not verbatim; and the kinds that are read of a path with a prefix, and of one without
 -- VerbatimWithin: and from each verbatim one that keeps its prefix
--- StepsRead: the path that leads from a base to another, read again
--- StepsBack: the steps that lead from one list to another, put behind the first, lead where the second leads
+-- StepsBack: the steps that lead from one list to another, put behind the first, lead where the second leads; and their path, read again
 -- UnixRelative: on Unix the path that leads from a base to another leads back, and there is none exactly where no relative path does
 -- WindowsRelative: on Windows it leads back behind a base that is not verbatim and keeps its prefix
 -- VerbatimRelative: and behind a verbatim one that ends with enough names
@@ -29,7 +28,6 @@ pub mod CleanRead
 pub mod CleanForms
 pub mod WindowsClean
 pub mod RouteBehind
-pub mod StepsRead
 pub mod StepsBack
 pub mod UnixRelative
 pub mod WindowsRelative

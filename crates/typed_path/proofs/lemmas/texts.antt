@@ -3,11 +3,9 @@
 -- TextNames: the names that a component holds, as the server and the share of a prefix, are texts where its own text is one
 -- TextsLeft: what is left of a text, and what it answers about itself, are texts: its components, its file name with stem and extension, its prefix and the paths above it
 -- TextChanges: what changes a text leaves a text, and what the search is told of texts
--- TextClean: the clean text of a text is one
--- TextSteps: the path that leads from a base to a text is a text
+-- TextClean: the clean text of a text is one, and the path that leads from a base to it
 pub mod TextCuts
 pub mod TextNames
 pub mod TextsLeft
 pub mod TextChanges
 pub mod TextClean
-pub mod TextSteps

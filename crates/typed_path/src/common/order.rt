@@ -266,7 +266,12 @@ fn compare_from(text: &[u8], other: &[u8], shared: usize, separators: Separators
     let mut wanted = other;
     let mut shared = shared;
     'detours: loop {
-        if let Some(order) = order_of_borders(rest, wanted, shared, separators) {
+        if shared <= 2 {
+            if let Some(order) = order_of_fronts(rest, wanted, separators) {
+                return order;
+            }
+        }
+        if let Some(order) = order_of_beginning(rest, wanted, shared, separators) {
             return order;
         }
         let Some((own, others)) = texts_behind(rest, wanted, shared, separators) else {
@@ -282,27 +287,6 @@ fn compare_from(text: &[u8], other: &[u8], shared: usize, separators: Separators
             return order;
         }
     }
-}
-
-/// The order of two texts by their first bytes, or where one begins with the other, as their bytes tell. None says
-/// nothing. It is told how many bytes the two begin with.
-#[inline(always)]
-fn order_of_borders(
-    text: &[u8],
-    other: &[u8],
-    shared: usize,
-    separators: Separators,
-) -> Option<Ordering>
-    requires { PartAt text.now other.now shared }
-    ensures { IfSome result (λ order.
-        left_cmp (body separators 0 text.now) (body separators 0 other.now) ≡ order) }
-{
-    if shared <= 2 {
-        if let Some(order) = order_of_fronts(text, other, separators) {
-            return Some(order);
-        }
-    }
-    order_of_beginning(text, other, shared, separators)
 }
 
 /// Whether two texts have the same components: the prefix first, then the last component, in which

@@ -177,7 +177,7 @@ fn skip(rest: &mut Body<'_>, owed: &mut usize, count: usize)
 }
 
 /// Whether so many of the last names that are kept hold no `/`. None does where that separates.
-#[tactic(auto, using(crate::proofs::lemmas::places::StandingNames::plain_stand))]
+#[tactic(auto, using(crate::proofs::lemmas::places::NearSteps::plain_stand))]
 fn all_stand(rest: Body<'_>, count: usize) -> bool
     requires fits { length (body_items rest) < 2 ^ 64 }
     requires count { count ≤ length (kept_names (kinds (parts (body_items rest)))) }

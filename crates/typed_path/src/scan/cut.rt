@@ -27,20 +27,11 @@ pub fn cut_at(byte: u8, text: &[u8]) -> Option<(&[u8], &[u8])>
     ensures open { IfSome result (λ cut. slice_split (λ b. b == byte) cut.0.now ≡ cut.0.now ∷ []) }
     ensures shorter { IfSome result (λ cut. length cut.1.now < length text.now) }
 {
-    let at = first_of(byte, text);
+    let at = first_between(text, 0, text.len(), (byte, byte));
     if at < text.len() {
         return Some((&text[..at], &text[at + 1..]));
     }
     None
-}
-
-/// The place of the first such byte, or the length where there is none.
-#[inline(always)]
-fn first_of(byte: u8, text: &[u8]) -> usize
-    ensures within { result ≤ length text.now }
-    ensures first { result ≡ position_or_len (λ b. b == byte) text.now }
-{
-    first_between(text, 0, text.len(), (byte, byte))
 }
 
 /// What stands before the first separator, and what stands behind it.
@@ -416,46 +407,15 @@ pub fn rests_behind_shared<'a>(
 {
     let shared = first_difference(text, other);
     if shared == other.len() {
-        if let Some(rest) = rest_behind(text, other, separators) {
-            return Some((rest, b"".as_slice()));
+        if let Some(end) = end_behind(text, other, separators) {
+            return Some((&text[end..], b"".as_slice()));
         }
     }
     if shared == text.len() {
-        if let Some(rest) = rest_behind(other, text, separators) {
-            return Some((b"".as_slice(), rest));
+        if let Some(end) = end_behind(other, text, separators) {
+            return Some((b"".as_slice(), &other[end..]));
         }
     }
-    rests_parted(text, other, shared, separators)
-}
-
-/// What stands behind the beginning of a text and the blanks there, where no component reaches over its end. None
-/// says nothing.
-#[inline(always)]
-fn rest_behind<'a>(text: &'a [u8], beginning: &[u8], separators: Separators) -> Option<&'a [u8]>
-    requires begins { take (length beginning.now) text.now ≡ beginning.now }
-    requires long { length beginning.now ≤ length text.now }
-    ensures longer { IfSome result
-        (λ rest. PartInto separators text.now beginning.now rest.now []) }
-    ensures shorter { IfSome result
-        (λ rest. PartInto separators beginning.now text.now [] rest.now) }
-{
-    let end = end_behind(text, beginning, separators)?;
-    Some(&text[end..])
-}
-
-/// What two texts hold behind the last separator that both begin with, where the segments there part. None says
-/// nothing. It is told how many bytes the two begin with.
-#[inline(always)]
-fn rests_parted<'a>(
-    text: &'a [u8],
-    other: &'a [u8],
-    shared: usize,
-    separators: Separators,
-) -> Option<(&'a [u8], &'a [u8])>
-    requires { PartAt text.now other.now shared }
-    ensures { IfSome result
-        (λ rests. PartInto separators text.now other.now rests.0.now rests.1.now) }
-{
     let _order = order_of_ends(&text[shared..], &other[shared..], separators)?;
     let start = last_start(&text[..shared], separators);
     Some((&text[start..], &other[start..]))
@@ -471,46 +431,15 @@ pub fn shared_front(text: &[u8], other: &[u8], separators: Separators) -> Option
 {
     let shared = first_difference(text, other);
     if shared == other.len() {
-        if let Some(front) = front_of_longer(text, other, separators) {
-            return Some(front);
+        if let Some(_end) = end_behind(text, other, separators) {
+            return Some(shared);
         }
     }
     if shared == text.len() {
-        if let Some(front) = front_of_longer(other, text, separators) {
-            return Some(front);
+        if let Some(_end) = end_behind(other, text, separators) {
+            return Some(shared);
         }
     }
-    front_before_names(text, other, shared, separators)
-}
-
-/// The same of a text and its beginning, where no component reaches over the end of that. None says nothing.
-#[inline(always)]
-fn front_of_longer(text: &[u8], beginning: &[u8], separators: Separators) -> Option<usize>
-    requires begins { take (length beginning.now) text.now ≡ beginning.now }
-    requires long { length beginning.now ≤ length text.now }
-    ensures len { IfSome result (λ n. n ≡ length beginning.now) }
-    ensures longer { IfSome result
-        (λ n. ShareFront separators text.now beginning.now beginning.now) }
-    ensures shorter { IfSome result
-        (λ n. ShareFront separators beginning.now text.now beginning.now) }
-{
-    let _end = end_behind(text, beginning, separators)?;
-    Some(beginning.len())
-}
-
-/// The same of two texts that part within names. It is told how many bytes the two begin with.
-#[inline(always)]
-fn front_before_names(
-    text: &[u8],
-    other: &[u8],
-    shared: usize,
-    separators: Separators,
-) -> Option<usize>
-    requires { PartAt text.now other.now shared }
-    ensures within { IfSome result (λ n. n ≤ length text.now) }
-    ensures front { IfSome result
-        (λ n. ShareFront separators text.now other.now (take n text.now)) }
-{
     let _order = order_of_ends(&text[shared..], &other[shared..], separators)?;
     let start = last_start(&text[..shared], separators);
     if begins_with_name(&text[start..], separators)

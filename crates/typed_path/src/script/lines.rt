@@ -298,26 +298,17 @@ fn put_conversion<T: Encoding, U: Encoding>(
         (convert_reply_in T.dialect (command_name command) (span_bytes path.entry) U.dialect)) }
 {
     match command {
-        Command::Convert => put_converted_text::<T, U>(path, replies),
+        Command::Convert => {
+            replies.extend_from_slice(b"ok\t")?;
+            put_converted::<T, U>(replies, path)?;
+            replies.push(b'\n')?;
+            Ok(())
+        }
         Command::ConvertChecked => put_converted_checked::<T, U>(path, replies),
         Command::Normalize | Command::Components | Command::Join | Command::JoinChecked => {
             put_bad_line(replies)
         }
     }
-}
-
-/// Puts the reply that is a path in another encoding behind others.
-fn put_converted_text<T: Encoding, U: Encoding>(
-    path: Span<'_>,
-    replies: &mut Vec<u8>,
-) -> Result<(), AllocError>
-    ensures { OnOk result (replies.new.items
-        ≡ replies.old.items ++ text_reply (converted T.dialect U.dialect (span_bytes path.entry))) }
-{
-    replies.extend_from_slice(b"ok\t")?;
-    put_converted::<T, U>(replies, path)?;
-    replies.push(b'\n')?;
-    Ok(())
 }
 
 /// Puts the reply that is a path in another encoding, or the name of its refusal, behind others.

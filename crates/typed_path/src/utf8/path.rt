@@ -285,7 +285,7 @@ impl<'a, T: Utf8Encoding> Utf8Path<'a, T> {
 
     /// The path that leads from a base to this one, where there is one, as
     /// [`Path::relative_to`](crate::Path::relative_to) has it.
-    #[tactic(auto, using(crate::proofs::lemmas::texts::TextChanges::text_laws, crate::proofs::lemmas::texts::TextSteps::relative_laws))]
+    #[tactic(auto, using(crate::proofs::lemmas::texts::TextChanges::text_laws, crate::proofs::lemmas::texts::TextClean::relative_laws))]
     pub fn relative_to(
         self,
         alloc: Global,

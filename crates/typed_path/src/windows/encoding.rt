@@ -258,6 +258,9 @@ fn behind<'a>(path: &'a [u8], base: &[u8]) -> Option<&'a [u8]>
 
 /// How many bytes the prefix takes that two paths begin with, written alike, as their bytes tell, and the
 /// separators of both. None says nothing. It is told how many bytes the two begin with.
+///
+/// Of two that are no drives the prefix of the first alone is read, where a separator stands behind it, and of neither
+/// where they part in the first bytes, as most do of which the prefixes differ.
 #[inline(always)]
 fn shared_written_prefix(path: &[u8], other: &[u8], shared: usize) -> Option<(usize, Separators)>
     requires { PartAt path.now other.now shared }
@@ -265,10 +268,18 @@ fn shared_written_prefix(path: &[u8], other: &[u8], shared: usize) -> Option<(us
     ensures begun { IfSome result (λ found. found.0 ≤ shared) }
 {
     match shared_drive(path, other) {
-        Some(end) if end <= shared => Some((end, Separators::Either)),
-        Some(_) => None,
-        None => shared_marked_prefix(path, other, shared),
+        Some(end) if end <= shared => return Some((end, Separators::Either)),
+        Some(_) => return None,
+        None => {}
     }
+    if shared < PARTED {
+        return None;
+    }
+    let found = find_prefix(path)?;
+    if !begins_with_prefix(other, path, shared, found) {
+        return None;
+    }
+    Some((found.length, Separators::of_windows(path)))
 }
 
 /// How many bytes the drive takes that two paths with no other prefix have both, or none where neither has
@@ -284,27 +295,6 @@ fn shared_drive(path: &[u8], other: &[u8]) -> Option<usize>
         return None;
     }
     Some(path.len() - body.len())
-}
-
-/// How many bytes the prefix takes that two paths begin with, written alike and with a separator behind it,
-/// and the separators of both. None says nothing. It is told how many bytes the two begin with.
-///
-/// The prefix of the first alone is read, and of neither where they part in the first bytes, as most do of which
-/// the prefixes differ.
-#[inline(always)]
-fn shared_marked_prefix(path: &[u8], other: &[u8], shared: usize) -> Option<(usize, Separators)>
-    requires { PartAt path.now other.now shared }
-    ensures one { IfSome result (λ found. HaveOnePrefix path.now other.now found.0 found.1) }
-    ensures begun { IfSome result (λ found. found.0 ≤ shared) }
-{
-    if shared < PARTED {
-        return None;
-    }
-    let found = find_prefix(path)?;
-    if !begins_with_prefix(other, path, shared, found) {
-        return None;
-    }
-    Some((found.length, Separators::of_windows(path)))
 }
 
 /// How many bytes two paths with marked prefixes begin with at least before one of these is read to take a base

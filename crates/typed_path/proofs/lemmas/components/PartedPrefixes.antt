@@ -1,5 +1,5 @@
 -- A prefix with more of its text behind it: where it ends, and what stands right behind it; and which texts with a prefix are not read verbatim.
-use Rattle.std.proofs.Common.{◌≡◌, ℕ, suc, ◌+◌, ◌<◌, Bool, true, false, not, cond, if◌then◌else◌, List, [], ◌∷◌, length, drop, Some, None, refl, sym, ap, ◌∙◌, subst, length-drop, arith, ◌≤◌, nat_lt, ◌++◌, take, inl, inr, length-take, ◌⊎◌, ◌==◌, append-nil, le-ltb, eqb-true, drop-drop, take_all, get_or, take-append-drop, ◌-◌}
+use Rattle.std.proofs.Common.{◌≡◌, ℕ, suc, ◌+◌, ◌<◌, Bool, true, false, not, cond, if◌then◌else◌, List, [], ◌∷◌, length, drop, Some, None, refl, sym, ap, ◌∙◌, subst, length-drop, arith, ◌≤◌, nat_lt, ◌++◌, take, inl, inr, length-take, ◌⊎◌, ◌==◌, append-nil, le-ltb, eqb-true, drop-drop, take_all, get_or, take-append-drop}
 use Rattle.std.specs.List.{position_or_len, after_first, list_any}
 use Rattle.std.proofs.lemmas.Bool.{not-true, false_from_ne_true, cases_lt, cond-false, both_ways, or_cases, cases_Bool}
 use Rattle.std.proofs.lemmas.List.{take-append-le, drop_more}

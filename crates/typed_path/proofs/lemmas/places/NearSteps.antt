@@ -1,27 +1,60 @@
 -- Two texts that go on with names alone behind the components that both begin with: the steps from one to the other, and how they are written.
+-- Names that are read between separators of which `/` is one hold none.
 use Rattle.std.proofs.Common.{◌≡◌, ℕ, zero, suc, ◌+◌, ◌-◌, ◌==◌, ◌||◌, ◌&&◌, Bool, true, false, not, cond, List, [], ◌∷◌, ◌++◌, map, if◌then◌else◌, length, take, drop, refl, sym, ap, ap₂, subst, ◌∙◌, append_assoc, append-nil, arith, inl, inr, take_all, length-append, nat_le, add-one, Ordering}
 use Rattle.std.specs.List.{AllByRecursion, list_all, slice_split, before_first, position_or_len}
 use Rattle.std.specs.Ordering.{is_ne}
 use Rattle.std.specs.Str.{bytes_eq}
 use Rattle.std.specs.Cmp.Lexicographic.{bytes_decides}
-use Rattle.std.proofs.lemmas.Bool.{and_parts, cases_lt, eq-eqb}
+use Rattle.std.proofs.lemmas.Bool.{and_parts, cases_lt, eq-eqb, or_parts}
 use Rattle.std.proofs.lemmas.List.{append_cancel_right, drop_at, map-append, take_rest}
 use Rattle.std.proofs.lemmas.List.Splits.{slice_split_none, slice_split_first}
 use Rattle.std.proofs.lemmas.List.Sums.{fails_before_first}
 use Rattle.typed_path.specs.declared.scan.separators.Separators.{Separators}
-use Rattle.typed_path.specs.components.{Dialect, unix, windows, dot, is_separator, is_verbatim, is_empty, is_dot, is_dot_dot, Kind, normal, Part, Placed, kinds, parts, body, later_body, current_part, parent_part, name_part}
+use Rattle.typed_path.specs.components.{Dialect, unix, windows, dot, is_separator, is_verbatim, is_empty, is_dot, is_dot_dot, Kind, normal, Part, Placed, kinds, parts, body, later_body, current_part, parent_part, name_part, slash}
 use Rattle.typed_path.specs.changes.{is_name_piece}
 use Rattle.typed_path.specs.order.{bytes_cmp, are_same_prefixes}
 use Rattle.typed_path.specs.queries.{first_prefix}
-use Rattle.typed_path.specs.scan.{IsParting, turned}
+use Rattle.typed_path.specs.scan.{IsParting, turned, body_from}
 use Rattle.typed_path.specs.places.{AreAlone, AreNearSteps, PartInNames, PartInto, bare_separators, can_stand, dots, is_anchored, kept_names, met_count, names_down, rising, row_end, rows_of, same_heads, shared_count, unmet}
-use Rattle.typed_path.proofs.lemmas.lists.Lists.{IsUnseparated, slice_split-unseparated}
-use Rattle.typed_path.proofs.lemmas.components.Segments.{first_parts, later_part, later_parts, parts-body, parts-later_body, pieces}
+use Rattle.typed_path.proofs.lemmas.lists.Lists.{IsUnseparated, slice_split-unseparated, AllByRecursion-weaker}
+use Rattle.typed_path.proofs.lemmas.components.Segments.{first_parts, later_part, later_parts, parts-body, parts-later_body, pieces, IsCleanName, IsLaterPart, IsWritten-later, IsWrittenPart, body_parts, body_parts-read, each-written, later_parts-later}
 use Rattle.typed_path.proofs.lemmas.conversions.TurnedPaths.{pieces-turned}
 use Rattle.typed_path.proofs.lemmas.order.SharedNames.{AreInOrder, ends-order, other-at, own-at, unlike}
 use Rattle.typed_path.proofs.lemmas.places.KeptNames.{kept_names-append, unmet-append, kept-names, unmet-names}
-use Rattle.typed_path.proofs.lemmas.places.StandingNames.{open-stand}
 use Rattle.typed_path.proofs.lemmas.places.UnixRows.{all-front, rows-append}
+use Rattle.std.proofs.lemmas.List.Folds.{list_any_none}
+use Rattle.typed_path.specs.declared.scan.separators.Separators.TheVariants.{Slash, Backslash, Either}
+use Rattle.typed_path.specs.declared.scan.cursor.Begin.{Begin}
+use Rattle.typed_path.specs.declared.scan.cursor.Begin.TheVariants.{Body, Inside}
+use Rattle.typed_path.specs.declared.scan.cursor.Body.{Body as Reading}
+use Rattle.typed_path.specs.views.BodyViews.{body_items, body_slice}
+use Rattle.typed_path.proofs.lemmas.promises.CleanRead.{names-clean}
+use Rattle.typed_path.proofs.lemmas.promises.StepsBack.{clean-drop}
+
+-- a byte that does not separate is no `/`
+other-byte : (s : Separators) (b : ℕ) → is_verbatim s ≡ false → is_separator s b ≡ false → (b == slash) ≡ false
+other-byte Slash b plain e = e
+other-byte Backslash b plain e = cc
+other-byte Either b plain e = (or_parts (b == slash) (b == 92) e).0
+
+pub open-stand : (s : Separators) (names : List (List ℕ)) → is_verbatim s ≡ false → AllByRecursion (IsUnseparated (is_separator s)) names → can_stand names ≡ true
+open-stand s [] plain each = refl
+open-stand s (name ∷ names) plain each =
+    ap₂ (λ a b. not a && b) (list_any_none (λ b. b == slash) name (λ n e less. other-byte s _ plain (each.0 n e less))) (open-stand s names plain each.1)
+
+-- the components of a reading are written as their kinds tell
+written : (begin : Begin) (s : Separators) (at : ℕ) (text : List ℕ) → AllByRecursion (IsWrittenPart s) (parts (body_from begin s at text))
+written Body s at text = subst (AllByRecursion (IsWrittenPart s)) (sym (parts-body s at text)) (each-written s (body_parts s text) (body_parts-read s text))
+written Inside s at text =
+    subst (AllByRecursion (IsWrittenPart s)) (sym (parts-later_body s at text))
+    (AllByRecursion-weaker (IsLaterPart s) (IsWrittenPart s) (λ p. IsWritten-later s p.kind p.text) _ (later_parts-later s (pieces s text) (slice_split-unseparated (is_separator s) text)))
+
+-- so the last names that are kept of one can stand
+pub plain_stand : (b : Reading) (n : ℕ) → is_verbatim b.separators ≡ false → can_stand (drop n (kept_names (kinds (parts (body_items b))))) ≡ true
+plain_stand b n plain =
+    let names = kept_names (kinds (parts (body_items b))) in
+    let clean = clean-drop b.separators n names (names-clean b.separators (parts (body_items b)) (written b.begin b.separators b.from (body_slice b))) in
+    open-stand b.separators (drop n names) plain (AllByRecursion-weaker (IsCleanName b.separators) (IsUnseparated (is_separator b.separators)) (λ name c. c.unseparated) (drop n names) clean)
 
 -- A text that is names alone.
 

@@ -16,8 +16,7 @@ use Rattle.typed_path.proofs.lemmas.components.Segments.{AreRead, IsCleanName, I
 use Rattle.typed_path.proofs.lemmas.places.KeptFromBack.{alike-append}
 use Rattle.typed_path.proofs.lemmas.places.KeptNames.{AlikeKept, unmet-append, without_leading_current-kept}
 use Rattle.typed_path.proofs.lemmas.places.Reached.{reached-all}
-use Rattle.typed_path.proofs.lemmas.promises.StepsBack.{alike-heads, free-rising, heads-alike, leads-back, reached-told, same-route, same_heads-all}
-use Rattle.typed_path.proofs.lemmas.promises.StepsRead.{body-clean, clean-drop, names-unix, read-relative, stays_relative}
+use Rattle.typed_path.proofs.lemmas.promises.StepsBack.{alike-heads, free-rising, heads-alike, leads-back, reached-told, same-route, same_heads-all, body-clean, clean-drop, names-unix, read-relative, stays_relative}
 use Rattle.typed_path.proofs.lemmas.promises.CleanForms.{parts-plain, plain, route-plain, route-tells}
 use Rattle.typed_path.proofs.lemmas.promises.CleanRead.{anchored-stays, names-ups, unmet-ups, ups}
 use Rattle.typed_path.proofs.lemmas.promises.UnixContained.{parts_of-unix, join_appends, push_unix-nothing}

@@ -7,9 +7,8 @@ use Rattle.typed_path.specs.places.{headed, is_anchored, kept_names, names_down,
 use Rattle.typed_path.specs.promises.{LeadsBackOnWindows, names_at_end}
 use Rattle.typed_path.proofs.lemmas.components.FirmPrefixes.{is_firm}
 use Rattle.typed_path.proofs.lemmas.places.KeptNames.{place-kept, names-same}
-use Rattle.typed_path.proofs.lemmas.promises.StepsBack.{names-met, reached-told, same-route}
+use Rattle.typed_path.proofs.lemmas.promises.StepsBack.{names-met, reached-told, same-route, read-relative, stays_relative}
 use Rattle.typed_path.proofs.lemmas.promises.CleanRead.{anchored-stays, names-ups, unmet-ups}
-use Rattle.typed_path.proofs.lemmas.promises.StepsRead.{read-relative, stays_relative}
 use Rattle.typed_path.proofs.lemmas.promises.VerbatimWithin.{end, front-names, left_behind, relative-place}
 use Rattle.typed_path.proofs.lemmas.promises.WindowsBases.{verbatim-no_drive}
 use Rattle.typed_path.proofs.lemmas.components.PrefixCuts.{verbatim-some, verbatim-none}

@@ -18,8 +18,7 @@ use Rattle.typed_path.proofs.lemmas.places.KeptFromBack.{alike-append}
 use Rattle.typed_path.proofs.lemmas.places.KeptNames.{AlikeKept, without_leading_current-kept}
 use Rattle.typed_path.proofs.lemmas.promises.CleanForms.{head-plain, parts-plain}
 use Rattle.typed_path.proofs.lemmas.promises.CleanRead.{names-ups, unmet-ups, ups}
-use Rattle.typed_path.proofs.lemmas.promises.StepsBack.{free-rising, leads-back, same-route}
-use Rattle.typed_path.proofs.lemmas.promises.StepsRead.{IsRelativeRead, read-relative, stays_relative}
+use Rattle.typed_path.proofs.lemmas.promises.StepsBack.{free-rising, leads-back, same-route, IsRelativeRead, read-relative, stays_relative}
 use Rattle.typed_path.proofs.lemmas.promises.UnixContained.{body_parts-later, rooted-separated, separated-rooted}
 use Rattle.typed_path.proofs.lemmas.promises.WindowsBases.{read-no_drive, disk_alone-disk, disk_alone-filled}
 use Rattle.typed_path.proofs.lemmas.promises.WindowsContained.{firm-joined, keeps_by_prefix-firm, none-joined}

@@ -2,7 +2,7 @@ use Rattle.std.proofs.Common.{◌||◌, ap₂, ◌∙◌}
 use Rattle.typed_path.specs.components.{kinds, parts}
 use Rattle.typed_path.specs.places.{holds_all, leads_within}
 use Rattle.typed_path.specs.views.CursorViews.{items_left}
-use Rattle.typed_path.proofs.lemmas.places.ReachedWithin.{near-within}
+use Rattle.typed_path.proofs.lemmas.places.Reached.{near-within}
 use Rattle.typed_path.proofs.common.within.is_within.Goals as goal
 
 pub returns-in-Some : goal.returns-in-Some
