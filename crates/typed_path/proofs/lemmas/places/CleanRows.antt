@@ -11,7 +11,7 @@ use Rattle.typed_path.proofs.lemmas.lists.Lists.{IsUnseparated, slice_split-some
 use Rattle.typed_path.proofs.lemmas.components.Segments.{pieces, later_parts, first_parts, body_parts, parts-body, dot_dot-is}
 use Rattle.typed_path.proofs.lemmas.places.KeptNames.{AlikeKept, kept_names-append, unmet-names, kept-names}
 use Rattle.typed_path.proofs.lemmas.places.KeptFromBack.{alike-append, alike-cons, met-alike}
-use Rattle.typed_path.proofs.lemmas.places.UnixRows.{Ended, none, some, ended, take-ended, rows-append, rows-more, all-front}
+use Rattle.typed_path.proofs.lemmas.places.UnixRows.{Ended, none, some, ended, take-ended, rows-append, rows-more, all-front, told-by_kind}
 
 -- What is kept of names and of segments behind them.
 
@@ -121,19 +121,7 @@ kind_by segment (normal name) = normal segment
 kind_by segment k = current
 
 pub segment-kind : (s : Separators) (segment : List ℕ) (p : Part) → first s (record { text = segment; start = 0 }) ≡ component p 0 → segment_kind segment ≡ kind_by segment p.kind
-segment-kind s segment p e = by (length segment == 0) (is_dot segment) (is_dot_dot segment) e
-  where
-    kind_at : List Placed → Kind
-    kind_at [] = current
-    kind_at (c ∷ cs) = c.part.kind
-
-    by : (empty dotted twice : Bool)
-        → cond empty (component (root_part (root_text s)) 0) (cond dotted (component current_part 0) (cond twice (component parent_part 0) (component (name_part segment) 0))) ≡ component p 0
-        → cond (empty || dotted) current (cond twice parent (normal segment)) ≡ kind_by segment p.kind
-    by true dotted twice h = ap (kind_by segment) (ap kind_at h)
-    by false true twice h = ap (kind_by segment) (ap kind_at h)
-    by false false true h = ap (kind_by segment) (ap kind_at h)
-    by false false false h = ap (kind_by segment) (ap kind_at h)
+segment-kind s segment p e = told-by_kind (kind_by segment) s segment p refl e
 
 -- a parent is written as two dots
 pub parent-dots : (segment : List ℕ) → segment_kind segment ≡ parent → segment ≡ dot ∷ dot ∷ []

@@ -7,7 +7,7 @@ use Rattle.std.proofs.lemmas.Bool.{cond-false, or_from, false_from_ne_true, eqb-
 use Rattle.std.proofs.Math.Seq.{get_or-append_seam, get_or-append_right, take-append-add}
 use Rattle.typed_path.specs.declared.scan.separators.Separators.{Separators}
 use Rattle.typed_path.specs.declared.scan.separators.Separators.TheVariants.{Slash, Backslash, Either}
-use Rattle.typed_path.specs.components.{Dialect, unix, slash, is_separator, is_verbatim, root_text, Part, name_part, current_part, parent_part, root_part, kinds, texts, Placed, Kind, current, parent, normal, is_dot, is_dot_dot, component, first}
+use Rattle.typed_path.specs.components.{Dialect, unix, slash, is_separator, is_verbatim, root_text, Part, name_part, current_part, parent_part, root_part, kinds, texts, Placed, Kind, root as root_kind, current, parent, normal, is_dot, is_dot_dot, component, first}
 use Rattle.typed_path.specs.changes.{ended_with, push_all}
 use Rattle.typed_path.specs.places.{normal_text, resolve, row_end, rows_of, rows, IsNormal, settled, names_left, IsParted, AreRowsOf, names_left_of}
 use Rattle.typed_path.proofs.lemmas.lists.Lists.{IsUnseparated, slice_split-some, slice_split-unseparated, AllByRecursion-append}
@@ -293,8 +293,10 @@ by_kind names segment parent = take (length names - 1) names
 by_kind names segment (normal name) = names ++ segment ∷ []
 by_kind names segment k = names
 
-pub settled_by : (s : Separators) (names : List (List ℕ)) (segment : List ℕ) (p : Part) → first s (record { text = segment; start = 0 }) ≡ component p 0 → settled names segment ≡ by_kind names segment p.kind
-settled_by s names segment p e = by (length segment == 0) (is_dot segment) (is_dot_dot segment) e
+-- what the tests of a segment tell is told by the component that it is as a first one
+pub told-by_kind : {A : Type 0} (f : Kind → A) (s : Separators) (segment : List ℕ) (p : Part) → f root_kind ≡ f current → first s (record { text = segment; start = 0 }) ≡ component p 0
+    → cond (length segment == 0 || is_dot segment) (f current) (cond (is_dot_dot segment) (f parent) (f (normal segment))) ≡ f p.kind
+told-by_kind f s segment p alike e = by (length segment == 0) (is_dot segment) (is_dot_dot segment) e
   where
     kind_at : List Placed → Kind
     kind_at [] = current
@@ -302,11 +304,14 @@ settled_by s names segment p e = by (length segment == 0) (is_dot segment) (is_d
 
     by : (empty dotted twice : Bool)
         → cond empty (component (root_part (root_text s)) 0) (cond dotted (component current_part 0) (cond twice (component parent_part 0) (component (name_part segment) 0))) ≡ component p 0
-        → cond (empty || dotted) names (cond twice (take (length names - 1) names) (names ++ segment ∷ [])) ≡ by_kind names segment p.kind
-    by true dotted twice h = ap (by_kind names segment) (ap kind_at h)
-    by false true twice h = ap (by_kind names segment) (ap kind_at h)
-    by false false true h = ap (by_kind names segment) (ap kind_at h)
-    by false false false h = ap (by_kind names segment) (ap kind_at h)
+        → cond (empty || dotted) (f current) (cond twice (f parent) (f (normal segment))) ≡ f p.kind
+    by true dotted twice h = sym alike ∙ ap f (ap kind_at h)
+    by false true twice h = ap f (ap kind_at h)
+    by false false true h = ap f (ap kind_at h)
+    by false false false h = ap f (ap kind_at h)
+
+pub settled_by : (s : Separators) (names : List (List ℕ)) (segment : List ℕ) (p : Part) → first s (record { text = segment; start = 0 }) ≡ component p 0 → settled names segment ≡ by_kind names segment p.kind
+settled_by s names segment p e = told-by_kind (by_kind names segment) s segment p refl e
 
 -- a text that stands in rows while the rest of a whole text is still to come, and what holds of each of its names
 pub record Standing (s : Separators) (P : List ℕ → Type 0) (text head rest whole : List ℕ) : Type 0 where
