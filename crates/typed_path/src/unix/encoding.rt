@@ -11,8 +11,8 @@ use crate::common::{
 };
 use crate::errors::CheckedPathError;
 use crate::scan::{
-    Cursor, Piece, Separators, are_apart, end_behind, first_difference,
-    has_no_nul_or_dot_pair, has_valid_names, have_other_fronts,
+    Cursor, Piece, Separators, are_apart, end_behind, first_difference, has_no_nul_or_dot_pair,
+    has_valid_names, have_other_fronts,
 };
 use std::alloc::AllocError;
 use std::cmp::Ordering;
