@@ -522,7 +522,7 @@ fn begins_with_device(text: &[u8]) -> bool
     if !begins_like_device(text) {
         return false;
     }
-    may_end_stem(text) && Separators::Either.is_reserved(&text[..Separators::Either.first_in(text)])
+    may_end_stem(text) && Separators::Either.is_reserved(first_segment(text))
 }
 
 /// Whether the first two bytes of a text are, but for higher bits, one of `acnlp` and one of `opru`, as each device
@@ -562,4 +562,11 @@ fn ends_stem(byte: u8) -> bool
     ensures { result ≡ ends_stem byte }
 {
     byte == b'.' || Separators::Either.contains(byte)
+}
+
+/// What stands before the first separator of such a text, or the whole where it has none.
+fn first_segment(text: &[u8]) -> &[u8]
+    ensures { result.now ≡ before_first (is_separator Separators.Either) text.now }
+{
+    &text[..Separators::Either.first_in(text)]
 }
