@@ -513,7 +513,10 @@ fn push_piece_checked<U: Encoding>(
 fn check_component<U: Encoding>(piece: Piece<'_>) -> Result<(), CheckedPathError>
     ensures { error_of result ≡ crossing_fault U.dialect (part_of piece.entry) }
 {
-    if is_never_refused(piece) || is_name::<U>(piece.text) {
+    if matches!(piece.kind, PieceKind::CurDir | PieceKind::ParentDir)
+        || piece.is_root()
+        || is_name::<U>(piece.text)
+    {
         Ok(())
     } else {
         U::check(piece.text)
@@ -526,15 +529,4 @@ fn is_name<U: Encoding>(text: &[u8]) -> bool
     ensures { IsTrue result → fault U.dialect text.now ≡ None }
 {
     !is_dots(text) && U::valid(text)
-}
-
-/// Whether a component is never refused: a root, and every prefix that becomes one, `.` or `..`.
-#[inline(always)]
-fn is_never_refused(piece: Piece<'_>) -> bool
-    ensures { result ≡ is_never_refused (part_of piece.entry).kind }
-{
-    match piece.kind {
-        PieceKind::CurDir | PieceKind::ParentDir => true,
-        _ => piece.is_root(),
-    }
 }

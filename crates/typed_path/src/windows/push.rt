@@ -202,8 +202,8 @@ fn push_read(
         return Ok(known);
     }
     match text.get(start..) {
-        Some(path) => Ok(known_of(path)),
-        None => Ok(None),
+        Some(path) if has_verbatim_kind(path) => Ok(spelled_head(path)),
+        _ => Ok(None),
     }
 }
 
@@ -216,17 +216,6 @@ fn keeps_prefix(len: usize, other: &[u8], known: Option<usize>) -> bool
     match known {
         Some(head) if len > 1 && head < len - 1 => find_prefix(other).is_none(),
         _ => false,
-    }
-}
-
-/// What is known of a path once it is read: its first bytes tell where it has no verbatim kind.
-fn known_of(path: &[u8]) -> Option<usize>
-    ensures { IsKnown windows result path.now }
-{
-    if has_verbatim_kind(path) {
-        spelled_head(path)
-    } else {
-        None
     }
 }
 

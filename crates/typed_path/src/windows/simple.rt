@@ -56,24 +56,10 @@ fn are_drive_and_root(first: Piece<'_>, second: Piece<'_>) -> bool
     ensures { result ≡ (is_verbatim_drive (part_of first.entry).kind
         && is_written_root (part_of second.entry).kind) }
 {
-    is_verbatim_drive(first) && is_written_root(second)
-}
-
-/// Whether a component is a verbatim drive.
-fn is_verbatim_drive(piece: Piece<'_>) -> bool
-    ensures { result ≡ is_verbatim_drive (part_of piece.entry).kind }
-{
     matches!(
-        piece.kind,
+        first.kind,
         PieceKind::Prefix(WindowsPrefix::VerbatimDisk(_))
-    )
-}
-
-/// Whether a component is a root that is written.
-fn is_written_root(piece: Piece<'_>) -> bool
-    ensures { result ≡ is_written_root (part_of piece.entry).kind }
-{
-    matches!(piece.kind, PieceKind::RootDir)
+    ) && matches!(second.kind, PieceKind::RootDir)
 }
 
 /// Whether the components that are left are names that Windows takes as they are written.

@@ -4,7 +4,7 @@ use Rattle.std.specs.List.{AllByRecursion, list_all, slice_split}
 use Rattle.std.proofs.lemmas.Bool.{and_parts, or_parts, not-true, both_ways}
 use Rattle.std.proofs.lemmas.List.{map-append, replicate_more, length-replicate}
 use Rattle.typed_path.specs.declared.scan.separators.Separators.{Separators}
-use Rattle.typed_path.specs.components.{dot, is_separator, is_verbatim, root_text, Kind, current, parent, normal, Part, root_part, current_part, parent_part, name_part, Placed, parts, kinds, is_dot, is_dot_dot, component, first, body}
+use Rattle.typed_path.specs.components.{dot, is_separator, is_verbatim, root_text, Kind, current, parent, normal, Part, root_part, current_part, parent_part, name_part, parts, kinds, is_dot, is_dot_dot, component, first, body}
 use Rattle.typed_path.specs.changes.{is_name_piece}
 use Rattle.typed_path.specs.places.{unmet, kept_names, row_end, rows_of, settled, AreRowsOf, ArePut, AreKept, TellsNamesOf, dots, kept_segments, segment_kind, segment_kinds}
 use Rattle.typed_path.proofs.lemmas.lists.Lists.{IsUnseparated, slice_split-some, slice_split-unseparated, AllByRecursion-append}
