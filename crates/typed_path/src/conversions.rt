@@ -163,28 +163,16 @@ impl<'a, T: Encoding> Path<'a, T> {
         if self.is_absolute() {
             return Ok(self.normalize(alloc)?);
         }
-        let joined = self.joined_behind(alloc, directory)?;
-        if !joined.as_path().is_absolute() {
-            return Err(AbsolutizeError::Ambiguous);
-        }
-        Ok(joined.as_path().normalize(alloc)?)
-    }
-
-    /// The path pushed onto a directory of the machine, in this path's encoding.
-    fn joined_behind(
-        self,
-        alloc: Global,
-        directory: PlatformPath<'_>,
-    ) -> Result<PathBuf<T>, AllocError>
-        ensures { IfOk result (λ p. p.bytes ≡ push_spec.push T.dialect
-            (converted platform T.dialect (path_bytes directory.entry)) (path_bytes self.entry)) }
-    {
         let base = directory.as_bytes();
         let path = self.as_bytes();
         let mut joined = Vec::with_capacity(alloc, base.len() + path.len() + 1)?;
         put_converted::<PlatformEncoding, T>(&mut joined, Span::whole(base))?;
         T::push(&mut joined, path)?;
-        Ok(PathBuf::from_vec(joined))
+        let joined = PathBuf::from_vec(joined);
+        if !joined.as_path().is_absolute() {
+            return Err(AbsolutizeError::Ambiguous);
+        }
+        Ok(joined.as_path().normalize(alloc)?)
     }
 }
 

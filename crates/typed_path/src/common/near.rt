@@ -6,7 +6,7 @@ ghost use Rattle.std.specs.Prelude.{◌≡◌, ◌+◌, ◌*◌, ◌++◌, ◌�
 ghost use Rattle.std.specs.List.{slice_split};
 ghost use Rattle.std.specs.Vec.{vec_len, vec_capacity};
 ghost use Rattle.typed_path.specs.components.{body, is_separator, is_verbatim, kinds, parts};
-ghost use Rattle.typed_path.specs.places.{AreAlone, AreNearSteps, PartInNames, TellsNamesOf, bare_separators, dots, is_anchored, relative_text, rows_of, same_heads, steps_text};
+ghost use Rattle.typed_path.specs.places.{AreAlone, AreNearSteps, PartInNames, bare_separators, dots, is_anchored, relative_text, rows_of, same_heads, steps_text};
 ghost use Rattle.typed_path.specs.views.BodyViews.{body_items};
 ghost use Rattle.typed_path.specs.views.CursorViews.{items_left};
 

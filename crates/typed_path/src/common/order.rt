@@ -4,7 +4,7 @@
 //! Prefixes come first, so that the loops over the other components hold none. The loops stand in
 //! functions that are generic over the encoding, which build each step in for its separators.
 
-ghost use Rattle.std.specs.Prelude.{◌≡◌, ◌&&◌, List, ◌∷◌, None, option_map, fold, refl, IfSome};
+ghost use Rattle.std.specs.Prelude.{◌≡◌, ◌&&◌, List, ◌∷◌, None, option_map, fold, refl};
 ghost use Rattle.typed_path.specs.scan.{PartAt};
 ghost use Rattle.std.specs.List.{flat_map};
 ghost use Rattle.std.specs.Ordering.{is_eq, on, as_partial_cmp};
