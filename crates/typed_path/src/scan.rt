@@ -12,9 +12,9 @@ mod step;
 pub use blanks::{before_last_separator, begins_with_long_name, has_no_blank_behind};
 pub use cursor::{Begin, Body, Cursor, Span};
 pub use cut::{
-    are_apart, bodies_behind_shared, cut_at, cut_at_separator, end_behind, have_other_fronts,
-    order_behind, order_of_beginning, order_of_fronts, rests_behind_shared, shared_front,
-    text_behind, texts_behind,
+    are_apart, base_end, bodies_behind_shared, cut_at, cut_at_separator, end_behind,
+    have_other_fronts, order_behind, order_of_beginning, order_of_fronts, rests_behind_shared,
+    shared_front, text_behind, texts_behind,
 };
 pub use lanes::{first_between, first_difference, has_no_nul_or_dot_pair};
 pub use names::{has_only_names, leading_names, leading_short_names};

@@ -78,8 +78,25 @@ pub fn text_behind<'a>(beginning: &[u8], text: &'a [u8]) -> Option<&'a [u8]>
     if differs { None } else { Some(&text[len..]) }
 }
 
-/// How many bytes of a text that begins with those of a base stand before the component behind the base, where the bytes
-/// tell: no component reaches over the end of the base.
+/// How many bytes of a text stand before the component behind a base, where the bytes tell: the
+/// text begins with those of the base, and no component reaches over its end. It is told how many bytes the two
+/// begin with.
+#[inline(always)]
+pub fn base_end(text: &[u8], base: &[u8], shared: usize, separators: Separators) -> Option<usize>
+    requires { PartAt text.now base.now shared }
+    ensures within { IfSome result (λ n. n ≤ length text.now) }
+    ensures some { IfSome result (λ n. 0 < length base.now) }
+    ensures items { IfSome result (λ n. (at : ℕ) → body separators at text.now
+        ≡ body separators at base.now ++ later_body separators (at + n) (drop n text.now)) }
+    ensures clean { IfSome result (λ n. is_clean Begin.Inside separators (drop n text.now) ≡ true) }
+{
+    if shared != base.len() {
+        return None;
+    }
+    end_behind(text, base, separators)
+}
+
+/// The same of a text that begins with the bytes of the base.
 #[inline(always)]
 pub fn end_behind(text: &[u8], base: &[u8], separators: Separators) -> Option<usize>
     requires begins { take (length base.now) text.now ≡ base.now }

@@ -11,8 +11,8 @@ use crate::common::{
 };
 use crate::errors::CheckedPathError;
 use crate::scan::{
-    Cursor, Piece, Separators, are_apart, end_behind, first_difference, has_no_nul_or_dot_pair,
-    has_valid_names, have_other_fronts,
+    Cursor, Piece, Separators, are_apart, base_end, end_behind, first_difference,
+    has_no_nul_or_dot_pair, has_valid_names, have_other_fronts,
 };
 use std::alloc::AllocError;
 use std::cmp::Ordering;
@@ -87,10 +87,8 @@ impl Encoding for UnixEncoding {
             return Some(None);
         }
         let shared = first_difference(path, base);
-        if shared == base.len() {
-            if let Some(end) = end_behind(path, base, Separators::Slash) {
-                return Some(Some(&path[end..]));
-            }
+        if let Some(end) = base_end(path, base, shared, Separators::Slash) {
+            return Some(Some(&path[end..]));
         }
         if are_apart(path, base, shared, Separators::Slash) {
             return Some(None);

@@ -17,9 +17,9 @@ use crate::common::{
 };
 use crate::errors::CheckedPathError;
 use crate::scan::{
-    Body, Cursor, Found, Look, Piece, Separators, WindowsPrefix, are_apart, byte_behind_two,
-    end_behind, find_prefix, first_difference, has_no_nul_or_dot_pair, has_valid_names,
-    look_at_path, parted_drive,
+    Body, Cursor, Found, Look, Piece, Separators, WindowsPrefix, are_apart, base_end,
+    byte_behind_two, end_behind, find_prefix, first_difference, has_no_nul_or_dot_pair,
+    has_valid_names, look_at_path, parted_drive,
 };
 use crate::windows::normal::put_normal;
 use crate::windows::push::{prefix_len, push_at, push_next};
@@ -122,10 +122,8 @@ impl Encoding for WindowsEncoding {
         let body = &path[end..];
         let wanted = &base[end..];
         let shared = shared - end;
-        if shared == wanted.len() {
-            if let Some(behind) = end_behind(body, wanted, separators) {
-                return Some(Some(&body[behind..]));
-            }
+        if let Some(behind) = base_end(body, wanted, shared, separators) {
+            return Some(Some(&body[behind..]));
         }
         // Bytes tell nothing where the separators in front are others.
         if begin_with_other_separators(body, wanted) {

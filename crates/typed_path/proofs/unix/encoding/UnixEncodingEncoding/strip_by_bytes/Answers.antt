@@ -2,15 +2,8 @@ use Rattle.std.proofs.Common.{◌++◌, Some, drop, refl, ap, sym, ◌∙◌, ar
 use Rattle.std.proofs.lemmas.List.{take_rest}
 use Rattle.typed_path.specs.declared.scan.separators.Separators.TheVariants.{Slash}
 use Rattle.typed_path.specs.components.{body, later_body, unix}
-use Rattle.typed_path.proofs.lemmas.order.SharedNames.{shared-begins}
 use Rattle.typed_path.proofs.lemmas.queries.Bases.{filled, stripped-not, stripped-split}
 use Rattle.typed_path.proofs.unix.encoding.UnixEncodingEncoding.strip_by_bytes.Goals as goal
-
-pub end_behind-requires-clause-begins : goal.end_behind-requires-clause-begins
-end_behind-requires-clause-begins c = (shared-begins c.args.path.now c.args.base.now c.first_difference-shared.result c.first_difference-shared.ensures c.if-shared-base.true).0
-
-pub end_behind-requires-clause-long : goal.end_behind-requires-clause-long
-end_behind-requires-clause-long c = (shared-begins c.args.path.now c.args.base.now c.first_difference-shared.result c.first_difference-shared.ensures c.if-shared-base.true).1
 
 pub returns-in-Some : goal.returns-in-Some
 returns-in-Some c =

@@ -6,31 +6,26 @@ use Rattle.typed_path.specs.components.{body, parts, texts, later_body, windows,
 use Rattle.typed_path.specs.scan.{is_clean}
 use Rattle.std.specs.List.{starts_with}
 use Rattle.std.specs.Str.{bytes_eq}
-use Rattle.typed_path.proofs.lemmas.order.SharedNames.{alike-before, one-apart, parted-rest, shared-begins}
+use Rattle.typed_path.proofs.lemmas.order.SharedNames.{alike-before, one-apart, parted-rest}
 use Rattle.typed_path.proofs.lemmas.queries.Bases.{stripped-behind_prefix, stripped-not}
 use Rattle.typed_path.proofs.windows.encoding.WindowsEncodingEncoding.strip_by_bytes.Goals as goal
 
-pub end_behind-requires-clause-begins : goal.end_behind-requires-clause-begins
-end_behind-requires-clause-begins c =
-    (shared-begins _ _ _ (parted-rest c.args.path.now c.args.base.now c.first_difference-shared.result c.in-Some.end c.first_difference-shared.ensures c.in-Some.ensures.begun) c.if-shared-wanted.true).0
-
-pub end_behind-requires-clause-long : goal.end_behind-requires-clause-long
-end_behind-requires-clause-long c =
-    (shared-begins _ _ _ (parted-rest c.args.path.now c.args.base.now c.first_difference-shared.result c.in-Some.end c.first_difference-shared.ensures c.in-Some.ensures.begun) c.if-shared-wanted.true).1
+pub base_end-requires : goal.base_end-requires
+base_end-requires c = parted-rest c.args.path.now c.args.base.now c.first_difference-shared.result c.in-Some.end c.first_difference-shared.ensures c.in-Some.ensures.begun
 
 pub are_apart-requires : goal.are_apart-requires
 are_apart-requires c = parted-rest c.args.path.now c.args.base.now c.first_difference-shared.result c.in-Some.end c.first_difference-shared.ensures c.in-Some.ensures.begun
 
-pub returns-in-Some-end_behind : goal.returns-in-Some-end_behind
-returns-in-Some-end_behind c =
+pub returns-in-Some-base_end : goal.returns-in-Some-base_end
+returns-in-Some-base_end c =
     let t = c.args.path.now in
     let b = c.args.base.now in
     let s = separators windows t in
     let n = c.in-Some.end in
     let r = c.in-Some.separators in
     let one = c.in-Some.ensures.one in
-    let end = c.in-Some-end_behind.behind in
-    let told = c.in-Some-end_behind.ensures in
+    let end = c.in-Some-base_end.behind in
+    let told = c.in-Some-base_end.ensures in
     let o = prefix_of windows t in
     let p = prefix_of windows b in
     let same : n ≡ raw_length p = one.3 ∙ ap raw_length (sym one.2) in
