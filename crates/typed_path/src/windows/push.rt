@@ -195,7 +195,7 @@ fn push_read(
         → IsKnown windows known (drop start text.old.items)
         → FitsPush windows room (drop start text.old.items) other.now → IsOk result }
 {
-    let stays = keeps_prefix(text.len() - start, other, known);
+    let stays = stays_known(text.len() - start, other, known);
     let len = text.len();
     push_at(text, start, len, other, known)?;
     if stays {
@@ -209,7 +209,7 @@ fn push_read(
 
 /// Whether a path of so many bytes, of which something may be known, keeps its prefix where another
 /// is pushed onto it, and is spelled as it is read then too.
-fn keeps_prefix(len: usize, other: &[u8], known: Option<usize>) -> bool
+fn stays_known(len: usize, other: &[u8], known: Option<usize>) -> bool
     ensures { IsTrue result → (path : List ℕ) → length path ≡ len → IsKnown windows known path
         → IsKnown windows known (push_windows path other.now) }
 {

@@ -3,7 +3,7 @@ use Rattle.typed_path.specs.components.{windows}
 use Rattle.typed_path.specs.changes.{push_windows, IsKnown}
 use Rattle.typed_path.specs.views.PieceViews.{found_of}
 use Rattle.typed_path.proofs.lemmas.changes.MergedInPlace.{keeps-known}
-use Rattle.typed_path.proofs.windows.push.keeps_prefix.Goals as goal
+use Rattle.typed_path.proofs.windows.push.stays_known.Goals as goal
 
 none_is : {A : Type 0} (o : Option A) (b : Bool) → is_some o ≡ not b → IsTrue b → o ≡ None
 none_is None b e h = refl
