@@ -1,7 +1,5 @@
 //! Paths of every encoding.
 
-mod clean;
-mod component;
 mod components;
 mod encoding;
 mod near;
@@ -10,13 +8,11 @@ mod path;
 mod path_buf;
 mod relative;
 mod rows;
-mod shared;
 mod texts;
 mod within;
 mod writing;
 
-pub use component::Component;
-pub use components::{Ancestors, Components, Iter, ReadAs, Reading, Reversed, Values};
+pub use components::{Ancestors, Component, Components, Iter, ReadAs, Reading, Reversed, Values};
 pub use encoding::Encoding;
 pub(crate) use order::{
     compare, compare_each, compare_parted, compare_prefixes, compare_texts, is_same,

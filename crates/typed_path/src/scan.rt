@@ -1,6 +1,5 @@
 //! Reading a text component by component.
 
-mod blanks;
 mod cursor;
 mod cut;
 mod lanes;
@@ -9,7 +8,6 @@ mod prefix;
 mod separators;
 mod step;
 
-pub use blanks::{before_last_separator, begins_with_long_name, has_no_blank_behind};
 pub use cursor::{Begin, Body, Cursor, Span};
 pub use cut::{
     are_apart, base_end, bodies_behind_shared, cut_at, cut_at_separator, end_behind,
@@ -17,7 +15,10 @@ pub use cut::{
     shared_front, text_behind, texts_behind,
 };
 pub use lanes::{first_between, first_difference, has_no_nul_or_dot_pair};
-pub use names::{has_only_names, leading_names, leading_short_names};
+pub use names::{
+    before_last_separator, begins_with_long_name, has_no_blank_behind, has_only_names,
+    leading_names, leading_short_names,
+};
 pub use prefix::{
     Found, WindowsPrefix, after_mark, begins_with_two, byte_behind_two, drive, find_prefix,
     keeps_prefix, parted_drive,

@@ -4,27 +4,21 @@
 //! call is the one of that path. What comes of it is a text again, as the lemmas of `texts` say, and
 //! is taken as one without a look at its bytes.
 
-mod ancestors;
 mod encoding;
 mod path;
 mod path_buf;
-mod platform;
-mod print;
 mod reading;
 mod unix;
 mod windows;
 
-pub use ancestors::Utf8Ancestors;
 pub use encoding::{Utf8Component, Utf8Encoding};
-pub use path::{Utf8Components, Utf8Iter, Utf8Path};
+pub use path::{Utf8Ancestors, Utf8Components, Utf8Iter, Utf8Path};
 pub use path_buf::Utf8PathBuf;
-pub use platform::{
-    Utf8NativeComponent, Utf8NativeEncoding, Utf8NativePath, Utf8NativePathBuf,
-    Utf8PlatformEncoding, Utf8PlatformPath, Utf8PlatformPathBuf,
-};
 pub use reading::{Utf8Piece, Utf8PieceKind, Utf8Reading};
 pub use unix::{
-    Utf8UnixComponent, Utf8UnixComponents, Utf8UnixEncoding, Utf8UnixPath, Utf8UnixPathBuf,
+    Utf8NativeComponent, Utf8NativeEncoding, Utf8NativePath, Utf8NativePathBuf,
+    Utf8PlatformEncoding, Utf8PlatformPath, Utf8PlatformPathBuf, Utf8UnixComponent,
+    Utf8UnixComponents, Utf8UnixEncoding, Utf8UnixPath, Utf8UnixPathBuf,
 };
 pub use windows::{
     Utf8WindowsComponent, Utf8WindowsComponents, Utf8WindowsEncoding, Utf8WindowsPath,

@@ -4,7 +4,6 @@ mod component;
 mod encoding;
 mod normal;
 mod push;
-mod simple;
 
 use crate::common::{Path, PathBuf};
 pub use crate::scan::WindowsPrefix;

@@ -2,7 +2,7 @@
 use Rattle.std.specs.Prelude.{ℕ, List}
 use Rattle.typed_path.specs.declared.common.encoding.Encoding as bytes
 use Rattle.typed_path.specs.declared.utf8.encoding.Utf8Encoding.{Ghosts}
-use Rattle.typed_path.specs.declared.utf8.ancestors.Utf8Ancestors.{Utf8Ancestors}
+use Rattle.typed_path.specs.declared.utf8.path.Utf8Ancestors.{Utf8Ancestors}
 use Rattle.typed_path.specs.views.PathViews.{ancestors_left}
 
 -- the texts that are still to come

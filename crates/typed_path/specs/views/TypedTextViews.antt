@@ -4,7 +4,7 @@ use Rattle.typed_path.specs.declared.common.encoding.Encoding as bytes
 use Rattle.typed_path.specs.declared.utf8.encoding.Utf8Encoding.{Ghosts}
 use Rattle.typed_path.specs.declared.utf8.path.Utf8Path.{Utf8Path}
 use Rattle.typed_path.specs.declared.utf8.reading.Utf8Reading.{Utf8Reading}
-use Rattle.typed_path.specs.declared.utf8.ancestors.Utf8Ancestors.{Utf8Ancestors}
+use Rattle.typed_path.specs.declared.utf8.path.Utf8Ancestors.{Utf8Ancestors}
 use Rattle.typed_path.specs.declared.utf8.unix.Utf8UnixComponent.{Utf8UnixComponent}
 use Rattle.typed_path.specs.declared.utf8.windows.Utf8WindowsComponent.{Utf8WindowsComponent}
 use Rattle.typed_path.specs.declared.typed.variant.Typed.{Typed}

@@ -1,23 +1,25 @@
 //! What is read of a path: its components from either end, as pieces, texts or values of their own, and
-//! the paths above it.
+//! the paths above it; and what a component is asked.
 //!
 //! `Reading` is the one struct for all of them, and `ReadAs` says what it gives for each component.
 
-ghost use Rattle.std.specs.Prelude.{◌≡◌, ℕ, List, option_map, codes, ⊤, Some, true, drop, slice_get};
-ghost use Rattle.typed_path.specs.components.{Part, parts, Placed, end_of, kinds, written, as_written, comps};
+ghost use Rattle.std.specs.Prelude.{◌≡◌, ℕ, List, option_map, codes, ⊤, Some, true, drop, slice_get, ◌==◌, [], ◌∷◌, length};
+ghost use Rattle.typed_path.specs.components.{Part, parts, Placed, end_of, kinds, written, as_written, comps, Dialect, root_of, dot, root as root_kind, parent as parent_kind, current as current_kind, is_name, is_parent, is_current};
 ghost use Rattle.typed_path.specs.texts.{has_text_names, have_text_names};
 ghost use Rattle.typed_path.specs.views.CursorViews.{items_left, slice_left};
 ghost use Rattle.typed_path.specs.views.PieceViews.{part_of};
 ghost use Rattle.typed_path.specs.views.Shown.{Shown, whole, text_alone};
 ghost use Rattle.typed_path.specs.scan.{last_of, but_last, slice_after_front, slice_after_back, first_part, last_part, LeavesFront, LeavesBack};
-ghost use Rattle.typed_path.specs.queries.{is_absolute, has_root, ancestors_of, readings_behind};
+ghost use Rattle.typed_path.specs.queries.{is_absolute, has_root, ancestors_of, readings_behind, is_root as is_root_kind, is_valid_kind};
 ghost use Rattle.std.specs.Iterator.{YieldsFirstBy, item_count, YieldsLastBy};
+ghost use Rattle.typed_path.specs.conversions.{crossed};
 
 use crate::common::encoding::Encoding;
 use crate::common::path::Path;
-use crate::scan::{Cursor, Piece};
+use crate::scan::{Cursor, Piece, PieceKind};
 use std::alloc::AllocError;
 use std::fmt;
+use std::hash::Hash;
 use std::iter::FusedIterator;
 use std::marker::PhantomData;
 
@@ -412,5 +414,84 @@ impl<I: DoubleEndedIterator> DoubleEndedIterator for Reversed<I> {
     #[inline(always)]
     fn next_back(&mut self) -> Option<I::Item> {
         self.source.next()
+    }
+}
+
+/// A component of a path of one encoding.
+pub trait Component<'a>: Copy + fmt::Debug + Ord + Hash {
+    ghost dialect: { Dialect };
+
+    ghost part: { Self → Part };
+
+    /// The text of the component.
+    fn as_bytes(&self) -> &'a [u8]
+        ensures { result.now ≡ (part self.now).text };
+
+    /// Whether nothing is above the component: the root, and every prefix but a drive.
+    fn is_root(&self) -> bool
+        ensures { result ≡ is_root_kind (part self.now).kind };
+
+    /// Whether the component is a name.
+    fn is_normal(&self) -> bool
+        ensures { result ≡ is_name (part self.now).kind };
+
+    /// Whether the component is the parent directory, `..`.
+    fn is_parent(&self) -> bool
+        ensures { result ≡ is_parent (part self.now).kind };
+
+    /// Whether the component is the current directory, `.`.
+    fn is_current(&self) -> bool
+        ensures { result ≡ is_current (part self.now).kind };
+
+    /// Whether the component is no name, or a name that the encoding allows: `ab:c` is one of Unix, and
+    /// none of Windows.
+    fn is_valid(&self) -> bool
+        ensures { result ≡ is_valid_kind dialect (part self.now).kind };
+
+    /// How many bytes the text has.
+    fn len(&self) -> usize
+        ensures { result ≡ length (part self.now).text };
+
+    /// Whether the text is empty.
+    fn is_empty(&self) -> bool
+        ensures { result ≡ (length (part self.now).text == 0) };
+
+    /// The root directory.
+    fn root() -> Self
+        ensures kind { (part result).kind ≡ root_kind }
+        ensures text { (part result).text ≡ root_of dialect };
+
+    /// The parent directory.
+    fn parent() -> Self
+        ensures kind { (part result).kind ≡ parent_kind }
+        ensures text { (part result).text ≡ dot ∷ dot ∷ [] };
+
+    /// The current directory.
+    fn current() -> Self
+        ensures kind { (part result).kind ≡ current_kind }
+        ensures text { (part result).text ≡ dot ∷ [] };
+}
+
+impl<'a> Piece<'a> {
+    ghost use Rattle.typed_path.specs.views.PieceViews.{part_of};
+
+    /// How the component is written where the root is written so: the root, and every prefix but a
+    /// drive, as that root, and all else as it stands.
+    #[inline(always)]
+    pub(crate) fn crossed(self, root: &'static [u8]) -> &'a [u8]
+        ensures { (e : Dialect) → root.now ≡ root_of e
+            → result.now ≡ crossed e (part_of self.entry) }
+    {
+        if self.is_root() { root } else { self.text }
+    }
+
+    /// Whether the component is no name, or a name that the encoding allows.
+    pub fn is_valid<T: Encoding>(self) -> bool
+        ensures { result ≡ is_valid_kind T.dialect (part_of self.entry).kind }
+    {
+        match self.kind {
+            PieceKind::Normal => T::valid(self.text),
+            _ => true,
+        }
     }
 }

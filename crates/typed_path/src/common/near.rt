@@ -10,11 +10,10 @@ ghost use Rattle.typed_path.specs.places.{AreAlone, AreNearSteps, PartInNames, b
 ghost use Rattle.typed_path.specs.views.BodyViews.{body_items};
 ghost use Rattle.typed_path.specs.views.CursorViews.{items_left};
 
-use crate::common::clean::put_apart;
 use crate::common::encoding::Encoding;
 use crate::common::order::have_same_prefixes;
 use crate::common::path_buf::PathBuf;
-use crate::common::rows::{put_row, put_turned_where, row_end};
+use crate::common::rows::{put_apart, put_row, put_turned_where, row_end};
 use crate::common::writing::drop_separator;
 use crate::scan::{Body, Cursor, Separators, cut_at_separator, leading_names, rests_behind_shared};
 use std::alloc::{AllocError, Global};

@@ -10,13 +10,12 @@ ghost use Rattle.typed_path.specs.promises.{HasNormalForm, HasPrefixOf, LiesWith
 ghost use Rattle.typed_path.specs.views.PathViews.{path_bytes, components_items, components_slice, ancestors_left};
 ghost use Rattle.typed_path.specs.views.PieceViews.{part_of};
 
-use crate::common::clean::put_clean;
 use crate::common::components::{Ancestors, Components, Iter, Reading};
 use crate::common::encoding::Encoding;
 use crate::common::path_buf::PathBuf;
 use crate::common::relative::relative_to;
-use crate::common::shared::shared_end;
-use crate::common::within::is_within;
+use crate::common::rows::put_clean;
+use crate::common::within::{is_within, shared_end};
 use crate::common::writing::{dotted_len, first_stem, put_extension, split_name};
 use crate::errors::{PathError, StripPrefixError};
 use crate::scan::{Piece, Separators, keeps_prefix};

@@ -11,12 +11,11 @@ ghost use Rattle.typed_path.specs.places.{AreSteps, IsLast, bare_separators, can
 ghost use Rattle.typed_path.specs.views.BodyViews.{body_items};
 ghost use Rattle.typed_path.specs.views.CursorViews.{items_left};
 
-use crate::common::clean::put_apart;
 use crate::common::encoding::Encoding;
 use crate::common::near::{bare_separators, relative_by_bytes};
 use crate::common::order::have_same_prefixes;
 use crate::common::path_buf::PathBuf;
-use crate::common::rows::row_end;
+use crate::common::rows::{put_apart, row_end};
 use crate::common::within::{Lead, last_name, lead_of};
 use crate::common::writing::drop_separator;
 use crate::scan::{Body, Cursor, Separators};

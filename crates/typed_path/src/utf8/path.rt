@@ -1,11 +1,11 @@
-//! A path that is a text, lent.
+//! A path that is a text, lent; and it with the paths above it.
 #![tactic(auto, using(crate::proofs::lemmas::texts::TextChanges::text_laws))]
 
 ghost use Rattle.std.specs.Prelude.{◌≡◌, true, ⊤, not, option_map, is_ok, IfOk, IfErr, option_copied, [], IsOk, Ok, Err, Some, None};
 ghost use Rattle.std.specs.Str.{is_utf8};
-ghost use Rattle.typed_path.specs.views.PathViews.{path_bytes};
+ghost use Rattle.typed_path.specs.views.PathViews.{path_bytes, ancestors_left};
 ghost use Rattle.typed_path.specs.typed.Outcomes.{JoinsChecked, LeadsFrom, Normalizes, ConvertsChecked, Absolutizes};
-ghost use Rattle.typed_path.specs.texts.{is_text_option, IsTextError};
+ghost use Rattle.typed_path.specs.texts.{is_text_option, IsTextError, are_texts};
 ghost use Rattle.typed_path.specs.components.{kinds, comps, parts_of, unix, windows};
 ghost use Rattle.typed_path.specs.queries.{is_absolute, has_root, is_valid, parent_of, file_name_of, file_stem_of, stripped, path_starts_with, path_ends_with, ancestors_of, stripped_to, extension, file_prefix_of, has_trailing_separator, common_ancestor_of};
 ghost use Rattle.typed_path.specs.order.{is_same, path_cmp};
@@ -13,20 +13,22 @@ ghost use Rattle.typed_path.specs.places.{clean_text, is_within};
 ghost use Rattle.typed_path.specs.promises.{keeps_prefix};
 ghost use Rattle.typed_path.specs.changes.{with_file_name, with_extension, with_added_extension};
 ghost use Rattle.typed_path.specs.conversions.{platform, same_dialect, converted};
+ghost use Rattle.std.specs.Iterator.{YieldsFirstBy, item_count};
 
-use crate::common::Path;
+use crate::common::{Ancestors, Path};
 use crate::errors::{AbsolutizeError, PathError, StripPrefixError};
-use crate::utf8::ancestors::Utf8Ancestors;
 use crate::utf8::encoding::{Utf8Encoding, text_of, text_of_option};
 use crate::utf8::path_buf::{Utf8PathBuf, owned};
-use crate::utf8::platform::{Utf8PlatformEncoding, Utf8PlatformPath, Utf8PlatformPathBuf};
 use crate::utf8::reading::{Utf8Piece, Utf8Reading};
-use crate::utf8::unix::{Utf8UnixEncoding, Utf8UnixPathBuf};
+use crate::utf8::unix::{
+    Utf8PlatformEncoding, Utf8PlatformPath, Utf8PlatformPathBuf, Utf8UnixEncoding, Utf8UnixPathBuf,
+};
 use crate::utf8::windows::{Utf8WindowsEncoding, Utf8WindowsPathBuf};
 use std::alloc::{AllocError, Global};
 use std::cmp::Ordering;
-use std::str;
+use std::iter::FusedIterator;
 use std::str::Utf8Error;
+use std::{fmt, str};
 
 /// A path that is a text: a text, with the encoding by which it is read.
 ///
@@ -565,5 +567,87 @@ impl<'a, T: Utf8Encoding> IntoIterator for Utf8Path<'a, T> {
 
     fn into_iter(self) -> Utf8Iter<'a, T> {
         self.iter()
+    }
+}
+
+/// Prints the text.
+impl<'a, T: Utf8Encoding> fmt::Display for Utf8Path<'a, T> {
+    ghost use Rattle.typed_path.specs.views.TextViews.{utf8_bytes};
+
+    ghost output = { λ path. Some (utf8_bytes path) };
+
+    fn fmt<W: fmt::Write>(&self, f: &mut fmt::Formatter<W>) -> fmt::Result {
+        f.pad(self.as_str())
+    }
+}
+
+impl<'a, T: Utf8Encoding> fmt::Debug for Utf8Path<'a, T> {
+    fn fmt<W: fmt::Write>(&self, f: &mut fmt::Formatter<W>) -> fmt::Result {
+        f.debug_struct("Utf8Path")
+            .field("_encoding", &T::label())
+            .field("inner", &self.as_str())
+            .finish()
+    }
+}
+
+/// A path of text, and then each parent of the one before.
+pub struct Utf8Ancestors<'a, T: Utf8Encoding> {
+    inner: Ancestors<'a, T::Bytes>,
+    ghost is_text: { are_texts (ancestors_left inner) ≡ true },
+}
+
+impl<'a, T: Utf8Encoding> Clone for Utf8Ancestors<'a, T> {
+    ghost is_clone = { λ ancestors copy. copy ≡ ancestors };
+
+    ghost is_infallible = { λ ancestors. ⊤ };
+
+    #[inline(always)]
+    fn clone(&self) -> Result<Utf8Ancestors<'a, T>, AllocError> {
+        Ok(*self)
+    }
+}
+
+impl<'a, T: Utf8Encoding> Copy for Utf8Ancestors<'a, T> {}
+
+impl<'a, T: Utf8Encoding> Utf8Ancestors<'a, T> {
+    ghost use Rattle.typed_path.specs.views.TextViews.{utf8_bytes};
+    ghost use Rattle.typed_path.specs.views.TextAncestorViews.{utf8_ancestors_left};
+
+    /// The path and those above it.
+    #[inline(always)]
+    pub(super) fn new(path: Utf8Path<'a, T>) -> Utf8Ancestors<'a, T>
+        ensures { utf8_ancestors_left result
+            ≡ ancestors_of T.Bytes.dialect (utf8_bytes path.entry) }
+    {
+        Utf8Ancestors {
+            inner: path.as_bytes_path().ancestors(),
+        }
+    }
+}
+
+impl<'a, T: Utf8Encoding> Iterator for Utf8Ancestors<'a, T> {
+    ghost use Rattle.typed_path.specs.views.TextViews.{utf8_bytes};
+    ghost use Rattle.typed_path.specs.views.TextAncestorViews.{utf8_ancestors_left};
+
+    type Item = Utf8Path<'a, T>;
+
+    ghost next_gives = { YieldsFirstBy utf8_bytes utf8_ancestors_left };
+
+    ghost remaining = { item_count utf8_ancestors_left };
+
+    #[inline(always)]
+    fn next(&mut self) -> Option<Utf8Path<'a, T>> {
+        Utf8Path::of_option(self.inner.next())
+    }
+}
+
+impl<'a, T: Utf8Encoding> FusedIterator for Utf8Ancestors<'a, T> {}
+
+impl<'a, T: Utf8Encoding> fmt::Debug for Utf8Ancestors<'a, T> {
+    fn fmt<W: fmt::Write>(&self, f: &mut fmt::Formatter<W>) -> fmt::Result {
+        let mut ancestors = *self;
+        f.debug_struct("Utf8Ancestors")
+            .field("next", &ancestors.next())
+            .finish()
     }
 }

@@ -1,7 +1,7 @@
 //! A path that is a text, owned.
 #![tactic(auto, using(crate::proofs::lemmas::texts::TextChanges::text_laws))]
 
-ghost use Rattle.std.specs.Prelude.{◌≡◌, true, ◌≤◌, ◌+◌, [], length, is_some, max, min, IsSome, None, IfOk, OnOk, OnErr, IsOk, is_ok, IfErr, map, refl};
+ghost use Rattle.std.specs.Prelude.{◌≡◌, true, ◌≤◌, ◌+◌, [], length, is_some, max, min, IsSome, None, IfOk, OnOk, OnErr, IsOk, is_ok, IfErr, map, refl, Some};
 ghost use Rattle.std.specs.Str.{is_utf8};
 ghost use Rattle.std.specs.String.{string_bytes, string_capacity};
 ghost use Rattle.typed_path.specs.changes.{refusal, FitsPush, push_all, IsKnown, fault, popped, without_file_name, with_file_name, with_extension, with_added_extension};
@@ -20,6 +20,7 @@ use crate::utf8::encoding::{Utf8Encoding, string_of};
 use crate::utf8::path::Utf8Path;
 use std::alloc::{AllocError, Global};
 use std::cmp::Ordering;
+use std::fmt;
 use std::hash::{Hash, Hasher};
 use std::marker::Model;
 
@@ -341,6 +342,24 @@ impl<T: Utf8Encoding> Clone for Utf8PathBuf<T> {
 
     fn clone(&self) -> Result<Utf8PathBuf<T>, AllocError> {
         owned!(self.inner.clone())
+    }
+}
+
+/// Prints the text.
+impl<T: Utf8Encoding> fmt::Display for Utf8PathBuf<T> {
+    ghost output = { λ path. Some path.bytes };
+
+    fn fmt<W: fmt::Write>(&self, f: &mut fmt::Formatter<W>) -> fmt::Result {
+        f.pad(self.as_path().as_str())
+    }
+}
+
+impl<T: Utf8Encoding> fmt::Debug for Utf8PathBuf<T> {
+    fn fmt<W: fmt::Write>(&self, f: &mut fmt::Formatter<W>) -> fmt::Result {
+        f.debug_struct("Utf8PathBuf")
+            .field("_encoding", &T::label())
+            .field("inner", &self.as_path().as_str())
+            .finish()
     }
 }
 

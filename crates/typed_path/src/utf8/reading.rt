@@ -203,6 +203,27 @@ impl<'a, T: Utf8Encoding, I: FromPiece<'a, T>> DoubleEndedIterator for Utf8Readi
 
 impl<'a, T: Utf8Encoding, I: FromPiece<'a, T>> FusedIterator for Utf8Reading<'a, T, I> {}
 
+/// What is left of a reading, as a list.
+#[derive_where(Clone, Copy)]
+struct Listed<'a, T: Utf8Encoding, I> {
+    reading: Utf8Reading<'a, T, I>,
+}
+
+impl<'a, T: Utf8Encoding, I: FromPiece<'a, T>> fmt::Debug for Listed<'a, T, I> {
+    fn fmt<W: fmt::Write>(&self, f: &mut fmt::Formatter<W>) -> fmt::Result {
+        f.debug_list().entries(self.reading).finish()
+    }
+}
+
+impl<'a, T: Utf8Encoding, I: FromPiece<'a, T>> fmt::Debug for Utf8Reading<'a, T, I> {
+    fn fmt<W: fmt::Write>(&self, f: &mut fmt::Formatter<W>) -> fmt::Result {
+        let reading = *self;
+        f.debug_tuple(I::ITERATOR)
+            .field(&Listed { reading })
+            .finish()
+    }
+}
+
 /// What a component of a path of text is.
 #[derive(Clone, Copy, Debug, PartialEq, Eq, PartialOrd, Ord, Hash)]
 pub enum Utf8PieceKind<'a> {

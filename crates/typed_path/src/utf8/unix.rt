@@ -1,4 +1,4 @@
-//! Paths of text, written as on Unix: their components, and what is read of them.
+//! Paths of text, written as on Unix: their components, and what is read of them; and those of the machine.
 #![tactic(auto, using(crate::proofs::lemmas::texts::TextChanges::text_laws))]
 
 ghost use Rattle.std.specs.Prelude.{◌≡◌, true, false, codes, Some, is_ok, IfOk, IfErr};
@@ -12,6 +12,7 @@ ghost use Rattle.typed_path.specs.views.ReadingViews.{reading_slice};
 use crate::common::{Encoding, ReadAs, Values};
 use crate::constants::unix::{CURRENT_DIR_STR, PARENT_DIR_STR, SEPARATOR_STR};
 use crate::errors::ParseError;
+use crate::platform::PlatformEncoding;
 use crate::scan::Piece;
 use crate::unix::{UnixComponent, UnixEncoding};
 use crate::utf8::encoding::{Utf8Component, Utf8Encoding, text_of};
@@ -227,3 +228,42 @@ impl<'a> TryFrom<&'a str> for Utf8UnixComponent<'a> {
         }
     }
 }
+
+/// Texts of paths as on the machine.
+#[derive(Clone, Copy, Debug, Default, PartialEq, Eq, PartialOrd, Ord, Hash)]
+pub struct Utf8PlatformEncoding;
+
+/// A path of text that is written as on the machine.
+pub type Utf8PlatformPath<'a> = Utf8Path<'a, Utf8PlatformEncoding>;
+
+/// An owned path of text that is written as on the machine.
+pub type Utf8PlatformPathBuf = Utf8PathBuf<Utf8PlatformEncoding>;
+
+impl Utf8Encoding for Utf8PlatformEncoding {
+    type Bytes = PlatformEncoding;
+
+    ghost IS_PLATFORM = { true };
+
+    const IS_PLATFORM: bool = true;
+}
+
+/// Prints the name of the type.
+impl fmt::Display for Utf8PlatformEncoding {
+    ghost output = { λ _. Some (codes "Utf8PlatformEncoding") };
+
+    fn fmt<W: fmt::Write>(&self, f: &mut fmt::Formatter<W>) -> fmt::Result {
+        f.pad("Utf8PlatformEncoding")
+    }
+}
+
+/// The encoding of texts of the machine's own paths.
+pub type Utf8NativeEncoding = Utf8UnixEncoding;
+
+/// A path of text of the machine's own kind.
+pub type Utf8NativePath<'a> = Utf8UnixPath<'a>;
+
+/// An owned path of text of the machine's own kind.
+pub type Utf8NativePathBuf = Utf8UnixPathBuf;
+
+/// A component of such a path.
+pub type Utf8NativeComponent<'a> = Utf8UnixComponent<'a>;
