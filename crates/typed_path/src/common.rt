@@ -2,7 +2,6 @@
 
 mod components;
 mod encoding;
-mod near;
 mod order;
 mod path;
 mod path_buf;

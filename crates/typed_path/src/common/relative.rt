@@ -1,24 +1,25 @@
-//! The path that leads from a base to another: up to where the two part, and from there down.
+//! The path that leads from a base to another: as the bytes of the two tell, where names alone are left behind
+//! what both begin with; or up to where the two part, and from there down.
 //!
-//! Both are read from the back, as for whether one lies within the other, and so no memory is needed until
-//! the answer is written. That is written from its end too: the last name first and from its last byte, the
-//! parents behind all names, and then the whole is turned round.
+//! There both are read from the back, so no memory is needed until the answer is written. That is written from
+//! its end too: the last name first and from its last byte, the parents behind all names, and then the whole is
+//! turned round.
 
-ghost use Rattle.std.specs.Prelude.{◌≡◌, ◌+◌, ◌*◌, ◌-◌, ◌++◌, ◌∷◌, ◌<◌, ◌≤◌, ◌^◌, ◌==◌, ◌&&◌, not, false, nat_le, [], length, take, drop, reverse, option_map, if◌then◌else◌, None, IfOk, IsOk, OnOk, MatchOption};
+ghost use Rattle.std.specs.Prelude.{◌≡◌, ◌+◌, ◌*◌, ◌-◌, ◌++◌, ◌∷◌, ◌<◌, ◌≤◌, ◌^◌, ◌==◌, ◌&&◌, not, false, nat_le, [], length, take, drop, reverse, option_map, if◌then◌else◌, None, IfOk, IsOk, OnOk, MatchOption, Bool, List, ℕ, Some, IfSome};
 ghost use Rattle.std.specs.Vec.{vec_len, vec_capacity};
-ghost use Rattle.typed_path.specs.components.{kinds, parts, parts_of};
-ghost use Rattle.typed_path.specs.places.{AreSteps, IsLast, bare_separators, can_stand, dots, is_reached, kept_names, names_under, relative_text, row_end, rows_of, shared_count, steps_text};
+ghost use Rattle.typed_path.specs.components.{kinds, parts, parts_of, body, is_separator, is_verbatim};
+ghost use Rattle.typed_path.specs.places.{AreSteps, IsLast, bare_separators, can_stand, dots, is_reached, kept_names, names_under, relative_text, row_end, rows_of, shared_count, steps_text, AreAlone, AreNearSteps, PartInNames, is_anchored, same_heads};
 ghost use Rattle.typed_path.specs.views.BodyViews.{body_items};
 ghost use Rattle.typed_path.specs.views.CursorViews.{items_left};
+ghost use Rattle.std.specs.List.{slice_split};
 
 use crate::common::encoding::Encoding;
-use crate::common::near::{bare_separators, relative_by_bytes};
 use crate::common::order::have_same_prefixes;
 use crate::common::path_buf::PathBuf;
-use crate::common::rows::{put_apart, row_end};
+use crate::common::rows::{put_apart, put_row, put_turned_where, row_end};
 use crate::common::within::{Lead, last_name, lead_of};
 use crate::common::writing::drop_separator;
-use crate::scan::{Body, Cursor, Separators};
+use crate::scan::{Body, Cursor, Separators, cut_at_separator, leading_names, rests_behind_shared};
 use std::alloc::{AllocError, Global};
 
 /// The path that leads from a base to a path, where there is one. It is written into room that is asked
@@ -36,6 +37,209 @@ pub(crate) fn relative_to<T: Encoding>(
         return Ok(Some(told));
     }
     relative_by_components(alloc, path, base)
+}
+
+/// The path that leads from a base to a path, where looks at their bytes tell it. None says nothing.
+#[inline(always)]
+pub(crate) fn relative_by_bytes<T: Encoding>(
+    alloc: Global,
+    path: &[u8],
+    base: &[u8],
+) -> Result<Option<PathBuf<T>>, AllocError>
+    ensures told { IfOk result (λ found. IfSome found
+        (λ p. relative_text T.dialect path.now base.now ≡ Some p.bytes)) }
+    ensures free { relative_text T.dialect path.now base.now ≡ None → IsOk result }
+{
+    match near_steps(T::cursor(path), T::cursor(base), bare_separators::<T>()) {
+        Some(near) => {
+            let room = near
+                .up
+                .saturating_mul(3)
+                .saturating_add(near.rest.len() + 2);
+            let mut text = Vec::with_capacity(alloc, room)?;
+            put_near::<T>(&mut text, near)?;
+            Ok(Some(PathBuf::from_vec(text)))
+        }
+        None => Ok(None),
+    }
+}
+
+/// So many parents, and then the names of a text that is names alone: whether a separator stands behind the last
+/// one too.
+#[derive(Clone, Copy)]
+pub(crate) struct Near<'a> {
+    pub up: usize,
+    rest: &'a [u8],
+    ended: bool,
+}
+
+/// The steps that lead from a base to a path, where the bytes of both tell. None says nothing.
+#[inline(always)]
+pub(crate) fn near_steps<'a>(
+    own: Cursor<'a>,
+    other: Cursor<'a>,
+    separators: Separators,
+) -> Option<Near<'a>>
+    requires { is_verbatim separators ≡ false }
+    ensures { IfSome result (λ near. AreNearSteps separators
+        (kinds (parts (items_left own.entry))) (kinds (parts (items_left other.entry)))
+        near.up near.rest.now near.ended) }
+{
+    if !have_same_heads(own, other) {
+        return None;
+    }
+    near_behind(own.body(), other.body(), separators)
+}
+
+/// Whether two readings begin with the same prefix or none, and with a root or none.
+#[inline(always)]
+fn have_same_heads(own: Cursor<'_>, other: Cursor<'_>) -> bool
+    ensures { result ≡ same_heads (kinds (parts (items_left own.entry)))
+        (kinds (parts (items_left other.entry))) }
+{
+    have_same_prefixes(own.prefix(), other.prefix()) && begins_rooted(own) == begins_rooted(other)
+}
+
+/// Whether a reading begins with a root, written or implied.
+#[inline(always)]
+fn begins_rooted(cursor: Cursor<'_>) -> bool
+    ensures { result ≡ is_anchored (kinds (parts (items_left cursor.entry))) }
+{
+    cursor.has_implicit_root() || cursor.has_physical_root()
+}
+
+/// The same of what two paths have behind the prefix.
+#[inline(always)]
+fn near_behind<'a>(own: Body<'a>, other: Body<'a>, separators: Separators) -> Option<Near<'a>>
+    ensures { IfSome result (λ near. PartInNames separators
+        (kinds (parts (body_items own.entry))) (kinds (parts (body_items other.entry)))
+        near.up near.rest.now near.ended) }
+{
+    if !own.is_whole()
+        || !other.is_whole()
+        || !separators.is_same(own.separators)
+        || !separators.is_same(other.separators)
+    {
+        return None;
+    }
+    near_texts(own.as_bytes(), other.as_bytes(), separators)
+}
+
+/// The same of two texts that are read from their beginnings.
+#[inline(always)]
+fn near_texts<'a>(text: &'a [u8], other: &'a [u8], separators: Separators) -> Option<Near<'a>>
+    ensures { IfSome result (λ near. PartInNames separators
+        (kinds (parts (body separators 0 text.now))) (kinds (parts (body separators 0 other.now)))
+        near.up near.rest.now near.ended) }
+{
+    let (rest, behind) = rests_behind_shared(text, other, separators)?;
+    let up = names_alone(behind, separators)?;
+    let ended = ends_alone(rest, separators)?;
+    Some(Near { up, rest, ended })
+}
+
+/// How many names a text is that is names alone, as looks at its bytes tell. None says nothing.
+#[inline(always)]
+fn names_alone(text: &[u8], separators: Separators) -> Option<usize>
+    ensures { IfSome result (λ count. (ended : Bool) × (names : List (List ℕ))
+        × AreAlone separators text.now ended names × (count ≡ length names)) }
+{
+    let ended = ends_alone(text, separators)?;
+    let ends = count_ends(text, separators);
+    Some(if ended { ends } else { ends + 1 })
+}
+
+/// Whether a separator stands behind the last name too of a text that is names alone, as looks at its bytes tell.
+/// None says nothing.
+#[inline(always)]
+fn ends_alone(text: &[u8], separators: Separators) -> Option<bool>
+    ensures { IfSome result
+        (λ ended. (names : List (List ℕ)) × AreAlone separators text.now ended names) }
+{
+    match leading_names(text, separators.pair()) {
+        None => Some(false),
+        Some(names) if names == text.len() => Some(true),
+        Some(_) => None,
+    }
+}
+
+/// How many separators a text has.
+#[inline(always)]
+fn count_ends(text: &[u8], separators: Separators) -> usize
+    ensures count { result + 1 ≡ length (slice_split (is_separator separators) text.now) }
+    ensures within { result ≤ length text.now }
+{
+    let mut count = 0;
+    let mut rest = text;
+    'ends: while let Some((_, behind)) = cut_at_separator(separators, rest) {
+        count += 1;
+        rest = behind;
+    }
+    count
+}
+
+/// The separators of a text without a prefix.
+#[inline(always)]
+pub(crate) fn bare_separators<T: Encoding>() -> Separators
+    ensures { result ≡ bare_separators T.dialect }
+{
+    if T::root_text() == b"/".as_slice() {
+        Separators::Slash
+    } else {
+        Separators::Either
+    }
+}
+
+/// Puts so many parents and the names of a text into an empty text.
+#[inline(always)]
+fn put_near<T: Encoding>(text: &mut Vec<u8>, near: Near<'_>) -> Result<(), AllocError>
+    requires empty { text.old.items ≡ [] }
+    ensures ok { (names : List (List ℕ))
+        → AreAlone (bare_separators T.dialect) near.entry.rest.now near.entry.ended names
+        → OnOk result (text.new.items ≡ steps_text T.dialect near.entry.up names) }
+    ensures succeeds { near.entry.up * 3 + length near.entry.rest.now + 2 ≤ vec_capacity text.old
+        → IsOk result }
+{
+    let separators = bare_separators::<T>();
+    put_ups(text, near.up, separators)?;
+    put_alone(text, near, separators)?;
+    drop_separator(text, 0);
+    put_apart(text, 0, separators)
+}
+
+/// Puts so many parents behind a text, each with a separator behind it.
+#[inline(always)]
+fn put_ups(text: &mut Vec<u8>, count: usize, separators: Separators) -> Result<(), AllocError>
+    ensures ok { OnOk result
+        (text.new.items ≡ text.old.items ++ rows_of separators (dots count)) }
+    ensures room { OnOk result (vec_len text.new ≤ vec_len text.old + count * 3) }
+    ensures capacity { vec_capacity text.old ≤ vec_capacity text.new }
+    ensures succeeds { vec_len text.old + count * 3 ≤ vec_capacity text.old → IsOk result }
+{
+    'parents: for _ in 0..count {
+        put_row(text, b"..", 2, separators)?;
+    }
+    Ok(())
+}
+
+/// Puts the names of a text that is names alone behind a text, each with a separator behind it.
+#[inline(always)]
+fn put_alone(text: &mut Vec<u8>, near: Near<'_>, separators: Separators) -> Result<(), AllocError>
+    ensures ok { (names : List (List ℕ))
+        → AreAlone separators near.entry.rest.now near.entry.ended names
+        → OnOk result (text.new.items ≡ text.old.items ++ rows_of separators names) }
+    ensures room { OnOk result
+        (vec_len text.new ≤ vec_len text.old + length near.entry.rest.now + 1) }
+    ensures capacity { vec_capacity text.old ≤ vec_capacity text.new }
+    ensures succeeds { vec_len text.old + length near.entry.rest.now < vec_capacity text.old
+        → IsOk result }
+{
+    put_turned_where(text, near.rest, separators)?;
+    if near.ended {
+        return Ok(());
+    }
+    text.push(row_end(separators))?;
+    Ok(())
 }
 
 /// The same, read component by component.
@@ -84,7 +288,7 @@ fn steps_between(own: Cursor<'_>, other: Cursor<'_>) -> Option<Steps>
     }
     let met = met_count(own.body(), other.body(), lead, start);
     let down = lead.names - met;
-    if !all_stand(own.body(), down) {
+    if !can_stand(own.body(), down) {
         return None;
     }
     Some(Steps {
@@ -177,7 +381,7 @@ fn skip(rest: &mut Body<'_>, owed: &mut usize, count: usize)
 
 /// Whether so many of the last names that are kept hold no `/`. None does where that separates.
 #[tactic(auto, using(crate::proofs::lemmas::places::NearSteps::plain_stand))]
-fn all_stand(rest: Body<'_>, count: usize) -> bool
+fn can_stand(mut rest: Body<'_>, count: usize) -> bool
     requires fits { length (body_items rest) < 2 ^ 64 }
     requires count { count ≤ length (kept_names (kinds (parts (body_items rest)))) }
     ensures { result ≡ can_stand (drop
@@ -187,17 +391,6 @@ fn all_stand(rest: Body<'_>, count: usize) -> bool
     if !rest.separators.is_verbatim() {
         return true;
     }
-    can_stand(rest, count)
-}
-
-/// The same, read name by name.
-fn can_stand(mut rest: Body<'_>, count: usize) -> bool
-    requires fits { length (body_items rest) < 2 ^ 64 }
-    requires count { count ≤ length (kept_names (kinds (parts (body_items rest)))) }
-    ensures { result ≡ can_stand (drop
-        (length (kept_names (kinds (parts (body_items rest.entry)))) - count)
-        (kept_names (kinds (parts (body_items rest.entry))))) }
-{
     let mut owed = 0;
     'names: for _ in 0..count {
         if let Some(name) = last_name(&mut rest, &mut owed) {

@@ -68,17 +68,6 @@ fn replaced(alloc: Global, bytes: &[u8]) -> Result<String, AllocError>
     Ok(text)
 }
 
-/// Writes bytes as a text, with U+FFFD where they are none.
-fn write_lossy<W: fmt::Write>(bytes: &[u8], f: &mut fmt::Formatter<W>) -> fmt::Result {
-    for chunk in bytes.utf8_chunks() {
-        f.write_str(chunk.valid())?;
-        if !chunk.invalid().is_empty() {
-            f.write_str("\u{FFFD}")?;
-        }
-    }
-    Ok(())
-}
-
 /// Writes the path's text, with U+FFFD where its bytes are none.
 impl<'a, T: Encoding> fmt::Display for Path<'a, T> {
     ghost output = { λ path. text_of_bytes (path_bytes path) };
@@ -86,7 +75,15 @@ impl<'a, T: Encoding> fmt::Display for Path<'a, T> {
     fn fmt<W: fmt::Write>(&self, f: &mut fmt::Formatter<W>) -> fmt::Result {
         match self.to_str() {
             Some(text) => f.pad(text),
-            None => write_lossy(self.as_bytes(), f),
+            None => {
+                for chunk in self.as_bytes().utf8_chunks() {
+                    f.write_str(chunk.valid())?;
+                    if !chunk.invalid().is_empty() {
+                        f.write_str("\u{FFFD}")?;
+                    }
+                }
+                Ok(())
+            }
         }
     }
 }

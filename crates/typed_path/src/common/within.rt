@@ -15,9 +15,9 @@ ghost use Rattle.typed_path.specs.queries.{IsSharedEnd, shared_end};
 ghost use Rattle.typed_path.specs.views.PathViews.{path_bytes};
 
 use crate::common::encoding::Encoding;
-use crate::common::near::{bare_separators, near_steps};
 use crate::common::order::have_same_prefixes;
 use crate::common::path::Path;
+use crate::common::relative::{bare_separators, near_steps};
 use crate::scan::{Body, Cursor, StepKind, shared_front};
 
 /// Whether a path lies at a base or below it. Where bytes tell the steps from the base to it, it does
@@ -207,15 +207,8 @@ fn shared_by_bytes(own: Cursor<'_>, other: Cursor<'_>) -> Option<usize>
     if own.has_prefix() || other.has_prefix() {
         return None;
     }
-    shared_of_bodies(own.body(), other.body())
-}
-
-/// The same of what they have behind none.
-#[inline(always)]
-fn shared_of_bodies(own: Body<'_>, other: Body<'_>) -> Option<usize>
-    ensures { IfSome result
-        (λ end. IsSharedEnd (body_items own.entry) (body_items other.entry) end) }
-{
+    let own = own.body();
+    let other = other.body();
     let separators = own.separators;
     if !own.is_whole() || !other.is_whole() || !separators.is_same(other.separators) {
         return None;

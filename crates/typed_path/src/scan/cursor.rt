@@ -68,30 +68,6 @@ impl<'a> Cursor<'a> {
         }
     }
 
-    /// A reading of a whole text that begins with a prefix.
-    #[inline(always)]
-    pub(crate) fn with_prefix(
-        text: &'a [u8],
-        prefix: Found<'a>,
-        separators: Separators,
-    ) -> Cursor<'a>
-        requires { prefix.length ≤ length text.now }
-        ensures slice { slice_left result ≡ text.now }
-        ensures items { items_left result ≡ component (prefix_part (prefix_view prefix.entry.kind)
-            (take prefix.entry.length text.now)) 0
-            ++ body separators prefix.entry.length (drop prefix.entry.length text.now) }
-        ensures separators { cursor_separators result ≡ separators }
-    {
-        Cursor {
-            text,
-            from: prefix.length,
-            to: text.len(),
-            prefix: Some(prefix),
-            begin: Begin::Body,
-            separators,
-        }
-    }
-
     /// A reading of a whole text of Windows.
     #[inline(always)]
     pub(crate) fn of_windows(text: &'a [u8]) -> Cursor<'a>
@@ -100,7 +76,14 @@ impl<'a> Cursor<'a> {
         ensures dialect { dialect_of (cursor_separators result) ≡ windows }
     {
         match find_prefix(text) {
-            Some(found) => Cursor::with_prefix(text, found, Separators::of_windows(text)),
+            Some(found) => Cursor {
+                text,
+                from: found.length,
+                to: text.len(),
+                prefix: Some(found),
+                begin: Begin::Body,
+                separators: Separators::of_windows(text),
+            },
             None => Cursor::new(text, Separators::Either),
         }
     }

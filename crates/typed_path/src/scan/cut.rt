@@ -295,21 +295,12 @@ fn order_of_dots(text: &[u8], other: &[u8], separators: Separators) -> Option<Or
     match own.cmp(wanted) {
         Ordering::Less if *own == b'.' => Some(Ordering::Less),
         Ordering::Greater if *wanted == b'.' => Some(Ordering::Greater),
-        Ordering::Equal if *own == b'.' => order_of_ranks(text, other, separators),
+        Ordering::Equal if *own == b'.' => {
+            let order = front_rank(text, separators).cmp(&front_rank(other, separators));
+            if order.is_ne() { Some(order) } else { None }
+        }
         _ => None,
     }
-}
-
-/// The order of two texts that begin with no separator, where their first segments are of two ranks: `.`, `..` and
-/// names. None says nothing.
-#[inline(always)]
-fn order_of_ranks(text: &[u8], other: &[u8], separators: Separators) -> Option<Ordering>
-    ensures { IfSome result (λ order. (is_ne order ≡ true)
-        × (nat_cmp (dots_rank (before_first (is_separator separators) text.now))
-        (dots_rank (before_first (is_separator separators) other.now)) ≡ order)) }
-{
-    let order = front_rank(text, separators).cmp(&front_rank(other, separators));
-    if order.is_ne() { Some(order) } else { None }
 }
 
 /// The rank of the first segment of a text: that of `.`, of `..`, or of all others. No more than three bytes tell.

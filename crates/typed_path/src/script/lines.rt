@@ -33,7 +33,10 @@ pub fn answer_line<'a>(
         replies.old.items replies.new.items) }
 {
     let Some((command, rest)) = command_of(input) else {
-        return answer_bare_line(input, replies);
+        return match text_behind(b"derive\t", input) {
+            Some(texts) => answer_derive(texts, replies),
+            None => answer_bad_line(input, replies),
+        };
     };
     if let Some(texts) = text_behind(b"unix\t", rest) {
         return answer_texts::<UnixEncoding>(command, texts, replies);
@@ -42,20 +45,6 @@ pub fn answer_line<'a>(
         return answer_texts::<WindowsEncoding>(command, texts, replies);
     }
     answer_bad_line(rest, replies)
-}
-
-/// Answers a line that names no encoding.
-fn answer_bare_line<'a>(
-    input: &'a [u8],
-    replies: &mut Vec<u8>,
-) -> Result<Option<&'a [u8]>, AllocError>
-    ensures { IfOk result (λ left. AnswersFirst (λ line. reply_line (bare_reply (fields_of line)))
-        input.now (option_map (λ t. t.now) left) replies.old.items replies.new.items) }
-{
-    match text_behind(b"derive\t", input) {
-        Some(texts) => answer_derive(texts, replies),
-        None => answer_bad_line(input, replies),
-    }
 }
 
 /// Answers which encoding a path looks like.
@@ -261,31 +250,14 @@ pub fn put_pair_reply<T: Encoding>(
             Ok(()) => put_joined::<T>(first, path.as_bytes(), replies),
             Err(refusal) => put_refusal(refusal, replies),
         },
-        Command::Convert | Command::ConvertChecked => {
-            put_convert_reply::<T>(command, first, path, replies)
+        Command::Convert | Command::ConvertChecked if first == b"unix".as_slice() => {
+            put_conversion::<T, UnixEncoding>(command, path, replies)
         }
-        Command::Normalize | Command::Components => put_bad_line(replies),
+        Command::Convert | Command::ConvertChecked if first == b"windows".as_slice() => {
+            put_conversion::<T, WindowsEncoding>(command, path, replies)
+        }
+        _ => put_bad_line(replies),
     }
-}
-
-/// Puts the reply to a conversion behind others, by the name of the encoding.
-fn put_convert_reply<T: Encoding>(
-    command: Command,
-    target: &[u8],
-    path: Span<'_>,
-    replies: &mut Vec<u8>,
-) -> Result<(), AllocError>
-    ensures { OnOk result (replies.new.items ≡ replies.old.items ++ reply_line (in_named
-        (convert_reply_in T.dialect (command_name command) (span_bytes path.entry))
-        (dialect_named target.now))) }
-{
-    if target == b"unix".as_slice() {
-        return put_conversion::<T, UnixEncoding>(command, path, replies);
-    }
-    if target == b"windows".as_slice() {
-        return put_conversion::<T, WindowsEncoding>(command, path, replies);
-    }
-    put_bad_line(replies)
 }
 
 /// Puts the reply to a conversion into an encoding behind others.

@@ -2,7 +2,7 @@
 
 ghost use Rattle.std.specs.Prelude.{◌≡◌, ◌≤◌, ◌+◌, ◌++◌, map, length, OnOk, OnErr, IfOk, IsOk, option_map};
 ghost use Rattle.std.specs.Vec.{vec_len, vec_capacity};
-ghost use Rattle.typed_path.specs.changes.{step, text_after, push_checked_op, FitsEach, FitsStep, FitsAll};
+ghost use Rattle.typed_path.specs.changes.{step, text_after, FitsEach, FitsStep, FitsAll};
 ghost use Rattle.typed_path.specs.views.RunViews.{operation_of, operations_of, response_of, responses_of, IsPartDone, AreTaken, StopsAt};
 ghost use Rattle.typed_path.specs.views.PieceViews.{part_of};
 ghost use Rattle.typed_path.specs.views.PathViews.{components_items, components_slice};
@@ -93,7 +93,11 @@ fn apply<T: Encoding>(path: &mut PathBuf<T>, operation: PathOp<'_>) -> Result<Re
 {
     match operation {
         PathOp::Push(other) => path.push(Path::new(other))?,
-        PathOp::PushChecked(other) => return apply_checked(path, other),
+        PathOp::PushChecked(other) => match path.push_checked(Path::new(other)) {
+            Ok(()) => {}
+            Err(PathError::Checked(refusal)) => return Ok(Reply::Refused(refusal)),
+            Err(PathError::OutOfMemory) => return Err(AllocError),
+        },
         PathOp::Pop => return Ok(Reply::Flag(path.pop())),
         PathOp::SetFileName(name) => path.set_file_name(name)?,
         PathOp::SetExtension(extension) => {
@@ -103,24 +107,6 @@ fn apply<T: Encoding>(path: &mut PathBuf<T>, operation: PathOp<'_>) -> Result<Re
         PathOp::Extend(others) => push_each(path, others)?,
     }
     Ok(Reply::Done)
-}
-
-/// Pushes a path that may be refused.
-fn apply_checked<T: Encoding>(path: &mut PathBuf<T>, other: &[u8]) -> Result<Reply, AllocError>
-    ensures path { OnOk result
-        (path.new.bytes ≡ (step T.dialect path.old.bytes (push_checked_op other.now)).0) }
-    ensures reply { IfOk result (λ reply. response_of reply
-        ≡ (step T.dialect path.old.bytes (push_checked_op other.now)).1) }
-    ensures memory { OnErr result (path.new.bytes ≡ path.old.bytes) }
-    ensures capacity { path.old.capacity ≤ path.new.capacity }
-    ensures succeeds { FitsStep T.dialect path.old.capacity path.old.bytes
-        (push_checked_op other.now) → IsOk result }
-{
-    match path.push_checked(Path::new(other)) {
-        Ok(()) => Ok(Reply::Done),
-        Err(PathError::Checked(refusal)) => Ok(Reply::Refused(refusal)),
-        Err(PathError::OutOfMemory) => Err(AllocError),
-    }
 }
 
 /// Pushes paths of these bytes one by one. Where memory is refused, those before it stay pushed.

@@ -4,7 +4,7 @@
 ghost use Rattle.std.specs.Prelude.{◌≡◌};
 ghost use Rattle.typed_path.specs.components.{unix, windows};
 ghost use Rattle.typed_path.specs.conversions.{same_dialect};
-ghost use Rattle.typed_path.specs.typed.{typed_dialect, of_held, kind_dialect, derived_dialect, looks_like_windows};
+ghost use Rattle.typed_path.specs.typed.{typed_dialect, of_held, kind_dialect, derived_dialect};
 
 use crate::scan::find_prefix;
 use std::fmt;
@@ -142,14 +142,6 @@ pub enum PathType {
     Windows,
 }
 
-/// Whether a text begins with a backslash, or with a prefix of Windows.
-#[inline]
-fn looks_like_windows(text: &[u8]) -> bool
-    ensures { result ≡ looks_like_windows text.now }
-{
-    matches!(text, [b'\\', ..]) || find_prefix(text).is_some()
-}
-
 impl PathType {
     /// The kind that a text looks like: Windows where it begins with `\` or with a prefix of Windows,
     /// and else Unix.
@@ -158,7 +150,7 @@ impl PathType {
     pub fn derive(text: &[u8]) -> PathType
         ensures { kind_dialect result ≡ derived_dialect text.now }
     {
-        if looks_like_windows(text) {
+        if matches!(text, [b'\\', ..]) || find_prefix(text).is_some() {
             PathType::Windows
         } else {
             PathType::Unix

@@ -1,7 +1,7 @@
 use Rattle.std.proofs.Common.{◌≡◌, ◌≤◌, ◌+◌, length}
 use Rattle.std.specs.List.{slice_split}
 use Rattle.typed_path.specs.components.{is_separator}
-use Rattle.typed_path.proofs.common.near.count_ends.Given as goal
+use Rattle.typed_path.proofs.common.relative.count_ends.Given as goal
 
 abbrev pub invariant-ends : goal.invariant-ends
 invariant-ends l = record {

@@ -2,7 +2,7 @@ use Rattle.std.proofs.Common.{◌≡◌, ◌++◌, ap, arith, length, subst, sym
 use Rattle.std.proofs.lemmas.Result.{on_ok_weaker}
 use Rattle.typed_path.specs.places.{AreAlone, dots, rows_of}
 use Rattle.typed_path.proofs.lemmas.places.TakenNames.{rows-steps, unended-size}
-use Rattle.typed_path.proofs.common.near.put_near.Goals as goal
+use Rattle.typed_path.proofs.common.relative.put_near.Goals as goal
 
 pub returns-in_err-put_ups-clause-succeeds : goal.returns-in_err-put_ups-clause-succeeds
 returns-in_err-put_ups-clause-succeeds g c = λ fits. absurd (true≢false (sym {a = false} (c.in_err-put_ups.ensures.succeeds (omega (arith, fits, ap length c.requires.empty)))))

@@ -1,6 +1,6 @@
 use Rattle.std.proofs.Common.{◌≡◌, ◌≤◌, ◌+◌, ◌*◌, ◌++◌, vec_len, vec_capacity}
 use Rattle.typed_path.specs.places.{dots, rows_of}
-use Rattle.typed_path.proofs.common.near.put_ups.Given as goal
+use Rattle.typed_path.proofs.common.relative.put_ups.Given as goal
 
 abbrev pub invariant-parents : goal.invariant-parents
 invariant-parents l = record {

@@ -1,4 +1,4 @@
-use Rattle.typed_path.proofs.common.near.near_texts.Goals as goal
+use Rattle.typed_path.proofs.common.relative.near_texts.Goals as goal
 
 pub returns : goal.returns
 returns c =

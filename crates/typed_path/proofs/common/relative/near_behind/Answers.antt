@@ -4,7 +4,7 @@ use Rattle.typed_path.specs.components.{body, kinds, parts}
 use Rattle.typed_path.specs.places.{PartInNames}
 use Rattle.typed_path.specs.views.BodyViews.{body_items}
 use Rattle.typed_path.proofs.lemmas.order.SharedNames.{whole-body}
-use Rattle.typed_path.proofs.common.near.near_behind.Goals as goal
+use Rattle.typed_path.proofs.common.relative.near_behind.Goals as goal
 
 pub returns : goal.returns
 returns c =

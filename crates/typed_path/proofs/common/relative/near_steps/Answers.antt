@@ -5,7 +5,7 @@ use Rattle.typed_path.specs.views.BodyViews.{body_items}
 use Rattle.typed_path.specs.views.CursorViews.{items_left}
 use Rattle.typed_path.proofs.lemmas.places.KeptFromBack.{kept_behind_prefix, unmet_behind_prefix}
 use Rattle.typed_path.proofs.lemmas.places.NearSteps.{near-steps}
-use Rattle.typed_path.proofs.common.near.near_steps.Goals as goal
+use Rattle.typed_path.proofs.common.relative.near_steps.Goals as goal
 
 pub returns : goal.returns
 returns c =

@@ -2,7 +2,7 @@ use Rattle.std.proofs.Common.{◌++◌, ap, append-nil, arith, sym, ◌∙◌}
 use Rattle.std.proofs.lemmas.List.{drop_all}
 use Rattle.typed_path.proofs.lemmas.components.Segments.{pieces}
 use Rattle.typed_path.proofs.lemmas.places.CleanRows.{told-before, told-whole}
-use Rattle.typed_path.proofs.common.near.ends_alone.Goals as goal
+use Rattle.typed_path.proofs.common.relative.ends_alone.Goals as goal
 
 pub returns-in-None : goal.returns-in-None
 returns-in-None c =

@@ -1,6 +1,6 @@
 use Rattle.std.proofs.Common.{true, false}
 use Rattle.typed_path.proofs.lemmas.places.NearSteps.{alone-count}
-use Rattle.typed_path.proofs.common.near.names_alone.Goals as goal
+use Rattle.typed_path.proofs.common.relative.names_alone.Goals as goal
 
 pub returns-then-ended : goal.returns-then-ended
 returns-then-ended c =

@@ -1,5 +1,5 @@
 use Rattle.std.proofs.Common.{length, ap, arith}
-use Rattle.typed_path.proofs.common.near.count_ends.Goals as goal
+use Rattle.typed_path.proofs.common.relative.count_ends.Goals as goal
 
 pub ends-preserved : goal.ends-preserved
 ends-preserved c = record {

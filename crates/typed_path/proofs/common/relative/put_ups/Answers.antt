@@ -2,7 +2,7 @@ use Rattle.std.proofs.Common.{◌++◌, ◌∷◌, [], ap, sym, ◌∙◌, appen
 use Rattle.typed_path.specs.components.{dot}
 use Rattle.typed_path.specs.places.{row_end}
 use Rattle.typed_path.proofs.lemmas.places.NearSteps.{ups-more}
-use Rattle.typed_path.proofs.common.near.put_ups.Goals as goal
+use Rattle.typed_path.proofs.common.relative.put_ups.Goals as goal
 
 pub parents-init : goal.parents-init
 parents-init c = record {
