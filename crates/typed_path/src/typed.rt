@@ -1,6 +1,4 @@
 //! Paths whose dialect is chosen when the program runs.
-//!
-//! Each value is one of Unix or one of Windows, and each call is that of the value which it holds.
 
 mod path;
 mod path_buf;

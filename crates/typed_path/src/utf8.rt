@@ -1,8 +1,4 @@
-//! Paths that are texts.
-//!
-//! A path of text holds the path of its bytes, and what is known of it: that these are UTF-8. Each
-//! call is the one of that path. What comes of it is a text again, as the lemmas of `texts` say, and
-//! is taken as one without a look at its bytes.
+//! Paths that are texts: each holds the path of its bytes, whose calls it forwards to.
 
 mod encoding;
 mod path;

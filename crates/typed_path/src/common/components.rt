@@ -1,7 +1,5 @@
 //! What is read of a path: its components from either end, as pieces, texts or values of their own, and
 //! the paths above it; and what a component is asked.
-//!
-//! `Reading` is the one struct for all of them, and `ReadAs` says what it gives for each component.
 
 ghost use Rattle.std.specs.Prelude.{◌≡◌, ℕ, List, option_map, codes, ⊤, Some, true, drop, slice_get, ◌==◌, [], ◌∷◌, length};
 ghost use Rattle.typed_path.specs.components.{Part, parts, Placed, end_of, kinds, written, as_written, comps, Dialect, root_of, dot, root as root_kind, parent as parent_kind, current as current_kind, is_name, is_parent, is_current};

@@ -1,8 +1,5 @@
 //! Equality and order of paths, by their components, and what a path feeds to a hasher; and the
 //! traits of std for paths and for what is left of them, which are read off these.
-//!
-//! Prefixes come first, so that the loops over the other components hold none. The loops stand in
-//! functions that are generic over the encoding, which build each step in for its separators.
 
 ghost use Rattle.std.specs.Prelude.{◌≡◌, ◌&&◌, List, ◌∷◌, None, option_map, fold, refl};
 ghost use Rattle.typed_path.specs.scan.{PartAt};

@@ -1,9 +1,5 @@
-//! The path that leads from a base to another: as the bytes of the two tell, where names alone are left behind
-//! what both begin with; or up to where the two part, and from there down.
-//!
-//! There both are read from the back, so no memory is needed until the answer is written. That is written from
-//! its end too: the last name first and from its last byte, the parents behind all names, and then the whole is
-//! turned round.
+//! The path that leads from a base to another: as the bytes of the two tell, or name by name from the back.
+//! What is read so is written from its end too, and then turned round.
 
 ghost use Rattle.std.specs.Prelude.{◌≡◌, ◌+◌, ◌*◌, ◌-◌, ◌++◌, ◌∷◌, ◌<◌, ◌≤◌, ◌^◌, ◌==◌, ◌&&◌, not, false, nat_le, [], length, take, drop, reverse, option_map, if◌then◌else◌, None, IfOk, IsOk, OnOk, MatchOption, Bool, List, ℕ, Some, IfSome};
 ghost use Rattle.std.specs.Vec.{vec_len, vec_capacity};
@@ -216,7 +212,7 @@ fn put_ups(text: &mut Vec<u8>, count: usize, separators: Separators) -> Result<(
     ensures capacity { vec_capacity text.old ≤ vec_capacity text.new }
     ensures succeeds { vec_len text.old + count * 3 ≤ vec_capacity text.old → IsOk result }
 {
-    'parents: for _ in 0..count {
+    'ups: for _ in 0..count {
         put_row(text, b"..", 2, separators)?;
     }
     Ok(())

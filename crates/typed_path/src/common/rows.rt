@@ -1,9 +1,5 @@
-//! Parents and names in rows behind a text, and the clean text of a path, which is made of them.
-//!
-//! Each name is put behind the ones before it with a separator behind it, and a `..` takes the last one off
-//! again. One that finds no name is dropped where the path is anchored; else it is put too, and from there on
-//! the names begin behind it. What would be read as a prefix, where there is no head, is put behind `.` at the
-//! end.
+//! Parents and names in rows behind a text, each with a separator behind it, and the clean text of a path, which
+//! is made of them.
 
 ghost use Rattle.std.specs.Prelude.{◌≡◌, ◌<◌, ◌≤◌, ◌+◌, ◌++◌, ◌∷◌, List, ℕ, [], take, length, IfOk, IsOk, OnOk, OnErr, MatchOption, ◌||◌, false, drop, is_some, if◌then◌else◌, Some};
 ghost use Rattle.std.specs.List.{slice_split};

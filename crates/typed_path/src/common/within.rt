@@ -1,8 +1,6 @@
-//! Whether a path lies at another or below it, and what two paths begin with: as their bytes tell, or read
-//! component by component.
+//! Whether a path lies at another or below it, and what two paths begin with.
 //!
-//! The names of each that no parent takes away are read from the back: such a reading owes each parent a
-//! name, so it needs one number and no memory. The first one counts, the second one compares.
+//! Names are read from the back, where each parent is owed one: so one number and no memory is needed.
 
 ghost use Rattle.std.specs.Prelude.{◌≡◌, ◌+◌, ◌++◌, ◌∷◌, ◌<◌, ◌≤◌, ◌^◌, ◌&&◌, ◌==◌, not, nat_le, [], length, MatchOption, ℕ, IfSome, if◌then◌else◌};
 ghost use Rattle.std.specs.List.{starts_with};

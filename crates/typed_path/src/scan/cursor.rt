@@ -1,8 +1,4 @@
 //! A reading of a text from both ends.
-//!
-//! `Cursor` reads a whole text, and knows of its prefix. `Body` is what is left behind the prefix, for
-//! loops that have taken it. `Span` is the first bytes of a text that goes on, which either may be
-//! read off.
 
 ghost use Rattle.std.specs.Prelude.{◌≡◌, ◌≤◌, ◌-◌, length, slice_range, true, [], ◌++◌, take, drop, option_map, Some, None, IfSome, IfNone, IsTrue};
 ghost use Rattle.typed_path.specs.components.{prefix_part, body, comps, component, Placed, end_of, kinds, parts, windows, dialect_of, later_body};

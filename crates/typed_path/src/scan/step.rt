@@ -1,6 +1,4 @@
 //! Components as a reading gives them, and one step of a reading off a plain slice.
-//!
-//! `Piece` and `Step` come first, then a step from either end, and then one step of judging a path.
 
 ghost use Rattle.std.specs.Prelude.{◌≡◌, ◌≤◌, ◌<◌, ◌+◌, ◌++◌, ◌||◌, ℕ, true, not, take, drop, length, IfSome, IfNone, ◌^◌, List, ◌∷◌, IfOk, IsTrue, ◌==◌};
 ghost use Rattle.std.specs.List.{position_or_len};

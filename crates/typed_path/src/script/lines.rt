@@ -1,6 +1,4 @@
 //! A line of commands, taken off the front of an input, and its reply.
-//!
-//! `answer_line` and what it calls take the line apart; behind them stands what puts each reply.
 
 ghost use Rattle.std.specs.Prelude.{◌≡◌, [], ◌∷◌, ◌++◌, Some, take, length, OnOk, option_map, ◌≢◌, ℕ, List, codes, MatchOption, IfOk, IfSome, IfNone};
 ghost use Rattle.std.specs.Option.{option_to_list};

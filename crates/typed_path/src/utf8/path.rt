@@ -1,4 +1,4 @@
-//! A path that is a text, lent; and it with the paths above it.
+//! A path that is a text, lent, and those above it.
 #![tactic(auto, using(crate::proofs::lemmas::texts::TextChanges::text_laws))]
 
 ghost use Rattle.std.specs.Prelude.{◌≡◌, true, ⊤, not, option_map, is_ok, IfOk, IfErr, option_copied, [], IsOk, Ok, Err, Some, None};

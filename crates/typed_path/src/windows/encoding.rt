@@ -94,8 +94,6 @@ impl Encoding for WindowsEncoding {
         behind(path, base)
     }
 
-    // Where the first bytes tell that the two begin otherwise, no prefix is read. Where these are one, a prefix that
-    // both have is looked for first.
     #[inline]
     fn strip_by_bytes<'a>(path: &'a [u8], base: &[u8]) -> Option<Option<&'a [u8]>> {
         let ([own, ..], [wanted, ..]) = (path, base) else {
@@ -179,7 +177,6 @@ impl Encoding for WindowsEncoding {
         put_normal(text, path)
     }
 
-    // Looks at the bytes tell of most paths; the others are read.
     fn check(path: &[u8]) -> Result<(), CheckedPathError> {
         match judged_by_looks(path) {
             Some(judged) => judged,
@@ -390,23 +387,11 @@ fn begins_with_prefix(text: &[u8], path: &[u8], shared: usize, found: Found<'_>)
     if shared < end || path.len() <= end || text.len() <= end {
         return false;
     }
-    if !stays_before_parted(found.kind) {
-        return false;
+    match found.kind {
+        // Neither stays what it is before what is put apart there.
+        WindowsPrefix::Disk(_) | WindowsPrefix::Verbatim(b"UNC") => false,
+        _ => Separators::of_windows(path).contains(text[end]),
     }
-    Separators::of_windows(path).contains(text[end])
-}
-
-/// Whether a prefix stays what it is, whatever is put apart in the place of what stands behind it. False
-/// says nothing.
-#[inline(always)]
-fn stays_before_parted(prefix: WindowsPrefix<'_>) -> bool
-    ensures { IsTrue result → (is_disk (prefix_view prefix.entry) ≡ false)
-        × (is_verbatim_unc_name (Some (prefix_view prefix.entry)) ≡ false) }
-{
-    !matches!(
-        prefix,
-        WindowsPrefix::Disk(_) | WindowsPrefix::Verbatim(b"UNC")
-    )
 }
 
 /// What a path is judged by looks at its bytes. None says nothing.

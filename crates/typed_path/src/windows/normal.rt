@@ -325,7 +325,10 @@ fn push_heads<'a>(
     let mut components = Cursor::of_windows(path);
     'pieces: while let Some(piece) = components.front() {
         match piece.kind {
-            PieceKind::Prefix(_) | PieceKind::RootDir => push_head(text, start, piece.text)?,
+            PieceKind::Prefix(_) | PieceKind::RootDir => {
+                let len = text.len();
+                push_at(text, start, len, piece.text, None)?;
+            }
             PieceKind::CurDir => {}
             PieceKind::ParentDir => {
                 names.pop();
@@ -334,19 +337,6 @@ fn push_heads<'a>(
         }
     }
     Ok(names)
-}
-
-/// Pushes a prefix or a root onto what stands behind the first bytes of a text.
-fn push_head(text: &mut Vec<u8>, start: usize, other: &[u8]) -> Result<(), AllocError>
-    requires { start ≤ length text.old.items }
-    ensures ok { OnOk result
-        (drop start text.new.items ≡ push_windows (drop start text.old.items) other.now) }
-    ensures kept { take start text.new.items ≡ take start text.old.items }
-    ensures long { start ≤ length text.new.items }
-    ensures capacity { vec_capacity text.old ≤ vec_capacity text.new }
-{
-    let len = text.len();
-    push_at(text, start, len, other, None)
 }
 
 /// How many bytes a path has at least that Windows takes only behind `\\?\`, with these four.

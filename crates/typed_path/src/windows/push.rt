@@ -1,7 +1,4 @@
 //! A path of Windows pushed onto another.
-//!
-//! `push_at` puts it behind most bases. A base with a verbatim prefix is spelled anew: in place where it
-//! stands as it would be spelled, which `spelled_head` tells and `push_next` remembers, by `merge_at`.
 
 ghost use Rattle.std.specs.Prelude.{◌≡◌, ◌≤◌, ◌+◌, ◌++◌, ℕ, List, IsTrue, true, false, take, drop, slice_range, length, IfOk, IsOk, OnOk, OnErr, ◌||◌, Some, ◌<◌, ◌∷◌, [], Bool, IfSome};
 ghost use Rattle.std.specs.Vec.{vec_capacity, vec_len};
