@@ -1,7 +1,6 @@
 //! Paths in another encoding, with and without checks, and paths made absolute.
 
 ghost use Rattle.std.specs.Prelude.{◌<◌, ◌≡◌, ◌≤◌, ◌+◌, ◌++◌, ℕ, [], ◌∷◌, map, option_map, take, drop, length, IsTrue, IsOk, IfSome, IfOk, OnOk, OnErr, Result, Ok, Err, Some, None, true, false, if◌then◌else◌};
-ghost use Rattle.std.specs.Option.{option_to_list};
 ghost use Rattle.std.specs.Vec.{vec_capacity};
 ghost use Rattle.typed_path.specs.declared.errors.CheckedPathError.{CheckedPathError};
 ghost use Rattle.typed_path.specs.components.{parts_of, kinds, unix, windows, is_separator, is_verbatim, separators, slash, backslash};
@@ -319,36 +318,15 @@ fn push_each<T: Encoding, U: Encoding>(
         (map (crossed U.dialect) (parts_of T.dialect (span_bytes path.entry))) → IsOk result }
 {
     let cursor = T::cursor(path.as_bytes()).within(path);
-    let mut known = put_prefix::<U>(text, cursor.prefix_piece())?;
+    let mut known = match cursor.prefix_piece() {
+        Some(piece) => U::push_next(text, start, piece.crossed(U::root_text()), None)?,
+        None => None,
+    };
     let mut body = cursor.body();
     'steps: while let Some(step) = body.front() {
         known = U::push_next(text, start, step.piece().crossed(U::root_text()), known)?;
     }
     Ok(())
-}
-
-/// Puts the prefix of a path, where it has one, behind a text, as it is written in another encoding,
-/// and answers what is known of what stands there then. Where memory is refused, the text is as it
-/// was.
-#[inline(always)]
-fn put_prefix<U: Encoding>(
-    text: &mut Vec<u8>,
-    prefix: Option<Piece<'_>>,
-) -> Result<Option<usize>, AllocError>
-    ensures ok { OnOk result (text.new.items ≡ text.old.items
-        ++ crossed_all U.dialect (option_to_list (option_map part_of prefix.entry))) }
-    ensures err { OnErr result (text.new.items ≡ text.old.items) }
-    ensures known { IfOk result (λ next. IsKnown U.dialect next
-        (crossed_all U.dialect (option_to_list (option_map part_of prefix.entry)))) }
-    ensures capacity { vec_capacity text.old ≤ vec_capacity text.new }
-    ensures succeeds { (room : ℕ) → length text.old.items + room ≤ vec_capacity text.old
-        → FitsEach U.dialect room []
-        (map (crossed U.dialect) (option_to_list (option_map part_of prefix.entry))) → IsOk result }
-{
-    match prefix {
-        Some(piece) => U::push_next(text, text.len(), piece.crossed(U::root_text()), None),
-        None => Ok(None),
-    }
 }
 
 /// Pushes the components of a path onto the empty path at the end of a text, as they are written in
@@ -435,36 +413,15 @@ fn push_each_checked<T: Encoding, U: Encoding>(
     ensures long { start ≤ length text.new.items }
 {
     let cursor = T::cursor(path.as_bytes()).within(path);
-    let mut known = push_prefix_checked::<U>(text, start, cursor.prefix_piece())?;
+    let mut known = match cursor.prefix_piece() {
+        Some(piece) => push_piece_checked::<U>(text, start, piece, None)?,
+        None => None,
+    };
     let mut body = cursor.body();
     'steps: while let Some(step) = body.front() {
         known = push_piece_checked::<U>(text, start, step.piece(), known)?;
     }
     Ok(())
-}
-
-/// Pushes the prefix of a path, where it has one, onto the path at the end of a text, which is one of
-/// another encoding, by a checked push, and answers what is known of what stands there then.
-#[inline(always)]
-fn push_prefix_checked<U: Encoding>(
-    text: &mut Vec<u8>,
-    start: usize,
-    prefix: Option<Piece<'_>>,
-) -> Result<Option<usize>, PathError>
-    requires { start ≤ length text.old.items }
-    ensures ok { OnOk result (push_checked_each U.dialect (Ok (drop start text.old.items))
-        (option_to_list (option_map part_of prefix.entry)) ≡ Ok (drop start text.new.items)) }
-    ensures refused { (e : CheckedPathError) → refusal result ≡ Some e
-        → push_checked_each U.dialect (Ok (drop start text.old.items))
-        (option_to_list (option_map part_of prefix.entry)) ≡ Err e }
-    ensures known { IfOk result (λ next. IsKnown U.dialect next (drop start text.new.items)) }
-    ensures kept { take start text.new.items ≡ take start text.old.items }
-    ensures long { start ≤ length text.new.items }
-{
-    match prefix {
-        Some(piece) => push_piece_checked::<U>(text, start, piece, None),
-        None => Ok(None),
-    }
 }
 
 /// Pushes a component onto the path at the end of a text, which is one of another encoding, and of

@@ -128,34 +128,13 @@ fn put_headed(
     let rooted = Body::new(rest, 0, separators).has_physical_root();
     let anchored = implied | rooted;
     append_first(text, path, end)?;
-    let alone = text.len() + root_where(rooted, separators).len();
-    put_root_where(text, anchored, separators)?;
+    let alone = text.len() + usize::from(rooted);
+    if anchored {
+        text.push(row_end(separators))?;
+    }
     put_kept(text, rest, separators, anchored)?;
     drop_separator(text, alone);
     Ok(rooted)
-}
-
-/// Puts the root behind a text, where there is one.
-#[inline(always)]
-fn put_root_where(text: &mut Vec<u8>, there: bool, separators: Separators) -> Result<(), AllocError>
-    ensures ok { OnOk result (text.new.items
-        ≡ text.old.items ++ (if there then row_end separators ∷ [] else [])) }
-    ensures kept { take (length text.old.items) text.new.items ≡ text.old.items }
-    ensures capacity { vec_capacity text.old ≤ vec_capacity text.new }
-    ensures succeeds { vec_len text.old < vec_capacity text.old → IsOk result }
-{
-    if there {
-        text.push(row_end(separators))?;
-    }
-    Ok(())
-}
-
-/// The root as it is written, where there is one.
-#[inline(always)]
-fn root_where(there: bool, separators: Separators) -> &'static [u8]
-    ensures { result.now ≡ (if there then row_end separators ∷ [] else []) }
-{
-    if there { separators.root_text() } else { b"" }
 }
 
 /// Puts what would be read as a prefix from a place of a text on behind `.` and a separator, and `.` where

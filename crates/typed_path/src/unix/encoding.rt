@@ -157,13 +157,24 @@ pub fn push_at(
     ensures succeeds { (room : ℕ) → start + room ≤ vec_capacity text.old
         → FitsPush unix room (slice_range text.old.items start kept) other.now → IsOk result }
 {
+    match separator_between(&text[start..kept], other) {
+        Some(separator) => put_over(text, kept, separator, other),
+        None => put_over(text, start, b"", other),
+    }
+}
+
+/// What a push puts between a base and a path; none where the path replaces the base.
+#[inline(always)]
+fn separator_between(base: &[u8], other: &[u8]) -> Option<&'static [u8]>
+    ensures behind { IfSome result (λ separator. push_unix base.now other.now
+        ≡ base.now ++ separator.now ++ other.now) }
+    ensures replaced { IsNone result → push_unix base.now other.now ≡ other.now }
+    ensures short { IfSome result (λ separator. length separator.now ≤ 1) }
+{
     match other {
-        [] => put_over(text, kept, b"", other),
-        [b'/', ..] => put_over(text, start, b"", other),
-        _ => {
-            let separator = separator_behind(&text[start..kept]);
-            put_over(text, kept, separator, other)
-        }
+        [] => Some(b""),
+        [b'/', ..] => None,
+        _ => Some(separator_behind(base)),
     }
 }
 

@@ -38,8 +38,8 @@ overflow_add-result c =
     let rises = ap₂ (λ a n. if a then 0 else n) c.lead_of-lead.ensures.anchored c.lead_of-lead.ensures.unmet in
     omega (arith, c.requires, c.rising.ensures, c.lead_of-start.ensures.names, rises, few-steps (items_left c.args.own), few-steps (items_left c.args.other))
 
-pub returns-then-not-all_stand : goal.returns-then-not-all_stand
-returns-then-not-all_stand c =
+pub returns-then-not-can_stand : goal.returns-then-not-can_stand
+returns-then-not-can_stand c =
     let cs = items_left c.args.own in
     let ds = items_left c.args.other in
     let ks = kinds (parts cs) in
@@ -50,11 +50,11 @@ returns-then-not-all_stand c =
     c.met_count-met.ensures ∙ met-told ks ls _ _ _ _ rises others (kept_behind_prefix cs (body_items c.body.result) c.body.ensures) (kept_behind_prefix ds (body_items c.body-2.result) c.body-2.ensures) in
     let names : drop (length (kept_names ks) - (c.lead_of-lead.result.names - c.met_count-met.result)) (kept_names ks) ≡ names_down ks ls =
     names-down ks ls c.met_count-met.result (c.lead_of-lead.result.names - c.met_count-met.result) met (ap (λ n. n - c.met_count-met.result) c.lead_of-lead.ensures.names) in
-    let stands : c.all_stand.result ≡ can_stand (names_down ks ls) =
-    c.all_stand.ensures
+    let stands : c.can_stand.result ≡ can_stand (names_down ks ls) =
+    c.can_stand.ensures
     ∙ ap (λ ns. can_stand (drop (length ns - (c.lead_of-lead.result.names - c.met_count-met.result)) ns)) (kept_behind_prefix cs (body_items c.body-3.result) c.body-3.ensures)
     ∙ ap can_stand names in
-    not-standing ks ls (sym stands ∙ c.if-not-all_stand.true)
+    not-standing ks ls (sym stands ∙ c.if-not-can_stand.true)
 
 pub returns : goal.returns
 returns c =
@@ -68,8 +68,8 @@ returns c =
     c.met_count-met.ensures ∙ met-told ks ls _ _ _ _ rises others (kept_behind_prefix cs (body_items c.body.result) c.body.ensures) (kept_behind_prefix ds (body_items c.body-2.result) c.body-2.ensures) in
     let names : drop (length (kept_names ks) - (c.lead_of-lead.result.names - c.met_count-met.result)) (kept_names ks) ≡ names_down ks ls =
     names-down ks ls c.met_count-met.result (c.lead_of-lead.result.names - c.met_count-met.result) met (ap (λ n. n - c.met_count-met.result) c.lead_of-lead.ensures.names) in
-    let stands : c.all_stand.result ≡ can_stand (names_down ks ls) =
-    c.all_stand.ensures
+    let stands : c.can_stand.result ≡ can_stand (names_down ks ls) =
+    c.can_stand.ensures
     ∙ ap (λ ns. can_stand (drop (length ns - (c.lead_of-lead.result.names - c.met_count-met.result)) ns)) (kept_behind_prefix cs (body_items c.body-3.result) c.body-3.ensures)
     ∙ ap can_stand names in
     let both = and_parts _ _ (sym c.leads_from.ensures ∙ c.if-not-leads_from.false) in
@@ -78,7 +78,7 @@ returns c =
     (ap₂ (λ a b. if a then b else not b) (sym c.lead_of-lead.ensures.anchored) (sym c.lead_of-start.ensures.anchored) ∙ both.0) in
     let le = leb-true _ _ both.1 in
     record {
-      reached = reached-all ks ls heads (omega (arith, le, rises, others)) (sym stands ∙ c.if-not-all_stand.false);
+      reached = reached-all ks ls heads (omega (arith, le, rises, others)) (sym stands ∙ c.if-not-can_stand.false);
       up = omega (arith, c.lead_of-start.ensures.names, c.rising.ensures, c.rising-2.ensures, rises, others, met);
       within = omega (arith, c.lead_of-lead.ensures.names);
       names = names;
