@@ -47,10 +47,17 @@ pub fn first_stem(name: &[u8]) -> &[u8]
 pub fn before_dot(text: &[u8]) -> &[u8]
     ensures { result.now ≡ before_first is_a_dot text.now }
 {
-    match text.iter().position(|b| *b == b'.') {
+    match first_dot(text) {
         Some(at) => &text[..at],
         None => text,
     }
+}
+
+/// Where the first dot of a text stands.
+fn first_dot(text: &[u8]) -> Option<usize>
+    ensures { result ≡ position is_a_dot text.now }
+{
+    text.iter().position(|b| *b == b'.')
 }
 
 /// How many bytes an extension takes with the dot before it; none where it is empty.

@@ -71,16 +71,16 @@ impl<'a> Cursor<'a> {
         ensures slice { slice_left result ≡ text.now }
         ensures dialect { dialect_of (cursor_separators result) ≡ windows }
     {
-        match find_prefix(text) {
-            Some(found) => Cursor {
-                text,
-                from: found.length,
-                to: text.len(),
-                prefix: Some(found),
-                begin: Begin::Body,
-                separators: Separators::of_windows(text),
-            },
-            None => Cursor::new(text, Separators::Either),
+        let Some(found) = find_prefix(text) else {
+            return Cursor::new(text, Separators::Either);
+        };
+        Cursor {
+            text,
+            from: found.length,
+            to: text.len(),
+            prefix: Some(found),
+            begin: Begin::Body,
+            separators: Separators::of_windows(text),
         }
     }
 

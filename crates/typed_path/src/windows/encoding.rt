@@ -387,11 +387,23 @@ fn begins_with_prefix(text: &[u8], path: &[u8], shared: usize, found: Found<'_>)
     if shared < end || path.len() <= end || text.len() <= end {
         return false;
     }
-    match found.kind {
-        // Neither stays what it is before what is put apart there.
-        WindowsPrefix::Disk(_) | WindowsPrefix::Verbatim(b"UNC") => false,
-        _ => Separators::of_windows(path).contains(text[end]),
+    if !stays_before_parted(found.kind) {
+        return false;
     }
+    Separators::of_windows(path).contains(text[end])
+}
+
+/// Whether a prefix stays what it is, whatever is put apart in the place of what stands behind it. False
+/// says nothing.
+#[inline(always)]
+fn stays_before_parted(prefix: WindowsPrefix<'_>) -> bool
+    ensures { IsTrue result → (is_disk (prefix_view prefix.entry) ≡ false)
+        × (is_verbatim_unc_name (Some (prefix_view prefix.entry)) ≡ false) }
+{
+    !matches!(
+        prefix,
+        WindowsPrefix::Disk(_) | WindowsPrefix::Verbatim(b"UNC")
+    )
 }
 
 /// What a path is judged by looks at its bytes. None says nothing.

@@ -1,5 +1,4 @@
 use Rattle.std.proofs.Common.{rules, ◌≡◌, ◌∷◌, Greater, sym, ◌∙◌}
-use Rattle.std.proofs.lemmas.Option.{IfSome_then}
 use Rattle.std.specs.List.{before_first}
 use Rattle.std.specs.Ordering.{nat_cmp}
 use Rattle.typed_path.specs.components.{dot, is_separator, body}
@@ -20,8 +19,8 @@ returns-in-Greater c =
     (λ i. left_cmp (body s 0 (own i)) (body s 0 (other i)))
     ∙ dot-greater s a b c.in_ok-own.field-0-1.now c.in_ok-wanted.field-0-1.now (sym c.contains.ensures ∙ c.if-contains.false) (sym c.contains-2.ensures ∙ c.if-contains-2.false) dotted greater
 
-pub returns-in-Equal : goal.returns-in-Equal
-returns-in-Equal c =
+pub returns-then-is_ne : goal.returns-then-is_ne
+returns-then-is_ne c =
     let s = c.args.separators in
     let a = c.in_ok-own.own.now in
     let b = c.in_ok-wanted.wanted.now in
@@ -29,8 +28,9 @@ returns-in-Equal c =
     let ys = c.in_ok-wanted.field-0-1.now in
     let own : c.args.text.now ≡ a ∷ xs = search rules in
     let other : c.args.other.now ≡ b ∷ ys = search rules in
-    IfSome_then c.order_of_ranks.result c.order_of_ranks.ensures (λ order told.
+    let order = c.cmp-order.result in
+    let told : nat_cmp (dots_rank (before_first (is_separator s) c.args.text.now)) (dots_rank (before_first (is_separator s) c.args.other.now)) ≡ order = search rules in
     (λ i. left_cmp (body s 0 (own i)) (body s 0 (other i)))
     ∙ ranks-order s a b xs ys order (sym c.contains.ensures ∙ c.if-contains.false) (sym c.contains-2.ensures ∙ c.if-contains-2.false)
-    ((λ i. nat_cmp (dots_rank (before_first (is_separator s) (sym own i))) (dots_rank (before_first (is_separator s) (sym other i)))) ∙ told.1)
-    told.0)
+    ((λ i. nat_cmp (dots_rank (before_first (is_separator s) (sym own i))) (dots_rank (before_first (is_separator s) (sym other i)))) ∙ told)
+    (sym c.is_ne.ensures ∙ c.if-is_ne.true)

@@ -1,15 +1,31 @@
-use Rattle.std.proofs.Common.{◌≡◌, ℕ, List, ◌∷◌, ◌++◌, ap, sym, ◌∙◌, Option, Result, IfOk, codes}
+use Rattle.std.proofs.Common.{◌≡◌, ◌≢◌, ℕ, List, ◌∷◌, ◌++◌, ap, sym, refl, ◌∙◌, Option, Result, IfOk, codes}
 use Rattle.typed_path.specs.components.{Dialect, unix, windows}
-use Rattle.typed_path.specs.script.{tab, fields_of, reply, reply_line, reply_fields, dialect_name, AnswersFirst, command_name, texts_reply}
+use Rattle.typed_path.specs.script.{tab, fields_of, reply, reply_line, bare_reply, reply_fields, dialect_name, AnswersFirst, command_name, texts_reply}
 use Rattle.typed_path.specs.declared.script.lines.Command.{Command}
-use Rattle.typed_path.proofs.lemmas.script.Lines.{named_reply, no_command, no_encoding, command_is_field, dialect_is_field, fields-behind, lacks-first, put_alike, put_behind}
+use Rattle.typed_path.proofs.lemmas.script.Lines.{named_reply, no_command, no_bare_command, no_encoding, command_is_field, dialect_is_field, fields-behind, lacks-first, put_alike, put_behind}
 use Rattle.typed_path.proofs.script.lines.answer_line.Goals as goal
 
-pub returns-in_default : goal.returns-in_default
-returns-in_default c =
-    put_alike c.answer_bare_line.result _ reply _ _ _ c.args.input.now
-    (λ line lines e. sym (ap reply_line (no_command line (λ command. lacks-first (command_name command) c.args.input.now line lines e (c.in_default.ensures command)))))
-    c.answer_bare_line.ensures
+-- what is given for a line without a command is given for the line
+bare : {A E : Type 0} (r : Result A E) (left : A → Option (List ℕ)) (input old new : List ℕ) → ((command : Command) (rest : List ℕ) → input ≢ command_name command ++ tab ∷ rest)
+    → IfOk r (λ a. AnswersFirst (λ line. reply_line (bare_reply (fields_of line))) input (left a) old new) → IfOk r (λ a. AnswersFirst reply input (left a) old new)
+bare r left input old new none answered =
+    put_alike r left reply _ old new input
+    (λ line lines e. sym (ap reply_line (no_command line (λ command. lacks-first (command_name command) input line lines e (none command)))))
+    answered
+
+pub returns-in_default-in-Some : goal.returns-in_default-in-Some
+returns-in_default-in-Some c =
+    bare c.answer_derive.result _ c.args.input.now _ _ c.in_default.ensures
+    (put_behind c.answer_derive.result _ (λ line. reply_line (bare_reply (fields_of line))) _ _ _ c.args.input.now (codes "derive") c.in-Some.texts.now c.in-Some.ensures refl
+    (λ line lines e. sym (ap (λ fields. reply_line (bare_reply fields)) (fields-behind (codes "derive") line refl)))
+    c.answer_derive.ensures)
+
+pub returns-in_default-in-None : goal.returns-in_default-in-None
+returns-in_default-in-None c =
+    bare c.answer_bad_line.result _ c.args.input.now _ _ c.in_default.ensures
+    (put_alike c.answer_bad_line.result _ (λ line. reply_line (bare_reply (fields_of line))) _ _ _ c.args.input.now
+    (λ line lines e. sym (ap reply_line (no_bare_command line (lacks-first (codes "derive") c.args.input.now line lines e c.in-None.ensures))))
+    c.answer_bad_line.ensures)
 
 -- what is given for the texts behind a command and a dialect is given for the line
 named : {A E : Type 0} (r : Result A E) (left : A → Option (List ℕ)) (command : Command) (d : Dialect) (input rest texts old new : List ℕ)

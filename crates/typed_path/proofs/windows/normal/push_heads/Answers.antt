@@ -1,15 +1,17 @@
-use Rattle.std.proofs.Common.{◌≡◌, ◌⊎◌, inl, inr, ℕ, ◌<◌, arith, length, List, [], ◌∷◌, ◌++◌, map, drop, Bor, true, refl, sym, ap, subst, append-nil, ◌∙◌, Option, Some, None, option_to_list, IsSome}
+use Rattle.std.proofs.Common.{◌≡◌, ◌⊎◌, inl, inr, ℕ, ◌<◌, arith, length, List, [], ◌∷◌, ◌++◌, map, take, drop, slice_range, Bor, true, refl, sym, ap, subst, append-nil, ◌∙◌, Option, Some, None, option_to_list, IsSome}
 use Rattle.std.proofs.lemmas.List.{map-append, drop_all}
 use Rattle.typed_path.specs.declared.scan.step.Piece.{Piece}
 use Rattle.typed_path.specs.declared.scan.step.PieceKind.{PieceKind}
 use Rattle.typed_path.specs.declared.scan.step.PieceKind.TheVariants.{Prefix, CurDir, ParentDir, RootDir, Normal}
 use Rattle.typed_path.specs.declared.scan.prefix.WindowsPrefix.{WindowsPrefix}
 use Rattle.typed_path.specs.components.{windows, Part, parts, parent, parts_of}
+use Rattle.typed_path.specs.changes.{push_windows}
 use Rattle.typed_path.specs.places.{normal_text}
 use Rattle.typed_path.specs.views.CursorViews.{items_left}
 use Rattle.typed_path.specs.views.PieceViews.{part_of, kind_view}
 use Rattle.typed_path.proofs.lemmas.places.Resolving.{is_head, Comes, comes-current, comes-name, comes-parent, comes-parent_alone, comes-head, comes-end}
 use Rattle.typed_path.proofs.lemmas.components.WrittenForms.{heads_first-parts_of}
+use Rattle.typed_path.proofs.lemmas.conversions.Crossings.{put-whole, whole_range}
 use Rattle.typed_path.proofs.lemmas.scan.Steps.{yields_first, fewer}
 use Rattle.typed_path.proofs.windows.normal.push_heads.Goals as goal
 
@@ -59,11 +61,17 @@ pieces-init c = (
 
 pub pieces-preserved-in-Continue-branch-2 : goal.pieces-preserved-in-Continue-branch-2
 pieces-preserved-in-Continue-branch-2 c =
-    let taken = yields_first part_of (Some c.in-Some.piece) (items_left c.pieces.components) (items_left c.front.new.self) c.in-Some.ensures.taken c.in-Some.ensures.items in (
-      at_text (sym c.in_ok-push_head-in-Prefix.ensures.ok) (comes-head (is_head-piece c.in-Some.piece c.in-Prefix.is) (at_parts taken c.pieces.invariant.0)),
-      c.in_ok-push_head-in-Prefix.ensures.kept ∙ c.pieces.invariant.1,
-      c.in_ok-push_head-in-Prefix.ensures.long,
-      omega (arith, c.in_ok-push_head-in-Prefix.ensures.capacity, c.pieces.invariant.3),
+    let start = c.args.start in
+    let text = c.pieces.text.items in
+    let piece = c.in-Some.piece in
+    let taken = yields_first part_of (Some piece) (items_left c.pieces.components) (items_left c.front.new.self) c.in-Some.ensures.taken c.in-Some.ensures.items in
+    let range : slice_range text start c.len-len.result ≡ drop start text = ap (slice_range text start) (omega (arith, c.len-len.ensures, c.pieces.text.ok)) ∙ whole_range text text start refl in
+    let whole = put-whole start text c.push_at.new.text.items (push_windows (drop start text) piece.text.now) c.pieces.invariant.2
+    (c.in_ok-push_at-in-Prefix.ensures.ok tt ∙ ap (λ t. take start text ++ push_windows t piece.text.now) range) in (
+      at_text (sym whole.0) (comes-head (is_head-piece piece c.in-Prefix.is) (at_parts taken c.pieces.invariant.0)),
+      whole.1 ∙ c.pieces.invariant.1,
+      whole.2,
+      omega (arith, c.in_ok-push_at-in-Prefix.ensures.capacity, c.pieces.invariant.3),
     )
 
 pub pieces-smaller-in-CurDir : goal.pieces-smaller-in-CurDir
