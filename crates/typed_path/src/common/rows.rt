@@ -79,7 +79,7 @@ fn put_prefixed(text: &mut Vec<u8>, path: &[u8], found: Found<'_>) -> Result<(),
     ensures succeeds { vec_len text.old + length path.now + 2 ≤ vec_capacity text.old
         → IsOk result }
 {
-    let implied = !is_disk(found.kind);
+    let implied = !matches!(found.kind, WindowsPrefix::Disk(_));
     put_headed(
         text,
         path,
@@ -88,17 +88,6 @@ fn put_prefixed(text: &mut Vec<u8>, path: &[u8], found: Found<'_>) -> Result<(),
         Separators::of_windows(path),
     )?;
     Ok(())
-}
-
-/// Whether a prefix is a drive, which implies no root.
-#[inline(always)]
-fn is_disk(prefix: WindowsPrefix<'_>) -> bool
-    ensures { result ≡ is_disk (prefix_view prefix.entry) }
-{
-    match prefix {
-        WindowsPrefix::Disk(_) => true,
-        _ => false,
-    }
 }
 
 /// Puts the prefix of a path, which ends at a place, behind a text, then the root, written or implied, and then

@@ -88,15 +88,6 @@ impl<'a, T: Encoding> fmt::Display for Path<'a, T> {
     }
 }
 
-impl<'a, T: Encoding> Display<'a, T> {
-    /// The path that is to be printed.
-    pub(crate) fn path(self) -> Path<'a, T>
-        ensures { path_bytes result ≡ displayed self.entry }
-    {
-        self.path
-    }
-}
-
 impl<'a, T: Encoding> fmt::Display for Display<'a, T> {
     ghost output = { λ d. text_of_bytes (displayed d) };
 
@@ -125,7 +116,7 @@ impl<T: Encoding> fmt::Debug for PathBuf<T> {
 
 impl<'a, T: Encoding> fmt::Debug for Display<'a, T> {
     fn fmt<W: fmt::Write>(&self, f: &mut fmt::Formatter<W>) -> fmt::Result {
-        fmt::Debug::fmt(&self.path(), f)
+        fmt::Debug::fmt(&self.path, f)
     }
 }
 

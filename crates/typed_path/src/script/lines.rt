@@ -360,7 +360,10 @@ fn put_components<T: Encoding>(path: Span<'_>, replies: &mut Vec<u8>) -> Result<
 {
     let cursor = T::cursor(path.as_bytes()).within(path);
     replies.extend_from_slice(b"ok")?;
-    put_prefix(cursor.prefix_piece(), replies)?;
+    match cursor.prefix_piece() {
+        Some(piece) => put_component(piece, replies)?,
+        None => {}
+    }
     let mut body = cursor.body();
     let mut left = body.onward();
     'steps: while let Some(step) = body.front() {
@@ -369,18 +372,6 @@ fn put_components<T: Encoding>(path: Span<'_>, replies: &mut Vec<u8>) -> Result<
     }
     replies.push(b'\n')?;
     Ok(())
-}
-
-/// Puts a tab, and the field that shows the prefix, where there is one.
-#[inline(always)]
-fn put_prefix(prefix: Option<Piece<'_>>, replies: &mut Vec<u8>) -> Result<(), AllocError>
-    ensures { OnOk result (replies.new.items
-        ≡ replies.old.items ++ fields_behind (option_to_list (option_map part_of prefix.entry))) }
-{
-    match prefix {
-        Some(piece) => put_component(piece, replies),
-        None => Ok(()),
-    }
 }
 
 /// Puts a tab, and the field that shows a component behind the prefix, by what stood there before it

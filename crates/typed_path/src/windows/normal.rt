@@ -404,12 +404,7 @@ fn are_exact(mut rest: Components<'_, WindowsEncoding>) -> bool
 fn is_exact(piece: Piece<'_>) -> bool
     ensures { result ≡ is_exact (part_of piece.entry).kind }
 {
-    match piece.kind {
-        PieceKind::Normal => is_exact_name(piece.text),
-        PieceKind::Prefix(_) | PieceKind::RootDir | PieceKind::CurDir | PieceKind::ParentDir => {
-            false
-        }
-    }
+    matches!(piece.kind, PieceKind::Normal) && is_exact_name(piece.text)
 }
 
 /// Whether Windows takes a name as it is written, behind a drive too.

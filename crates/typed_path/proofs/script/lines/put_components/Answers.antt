@@ -1,5 +1,6 @@
-use Rattle.std.proofs.Common.{◌≡◌, ℕ, List, [], ◌∷◌, ◌++◌, append-nil, append_assoc, refl, sym, ap, ◌∙◌, codes, Some, None, option_map}
+use Rattle.std.proofs.Common.{◌≡◌, ℕ, List, Option, option_to_list, [], ◌∷◌, ◌++◌, append-nil, append_assoc, refl, sym, ap, ◌∙◌, codes, Some, None, option_map}
 use Rattle.std.proofs.lemmas.Grind.{flat_map-append}
+use Rattle.typed_path.specs.declared.scan.step.Piece.{Piece}
 use Rattle.typed_path.specs.components.{comps, parts_of, Part, parts}
 use Rattle.typed_path.specs.script.{tab, line_feed, reply_line, components_reply, component_field, fields_behind}
 use Rattle.typed_path.specs.views.BodyViews.{body_items}
@@ -9,6 +10,7 @@ use Rattle.typed_path.specs.views.PieceViews.{part_of, step_part}
 use Rattle.typed_path.proofs.lemmas.scan.Steps.{parts-prefixed, yields_first, fewer}
 use Rattle.typed_path.proofs.lemmas.script.Lines.{join_with_byte-map}
 use Rattle.typed_path.proofs.script.lines.put_components.Goals as goal
+use Rattle.typed_path.proofs.script.lines.put_components.Goals.{in-Some+in_ok-put_component-in-Some, in-None}
 
 -- the fields of the first components stand, and those of the others are left
 some_shown : (replies new : List ℕ) (first left ps : List Part) → ps ≡ first ++ left → new ≡ replies ++ fields_behind first → new ++ fields_behind left ≡ replies ++ fields_behind ps
@@ -43,20 +45,30 @@ steps-init g c =
     let path = span_bytes c.args.path in
     let split = parts-prefixed (comps d path) (items_left c.within-cursor.result) (body_items c.body-body.result) (option_map part_of c.prefix_piece.result)
     (c.within-cursor.ensures ∙ ap parts (c.cursor.ensures.items ∙ ap (comps d) c.as_bytes.ensures)) c.prefix_piece.ensures c.body-body.ensures in
+    let begun = c.extend_from_slice.new.self.items in
+    let put : Option Piece → List ℕ = λ o. begun ++ fields_behind (option_to_list (option_map part_of o)) in
+    let shown : c.match-prefix_piece.replies.items ≡ put c.prefix_piece.result = elim c.match-prefix_piece.branch [
+      | in-Some+in_ok-put_component-in-Some w ↦
+          ap (λ v. v.items) w.replies-is
+          ∙ w.in_ok-put_component-in-Some.ensures
+          ∙ ap (λ bs. begun ++ bs) (sym (append-nil (tab ∷ component_field (part_of w.in-Some.piece))))
+          ∙ ap put (sym w.in-Some.is)
+      | in-None w ↦ ap (λ v. v.items) w.replies-is ∙ sym (append-nil begun) ∙ ap put (sym w.in-None.is)
+    ] in
     record {
       left = c.onward-left.ensures;
-      shown = first_shown c.args.replies.now.items _ _ _ _ (parts_of d path) split c.in_ok-extend_from_slice.ensures.items c.in_ok-put_prefix.ensures;
+      shown = first_shown c.args.replies.now.items _ _ _ _ (parts_of d path) split c.in_ok-extend_from_slice.ensures.items shown;
     }
 
 pub steps-smaller : goal.steps-smaller
-steps-smaller g c = fewer (step_part c.in-Some.step) (body_items c.steps.body) (body_items c.front.new.self) c.in-Some.ensures.taken c.in-Some.ensures.items
+steps-smaller g c = fewer (step_part c.in-Some-front.step) (body_items c.steps.body) (body_items c.front.new.self) c.in-Some-front.ensures.taken c.in-Some-front.ensures.items
 
 pub steps-preserved : goal.steps-preserved
 steps-preserved g c =
-    let taken = yields_first step_part (Some c.in-Some.step) (body_items c.steps.body) (body_items c.front.new.self) c.in-Some.ensures.taken c.in-Some.ensures.items in
+    let taken = yields_first step_part (Some c.in-Some-front.step) (body_items c.steps.body) (body_items c.front.new.self) c.in-Some-front.ensures.taken c.in-Some-front.ensures.items in
     record {
-      left = c.onward-left-in-Some.ensures;
-      shown = next_shown c.steps.replies.items _ (step_part c.in-Some.step) (step_part c.in-Some.step) _ _ taken refl c.in_ok-put_step.ensures ∙ c.steps.invariant.shown;
+      left = c.onward-left-in-Some-front.ensures;
+      shown = next_shown c.steps.replies.items _ (step_part c.in-Some-front.step) (step_part c.in-Some-front.step) _ _ taken refl c.in_ok-put_step.ensures ∙ c.steps.invariant.shown;
     }
 
 pub returns : goal.returns
