@@ -2,10 +2,8 @@
 
 ghost use Rattle.std.specs.Prelude.{◌<◌, ◌≡◌, ◌≤◌, ◌+◌, ◌++◌, ℕ, [], ◌∷◌, map, option_map, take, drop, length, IsTrue, IsOk, IfSome, IfOk, OnOk, OnErr, Result, Ok, Err, Some, None, true, false, if◌then◌else◌};
 ghost use Rattle.std.specs.Vec.{vec_capacity};
-ghost use Rattle.typed_path.specs.declared.errors.CheckedPathError.{CheckedPathError};
 ghost use Rattle.typed_path.specs.components.{parts_of, kinds, unix, windows, is_separator, is_verbatim, separators, slash, backslash};
 ghost use Rattle.std.specs.List.{list_any};
-ghost use Rattle.typed_path.specs.declared.scan.separators.Separators.{Separators};
 ghost use Rattle.typed_path.specs.conversions.{AllowsCrossing, CrossesTurned, IsUnrefused, separator_of, same_dialect, converted, converted_checked, FitsConverted, crossed, crossed_all, is_never_refused, crossing_fault, push_checked_each, platform, absolute_from};
 ghost use Rattle.typed_path.specs.changes.{refusal, error_of, fault, FitsEach, IsKnown, begins_with_separator, is_forbidden_or};
 ghost use Rattle.typed_path.specs.queries.{is_disk};
@@ -26,9 +24,7 @@ use crate::windows::{WindowsEncoding, WindowsPathBuf, begins_with_separator, has
 use std::alloc::{AllocError, Global};
 
 impl<'a, T: Encoding> Path<'a, T> {
-    ghost use Rattle.typed_path.specs.declared.errors.CheckedPathError.{CheckedPathError};
     ghost use Rattle.typed_path.specs.views.PathViews.{path_bytes};
-    ghost use Rattle.typed_path.specs.declared.errors.AbsolutizeError.TheVariants.{Ambiguous};
     ghost use Rattle.typed_path.specs.changes.Push as push_spec;
 
     /// The path in another encoding: its components pushed one by one onto the empty path. The root,
@@ -156,7 +152,7 @@ impl<'a, T: Encoding> Path<'a, T> {
         ensures ok { IfOk result (λ p.
             absolute_from T.dialect (path_bytes directory.entry) (path_bytes self.entry)
             ≡ Some p.bytes) }
-        ensures ambiguous { result ≡ Err Ambiguous
+        ensures ambiguous { result ≡ Err AbsolutizeError.Ambiguous
             → absolute_from T.dialect (path_bytes directory.entry) (path_bytes self.entry) ≡ None }
     {
         if self.is_absolute() {

@@ -518,7 +518,10 @@ impl<'a, T: Encoding> Path<'a, T> {
         ensures text { IfOk result (λ p. p.bytes ≡ normal_text T.dialect (path_bytes self.entry)) }
         ensures form { IfOk result (λ p. HasNormalForm T.dialect (path_bytes self.entry) p.bytes) }
     {
-        Ok(PathBuf::from_vec(normal::<T>(alloc, self.as_bytes())?))
+        let path = self.as_bytes();
+        let mut text = Vec::with_capacity(alloc, path.len() + 1)?;
+        T::put_normal(&mut text, path)?;
+        Ok(PathBuf::from_vec(text))
     }
 
     /// The path without `.`, doubled separators, and the names that a `..` takes away. A relative path keeps the
@@ -532,7 +535,10 @@ impl<'a, T: Encoding> Path<'a, T> {
     pub fn clean(self, alloc: Global) -> Result<PathBuf<T>, AllocError>
         ensures { IfOk result (λ p. p.bytes ≡ clean_text T.dialect (path_bytes self.entry)) }
     {
-        Ok(PathBuf::from_vec(clean::<T>(alloc, self.as_bytes())?))
+        let path = self.as_bytes();
+        let mut text = Vec::with_capacity(alloc, path.len() + 2)?;
+        put_clean::<T>(&mut text, path)?;
+        Ok(PathBuf::from_vec(text))
     }
 }
 
@@ -547,22 +553,4 @@ impl<'a, T: Encoding> IntoIterator for Path<'a, T> {
     fn into_iter(self) -> Iter<'a, T> {
         self.iter()
     }
-}
-
-/// The normal text of a path, in room for one byte more than the path has.
-fn normal<T: Encoding>(alloc: Global, path: &[u8]) -> Result<Vec<u8>, AllocError>
-    ensures { IfOk result (λ text. text.items ≡ normal_text T.dialect path.now) }
-{
-    let mut text = Vec::with_capacity(alloc, path.len() + 1)?;
-    T::put_normal(&mut text, path)?;
-    Ok(text)
-}
-
-/// The clean text of a path, in room for what it takes at most while it is written.
-fn clean<T: Encoding>(alloc: Global, path: &[u8]) -> Result<Vec<u8>, AllocError>
-    ensures { IfOk result (λ text. text.items ≡ clean_text T.dialect path.now) }
-{
-    let mut text = Vec::with_capacity(alloc, path.len() + 2)?;
-    put_clean::<T>(&mut text, path)?;
-    Ok(text)
 }

@@ -29,35 +29,16 @@ pub(crate) fn relative_to<T: Encoding>(
         ≡ relative_text T.dialect path.now base.now) }
     ensures free { relative_text T.dialect path.now base.now ≡ None → IsOk result }
 {
-    if let Some(told) = relative_by_bytes::<T>(alloc, path, base)? {
-        return Ok(Some(told));
+    if let Some(near) = near_steps(T::cursor(path), T::cursor(base), bare_separators::<T>()) {
+        let room = near
+            .up
+            .saturating_mul(3)
+            .saturating_add(near.rest.len() + 2);
+        let mut text = Vec::with_capacity(alloc, room)?;
+        put_near::<T>(&mut text, near)?;
+        return Ok(Some(PathBuf::from_vec(text)));
     }
     relative_by_components(alloc, path, base)
-}
-
-/// The path that leads from a base to a path, where looks at their bytes tell it. None says nothing.
-#[inline(always)]
-pub(crate) fn relative_by_bytes<T: Encoding>(
-    alloc: Global,
-    path: &[u8],
-    base: &[u8],
-) -> Result<Option<PathBuf<T>>, AllocError>
-    ensures told { IfOk result (λ found. IfSome found
-        (λ p. relative_text T.dialect path.now base.now ≡ Some p.bytes)) }
-    ensures free { relative_text T.dialect path.now base.now ≡ None → IsOk result }
-{
-    match near_steps(T::cursor(path), T::cursor(base), bare_separators::<T>()) {
-        Some(near) => {
-            let room = near
-                .up
-                .saturating_mul(3)
-                .saturating_add(near.rest.len() + 2);
-            let mut text = Vec::with_capacity(alloc, room)?;
-            put_near::<T>(&mut text, near)?;
-            Ok(Some(PathBuf::from_vec(text)))
-        }
-        None => Ok(None),
-    }
 }
 
 /// So many parents, and then the names of a text that is names alone: whether a separator stands behind the last

@@ -5,7 +5,6 @@ ghost use Rattle.std.specs.Option.{option_to_list};
 ghost use Rattle.typed_path.specs.components.{parts_of};
 ghost use Rattle.typed_path.specs.changes.{push};
 ghost use Rattle.typed_path.specs.views.PieceViews.{part_of, prefix_view, step_part};
-ghost use Rattle.typed_path.specs.declared.scan.step.StepKind.{StepKind};
 ghost use Rattle.typed_path.specs.views.SpanViews.{span_bytes};
 ghost use Rattle.typed_path.specs.conversions.{converted_checked};
 ghost use Rattle.typed_path.specs.script.{tab, equals_sign, reply_line, text_reply, components_reply, reply_in, pair_reply_in, convert_reply_in, joined_reply, converted_reply, in_named, dialect_named, derived_reply, refusal_name, bad_line, component_field, fields_behind, kind_name, prefix_name, split_lines, fields_of, reply, bare_reply, AnswersFirst, command_name, end_byte, texts_reply};

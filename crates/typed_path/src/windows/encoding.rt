@@ -7,9 +7,7 @@ ghost use Rattle.typed_path.specs.views.PieceViews.{found_of, prefix_view};
 ghost use Rattle.typed_path.specs.promises.{is_verbatim_unc_name};
 ghost use Rattle.typed_path.specs.queries.{is_disk, path_starts_with, stripped};
 ghost use Rattle.typed_path.specs.order.{kind_cmp, path_cmp};
-ghost use Rattle.typed_path.specs.declared.scan.separators.Separators.{Separators};
 ghost use Rattle.typed_path.specs.changes.{begins_with_separator, has_second_colon, has_no_nul_or_dot_pair, fault, error_of, HaveOnePrefix};
-ghost use Rattle.typed_path.specs.declared.errors.CheckedPathError.TheVariants.{InvalidFilename};
 ghost use Rattle.typed_path.specs.scan.{PartAt};
 
 use crate::common::{
@@ -449,7 +447,7 @@ const SEARCHED_WHOLE: usize = 256;
 fn is_refused_for_name(path: &[u8]) -> bool
     requires relative { begins_with_separator path.now ≡ false }
     requires undriven { has_second_colon path.now ≡ false }
-    ensures { IsTrue result → fault windows path.now ≡ Some InvalidFilename }
+    ensures { IsTrue result → fault windows path.now ≡ Some CheckedPathError.InvalidFilename }
 {
     has_no_nul_or_dot_pair(path) && matches!(look_at_path(path), Look::Offence(_))
 }

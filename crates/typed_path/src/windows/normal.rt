@@ -3,7 +3,6 @@
 ghost use Rattle.std.specs.Prelude.{◌≡◌, ◌<◌, ◌≤◌, ◌+◌, ◌-◌, ◌++◌, ℕ, List, [], false, true, take, drop, fold, length, map, IsTrue, IsSome, IfSome, IsOk, IfOk, OnOk, OnErr, MatchOption, None, ◌&&◌};
 ghost use Rattle.std.specs.List.{list_any, slice_split, list_all};
 ghost use Rattle.std.specs.Vec.{vec_len, vec_capacity};
-ghost use Rattle.typed_path.specs.declared.scan.separators.Separators.{Separators};
 ghost use Rattle.typed_path.specs.components.{windows, slash, backslash, colon, is_separator, drive, kinds};
 ghost use Rattle.typed_path.specs.scan.{is_one_of};
 ghost use Rattle.typed_path.specs.changes.{push_windows, push_all, spells_anew, TellsNames};
