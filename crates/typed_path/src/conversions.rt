@@ -25,6 +25,7 @@ use std::alloc::{AllocError, Global};
 
 impl<'a, T: Encoding> Path<'a, T> {
     ghost use Rattle.typed_path.specs.views.PathViews.{path_bytes};
+    ghost use Rattle.typed_path.specs.declared.errors.AbsolutizeError.TheVariants.{Ambiguous};
     ghost use Rattle.typed_path.specs.changes.Push as push_spec;
 
     /// The path in another encoding: its components pushed one by one onto the empty path. The root,
@@ -152,7 +153,7 @@ impl<'a, T: Encoding> Path<'a, T> {
         ensures ok { IfOk result (λ p.
             absolute_from T.dialect (path_bytes directory.entry) (path_bytes self.entry)
             ≡ Some p.bytes) }
-        ensures ambiguous { result ≡ Err AbsolutizeError.Ambiguous
+        ensures ambiguous { result ≡ Err Ambiguous
             → absolute_from T.dialect (path_bytes directory.entry) (path_bytes self.entry) ≡ None }
     {
         if self.is_absolute() {
