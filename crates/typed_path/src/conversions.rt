@@ -357,43 +357,23 @@ fn is_unrefused<T: Encoding, U: Encoding>(path: &[u8]) -> bool
         × IsUnrefused T.dialect U.dialect path.now }
 {
     if have_one_label::<T, UnixEncoding>() && have_one_label::<U, WindowsEncoding>() {
-        return is_unrefused_on_windows(path);
+        // A path of a few bytes is read at once, and so is one whose second byte is `:`.
+        return SHORTEST_LOOKED_AT <= path.len()
+            && !has_second_colon(path)
+            && !has_forbidden_or_device(path);
     }
     if have_one_label::<T, WindowsEncoding>() && have_one_label::<U, UnixEncoding>() {
-        return is_unrefused_on_unix(path);
+        // A name there may have all bytes but NUL and `/`, which separates where none is read verbatim.
+        return SHORT <= path.len()
+            && !Separators::of_windows(path).is_verbatim()
+            && is_free_of((b'\0', b'\0'), path);
     }
     false
-}
-
-/// The same of a path of Unix on Windows: one look tells that no name there has a byte that none may have, or stands
-/// for a device, and it ends where one does.
-///
-/// A path of a few bytes is read at once, and so is one whose second byte is `:`.
-#[inline(always)]
-fn is_unrefused_on_windows(path: &[u8]) -> bool
-    ensures { IsTrue result → IsUnrefused unix windows path.now }
-{
-    if path.len() < SHORTEST_LOOKED_AT || has_second_colon(path) {
-        return false;
-    }
-    !has_forbidden_or_device(path)
 }
 
 /// How many bytes a path of Unix has at least that is looked at as a whole before it crosses to Windows by checked
 /// pushes.
 const SHORTEST_LOOKED_AT: usize = 8;
-
-/// The same of a path of Windows on Unix. A name there may have all bytes but NUL and `/`, which separates in each
-/// path that is not read verbatim.
-#[inline(always)]
-fn is_unrefused_on_unix(path: &[u8]) -> bool
-    ensures { IsTrue result → IsUnrefused windows unix path.now }
-{
-    if path.len() < SHORT || Separators::of_windows(path).is_verbatim() {
-        return false;
-    }
-    is_free_of((b'\0', b'\0'), path)
-}
 
 /// The same as without looks, component by component.
 fn push_each_checked<T: Encoding, U: Encoding>(
