@@ -326,21 +326,15 @@ fn put_refusal(refusal: CheckedPathError, replies: &mut Vec<u8>) -> Result<(), A
     ensures { OnOk result
         (replies.new.items ≡ replies.old.items ++ reply_line (joined_reply [] (Some refusal))) }
 {
-    replies.extend_from_slice(b"err\t")?;
-    replies.extend_from_slice(refusal_name(refusal))?;
-    replies.push(b'\n')?;
-    Ok(())
-}
-
-/// What a reply calls a refusal.
-fn refusal_name(refusal: CheckedPathError) -> &'static [u8]
-    ensures { result.now ≡ refusal_name refusal }
-{
     match refusal {
-        CheckedPathError::InvalidFilename => b"InvalidFilename",
-        CheckedPathError::PathTraversalAttack => b"PathTraversalAttack",
-        CheckedPathError::UnexpectedPrefix => b"UnexpectedPrefix",
-        CheckedPathError::UnexpectedRoot => b"UnexpectedRoot",
+        CheckedPathError::InvalidFilename => replies.extend_from_slice(b"err\tInvalidFilename\n"),
+        CheckedPathError::PathTraversalAttack => {
+            replies.extend_from_slice(b"err\tPathTraversalAttack\n")
+        }
+        CheckedPathError::UnexpectedPrefix => {
+            replies.extend_from_slice(b"err\tUnexpectedPrefix\n")
+        }
+        CheckedPathError::UnexpectedRoot => replies.extend_from_slice(b"err\tUnexpectedRoot\n"),
     }
 }
 
@@ -406,24 +400,17 @@ fn put_label(piece: Piece<'_>, replies: &mut Vec<u8>) -> Result<(), AllocError>
         ++ tab ∷ kind_name (part_of piece.entry).kind ++ equals_sign ∷ []) }
 {
     match piece.kind {
-        PieceKind::Prefix(prefix) => replies.extend_from_slice(prefix_label(prefix)),
+        PieceKind::Prefix(prefix) => match prefix {
+            WindowsPrefix::Verbatim(_) => replies.extend_from_slice(b"\tVerbatim="),
+            WindowsPrefix::VerbatimUNC(_, _) => replies.extend_from_slice(b"\tVerbatimUNC="),
+            WindowsPrefix::VerbatimDisk(_) => replies.extend_from_slice(b"\tVerbatimDisk="),
+            WindowsPrefix::DeviceNS(_) => replies.extend_from_slice(b"\tDeviceNS="),
+            WindowsPrefix::UNC(_, _) => replies.extend_from_slice(b"\tUNC="),
+            WindowsPrefix::Disk(_) => replies.extend_from_slice(b"\tDisk="),
+        },
         PieceKind::RootDir => replies.extend_from_slice(b"\troot="),
         PieceKind::CurDir => replies.extend_from_slice(b"\tcurrent="),
         PieceKind::ParentDir => replies.extend_from_slice(b"\tparent="),
         PieceKind::Normal => replies.extend_from_slice(b"\tnormal="),
-    }
-}
-
-/// A tab, what a field calls a prefix, and an equals sign.
-fn prefix_label(prefix: WindowsPrefix<'_>) -> &'static [u8]
-    ensures { result.now ≡ tab ∷ prefix_name (prefix_view prefix.entry) ++ equals_sign ∷ [] }
-{
-    match prefix {
-        WindowsPrefix::Verbatim(_) => b"\tVerbatim=",
-        WindowsPrefix::VerbatimUNC(_, _) => b"\tVerbatimUNC=",
-        WindowsPrefix::VerbatimDisk(_) => b"\tVerbatimDisk=",
-        WindowsPrefix::DeviceNS(_) => b"\tDeviceNS=",
-        WindowsPrefix::UNC(_, _) => b"\tUNC=",
-        WindowsPrefix::Disk(_) => b"\tDisk=",
     }
 }
