@@ -122,8 +122,10 @@ impl Encoding for WindowsEncoding {
             return Some(Some(&body[behind..]));
         }
         // Bytes tell nothing where the separators in front are others.
-        if begin_with_other_separators(body, wanted) {
-            return None;
+        if let ([own, ..], [wanted, ..]) = (body, wanted) {
+            if own != wanted && are_separators(*own, *wanted) {
+                return None;
+            }
         }
         if are_apart(body, wanted, shared, separators) {
             return Some(None);
@@ -200,17 +202,6 @@ fn begin_apart(path: &[u8], other: &[u8]) -> bool
     }
     match (byte_behind_two(path), byte_behind_two(other)) {
         (Some(own), Some(other)) => other != own,
-        _ => false,
-    }
-}
-
-/// Whether two texts begin with separators that differ.
-#[inline(always)]
-fn begin_with_other_separators(text: &[u8], other: &[u8]) -> bool
-    ensures { IsTrue result → begins_with_separator text.now ≡ true }
-{
-    match (text, other) {
-        ([own, ..], [wanted, ..]) => own != wanted && are_separators(*own, *wanted),
         _ => false,
     }
 }
@@ -382,10 +373,7 @@ fn begins_with_prefix(text: &[u8], path: &[u8], shared: usize, found: Found<'_>)
     ensures begun { IsTrue result → found.entry.length ≤ shared }
 {
     let end = found.length;
-    if shared < end || path.len() <= end || text.len() <= end {
-        return false;
-    }
-    if !stays_before_parted(found.kind) {
+    if shared < end || path.len() <= end || text.len() <= end || !stays_before_parted(found.kind) {
         return false;
     }
     Separators::of_windows(path).contains(text[end])
@@ -413,7 +401,7 @@ fn stays_before_parted(prefix: WindowsPrefix<'_>) -> bool
 fn judged_by_looks(path: &[u8]) -> Option<Result<(), CheckedPathError>>
     ensures { IfSome result (λ judged. error_of judged ≡ fault windows path.now) }
 {
-    if has_second_colon(path) || begins_with_separator(path) || begins_with_two_dots(path) {
+    if has_second_colon(path) || begins_with_separator(path) || matches!(path, [b'.', b'.', ..]) {
         return None;
     }
     match look_at_path(path) {
@@ -428,11 +416,13 @@ fn judged_by_looks(path: &[u8]) -> Option<Result<(), CheckedPathError>>
             }
             let (_, behind) = path.split_at(looked);
             let end = looked + Separators::Either.first_in(behind);
-            if is_refused_for_name(&path[..end]) {
-                Some(Err(CheckedPathError::InvalidFilename))
-            } else {
-                None
+            let text = &path[..end];
+            if has_no_nul_or_dot_pair(text) {
+                if let Look::Offence(_) = look_at_path(text) {
+                    return Some(Err(CheckedPathError::InvalidFilename));
+                }
             }
+            None
         }
     }
 }
@@ -440,25 +430,6 @@ fn judged_by_looks(path: &[u8]) -> Option<Result<(), CheckedPathError>>
 /// How many bytes a path has at most that is searched as a whole for two dots, where a look found what offends: to look
 /// at the name that offends once more would cost more.
 const SEARCHED_WHOLE: usize = 256;
-
-/// Whether looks at the bytes of a path that begins with neither a drive nor a separator tell that it is refused for a
-/// name. False says nothing.
-#[inline(always)]
-fn is_refused_for_name(path: &[u8]) -> bool
-    requires relative { begins_with_separator path.now ≡ false }
-    requires undriven { has_second_colon path.now ≡ false }
-    ensures { IsTrue result → fault windows path.now ≡ Some CheckedPathError.InvalidFilename }
-{
-    has_no_nul_or_dot_pair(path) && matches!(look_at_path(path), Look::Offence(_))
-}
-
-/// Whether the first two bytes of a text are dots.
-#[inline(always)]
-fn begins_with_two_dots(text: &[u8]) -> bool
-    ensures { IsTrue result → has_no_nul_or_dot_pair text.now ≡ false }
-{
-    matches!(text, [b'.', b'.', ..])
-}
 
 /// Whether the second byte of a text is a `:`, as behind the letter of a drive.
 #[inline(always)]

@@ -410,11 +410,13 @@ fn is_exact(piece: Piece<'_>) -> bool
 fn is_exact_name(name: &[u8]) -> bool
     ensures { result ≡ is_exact_name name.now }
 {
+    // Windows forgets the spaces before the first dot.
+    let stem = without_last_spaces(before_dot(name));
     WindowsEncoding::valid(name)
         && !name.ends_with(b".")
         && !name.ends_with(b" ")
-        // Windows forgets the spaces before the first dot.
-        && !is_device_stem(without_last_spaces(before_dot(name)))
+        && !Separators::Backslash.is_reserved(stem)
+        && !is_further_device(stem)
 }
 
 /// A text without the spaces at its end.
@@ -426,13 +428,6 @@ fn without_last_spaces(text: &[u8]) -> &[u8]
         len -= 1;
     }
     &text[..len]
-}
-
-/// Whether such a stem is the name of a device.
-fn is_device_stem(stem: &[u8]) -> bool
-    ensures { result ≡ is_device_stem stem.now }
-{
-    Separators::Backslash.is_reserved(stem) || is_further_device(stem)
 }
 
 /// Whether a text is, ASCII case aside, the name of a device that a valid name may be.

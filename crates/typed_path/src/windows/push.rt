@@ -244,16 +244,11 @@ fn is_spelled_behind(text: &[u8], behind: &[u8]) -> bool
     if names.is_empty() {
         return true;
     }
-    is_row(Separators::of_windows(text), names)
-}
-
-/// Whether a text holds components with `\` between them, as they are read where others stand
-/// before them.
-fn is_row(separators: Separators, text: &[u8]) -> bool
-    ensures { result ≡ is_row separators text.now }
-{
-    (separators.is_verbatim() || !is_separated(Separators::Slash, text))
-        && are_components(separators, text)
+    let separators = Separators::of_windows(text);
+    if !separators.is_verbatim() && is_separated(Separators::Slash, names) {
+        return false;
+    }
+    are_components(separators, names)
 }
 
 /// Whether some byte of a text separates.

@@ -1,4 +1,4 @@
-use Rattle.std.proofs.Common.{◌≡◌, ◌+◌, ◌++◌, ℕ, List, [], ◌∷◌, Bool, true, false, not, zero, suc, if◌then◌else◌, take, drop, refl, sym, ap, subst, ◌∙◌, arith, ◌⊎◌, inl, inr, take-append-drop, drop-drop}
+use Rattle.std.proofs.Common.{Some, ◌≡◌, ◌+◌, ◌++◌, ℕ, List, [], ◌∷◌, Bool, true, false, not, zero, suc, if◌then◌else◌, take, drop, refl, sym, ap, subst, ◌∙◌, arith, ◌⊎◌, inl, inr, take-append-drop, drop-drop}
 use Rattle.std.specs.List.{position_or_len}
 use Rattle.typed_path.specs.declared.scan.separators.Separators.TheVariants.{Either}
 use Rattle.typed_path.specs.declared.errors.CheckedPathError.TheVariants.{InvalidFilename}
@@ -39,12 +39,6 @@ ended (b ∷ t) = by (is_separator Either b) refl (ended t)
         next : (n : ℕ) → drop (1 + n) (b ∷ t) ≡ drop n t
         next n = let more : 1 + n ≡ suc n = omega arith in ap (λ m. drop m (b ∷ t)) more
 
-pub is_refused_for_name-requires-clause-relative : goal.is_refused_for_name-requires-clause-relative
-is_refused_for_name-requires-clause-relative c = front-relative c.args.path.now _ (sym c.begins_with_separator.ensures ∙ c.if-begins_with_separator.false)
-
-pub is_refused_for_name-requires-clause-undriven : goal.is_refused_for_name-requires-clause-undriven
-is_refused_for_name-requires-clause-undriven c = front-undriven c.args.path.now _ (sym c.has_second_colon.ensures ∙ c.if-has_second_colon.false)
-
 pub returns-in-Clean : goal.returns-in-Clean
 returns-in-Clean c =
     let path = c.args.path.now in
@@ -62,8 +56,8 @@ returns-then-has_no_nul_or_dot_pair c =
     sym (looked-refused c.args.path.now (sym c.begins_with_separator.ensures ∙ c.if-begins_with_separator.false) (sym c.has_second_colon.ensures ∙ c.if-has_second_colon.false)
     (unpaired-dots c.args.path.now (sym c.has_no_nul_or_dot_pair.ensures ∙ c.if-has_no_nul_or_dot_pair.true)) (c.look_at_path.ensures.offence c.in-Offence-2.looked c.in-Offence-2.is).1)
 
-pub returns-then-is_refused_for_name : goal.returns-then-is_refused_for_name
-returns-then-is_refused_for_name c =
+pub returns-in-Offence-look_at_path : goal.returns-in-Offence-look_at_path
+returns-in-Offence-look_at_path c =
     let path = c.args.path.now in
     let looked = c.in-Offence.looked in
     let end = looked + c.first_in.result in
@@ -73,5 +67,8 @@ returns-then-is_refused_for_name c =
     let behind : drop c.first_in.result c.split_at.result.1.now ≡ drop end path = ap (drop c.first_in.result) c.split_at.ensures.back ∙ drop-drop c.first_in.result looked path in
     let border : (drop end path ≡ []) ⊎ (begins_with_separator (drop end path) ≡ true) =
     subst (λ r. (r ≡ []) ⊎ (begins_with_separator r ≡ true)) (ap (λ n. drop n c.split_at.result.1.now) (sym c.first_in.ensures.first) ∙ behind) (ended c.split_at.result.1.now) in
+    let told : fault windows (take end path) ≡ Some InvalidFilename =
+    looked-refused (take end path) (front-relative path end apart) (front-undriven path end free) (unpaired-dots (take end path) (sym c.has_no_nul_or_dot_pair-in-Offence-2.ensures ∙ c.if-has_no_nul_or_dot_pair-2.true))
+    (c.look_at_path-then-has_no_nul_or_dot_pair-2.ensures.offence c.in-Offence-look_at_path.field-0 c.in-Offence-look_at_path.is).1 in
     sym (ap (fault windows) (sym whole)
-    ∙ front-refused (take end path) (drop end path) InvalidFilename border (ap begins_with_separator whole ∙ apart) (ap has_second_colon whole ∙ free) (c.is_refused_for_name.ensures c.if-is_refused_for_name.true))
+    ∙ front-refused (take end path) (drop end path) InvalidFilename border (ap begins_with_separator whole ∙ apart) (ap has_second_colon whole ∙ free) told)
