@@ -1,13 +1,13 @@
 //! Paths in another encoding, with and without checks, and paths made absolute.
 
-ghost use Rattle.std.specs.Prelude.{◌<◌, ◌≡◌, ◌≤◌, ◌+◌, ◌++◌, ℕ, [], ◌∷◌, map, option_map, take, drop, length, IsTrue, IsOk, IfSome, IfOk, OnOk, OnErr, Result, Ok, Err, Some, None, true, false, if◌then◌else◌};
+ghost use Rattle.std.specs.Prelude.{◌<◌, ◌≡◌, ◌≤◌, ◌+◌, ◌++◌, ℕ, [], ◌∷◌, map, take, drop, length, IsTrue, IsOk, IfSome, IfOk, OnOk, OnErr, Result, Ok, Err, Some, None, true, false, if◌then◌else◌};
 ghost use Rattle.std.specs.Vec.{vec_capacity};
-ghost use Rattle.typed_path.specs.components.{parts_of, kinds, unix, windows, is_separator, is_verbatim, separators, slash, backslash};
+ghost use Rattle.typed_path.specs.components.{parts_of, unix, windows, is_separator, is_verbatim, separators, slash};
 ghost use Rattle.std.specs.List.{list_any};
-ghost use Rattle.typed_path.specs.conversions.{AllowsCrossing, CrossesTurned, IsUnrefused, separator_of, same_dialect, converted, converted_checked, FitsConverted, crossed, crossed_all, is_never_refused, crossing_fault, push_checked_each, platform, absolute_from};
-ghost use Rattle.typed_path.specs.changes.{refusal, error_of, fault, FitsEach, IsKnown, begins_with_separator, is_forbidden_or};
+ghost use Rattle.typed_path.specs.conversions.{CrossesTurned, IsUnrefused, separator_of, same_dialect, converted, converted_checked, FitsConverted, crossed, crossed_all, crossing_fault, push_checked_each, platform, absolute_from};
+ghost use Rattle.typed_path.specs.changes.{refusal, error_of, fault, FitsEach, IsKnown, begins_with_separator};
 ghost use Rattle.typed_path.specs.queries.{is_disk};
-ghost use Rattle.typed_path.specs.scan.{is_one_of, turned};
+ghost use Rattle.typed_path.specs.scan.{turned};
 ghost use Rattle.typed_path.specs.views.SpanViews.{span_bytes};
 ghost use Rattle.typed_path.specs.views.PieceViews.{part_of, prefix_view};
 

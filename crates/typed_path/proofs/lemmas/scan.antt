@@ -1,10 +1,10 @@
 -- Readings from both ends.
--- LastComponent: the end of a text, as its bytes are read: what belongs to no component, the last component, and the text before it
--- Readings: a reading from both ends, step by step, and the slice that it leaves
--- Steps: a step from either end, of a list, an iterator and a cursor; the first and the last component of a list, whether it has one, and what is left without it
--- Searches: what masks say of places, and searches of a range put together from what was seen of it
+-- LastComponent: the end of a text, as its bytes are read: what belongs to no component, the last component, and the text before it (`IsLast`, `IsTrimOf`)
+-- Readings: a reading from both ends by steps one after another, of the list and of the slice that it leaves, the empty ones among them
+-- Steps: one step of an iterator or a cursor from either end, and where its slice starts then; the first and the last component of a list, whether it has one, and what is left without it (`YieldsLastBy`, `YieldsFirstBy`, `MakesProgress`)
+-- Searches: what masks say of places, and searches of a range put together from what was seen of it (`IsMask`, `IsFirstPlace`, `TellsWhether`)
 -- Tables: tables that bytes are looked up in by their low bits
--- Blanks: segments that count for nothing behind others: how marks tell that there is none, what that tells of the pieces of a text, what its first bytes tell of its first segment, and a search behind separators of its pieces
+-- Blanks: segments that count for nothing behind others: how marks tell that there is none, what that tells of the pieces of a text, what its first bytes tell of its first segment, and a search behind separators of its pieces (`MarksNoBlank`)
 pub mod LastComponent
 pub mod Readings
 pub mod Steps

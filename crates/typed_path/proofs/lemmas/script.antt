@@ -1,5 +1,5 @@
 -- Lines of commands, and streams.
--- Lines: lines of an input that comes in pieces: their ends, their commands, their fields, and replies as they are put
--- Streams: bytes that were read and written, step after step
+-- Lines: lines of an input that comes in pieces: their ends, their commands, their fields, and replies as they are put (`LacksField`, `AnswersFirst`)
+-- Streams: bytes that were read and written, step after step (`Consumes`, `Appends`)
 pub mod Lines
 pub mod Streams

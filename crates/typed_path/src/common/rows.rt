@@ -7,8 +7,8 @@ ghost use Rattle.std.specs.Vec.{vec_len, vec_capacity};
 ghost use Rattle.typed_path.specs.components.{Kind, is_separator, windows, dialect_of, prefix_of, body, parts, kinds};
 ghost use Rattle.typed_path.specs.places.{AreKept, ArePut, TellsNamesOf, kept_segments, row_end, rows_of, segment_kind, segment_kinds, behind_head, clean_text, cleaned, unheaded};
 ghost use Rattle.typed_path.specs.scan.{turned};
-ghost use Rattle.typed_path.specs.queries.{begins_with_root, is_disk};
-ghost use Rattle.typed_path.specs.views.PieceViews.{found_of, prefix_view};
+ghost use Rattle.typed_path.specs.queries.{begins_with_root};
+ghost use Rattle.typed_path.specs.views.PieceViews.{found_of};
 
 use crate::common::encoding::Encoding;
 use crate::common::writing::{

@@ -1,6 +1,6 @@
 //! A reading of a text from both ends.
 
-ghost use Rattle.std.specs.Prelude.{◌≡◌, ◌≤◌, ◌-◌, length, slice_range, true, [], ◌++◌, take, drop, option_map, Some, None, IfSome, IfNone, IsTrue};
+ghost use Rattle.std.specs.Prelude.{◌≡◌, ◌≤◌, ◌-◌, length, slice_range, true, [], take, drop, option_map, Some, None, IfSome, IfNone, IsTrue};
 ghost use Rattle.typed_path.specs.components.{prefix_part, body, comps, component, Placed, end_of, kinds, parts, windows, dialect_of, later_body};
 ghost use Rattle.typed_path.specs.views.PieceViews.{part_of, prefix_view, step_part};
 ghost use Rattle.typed_path.specs.scan.{pending, is_clean, but_last, last_of, slice_after_front, slice_after_back, first_part, last_part, end_from};

@@ -2,9 +2,9 @@
 //! share; and the order of two texts from where they part.
 
 ghost use Rattle.std.specs.Prelude.{◌≡◌, ◌≢◌, ◌≤◌, ◌<◌, ◌+◌, ◌==◌, ◌⊎◌, List, ℕ, [], ◌∷◌, ◌++◌, take, length, MatchOption, IfSome, true, false, drop, IsTrue};
-ghost use Rattle.std.specs.List.{slice_split, position_or_len, before_first, starts_with, IsAfterLastMatch};
+ghost use Rattle.std.specs.List.{slice_split, before_first, starts_with, IsAfterLastMatch};
 ghost use Rattle.std.specs.Str.{bytes_eq};
-ghost use Rattle.std.specs.Ordering.{is_ne, nat_cmp, ordering_reverse};
+ghost use Rattle.std.specs.Ordering.{is_ne, ordering_reverse};
 ghost use Rattle.typed_path.specs.components.{is_separator, is_dot, body, later_body, parts, texts};
 ghost use Rattle.typed_path.specs.scan.{is_clean, begins_with_name, tells_name, dots_rank, IsParting, PartWithinNames, PartAt};
 ghost use Rattle.typed_path.specs.declared.scan.cursor.Begin.{Begin};

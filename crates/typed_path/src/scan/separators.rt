@@ -6,7 +6,7 @@ ghost use Rattle.std.specs.Int.{bit_at};
 ghost use Rattle.std.specs.List.{position_or_len, list_any, before_first, IsAfterLastMatch, slice_split};
 ghost use Rattle.std.specs.Char.{to_ascii_lowercase};
 ghost use Rattle.typed_path.specs.scan.{TellsWhether, is_one_of};
-ghost use Rattle.typed_path.specs.components.{windows, slash, backslash, separators, is_separator, is_verbatim, root_text, dialect_of, body, kinds, parts};
+ghost use Rattle.typed_path.specs.components.{windows, backslash, separators, is_separator, is_verbatim, root_text, dialect_of, body, kinds, parts};
 ghost use Rattle.typed_path.specs.queries.{has_allowed_bytes, is_reserved, is_valid_name, is_valid};
 ghost use Rattle.std.specs.Slice.Scan.{HoldsNowhere};
 ghost use Rattle.typed_path.specs.changes.{AreMayBegins, BeginsNone, TellsBegins, SeparatesDisallowed, is_stray, is_bare_device, is_numbered_device, is_device, is_forbidden_or, has_stray_of, stray_of_at, dot_pair_at, has_dot_pair, begins_like_device, begins_with_device, is_in, ends_stem, may_end_stem, has_device, has_device_behind};

@@ -1,13 +1,12 @@
 //! A line of commands, taken off the front of an input, and its reply.
 
 ghost use Rattle.std.specs.Prelude.{◌≡◌, [], ◌∷◌, ◌++◌, Some, take, length, OnOk, option_map, ◌≢◌, ℕ, List, codes, MatchOption, IfOk, IfSome, IfNone};
-ghost use Rattle.std.specs.Option.{option_to_list};
 ghost use Rattle.typed_path.specs.components.{parts_of};
 ghost use Rattle.typed_path.specs.changes.{push};
-ghost use Rattle.typed_path.specs.views.PieceViews.{part_of, prefix_view, step_part};
+ghost use Rattle.typed_path.specs.views.PieceViews.{part_of, step_part};
 ghost use Rattle.typed_path.specs.views.SpanViews.{span_bytes};
 ghost use Rattle.typed_path.specs.conversions.{converted_checked};
-ghost use Rattle.typed_path.specs.script.{tab, equals_sign, reply_line, text_reply, components_reply, reply_in, pair_reply_in, convert_reply_in, joined_reply, converted_reply, in_named, dialect_named, derived_reply, refusal_name, bad_line, component_field, fields_behind, kind_name, prefix_name, split_lines, fields_of, reply, bare_reply, AnswersFirst, command_name, end_byte, texts_reply};
+ghost use Rattle.typed_path.specs.script.{tab, equals_sign, reply_line, text_reply, components_reply, reply_in, pair_reply_in, convert_reply_in, joined_reply, converted_reply, derived_reply, bad_line, component_field, kind_name, split_lines, fields_of, reply, bare_reply, AnswersFirst, command_name, end_byte, texts_reply};
 
 use crate::common::{Encoding, append_first};
 use crate::conversions::{convert_checked, put_converted};

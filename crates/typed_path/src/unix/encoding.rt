@@ -1,6 +1,6 @@
 //! The encoding of Unix paths: how one is pushed, judged and brought into its normal text.
 
-ghost use Rattle.std.specs.Prelude.{false, ◌≡◌, ◌≤◌, ◌+◌, ◌++◌, ℕ, take, slice_range, length, IfOk, IfSome, IsNone, IsOk, MatchOption, OnOk, OnErr, ◌<◌, ◌-◌, List, [], codes, fold, Some};
+ghost use Rattle.std.specs.Prelude.{false, ◌≡◌, ◌≤◌, ◌+◌, ◌++◌, ℕ, take, slice_range, length, IfSome, IsNone, IsOk, OnOk, OnErr, ◌<◌, ◌-◌, [], codes, Some};
 ghost use Rattle.std.specs.Vec.{vec_capacity, vec_len};
 ghost use Rattle.typed_path.specs.components.{unix, slash};
 ghost use Rattle.typed_path.specs.changes.{push_unix, ended_with, FitsPush};

@@ -201,8 +201,6 @@ impl<'a, T: Utf8Encoding, I: FromPiece<'a, T>> DoubleEndedIterator for Utf8Readi
     }
 }
 
-impl<'a, T: Utf8Encoding, I: FromPiece<'a, T>> FusedIterator for Utf8Reading<'a, T, I> {}
-
 /// What is left of a reading, as a list.
 #[derive_where(Clone, Copy)]
 struct Listed<'a, T: Utf8Encoding, I> {
@@ -223,6 +221,8 @@ impl<'a, T: Utf8Encoding, I: FromPiece<'a, T>> fmt::Debug for Utf8Reading<'a, T,
             .finish()
     }
 }
+
+impl<'a, T: Utf8Encoding, I: FromPiece<'a, T>> FusedIterator for Utf8Reading<'a, T, I> {}
 
 /// What a component of a path of text is.
 #[derive(Clone, Copy, Debug, PartialEq, Eq, PartialOrd, Ord, Hash)]

@@ -1,12 +1,12 @@
 //! The encoding of Windows paths.
 
-ghost use Rattle.std.specs.Prelude.{◌≡◌, ◌≤◌, ◌&&◌, ℕ, true, false, length, codes, Some, None, IfSome, IsTrue};
-ghost use Rattle.typed_path.specs.components.{windows, separators, is_separator, prefix_of, prefix, disk, comps};
+ghost use Rattle.std.specs.Prelude.{◌≡◌, ◌≤◌, ◌&&◌, true, false, length, codes, Some, None, IfSome, IsTrue};
+ghost use Rattle.typed_path.specs.components.{windows, separators, is_separator, prefix_of, prefix, comps};
 ghost use Rattle.typed_path.specs.views.BodyViews.{body_items};
 ghost use Rattle.typed_path.specs.views.PieceViews.{found_of, prefix_view};
 ghost use Rattle.typed_path.specs.promises.{is_verbatim_unc_name};
 ghost use Rattle.typed_path.specs.queries.{is_disk, path_starts_with, stripped};
-ghost use Rattle.typed_path.specs.order.{kind_cmp, path_cmp};
+ghost use Rattle.typed_path.specs.order.{path_cmp};
 ghost use Rattle.typed_path.specs.changes.{begins_with_separator, has_second_colon, has_no_nul_or_dot_pair, fault, error_of, HaveOnePrefix};
 ghost use Rattle.typed_path.specs.scan.{PartAt};
 

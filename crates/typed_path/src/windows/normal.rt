@@ -1,15 +1,15 @@
 //! The normal text of a Windows path, and verbatim paths of drives, lent without their `\\?\`.
 
-ghost use Rattle.std.specs.Prelude.{◌≡◌, ◌<◌, ◌≤◌, ◌+◌, ◌-◌, ◌++◌, ℕ, List, [], false, true, take, drop, fold, length, map, IsTrue, IsSome, IfSome, IsOk, IfOk, OnOk, OnErr, MatchOption, None, ◌&&◌};
+ghost use Rattle.std.specs.Prelude.{◌≡◌, ◌<◌, ◌≤◌, ◌+◌, ◌-◌, ◌++◌, ℕ, List, [], false, true, take, drop, fold, length, map, IsTrue, IsSome, IfSome, IsOk, IfOk, OnOk, OnErr, None, ◌&&◌};
 ghost use Rattle.std.specs.List.{list_any, slice_split, list_all};
 ghost use Rattle.std.specs.Vec.{vec_len, vec_capacity};
 ghost use Rattle.typed_path.specs.components.{windows, slash, backslash, colon, is_separator, drive, kinds};
 ghost use Rattle.typed_path.specs.scan.{is_one_of};
-ghost use Rattle.typed_path.specs.changes.{push_windows, push_all, spells_anew, TellsNames};
-ghost use Rattle.typed_path.specs.places.{normal_text, names_left_of, rows_of, settled, AreRowsOf, ArePlainRows, ArePut, IsRowHead, IsPartedEither, TakesRows, HaveNoDisks, HasPlainNames, IsHeadOf};
+ghost use Rattle.typed_path.specs.changes.{push_all, spells_anew, TellsNames};
+ghost use Rattle.typed_path.specs.places.{normal_text, names_left_of, rows_of, settled, AreRowsOf, ArePlainRows, IsRowHead, IsPartedEither, TakesRows, HaveNoDisks, HasPlainNames, IsHeadOf};
 ghost use Rattle.typed_path.specs.views.PieceViews.{found_of, part_of};
 ghost use Rattle.std.specs.Str.{str_eq_ignore_ascii_case};
-ghost use Rattle.typed_path.specs.queries.{is_device_stem, is_exact, is_exact_name, is_further_device, is_simple, is_verbatim_drive, is_written_root, simplified_text, without_last_spaces};
+ghost use Rattle.typed_path.specs.queries.{is_exact, is_exact_name, is_further_device, is_simple, is_verbatim_drive, is_written_root, simplified_text, without_last_spaces};
 ghost use Rattle.typed_path.specs.views.PathViews.{path_bytes, components_parts};
 
 use crate::common::{
@@ -410,13 +410,12 @@ fn is_exact(piece: Piece<'_>) -> bool
 fn is_exact_name(name: &[u8]) -> bool
     ensures { result ≡ is_exact_name name.now }
 {
+    if !WindowsEncoding::valid(name) || name.ends_with(b".") || name.ends_with(b" ") {
+        return false;
+    }
     // Windows forgets the spaces before the first dot.
     let stem = without_last_spaces(before_dot(name));
-    WindowsEncoding::valid(name)
-        && !name.ends_with(b".")
-        && !name.ends_with(b" ")
-        && !Separators::Backslash.is_reserved(stem)
-        && !is_further_device(stem)
+    !Separators::Backslash.is_reserved(stem) && !is_further_device(stem)
 }
 
 /// A text without the spaces at its end.

@@ -1,10 +1,10 @@
 //! A path of Windows pushed onto another.
 
-ghost use Rattle.std.specs.Prelude.{◌≡◌, ◌≤◌, ◌+◌, ◌++◌, ℕ, List, IsTrue, true, false, take, drop, slice_range, length, IfOk, IsOk, OnOk, OnErr, ◌||◌, Some, ◌<◌, ◌∷◌, [], Bool, IfSome};
+ghost use Rattle.std.specs.Prelude.{◌≡◌, ◌≤◌, ◌+◌, ◌++◌, ℕ, List, IsTrue, true, false, take, drop, slice_range, length, IfOk, IsOk, OnOk, OnErr, Some, ◌<◌, ◌∷◌, [], Bool, IfSome};
 ghost use Rattle.std.specs.Vec.{vec_capacity, vec_len};
 ghost use Rattle.std.specs.List.{list_any, list_all, slice_split};
 ghost use Rattle.typed_path.specs.components.{windows, is_separator, parts_of, kinds, Part, parts, prefix_of, Found, is_empty, later_body};
-ghost use Rattle.typed_path.specs.changes.{push_windows, ended_windows, is_disk_alone, raw_length, FitsPush, without_last_name, merge_by_kind, merged, spelled, spells_anew, IsKnown, is_component, is_row, TellsSpelled, IsSpelledHead, IsStanding, IsMergeable, AreMergeable, AreReadBehind, Stands, IsSpelled, IsPutBehind, room_of, HoldsNames, names_of, jointed};
+ghost use Rattle.typed_path.specs.changes.{push_windows, ended_windows, is_disk_alone, raw_length, FitsPush, without_last_name, merge_by_kind, merged, spelled, spells_anew, IsKnown, is_component, TellsSpelled, IsSpelledHead, IsStanding, IsMergeable, AreMergeable, AreReadBehind, Stands, IsSpelled, IsPutBehind, room_of, HoldsNames, names_of, jointed};
 ghost use Rattle.typed_path.specs.queries.{has_any_verbatim_prefix, is_verbatim_prefix, has_prefix};
 ghost use Rattle.typed_path.specs.views.CursorViews.{items_left};
 ghost use Rattle.typed_path.specs.views.PieceViews.{part_of};

@@ -28,12 +28,7 @@ slice_bounds-behind-start c = (prefix-fits windows c.args.path.now (found_of c.i
 -- what a path with a prefix is read as, by what stands behind that
 behind_read : (path behind text : List ℕ) (f : Found) (s : Separators) → s ≡ separators windows path → prefix_of windows path ≡ Some f → behind ≡ take (length path - f.length) (drop f.length path)
     → ((at : ℕ) → body s at behind ≡ body s at text) → parts_of windows path ≡ prefix_part f.prefix (take f.length path) ∷ body_parts (separators windows path) text
-behind_read path behind text f s own is e same =
-    parts_of-some path f is
-    ∙ ap (λ t. prefix_part f.prefix (take f.length path) ∷ body_parts (separators windows path) t) (sym (take_rest path f.length) ∙ sym e)
-    ∙ ap (λ r. prefix_part f.prefix (take f.length path) ∷ body_parts r behind) (sym own)
-    ∙ ap (λ ps. prefix_part f.prefix (take f.length path) ∷ ps) (body-same s behind text same)
-    ∙ ap (λ r. prefix_part f.prefix (take f.length path) ∷ body_parts r text) own
+behind_read path behind text f s own is e same = grind (arith, parts_of-some, body_parts, take_rest, body-same)
 
 pub returns-then-is_empty : goal.returns-then-is_empty
 returns-then-is_empty c =

@@ -1,67 +1,47 @@
 -- A path that gets one extension more keeps its separators and its prefix, but for the verbatim one named `UNC`; so it has its parent, and a longer name.
-use Rattle.std.proofs.Common.{◌≡◌, ℕ, ◌+◌, ◌<◌, ◌≤◌, Bool, true, false, if◌then◌else◌, List, [], ◌∷◌, ◌++◌, length, take, drop, inl, inr, refl, sym, ap, ◌∙◌, arith, append-nil, length-append, length-drop, Some, None, Option, option_map, option_and_then, get_or, ne_eqb, ◌||◌, ◌&&◌, take-append-drop}
-use Rattle.std.specs.Option.{option_or}
-use Rattle.std.proofs.lemmas.Bool.{cond-false, cond-true, cases_Bool, and_from, and_parts}
+use Rattle.std.proofs.Common.{◌≡◌, ℕ, ◌+◌, ◌<◌, ◌≤◌, Bool, true, false, if◌then◌else◌, List, [], ◌∷◌, ◌++◌, length, take, drop, inl, inr, refl, sym, ap, ◌∙◌, arith, append-nil, length-append, length-drop, Some, None, Option, option_map, get_or, take-append-drop}
+use Rattle.std.proofs.lemmas.Grind.{common_steps}
+use Rattle.std.proofs.lemmas.Bool.{cond-true, cases_Bool, and_parts}
 use Rattle.std.proofs.lemmas.List.{get_or-drop, get_or-take, get_or_append_left}
-use Rattle.std.proofs.lemmas.List.Elements.{All-nil, All-cons}
-use Rattle.std.proofs.lemmas.List.Splits.{slice_split-cons_yes}
+use Rattle.std.proofs.lemmas.List.Elements.{All-cons}
 use Rattle.std.proofs.lemmas.Option.{same_Some}
 use Rattle.std.specs.List.{list_any}
 use Rattle.std.proofs.Math.Bool.{and-false}
 use Rattle.typed_path.specs.declared.scan.separators.Separators.{Separators}
 use Rattle.typed_path.specs.declared.scan.separators.Separators.TheVariants.{Backslash, Either}
-use Rattle.typed_path.specs.components.{Dialect, unix, windows, dot, is_separator, separators, root_text, root, prefix, Placed, component, root_part, prefix_part, first, body, body_of, placed, comps_behind, Found, prefix_of, found, unc, disk, verbatim_disk, name, second_name, names_length, is_empty, is_drive_letter, to_upper, drive, after_mark, question, begins_verbatim, verbatim_unc_case, verbatim_disk_case, verbatim_case, device_case, unc_case, disk_case}
+use Rattle.typed_path.specs.components.{Dialect, unix, windows, dot, is_separator, separators, root_text, root, component, root_part, first, body, comps_behind, Found, prefix_of, found, disk, verbatim_disk, name, drive, after_mark, question, begins_verbatim}
 use Rattle.typed_path.specs.scan.{last_of}
 use Rattle.typed_path.specs.queries.{file_name_of, parent_of, is_disk}
 use Rattle.typed_path.specs.changes.{cut_at, with_added_extension}
 use Rattle.typed_path.specs.promises.{ExtendsName, is_verbatim_unc_name, prefix_kind}
 use Rattle.typed_path.proofs.lemmas.components.Prefixes.{Read, of_verbatim_unc, of_verbatim_disk, of_verbatim, of_device, of_unc, of_disk, prefix-read, drive-take, dot-unseparated}
-use Rattle.typed_path.proofs.lemmas.components.PrefixCuts.{prefix_by, name-filled, or-none, not_none, plain-none, verbatim-take}
+use Rattle.typed_path.proofs.lemmas.components.PrefixCuts.{prefix_by, plain-none, verbatim-take}
 use Rattle.typed_path.proofs.lemmas.components.FirmPrefixes.{Apart, nothing, parted, share_made, prefix-apart, three_separators, drive-stays, drive-extends, verbatim_disk-stays}
 use Rattle.typed_path.proofs.lemmas.components.PartedPrefixes.{apart-behind, shares-prefix, drive-plain}
 use Rattle.typed_path.proofs.lemmas.lists.Lists.{IsUnseparated}
-use Rattle.typed_path.proofs.lemmas.scan.Steps.{last_of-behind}
 use Rattle.typed_path.proofs.lemmas.queries.Parents.{HasName, name_end-name}
 use Rattle.typed_path.proofs.lemmas.changes.AddedNames.{clash, name-last, within, fits, cut_body, behind, grown-name, same_front, grown-parent, KeepsFront}
+use Rattle.typed_path.proofs.lemmas.lists.Options.{or-none}
 
 -- two separators and a byte that is none begin a prefix
 two_found : (p q c : ℕ) (u : List ℕ) → is_separator Either p ≡ true → is_separator Either q ≡ true → is_separator Either c ≡ false → prefix_of windows (p ∷ q ∷ c ∷ u) ≡ None → ⊥
-two_found p q c u first second plain none =
-    let whole = p ∷ q ∷ c ∷ u in
-    let s = separators windows whole in
-    let last : option_or (unc_case whole) (disk_case whole) ≡ None =
-    or-none (device_case whole) _ (or-none (verbatim_case s whole) _ (or-none (verbatim_disk_case whole) _ (or-none (verbatim_unc_case s whole) _ none))) in
-    let some : unc_case whole ≡ Some (found (unc (name Either (c ∷ u)) (second_name Either (c ∷ u))) (2 + names_length Either (c ∷ u))) =
-    ap (option_and_then (share_made unc 2 Either)) (cond-true (is_separator Either p && is_separator Either q) (Some (c ∷ u)) None (and_from _ _ first second))
-    ∙ cond-false (is_empty (name Either (c ∷ u))) None _ (ne_eqb (length (name Either (c ∷ u))) 0 (λ e. omega (arith, e, name-filled Either c u plain))) in
-    not_none _ (sym (ap (λ o. option_or o (disk_case whole)) some) ∙ last)
+two_found p q c u first second plain h = grind (arith, or-none, share_made, cond-true)
 
 -- behind two separators a text without a prefix has another one, and none of those that begin so has a prefix
 three_behind : (p q : ℕ) (front rest x : List ℕ) → is_separator Either p ≡ true → is_separator Either q ≡ true → prefix_of windows (p ∷ q ∷ front ++ rest) ≡ None → (front ≡ [] → ⊥) → prefix_of windows (p ∷ q ∷ front ++ x) ≡ None
-three_behind p q [] rest x first second none filled = absurd (filled refl)
-three_behind p q (c ∷ front) rest x first second none filled = elim (cases_Bool (is_separator Either c)) [
-  | inl third ↦ three_separators p q c (front ++ x) first second third
-  | inr plain ↦ absurd (two_found p q c (front ++ rest) first second plain none)
-]
+three_behind p q [] rest x first second none filled = grind arith
+three_behind p q (c ∷ front) rest x first second none filled = grind (arith, cases_Bool, three_separators, two_found)
 
 -- a text without a prefix that is cut, and goes on with a dot, has none, unless two separators were left alone
 none_behind : (front rest : List ℕ) (b : ℕ) (bs : List ℕ) → prefix_of windows (front ++ rest) ≡ None
     → ((p q : ℕ) → front ≡ p ∷ q ∷ [] → is_separator Either p ≡ true → is_separator Either q ≡ true → ⊥) → prefix_of windows (front ++ dot ∷ b ∷ bs) ≡ None
 none_behind [] rest b bs none alone = prefix-apart dot b bs refl
-none_behind (p ∷ []) rest b bs none alone =
-    prefix-apart p dot (b ∷ bs) (and-false (is_separator Either p))
-    ∙ ap (λ told. option_and_then (λ letter. Some (found (disk letter) 2)) (if told then Some (to_upper p) else None)) (and-false (is_drive_letter p))
-none_behind (p ∷ q ∷ front) rest b bs none alone = elim (cases_Bool (is_separator Either p && is_separator Either q)) [
-  | inl both ↦
-      let own = and_parts (is_separator Either p) (is_separator Either q) both in
-      three_behind p q front rest (dot ∷ b ∷ bs) own.0 own.1 none (λ e. alone p q (ap (λ bytes. p ∷ q ∷ bytes) e) own.0 own.1)
-  | inr apart ↦ prefix-apart p q (front ++ dot ∷ b ∷ bs) apart ∙ sym (prefix-apart p q (front ++ rest) apart) ∙ none
-]
+none_behind (p ∷ []) rest b bs none alone = grind (arith, common_steps, prefix-apart, and-false)
+none_behind (p ∷ q ∷ front) rest b bs none alone = grind (arith, common_steps, cases_Bool, and_parts, three_behind, prefix-apart)
 
 -- two separators are a root
 two_roots : (p q : ℕ) → is_separator Either p ≡ true → is_separator Either q ≡ true → body Either 0 (p ∷ q ∷ []) ≡ component (root_part (root_text Either)) 0
-two_roots p q first second =
-    ap (λ pieces. body_of Either (placed 0 pieces)) (slice_split-cons_yes (is_separator Either) p (q ∷ []) first ∙ ap (λ pieces. [] ∷ pieces) (slice_split-cons_yes (is_separator Either) q [] second))
+two_roots p q first second = grind arith
 
 -- what stands apart begins with a separator
 apart-first : (s : Separators) (text : List ℕ) → Apart s text → 0 < length text → is_separator s (get_or text 0 0) ≡ true
@@ -102,14 +82,7 @@ module _ (t name : List ℕ) (b : ℕ) (bs : List ℕ) (h : HasName windows t na
 
   -- the last component stands behind the prefix
   found_last : (f : Found) → prefix_of windows t ≡ Some f → last_of (body (separators windows t) f.length (drop f.length t)) ≡ Some h.last
-  found_last f e = by (body (separators windows t) f.length (drop f.length t)) (sym (ap (λ o. last_of (comps_behind (separators windows t) t o)) e) ∙ h.is_last)
-    where
-      p : Placed
-      p = record { part = prefix_part f.prefix (take f.length t); start = 0 }
-
-      by : (B : List Placed) → last_of (p ∷ B) ≡ Some h.last → last_of B ≡ Some h.last
-      by [] is = let same : p ≡ h.last = same_Some _ _ is in absurd (clash (prefix f.prefix) name (ap (λ q. q.part.kind) same ∙ ap (λ r. r.kind) h.part) refl)
-      by (q ∷ B) is = sym (last_of-behind p q B) ∙ is
+  found_last f e = grind (arith, common_steps)
 
   -- so the prefix ends before the name does
   ends_before : (f : Found) → prefix_of windows t ≡ Some f → f.length < upto
@@ -185,12 +158,7 @@ module _ (t name : List ℕ) (b : ℕ) (bs : List ℕ) (h : HasName windows t na
 -- An extension that separates nothing.
 
 none_passes : (test : ℕ → Bool) (bs : List ℕ) → list_any test bs ≡ false → IsUnseparated test bs
-none_passes test [] e = All-nil _
-none_passes test (b ∷ bs) e = by (test b) refl e (λ more. none_passes test bs more)
-  where
-    by : (passes : Bool) → test b ≡ passes → (passes || list_any test bs) ≡ false → (list_any test bs ≡ false → IsUnseparated test bs) → IsUnseparated test (b ∷ bs)
-    by true h more rest = cc
-    by false h more rest = All-cons (λ c. test c ≡ false) b bs h (rest more)
+none_passes test bs e = grind (arith, common_steps)
 
 -- the separators and the prefix stay, in both dialects
 front_stays : (d : Dialect) (t name : List ℕ) (b : ℕ) (bs : List ℕ) (h : HasName d t name) → IsUnseparated (is_separator (separators d t)) (dot ∷ b ∷ bs) → is_verbatim_unc_name (prefix_kind d t) ≡ false

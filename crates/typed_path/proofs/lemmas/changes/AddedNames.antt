@@ -1,17 +1,17 @@
 -- A path with more behind its file name is read as before, but for that name.
-use Rattle.std.proofs.Common.{◌≡◌, ℕ, ◌+◌, ◌-◌, ◌<◌, ◌≤◌, ◌==◌, Bool, true, false, if◌then◌else◌, List, [], ◌∷◌, ◌++◌, length, take, drop, inl, inr, ◌⊎◌, refl, sym, ap, ap₂, subst, ◌∙◌, arith, append-nil, append_assoc, length-append, length-drop, Some, None, Option, option_map, option_and_then, unwrap_or, slice_get, not, suc}
-use Rattle.std.proofs.lemmas.Bool.{cases_lt, cond-false, cond-true, lt-ltb, both_ways}
+use Rattle.std.proofs.Common.{◌≡◌, ℕ, ◌+◌, ◌-◌, ◌<◌, ◌≤◌, true, false, List, [], ◌∷◌, ◌++◌, length, take, drop, inl, inr, ◌⊎◌, refl, sym, ap, ap₂, subst, ◌∙◌, arith, append-nil, append_assoc, length-append, length-drop, Some, None, Option, option_map, option_and_then, unwrap_or, slice_get, not, suc}
+use Rattle.std.proofs.lemmas.Grind.{common_steps}
+use Rattle.std.proofs.lemmas.Bool.{cases_lt, cond-true, lt-ltb, both_ways}
 use Rattle.std.proofs.lemmas.List.{take_all, take-take, take-append-le, drop-append-le, drop-take, length-take-le}
 use Rattle.std.proofs.lemmas.List.Elements.{All-append}
 use Rattle.std.proofs.lemmas.List.Splits.{slice_split_none, slice_split-cons_yes}
 use Rattle.std.proofs.lemmas.Option.{same_Some}
 use Rattle.std.specs.List.{suffix_len}
-use Rattle.std.proofs.Math.Dec.{eqb-suc-zero}
 use Rattle.typed_path.specs.declared.scan.separators.Separators.{Separators}
 use Rattle.typed_path.specs.declared.scan.cursor.Begin.TheVariants.{Body}
-use Rattle.typed_path.specs.components.{Dialect, unix, windows, is_separator, is_verbatim, separators, root_text, Kind, root, normal, prefix, Part, Placed, parts, is_name, end_of, component, name_part, root_part, current_part, parent_part, prefix_part, is_dot, is_dot_dot, first, later, body, body_of, placed, comps, comps_behind, Found, prefix_of, written, as_written}
+use Rattle.typed_path.specs.components.{Dialect, unix, windows, is_separator, separators, root_text, Kind, root, normal, prefix, Part, Placed, parts, is_name, end_of, component, name_part, root_part, prefix_part, first, later, body, body_of, placed, comps, comps_behind, Found, prefix_of, written, as_written}
 use Rattle.typed_path.specs.components.Written.{written_unix, written_windows}
-use Rattle.typed_path.specs.scan.{last_of, but_last, end_at, cut_to, slice_after_back, AreInOrder, last_part}
+use Rattle.typed_path.specs.scan.{last_of, but_last, end_at, slice_after_back, AreInOrder, last_part}
 use Rattle.typed_path.specs.queries.{name_of, file_name_of, parent_of, is_root}
 use Rattle.typed_path.proofs.lemmas.lists.Lists.{IsUnseparated, IsLastPlace, last_place, behind_last-unseparated, cut_last}
 use Rattle.typed_path.proofs.lemmas.components.Segments.{body_from-append, body_from-separator}
@@ -35,11 +35,9 @@ pushed (b ∷ cs) c is =
 
 -- the last of components that stand in order
 ordered-last : (at end : ℕ) (cs : List Placed) (c : Placed) → last_of cs ≡ Some c → AreInOrder at end cs → (at ≤ c.start) × (end_of c ≤ end)
-ordered-last at end [] c is h = cc
-ordered-last at end (p ∷ []) c is h = let same : p ≡ c = same_Some _ _ is in subst (λ q. (at ≤ q.start) × (end_of q ≤ end)) same (h.0, h.1)
-ordered-last at end (p ∷ q ∷ cs) c is h =
-    let rest = ordered-last (end_of p) end (q ∷ cs) c (sym (last_of-behind p q cs) ∙ is) h.1 in
-    (omega (arith, h.0, rest.0), rest.1)
+ordered-last at end [] c is h = grind arith
+ordered-last at end (p ∷ []) c is h = grind (arith, same_Some)
+ordered-last at end (p ∷ q ∷ cs) c is h = grind (arith, last_of-behind, ordered-last (end_of p) end (q ∷ cs) c (sym (last_of-behind p q cs) ∙ is) h.1)
 
 -- and the one before it
 ordered-before : (at end : ℕ) (cs : List Placed) (b c : Placed) → last_of cs ≡ Some b → AreInOrder at end (cs ++ c ∷ []) → end_of b ≤ c.start
@@ -65,10 +63,7 @@ clash k name is other = both_ways (is_name k) other (ap is_name is)
 -- three bytes or more between separators are a name
 long-name : (s : Separators) (v : List ℕ) (at : ℕ) → 2 < length v
     → (first s (record { text = v; start = at }) ≡ component (name_part v) at) × (later s (record { text = v; start = at }) ≡ component (name_part v) at)
-long-name s [] at long = absurd (omega arith)
-long-name s (a ∷ []) at long = absurd (omega arith)
-long-name s (a ∷ b ∷ []) at long = absurd (omega arith)
-long-name s (a ∷ b ∷ c ∷ v) at long = let filled = eqb-suc-zero (length (b ∷ c ∷ v)) in (cond-false (length (a ∷ b ∷ c ∷ v) == 0) _ _ filled, cond-false (length (a ∷ b ∷ c ∷ v) == 0) _ _ filled)
+long-name s v at long = grind arith
 
 -- a text without a separator is one component
 alone : (s : Separators) (at : ℕ) (v : List ℕ) → 0 < length v → IsUnseparated (is_separator s) v → body s at v ≡ first s (record { text = v; start = at })
@@ -85,53 +80,20 @@ record IsNameAt (cs others : List Placed) (text : List ℕ) (at : ℕ) (name : L
 module _ (text : List ℕ) (at : ℕ) (name : List ℕ) (c : Placed) (part : c.part ≡ name_part name) where
   -- a component is no other one
   no_other : (others : List Placed) (p : Part) (q : ℕ) → is_name p.kind ≡ false → last_of (others ++ component p q) ≡ Some c → ⊥
-  no_other others p q other is =
-      let same : record { part = p; start = q } ≡ c = same_Some _ _ (sym (last_of-push others (record { part = p; start = q })) ∙ is) in
-      clash p.kind name (ap (λ d. d.part.kind) same ∙ ap (λ r. r.kind) part) other
+  no_other others p q other is = grind (arith, last_of-push, clash)
 
   -- a name is that name
   that_name : (others : List Placed) → 0 < length text → last_of (others ++ component (name_part text) at) ≡ Some c → IsNameAt (others ++ component (name_part text) at) others text at name c
-  that_name others some is =
-      let same : record { part = name_part text; start = at } ≡ c = same_Some _ _ (sym (last_of-push others (record { part = name_part text; start = at })) ∙ is) in
-      record {
-        same = ap (λ d. d.part.text) same ∙ ap (λ r. r.text) part;
-        place = ap (λ d. d.start) same;
-        before = but_last-push others (record { part = name_part text; start = at });
-        filled = some;
-      }
+  that_name others h is = grind (arith, last_of-push, but_last-push)
 
   -- of a first segment
   first_name : (s : Separators) → last_of (first s (record { text = text; start = at })) ≡ Some c → IsNameAt (first s (record { text = text; start = at })) [] text at name c
-  first_name s is = by (length text == 0) refl (is_dot text) (is_dot_dot text) is
-    where
-      parts_by : Bool → Bool → Bool → List Placed
-      parts_by none dotted twice =
-          if none then component (root_part (root_text s)) at
-          else (if dotted then component current_part at else (if twice then component parent_part at else component (name_part text) at))
-
-      by : (none : Bool) → (length text == 0) ≡ none → (dotted twice : Bool) → last_of (parts_by none dotted twice) ≡ Some c → IsNameAt (parts_by none dotted twice) [] text at name c
-      by true e dotted twice is = absurd (no_other [] (root_part (root_text s)) at refl is)
-      by false e true twice is = absurd (no_other [] current_part at refl is)
-      by false e false true is = absurd (no_other [] parent_part at refl is)
-      by false e false false is = that_name [] (filled-long text e) is
+  first_name s is = grind arith
 
   -- of a later one, unless it is none
   later_name : (s : Separators) (others : List Placed) → last_of (others ++ later s (record { text = text; start = at })) ≡ Some c
       → (last_of others ≡ Some c) ⊎ IsNameAt (others ++ later s (record { text = text; start = at })) others text at name c
-  later_name s others is = by (length text == 0) refl (is_dot text) (is_verbatim s) (is_dot_dot text) is
-    where
-      parts_by : Bool → Bool → Bool → Bool → List Placed
-      parts_by none dotted verbatim twice =
-          if none then []
-          else (if dotted then (if verbatim then component current_part at else []) else (if twice then component parent_part at else component (name_part text) at))
-
-      by : (none : Bool) → (length text == 0) ≡ none → (dotted verbatim twice : Bool) → last_of (others ++ parts_by none dotted verbatim twice) ≡ Some c
-          → (last_of others ≡ Some c) ⊎ IsNameAt (others ++ parts_by none dotted verbatim twice) others text at name c
-      by true e dotted verbatim twice is = inl (ap last_of (sym (append-nil others)) ∙ is)
-      by false e true false twice is = inl (ap last_of (sym (append-nil others)) ∙ is)
-      by false e true true twice is = absurd (no_other others current_part at refl is)
-      by false e false verbatim true is = absurd (no_other others parent_part at refl is)
-      by false e false verbatim false is = inr (that_name others (filled-long text e) is)
+  later_name s others is = grind (arith, append-nil, no_other, that_name, filled-long)
 
 module _ (s : Separators) (at : ℕ) (b x : List ℕ) (unseparated : IsUnseparated (is_separator s) x) (long : 1 < length x) (c : Placed) (name : List ℕ)
     (is_last : last_of (body s at b) ≡ Some c) (part : c.part ≡ name_part name) (ends : c.start + length name ≡ at + length b) where
@@ -202,8 +164,7 @@ module _ (s : Separators) (at : ℕ) (b x : List ℕ) (unseparated : IsUnseparat
       h = last_place (is_separator s) b
 
       filled : (text : List ℕ) → last_of (body s at text) ≡ Some c → 0 < length text
-      filled [] is = cc
-      filled (y ∷ ys) is = omega arith
+      filled text is = grind arith
 
 -- A path with more behind its file name, where that leaves its separators and its prefix.
 
@@ -214,8 +175,7 @@ pub record KeepsFront (d : Dialect) (t u : List ℕ) : Type 0 where
 
 -- a name that is last is written as it is
 of_name : (k : Kind) (name : List ℕ) → name_of k ≡ Some name → k ≡ normal name
-of_name (normal n) name e = ap normal (same_Some _ _ e)
-of_name k name e = cc
+of_name k name e = grind arith
 
 heads : {q r : Part} {qs rs : List Part} → q ∷ qs ≡ r ∷ rs → (q ≡ r) × (qs ≡ rs)
 heads h = (cc, cc)
@@ -318,15 +278,7 @@ module _ (d : Dialect) (t name x : List ℕ) (h : HasName d t name) (long : 1 < 
   same_front n low = sym (take-append-le n (take end t) x (omega (arith, fits)) ∙ take-take n end t low)
 
   same_cut : (above : List Placed) → AreInOrder 0 (length t) (above ++ c ∷ []) → slice_after_back (above ++ c ∷ []) t ≡ slice_after_back (above ++ record { part = name_part (name ++ x); start = c.start } ∷ []) grown_text
-  same_cut [] order = refl
-  same_cut (b ∷ above) order = cut c t ∙ by (last_of (b ∷ above)) refl ∙ sym (cut (record { part = name_part (name ++ x); start = c.start }) grown_text)
-    where
-      cut : (l : Placed) (u : List ℕ) → slice_after_back (b ∷ above ++ l ∷ []) u ≡ cut_to b.start u (option_map end_of (last_of (b ∷ above)))
-      cut l u = ap (λ ds. cut_to b.start u (option_map end_of (last_of ds))) (but_last-push (b ∷ above) l)
-
-      by : (o : Option Placed) → last_of (b ∷ above) ≡ o → cut_to b.start t (option_map end_of o) ≡ cut_to b.start grown_text (option_map end_of o)
-      by None is = refl
-      by (Some l) is = let before = ordered-before 0 (length t) (b ∷ above) l c is order in same_front (end_of l - b.start) (omega arith)
+  same_cut above order = grind (arith, common_steps, ordered-before, same_front)
 
   pub grown-parent : KeepsFront d t grown_text → parent_of d grown_text ≡ parent_of d t
   grown-parent front =

@@ -1,32 +1,27 @@
 -- A path judged component by component, and what holds of one that is not refused.
-use Rattle.std.proofs.Common.{◌≡◌, ℕ, zero, suc, ◌+◌, Bool, true, false, if◌then◌else◌, List, [], ◌∷◌, ◌++◌, refl, sym, ap, arith, length, ◌==◌, not, ◌&&◌, ◌∙◌, ◌-◌, ◌<◌, ◌||◌, cond, slice_index, subst, Some, None, Option, nat_eq, le-leb, ne_eqb, eq-eqb, ⊎_elim}
+use Rattle.std.proofs.Common.{◌≡◌, ℕ, zero, suc, ◌+◌, Bool, true, false, if◌then◌else◌, List, [], ◌∷◌, ◌++◌, refl, sym, ap, arith, length, ◌==◌, not, ◌&&◌, ◌∙◌, ◌-◌, ◌<◌, ◌||◌, cond, slice_index, Some, None, Option, nat_eq, le-leb, ne_eqb, eq-eqb}
+use Rattle.std.proofs.lemmas.Grind.{common_steps}
 use Rattle.std.specs.List.{count_by, list_any, slice_split, onto_first, starts_with, AllByRecursion}
 use Rattle.std.specs.Option.{option_or}
 use Rattle.std.specs.Slice.Scan.{HoldsNowhere}
-use Rattle.std.proofs.lemmas.List.Sums.{sum_by_push}
-use Rattle.std.proofs.lemmas.Bool.{cases_lt, lt-leb, and_parts, false_from_ne_true, or_parts, not-true, eqb-false}
-use Rattle.std.proofs.lemmas.List.Splits.{slice_split-cons_yes}
+use Rattle.std.proofs.lemmas.Bool.{cases_lt, lt-leb, and_parts, or_parts, not-true, eqb-false}
 use Rattle.std.proofs.lemmas.List.{get_or_past, map-append}
 use Rattle.std.proofs.Math.Bool.{and-false, and-true}
 use Rattle.typed_path.specs.declared.errors.CheckedPathError.{CheckedPathError}
 use Rattle.typed_path.specs.declared.errors.CheckedPathError.TheVariants.{InvalidFilename}
 use Rattle.typed_path.specs.declared.scan.separators.Separators.{Separators}
 use Rattle.typed_path.specs.declared.scan.separators.Separators.TheVariants.{Either, Slash}
-use Rattle.typed_path.specs.components.{Dialect, windows, dot, is_separator, is_verbatim, root_text, separators, unix, slash, Kind, prefix, root, current, parent, normal, is_name, is_parent, Part, kinds, current_part, root_part, parent_part, name_part, Prefix, prefix_part, Found, prefix_of, is_dot, parts_of, is_dot_dot}
+use Rattle.typed_path.specs.components.{Dialect, windows, dot, is_separator, root_text, separators, unix, slash, Kind, prefix, root, current, parent, normal, is_name, is_parent, Part, kinds, current_part, root_part, parent_part, name_part, Prefix, prefix_part, Found, prefix_of, parts_of, is_dot_dot}
 use Rattle.typed_path.specs.scan.{TellsWhether}
 use Rattle.typed_path.specs.queries.{is_valid_name, begins_with_root, has_prefix, has_any_verbatim_prefix, is_disallowed, is_disk}
 use Rattle.typed_path.specs.changes.{fault_behind, fault_at, fault, offence, merged, spelled, ended_windows, push, begins_with_nul_or_dot_pair, has_no_nul_or_dot_pair, is_nul_or_dot_pair, nul_or_dot_pair_at}
 use Rattle.typed_path.specs.places.{overdraws, stays, resolve, with_implied_root}
-use Rattle.typed_path.proofs.lemmas.components.Segments.{pieces, named_part, later_parts, first_parts, body_parts, parts_behind, later_part, parts-body}
+use Rattle.typed_path.proofs.lemmas.components.Segments.{pieces, later_parts, first_parts, body_parts, parts_behind, later_part, parts-body}
 use Rattle.typed_path.proofs.lemmas.components.PrefixCuts.{parts_of-none, parts_of-some}
-use Rattle.typed_path.proofs.lemmas.places.Resolving.{Alike, current-alike, is_head, no_heads, resolve-append}
-use Rattle.typed_path.proofs.lemmas.lists.Lists.{slice_split-some, AllByRecursion-append}
+use Rattle.typed_path.proofs.lemmas.places.Resolving.{Alike, is_head, no_heads, resolve-append, first_parts-alike}
+use Rattle.typed_path.proofs.lemmas.lists.Lists.{slice_split-some, count_by-push}
 
 -- A path judged component by component, and what holds of one that is not refused.
-
--- one more element counted
-count_by-push : {X : Type 0} (p : X → Bool) (xs : List X) (x : X) → count_by p (xs ++ x ∷ []) ≡ count_by p xs + (if p x then 1 else 0)
-count_by-push p xs x = sum_by_push (λ y. if p y then 1 else 0) xs x
 
 -- so many more names than parents
 abbrev IsBalance : List Kind → ℕ → Type 0
@@ -49,13 +44,11 @@ fault_behind-at d before depth (normal name ∷ ks) e =
   where
     by : (b : Bool) → fault_behind d (before ++ normal name ∷ []) ks ≡ fault_at d (suc depth) ks
         → option_or (if b then None else Some InvalidFilename) (fault_behind d (before ++ normal name ∷ []) ks) ≡ (if b then fault_at d (suc depth) ks else Some InvalidFilename)
-    by true h = h
-    by false h = refl
+    by b h = grind arith
 
 -- what stands behind a name is not refused where the name and it are not
 named-more : (b : Bool) (o : Option CheckedPathError) → (if b then o else Some InvalidFilename) ≡ None → o ≡ None
-named-more true o e = e
-named-more false o e = cc
+named-more b o e = grind arith
 
 -- a list that is not refused never holds more parents than names, and holds no prefix and no root
 pub fault_at-closed : (d : Dialect) (depth : ℕ) (ks : List Kind) → fault_at d depth ks ≡ None → (overdraws depth ks ≡ false) × (no_heads ks ≡ true)
@@ -71,8 +64,7 @@ fault_at-closed d depth (normal name ∷ ks) e = fault_at-closed d (suc depth) k
 
 -- a list without a prefix and a root does not begin with a root
 pub no_heads-relative : (ks : List Kind) → no_heads ks ≡ true → begins_with_root ks ≡ false
-no_heads-relative (root ∷ ks) e = cc
-no_heads-relative ks e = refl
+no_heads-relative ks e = grind arith
 
 -- a path that is not refused: what is read of it, and what is not there
 pub record IsFaultless (path : List ℕ) : Type 0 where
@@ -92,42 +84,16 @@ faultless path accepted = by (prefix_of windows path) refl
     refused f e = cc
 
     by : (o : Option Found) → prefix_of windows path ≡ o → IsFaultless path
-    by None none =
-        let read = parts_of-none path none in
-        let body = ap (λ ps. fault_at windows zero (kinds ps)) (sym read) ∙ judged in
-        record {
-          no_prefix = none;
-          read = read;
-          closed = (fault_at-closed windows zero (kinds (body_parts Either path)) body).0;
-          headless = (fault_at-closed windows zero (kinds (body_parts Either path)) body).1;
-        }
+    by None none = grind (arith, parts_of-none, judged, fault_at-closed, body_parts)
     by (Some f) some = absurd (refused f (ap (λ ps. fault_at windows zero (kinds ps)) (sym (parts_of-some path f some)) ∙ judged))
-
--- pieces that do not begin with a root resolve alike at the beginning and later
-first_parts-alike : (s : Separators) (some : List (List ℕ)) → begins_with_root (kinds (first_parts s some)) ≡ false → Alike (first_parts s some) (later_parts s some)
-first_parts-alike s [] relative = record { draws = λ names. refl; resolves = refl }
-first_parts-alike s (piece ∷ rest) relative = by (length piece == 0) (is_dot piece) (is_verbatim s) relative
-  where
-    by : (empty dotted verbatim : Bool)
-        → begins_with_root (kinds ((if empty then root_part (root_text s) else (if dotted then current_part else named_part piece)) ∷ later_parts s rest)) ≡ false
-        → Alike ((if empty then root_part (root_text s) else (if dotted then current_part else named_part piece)) ∷ later_parts s rest)
-        ((if empty then [] else (if dotted then (if verbatim then current_part ∷ [] else []) else named_part piece ∷ [])) ++ later_parts s rest)
-    by true dotted verbatim e = cc
-    by false true true e = record { draws = λ names. refl; resolves = refl }
-    by false true false e = current-alike (dot ∷ []) (later_parts s rest)
-    by false false verbatim e = record { draws = λ names. refl; resolves = refl }
 
 -- so does a text
 pub body_parts-alike : (s : Separators) (text : List ℕ) → begins_with_root (kinds (body_parts s text)) ≡ false → Alike (body_parts s text) (later_parts s (pieces s text))
-body_parts-alike s [] relative = record { draws = λ names. refl; resolves = refl }
-body_parts-alike s (b ∷ bs) relative = first_parts-alike s (pieces s (b ∷ bs)) relative
+body_parts-alike s text relative = grind (arith, first_parts-alike, pieces)
 
 -- a text that does not begin with a root does not begin with a separator
 pub body_parts-relative : (s : Separators) (b : ℕ) (bs : List ℕ) → begins_with_root (kinds (body_parts s (b ∷ bs))) ≡ false → is_separator s b ≡ false
-body_parts-relative s b bs relative = false_from_ne_true _ (λ separates. rooted (ap (λ some. begins_with_root (kinds (first_parts s some))) (sym (slice_split-cons_yes (is_separator s) b bs separates)) ∙ relative))
-  where
-    rooted : true ≡ false → ⊥
-    rooted e = cc
+body_parts-relative s b bs relative = grind arith
 
 -- what a list without prefixes and roots resolves to has none
 pub no_heads-resolve : (ps : List Part) → no_heads (kinds ps) ≡ true → no_heads (kinds (resolve ps)) ≡ true
@@ -135,8 +101,7 @@ no_heads-resolve [] e = refl
 no_heads-resolve (p ∷ ps) e = by (stays p.kind (kinds ps)) (and_parts _ _ e).0 (no_heads-resolve ps (and_parts (not (is_head p.kind)) _ e).1)
   where
     by : (b : Bool) → not (is_head p.kind) ≡ true → no_heads (kinds (resolve ps)) ≡ true → no_heads (kinds ((if b then p ∷ [] else []) ++ resolve ps)) ≡ true
-    by true own rest = ap (λ c. c && no_heads (kinds (resolve ps))) own ∙ rest
-    by false own rest = rest
+    by b own rest = grind (arith, no_heads)
 
 -- a faultless path neither replaces the base nor cuts it to its prefix
 pub push-faultless : (base : List ℕ) (b : ℕ) (path : List ℕ) → IsFaultless (b ∷ path)
@@ -146,9 +111,7 @@ push-faultless base b path faultless =
     rw (no_heads-no_prefix (kinds (parts_of windows (b ∷ path))) headless, no_heads-relative (kinds (parts_of windows (b ∷ path))) headless) refl
   where
     no_heads-no_prefix : (ks : List Kind) → no_heads ks ≡ true → has_prefix ks ≡ false
-    no_heads-no_prefix [] e = refl
-    no_heads-no_prefix (prefix p ∷ ks) e = cc
-    no_heads-no_prefix (k ∷ ks) e = refl
+    no_heads-no_prefix ks e = grind arith
 
 -- A path of Unix in which neither NUL nor two dots side by side stand: none of its components offends.
 
@@ -156,14 +119,11 @@ push-faultless base b path faultless =
 
 -- of a byte behind which no dot stands it counts whether it is NUL
 lone : (zeros dots : Bool) → zeros || dots && false ≡ zeros
-lone true dots = refl
-lone false true = refl
-lone false false = refl
+lone zeros dots = grind arith
 
 -- at the front of a text, its first place tells
 front-place : (x : ℕ) (xs : List ℕ) → nul_or_dot_pair_at (x ∷ xs) 0 ≡ begins_with_nul_or_dot_pair (x ∷ xs)
-front-place x (y ∷ ys) = refl
-front-place x [] = lone (x == 0) (x == dot)
+front-place x xs = grind arith
 
 -- and the later ones tell behind it
 later-place : (x k : ℕ) (xs : List ℕ) → nul_or_dot_pair_at (x ∷ xs) (suc k) ≡ nul_or_dot_pair_at xs k
@@ -184,9 +144,7 @@ no_pair-somewhere (x ∷ xs) (suc k) within here = ap (λ rest. not (begins_with
 module _ (text : List ℕ) (some : 0 < length text) where
   -- behind the last byte of a text stands no dot
   last-place : nul_or_dot_pair_at text (length text - 1) ≡ (slice_index text (length text - 1) == 0)
-  last-place =
-      let behind : slice_index text (length text - 1 + 1) ≡ 0 = get_or_past text (length text - 1 + 1) 0 (omega arith) in
-      ap (is_nul_or_dot_pair (slice_index text (length text - 1))) behind ∙ lone (slice_index text (length text - 1) == 0) (slice_index text (length text - 1) == dot)
+  last-place = grind (arith, get_or_past, lone)
 
   -- a text whose last byte is NUL
   pub no_pair-last : slice_index text (length text - 1) ≡ 0 → has_no_nul_or_dot_pair text ≡ false
@@ -194,9 +152,7 @@ module _ (text : List ℕ) (some : 0 < length text) where
 
   -- of any other, the places before the last byte tell
   pub no_pair-before : (told : Bool) → (slice_index text (length text - 1) ≡ 0 → ⊥) → TellsWhether (nul_or_dot_pair_at text) 0 (length text - 1) told → has_no_nul_or_dot_pair text ≡ not told
-  no_pair-before true other pair = no_pair-somewhere text pair.0 (omega (arith, pair.2)) pair.3
-  no_pair-before false other none =
-      no_pair-nowhere text (λ k low high. ⊎_elim (none k low) (λ l. let here : k ≡ length text - 1 = omega (arith, l, high) in ap (nul_or_dot_pair_at text) here ∙ last-place ∙ ne_eqb (slice_index text (length text - 1)) 0 other) (cases_lt k (length text - 1)))
+  no_pair-before told other pair = grind (arith, no_pair-somewhere, no_pair-nowhere, last-place, cases_lt)
 
 -- ---- what they tell of the components
 
@@ -211,18 +167,14 @@ put x piece allowed harmless apart = (apart, ap (λ b. b || list_any (is_disallo
 -- the same of the first of many pieces, the text of which begins with a byte
 put_onto : (x y : ℕ) (separates : Bool) (ps : List (List ℕ)) → is_disallowed unix x ≡ false → (x == dot && y == dot) ≡ false
     → AllByRecursion IsHarmlessPiece (cond separates ([] ∷ ps) (onto_first y ps)) → AllByRecursion IsHarmlessPiece (onto_first x (cond separates ([] ∷ ps) (onto_first y ps)))
-put_onto x y true ps allowed apart all = (put x [] allowed all.0 refl, all.1)
-put_onto x y false [] allowed apart all = (put x (y ∷ []) allowed all.0 apart, tt)
-put_onto x y false ([] ∷ ps) allowed apart all = (put x (y ∷ []) allowed all.0 apart, all.1)
-put_onto x y false ((z ∷ zs) ∷ ps) allowed apart all = (put x (y ∷ z ∷ zs) allowed all.0 refl, all.1)
+put_onto x y separates ps allowed apart all = grind arith
 
 harmless-pieces : (text : List ℕ) → has_no_nul_or_dot_pair text ≡ true → AllByRecursion IsHarmlessPiece (pieces Slash text)
 harmless-pieces [] e = ((refl, refl), tt)
 harmless-pieces (x ∷ []) e = by (x == slash) refl
   where
     by : (separates : Bool) → (x == slash) ≡ separates → AllByRecursion IsHarmlessPiece (cond separates ([] ∷ [] ∷ []) ((x ∷ []) ∷ []))
-    by true s = ((refl, refl), ((refl, refl), tt))
-    by false s = ((refl, ap (λ b. (b || x == 0) || false) s ∙ ap (λ b. b || false) (not-true (x == 0) (and_parts (not (x == 0)) true e).0)), tt)
+    by separates s = grind (arith, not-true, and_parts)
 harmless-pieces (x ∷ y ∷ ys) e =
     let told = and_parts (not (begins_with_nul_or_dot_pair (x ∷ y ∷ ys))) (has_no_nul_or_dot_pair (y ∷ ys)) e in
     let front = or_parts (x == 0) (x == dot && y == dot) (not-true _ told.0) in
@@ -230,8 +182,7 @@ harmless-pieces (x ∷ y ∷ ys) e =
   where
     by : (separates : Bool) → (x == slash) ≡ separates → (x == 0) ≡ false → (x == dot && y == dot) ≡ false
         → AllByRecursion IsHarmlessPiece (pieces Slash (y ∷ ys)) → AllByRecursion IsHarmlessPiece (cond separates ([] ∷ pieces Slash (y ∷ ys)) (onto_first x (pieces Slash (y ∷ ys))))
-    by true s allowed apart all = ((refl, refl), all)
-    by false s allowed apart all = put_onto x y (y == slash) (pieces Slash ys) (ap (λ b. b || x == 0) s ∙ allowed) apart all
+    by separates s allowed apart all = grind (arith, put_onto, pieces)
 
 -- a component that offends nowhere
 abbrev IsHarmless : Kind → Type 0
@@ -248,23 +199,15 @@ harmless-name piece harmless before = ap (λ b. if not b && true then None else 
 module _ (piece : List ℕ) (harmless : IsHarmlessPiece piece) where
   later : (empty dotted twice : Bool) → is_dot_dot piece ≡ twice
       → AllByRecursion IsHarmlessPart (if empty then [] else (if dotted then [] else (if twice then parent_part else name_part piece) ∷ []))
-  later true dotted twice e = tt
-  later false true twice e = tt
-  later false false true e = let two = sym e ∙ harmless.0 in cc
-  later false false false e = (harmless-name piece harmless, tt)
+  later empty dotted twice e = grind arith
 
   first : (empty dotted twice : Bool) → empty ≡ false → is_dot_dot piece ≡ twice
       → IsHarmlessPart (if empty then root_part (root_text Slash) else (if dotted then current_part else (if twice then parent_part else name_part piece)))
-  first true dotted twice filled e = cc
-  first false true twice filled e = λ before. refl
-  first false false true filled e = let two = sym e ∙ harmless.0 in cc
-  first false false false filled e = harmless-name piece harmless
+  first empty dotted twice filled e = grind arith
 
 harmless-later : (ps : List (List ℕ)) → AllByRecursion IsHarmlessPiece ps → AllByRecursion IsHarmlessPart (later_parts Slash ps)
 harmless-later [] all = tt
-harmless-later (p ∷ ps) all =
-    AllByRecursion-append IsHarmlessPart (later_part Slash p) (later_parts Slash ps)
-    (later p all.0 (length p == 0) (is_dot p) (is_dot_dot p) refl) (harmless-later ps all.1)
+harmless-later (p ∷ ps) all = grind (arith, common_steps, later_part, later_parts, later, harmless-later ps all.1)
 
 -- components that offend nowhere are not refused
 none_refused : (before : List Kind) (ps : List Part) → AllByRecursion IsHarmlessPart ps → fault_behind unix before (kinds ps) ≡ None
@@ -277,22 +220,14 @@ whole : (b : ℕ) (bs : List ℕ) → (b == slash) ≡ false → has_no_nul_or_d
 whole b bs relative harmless = by (slice_split-some (is_separator Slash) bs) (harmless-pieces (b ∷ bs) harmless)
   where
     by : (some : (piece : List ℕ) × (rest : List (List ℕ)) × (slice_split (is_separator Slash) bs ≡ piece ∷ rest)) → AllByRecursion IsHarmlessPiece (pieces Slash (b ∷ bs)) → AllByRecursion IsHarmlessPart (first_parts Slash (pieces Slash (b ∷ bs)))
-    by some all =
-        let cut : pieces Slash (b ∷ bs) ≡ (b ∷ some.0) ∷ some.1 =
-        ap (λ s. cond s ([] ∷ pieces Slash bs) (onto_first b (pieces Slash bs))) relative ∙ ap (onto_first b) some.2 in
-        let each = subst (λ ps. AllByRecursion IsHarmlessPiece ps) cut all in
-        subst (λ ps. AllByRecursion IsHarmlessPart (first_parts Slash ps)) (sym cut)
-        (first (b ∷ some.0) each.0 (length (b ∷ some.0) == 0) (is_dot (b ∷ some.0)) (is_dot_dot (b ∷ some.0)) (ne_eqb (length (b ∷ some.0)) 0 (λ h. omega arith)) refl, harmless-later some.1 each.1)
+    by some all = grind (arith, pieces, first_parts, first, harmless-later)
 
 not_first : (b : ℕ) (bs : List ℕ) → starts_with nat_eq (b ∷ bs) (slash ∷ []) ≡ false → (b == slash) ≡ false
 not_first b bs e = ne_eqb b slash (λ h. eqb-false slash b (sym (and-true (slash == b)) ∙ e) (sym h))
 
 -- a path without a root that does no harm is not refused
 pub harmless : (path : List ℕ) → has_no_nul_or_dot_pair path ≡ true → starts_with nat_eq path (slash ∷ []) ≡ false → fault unix path ≡ None
-harmless [] e relative = refl
-harmless (b ∷ bs) e relative =
-    ap (λ ps. fault_behind unix [] (kinds ps)) (parts-body Slash 0 (b ∷ bs))
-    ∙ none_refused [] (body_parts Slash (b ∷ bs)) (whole b bs (not_first b bs relative) e)
+harmless path e relative = grind (arith, common_steps, parts-body, none_refused, body_parts, whole, not_first)
 
 -- The place of a list with more behind it.
 
@@ -302,36 +237,19 @@ place_of ps = with_implied_root (kinds (resolve ps))
 
 -- no root is implied by a list without a prefix
 pub with_implied_root-headless : (ks : List Kind) → no_heads ks ≡ true → with_implied_root ks ≡ ks
-with_implied_root-headless [] headless = refl
-with_implied_root-headless (prefix p ∷ ks) headless = cc
-with_implied_root-headless (k ∷ ks) headless = refl
+with_implied_root-headless ks headless = grind arith
 
 -- a list begins with a root as it did before
 begins_with_root-append : (ks ls : List Kind) → no_heads ls ≡ true → begins_with_root (ks ++ ls) ≡ begins_with_root ks
-begins_with_root-append [] ls headless = no_heads-relative ls headless
-begins_with_root-append (root ∷ ks) ls headless = refl
-begins_with_root-append (k ∷ ks) ls headless = refl
+begins_with_root-append ks ls headless = grind arith
 
 -- names behind a list change no root in it
 with_implied_root-append : (ks ls : List Kind) → no_heads ls ≡ true → with_implied_root (ks ++ ls) ≡ with_implied_root ks ++ ls
-with_implied_root-append [] ls headless = with_implied_root-headless ls headless
-with_implied_root-append (prefix p ∷ ks) ls headless =
-    ap (λ b. if is_disk p then prefix p ∷ ks ++ ls else (if b then prefix p ∷ ks ++ ls else prefix p ∷ root ∷ ks ++ ls)) (begins_with_root-append ks ls headless)
-    ∙ by (is_disk p) (begins_with_root ks)
-  where
-    by : (drive rooted : Bool) → (if drive then prefix p ∷ ks ++ ls else (if rooted then prefix p ∷ ks ++ ls else prefix p ∷ root ∷ ks ++ ls))
-        ≡ (if drive then prefix p ∷ ks else (if rooted then prefix p ∷ ks else prefix p ∷ root ∷ ks)) ++ ls
-    by true rooted = refl
-    by false true = refl
-    by false false = refl
-with_implied_root-append (k ∷ ks) ls headless = refl
+with_implied_root-append ks ls headless = grind arith
 
 -- what takes nothing away and has no prefix and no root is put behind a place
 pub place_of-append : (ps qs : List Part) → overdraws zero (kinds qs) ≡ false → no_heads (kinds (resolve qs)) ≡ true → place_of (ps ++ qs) ≡ place_of ps ++ kinds (resolve qs)
-place_of-append ps qs closed headless =
-    ap (λ rs. with_implied_root (kinds rs)) (resolve-append ps qs closed)
-    ∙ ap with_implied_root (map-append (λ p. p.kind) (resolve ps) (resolve qs))
-    ∙ with_implied_root-append (kinds (resolve ps)) (kinds (resolve qs)) headless
+place_of-append ps qs closed headless = grind (arith, resolve-append, map-append, with_implied_root-append)
 
 -- behind a prefix that is no drive a root put in by hand changes no place
 pub place_of-rooted : (p : Prefix) (raw text : List ℕ) (qs : List Part) → is_disk p ≡ false → no_heads (kinds (resolve qs)) ≡ true

@@ -1,23 +1,21 @@
 -- How a text put behind another is read, a list merged into another, and lists spelled and read again.
-use Rattle.std.proofs.Common.{◌≡◌, ℕ, ◌+◌, ◌-◌, ◌<◌, ◌==◌, true, false, List, [], ◌∷◌, ◌++◌, length, take, slice_index, refl, sym, ap, ◌∙◌, append_assoc, append-nil, take_all, le_refl, subst, eqb-true, arith, ◌||◌, Bool, if◌then◌else◌, zero, suc, ap₂, ne_eqb, not, ◌&&◌, cond, length-append, eq-eqb}
-use Rattle.std.proofs.lemmas.List.{take_more}
-use Rattle.std.proofs.lemmas.List.Splits.{slice_split_none, slice_split-cons_yes}
-use Rattle.std.proofs.lemmas.Bool.{cond_both, eqb-false, both_ways, and_parts, or_parts, not-true}
-use Rattle.std.proofs.Math.Seq.{get_or-append_seam}
+use Rattle.std.proofs.Common.{◌≡◌, ℕ, ◌-◌, ◌<◌, ◌==◌, true, false, List, [], ◌∷◌, ◌++◌, length, take, slice_index, refl, sym, ap, ◌∙◌, append_assoc, append-nil, subst, eqb-true, arith, ◌||◌, Bool, if◌then◌else◌, zero, suc, ap₂, not, ◌&&◌, cond}
+use Rattle.std.proofs.lemmas.Grind.{common_steps}
+use Rattle.std.proofs.lemmas.List.Splits.{slice_split_none}
+use Rattle.std.proofs.lemmas.Bool.{eqb-false, and_parts, or_parts, not-true}
 use Rattle.std.specs.List.{AllByRecursion, list_any, list_all, slice_split, onto_first}
-use Rattle.std.proofs.lemmas.List.Elements.{All-nil, All-cons}
 use Rattle.std.proofs.lemmas.List.Folds.{list_any_none, list_any-append}
 use Rattle.typed_path.specs.declared.scan.separators.Separators.{Separators}
 use Rattle.typed_path.specs.declared.scan.separators.Separators.TheVariants.{Slash, Backslash, Either}
-use Rattle.typed_path.specs.components.{is_separator, windows, backslash, dot, root_text, slash, is_verbatim, name_part, kinds, Kind, prefix, root, current, parent, normal, Part, current_part, parent_part, root_part, parts_of, is_dot, is_dot_dot}
+use Rattle.typed_path.specs.components.{is_separator, windows, backslash, root_text, slash, is_verbatim, name_part, kinds, Kind, prefix, root, current, parent, normal, Part, current_part, parent_part, root_part, parts_of, is_dot, is_dot_dot}
 use Rattle.typed_path.specs.changes.{ended_with, is_disk_alone, ended_windows, without_last_name, merge_by_kind, merged, joint, spelled, is_component, is_row}
 use Rattle.typed_path.specs.places.{overdraws, resolve}
 use Rattle.typed_path.specs.queries.{begins_with_root}
-use Rattle.typed_path.proofs.lemmas.lists.Lists.{slice_split-some, slice_split-append, AllByRecursion-append, IsUnseparated, slice_split-unseparated}
+use Rattle.typed_path.proofs.lemmas.lists.Lists.{slice_split-some, slice_split-append, AllByRecursion-append, IsUnseparated, slice_split-unseparated, but_last}
 use Rattle.typed_path.proofs.lemmas.components.Segments.{pieces, first_parts, first_parts-append, later_parts, body_parts, IsCleanName, later_part, first_part, IsWritten, IsWrittenPart, IsLater, IsLaterPart, AreRead, later_parts-later, dot-is, dot_dot-is}
 use Rattle.typed_path.proofs.lemmas.components.PrefixCuts.{IsUnended}
 use Rattle.typed_path.proofs.lemmas.places.Resolving.{IsKept, resolve-same, Alike, Alike-append, current-alike, no_heads}
-use Rattle.typed_path.proofs.lemmas.components.Prefixes.{OfWindows, backslash-separates, root_text-windows, dot-unseparated}
+use Rattle.typed_path.proofs.lemmas.components.Prefixes.{OfWindows, backslash-separates}
 
 -- The components of a text with more put behind a separator at its end.
 
@@ -43,13 +41,6 @@ body_parts-append s front b rest separates = filled front ∙ cut_apart
         let some = slice_split-some (is_separator s) front in
         rw (slice_split-append (is_separator s) front b rest separates, some.2) (first_parts-append s some.0 some.1 (pieces s rest))
 
--- a text is what stands before its last byte, and that byte
-pub but_last : (text : List ℕ) → (length text == 0) ≡ false → text ≡ take (length text - 1) text ++ slice_index text (length text - 1) ∷ []
-but_last text filled =
-    let above : 0 < length text = grind (arith, eqb-false) in
-    let whole : length text - 1 + 1 ≡ length text = omega arith in
-    sym (take_all (length text) text (le_refl (length text))) ∙ (rw whole at (take_more text (length text - 1) 0 (omega arith)))
-
 -- a separator at the end of a text adds no component
 body_parts-separator : (s : Separators) (front : List ℕ) (b : ℕ) → is_separator s b ≡ true → body_parts s (front ++ b ∷ []) ≡ first_parts s (pieces s front)
 body_parts-separator s front b separates = body_parts-append s front b [] separates ∙ append-nil (first_parts s (pieces s front))
@@ -57,24 +48,16 @@ body_parts-separator s front b separates = body_parts-append s front b [] separa
 -- what is put behind a text and a separator is read as later pieces
 pub body_parts-behind : (s : Separators) (b : ℕ) (base rest : List ℕ) → is_separator s b ≡ true → (length base == 0) ≡ false
     → body_parts s ((base ++ b ∷ []) ++ rest) ≡ body_parts s base ++ later_parts s (pieces s rest)
-body_parts-behind s b [] rest separates filled = cc
-body_parts-behind s b (c ∷ cs) rest separates filled = rw (append_assoc cs (b ∷ []) rest) (body_parts-append s (c ∷ cs) b rest separates)
+body_parts-behind s b base rest separates filled = grind (arith, append_assoc, body_parts-append)
 
 -- what is put behind a text that ends with a separator is read as later pieces
 pub body_parts-more : (s : Separators) (b : ℕ) (front rest : List ℕ) → is_separator s b ≡ true → body_parts s ((front ++ b ∷ []) ++ rest) ≡ body_parts s (front ++ b ∷ []) ++ later_parts s (pieces s rest)
-body_parts-more s b front rest separates =
-    rw (append_assoc front (b ∷ []) rest) (body_parts-append s front b rest separates ∙ ap (λ ps. ps ++ later_parts s (pieces s rest)) (sym (body_parts-separator s front b separates)))
+body_parts-more s b front rest separates = grind (arith, append_assoc, body_parts-append)
 
 -- what is put behind a text, once that ends with a separator, is read as later pieces
 pub body_parts-ended : (s : Separators) (b : ℕ) (base rest : List ℕ) → is_separator s b ≡ true → (length base == 0) ≡ false
     → body_parts s (ended_with b base ++ rest) ≡ body_parts s base ++ later_parts s (pieces s rest)
-body_parts-ended s b base rest separates filled =
-    rw filled (cond_both (slice_index base (length base - 1) == b) base (base ++ b ∷ []) (λ text. body_parts s (text ++ rest) ≡ body_parts s base ++ later_parts s (pieces s rest)) ends (λ no_end. body_parts-behind s b base rest separates filled))
-  where
-    ends : (slice_index base (length base - 1) == b) ≡ true → body_parts s (base ++ rest) ≡ body_parts s base ++ later_parts s (pieces s rest)
-    ends last =
-        let whole : base ≡ take (length base - 1) base ++ b ∷ [] = but_last base filled ∙ ap (λ c. take (length base - 1) base ++ c ∷ []) (eqb-true _ b last) in
-        subst (λ text. body_parts s (text ++ rest) ≡ body_parts s text ++ later_parts s (pieces s rest)) (sym whole) (body_parts-more s b (take (length base - 1) base) rest separates)
+body_parts-ended s b base rest separates filled = grind (arith, common_steps, body_parts-behind, but_last, eqb-true, body_parts-more)
 
 -- A base of Windows with a separator put behind it, where it needs one.
 
@@ -91,10 +74,7 @@ HasEnding base text = (mid : List ℕ) × (text ≡ base ++ mid) × Ending base 
 
 -- a text whose last byte is another does not end with `\`
 unended-last : (base : List ℕ) → (slice_index base (length base - 1) == backslash) ≡ false → IsUnended base
-unended-last base other front is =
-    let place : length base - 1 ≡ length front = omega (arith, ap length is, length-append front (backslash ∷ [])) in
-    let last : slice_index base (length base - 1) ≡ backslash = ap (slice_index base) place ∙ ap (λ t. slice_index t (length front)) is ∙ get_or-append_seam front backslash [] 0 in
-    both_ways (slice_index base (length base - 1) == backslash) other (eq-eqb _ backslash last)
+unended-last base other front is = grind (arith, common_steps)
 
 -- a base that is no drive alone
 ended_with-ending : (base : List ℕ) → is_disk_alone (kinds (parts_of windows base)) ≡ false → HasEnding base (ended_with backslash base)
@@ -183,23 +163,7 @@ pub record IsPiece (s : Separators) (k : Kind) (text : List ℕ) : Type 0 where
 
 -- a later component is one piece
 pub later-piece : (s : Separators) (k : Kind) (text : List ℕ) → IsLater s k text → IsPiece s k text
-later-piece s (prefix q) text later = absurd later
-later-piece s root text later = absurd later
-later-piece s current text later = rw later.1 (record {
-  unseparated = All-cons (λ b. is_separator s b ≡ false) dot [] (dot-unseparated s) (All-nil _);
-  later = ap (λ b. if b then current_part ∷ [] else []) later.0;
-  filled = refl;
-})
-later-piece s parent text later = rw later (record {
-  unseparated = All-cons (λ b. is_separator s b ≡ false) dot (dot ∷ []) (dot-unseparated s) (All-cons (λ b. is_separator s b ≡ false) dot [] (dot-unseparated s) (All-nil _));
-  later = refl;
-  filled = refl;
-})
-later-piece s (normal name) text later = rw later.0 (record {
-  unseparated = later.1.unseparated;
-  later = rw (later.1.filled, later.1.no_dot, later.1.no_dot_dot) refl;
-  filled = later.1.filled;
-})
+later-piece s k text later = grind arith
 
 -- between components that are no roots stands a separator
 pub joint-relative : (k l : Kind) → begins_with_root (k ∷ []) ≡ false → begins_with_root (l ∷ []) ≡ false → joint k l ≡ backslash ∷ []
@@ -214,31 +178,19 @@ later-relative s k text later = refl
 
 -- a text that is not empty is read from its pieces
 body_parts-filled : (s : Separators) (text : List ℕ) → (length text == 0) ≡ false → body_parts s text ≡ first_parts s (pieces s text)
-body_parts-filled s [] filled = cc
-body_parts-filled s (b ∷ bs) filled = refl
+body_parts-filled s text filled = grind arith
 
 -- what is put behind a text that is not empty leaves it so
 append-filled : (front rest : List ℕ) → (length front == 0) ≡ false → (length (front ++ rest) == 0) ≡ false
-append-filled [] rest filled = cc
-append-filled (b ∷ bs) rest filled = ne_eqb (suc (length (bs ++ rest))) 0 (λ e. cc)
+append-filled front rest filled = grind (arith, common_steps)
 
 -- a component is written with some bytes
 written-filled : (s : Separators) (k : Kind) (text : List ℕ) → IsWritten s k text → (length text == 0) ≡ false
-written-filled s (prefix p) text written = absurd written
-written-filled s root text written = rw written (by s)
-  where
-    by : (t : Separators) → (length (root_text t) == 0) ≡ false
-    by Slash = refl
-    by Backslash = refl
-    by Either = refl
-written-filled s (normal name) text written = rw written.0 written.1.filled
-written-filled s k text written = rw written refl
+written-filled s k text written = grind arith
 
 -- so is a list
 pub spelled-filled : (s : Separators) (p : Part) (ps : List Part) → IsWrittenPart s p → (length (spelled (p ∷ ps)) == 0) ≡ false
-spelled-filled s p [] written = written-filled s p.kind p.text written
-spelled-filled s p (q ∷ ps) written =
-    append-filled (p.text ++ joint p.kind q.kind) (spelled (q ∷ ps)) (append-filled p.text (joint p.kind q.kind) (written-filled s p.kind p.text written))
+spelled-filled s p ps written = grind arith
 
 module _ (s : Separators) (w : OfWindows s) where
   -- later components, spelled, are read again as later pieces
@@ -269,11 +221,7 @@ module _ (s : Separators) (w : OfWindows s) where
 
   -- behind a root stands no separator
   first_parts-root : (ps : List Part) → AllByRecursion (IsLaterPart s) ps → first_parts s (pieces s (spelled (root_part (root_text s) ∷ ps))) ≡ root_part (root_text s) ∷ ps
-  first_parts-root [] later = rw (root_text-windows s w) (ap (first_parts s) (slice_split-cons_yes (is_separator s) backslash [] (backslash-separates s w)) ∙ ap (λ t. root_part t ∷ []) (root_text-windows s w))
-  first_parts-root (q ∷ ps) later =
-      ap (λ t. first_parts s (pieces s (t ++ [] ++ spelled (q ∷ ps)))) (root_text-windows s w)
-      ∙ ap (first_parts s) (slice_split-cons_yes (is_separator s) backslash (spelled (q ∷ ps)) (backslash-separates s w))
-      ∙ ap (λ qs. root_part (root_text s) ∷ qs) (later_parts-spelled q ps later)
+  first_parts-root ps later = grind (arith, backslash-separates, pieces, later_parts-spelled)
 
   -- a first component is read again, with later ones behind it
   abbrev IsReadAgain : Kind → List Part → List ℕ → Type 0
@@ -281,15 +229,7 @@ module _ (s : Separators) (w : OfWindows s) where
 
   -- each first component is
   first_parts-spelled : (k : Kind) (text : List ℕ) (ps : List Part) → IsWritten s k text → AllByRecursion (IsLaterPart s) ps → IsReadAgain k ps text
-  first_parts-spelled (prefix p) text ps written later = absurd written
-  first_parts-spelled root text ps written later = subst (IsReadAgain root ps) (sym written) (first_parts-root ps later)
-  first_parts-spelled current text ps written later =
-      subst (IsReadAgain current ps) (sym written) (first_parts-behind current_part ps refl (All-cons (λ b. is_separator s b ≡ false) dot [] (dot-unseparated s) (All-nil _)) refl later)
-  first_parts-spelled parent text ps written later =
-      subst (IsReadAgain parent ps) (sym written) (first_parts-behind parent_part ps refl (later-piece s parent (dot ∷ dot ∷ []) refl).unseparated refl later)
-  first_parts-spelled (normal name) text ps written later =
-      let clean = written.1 in
-      subst (IsReadAgain (normal name) ps) (sym written.0) (first_parts-behind (name_part name) ps refl clean.unseparated (rw (clean.filled, clean.no_dot, clean.no_dot_dot) refl) later)
+  first_parts-spelled k text ps written later = grind (arith, first_parts-root, first_parts-behind)
 
   -- a list as it is read, spelled, is read again
   pub body_parts-spelled : (p : Part) (ps : List Part) → AreRead s (p ∷ ps) → body_parts s (spelled (p ∷ ps)) ≡ p ∷ ps
@@ -305,15 +245,8 @@ joined (piece ∷ next ∷ further) = piece ++ backslash ∷ joined (next ∷ fu
 
 -- a text is its pieces with `\` between them
 pub joined-split : (text : List ℕ) → joined (slice_split (is_separator Backslash) text) ≡ text
-joined-split [] = refl
-joined-split (b ∷ bs) = let some = slice_split-some (is_separator Backslash) bs in by (b == backslash) refl some.0 some.1 some.2 (joined-split bs)
-  where
-    by : (x : Bool) → (b == backslash) ≡ x → (piece : List ℕ) (further : List (List ℕ)) → slice_split (is_separator Backslash) bs ≡ piece ∷ further → joined (slice_split (is_separator Backslash) bs) ≡ bs
-        → joined (cond x ([] ∷ slice_split (is_separator Backslash) bs) (onto_first b (slice_split (is_separator Backslash) bs))) ≡ b ∷ bs
-    by true e piece further is again =
-        ap (λ ps. joined ([] ∷ ps)) is ∙ ap (λ t. backslash ∷ t) (ap joined (sym is) ∙ again) ∙ ap (λ c. c ∷ bs) (sym (eqb-true b backslash e))
-    by false e piece [] is again = ap (λ ps. joined (onto_first b ps)) is ∙ ap (λ t. b ∷ t) (ap joined (sym is) ∙ again)
-    by false e piece (next ∷ further) is again = ap (λ ps. joined (onto_first b ps)) is ∙ ap (λ t. b ∷ t) (ap joined (sym is) ∙ again)
+joined-split [] = grind arith
+joined-split (b ∷ bs) = grind (arith, slice_split-some, eqb-true, joined-split bs)
 
 -- without `/` both separators split as `\` does
 pub split-either : (text : List ℕ) → list_any (is_separator Slash) text ≡ false → slice_split (is_separator Either) text ≡ slice_split (is_separator Backslash) text
@@ -388,23 +321,15 @@ row-read s text w h =
     }
   where
     by : (s : Separators) → OfWindows s → (is_verbatim s || not (list_any (is_separator Slash) text)) ≡ true → pieces s text ≡ slice_split (is_separator Backslash) text
-    by Slash w h = cc
-    by Backslash w h = refl
-    by Either w h = split-either text (not-true _ h)
+    by s w h = grind (arith, split-either, not-true)
 
 -- a later component is a component as it stands
 component-later : (s : Separators) (k : Kind) (text : List ℕ) → IsLater s k text → is_component s text ≡ true
-component-later s (prefix p) text later = absurd later
-component-later s root text later = absurd later
-component-later s current text later = rw later.1 (ap (λ v. not (not v)) later.0)
-component-later s parent text later = rw later refl
-component-later s (normal name) text later = rw (later.0, later.1.filled, later.1.no_dot) refl
+component-later s k text later = grind arith
 
 -- what separates nothing holds no `\`
 pub backslash-free : (s : Separators) → OfWindows s → (text : List ℕ) → IsUnseparated (is_separator s) text → IsUnseparated (is_separator Backslash) text
-backslash-free Slash w text free = cc
-backslash-free Backslash w text free = free
-backslash-free Either w text free = λ k d l. (or_parts _ _ (free k d l)).1
+backslash-free s w text free = grind arith
 
 -- a later component holds no `/`, unless the text is read verbatim
 piece-slash_free : (p : Part) → IsLaterPart Either p → list_any (is_separator Slash) p.text ≡ false
@@ -413,10 +338,7 @@ piece-slash_free p later = list_any_none (is_separator Slash) p.text (λ k d l. 
 -- nor do later components, spelled
 slash-free : (p : Part) (ps : List Part) → AllByRecursion (IsLaterPart Either) (p ∷ ps) → list_any (is_separator Slash) (spelled (p ∷ ps)) ≡ false
 slash-free p [] later = piece-slash_free p later.0
-slash-free p (q ∷ ps) later =
-    ap (λ j. list_any (is_separator Slash) (p.text ++ j ++ spelled (q ∷ ps))) (joint-relative p.kind q.kind (later-relative Either p.kind p.text later.0) (later-relative Either q.kind q.text later.1.0))
-    ∙ list_any-append (is_separator Slash) (p.text ++ backslash ∷ []) (spelled (q ∷ ps))
-    ∙ ap₂ ◌||◌ (list_any-append (is_separator Slash) p.text (backslash ∷ []) ∙ ap (λ x. x || false) (piece-slash_free p later.0)) (slash-free q ps later.1)
+slash-free p (q ∷ ps) later = grind (arith, common_steps, joint-relative, later-relative, list_any-append, piece-slash_free, slash-free q ps later.1)
 
 -- each piece of later components, spelled, is one
 components-spelled : (s : Separators) → OfWindows s → (p : Part) (ps : List Part) → AllByRecursion (IsLaterPart s) (p ∷ ps)
@@ -435,9 +357,4 @@ components-spelled s w p (q ∷ ps) later =
 
 -- so later components, spelled, are a row
 pub row-spelled : (s : Separators) → OfWindows s → (p : Part) (ps : List Part) → AllByRecursion (IsLaterPart s) (p ∷ ps) → is_row s (spelled (p ∷ ps)) ≡ true
-row-spelled s w p ps later = ap₂ ◌&&◌ (by s w later) (components-spelled s w p ps later)
-  where
-    by : (s : Separators) → OfWindows s → AllByRecursion (IsLaterPart s) (p ∷ ps) → (is_verbatim s || not (list_any (is_separator Slash) (spelled (p ∷ ps)))) ≡ true
-    by Slash w later = cc
-    by Backslash w later = refl
-    by Either w later = ap not (slash-free p ps later)
+row-spelled s w p ps later = grind (arith, components-spelled, slash-free)

@@ -1,18 +1,18 @@
 -- How long a path is that another is pushed onto.
-use Rattle.std.proofs.Common.{◌≡◌, ℕ, ◌+◌, ◌≤◌, ◌==◌, Bool, true, false, if◌then◌else◌, List, [], ◌∷◌, ◌++◌, length, take, drop, slice_range, ◌-◌, ◌&&◌, nat_lt, Option, Some, None, is_some, unwrap_or, option_and_then, refl, ap, arith, length-append, length-take, length-drop}
+use Rattle.std.proofs.Common.{◌≡◌, ℕ, ◌+◌, ◌≤◌, true, if◌then◌else◌, List, [], ◌∷◌, ◌++◌, length, take, drop, Option, Some, None, is_some, refl, ap, arith, length-append, length-take, length-drop}
+use Rattle.std.proofs.lemmas.Grind.{common_steps}
 use Rattle.std.proofs.lemmas.Bool.{cond_both}
 use Rattle.std.proofs.lemmas.List.Sums.{sum_by-cons, sum_by-append}
 use Rattle.typed_path.specs.declared.scan.separators.Separators.TheVariants.{Either}
-use Rattle.typed_path.specs.components.{Dialect, unix, windows, slash, backslash, separators, Kind, prefix, root, current, parent, normal, Part, kinds, is_name, prefix_part, Found, prefix_of, Placed, comps, parts_of}
-use Rattle.typed_path.specs.scan.{last_of, left, start_at, end_at}
-use Rattle.typed_path.specs.queries.{has_prefix, has_any_verbatim_prefix, begins_with_root, begins_with_prefix, is_root, file_name_of}
-use Rattle.typed_path.specs.changes.{push, push_unix, push_windows, push_behind, ended_with, ended_windows, is_disk_alone, raw_prefix, raw_length, spelled, merged, merge_by_kind, prefix_alone, without_last_name, joint, room_of, stem_end, cut_at, dotted, with_extension, popped, with_file_name}
+use Rattle.typed_path.specs.components.{Dialect, unix, windows, separators, Kind, prefix, root, current, parent, normal, Part, kinds, is_name, prefix_part, Found, prefix_of, comps, parts_of}
+use Rattle.typed_path.specs.scan.{left}
+use Rattle.typed_path.specs.queries.{has_prefix, has_any_verbatim_prefix, begins_with_root, file_name_of}
+use Rattle.typed_path.specs.changes.{push, push_unix, push_windows, push_behind, ended_with, ended_windows, raw_prefix, raw_length, spelled, merged, merge_by_kind, prefix_alone, without_last_name, joint, room_of, with_extension, popped, with_file_name}
 use Rattle.typed_path.proofs.lemmas.components.Segments.{body_parts}
 use Rattle.typed_path.proofs.lemmas.components.Prefixes.{prefix-fits}
 use Rattle.typed_path.proofs.lemmas.components.PrefixCuts.{parts_of-none, parts_of-some}
-use Rattle.typed_path.proofs.lemmas.changes.Joins.{joint-relative}
 use Rattle.typed_path.proofs.lemmas.changes.MergedInPlace.{room-body, room-text}
-use Rattle.typed_path.proofs.lemmas.promises.WindowsBases.{joint-root}
+use Rattle.typed_path.proofs.lemmas.lists.Lists.{slice-length}
 
 -- the room that the component of a piece takes
 abbrev pub size : Part → ℕ
@@ -41,9 +41,7 @@ one-room : (p : Part) (ps : List Part) → room_of (p ∷ []) ≤ room_of (p ∷
 one-room p ps = omega (arith, sum_by-cons size p [], sum_by-cons size p ps)
 
 alone-room : (ps : List Part) → room_of (prefix_alone ps) ≤ room_of ps
-alone-room [] = omega arith
-alone-room (p ∷ ps) =
-    cond_both (begins_with_prefix (λ q. true) (p.kind ∷ [])) (p ∷ []) [] (λ qs. room_of qs ≤ room_of (p ∷ ps)) (λ e. one-room p ps) (λ e. omega arith)
+alone-room ps = grind (arith, cond_both, one-room)
 
 cut-room : (ps : List Part) → room_of (without_last_name ps) ≤ room_of ps
 cut-room [] = omega arith
@@ -68,40 +66,22 @@ joint-from_root root l e = refl
 joint-from_root k l e = cc
 
 pub joint-size : (k l : Kind) → (length (joint k l) ≤ (if begins_with_root (k ∷ []) then 0 else 1)) × (length (joint k l) ≤ (if begins_with_root (l ∷ []) then 0 else 1))
-joint-size k l = by (begins_with_root (k ∷ [])) (begins_with_root (l ∷ [])) refl refl
-  where
-    by : (b c : Bool) → begins_with_root (k ∷ []) ≡ b → begins_with_root (l ∷ []) ≡ c → (length (joint k l) ≤ (if b then 0 else 1)) × (length (joint k l) ≤ (if c then 0 else 1))
-    by true true e f = let none = ap length (joint-from_root k l e) in (omega (arith, none), omega (arith, none))
-    by true false e f = let none = ap length (joint-from_root k l e) in (omega (arith, none), omega (arith, none))
-    by false true e f = let none = ap length (joint-root k l f) in (omega (arith, none), omega (arith, none))
-    by false false e f = let one = ap length (joint-relative k l e f) in (omega (arith, one), omega (arith, one))
+joint-size k l = grind arith
 
 -- a list takes so much room where it is written anew
 spelled-room : (ps : List Part) → length (spelled ps) ≤ room_of ps
 spelled-room [] = omega arith
 spelled-room (p ∷ []) = omega (arith, sum_by-cons size p [])
-spelled-room (p ∷ q ∷ ps) =
-    omega (
-      arith,
-      spelled-room (q ∷ ps),
-      (joint-size p.kind q.kind).0,
-      sum_by-cons size p (q ∷ ps),
-      length-append (p.text ++ joint p.kind q.kind) (spelled (q ∷ ps)),
-      length-append p.text (joint p.kind q.kind),
-    )
+spelled-room (p ∷ q ∷ ps) = grind (arith, common_steps, joint-size, sum_by-cons, length-append, spelled-room (q ∷ ps))
 
 pub ended-length : (b : ℕ) (t : List ℕ) → length (ended_with b t) ≤ length t + 1
 ended-length b t = cond_both _ t (t ++ b ∷ []) (λ u. length u ≤ length t + 1) (λ e. omega arith) (λ e. omega (arith, length-append t (b ∷ [])))
 
 unix-length : (base path : List ℕ) → length (push_unix base path) ≤ length base + length path + 3
-unix-length base [] = omega arith
-unix-length base (b ∷ path) =
-    cond_both (b == slash) (b ∷ path) (ended_with slash base ++ b ∷ path) (λ t. length t ≤ length base + length (b ∷ path) + 3) (λ e. omega arith)
-    (λ e. omega (arith, ended-length slash base, length-append (ended_with slash base) (b ∷ path)))
+unix-length base path = grind (arith, ended-length, length-append)
 
 windows-ended : (base : List ℕ) → length (ended_windows base) ≤ length base + 1
-windows-ended base =
-    cond_both (is_disk_alone (kinds (parts_of windows base))) base (ended_with backslash base) (λ t. length t ≤ length base + 1) (λ e. omega arith) (λ e. ended-length backslash base)
+windows-ended base = grind (arith, cond_both, ended-length)
 
 behind-length : (base path : List ℕ) → length (push_behind base path) ≤ length base + length path + 1
 behind-length base path =
@@ -125,33 +105,13 @@ push_length windows base path = windows-length base path
 
 -- and one with another extension one byte more than the path and the extension
 pub with_extension_length : (d : Dialect) (t ext : List ℕ) → length (with_extension d t ext) ≤ length t + length ext + 1
-with_extension_length d t ext = by (stem_end d t)
-  where
-    dotted-length : (ext : List ℕ) → length (dotted ext) ≤ length ext + 1
-    dotted-length [] = omega arith
-    dotted-length (b ∷ bs) = omega arith
-
-    by : (o : Option ℕ) → length (cut_at t ext o) ≤ length t + length ext + 1
-    by None = omega arith
-    by (Some end) = omega (arith, length-append (take end t) (dotted ext), length-take end t, dotted-length ext)
-
--- a path that is cut to its parent is no longer
-slice-length : (t : List ℕ) (from to : ℕ) → length (slice_range t from to) ≤ length t
-slice-length t from to = omega (arith, length-take (to - from) (drop from t), length-drop from t)
+with_extension_length d t ext = grind (arith, length-append, length-take)
 
 parent-length : (d : Dialect) (t : List ℕ) → length (left (comps d t) t 0 1) ≤ length t
-parent-length d t =
-    let cs = comps d t in
-    let end = if 1 == 0 then length t else end_at cs (length cs - 1 - 1) in
-    cond_both (0 + 1 == length cs && nat_lt 0 (length cs)) [] (slice_range t (if 0 == 0 then 0 else start_at cs 0) end) (λ u. length u ≤ length t)
-    (λ e. omega arith) (λ e. slice-length t (if 0 == 0 then 0 else start_at cs 0) end)
+parent-length d t = grind (arith, common_steps, cond_both, slice-length)
 
 popped-length : (d : Dialect) (t : List ℕ) → length (popped d t) ≤ length t
-popped-length d t = by (last_of (comps d t))
-  where
-    by : (last : Option Placed) → length (unwrap_or (option_and_then (λ c. if is_root c.part.kind then None else Some (left (comps d t) t 0 1)) last) t) ≤ length t
-    by None = omega arith
-    by (Some c) = cond_both (is_root c.part.kind) None (Some (left (comps d t) t 0 1)) (λ o. length (unwrap_or o t) ≤ length t) (λ e. omega arith) (λ e. parent-length d t)
+popped-length d t = grind (arith, cond_both, parent-length)
 
 -- so with another file name it has three bytes more than both at the most
 pub with_file_name_length : (d : Dialect) (t name : List ℕ) → length (with_file_name d t name) ≤ length t + length name + 3

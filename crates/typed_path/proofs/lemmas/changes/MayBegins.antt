@@ -170,9 +170,7 @@ module _ (text : List ℕ) (at to left lowest : ℕ) (ordered : at ≤ to) (with
       ∙ ap (λ k. begins_with_device (drop k text) || has_device_behind (drop k text)) behind
 
   pub marks-behind : TellsBegins text (at + (lowest + 1)) (to - (at + (lowest + 1))) (left / 2 ^ (lowest + 1))
-  marks-behind =
-      let whole : to - at ≡ (lowest + 1) + (to - (at + (lowest + 1))) = omega (arith, (marks.separates lowest set).0, ordered) in
-      tells-later text at (to - (at + (lowest + 1))) (lowest + 1) left (subst (λ n. TellsBegins text at n left) whole marks)
+  marks-behind = grind (arith, tells-later)
 
 -- a range without marks tells nothing
 pub unmarked : (text : List ℕ) (at to left : ℕ) → at ≤ to → to ≤ length text → TellsBegins text at (to - at) left → left ≡ 0

@@ -1,63 +1,41 @@
 -- Components as they are read, merged behind a prefix, and read again.
-use Rattle.std.proofs.Common.{◌≡◌, ℕ, suc, ◌+◌, ◌≤◌, ◌<◌, ne_eqb, ◌==◌, Bool, true, false, if◌then◌else◌, List, [], ◌∷◌, ◌++◌, length, take, drop, slice_range, ◌-◌, Some, None, refl, sym, ap, subst, ◌∙◌, append_assoc, append-nil, arith, length-take-le, length-drop, Option, take-append-drop, take-take, drop-drop}
+use Rattle.std.proofs.Common.{◌≡◌, ℕ, suc, ◌+◌, ◌≤◌, ◌<◌, ne_eqb, Bool, true, false, if◌then◌else◌, List, [], ◌∷◌, ◌++◌, length, take, drop, slice_range, ◌-◌, Some, None, refl, sym, ap, subst, ◌∙◌, append_assoc, append-nil, arith, length-take-le, length-drop, Option, take-append-drop, take-take, drop-drop}
+use Rattle.std.proofs.lemmas.Grind.{common_steps}
 use Rattle.std.specs.List.{AllByRecursion}
 use Rattle.std.proofs.lemmas.Bool.{cond_both, both_ways}
 use Rattle.std.proofs.lemmas.List.{drop-take}
-use Rattle.std.proofs.lemmas.List.Elements.{All-nil, All-cons}
 use Rattle.std.proofs.lemmas.List.Sums.{sum_by-cons, sum_by-append}
 use Rattle.std.proofs.Math.Seq.{drop-append_seam, take-append_seam}
 use Rattle.typed_path.specs.declared.scan.separators.Separators.{Separators}
 use Rattle.typed_path.specs.declared.scan.separators.Separators.TheVariants.{Backslash, Either}
-use Rattle.typed_path.specs.components.{windows, backslash, dot, separators, is_separator, is_verbatim, root_text, begins_verbatim, Kind, prefix, root, current, parent, normal, Part, kinds, root_part, prefix_part, current_part, parent_part, name_part, is_name, Found, prefix_of, is_empty, is_dot, is_dot_dot, parts_of}
+use Rattle.typed_path.specs.components.{windows, backslash, separators, is_separator, begins_verbatim, Kind, prefix, root, current, parent, normal, Part, kinds, root_part, prefix_part, parent_part, name_part, is_name, Found, prefix_of, is_empty, is_dot_dot, parts_of}
 use Rattle.typed_path.specs.queries.{has_prefix, has_any_verbatim_prefix, begins_with_root}
 use Rattle.typed_path.specs.changes.{spelled, merged, raw_length, spells_anew, without_last_name, merge_by_kind, push_windows, IsStanding, IsReadFirst, AreReadBehind, IsMergeable, AreMergeable, Stands, IsSpelled, names_behind, room_of, IsKnown}
-use Rattle.typed_path.proofs.lemmas.lists.Lists.{AllByRecursion-weaker, width, width-slice_split, AllByRecursion-append}
-use Rattle.typed_path.proofs.lemmas.components.Prefixes.{OfWindows, separators-windows, root_text-windows, prefix-fits, prefix-read}
+use Rattle.typed_path.proofs.lemmas.lists.Lists.{AllByRecursion-weaker, width, width-slice_split}
+use Rattle.typed_path.proofs.lemmas.components.Prefixes.{OfWindows, separators-windows, prefix-fits, prefix-read}
 use Rattle.typed_path.proofs.lemmas.components.Segments.{pieces, first_part, later_part, first_parts, later_parts, body_parts, body_parts-read, AreRead, IsWritten, IsLater, IsLaterPart, IsWritten-later, named_part, each-written, IsWrittenPart, dot_dot-is}
-use Rattle.typed_path.proofs.lemmas.changes.Joins.{IsPiece, later-piece, backslash-free}
 use Rattle.typed_path.proofs.lemmas.changes.SpelledTexts.{Behind, nothing, rooted, spelled-shaped, IsUnprefixed, merged-behind, spelled-standing, stands-spelled, IsShaped, spelled-prefixed, behind-spelled, verbatim-kept}
 use Rattle.typed_path.proofs.lemmas.components.PrefixCuts.{prefix_by, prefix-size, verbatim-size, verbatim-take, parts_of-none, parts_of-some, unprefixed}
 use Rattle.typed_path.proofs.lemmas.changes.WindowsPushes.{push-anew}
 use Rattle.typed_path.proofs.lemmas.components.WindowsNames.{clean-either}
-use Rattle.typed_path.proofs.lemmas.components.FirmPrefixes.{filled-long}
-use Rattle.typed_path.proofs.lemmas.components.Cuts.{root_text-length}
 
 -- Components as they are read, which stand behind a prefix or are merged there, and the room that they take.
 
 module _ (s : Separators) (w : OfWindows s) where
   -- a later component stands
   pub later-standing : (k : Kind) (text : List ℕ) → IsLater s k text → IsStanding (record { kind = k; text = text })
-  later-standing k text later = by k text later (later-piece s k text later)
-    where
-      by : (k : Kind) (text : List ℕ) → IsLater s k text → IsPiece s k text → IsStanding (record { kind = k; text = text })
-      by (prefix p) text later piece = absurd later
-      by root text later piece = absurd later
-      by (normal name) text later piece =
-          record {
-            unprefixed = refl;
-            relative = refl;
-            filled = piece.filled;
-            unseparated = backslash-free s w text piece.unseparated;
-            named = rw (later.0, later.1.filled, later.1.no_dot, later.1.no_dot_dot) refl;
-          }
-      by current text later piece = record { unprefixed = refl; relative = refl; filled = piece.filled; unseparated = backslash-free s w text piece.unseparated; named = rw later.1 refl }
-      by parent text later piece = record { unprefixed = refl; relative = refl; filled = piece.filled; unseparated = backslash-free s w text piece.unseparated; named = rw later refl }
+  later-standing k text later = grind arith
 
   pub each-standing : (ps : List Part) → AllByRecursion (IsLaterPart s) ps → AllByRecursion IsStanding ps
   each-standing ps later = AllByRecursion-weaker (IsLaterPart s) IsStanding (λ p. later-standing p.kind p.text) ps later
 
   -- so does a first one that is no root
   first-read : (k : Kind) (text : List ℕ) → IsWritten s k text → IsReadFirst (record { kind = k; text = text }) k
-  first-read (prefix p) text written = absurd written
-  first-read root text written = written ∙ root_text-windows s w
-  first-read current text written = rw written (record { unprefixed = refl; relative = refl; filled = refl; unseparated = All-cons (λ b. is_separator Backslash b ≡ false) dot [] refl (All-nil _); named = refl })
-  first-read parent text written = later-standing parent text written
-  first-read (normal name) text written = later-standing (normal name) text written
+  first-read k text written = grind arith
 
   -- what is read behind a prefix
   pub read-behind : (ps : List Part) → AreRead s ps → AreReadBehind ps
-  read-behind [] read = tt
-  read-behind (p ∷ ps) read = (first-read p.kind p.text read.0, each-standing ps read.1)
+  read-behind ps read = grind (arith, first-read, each-standing)
 
   -- what stands behind the prefix of a text that is spelled as it is read
   pub behind-stands : (ps qs : List Part) (text : List ℕ) → Behind s ps qs text → Stands (is_empty text) ps text
@@ -70,11 +48,7 @@ module _ (s : Separators) (w : OfWindows s) where
 
 -- components that are merged
 written-mergeable : (k : Kind) (text : List ℕ) → IsWritten Either k text → IsMergeable (record { kind = k; text = text }) k
-written-mergeable (prefix p) text written = written
-written-mergeable root text written = written
-written-mergeable current text written = tt
-written-mergeable parent text written = tt
-written-mergeable (normal name) text written = later-standing Either refl (normal name) text written
+written-mergeable k text written = grind arith
 
 later-mergeable : (k : Kind) (text : List ℕ) → IsLater Either k text → IsMergeable (record { kind = k; text = text }) k
 later-mergeable k text later = written-mergeable k text (IsWritten-later Either k text later)
@@ -89,8 +63,7 @@ pub no-prefix : (t : List ℕ) → has_prefix (kinds (parts_of windows t)) ≡ f
 no-prefix t h = by (prefix_of windows t) refl
   where
     by : (o : Option Found) → prefix_of windows t ≡ o → o ≡ None
-    by None e = refl
-    by (Some f) e = absurd (both_ways _ h (ap (λ ps. has_prefix (kinds ps)) (parts_of-some t f e)))
+    by o e = grind (arith, both_ways, parts_of-some)
 
 -- those of a text without a prefix are
 pub text-mergeable : (t : List ℕ) → has_prefix (kinds (parts_of windows t)) ≡ false → AreMergeable (parts_of windows t)
@@ -105,24 +78,17 @@ named-size piece = cond_both (is_dot_dot piece) parent_part (name_part piece) (�
 
 module _ (s : Separators) where
   first-size : (piece : List ℕ) → size (first_part s piece) ≤ length piece + 1
-  first-size piece =
-      cond_both (length piece == 0) (root_part (root_text s)) _ (λ p. size p ≤ length piece + 1) (λ e. omega (arith, root_text-length s))
-      (λ filled. cond_both (is_dot piece) current_part (named_part piece) (λ p. size p ≤ length piece + 1) (λ e. omega (arith, filled-long piece filled)) (λ e. named-size piece))
+  first-size piece = grind arith
 
   later-size : (piece : List ℕ) → room_of (later_part s piece) ≤ length piece + 1
-  later-size piece =
-      cond_both (length piece == 0) [] _ (λ ps. room_of ps ≤ length piece + 1) (λ e. omega arith)
-      (λ filled. cond_both (is_dot piece) (if is_verbatim s then current_part ∷ [] else []) (named_part piece ∷ []) (λ ps. room_of ps ≤ length piece + 1)
-      (λ e. cond_both (is_verbatim s) (current_part ∷ []) [] (λ ps. room_of ps ≤ length piece + 1) (λ v. omega (arith, filled-long piece filled)) (λ v. omega arith))
-      (λ e. omega (arith, named-size piece)))
+  later-size piece = grind arith
 
   later-sizes : (ns : List (List ℕ)) → room_of (later_parts s ns) ≤ width ns
   later-sizes [] = omega arith
   later-sizes (n ∷ ns) = omega (arith, later-size n, later-sizes ns, sum_by-append size (later_part s n) (later_parts s ns))
 
   first-sizes : (ns : List (List ℕ)) → room_of (first_parts s ns) ≤ width ns
-  first-sizes [] = omega arith
-  first-sizes (n ∷ ns) = omega (arith, first-size n, later-sizes ns, sum_by-cons size (first_part s n) (later_parts s ns))
+  first-sizes ns = grind (arith, common_steps, first-size, later-sizes, sum_by-cons, first_part, later_parts)
 
   pub room-body : (t : List ℕ) → room_of (body_parts s t) ≤ length t + 1
   room-body [] = omega arith
@@ -134,24 +100,10 @@ room-text t h = subst (λ ps. room_of ps ≤ length t + 1) (sym (parts_of-none t
 
 -- what is read behind a prefix: a root and what stands behind it, or what stands there at once
 pub read-rooted : (ps : List Part) → AreReadBehind ps → begins_with_root (kinds ps) ≡ true → (qs : List Part) × (ps ≡ root_part (backslash ∷ []) ∷ qs) × AllByRecursion IsStanding qs
-read-rooted [] read e = cc
-read-rooted (p ∷ ps) read e = by p.kind p.text e read.0
-  where
-    by : (k : Kind) (text : List ℕ) → begins_with_root (k ∷ kinds ps) ≡ true → IsReadFirst (record { kind = k; text = text }) k
-        → (qs : List Part) × (record { kind = k; text = text } ∷ ps ≡ root_part (backslash ∷ []) ∷ qs) × AllByRecursion IsStanding qs
-    by root text e first = (ps, ap (λ t. root_part t ∷ ps) first, read.1)
-    by k text e first = cc
+read-rooted ps read e = grind arith
 
 pub read-relative : (ps : List Part) → AreReadBehind ps → begins_with_root (kinds ps) ≡ false → AllByRecursion IsStanding ps
-read-relative [] read e = tt
-read-relative (p ∷ ps) read e = (by p.kind p.text e read.0, read.1)
-  where
-    by : (k : Kind) (text : List ℕ) → begins_with_root (k ∷ kinds ps) ≡ false → IsReadFirst (record { kind = k; text = text }) k → IsStanding (record { kind = k; text = text })
-    by root text e first = cc
-    by (prefix p) text e first = first
-    by current text e first = first
-    by parent text e first = first
-    by (normal name) text e first = first
+read-relative ps read e = grind arith
 
 -- some of them are put
 pub record ArePut (parted : Bool) (text : List ℕ) (all rest : List Part) : Type 0 where
@@ -161,8 +113,7 @@ pub record ArePut (parted : Bool) (text : List ℕ) (all rest : List Part) : Typ
   pub standing : AllByRecursion IsStanding rest
 
 pub put-relative : (text : List ℕ) (ps : List Part) → text ≡ [] → AreReadBehind ps → begins_with_root (kinds ps) ≡ false → ArePut true text ps ps
-put-relative text ps e read relative =
-    record { done = []; stands = record { names = []; standing = tt; list = refl; written = e }; list = refl; standing = read-relative ps read relative }
+put-relative text ps e read relative = grind arith
 
 pub put-rooted : (text : List ℕ) (ps rest : List Part) → text ≡ backslash ∷ [] → AreReadBehind ps → begins_with_root (kinds ps) ≡ true → rest ≡ drop 1 ps → ArePut false text ps rest
 put-rooted text ps rest e read is same =
@@ -192,15 +143,7 @@ module _ {parted : Bool} {text : List ℕ} {all : List Part} where
 
 -- what is read behind a prefix begins with none
 read-unprefixed : (ps : List Part) → AreReadBehind ps → IsUnprefixed ps
-read-unprefixed [] read = refl
-read-unprefixed (p ∷ ps) read = by p.kind p.text read.0
-  where
-    by : (k : Kind) (text : List ℕ) → IsReadFirst (record { kind = k; text = text }) k → has_prefix (k ∷ kinds ps) ≡ false
-    by (prefix q) text first = let e = first.unprefixed in cc
-    by root text first = refl
-    by current text first = refl
-    by parent text first = refl
-    by (normal name) text first = refl
+read-unprefixed ps read = grind arith
 
 -- a base with a prefix, and the list behind it
 pub record IsBased (base : List ℕ) : Type 0 where
@@ -217,15 +160,7 @@ prefixed-based base h = by (prefix_of windows base) refl
 
     by : (o : Option Found) → prefix_of windows base ≡ o → IsBased base
     by None none = absurd (both_ways _ (unprefixed (λ p. true) base none) h)
-    by (Some f) some =
-        let list = parts_of-some base f some in
-        let rest : drop 1 (parts_of windows base) ≡ body_parts s (drop f.length base) = ap (drop 1) list in
-        record {
-          found = f;
-          is = some;
-          list = list ∙ ap (λ ps. prefix_part f.prefix (take f.length base) ∷ ps) (sym rest);
-          read = subst AreReadBehind (sym rest) (read-behind s (separators-windows base) (body_parts s (drop f.length base)) (body_parts-read s (drop f.length base)));
-        }
+    by (Some f) some = grind (arith, parts_of-some, body_parts, s, read-behind, separators-windows, body_parts-read)
 
 -- a path merged into what stands behind the prefix of a base, as one text with that
 pub merged-text : (base other text : List ℕ) (head : ℕ) (now : Bool) → has_prefix (kinds (parts_of windows base)) ≡ true → has_prefix (kinds (parts_of windows other)) ≡ false
@@ -257,12 +192,7 @@ pub spelled-prefixed_list : (base : List ℕ) → spells_anew windows base ≡ t
 spelled-prefixed_list base anew = by (kinds (parts_of windows base)) anew
   where
     by : (ks : List Kind) → has_any_verbatim_prefix ks ≡ true → has_prefix ks ≡ true
-    by [] e = cc
-    by (prefix p ∷ ks) e = refl
-    by (root ∷ ks) e = cc
-    by (current ∷ ks) e = cc
-    by (parent ∷ ks) e = cc
-    by (normal name ∷ ks) e = cc
+    by ks e = grind arith
 
 -- a base that stands in a text, written in place: what is left of the text before it, and its prefix
 module _ (old new : List ℕ) (start head kept : ℕ) (inside : start + head ≤ kept) (within : kept ≤ length old) (same : take (start + head) new ≡ take (start + head) (take kept old)) where
@@ -305,9 +235,7 @@ module _ (s : Separators) where
   rooted-next ns later current text written = (ns, refl, later)
   rooted-next [] later parent text written = ([], refl, tt)
   rooted-next (n ∷ ns) later parent text written = (without_last_name (n ∷ ns), refl, later-fewer (n ∷ ns) later)
-  rooted-next ns later (normal name) text written =
-      let p : Part = record { kind = normal name; text = text } in
-      (ns ++ p ∷ [], refl, AllByRecursion-append (IsLaterPart s) ns (p ∷ []) later ((written.0, clean-either s name written.1), tt))
+  rooted-next ns later (normal name) text written = grind (arith, common_steps, clean-either)
 
   rooted-merged : (qs ps : List Part) → IsRooted ps → AllByRecursion (IsWrittenPart Either) qs → IsRooted (merged ps qs)
   rooted-merged [] ps is written = is
@@ -351,10 +279,7 @@ module _ (t n : List ℕ) (own : IsSpelled t) (no_prefix : has_prefix (kinds (pa
 
   -- once the path is merged
   now : IsRooted s (merged own_list (parts_of windows n))
-  now =
-      let written : AllByRecursion (IsWrittenPart Either) (parts_of windows n) =
-      subst (AllByRecursion (IsWrittenPart Either)) (sym (parts_of-none n (no-prefix n no_prefix))) (each-written Either (body_parts Either n) (body_parts-read Either n)) in
-      rooted-merged s (parts_of windows n) own_list (long.first ∷ long.others, refl, long.later) written
+  now = grind (arith, parts_of-none, no-prefix, each-written, body_parts, body_parts-read, rooted-merged, long)
 
   abbrev rest : List ℕ
   rest = backslash ∷ spelled now.0

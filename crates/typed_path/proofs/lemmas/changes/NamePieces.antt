@@ -1,5 +1,6 @@
 -- Texts of which looks at their bytes tell that all their pieces are names, and how such a text is merged and written.
-use Rattle.std.proofs.Common.{◌≡◌, ℕ, zero, suc, ◌+◌, ◌-◌, ◌<◌, ◌≤◌, ◌==◌, Bool, true, false, not, ◌&&◌, ◌||◌, if◌then◌else◌, List, [], ◌∷◌, ◌++◌, map, length, take, drop, slice_index, refl, sym, ap, subst, ◌∙◌, append_assoc, append-nil, arith, ne_eqb, eq-eqb, eqb-true, true≢false, ⊎_elim, length-append, length-drop, take_all}
+use Rattle.std.proofs.Common.{◌≡◌, ℕ, zero, suc, ◌+◌, ◌-◌, ◌<◌, ◌≤◌, ◌==◌, Bool, true, false, not, ◌&&◌, ◌||◌, if◌then◌else◌, List, [], ◌∷◌, ◌++◌, map, length, take, drop, slice_index, refl, sym, ap, subst, ◌∙◌, append_assoc, append-nil, arith, ne_eqb, eq-eqb, eqb-true, ⊎_elim, length-append, length-drop}
+use Rattle.std.proofs.lemmas.Grind.{common_steps}
 use Rattle.std.specs.List.{list_all, slice_split, onto_first, AllByRecursion}
 use Rattle.std.specs.Slice.Scan.{HoldsNowhere}
 use Rattle.std.proofs.lemmas.Bool.{and_parts, or_parts, cases_lt}
@@ -8,12 +9,12 @@ use Rattle.std.proofs.lemmas.List.Splits.{slice_split-cons_yes, slice_split-cons
 use Rattle.std.proofs.Math.Bool.{or_self}
 use Rattle.typed_path.specs.declared.scan.separators.Separators.{Separators}
 use Rattle.typed_path.specs.declared.scan.separators.Separators.TheVariants.{Backslash, Either}
-use Rattle.typed_path.specs.components.{windows, dot, backslash, is_separator, is_verbatim, is_dot, is_dot_dot, is_empty, Part, parts, kinds, current_part, parent_part, name_part, parts_of, later_body}
+use Rattle.typed_path.specs.components.{windows, dot, backslash, is_separator, is_verbatim, is_dot, is_dot_dot, is_empty, Part, parts, kinds, parent_part, name_part, parts_of, later_body}
 use Rattle.typed_path.specs.queries.{has_prefix}
-use Rattle.typed_path.specs.scan.{is_one_of, stands_at, turned}
+use Rattle.typed_path.specs.scan.{is_one_of, turned}
 use Rattle.typed_path.specs.changes.{AreNamesBefore, begins_no_name, begins_no_name_at, is_component, is_name_piece, merged, names_behind, names_of, HoldsNames, IsStanding, Stands, jointed}
 use Rattle.typed_path.proofs.lemmas.lists.Lists.{IsUnseparated, slice_split-some, slice_split-unseparated}
-use Rattle.typed_path.proofs.lemmas.components.Segments.{pieces, first_part, later_part, first_parts, later_parts, named_part, parts-later_body}
+use Rattle.typed_path.proofs.lemmas.components.Segments.{pieces, first_part, later_part, first_parts, later_parts, parts-later_body}
 use Rattle.typed_path.proofs.lemmas.components.PrefixCuts.{parts_of-none}
 use Rattle.typed_path.proofs.lemmas.changes.Joins.{backslash-free}
 use Rattle.typed_path.proofs.lemmas.changes.WindowsPushes.{stands-more}
@@ -39,12 +40,7 @@ module _ (pair : ℕ × ℕ) where
 
   -- a byte that is neither a separator nor a dot is a name
   alone-name : (a : ℕ) → begins_no_name pair a a ≡ false → (separates a ≡ false) × (is_name_piece (a ∷ []) ≡ true)
-  alone-name a e = let h = opened a a e in (h.apart, filled-name a [] (by (a == dot) (separates a) h.undotted))
-    where
-      by : (d s : Bool) → (d && (s || d)) ≡ false → (d || false) ≡ false
-      by true true e = cc
-      by true false e = cc
-      by false s e = refl
+  alone-name a e = grind arith
 
   -- the first piece of a text that is so opened is a name
   first-name : (a b : ℕ) (bs : List ℕ) → begins_no_name pair a b ≡ false → (piece : List ℕ) × (pieces : List (List ℕ)) × (slice_split separates (a ∷ b ∷ bs) ≡ piece ∷ pieces) × (is_name_piece piece ≡ true)
@@ -54,12 +50,10 @@ module _ (pair : ℕ × ℕ) where
       h = opened a b e
 
       lone : (d : Bool) → (d && true) ≡ false → (d || false) ≡ false
-      lone true i = cc
-      lone false i = refl
+      lone d i = grind arith
 
       two : (more : List ℕ) → (a == dot && b == dot) ≡ false → (is_dot (a ∷ b ∷ more) || is_dot_dot (a ∷ b ∷ more)) ≡ false
-      two [] i = i
-      two (c ∷ more) i = refl
+      two more i = grind arith
 
       by : (s : Bool) → separates b ≡ s → (piece : List ℕ) × (pieces : List (List ℕ)) × (slice_split separates (a ∷ b ∷ bs) ≡ piece ∷ pieces) × (is_name_piece piece ≡ true)
       by true is = (
@@ -78,15 +72,11 @@ module _ (pair : ℕ × ℕ) where
 
   -- with the names behind it, all are
   all-names : (split : List (List ℕ)) (piece : List ℕ) (pieces : List (List ℕ)) → split ≡ piece ∷ pieces → is_name_piece piece ≡ true → list_all is_name_piece (drop 1 split) ≡ true → list_all is_name_piece split ≡ true
-  all-names split piece pieces is name later =
-      ap (list_all is_name_piece) is ∙ ap (λ x. x && list_all is_name_piece pieces) name ∙ ap (λ ps. list_all is_name_piece (drop 1 ps)) (sym is) ∙ later
+  all-names split piece pieces is name later = grind arith
 
   -- what a place of a text tells is told behind its first byte
   place-behind : (b k : ℕ) (bs : List ℕ) → begins_no_name_at pair (b ∷ bs) (suc k) ≡ begins_no_name_at pair bs k
-  place-behind b k bs =
-      let one : suc k + 1 ≡ suc (k + 1) = omega arith in
-      let two : suc k + 2 ≡ suc (k + 2) = omega arith in
-      λ i. stands_at pair bs k && begins_no_name pair (slice_index (b ∷ bs) (one i)) (slice_index (b ∷ bs) (two i))
+  place-behind b k bs = grind arith
 
   -- the last byte of a text is no separator, and no piece of its own that is no name
   record IsClosed (before last : ℕ) : Type 0 where
@@ -104,10 +94,7 @@ module _ (pair : ℕ × ℕ) where
       closed = ap separates is ∙ end.apart
 
       by : (s : Bool) → separates b ≡ s → list_all is_name_piece (drop 1 (slice_split separates (b ∷ c ∷ []))) ≡ true
-      by true e =
-          let own = (alone-name c (ap (λ s. s && begins_no_name pair c c) (sym e) ∙ (λ i. separates (at i) && begins_no_name pair (is i) (is i)) ∙ end.filled)).1 in
-          ap (λ ps. list_all is_name_piece (drop 1 ps)) (slice_split-cons_yes separates b (c ∷ []) e) ∙ ap (list_all is_name_piece) (slice_split-cons_no separates c [] closed) ∙ ap (λ x. x && true) own
-      by false e = ap (λ ps. list_all is_name_piece (drop 1 ps)) (slice_split-cons_no separates b (c ∷ []) e ∙ ap (onto_first b) (slice_split-cons_no separates c [] closed))
+      by s e = grind (arith, alone-name, slice_split-cons_yes, slice_split-cons_no, closed)
   later-names b (c ∷ d ∷ ds) before last none at is end =
       let size : length (c ∷ d ∷ ds) - 1 ≡ suc (length (d ∷ ds) - 1) = omega arith in
       by (separates b) refl (later-names c (d ∷ ds) before last (λ k low high. sym (place-behind b k (c ∷ d ∷ ds)) ∙ none (suc k) (omega arith) (omega (arith, high))) (ap (slice_index (b ∷ c ∷ d ∷ ds)) (sym size) ∙ at) is end)
@@ -145,9 +132,7 @@ module _ (pair : ℕ × ℕ) where
   -- the first piece of a text that a separator ends is a name, where the text is opened as one is
   front-name : (b : ℕ) (bs : List ℕ) (at : ℕ) → at < length (b ∷ bs) → separates (slice_index (b ∷ bs) at) ≡ true → begins_no_name pair b (slice_index (b ∷ bs) 1) ≡ false
       → (piece : List ℕ) × (pieces : List (List ℕ)) × (slice_split separates (b ∷ bs) ≡ piece ∷ pieces) × (is_name_piece piece ≡ true)
-  front-name b [] at within is begin =
-      let here : at ≡ 0 = omega (arith, within) in
-      absurd (true≢false (sym is ∙ ap (λ k. separates (slice_index (b ∷ []) k)) here ∙ (opened b 0 begin).apart))
+  front-name b [] at within is begin = grind (arith, common_steps, opened)
   front-name b (c ∷ cs) at within is begin = first-name b c cs begin
 
   -- one list has one first piece
@@ -208,18 +193,14 @@ module _ (pair : ℕ × ℕ) where
       (λ k low high. ⊎_elim (none k low) (λ l. let here : k ≡ to = omega (arith, l, high) in ap (begins_no_name_at pair text) here ∙ by _ _ (separates (slice_index text to)) (separates (slice_index text (to + 1))) ends filled) (cases_lt k to)))
     where
       by : (x y before last : Bool) → last ≡ true → (before && (last || x)) ≡ false → (before && (last || y)) ≡ false
-      by x y true true e h = cc
-      by x y true false e h = cc
-      by x y false last e h = refl
+      by x y before last e h = grind arith
 
 -- names are components
 pub names-components : (s : Separators) (text : List ℕ) → list_all is_name_piece (slice_split (is_one_of (backslash, backslash)) text) ≡ true → true ≡ list_all (is_component s) (slice_split (is_separator Backslash) text)
 names-components s text e = sym (ap (λ p. list_all (is_component s) (slice_split p text)) (λ i b. sym (or_self (b == backslash)) i) ∙ each (slice_split (is_one_of (backslash, backslash)) text) e)
   where
     one : (empty dotted twice verbatim : Bool) → not (empty || dotted || twice) ≡ true → not (empty || (dotted && not verbatim)) ≡ true
-    one true dotted twice verbatim h = h
-    one false true twice verbatim h = cc
-    one false false twice verbatim h = refl
+    one empty dotted twice verbatim h = grind arith
 
     each : (ps : List (List ℕ)) → list_all is_name_piece ps ≡ true → list_all (is_component s) ps ≡ true
     each [] h = refl
@@ -231,25 +212,14 @@ names-components s text e = sym (ap (λ p. list_all (is_component s) (slice_spli
 
 -- a `.` in front of other pieces vanishes as they are merged
 later-dot : (mark : ℕ) (rest : List ℕ) → is_separator Either mark ≡ true → parts (later_body Either 0 rest) ≡ parts (later_body Either 0 (dot ∷ mark ∷ rest))
-later-dot mark rest is =
-    parts-later_body Either 0 rest
-    ∙ sym (ap (later_parts Either) (slice_split-cons_no (is_separator Either) dot (mark ∷ rest) refl ∙ ap (onto_first dot) (slice_split-cons_yes (is_separator Either) mark rest is)))
-    ∙ sym (parts-later_body Either 0 (dot ∷ mark ∷ rest))
+later-dot mark rest is = grind (arith, parts-later_body, later_parts)
 
 pub dot-cut : (path : List ℕ) → 2 ≤ length path → (slice_index path 0 == dot && is_separator Either (slice_index path 1)) ≡ true → parts (later_body Either 0 (take (length path - 2) (drop 2 path))) ≡ parts (later_body Either 0 path)
-dot-cut [] long is = absurd (omega (arith, long))
-dot-cut (a ∷ []) long is = absurd (omega (arith, long))
-dot-cut (a ∷ b ∷ rest) long is =
-    let each = and_parts (a == dot) (is_separator Either b) is in
-    ap (λ t. parts (later_body Either 0 t)) (take_all (length (a ∷ b ∷ rest) - 2) rest (omega arith)) ∙ later-dot b rest each.1 ∙ ap (λ x. parts (later_body Either 0 (x ∷ b ∷ rest))) (sym (eqb-true a dot each.0))
+dot-cut path long is = grind (arith, common_steps, and_parts, later-dot, eqb-true)
 
 -- a first piece that is not empty is merged as a later one
 merged-first : (ps qs : List Part) (piece : List ℕ) → (length piece == 0) ≡ false → merged ps (first_part Either piece ∷ qs) ≡ merged ps (later_part Either piece ++ qs)
-merged-first ps qs piece filled = rw filled (by (is_dot piece) (named_part piece))
-  where
-    by : (dotted : Bool) (p : Part) → merged ps ((if dotted then current_part else p) ∷ qs) ≡ merged ps ((if dotted then [] else p ∷ []) ++ qs)
-    by true p = refl
-    by false p = refl
+merged-first ps qs piece filled = grind arith
 
 -- so is each of a path without a prefix and a root
 merged-later : (b : ℕ) (bs : List ℕ) (ps : List Part) → has_prefix (kinds (parts_of windows (b ∷ bs))) ≡ false → is_separator Either b ≡ false
@@ -269,10 +239,7 @@ named-later (n ∷ ns) e =
     (λ i. one (is_empty n) (is_dot n) (is_dot_dot n) all.0 i ++ named-later ns all.1 i)
   where
     one : (empty dotted twice : Bool) → not (empty || dotted || twice) ≡ true → (if empty then [] else (if dotted then [] else (if twice then parent_part else name_part n) ∷ [])) ≡ name_part n ∷ []
-    one true dotted twice h = cc
-    one false true twice h = cc
-    one false false true h = cc
-    one false false false h = refl
+    one empty dotted twice h = grind arith
 
 -- names are put behind as they are merged
 merged-named : (ps : List Part) (ns : List (List ℕ)) → merged ps (map name_part ns) ≡ ps ++ map name_part ns
@@ -301,9 +268,7 @@ named-standing (n ∷ ns) e free =
     )
   where
     some : (empty dotted twice : Bool) → not (empty || dotted || twice) ≡ true → empty ≡ false
-    some true true twice h = cc
-    some true false twice h = cc
-    some false dotted twice h = refl
+    some empty dotted twice h = grind arith
 
 -- names with `\` between them are the text with its separators turned
 written-names : (text : List ℕ) → names_behind false (names_of text) ≡ turned Either backslash text
@@ -312,14 +277,7 @@ written-names (b ∷ bs) = by (is_separator Either b) refl (slice_split-some (is
   where
     by : (s : Bool) → is_separator Either b ≡ s → (piece : List ℕ) × (others : List (List ℕ)) × (slice_split (is_separator Either) bs ≡ piece ∷ others) → names_behind false (names_of bs) ≡ turned Either backslash bs
         → names_behind false (names_of (b ∷ bs)) ≡ turned Either backslash (b ∷ bs)
-    by true is some rest =
-        ap (λ ns. names_behind false (map name_part ns)) (slice_split-cons_yes (is_separator Either) b bs is ∙ ap (λ ns. [] ∷ ns) some.2)
-        ∙ ap (λ ns. backslash ∷ names_behind false (map name_part ns)) (sym some.2)
-        ∙ (λ i. (if sym is i then backslash else b) ∷ rest i)
-    by false is some rest =
-        ap (λ ns. names_behind false (map name_part ns)) (slice_split-cons_no (is_separator Either) b bs is ∙ ap (onto_first b) some.2)
-        ∙ ap (λ ns. b ∷ names_behind false (map name_part ns)) (sym some.2)
-        ∙ (λ i. (if sym is i then backslash else b) ∷ rest i)
+    by s is h rest = grind (arith, slice_split-cons_yes, slice_split-cons_no)
 
 -- more components behind what is longer than a root
 stands-others : (parted : Bool) (ps qs : List Part) (text : List ℕ) → Stands parted ps text → 1 < length text → AllByRecursion IsStanding qs → Stands parted (ps ++ qs) (text ++ names_behind true qs)
@@ -353,30 +311,19 @@ stands-names parted ps old middle new names h named joined apart put =
     some-middle = by (length old == 1) refl
       where
         by : (b : Bool) → (length old == 1) ≡ b → 0 < length middle
-        by true e = let one = eqb-true (length old) 1 e in omega (arith, one, ap length (joined one))
-        by false e = omega (arith, ap length (apart (λ one. absurd (true≢false (sym (eq-eqb (length old) 1 one) ∙ e)))), length-append old (backslash ∷ []))
+        by b e = grind (arith, eqb-true, eq-eqb, length-append)
 
 -- a text with `\` behind it, unless one byte stands behind its head
 pub jointed-joined : (head : ℕ) (text : List ℕ) → head ≤ length text → length (drop head text) ≡ 1 → drop head (jointed head text) ≡ drop head text
 jointed-joined head text within one = ap (λ b. drop head (if b then text else text ++ backslash ∷ [])) (eq-eqb (length text) (head + 1) (omega (arith, one, within, length-drop head text)))
 
 pub jointed-apart : (head : ℕ) (text : List ℕ) → head ≤ length text → (length (drop head text) ≡ 1 → ⊥) → drop head (jointed head text) ≡ drop head text ++ backslash ∷ []
-jointed-apart head text within other =
-    ap (λ b. drop head (if b then text else text ++ backslash ∷ [])) (ne_eqb (length text) (head + 1) (λ same. other (omega (arith, same, length-drop head text))))
-    ∙ drop-append-le head text (backslash ∷ []) within
+jointed-apart head text within other = grind (arith, length-drop, drop-append-le)
 
 pub jointed-long : (head : ℕ) (text : List ℕ) → head ≤ length text → head ≤ length (jointed head text)
-jointed-long head text within = by (length text == head + 1)
-  where
-    by : (b : Bool) → head ≤ length (if b then text else text ++ backslash ∷ [])
-    by true = within
-    by false = omega (arith, within, length-append text (backslash ∷ []))
+jointed-long head text within = grind (arith, length-append)
 
 -- the last bytes of a text, with their separators turned
 pub turned-end : (front names items new : List ℕ) (from : ℕ) → items ≡ front ++ names → from + length names ≡ length items → new ≡ take from items ++ turned Either backslash (drop from items)
     → new ≡ front ++ turned Either backslash names
-turned-end front names items new from is size turns =
-    let seam : length front ≡ from = omega (arith, size, ap length is, length-append front names) in
-    turns
-    ∙ ap (λ t. take from t ++ turned Either backslash (drop from t)) is
-    ∙ (λ i. take_at front names from seam i ++ turned Either backslash (drop_at front names from seam i))
+turned-end front names items new from is size turns = grind (arith, length-append, take_at, drop_at)

@@ -1,15 +1,16 @@
 -- How long a path is onto which others are pushed one by one: the normal text of a path, a path in another dialect, and one made absolute.
-use Rattle.std.proofs.Common.{◌≡◌, ℕ, ◌+◌, ◌≤◌, ◌==◌, ◌⊎◌, inl, inr, not, Bool, true, false, if◌then◌else◌, List, [], ◌∷◌, ◌++◌, map, length, take, drop, Option, Some, None, IfSome, Result, Ok, Err, IfOk, refl, sym, ap, subst, ◌∙◌, arith, eqb-true, ne_eqb, append_assoc, length-append, length-take, length-drop}
+use Rattle.std.proofs.Common.{◌≡◌, ℕ, ◌+◌, ◌≤◌, ◌==◌, ◌⊎◌, inl, inr, not, Bool, true, false, if◌then◌else◌, List, [], ◌∷◌, ◌++◌, map, length, take, drop, Option, Some, None, IfSome, Ok, Err, IfOk, refl, sym, ap, subst, ◌∙◌, arith, eqb-true, ne_eqb, append_assoc, length-append, length-take, length-drop}
+use Rattle.std.proofs.lemmas.Grind.{common_steps}
 use Rattle.std.specs.List.{AllByRecursion}
 use Rattle.std.proofs.lemmas.Bool.{cond_both, both_ways}
 use Rattle.std.proofs.lemmas.List.Sums.{sum_by-cons}
 use Rattle.typed_path.specs.declared.scan.separators.Separators.{Separators}
 use Rattle.typed_path.specs.declared.scan.separators.Separators.TheVariants.{Slash, Either}
 use Rattle.typed_path.specs.declared.errors.CheckedPathError.{CheckedPathError}
-use Rattle.typed_path.specs.components.{Dialect, unix, windows, slash, backslash, separators, root_text, root_of, Prefix, verbatim, verbatim_unc, verbatim_disk, device_ns, unc, disk, Kind, prefix, root, current, parent, normal, Part, kinds, texts, prefix_part, Found, prefix_of, parts_of}
+use Rattle.typed_path.specs.components.{Dialect, unix, windows, slash, backslash, separators, root_text, root_of, Prefix, Kind, Part, kinds, texts, prefix_part, Found, prefix_of, parts_of}
 use Rattle.typed_path.specs.queries.{begins_with_root, has_prefix, has_any_verbatim_prefix, is_disk, is_absolute}
-use Rattle.typed_path.specs.changes.{push, push_unix, push_windows, push_all, ended_with, ended_windows, raw_prefix, raw_length, spelled, merged, room_of}
-use Rattle.typed_path.specs.places.{stays, resolve, normal_text}
+use Rattle.typed_path.specs.changes.{push, push_unix, push_windows, push_all, ended_windows, raw_prefix, spelled, merged, room_of}
+use Rattle.typed_path.specs.places.{resolve, normal_text}
 use Rattle.typed_path.specs.conversions.{same_dialect, crossed, crossed_all, converted, crossing_fault, push_unless, push_checked_each, converted_checked, platform, absolute_from}
 use Rattle.typed_path.proofs.lemmas.lists.Lists.{AllByRecursion-weaker}
 use Rattle.typed_path.proofs.lemmas.components.Prefixes.{separators-windows, root_text-windows, prefix-fits}
@@ -23,7 +24,6 @@ use Rattle.typed_path.proofs.lemmas.places.Resolving.{resolve-each}
 use Rattle.typed_path.proofs.lemmas.promises.UnixContained.{parts_of-unix, push_unix-nothing}
 use Rattle.typed_path.proofs.lemmas.promises.WindowsStable.{push-first}
 use Rattle.typed_path.proofs.lemmas.changes.SpelledLengths.{merged-size, anew, IsMarked, has-marked, anew-most, anew-least, raw-undriven, root-undriven, joined-undriven, merged-undriven, IsDriven}
-use Rattle.typed_path.proofs.lemmas.components.Cuts.{root_text-length}
 
 -- Paths that are pushed one by one.
 
@@ -46,12 +46,8 @@ takes-fits unix u room h = h
 takes-fits windows u room h = h.fits
 
 takes-more : (d : Dialect) (u : List ℕ) (room more : ℕ) → room ≤ more → Takes d u room → Takes d u more
-takes-more unix u room more le h = omega (arith, le, h)
-takes-more windows u room more le h = record {
-  fits = omega (arith, le, h.fits);
-  again = λ m. omega (arith, le, h.again m);
-  spare = λ e. omega (arith, le, h.spare e);
-}
+takes-more unix u room more le h = grind arith
+takes-more windows u room more le h = grind arith
 
 takes-nothing : (d : Dialect) → Takes d [] 0
 takes-nothing unix = omega arith
@@ -62,15 +58,10 @@ root-size unix = refl
 root-size windows = refl
 
 cost-one : (d : Dialect) (x : List ℕ) (n : ℕ) → Costs d x n → 1 ≤ n
-cost-one d x n (inl long) = omega (arith, long)
-cost-one d x n (inr both) = both.1
+cost-one d x n h = grind arith
 
 unix-step : (base x : List ℕ) (room n : ℕ) → length base ≤ room → Costs unix x n → length (push_unix base x) ≤ room + n
-unix-step base x room n fits (inr (is, one)) = subst (λ x. length (push_unix base x) ≤ room + n) (sym is) (omega (arith, one))
-unix-step base [] room n fits (inl long) = omega (arith, fits)
-unix-step base (b ∷ x) room n fits (inl long) =
-    cond_both (b == slash) (b ∷ x) (ended_with slash base ++ b ∷ x) (λ u. length u ≤ room + n)
-    (λ e. omega (arith, long)) (λ e. omega (arith, long, fits, ended-length slash base, length-append (ended_with slash base) (b ∷ x)))
+unix-step base x room n fits h = grind (arith, ended-length, length-append)
 
 module _ (base : List ℕ) (b : ℕ) (x : List ℕ) (room n : ℕ) (h : IsTaken base room) (cost : Costs windows (b ∷ x) n) where
   -- one with a prefix
@@ -107,34 +98,7 @@ module _ (base : List ℕ) (b : ℕ) (x : List ℕ) (room n : ℕ) (h : IsTaken 
   module _ (plain : has_any_verbatim_prefix (kinds (parts_of windows base)) ≡ false) where
     -- one that keeps the prefix alone
     rooted-taken : IsTaken (raw_prefix base ++ b ∷ x) (room + n)
-    rooted-taken = by cost
-      where
-        raw-size : length (raw_prefix base) ≤ length base
-        raw-size = omega (arith, length-take (raw_length (prefix_of windows base)) base)
-
-        ends : (r : List ℕ) → r ++ backslash ∷ [] ≡ slash ∷ [] → ⊥
-        ends [] e = let is : backslash ≡ slash = cc in omega (arith, is)
-        ends (c ∷ []) e = cc
-        ends (c ∷ d ∷ r) e = cc
-
-        by : Costs windows (b ∷ x) n → IsTaken (raw_prefix base ++ b ∷ x) (room + n)
-        by (inl long) = record {
-          fits = omega (arith, length-append (raw_prefix base) (b ∷ x), raw-size, h.fits, long);
-          again = λ m. omega (arith, anew-most (raw_prefix base ++ b ∷ x) m, length-append (raw_prefix base) (b ∷ x), raw-size, h.fits, long);
-          spare = λ e. omega (arith, long);
-        }
-        by (inr (is, one)) = subst (λ p. IsTaken (raw_prefix base ++ p) (room + n)) (sym is) (record {
-          fits = omega (arith, length-append (raw_prefix base) (backslash ∷ []), raw-size, h.fits, one);
-          again = λ m. omega (
-            arith,
-            anew-least (raw_prefix base ++ backslash ∷ []) (root-undriven base plain) m,
-            length-append (raw_prefix base) (backslash ∷ []),
-            raw-size,
-            h.fits,
-            one,
-          );
-          spare = λ e. absurd (ends (raw_prefix base) e);
-        })
+    rooted-taken = grind (arith, length-take, length-append, anew-most, anew-least, root-undriven)
 
     -- one that is put behind the whole
     relative-taken : has_prefix (kinds (parts_of windows (b ∷ x))) ≡ false → begins_with_root (kinds (parts_of windows (b ∷ x))) ≡ false → IsTaken (ended_windows base ++ b ∷ x) (room + n)
@@ -146,8 +110,7 @@ module _ (base : List ℕ) (b : ℕ) (x : List ℕ) (room n : ℕ) (h : IsTaken 
         alone (c ∷ []) = by (c == slash) refl
           where
             by : (same : Bool) → (c == slash) ≡ same → (c ∷ [] ≡ slash ∷ []) ⊎ (c ∷ [] ≡ slash ∷ [] → ⊥)
-            by true e = inl (ap (λ a. a ∷ []) (eqb-true c slash e))
-            by false e = inr (λ is. both_ways (c == slash) e (let same : c ≡ slash = cc in ap (λ a. a == slash) same))
+            by same e = grind (arith, eqb-true, both_ways)
 
         behind : length (b ∷ x) + 1 ≤ n → (mid : List ℕ) → Ending base mid → IsTaken ((base ++ mid) ++ b ∷ x) (room + n)
         behind long _ (parted no_drive some unended) =
@@ -208,16 +171,10 @@ pushed d written (p ∷ ps) base room costs h =
 
 room-resolve : (ps : List Part) → room_of (resolve ps) ≤ room_of ps
 room-resolve [] = omega arith
-room-resolve (p ∷ ps) =
-    cond_both (stays p.kind (kinds ps)) (p ∷ []) [] (λ qs. room_of (qs ++ resolve ps) ≤ room_of (p ∷ ps))
-    (λ e. omega (arith, room-resolve ps, sum_by-cons size p ps, sum_by-cons size p (resolve ps))) (λ e. omega (arith, room-resolve ps, sum_by-cons size p ps))
+room-resolve (p ∷ ps) = grind (arith, common_steps, cond_both, sum_by-cons, size, room-resolve ps)
 
 own-cost : (d : Dialect) (s : Separators) → root_text s ≡ root_of d → (k : Kind) (text : List ℕ) → IsWritten s k text → Costs d text (size (record { kind = k; text = text }))
-own-cost d s same (prefix p) text written = absurd written
-own-cost d s same root text written = inr (written ∙ same, omega (arith, ap length (written ∙ same), root-size d))
-own-cost d s same current text written = inl (omega arith)
-own-cost d s same parent text written = inl (omega arith)
-own-cost d s same (normal name) text written = inl (omega arith)
+own-cost d s same k text written = grind arith
 
 normal-body : (d : Dialect) (s : Separators) → root_text s ≡ root_of d → (t base : List ℕ) (room : ℕ) → Takes d base room
     → length (push_all d base (texts (resolve (body_parts s t)))) ≤ room + (length t + 1)
@@ -234,14 +191,7 @@ normal-body d s same t base room h =
 
 -- a prefix takes two bytes or more
 two-bytes : (p : Prefix) (t : List ℕ) (a : ℕ) → IsSize p t a → 2 ≤ a
-two-bytes (verbatim name) t a size = omega (arith, size)
-two-bytes (verbatim_unc server share) t a (inl size) = omega (arith, size.long)
-two-bytes (verbatim_unc server share) t a (inr size) = omega (arith, size.long)
-two-bytes (verbatim_disk letter) t a size = omega (arith, size)
-two-bytes (device_ns name) t a size = omega (arith, size)
-two-bytes (unc server share) t a (inl size) = omega (arith, size.long)
-two-bytes (unc server share) t a (inr size) = omega (arith, size.long)
-two-bytes (disk letter) t a size = omega (arith, size)
+two-bytes p t a size = grind arith
 
 raw-taken : (t : List ℕ) (f : Found) → prefix_of windows t ≡ Some f → IsTaken (take f.length t) f.length
 raw-taken t f is = record {
@@ -277,11 +227,7 @@ normal_text_length windows t = by (prefix_of windows t) refl
 
 crossed-cost : (e : Dialect) (s : Separators) (k : Kind) (text : List ℕ) → IsWritten s k text
     → Costs e (crossed e (record { kind = k; text = text })) (size (record { kind = k; text = text }))
-crossed-cost e s (prefix p) text written = absurd written
-crossed-cost e s root text written = inr (refl, omega (arith, ap length written, root_text-length s))
-crossed-cost e s current text written = inl (omega arith)
-crossed-cost e s parent text written = inl (omega arith)
-crossed-cost e s (normal name) text written = inl (omega arith)
+crossed-cost e s k text written = grind arith
 
 -- what stands behind a prefix
 crossed-each : (e : Dialect) (s : Separators) (t : List ℕ) → AllByRecursion (λ p. Costs e (crossed e p) (size p)) (body_parts s t)
@@ -316,8 +262,7 @@ checked-all e (p ∷ ps) base u done = by (checked-all e ps) (crossing_fault e p
 
     by : ((base u : List ℕ) → push_checked_each e (Ok base) ps ≡ Ok u → u ≡ push_all e base (map (crossed e) ps))
         → (o : Option CheckedPathError) → push_checked_each e (push_unless e base o (crossed e p)) ps ≡ Ok u → u ≡ push_all e (push e base (crossed e p)) (map (crossed e) ps)
-    by others None done = others (push e base (crossed e p)) u done
-    by others (Some why) done = absurd (refused why ps done)
+    by others o done = grind (arith, refused)
 
 crossed-taken : (d e : Dialect) (t : List ℕ) → Takes e (crossed_all e (parts_of d t)) (length t + 1)
 crossed-taken unix e t =
@@ -343,13 +288,7 @@ converted_length d e t =
     (λ same. omega arith) (λ other. takes-fits e (crossed_all e (parts_of d t)) (length t + 1) (crossed-taken d e t))
 
 pub converted_checked_length : (d e : Dialect) (t : List ℕ) → IfOk (converted_checked d e t) (λ u. length u ≤ length t + 1)
-converted_checked_length d e t = by (converted_checked d e t) refl
-  where
-    by : (r : Result (List ℕ) CheckedPathError) → converted_checked d e t ≡ r → IfOk r (λ u. length u ≤ length t + 1)
-    by (Ok u) done =
-        subst (λ v. length v ≤ length t + 1) (sym (checked-all e (parts_of d t) [] u done))
-        (takes-fits e (crossed_all e (parts_of d t)) (length t + 1) (crossed-taken d e t))
-    by (Err why) done = tt
+converted_checked_length d e t = grind (arith, common_steps, checked-all, takes-fits, crossed-taken)
 
 -- Paths made absolute.
 

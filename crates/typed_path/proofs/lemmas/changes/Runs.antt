@@ -1,19 +1,12 @@
 -- Lists of operations, one operation more.
-use Rattle.std.proofs.Common.{◌≡◌, Bool, true, false, ℕ, ◌+◌, ◌<◌, ◌≤◌, subst, List, [], ◌∷◌, ◌++◌, map, length, take, drop, get_or, Bor, OnErr, refl, sym, ap, ◌∙◌, arith, Result, Ok, Err}
-use Rattle.std.proofs.lemmas.List.{take-map, drop-map, take_more, drop_more, map-append, length-map}
+use Rattle.std.proofs.Common.{◌≡◌, ℕ, ◌+◌, ◌<◌, ◌≤◌, List, [], ◌∷◌, ◌++◌, map, length, take, drop, get_or, Bor, OnErr, refl, sym, ap, ◌∙◌, arith, Result}
+use Rattle.std.proofs.lemmas.List.{drop-map, drop_more, length-map}
 use Rattle.std.proofs.lemmas.List.Sums.{fold-append}
 use Rattle.typed_path.specs.declared.script.run.PathOp.{PathOp}
 use Rattle.typed_path.specs.components.{Dialect}
-use Rattle.typed_path.specs.changes.{push, push_all, FitsPush, FitsBy, merges, without_file_name, Operation, push_op, push_checked_op, pop_op, set_file_name_op, set_extension_op, clear_op, extend_op, Response, step, text_after, replies, FitsEach, FitsStep, FitsAll}
+use Rattle.typed_path.specs.changes.{push, push_all, FitsPush, without_file_name, Operation, push_op, push_checked_op, pop_op, set_file_name_op, set_extension_op, clear_op, extend_op, Response, step, text_after, replies, FitsEach, FitsStep, FitsAll}
 use Rattle.typed_path.specs.views.RunViews.{operation_of, operations_of, pushes_of, first_pushes, AreTaken, StopsAt}
-
--- a list of images, one longer
-take-map-more : {X Y : Type 0} (f : X → Y) (xs : List X) (i : ℕ) (x : X) → i < length xs → take (i + 1) (map f xs) ≡ take i (map f xs) ++ f (get_or xs i x) ∷ []
-take-map-more f xs i x within =
-    take-map f (i + 1) xs
-    ∙ ap (map f) (take_more xs i x within)
-    ∙ map-append f (take i xs) (get_or xs i x ∷ [])
-    ∙ ap (λ ys. ys ++ f (get_or xs i x) ∷ []) (sym (take-map f i xs))
+use Rattle.typed_path.proofs.lemmas.lists.Lists.{take-map-more}
 
 -- one more path pushed
 pub push_all-more : (d : Dialect) (t old new : List ℕ) (paths : List (Bor (List ℕ))) (i : ℕ) (path : Bor (List ℕ)) → i < length paths → new ≡ push d old (get_or paths i path).now
@@ -62,33 +55,18 @@ module _ (d : Dialect) (t : List ℕ) (ops : List PathOp) (i : ℕ) (op : PathOp
   -- a run that stops before the next operation, or in the midst of its pushes
   pub stops : (old new : List ℕ) (before after : List Response) → old ≡ text_after d t done → after ≡ before ++ replies d t done → AreTaken d old (pushes_of next) new
       → StopsAt d t (operations_of ops) new before after
-  stops old new before after h answered taken = record {
-    done_ops = i;
-    more = omega (arith, within, length-map ops operation_of);
-    answered = answered;
-    text = record {
-      pushed = taken.pushed;
-      text = taken.text
-          ∙ ap (λ u. push_all d u (take taken.pushed (pushes_of next))) h
-          ∙ ap (λ ps. push_all d (text_after d t done) (take taken.pushed ps)) (sym next-pushes);
-    };
-  }
+  stops old new before after h answered taken = grind (arith, length-map, next-pushes)
 
 -- nothing pushed yet
 pub none_taken : (d : Dialect) (t : List ℕ) (paths : List (List ℕ)) → AreTaken d t paths t
 none_taken d t paths = record { pushed = 0; text = refl }
 
 pub on_err : {A E P : Type 0} (r : Result A E) → P → OnErr r P
-on_err (Ok x) p = tt
-on_err (Err e) p = p
+on_err r p = grind arith
 
 -- room that is enough stays enough where it grows
 pub fits_push-more : (d : Dialect) (room more : ℕ) (t path : List ℕ) → room ≤ more → FitsPush d room t path → FitsPush d more t path
-fits_push-more d room more t path h fits = by (merges d t path) fits
-  where
-    by : (b : Bool) → FitsBy d room t path b → FitsBy d more t path b
-    by true f = (f.0, omega (arith, f.1, h))
-    by false f = omega (arith, f, h)
+fits_push-more d room more t path h fits = grind arith
 
 pub fits_each-more : (d : Dialect) (room more : ℕ) (t : List ℕ) (paths : List (List ℕ)) → room ≤ more → FitsEach d room t paths → FitsEach d more t paths
 fits_each-more d room more t [] h fits = tt
@@ -107,9 +85,7 @@ fits_step-more d room more t (extend_op paths) h fits = fits_each-more d room mo
 module _ (d : Dialect) (room : ℕ) (t : List ℕ) (paths : List (Bor (List ℕ))) (i : ℕ) (path : Bor (List ℕ)) (within : i < length paths)
     (fits : FitsEach d room t (drop i (map (λ b. b.now) paths))) where
   next_fits : FitsEach d room t (map (λ b. b.now) (get_or paths i path ∷ drop (i + 1) paths))
-  next_fits =
-      let P : List (List ℕ) → Type 0 = λ ps. FitsEach d room t ps in
-      subst P (drop-map (λ b. b.now) i paths ∙ ap (map (λ b. b.now)) (drop_more paths i path within)) fits
+  next_fits = grind (arith, drop-map, drop_more)
 
   pub fits_each-first : (more : ℕ) (next : List ℕ) → room ≤ more → next ≡ (get_or paths i path).now → FitsPush d more t next
   fits_each-first more next h e = rw e (fits_push-more d room more t (get_or paths i path).now h next_fits.0)
@@ -121,9 +97,7 @@ module _ (d : Dialect) (room : ℕ) (t : List ℕ) (paths : List (Bor (List ℕ)
 module _ (d : Dialect) (room : ℕ) (t : List ℕ) (ops : List PathOp) (i : ℕ) (op : PathOp) (within : i < length ops)
     (fits : FitsAll d room t (drop i (operations_of ops))) where
   next_step_fits : FitsAll d room t (operations_of (get_or ops i op ∷ drop (i + 1) ops))
-  next_step_fits =
-      let P : List Operation → Type 0 = λ os. FitsAll d room t os in
-      subst P (drop-map operation_of i ops ∙ ap (map operation_of) (drop_more ops i op within)) fits
+  next_step_fits = grind (arith, drop-map, drop_more)
 
   pub fits_all-first : (more : ℕ) → room ≤ more → FitsStep d more t (operation_of (get_or ops i op))
   fits_all-first more h = fits_step-more d room more t (operation_of (get_or ops i op)) h next_step_fits.0

@@ -1,5 +1,6 @@
 -- How long a text of Windows is that is spelled anew: no longer than it is, unless something stands right behind a verbatim drive; and what a push makes is no such text.
-use Rattle.std.proofs.Common.{◌≡◌, ℕ, ◌+◌, ◌-◌, ◌<◌, ◌≤◌, ◌==◌, ◌||◌, ◌⊎◌, inl, inr, not, Bool, true, false, if◌then◌else◌, List, [], ◌∷◌, ◌++◌, length, take, drop, Option, Some, None, refl, sym, ap, subst, ◌∙◌, arith, eqb-true, ne_eqb, append-nil, length-append, length-take, length-take-le, length-drop, take-append-drop}
+use Rattle.std.proofs.Common.{◌≡◌, ℕ, ◌+◌, ◌-◌, ◌<◌, ◌≤◌, ◌==◌, ◌||◌, ◌⊎◌, inl, inr, Bool, true, false, List, [], ◌∷◌, ◌++◌, length, take, drop, Option, Some, None, refl, sym, ap, subst, ◌∙◌, arith, eqb-true, append-nil, length-append, length-take, length-take-le, length-drop, take-append-drop}
+use Rattle.std.proofs.lemmas.Grind.{common_steps}
 use Rattle.std.specs.List.{AllByRecursion}
 use Rattle.std.proofs.lemmas.Bool.{cond_both, both_ways}
 use Rattle.std.proofs.lemmas.List.Splits.{slice_split-cons_yes}
@@ -7,10 +8,10 @@ use Rattle.std.proofs.lemmas.List.Sums.{sum_by-cons}
 use Rattle.typed_path.specs.declared.scan.separators.Separators.{Separators}
 use Rattle.typed_path.specs.declared.scan.separators.Separators.TheVariants.{Either}
 use Rattle.typed_path.specs.components.{windows, slash, backslash, question, separators, is_separator, root_text, Prefix, verbatim_disk, Kind, prefix, root, current, parent, normal, Part, kinds, root_part, prefix_part, is_name, Found, drive, after_mark, found, prefix_of, parts_of}
-use Rattle.typed_path.specs.queries.{begins_with_root, begins_with_prefix, has_prefix, has_any_verbatim_prefix, is_verbatim_prefix}
+use Rattle.typed_path.specs.queries.{begins_with_root, has_prefix, has_any_verbatim_prefix, is_verbatim_prefix}
 use Rattle.typed_path.specs.changes.{raw_prefix, raw_length, spelled, merged, merge_by_kind, IsMergeable, AreMergeable, prefix_alone, without_last_name, joint, room_of}
-use Rattle.typed_path.proofs.lemmas.lists.Lists.{AllByRecursion-weaker, AllByRecursion-append}
-use Rattle.typed_path.proofs.lemmas.components.Prefixes.{separators-windows, backslash-separates, root_text-windows, drive-size, after_mark-size, prefix-fits, prefix-read, some_is, Read, of_verbatim_unc, of_verbatim_disk, of_verbatim, of_device, of_unc, of_disk}
+use Rattle.typed_path.proofs.lemmas.lists.Lists.{AllByRecursion-weaker}
+use Rattle.typed_path.proofs.lemmas.components.Prefixes.{separators-windows, backslash-separates, root_text-windows, drive-size, after_mark-size, prefix-fits, prefix-read, Read, of_verbatim_unc, of_verbatim_disk, of_verbatim, of_device, of_unc, of_disk}
 use Rattle.typed_path.proofs.lemmas.components.PrefixCuts.{prefix_by, IsUnended, IsSize, prefix-size, verbatim-size, parts_of-some, verbatim-none, verbatim-some}
 use Rattle.typed_path.proofs.lemmas.components.FirmPrefixes.{Apart, parted as parted_text, drive-letter, drive-stays, after_four-tests, verbatim_disk-stays}
 use Rattle.typed_path.proofs.lemmas.components.PartedPrefixes.{apart-behind}
@@ -20,69 +21,43 @@ use Rattle.typed_path.proofs.lemmas.changes.Lengths.{size, joint-size}
 use Rattle.typed_path.proofs.lemmas.changes.MergedInPlace.{room-body, text-mergeable}
 use Rattle.typed_path.proofs.lemmas.changes.WindowsPushes.{is_marked, verbatim-marked}
 use Rattle.typed_path.proofs.lemmas.promises.WindowsBases.{verbatim-no_drive, Rest, nothing, from_root, from_other, spelled-behind}
+use Rattle.typed_path.proofs.lemmas.lists.Options.{some_is}
 
 -- How long a list is where it is spelled.
 
 spelled-size : (p : Part) (ps : List Part) → length (spelled (p ∷ ps)) ≤ length p.text + room_of ps
 spelled-size p [] = omega arith
-spelled-size p (q ∷ ps) =
-    omega (
-      arith,
-      spelled-size q ps,
-      (joint-size p.kind q.kind).1,
-      sum_by-cons size q ps,
-      length-append (p.text ++ joint p.kind q.kind) (spelled (q ∷ ps)),
-      length-append p.text (joint p.kind q.kind),
-    )
+spelled-size p (q ∷ ps) = grind (arith, common_steps, joint-size, sum_by-cons, size, length-append, spelled-size q ps)
 
 -- the first component is spelled with the list
 first-size : (p : Part) (ps : List Part) → length p.text ≤ length (spelled (p ∷ ps))
-first-size p [] = omega arith
-first-size p (q ∷ ps) = omega (arith, length-append (p.text ++ joint p.kind q.kind) (spelled (q ∷ ps)), length-append p.text (joint p.kind q.kind))
+first-size p ps = grind (arith, length-append)
 
 -- behind a root nothing is added
 after-root : (text : List ℕ) (ps : List Part) → length (spelled (root_part text ∷ ps)) ≡ length text + length (spelled ps)
-after-root text [] = omega arith
-after-root text (q ∷ ps) = omega (arith, length-append (text ++ []) (spelled (q ∷ ps)), length-append text [])
+after-root text ps = grind (arith, length-append)
 
 -- later components, spelled, take no separator behind the last
 later-size : (s : Separators) (ps : List Part) → AllByRecursion (IsLaterPart s) ps → length (spelled ps) ≤ room_of ps - 1
 later-size s [] later = omega arith
-later-size s (p ∷ ps) later =
-    omega (arith, spelled-size p ps, sum_by-cons size p ps, ap {B = ℕ} (λ b. if b then 0 else 1) (later-relative s p.kind p.text later.0))
+later-size s (p ∷ ps) later = grind (arith, common_steps, spelled-size, sum_by-cons, size, later-relative)
 
 -- one component more at the end
 more-size : (ps : List Part) (q : Part) → length (spelled (ps ++ q ∷ [])) ≤ length (spelled ps) + size q
 more-size [] q = omega arith
 more-size (p ∷ []) q = omega (arith, (joint-size p.kind q.kind).1, length-append (p.text ++ joint p.kind q.kind) q.text, length-append p.text (joint p.kind q.kind))
-more-size (p ∷ r ∷ ps) q =
-    omega (
-      arith,
-      more-size (r ∷ ps) q,
-      length-append (p.text ++ joint p.kind r.kind) (spelled (r ∷ ps)),
-      length-append (p.text ++ joint p.kind r.kind) (spelled (r ∷ ps ++ q ∷ [])),
-    )
+more-size (p ∷ r ∷ ps) q = grind (arith, common_steps, length-append, more-size (r ∷ ps) q)
 
 -- the last name less
 less-size : (ps : List Part) → length (spelled (without_last_name ps)) ≤ length (spelled ps)
 less-size [] = omega arith
 less-size (p ∷ []) = cond_both (is_name p.kind) [] (p ∷ []) (λ qs. length (spelled qs) ≤ length (spelled (p ∷ []))) (λ e. omega arith) (λ e. omega arith)
-less-size (p ∷ q ∷ []) =
-    cond_both (is_name q.kind) [] (q ∷ []) (λ qs. length (spelled (p ∷ qs)) ≤ length (spelled (p ∷ q ∷ [])))
-    (λ e. omega (arith, first-size p (q ∷ []))) (λ e. omega arith)
-less-size (p ∷ q ∷ r ∷ ps) =
-    omega (
-      arith,
-      less-size (q ∷ r ∷ ps),
-      length-append (p.text ++ joint p.kind q.kind) (spelled (q ∷ r ∷ ps)),
-      length-append (p.text ++ joint p.kind q.kind) (spelled (q ∷ without_last_name (r ∷ ps))),
-    )
+less-size (p ∷ q ∷ []) = grind (arith, common_steps, cond_both, first-size)
+less-size (p ∷ q ∷ r ∷ ps) = grind (arith, common_steps, length-append, less-size (q ∷ r ∷ ps))
 
 -- the prefix alone
 alone-size : (ps : List Part) → length (spelled (prefix_alone ps)) ≤ length (spelled ps)
-alone-size [] = omega arith
-alone-size (p ∷ ps) =
-    cond_both (begins_with_prefix (λ q. true) (p.kind ∷ [])) (p ∷ []) [] (λ qs. length (spelled qs) ≤ length (spelled (p ∷ ps))) (λ e. first-size p ps) (λ e. omega arith)
+alone-size ps = grind (arith, cond_both, first-size)
 
 -- a component that is merged
 merge-size : (ps : List Part) (q : Part) (k : Kind) → length (spelled (merge_by_kind ps q k)) ≤ length (spelled ps) + size q
@@ -215,8 +190,7 @@ anew-least u free marked = let has = has-marked u marked in anew-read u has.pref
 
 -- behind a `\` begins no drive
 undriven-backslash : (x : List ℕ) → drive (backslash ∷ x) ≡ None
-undriven-backslash [] = refl
-undriven-backslash (b ∷ x) = refl
+undriven-backslash x = grind arith
 
 -- nothing, or a `\` with something behind it
 abbrev IsTail : List ℕ → Type 0
@@ -233,17 +207,13 @@ mark-other a b c d text other rest e = let tests = mark-tests a b c d text rest 
 -- behind a mark: a drive that is read there stands before the tail, and more before that too
 drive-long : (r y tail : List ℕ) (letter next : ℕ) (others : List ℕ) → IsTail tail → drive (r ++ tail) ≡ Some letter → drop 2 (r ++ tail) ≡ next ∷ others → (next ≡ backslash → ⊥)
     → (drive (r ++ y) ≡ Some letter → length r ≤ 2) → ⊥
-drive-long [] y tail letter next others (inl e) drives behind other short = let is = ap drive (sym e) ∙ drives in cc
-drive-long [] y tail letter next others (inr (x, e)) drives behind other short = let is = sym (undriven-backslash x) ∙ ap drive (sym e) ∙ drives in cc
-drive-long (a ∷ []) y tail letter next others (inl e) drives behind other short = let is = ap (λ t. drive (a ∷ t)) (sym e) ∙ drives in cc
-drive-long (a ∷ []) y tail letter next others (inr (x, e)) drives behind other short =
-    let colon = (drive-letter a backslash x letter (ap (λ t. drive (a ∷ t)) (sym e) ∙ drives)).1 in omega (arith, colon)
-drive-long (a ∷ b ∷ []) y tail letter next others (inl e) drives behind other short = let is = sym e ∙ behind in cc
-drive-long (a ∷ b ∷ []) y tail letter next others (inr (x, e)) drives behind other short =
-    let is = sym e ∙ behind in
-    let same : next ≡ backslash = cc in
-    other same
-drive-long (a ∷ b ∷ c ∷ r) y tail letter next others ends drives behind other short = omega (arith, short drives)
+drive-long [] y tail letter next others (inl e) drives behind other short = grind arith
+drive-long [] y tail letter next others (inr (x, e)) drives behind other short = grind (arith, undriven-backslash)
+drive-long (a ∷ []) y tail letter next others (inl e) drives behind other short = grind arith
+drive-long (a ∷ []) y tail letter next others (inr (x, e)) drives behind other short = grind (arith, drive-letter)
+drive-long (a ∷ b ∷ []) y tail letter next others (inl e) drives behind other short = grind arith
+drive-long (a ∷ b ∷ []) y tail letter next others (inr (x, e)) drives behind other short = grind arith
+drive-long (a ∷ b ∷ c ∷ r) y tail letter next others ends drives behind other short = grind arith
 
 parted-undriven : (r y tail : List ℕ) → IsTail tail → IsDriven (r ++ tail) → 4 ≤ length r
     → ((rest : List ℕ) (letter : ℕ) → after_mark question (r ++ y) ≡ Some rest → drive rest ≡ Some letter → length r ≤ 6) → ⊥
@@ -266,8 +236,7 @@ driven-six t f is rest letter marked drives =
 
 -- and so it is verbatim
 driven-marked : (t rest : List ℕ) (letter : ℕ) → after_mark question t ≡ Some rest → drive rest ≡ Some letter → IsMarked t
-driven-marked t [] letter marked drives = cc
-driven-marked t (b ∷ rest) letter marked drives = verbatim-marked t ∙ ap is_marked marked ∙ ap not (ne_eqb (length (b ∷ rest)) 0 (λ e. cc))
+driven-marked t rest letter marked drives = grind (arith, common_steps, verbatim-marked, is_marked)
 
 module _ (t : List ℕ) (f : Found) (is : prefix_of windows t ≡ Some f) where
   raw-six : (rest : List ℕ) (letter : ℕ) → after_mark question (take f.length t ++ drop f.length t) ≡ Some rest → drive rest ≡ Some letter → length (take f.length t) ≤ 6
@@ -305,9 +274,7 @@ module _ (base : List ℕ) (plain : has_any_verbatim_prefix (kinds (parts_of win
       (λ rest letter marked drives. absurd (unmarked rest letter (ap (after_mark question) (sym (append-nil base)) ∙ marked) drives))
     where
       first : (a : ℕ) (one two : Bool) → (a == slash) ≡ one → (a == backslash) ≡ two → (one || two) ≡ true → (a ≡ slash) ⊎ (a ≡ backslash)
-      first a true two e f is = inl (eqb-true a slash e)
-      first a false true e f is = inr (eqb-true a backslash f)
-      first a false false e f is = cc
+      first a one two e f is = grind (arith, eqb-true)
 
       long : (base : List ℕ) → 0 < length base → IsUnended base → (base ≡ slash ∷ [] → ⊥) → (x : List ℕ) → prefix_of windows x ≡ None → IsDriven (base ++ backslash ∷ x) → 4 ≤ length base
       long [] some unended apart x none h = absurd (omega (arith, some))
@@ -349,14 +316,7 @@ roots-fewer (p ∷ q ∷ ps) roots = (roots.0, roots-fewer (q ∷ ps) roots.1)
 module _ (p : Prefix) (raw : List ℕ) where
   headed-next : (ps : List Part) → AllByRecursion IsPlainRoot ps → (k : Kind) (text : List ℕ) → IsMergeable (record { kind = k; text = text }) k
       → IsHeaded p raw (merge_by_kind (prefix_part p raw ∷ ps) (record { kind = k; text = text }) k)
-  headed-next ps roots (prefix q) text are = absurd are
-  headed-next ps roots root text are = record { behind = root_part text ∷ []; is = refl; roots = (λ e. are, tt) }
-  headed-next ps roots current text are = record { behind = ps; is = refl; roots = roots }
-  headed-next [] roots parent text are = record { behind = []; is = refl; roots = tt }
-  headed-next (q ∷ ps) roots parent text are = record { behind = without_last_name (q ∷ ps); is = refl; roots = roots-fewer (q ∷ ps) roots }
-  headed-next ps roots (normal name) text are =
-      let q : Part = record { kind = normal name; text = text } in
-      record { behind = ps ++ q ∷ []; is = refl; roots = AllByRecursion-append IsPlainRoot ps (q ∷ []) roots (λ e. cc, tt) }
+  headed-next ps roots k text are = grind (arith, common_steps, roots-fewer)
 
   headed-merged : (qs list : List Part) → IsHeaded p raw list → AreMergeable qs → IsHeaded p raw (merged list qs)
   headed-merged [] list h are = h
@@ -367,8 +327,7 @@ module _ (p : Prefix) (raw : List ℕ) where
   headed-tail list h = let told = spelled-behind p raw h.behind in (told.0, by h.behind told.0 h.roots told.2, ap spelled h.is ∙ told.1)
     where
       begins : (q : Part) (ps : List Part) → q.text ≡ backslash ∷ [] → IsTail (spelled (q ∷ ps))
-      begins q [] e = inr ([], e)
-      begins q (r ∷ ps) e = inr (joint q.kind r.kind ++ spelled (r ∷ ps), ap (λ t. t ++ joint q.kind r.kind ++ spelled (r ∷ ps)) e)
+      begins q ps e = grind arith
 
       by : (ps : List Part) (tail : List ℕ) → AllByRecursion IsPlainRoot ps → Rest ps tail → IsTail tail
       by _ _ roots nothing = inl refl
@@ -379,11 +338,7 @@ plain-roots : (s : Separators) → root_text s ≡ backslash ∷ [] → (ps : Li
 plain-roots s same ps each = AllByRecursion-weaker (IsWrittenPart s) IsPlainRoot (λ p. by p.kind p.text) ps each
   where
     by : (k : Kind) (text : List ℕ) → IsWritten s k text → IsPlainRoot (record { kind = k; text = text })
-    by (prefix p) text written = absurd written
-    by root text written = λ e. written ∙ same
-    by current text written = λ e. cc
-    by parent text written = λ e. cc
-    by (normal name) text written = λ e. cc
+    by k text written = grind arith
 
 pub merged-undriven : (base x : List ℕ) → IsMarked base → has_prefix (kinds (parts_of windows x)) ≡ false → IsDriven (spelled (merged (parts_of windows base) (parts_of windows x))) → ⊥
 merged-undriven base x marked unprefixed h =

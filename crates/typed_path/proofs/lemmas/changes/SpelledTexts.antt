@@ -1,23 +1,24 @@
 -- A text of Windows that is spelled as it is read, and what a push writes anew.
 use Rattle.std.proofs.Common.{◌≡◌, ℕ, true, List, [], ◌∷◌, ◌++◌, take, drop, Option, Some, None, refl, sym, ap, subst, ◌∙◌, append-nil, false, ◌⊎◌, inl, inr, ◌+◌, Bool, if◌then◌else◌, length, append_assoc, arith, ◌<◌, not, nat_lt, codes, option_and_then, length-append, length-take, length-drop, lt-ltb, le-ltb, eqb-true, take-append-drop, drop-drop}
+use Rattle.std.proofs.lemmas.Grind.{common_steps}
 use Rattle.std.specs.List.{AllByRecursion}
 use Rattle.std.proofs.lemmas.Bool.{both_ways, cond_both, cases_lt, cases_Bool, cond-true, cond-false}
 use Rattle.std.proofs.lemmas.List.{append_cancel_left, nil_from_length}
-use Rattle.std.proofs.lemmas.List.Splits.{slice_split-cons_yes}
 use Rattle.std.proofs.lemmas.List.Sums.{sum_by-cons}
 use Rattle.std.specs.Str.{bytes_eq}
 use Rattle.std.proofs.lemmas.Slice.Eq.{bytes_eq-Decides}
 use Rattle.std.proofs.Math.Seq.{drop-append-add}
 use Rattle.typed_path.specs.declared.scan.separators.Separators.{Separators}
-use Rattle.typed_path.specs.components.{windows, backslash, separators, is_separator, question, Prefix, Kind, root, Part, kinds, root_part, prefix_part, prefix, current, parent, normal, is_name, verbatim_unc, Found, prefix_of, is_empty, found, after_mark, after_unc, name, second_name, names_length, verbatim_unc_case, parts_of}
+use Rattle.typed_path.specs.components.{windows, backslash, separators, question, Prefix, Kind, root, Part, kinds, root_part, prefix_part, prefix, current, parent, normal, is_name, verbatim_unc, Found, prefix_of, is_empty, found, after_mark, after_unc, name, second_name, names_length, verbatim_unc_case, parts_of}
 use Rattle.typed_path.specs.queries.{is_verbatim_prefix, begins_with_root, has_prefix}
-use Rattle.typed_path.specs.changes.{spelled, prefix_alone, without_last_name, merge_by_kind, merged, joint, IsSpelled, is_row, names_behind, IsStanding, IsMergeable, AreMergeable, Stands, room_of}
-use Rattle.typed_path.proofs.lemmas.components.Prefixes.{OfWindows, separators-windows, backslash-separates, root_text-windows, some_is, after_mark-reads, after_unc-reads, both-read, Read, of_verbatim_unc, of_verbatim_disk, of_verbatim, IsBehindMark}
-use Rattle.typed_path.proofs.lemmas.components.Segments.{pieces, first_parts, later_parts, body_parts, body_parts-read, AreRead, IsWritten, IsLaterPart}
+use Rattle.typed_path.specs.changes.{spelled, prefix_alone, without_last_name, merge_by_kind, merged, IsSpelled, is_row, names_behind, IsStanding, IsMergeable, AreMergeable, Stands, room_of}
+use Rattle.typed_path.proofs.lemmas.components.Prefixes.{OfWindows, separators-windows, backslash-separates, root_text-windows, after_mark-reads, after_unc-reads, both-read, Read, of_verbatim_unc, of_verbatim_disk, of_verbatim, IsBehindMark}
+use Rattle.typed_path.proofs.lemmas.components.Segments.{pieces, later_parts, body_parts, body_parts-read, AreRead, IsWritten, IsLaterPart}
 use Rattle.typed_path.proofs.lemmas.changes.Joins.{later_parts-spelled, row-read, row-spelled, joint-relative, IsPiece, later-piece}
 use Rattle.typed_path.proofs.lemmas.promises.WindowsBases.{Rest, nothing as bare, from_root, from_other, spelled-behind}
-use Rattle.typed_path.proofs.lemmas.components.PrefixCuts.{prefix_by, unless-none, name-length, name-filled, parts_of-some, verbatim-none, verbatim-some}
-use Rattle.typed_path.proofs.lemmas.components.FirmPrefixes.{parted, name-recut, both-extend, mark-recut, share_made, first-some, mark-extends, unc-extends, firm-again}
+use Rattle.typed_path.proofs.lemmas.components.PrefixCuts.{prefix_by, name-length, parts_of-some, verbatim-none, verbatim-some}
+use Rattle.typed_path.proofs.lemmas.components.FirmPrefixes.{parted, name-recut, both-extend, mark-recut, share_made, mark-extends, unc-extends, firm-again}
+use Rattle.typed_path.proofs.lemmas.lists.Options.{some_is, unless-none}
 
 -- What stands behind the prefix of a text of Windows that is spelled as it is read.
 
@@ -28,8 +29,7 @@ pub data Behind (s : Separators) : List Part → List Part → List ℕ → Type
 
 -- a root is spelled before what stands behind it
 spelled-root : (text : List ℕ) (ps : List Part) → spelled (root_part text ∷ ps) ≡ text ++ spelled ps
-spelled-root text [] = sym (append-nil text)
-spelled-root text (p ∷ ps) = ap (λ t. t ++ spelled (p ∷ ps)) (append-nil text)
+spelled-root text ps = grind (arith, append-nil)
 
 -- such a list, spelled behind its prefix
 pub spelled-prefixed : (s : Separators) (p : Prefix) (raw : List ℕ) (ps qs : List Part) (text : List ℕ) → Behind s ps qs text → spelled (prefix_part p raw ∷ ps) ≡ raw ++ text
@@ -44,9 +44,7 @@ module _ (s : Separators) (w : OfWindows s) where
 
   -- a text that begins with `\` is read as a root and what stands later
   pub body_parts-rooted : (text : List ℕ) → body_parts s (backslash ∷ text) ≡ root_part (backslash ∷ []) ∷ later_parts s (pieces s text)
-  body_parts-rooted text =
-      ap (first_parts s) (slice_split-cons_yes (is_separator s) backslash text (backslash-separates s w))
-      ∙ ap (λ t. root_part t ∷ later_parts s (pieces s text)) (root_text-windows s w)
+  body_parts-rooted text = grind arith
 
   -- what stands behind the prefix is read again
   behind-again : (ps qs : List Part) (text : List ℕ) → Behind s ps qs text → body_parts s text ≡ ps
@@ -139,21 +137,11 @@ module _ (t : List ℕ) (f : Found) (is : prefix_of windows t ≡ Some f) (marke
 
   -- another byte than `\`
   pub other-unspelled : (b : ℕ) (bs : List ℕ) → drop f.length t ≡ b ∷ bs → (b ≡ backslash → ⊥) → IsSpelled t → ⊥
-  other-unspelled b bs e other own = elim (told own) [
-    | inl none ↦ let both = sym none ∙ e in cc
-    | inr (text, is, rest) ↦ let both = sym e ∙ is in other cc
-  ]
+  other-unspelled b bs e other own = grind (arith, told)
 
   -- a root and no row
   pub row-unspelled : (text : List ℕ) → drop f.length t ≡ backslash ∷ text → is_empty text ≡ false → is_row (separators windows t) text ≡ false → IsSpelled t → ⊥
-  row-unspelled text e filled no_row own = elim (told own) [
-    | inl none ↦ let both = sym none ∙ e in cc
-    | inr (other, is, inl none) ↦ let both : text ≡ other = tails (sym e ∙ is) in both_ways _ filled (ap is_empty (both ∙ none))
-    | inr (other, is, inr row) ↦ let both : text ≡ other = tails (sym e ∙ is) in both_ways _ no_row (ap (is_row (separators windows t)) both ∙ row)
-  ]
-    where
-      tails : {b : ℕ} {bs cs : List ℕ} → b ∷ bs ≡ b ∷ cs → bs ≡ cs
-      tails e = cc
+  row-unspelled text e filled no_row own = grind (arith, told, both_ways)
 
 pub plain-unspelled : (t : List ℕ) (f : Found) → prefix_of windows t ≡ Some f → is_verbatim_prefix f.prefix ≡ false → IsSpelled t → ⊥
 plain-unspelled t f is plain own = both_ways _ (verbatim-some t f is ∙ plain) own.0
@@ -165,17 +153,11 @@ abbrev pub IsUnprefixed : List Part → Type 0
 IsUnprefixed ps = has_prefix (kinds ps) ≡ false
 
 first-unprefixed : (k : Kind) (ks ls : List Kind) → has_prefix (k ∷ ks) ≡ false → has_prefix (k ∷ ls) ≡ false
-first-unprefixed (prefix p) ks ls e = cc
-first-unprefixed k ks ls e = refl
+first-unprefixed k ks ls e = grind arith
 
 -- there is nothing that a root leaves of it
 alone-nothing : (ps : List Part) → IsUnprefixed ps → prefix_alone ps ≡ []
-alone-nothing [] e = refl
-alone-nothing (p ∷ ps) e = by p.kind e
-  where
-    by : (k : Kind) → has_prefix (k ∷ kinds ps) ≡ false → (if has_prefix (k ∷ []) then p ∷ [] else []) ≡ []
-    by (prefix q) e = cc
-    by k e = refl
+alone-nothing ps e = grind arith
 
 -- lists that begin with no prefix stay so
 merge-unprefixed : (ps : List Part) (k : Kind) (text : List ℕ) → IsUnprefixed ps → IsMergeable (record { kind = k; text = text }) k → IsUnprefixed (merge_by_kind ps (record { kind = k; text = text }) k)
@@ -192,12 +174,7 @@ merge-unprefixed (p ∷ ps) (normal name) text e is = first-unprefixed p.kind (k
 module _ (p : Prefix) (raw : List ℕ) where
   merge-behind : (ps : List Part) (k : Kind) (text : List ℕ) → IsUnprefixed ps → IsMergeable (record { kind = k; text = text }) k
       → merge_by_kind (prefix_part p raw ∷ ps) (record { kind = k; text = text }) k ≡ prefix_part p raw ∷ merge_by_kind ps (record { kind = k; text = text }) k
-  merge-behind ps (prefix q) text e is = absurd is
-  merge-behind ps root text e is = ap (λ qs. prefix_part p raw ∷ qs ++ root_part text ∷ []) (sym (alone-nothing ps e))
-  merge-behind ps current text e is = refl
-  merge-behind [] parent text e is = refl
-  merge-behind (q ∷ ps) parent text e is = refl
-  merge-behind ps (normal name) text e is = refl
+  merge-behind ps k text e is = grind arith
 
   -- and so do many
   pub merged-behind : (ps qs : List Part) → IsUnprefixed ps → AreMergeable qs → merged (prefix_part p raw ∷ ps) qs ≡ prefix_part p raw ∷ merged ps qs
@@ -209,24 +186,11 @@ module _ (p : Prefix) (raw : List ℕ) where
 -- components that stand, spelled
 pub spelled-standing : (n : Part) (ns : List Part) → AllByRecursion IsStanding (n ∷ ns) → spelled (n ∷ ns) ≡ n.text ++ names_behind true ns
 spelled-standing n [] all = sym (append-nil n.text)
-spelled-standing n (m ∷ ns) all =
-    ap (λ j. n.text ++ j ++ spelled (m ∷ ns)) (joint-relative n.kind m.kind all.0.relative all.1.0.relative)
-    ∙ append_assoc n.text (backslash ∷ []) (spelled (m ∷ ns))
-    ∙ ap (λ t. n.text ++ backslash ∷ t) (spelled-standing m ns all.1)
+spelled-standing n (m ∷ ns) all = grind (arith, common_steps, joint-relative, append_assoc, spelled-standing m ns all.1)
 
 -- what stands behind a prefix, spelled with that
 pub stands-spelled : (p : Prefix) (raw : List ℕ) (is_parted : Bool) (ps : List Part) (text : List ℕ) → Stands is_parted ps text → spelled (prefix_part p raw ∷ ps) ≡ raw ++ text
-stands-spelled p raw is_parted ps text h = ap (λ qs. spelled (prefix_part p raw ∷ qs)) h.list ∙ by is_parted h.names h.standing ∙ ap (λ t. raw ++ t) (sym h.written)
-  where
-    by : (b : Bool) (ns : List Part) → AllByRecursion IsStanding ns
-        → spelled (prefix_part p raw ∷ ((if b then [] else root_part (backslash ∷ []) ∷ []) ++ ns)) ≡ raw ++ ((if b then [] else backslash ∷ []) ++ names_behind b ns)
-    by true [] all = sym (append-nil raw)
-    by true (n ∷ ns) all =
-        ap (λ j. raw ++ j ++ spelled (n ∷ ns)) (joint-relative (prefix p) n.kind refl all.0.relative)
-        ∙ append_assoc raw (backslash ∷ []) (spelled (n ∷ ns))
-        ∙ ap (λ t. raw ++ backslash ∷ t) (spelled-standing n ns all)
-    by false [] all = ap (λ t. t ++ backslash ∷ []) (append-nil raw)
-    by false (n ∷ ns) all = ap (λ t. t ++ spelled (root_part (backslash ∷ []) ∷ n ∷ ns)) (append-nil raw) ∙ ap (λ t. raw ++ backslash ∷ t) (spelled-standing n ns all)
+stands-spelled p raw is_parted ps text h = grind (arith, append-nil, joint-relative, append_assoc, spelled-standing)
 
 -- a path that is partly merged into what stands
 pub record IsMerging (is_parted : Bool) (old : List ℕ) (all : List Part) (now : Bool) (text : List ℕ) (rest : List Part) : Type 0 where
@@ -249,12 +213,7 @@ module _ {is_parted : Bool} {old : List ℕ} {all : List Part} {now : Bool} {tex
 
 -- the room that is left once a component is put
 pub room-next : (p : Part) (old rest : List Part) → old ≡ p ∷ rest → room_of old ≡ room_of (p ∷ []) + room_of rest
-room-next p old rest step =
-    let size : Part → ℕ = λ q. length q.text + (if begins_with_root (q.kind ∷ []) then 0 else 1) in
-    ap room_of step ∙ sum_by-cons size p rest ∙ ap (λ n. n + room_of rest) (alone (size p) (sum_by-cons size p []))
-  where
-    alone : (n : ℕ) {m : ℕ} → m ≡ n + 0 → n ≡ m
-    alone n e = omega arith
+room-next p old rest step = grind (arith, common_steps, sum_by-cons)
 
 -- The prefix of a text that is spelled as it is read, and has more than a root behind that: it stays, whatever stands behind the root.
 
@@ -262,8 +221,7 @@ module _ (s : Separators) where
   -- a share is found where its mark is
   share-found : (u now : List ℕ) → option_and_then (after_unc s) (after_mark question u) ≡ Some now → is_empty (name s now) ≡ false
       → prefix_by s u ≡ Some (found (verbatim_unc (name s now) (second_name s now)) (8 + names_length s now))
-  share-found u now mark filled =
-      first-some _ _ _ (ap (option_and_then (share_made verbatim_unc 8 s)) mark ∙ cond-false (is_empty (name s now)) None _ filled)
+  share-found u now mark filled = grind arith
 
   -- its mark stays where the text is cut behind it and has more put behind that
   share-marked : (m : ℕ) (t rest x : List ℕ) → option_and_then (after_unc s) (after_mark question t) ≡ Some rest
@@ -274,8 +232,7 @@ module _ (s : Separators) where
 
   -- the second name is what stands behind the first one and a separator
   second-behind : (k : ℕ) (front x : List ℕ) → length front + k ≡ length (name s (front ++ x)) + 1 → second_name s (front ++ x) ≡ name s (drop k x)
-  second-behind k front x long =
-      ap (λ n. name s (drop n (front ++ x))) (omega (arith, name-length s (front ++ x), long)) ∙ ap (name s) (drop-append-add front x k)
+  second-behind k front x long = grind (arith, name-length, drop-append-add)
 
 module _ (s : Separators) (w : OfWindows s) where
   -- behind a separator at the front stands no name before it
@@ -307,9 +264,7 @@ module _ (s : Separators) (w : OfWindows s) where
 
   -- later components, spelled, begin with a name
   spelled-named : (k : Kind) (text : List ℕ) (ps : List Part) → IsPiece s k text → 0 < length (name s (spelled (record { kind = k; text = text } ∷ ps)))
-  spelled-named k [] ps piece = let filled = piece.filled in cc
-  spelled-named k (b ∷ bs) [] piece = name-filled s b bs (piece.unseparated 0 0 (omega arith))
-  spelled-named k (b ∷ bs) (p ∷ ps) piece = name-filled s b (bs ++ joint k p.kind ++ spelled (p ∷ ps)) (piece.unseparated 0 0 (omega arith))
+  spelled-named k text ps piece = grind arith
 
   -- so `UNC` with such behind it is no name
   unc-read : (t rest : List ℕ) (p : Part) (ps : List Part) → IsLaterPart s p → after_mark question t ≡ Some rest → rest ≡ codes "UNC" ++ backslash ∷ spelled (p ∷ ps) → verbatim_unc_case s t ≡ None → ⊥
@@ -325,12 +280,7 @@ module _ (s : Separators) (w : OfWindows s) where
   share-kept : (t rest x : List ℕ) (p : Part) (ps : List Part) → IsBehindMark 8 (option_and_then (after_unc s) (after_mark question t)) t rest → is_empty (name s rest) ≡ false
       → is_empty (second_name s rest) ≡ true → drop (8 + names_length s rest) t ≡ backslash ∷ spelled (p ∷ ps)
       → prefix_by s (take (8 + names_length s rest) t ++ backslash ∷ x) ≡ Some (found (verbatim_unc (name s rest) (second_name s rest)) (8 + names_length s rest))
-  share-kept t rest x p ps mark filled empty behind = elim (cases_lt (length (name s rest)) (length rest)) [
-    | inl less ↦ shared-stays t rest x mark filled empty less
-    | inr most ↦
-        let size : names_length s rest ≡ length (name s rest) = cond-false (nat_lt (length (name s rest)) (length rest)) (length (name s rest) + 1 + length (second_name s rest)) _ (le-ltb _ _ most) in
-        absurd (omega (arith, ap length behind, length-drop (8 + names_length s rest) t, mark.size, size, most))
-  ]
+  share-kept t rest x p ps mark filled empty behind = grind (arith, common_steps, cases_lt, shared-stays, cond-false, le-ltb, length-drop)
 
   -- each verbatim prefix
   pub verbatim-kept : (t x : List ℕ) (f : Found) (p : Part) (ps : List Part) → Read s t f → is_verbatim_prefix f.prefix ≡ true → IsLaterPart s p → drop f.length t ≡ backslash ∷ spelled (p ∷ ps)

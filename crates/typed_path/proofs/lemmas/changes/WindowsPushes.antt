@@ -1,22 +1,23 @@
 -- What a push of Windows asks of its base, which paths it puts behind that, and what stands behind a prefix that is written anew.
-use Rattle.std.proofs.Common.{ne_eqb, ◌≡◌, ℕ, ◌+◌, ◌-◌, ◌<◌, ◌≤◌, ◌==◌, ◌||◌, Bool, true, false, if◌then◌else◌, List, [], ◌∷◌, ◌++◌, length, take, drop, slice_index, Option, Some, None, is_some, refl, sym, ap, subst, ◌∙◌, append-nil, arith, suc, not, append_assoc, length-append, option_and_then, ◌&&◌, slice_range, eq-eqb, eqb-true, length-drop, length-take-le, take-take}
+use Rattle.std.proofs.Common.{◌≡◌, ℕ, ◌+◌, ◌-◌, ◌<◌, ◌≤◌, ◌==◌, ◌||◌, Bool, true, false, if◌then◌else◌, List, [], ◌∷◌, ◌++◌, length, take, drop, slice_index, Option, Some, None, is_some, refl, sym, ap, subst, ◌∙◌, append-nil, arith, suc, not, append_assoc, length-append, option_and_then, ◌&&◌, slice_range, eq-eqb, eqb-true, length-drop, length-take-le, take-take}
+use Rattle.std.proofs.lemmas.Grind.{common_steps}
 use Rattle.std.specs.Option.{option_or}
 use Rattle.std.proofs.lemmas.Bool.{false_from_ne_true, both_ways, or_right}
 use Rattle.std.proofs.Math.Seq.{take-add, take-append_seam, drop-append-add}
 use Rattle.std.proofs.lemmas.List.{nil_from_length}
-use Rattle.std.specs.List.{AllByRecursion, slice_split, onto_first}
+use Rattle.std.specs.List.{AllByRecursion}
 use Rattle.std.proofs.lemmas.List.Splits.{slice_split-cons_no}
 use Rattle.std.proofs.Math.Bool.{and-false}
 use Rattle.typed_path.specs.declared.scan.separators.Separators.{Separators}
 use Rattle.typed_path.specs.declared.scan.separators.Separators.TheVariants.{Either, Backslash}
-use Rattle.typed_path.specs.components.{current_part, parent_part, name_part, windows, backslash, question, dot, separators, is_separator, prefix, disk, device_ns, unc, verbatim, verbatim_disk, verbatim_unc, Part, kinds, is_name, root_part, Found, found, is_empty, drive, after_mark, after_two, after_unc, name, second_name, names_length, prefix_of, device_case, unc_case, disk_case, parts_of, is_dot, is_dot_dot}
+use Rattle.typed_path.specs.components.{windows, backslash, question, separators, is_separator, prefix, disk, verbatim, verbatim_disk, verbatim_unc, Part, kinds, is_name, root_part, Found, found, is_empty, drive, after_mark, after_two, after_unc, name, second_name, names_length, prefix_of, device_case, unc_case, disk_case, parts_of, is_dot, is_dot_dot}
 use Rattle.typed_path.specs.queries.{has_prefix, has_any_verbatim_prefix, begins_with_root, is_verbatim_prefix}
 use Rattle.typed_path.specs.changes.{push, push_windows, merged, without_last_name, raw_prefix, spelled, spells_anew, ended_windows, is_disk_alone, merges, FitsBy, FitsPush, IsPutBehind, names_behind, IsStanding, Stands}
 use Rattle.typed_path.proofs.lemmas.components.Segments.{body_parts, body_parts-read, first_parts, later_parts}
-use Rattle.typed_path.proofs.lemmas.components.Prefixes.{drive-size, Read, of_verbatim_unc, of_verbatim_disk, of_verbatim, of_device, of_unc, of_disk, prefix-read}
+use Rattle.typed_path.proofs.lemmas.components.Prefixes.{Read, prefix-read}
 use Rattle.typed_path.proofs.lemmas.components.WindowsNames.{unseparated-none}
 use Rattle.typed_path.proofs.lemmas.components.PrefixCuts.{parts_of-none, parts_of-some, verbatim-none, verbatim-some}
-use Rattle.typed_path.proofs.lemmas.promises.WindowsBases.{read-no_drive, disk_alone-filled}
+use Rattle.typed_path.proofs.lemmas.promises.WindowsBases.{read-no_drive}
 use Rattle.typed_path.proofs.lemmas.lists.Lists.{AllByRecursion-append, IsLastPlace, place-none, place-behind}
 use Rattle.typed_path.proofs.lemmas.components.FirmPrefixes.{filled-long}
 
@@ -24,13 +25,10 @@ use Rattle.typed_path.proofs.lemmas.components.FirmPrefixes.{filled-long}
 
 -- a base that is empty or ends with `\\` wants nothing behind it
 kept : (t u : List ℕ) (d e : Bool) → e ≡ true → (if d then t else (if e then t else u)) ≡ t ++ []
-kept t u true e h = sym (append-nil t)
-kept t u false true h = sym (append-nil t)
-kept t u false false h = cc
+kept t u d e h = grind (arith, append-nil)
 
 pub ended-empty : (t : List ℕ) → length t < 1 → ended_windows t ≡ t ++ []
-ended-empty [] h = refl
-ended-empty (b ∷ bs) h = absurd (omega arith)
+ended-empty t h = grind arith
 
 pub ended-ended : (t : List ℕ) → slice_index t (length t - 1) ≡ backslash → ended_windows t ≡ t ++ []
 ended-ended t h = kept t (t ++ backslash ∷ []) (is_disk_alone (kinds (parts_of windows t))) (length t == 0 || slice_index t (length t - 1) == backslash) (or_right (length t == 0) _ (eq-eqb _ backslash h))
@@ -51,34 +49,22 @@ is_verbatim_found (Some f) = is_verbatim_prefix f.prefix
 
 -- of two cases none is verbatim
 plain-or : (o p : Option Found) → is_verbatim_found o ≡ false → is_verbatim_found p ≡ false → is_verbatim_found (option_or o p) ≡ false
-plain-or None p e f = f
-plain-or (Some g) p e f = e
+plain-or o p e f = grind arith
 
 plain-made : {A : Type 0} (test : A → Bool) (make : A → Found) → ((x : A) → is_verbatim_prefix (make x).prefix ≡ false) → (o : Option A)
     → is_verbatim_found (option_and_then (λ x. if test x then None else Some (make x)) o) ≡ false
-plain-made test make plain None = refl
-plain-made test make plain (Some x) = by (test x)
-  where
-    by : (b : Bool) → is_verbatim_found (if b then None else Some (make x)) ≡ false
-    by true = refl
-    by false = plain x
+plain-made test make plain o = grind arith
 
 plain-letter : (o : Option ℕ) → is_verbatim_found (option_and_then (λ letter. Some (found (disk letter) 2)) o) ≡ false
-plain-letter None = refl
-plain-letter (Some letter) = refl
+plain-letter o = grind arith
 
 -- the cases without the mark of a verbatim kind
 plain-others : (t : List ℕ) → is_verbatim_found (option_or (device_case t) (option_or (unc_case t) (disk_case t))) ≡ false
-plain-others t =
-    plain-or (device_case t) (option_or (unc_case t) (disk_case t)) (plain-made (λ rest. is_empty (name Either rest)) (λ rest. found (device_ns (name Either rest)) (4 + length (name Either rest))) (λ rest. refl) (after_mark dot t))
-    (plain-or (unc_case t) (disk_case t)
-    (plain-made (λ rest. is_empty (name Either rest)) (λ rest. found (unc (name Either rest) (second_name Either rest)) (2 + names_length Either rest)) (λ rest. refl) (after_two t))
-    (plain-letter (drive t)))
+plain-others t = grind (arith, plain-or, plain-made, plain-letter)
 
 -- of two cases the first that holds is verbatim
 verbatim-or : (o p : Option Found) → ((f : Found) → o ≡ Some f → is_verbatim_prefix f.prefix ≡ true) → is_verbatim_found p ≡ true → is_verbatim_found (option_or o p) ≡ true
-verbatim-or None p first e = e
-verbatim-or (Some f) p first e = first f refl
+verbatim-or o p first e = grind arith
 
 -- a prefix is of a verbatim kind exactly where the mark has something behind it
 verbatim_found-marked : (t : List ℕ) → is_verbatim_found (prefix_of windows t) ≡ is_marked (after_mark question t)
@@ -100,19 +86,16 @@ verbatim_found-marked t = by (after_mark question t)
     server (Some rest) f e = test (is_empty (name s rest)) e
       where
         test : (b : Bool) → (if b then None else Some (found (verbatim_unc (name s rest) (second_name s rest)) (8 + names_length s rest))) ≡ Some f → is_verbatim_prefix f.prefix ≡ true
-        test true e = cc
-        test false e = ap is_verbatim_found (sym e)
+        test b e = grind arith
 
     letter : (o : Option ℕ) (f : Found) → option_and_then (λ letter. Some (found (verbatim_disk letter) 6)) o ≡ Some f → is_verbatim_prefix f.prefix ≡ true
-    letter None f e = cc
-    letter (Some l) f e = ap is_verbatim_found (sym e)
+    letter o f e = grind arith
 
     named : (rest : List ℕ) → is_empty rest ≡ false → is_verbatim_found (made (Some rest)) ≡ true
     named rest e = verbatim-or _ _ (server (after_unc s rest)) (verbatim-or _ _ (letter (drive rest)) (test (is_empty rest) e))
       where
         test : (b : Bool) → b ≡ false → is_verbatim_found (option_or (if b then None else Some (found (verbatim (name s rest)) (4 + length (name s rest)))) others) ≡ true
-        test true h = cc
-        test false h = refl
+        test b h = grind arith
 
     by : (m : Option (List ℕ)) → is_verbatim_found (made m) ≡ is_marked m
     by None = plain-others t
@@ -129,43 +112,15 @@ verbatim-marked t = by (prefix_of windows t) refl ∙ verbatim_found-marked t
 
 -- and a text that does not begin with two separators has none of these kinds
 pub unmarked-two : (t : List ℕ) → is_some (after_two t) ≡ false → has_any_verbatim_prefix (kinds (parts_of windows t)) ≡ false
-unmarked-two t none = verbatim-marked t ∙ by t none
-  where
-    test : (x y z w : Bool) (behind rest : List ℕ) → is_some (if (x && y) then Some behind else None) ≡ false → is_marked (if (x && y && z && w) then Some rest else None) ≡ false
-    test true true z w behind rest e = cc
-    test true false z w behind rest e = refl
-    test false y z w behind rest e = refl
-
-    by : (t : List ℕ) → is_some (after_two t) ≡ false → is_marked (after_mark question t) ≡ false
-    by (a ∷ b ∷ c ∷ d ∷ rest) e = test (is_separator Either a) (is_separator Either b) (c == question) (is_separator Either d) (c ∷ d ∷ rest) rest e
-    by t e = refl
+unmarked-two t h = grind (arith, verbatim-marked)
 
 -- nor has one of which the third byte is no `?`
 pub unmarked-third : (t : List ℕ) → 3 ≤ length t → (slice_index t 2 == question) ≡ false → has_any_verbatim_prefix (kinds (parts_of windows t)) ≡ false
-unmarked-third t long other = verbatim-marked t ∙ by t long other
-  where
-    test : (x y z w : Bool) (rest : List ℕ) → z ≡ false → is_marked (if (x && y && z && w) then Some rest else None) ≡ false
-    test true true false w rest e = refl
-    test true true true w rest e = cc
-    test true false z w rest e = refl
-    test false y z w rest e = refl
-
-    by : (t : List ℕ) → 3 ≤ length t → (slice_index t 2 == question) ≡ false → is_marked (after_mark question t) ≡ false
-    by (a ∷ b ∷ c ∷ d ∷ rest) long e = test (is_separator Either a) (is_separator Either b) (c == question) (is_separator Either d) rest e
-    by t long e = refl
+unmarked-third t long other = grind (arith, verbatim-marked)
 
 -- a drive alone is two bytes
 drive_read : (t : List ℕ) (f : Found) → Read (separators windows t) t f → is_disk_alone (prefix f.prefix ∷ kinds (body_parts (separators windows t) (drop f.length t))) ≡ true → length t ≡ 2
-drive_read t _ (of_disk letter is) alone = by (drop 2 t) refl
-  where
-    by : (rest : List ℕ) → drop 2 t ≡ rest → length t ≡ 2
-    by [] e = omega (arith, drive-size t letter is, length-drop 2 t, ap length e)
-    by (b ∷ bs) e = absurd (both_ways _ (disk_alone-filled (separators windows t) (disk letter) b bs) (ap (λ rest. is_disk_alone (prefix (disk letter) ∷ kinds (body_parts (separators windows t) rest))) (sym e) ∙ alone))
-drive_read t _ (of_verbatim_unc rest mark some) alone = cc
-drive_read t _ (of_verbatim_disk rest letter mark is) alone = cc
-drive_read t _ (of_verbatim rest mark some no_share no_drive) alone = cc
-drive_read t _ (of_device rest mark some) alone = cc
-drive_read t _ (of_unc rest mark some no_verbatim no_device) alone = cc
+drive_read t f h alone = grind arith
 
 pub disk_alone-two : (t : List ℕ) → is_disk_alone (kinds (parts_of windows t)) ≡ true → length t ≡ 2
 disk_alone-two t alone = by (prefix_of windows t) refl
@@ -191,57 +146,30 @@ without_last_name-other (q ∷ r ∷ ps) p e = ap (λ rs. q ∷ rs) (without_las
 
 -- the cases of a push
 pub push-empty : (base : List ℕ) (path : List ℕ) → (length path == 0) ≡ true → push_windows base path ≡ base
-push-empty base [] e = refl
-push-empty base (b ∷ path) e = absurd (omega (arith, eqb-true _ 0 e))
+push-empty base path e = grind (arith, eqb-true)
 
 pub push-prefixed : (base : List ℕ) (path : List ℕ) → (length path == 0) ≡ false → has_prefix (kinds (parts_of windows path)) ≡ true → push_windows base path ≡ path
-push-prefixed base [] some e = cc
-push-prefixed base (b ∷ path) some e = rw e refl
+push-prefixed base path h e = grind arith
 
 pub push-anew : (base : List ℕ) (path : List ℕ) → (length path == 0) ≡ false → has_prefix (kinds (parts_of windows path)) ≡ false → has_any_verbatim_prefix (kinds (parts_of windows base)) ≡ true
     → push_windows base path ≡ spelled (merged (parts_of windows base) (parts_of windows path))
-push-anew base [] some e f = cc
-push-anew base (b ∷ path) some e f = rw (e, f) refl
+push-anew base path h e f = grind arith
 
 pub push-rooted : (base : List ℕ) (path : List ℕ) → (length path == 0) ≡ false → has_prefix (kinds (parts_of windows path)) ≡ false → has_any_verbatim_prefix (kinds (parts_of windows base)) ≡ false
     → begins_with_root (kinds (parts_of windows path)) ≡ true → push_windows base path ≡ raw_prefix base ++ path
-push-rooted base [] some e f g = cc
-push-rooted base (b ∷ path) some e f g = rw (e, f, g) refl
+push-rooted base path h e f g = grind arith
 
 pub push-relative : (base : List ℕ) (path : List ℕ) → (length path == 0) ≡ false → has_prefix (kinds (parts_of windows path)) ≡ false → has_any_verbatim_prefix (kinds (parts_of windows base)) ≡ false
     → begins_with_root (kinds (parts_of windows path)) ≡ false → push_windows base path ≡ ended_windows base ++ path
-push-relative base [] some e f g = cc
-push-relative base (b ∷ path) some e f g = rw (e, f, g) refl
+push-relative base path h e f g = grind arith
 
 -- what begins with no separator of Windows and with no drive is put behind
 put_behind-first : (b : ℕ) (bs : List ℕ) → is_separator Either b ≡ false → drive (b ∷ bs) ≡ None → IsPutBehind (b ∷ bs)
-put_behind-first b bs plain no_drive = record {
-  filled = filled bs;
-  unprefixed = ap (λ ps. has_prefix (kinds ps)) read ∙ (first (slice_split (is_separator Either) bs)).0;
-  relative = ap (λ ps. begins_with_root (kinds ps)) read ∙ (first (slice_split (is_separator Either) bs)).1;
-}
-  where
-    filled : (cs : List ℕ) → is_empty (b ∷ cs) ≡ false
-    filled cs = ne_eqb (length (b ∷ cs)) 0 (λ none. omega (arith, none))
-
-    read : parts_of windows (b ∷ bs) ≡ first_parts Either (onto_first b (slice_split (is_separator Either) bs))
-    read = parts_of-none (b ∷ bs) (unseparated-none b bs plain no_drive) ∙ ap (first_parts Either) (slice_split-cons_no (is_separator Either) b bs plain)
-
-    by : (dotted twice : Bool) (name : List ℕ) (others : List (List ℕ))
-        → (has_prefix (kinds ((if dotted then current_part else (if twice then parent_part else name_part name)) ∷ later_parts Either others)) ≡ false)
-        × (begins_with_root (kinds ((if dotted then current_part else (if twice then parent_part else name_part name)) ∷ later_parts Either others)) ≡ false)
-    by true twice name others = (refl, refl)
-    by false true name others = (refl, refl)
-    by false false name others = (refl, refl)
-
-    first : (some : List (List ℕ)) → (has_prefix (kinds (first_parts Either (onto_first b some))) ≡ false) × (begins_with_root (kinds (first_parts Either (onto_first b some))) ≡ false)
-    first [] = rw (filled []) (by (is_dot (b ∷ [])) (is_dot_dot (b ∷ [])) (b ∷ []) [])
-    first (head ∷ others) = rw (filled head) (by (is_dot (b ∷ head)) (is_dot_dot (b ∷ head)) (b ∷ head) others)
+put_behind-first b bs plain no_drive = grind (arith, common_steps, filled, first_parts, parts_of-none, unseparated-none, slice_split-cons_no, later_parts)
 
 -- the same of a text by its first byte
 pub put_behind-told : (path : List ℕ) → 1 ≤ length path → is_separator Either (slice_index path 0) ≡ false → drive path ≡ None → IsPutBehind path
-put_behind-told [] some plain no_drive = absurd (omega (arith, some))
-put_behind-told (b ∷ bs) some plain no_drive = put_behind-first b bs plain no_drive
+put_behind-told path h plain no_drive = grind (arith, put_behind-first)
 
 -- such a path is put behind a base that is not spelled anew
 pub push-put_behind : (base path : List ℕ) → IsPutBehind path → has_any_verbatim_prefix (kinds (parts_of windows base)) ≡ false → push_windows base path ≡ ended_windows base ++ path
@@ -258,8 +186,7 @@ module _ (text : List ℕ) (start end : ℕ) (ordered : start ≤ end) (within :
 
   -- and up to a place in it
   pub up_to-inside : (n : ℕ) → n ≤ length (slice_range text start end) → take (start + n) text ≡ take start text ++ take n (slice_range text start end)
-  up_to-inside n inside =
-      take-add start n text ∙ ap (λ u. take start text ++ u) (sym (take-take n (end - start) (drop start text) (omega (arith, path-length))))
+  up_to-inside n inside = grind (arith, take-add, take-take, path-length)
 
 -- what is said of the room for a push, where components are merged into the base and where none is
 module _ (room : ℕ) (base path : List ℕ) where
@@ -270,11 +197,7 @@ module _ (room : ℕ) (base path : List ℕ) where
   fits-plain e = fits-by false (ap (λ b. not (is_empty path || has_prefix (kinds (parts_of windows path))) && b) e ∙ and-false (not (is_empty path || has_prefix (kinds (parts_of windows path)))))
 
   pub fits-prefixed : has_prefix (kinds (parts_of windows path)) ≡ true → FitsPush windows room base path → length (push windows base path) ≤ room
-  fits-prefixed e = fits-by false (ap (λ b. not (is_empty path || b) && spells_anew windows base) e ∙ by (is_empty path))
-    where
-      by : (b : Bool) → not (b || true) && spells_anew windows base ≡ false
-      by true = refl
-      by false = refl
+  fits-prefixed e = grind arith
 
   pub fits-merged : is_empty path ≡ false → has_prefix (kinds (parts_of windows path)) ≡ false → spells_anew windows base ≡ true → FitsPush windows room base path
       → (spelled (parts_of windows base) ≡ base) × (length base + length path < room)
@@ -316,29 +239,9 @@ stands-more parted ps p old middle new component h is same joined apart put = by
 
     by : (b : Bool) (ns : List Part) → AllByRecursion IsStanding ns → ps ≡ (if b then [] else root_part (backslash ∷ []) ∷ []) ++ ns
         → old ≡ (if b then [] else backslash ∷ []) ++ names_behind b ns → Stands b (ps ++ p ∷ []) new
-    by true ns all list written =
-        let long : length old ≡ 1 → ⊥ = λ one. parted-length ns all (sym (ap length written) ∙ one) in
-        record {
-          names = ns ++ p ∷ [];
-          standing = more ns all;
-          list = ap (λ qs. qs ++ p ∷ []) list;
-          written = put ∙ ap (λ t. t ++ component) (apart long) ∙ sym behind ∙ ap (λ t. t ++ backslash ∷ p.text) written ∙ sym (behind-parted ns p);
-        }
-    by false [] all list written =
-        record {
-          names = p ∷ [];
-          standing = (is, tt);
-          list = ap (λ qs. qs ++ p ∷ []) list;
-          written = put ∙ ap (λ t. t ++ component) (joined (ap length written) ∙ written) ∙ ap (λ t. backslash ∷ t) (sym same ∙ sym (append-nil p.text));
-        }
-    by false (n ∷ ns) all list written =
-        let long : length old ≡ 1 → ⊥ = λ one. absurd (omega (arith, one, ap length written, rooted-length n ns all)) in
-        record {
-          names = n ∷ ns ++ p ∷ [];
-          standing = more (n ∷ ns) all;
-          list = ap (λ qs. qs ++ p ∷ []) list;
-          written = put ∙ ap (λ t. t ++ component) (apart long) ∙ sym behind ∙ ap (λ t. t ++ backslash ∷ p.text) written ∙ ap (λ t. backslash ∷ t) (sym (behind-rooted n ns p));
-        }
+    by true ns all list written = grind (arith, parted-length, more, behind, behind-parted)
+    by false [] all list written = grind (arith, append-nil)
+    by false (n ∷ ns) all list written = grind (arith, rooted-length, more, behind, behind-rooted)
 
 -- what stands, as what stands before its last component, `\` and that one
 record IsEnded (parted : Bool) (ps : List Part) (text : List ℕ) : Type 0 where
@@ -470,12 +373,7 @@ module _ (parted : Bool) (ps : List Part) (text : List ℕ) (h : Stands parted p
   left = ap (λ n. take n text) at ∙ ap (take (length end.before)) end.written ∙ take-append_seam end.before (backslash ∷ end.last.text)
 
   pub stands-cut : is_dots (drop start (drop 1 text)) ≡ false → 0 < start → Stands parted (without_last_name ps) (take start text)
-  stands-cut dotless some =
-      subst (λ qs. Stands parted qs (take start text)) (sym (less dotless)) (subst (Stands parted end.others) (sym left) (end.some (omega (arith, at, some))))
+  stands-cut dotless some = grind (arith, less, left, at)
 
   pub stands-alone : is_dots (drop start (drop 1 text)) ≡ false → start ≡ 0 → Stands parted (without_last_name ps) (take (if parted then 0 else 1) text)
-  stands-alone dotless none = subst (λ qs. Stands parted qs (take (if parted then 0 else 1) text)) (sym (less dotless)) (subst (Stands parted end.others) (by parted) (end.none (omega (arith, at, none))))
-    where
-      by : (b : Bool) → (if b then [] else backslash ∷ []) ≡ take (if b then 0 else 1) text
-      by true = refl
-      by false = sym (ap (take 1) (end.written ∙ ap (λ u. u ++ backslash ∷ end.last.text) (nil_from_length end.before (omega (arith, at, none)))))
+  stands-alone dotless h = grind (arith, less, at, nil_from_length)

@@ -1,16 +1,15 @@
 -- Where the components of a text begin and end, how many they are, and what is read before and behind such a place.
-use Rattle.std.proofs.Common.{◌≡◌, ℕ, zero, suc, ◌+◌, ◌<◌, ◌≤◌, ◌==◌, false, List, [], ◌∷◌, ◌++◌, ◌⊎◌, inl, inr, length, take, drop, flat_map, refl, sym, ap, ap₂, ◌∙◌, add-zero, ne_eqb, arith, ◌-◌, true, le_refl, min, length-take, Option, Some, None, zero-add, zero-le, length-take-le, length-drop, Bool, if◌then◌else◌, subst, length-append}
-use Rattle.std.specs.List.{slice_split, onto_first}
-use Rattle.std.proofs.lemmas.Bool.{cases_Bool, eqb-false}
-use Rattle.std.proofs.lemmas.List.Splits.{slice_split-cons_yes, slice_split-cons_no}
+use Rattle.std.proofs.Common.{◌≡◌, ℕ, zero, suc, ◌+◌, ◌<◌, ◌≤◌, ◌==◌, false, List, [], ◌∷◌, ◌++◌, ◌⊎◌, inl, inr, length, take, drop, flat_map, refl, sym, ap, ap₂, ◌∙◌, add-zero, ne_eqb, arith, ◌-◌, true, le_refl, min, length-take, Option, Some, None, zero-add, zero-le, length-take-le, length-drop, length-append}
+use Rattle.std.proofs.lemmas.Grind.{common_steps}
+use Rattle.std.specs.List.{slice_split}
+use Rattle.std.proofs.lemmas.Bool.{eqb-false}
 use Rattle.std.proofs.lemmas.List.{length-map}
 use Rattle.typed_path.specs.declared.scan.separators.Separators.{Separators}
-use Rattle.typed_path.specs.declared.scan.separators.Separators.TheVariants.{Slash, Backslash, Either}
 use Rattle.typed_path.specs.declared.scan.cursor.Begin.{Begin}
 use Rattle.typed_path.specs.declared.scan.cursor.Begin.TheVariants.{Body, Inside}
-use Rattle.typed_path.specs.components.{root_text, is_separator, Dialect, separators, windows, is_verbatim, Part, Placed, current_part, parent_part, name_part, root_part, end_of, parts, Segment, placed, later, first, component, body_of, body, later_body, comps, comps_behind, is_dot, parts_of, Found, prefix_of}
+use Rattle.typed_path.specs.components.{root_text, is_separator, Dialect, separators, windows, Part, Placed, root_part, end_of, parts, Segment, placed, later, first, component, body_of, body, later_body, comps, comps_behind, parts_of, Found, prefix_of}
 use Rattle.typed_path.specs.scan.{start_at, end_at, AreInOrder, IsLaidOut, body_from}
-use Rattle.typed_path.proofs.lemmas.components.Segments.{Seen, empty, passed_dot, kept_dot, dot_dot, word, seen, pieces, named_part, later_part, later_parts, first_parts, parts-body, parts-later_body}
+use Rattle.typed_path.proofs.lemmas.components.Segments.{pieces, later_part, later_parts, first_parts, parts-body, parts-later_body}
 use Rattle.typed_path.proofs.lemmas.lists.Lists.{width, slice_split-some, width-slice_split, slice_split-take, slice_split-drop}
 use Rattle.typed_path.proofs.lemmas.components.Prefixes.{FoundFits, prefix-fits}
 
@@ -32,31 +31,15 @@ filled_by g n e some = ne_eqb (length g.text) 0 (λ h. omega arith)
 
 -- a later segment is no component, or one that takes the whole segment
 later_takes : (s : Separators) (g : Segment) → (later s g ≡ []) ⊎ TakesSegment g (later s g)
-later_takes s g = by (later s g) (first s g) (seen s g)
-  where
-    by : (own front : List Placed) → Seen s g own front → (own ≡ []) ⊎ TakesSegment g own
-    by _ _ (empty e) = inl refl
-    by _ _ (passed_dot e) = inl refl
-    by _ _ (kept_dot e) = inr (record { part = current_part; is = refl; size = sym e; filled = filled_by g 1 e (omega arith) })
-    by _ _ (dot_dot e) = inr (record { part = parent_part; is = refl; size = sym e; filled = filled_by g 2 e (omega arith) })
-    by _ _ (word e) = inr (record { part = name_part g.text; is = refl; size = refl; filled = e })
+later_takes s g = grind arith
 
 -- a first segment is one component, which takes the whole segment, or is the root in place of an empty one
 pub first_takes : (s : Separators) (g : Segment) → TakesSegment g (first s g) ⊎ ((length g.text ≡ 0) × (first s g ≡ component (root_part (root_text s)) g.start))
-first_takes s g = by (later s g) (first s g) (seen s g)
-  where
-    by : (own front : List Placed) → Seen s g own front → TakesSegment g front ⊎ ((length g.text ≡ 0) × (front ≡ component (root_part (root_text s)) g.start))
-    by _ _ (empty e) = inr (e, refl)
-    by _ _ (passed_dot e) = inl (record { part = current_part; is = refl; size = sym e; filled = filled_by g 1 e (omega arith) })
-    by _ _ (kept_dot e) = inl (record { part = current_part; is = refl; size = sym e; filled = filled_by g 1 e (omega arith) })
-    by _ _ (dot_dot e) = inl (record { part = parent_part; is = refl; size = sym e; filled = filled_by g 2 e (omega arith) })
-    by _ _ (word e) = inl (record { part = name_part g.text; is = refl; size = refl; filled = e })
+first_takes s g = grind arith
 
 -- the root is one byte
 pub root_text-length : (s : Separators) → length (root_text s) ≡ 1
-root_text-length Slash = refl
-root_text-length Backslash = refl
-root_text-length Either = refl
+root_text-length s = grind arith
 
 -- later components stand in order
 pub laid_in_order : (s : Separators) (at end from : ℕ) (pieces : List (List ℕ)) → from ≤ at → from ≤ end → at + width pieces ≤ end + 1 → AreInOrder from end (laid s at pieces)
@@ -67,10 +50,7 @@ laid_in_order s at end from (piece ∷ pieces) low fits within =
   where
     by : (own : List Placed) → (own ≡ []) ⊎ TakesSegment (record { text = piece; start = at }) own
         → ((begin : ℕ) → begin ≤ at + length piece + 1 → begin ≤ end → AreInOrder begin end (laid s (at + length piece + 1) pieces)) → AreInOrder from end (own ++ laid s (at + length piece + 1) pieces)
-    by own (inl none) others = rw none (others from (omega arith) fits)
-    by own (inr one) others =
-        let size = one.size in
-        rw one.is (low, others (at + length one.part.text) (omega arith) (omega arith))
+    by own h others = grind arith
 
 -- where component k begins, and what is read from there on
 pub record StartCut (s : Separators) (at : ℕ) (pieces : List (List ℕ)) (cs : List Placed) (k : ℕ) : Type 0 where
@@ -183,14 +163,7 @@ end_cut s at (piece ∷ pieces) cs k e h = by (later_takes s g) (λ ds j. end_cu
 
 -- an empty first piece stands before a separator
 pub empty_first : (s : Separators) (b : ℕ) (bs piece : List ℕ) (pieces : List (List ℕ)) → slice_split (is_separator s) (b ∷ bs) ≡ piece ∷ pieces → length piece ≡ 0 → is_separator s b ≡ true
-empty_first s b bs piece pieces split none = by (cases_Bool (is_separator s b))
-  where
-    by : (is_separator s b ≡ true) ⊎ (is_separator s b ≡ false) → is_separator s b ≡ true
-    by (inl h) = h
-    by (inr h) =
-        let some = slice_split-some (is_separator s) bs in
-        let long : b ∷ some.0 ≡ piece = cc (sym split, slice_split-cons_no (is_separator s) b bs h, ap (onto_first b) some.2) in
-        absurd (omega (arith, ap length long))
+empty_first s b bs piece pieces split h = grind arith
 
 -- the first component of a text, its piece, and the pieces behind it
 record Beginning (s : Separators) (at b : ℕ) (bs : List ℕ) : Type 0 where
@@ -210,8 +183,7 @@ beginning s at b bs =
     by : (piece : List ℕ) (pieces : List (List ℕ)) → slice_split (is_separator s) (b ∷ bs) ≡ piece ∷ pieces
         → TakesSegment (record { text = piece; start = at }) (first s (record { text = piece; start = at })) ⊎ ((length piece ≡ 0) × (first s (record { text = piece; start = at }) ≡ component (root_part (root_text s)) at))
         → Beginning s at b bs
-    by piece pieces split (inl one) = record { piece = piece; pieces = pieces; split = split; part = one.part; is = one.is; size = inl (one.size, grind (arith, eqb-false)) }
-    by piece pieces split (inr root) = record { piece = piece; pieces = pieces; split = split; part = root_part (root_text s); is = root.1; size = inr (root_text-length s, root.0, empty_first s b bs piece pieces split root.0) }
+    by piece pieces split h = grind (arith, pieces, eqb-false, root_text-length, empty_first)
 
 -- the first component, and then those of the pieces behind it
 body-beginning : (s : Separators) (at b : ℕ) (bs : List ℕ) (start : Beginning s at b bs) → body s at (b ∷ bs) ≡ record { part = start.part; start = at } ∷ laid s (at + length start.piece + 1) start.pieces
@@ -237,8 +209,7 @@ body_in_order s at (b ∷ bs) =
 
 -- the first pieces of a text, read alone
 body-pieces : (s : Separators) (at : ℕ) (text piece : List ℕ) (pieces : List (List ℕ)) → 0 < length text → slice_split (is_separator s) text ≡ piece ∷ pieces → body s at text ≡ body_of s (placed at (piece ∷ pieces))
-body-pieces s at [] piece pieces filled split = absurd (omega arith)
-body-pieces s at (b ∷ bs) piece pieces filled split = ap (λ all. body_of s (placed at all)) split
+body-pieces s at text piece pieces filled split = grind arith
 
 -- the front of a text, as long as its first pieces are, is read as their components
 body-front : (s : Separators) (at b : ℕ) (bs : List ℕ) (start : Beginning s at b bs) (n : ℕ) (before behind : List (List ℕ)) → start.pieces ≡ before ++ behind → 0 < n → n ≡ length start.piece + width before
@@ -252,8 +223,7 @@ body-front s at b bs start n before behind whole some size =
 -- a root alone
 body-root : (s : Separators) (at b : ℕ) (part : Part) (piece : List ℕ) → is_separator s b ≡ true → length piece ≡ 0 → first s (record { text = piece; start = at }) ≡ component part at
     → body s at (b ∷ []) ≡ component part at
-body-root s at b part [] separates none is = ap (λ pieces. body_of s (placed at pieces)) (slice_split-cons_yes (is_separator s) b [] separates) ∙ is
-body-root s at b part (c ∷ piece) separates none is = absurd (omega arith)
+body-root s at b part piece separates h is = grind arith
 
 -- a text cut where its component k ends is read as the components up to that one
 pub body-take : (s : Separators) (at : ℕ) (text : List ℕ) (k : ℕ) → k < length (body s at text) → body s at (take (end_at (body s at text) k - at) text) ≡ take (suc k) (body s at text)
@@ -352,9 +322,7 @@ ends-within at end (c ∷ cs) (suc k) order h = ends-within (end_of c) end cs k 
 
 -- each component ends at or behind the place where it begins, and before the next one begins
 pub start-end : (cs : List Placed) (k : ℕ) → start_at cs k ≤ end_at cs k
-start-end [] k = zero-le
-start-end (c ∷ cs) zero = omega arith
-start-end (c ∷ cs) (suc k) = start-end cs k
+start-end cs k = grind arith
 
 -- each component ends before a later one begins
 pub end-start : (at end : ℕ) (cs : List Placed) (j k : ℕ) → AreInOrder at end cs → j < k → k < length cs → end_at cs j ≤ start_at cs k
@@ -367,25 +335,16 @@ end-start at end (c ∷ cs) (suc j) (suc k) order less h = end-start (end_of c) 
 
 -- a later piece is one component at most, and none where it is empty
 later_part-count : (s : Separators) (piece : List ℕ) → length (later_part s piece) ≤ length piece
-later_part-count s piece = by (length piece == 0) refl (is_dot piece) (is_verbatim s)
-  where
-    by : (blank : Bool) → (length piece == 0) ≡ blank → (dotted verbatim : Bool)
-        → length (if blank then [] else (if dotted then (if verbatim then current_part ∷ [] else []) else named_part piece ∷ [])) ≤ length piece
-    by true e dotted verbatim = zero-le
-    by false e true true = grind (arith, eqb-false)
-    by false e true false = zero-le
-    by false e false verbatim = grind (arith, eqb-false)
+later_part-count s piece = grind arith
 
 -- later pieces have no more components than bytes
 later_parts-count : (s : Separators) (some : List (List ℕ)) → length (later_parts s some) + length some ≤ width some
 later_parts-count s [] = zero-le
-later_parts-count s (piece ∷ some) =
-    omega (arith, later_parts-count s some, later_part-count s piece, length-append (later_part s piece) (later_parts s some))
+later_parts-count s (piece ∷ some) = grind (arith, common_steps, later_part-count, length-append, later_part, later_parts, later_parts-count s some)
 
 -- so it is with all pieces of a text that is not empty
 first_parts-count : (s : Separators) (piece : List ℕ) (some : List (List ℕ)) (size : ℕ) → 0 < size → width (piece ∷ some) ≡ size + 1 → length (first_parts s (piece ∷ some)) ≤ size
-first_parts-count s piece [] size filled e = omega (arith, e)
-first_parts-count s piece (next ∷ some) size filled e = omega (arith, e, later_parts-count s (next ∷ some))
+first_parts-count s piece some size filled e = grind (arith, common_steps, later_parts-count)
 
 length-parts : (cs : List Placed) → length (parts cs) ≡ length cs
 length-parts cs = length-map cs (λ c. c.part)
@@ -421,11 +380,7 @@ comps-count d t = by (prefix_of d t) refl
 
 -- where more stands behind the prefix, there is another component
 filled-count : (s : Separators) (at : ℕ) (text : List ℕ) → 0 < length text → 0 < length (parts (body s at text))
-filled-count s at [] filled = absurd (omega arith)
-filled-count s at (b ∷ bs) filled = omega (arith, body-filled s at b bs, length-parts (body s at (b ∷ bs)))
+filled-count s at text filled = grind arith
 
 pub behind-count : (text : List ℕ) (f : Found) → Some f ≡ prefix_of windows text → f.length < length text → 1 < length (parts_of windows text)
-behind-count text f found less =
-    let s = separators windows text in
-    let behind = filled-count s f.length (drop f.length text) (omega (arith, length-drop f.length text)) in
-    subst (λ o. 1 < length (parts (comps_behind s text o))) found (omega (arith, behind))
+behind-count text f found less = grind (arith, filled-count, length-drop)

@@ -1,20 +1,22 @@
 -- A prefix stays where its text is cut behind it and something put apart behind that.
-use Rattle.std.proofs.Common.{◌≡◌, ℕ, ◌+◌, ◌<◌, ◌≤◌, ◌==◌, Bool, true, false, not, ◌&&◌, if◌then◌else◌, nat_lt, List, [], ◌∷◌, ◌++◌, inl, inr, length, take, drop, Option, Some, None, option_and_then, option_map, refl, sym, ap, ap₂, ◌∙◌, append-nil, length-append, length-take, arith, ◌-◌, nat_eq, codes, le_refl, lt-ltb, eqb-true, ne_eqb, take-take}
-use Rattle.std.specs.List.{position_or_len, after_first}
-use Rattle.std.proofs.lemmas.Bool.{cases_lt, cond-true, cond-false, or_left, or_right, or_cases, and_parts, and_left, and_right, both_ways, not-true, and_from, false_from_ne_true}
+use Rattle.std.proofs.Common.{◌≡◌, ℕ, ◌+◌, ◌<◌, ◌≤◌, ◌==◌, Bool, true, false, ◌&&◌, if◌then◌else◌, nat_lt, List, [], ◌∷◌, ◌++◌, length, take, Option, Some, None, option_and_then, refl, sym, ap, ◌∙◌, append-nil, length-append, length-take, arith, ◌-◌, nat_eq, codes, le_refl, lt-ltb, eqb-true, ne_eqb, take-take}
+use Rattle.std.proofs.lemmas.Grind.{common_steps}
+use Rattle.std.specs.List.{position_or_len}
+use Rattle.std.proofs.lemmas.Bool.{cases_lt, cond-true, cond-false, and_parts, and_left, and_right, both_ways, not-true, and_from}
 use Rattle.std.proofs.lemmas.List.{take-append-le, drop-append-le, drop_all}
 use Rattle.std.proofs.lemmas.List.Sums.{prefix_len-le-length}
 use Rattle.std.specs.Option.{option_or}
 use Rattle.std.specs.Str.{bytes_eq}
 use Rattle.std.specs.Cmp.Lexicographic.{pointwise}
 use Rattle.typed_path.specs.declared.scan.separators.Separators.{Separators}
-use Rattle.typed_path.specs.declared.scan.separators.Separators.TheVariants.{Slash, Backslash, Either}
+use Rattle.typed_path.specs.declared.scan.separators.Separators.TheVariants.{Backslash, Either}
 use Rattle.typed_path.specs.components.{is_separator, slash, backslash, colon, windows, separators, begins_verbatim, question, dot, is_empty, is_drive_letter, to_upper, drive, after_two, after_four, name, second_name, names_length, Found, found, after_mark, after_unc, verbatim_case, device_case, unc_case, disk_case, prefix_of, Prefix, verbatim, verbatim_unc, verbatim_disk, device_ns, unc, disk}
 use Rattle.typed_path.specs.queries.{is_disk}
 use Rattle.typed_path.specs.promises.{keeps_by_prefix}
-use Rattle.typed_path.proofs.lemmas.components.Prefixes.{and_then-some, where-some, ReadsMark, IsFront, after_four-reads, after_mark-size, name-fits, names-fit, prefix-fits, Read, of_verbatim_unc, of_verbatim_disk, of_verbatim, of_device, of_unc, of_disk, prefix-read, after_mark-reads, after_unc-reads, after_two-reads, both-read, drive-take, drive-none}
-use Rattle.typed_path.proofs.lemmas.components.PrefixCuts.{name-length, name-take, names-take, prefix_by, unless-none, empty-take}
+use Rattle.typed_path.proofs.lemmas.components.Prefixes.{ReadsMark, after_four-reads, name-fits, names-fit, prefix-fits, Read, of_verbatim_unc, of_verbatim_disk, of_verbatim, of_device, of_unc, of_disk, prefix-read, after_mark-reads, after_unc-reads, after_two-reads, both-read, drive-take, drive-none}
+use Rattle.typed_path.proofs.lemmas.components.PrefixCuts.{name-length, name-take, names-take, prefix_by, empty-take}
 use Rattle.typed_path.proofs.lemmas.components.Segments.{position-append}
+use Rattle.typed_path.proofs.lemmas.lists.Options.{and_then-some, unless-none, none_from}
 
 -- The names and marks of a text that is cut behind them, with something put apart behind it.
 
@@ -25,8 +27,7 @@ pub data Apart (s : Separators) : List ℕ → Type 0 where
 
 -- what is not empty has some bytes
 pub filled-long : (bytes : List ℕ) → is_empty bytes ≡ false → 0 < length bytes
-filled-long [] h = cc
-filled-long (b ∷ bs) h = omega arith
+filled-long bytes h = grind arith
 
 module _ (s : Separators) where
   -- a name ends where something stands apart behind its text
@@ -36,27 +37,15 @@ module _ (s : Separators) where
 
   -- so it stays
   pub name-apart : (text x : List ℕ) → Apart s x → name s (text ++ x) ≡ name s text
-  name-apart text x h =
-      ap (λ n. take n (text ++ x)) (position-apart text x h)
-      ∙ take-append-le (position_or_len (is_separator s) text) text x (prefix_len-le-length (λ b. not (is_separator s b)) text)
+  name-apart text x h = grind (arith, position-apart, take-append-le, prefix_len-le-length)
 
   -- a text with a second name has a separator behind the first
   pub second-inside : (text : List ℕ) → is_empty (second_name s text) ≡ false → position_or_len (is_separator s) text < length text
-  second-inside text filled = elim (cases_lt (position_or_len (is_separator s) text) (length text)) [
-    | inl less ↦ less
-    | inr most ↦
-        let none : after_first (is_separator s) text ≡ [] = drop_all (position_or_len (is_separator s) text + 1) text (omega arith) in
-        let empty : is_empty (second_name s text) ≡ true = ap (λ rest. is_empty (name s rest)) none in
-        cc
-  ]
+  second-inside text filled = grind (arith, cases_lt, drop_all)
 
   -- so does the second name, where a separator stands behind the first
   second-apart : (text x : List ℕ) → Apart s x → position_or_len (is_separator s) text < length text → second_name s (text ++ x) ≡ second_name s text
-  second-apart text x h less =
-      let p = is_separator s in
-      ap (λ n. name s (drop (n + 1) (text ++ x))) (position-apart text x h)
-      ∙ ap (name s) (drop-append-le (position_or_len p text + 1) text x (omega arith))
-      ∙ name-apart (after_first p text) x h
+  second-apart text x h less = grind (arith, position-apart, drop-append-le, name-apart)
 
   -- two names, with a separator between them, take as many bytes as they have, and the separator
   pub names-inside : (text : List ℕ) → position_or_len (is_separator s) text < length text → names_length s text ≡ length (name s text) + 1 + length (second_name s text)
@@ -64,10 +53,7 @@ module _ (s : Separators) where
 
   -- they stay and take as many bytes
   names-apart : (text x : List ℕ) → Apart s x → position_or_len (is_separator s) text < length text → names_length s (text ++ x) ≡ names_length s text
-  names-apart text x h less =
-      names-inside (text ++ x) (omega (arith, position-apart text x h, length-append text x))
-      ∙ ap₂ (λ a b. length a + 1 + length b) (name-apart text x h) (second-apart text x h less)
-      ∙ sym (names-inside text less)
+  names-apart text x h less = grind (arith, names-inside, position-apart, length-append, name-apart, second-apart)
 
   -- two names, of which the second is not empty, take as many bytes as they have, and the separator
   pub names-size : (text : List ℕ) → is_empty (second_name s text) ≡ false → names_length s text ≡ position_or_len (is_separator s) text + 1 + length (second_name s text)
@@ -75,8 +61,7 @@ module _ (s : Separators) where
 
   -- they take three bytes where neither is empty
   pub names-long : (text : List ℕ) → is_empty (name s text) ≡ false → is_empty (second_name s text) ≡ false → 3 ≤ names_length s text
-  names-long text filled shared =
-      omega (arith, names-size text shared, name-length s text, filled-long (name s text) filled, filled-long (second_name s text) shared)
+  names-long text filled shared = grind (arith, names-size)
 
   -- a name stays where its text is cut behind it, and something put apart behind that
   pub name-recut : (m : ℕ) (text x : List ℕ) → Apart s x → length (name s text) ≤ m → name s (take m text ++ x) ≡ name s text
@@ -102,9 +87,7 @@ module _ (s : Separators) where
 
 -- each separator is one of both
 pub separates-either : (s : Separators) (b : ℕ) → is_separator s b ≡ true → is_separator Either b ≡ true
-separates-either Slash b h = or_left (b == slash) (b == backslash) h
-separates-either Backslash b h = or_right (b == slash) (b == backslash) h
-separates-either Either b h = h
+separates-either s b h = grind arith
 
 -- what stands apart by some separators does by both
 pub apart-either : (s : Separators) (x : List ℕ) → Apart s x → Apart Either x
@@ -113,20 +96,15 @@ apart-either s x (parted b bs h) = parted b bs (separates-either s b h)
 
 -- a separator fails each test that `/` and `\` fail
 pub separator-fails : (test : ℕ → Bool) (s : Separators) (b : ℕ) → test slash ≡ false → test backslash ≡ false → is_separator s b ≡ true → test b ≡ false
-separator-fails test s b first second h = elim (or_cases (b == slash) (b == backslash) (separates-either s b h)) [
-  | inl e ↦ ap test (eqb-true b slash e) ∙ first
-  | inr e ↦ ap test (eqb-true b backslash e) ∙ second
-]
+separator-fails test s b first second h = grind arith
 
 -- a value where a test holds, with more behind it
 test-append : (b : Bool) (text rest x : List ℕ) → (if b then Some text else None) ≡ Some rest → (if b then Some (text ++ x) else None) ≡ Some (rest ++ x)
-test-append true text rest x e = ap (option_map (λ t. t ++ x)) e
-test-append false text rest x e = cc
+test-append b text rest x e = grind arith
 
 -- no value is no value with more behind it
 test-none : (b : Bool) (text now : List ℕ) → (if b then Some text else None) ≡ None → (if b then Some now else None) ≡ None
-test-none true text now e = cc
-test-none false text now e = refl
+test-none b text now e = grind arith
 
 -- what is read at the front of a text is read too where more stands behind it
 abbrev pub Extends : (List ℕ → Option (List ℕ)) → Type 0
@@ -134,36 +112,24 @@ Extends read = (text rest x : List ℕ) → read text ≡ Some rest → read (te
 
 -- two separators
 pub after_two-extends : Extends after_two
-after_two-extends (a ∷ b ∷ text) rest x e = test-append _ text rest x e
-after_two-extends text rest x e = cc
+after_two-extends h rest x e = grind arith
 
 module _ (p q r s : ℕ → Bool) where
   -- four bytes
   pub after_four-extends : Extends (after_four p q r s)
-  after_four-extends (a ∷ b ∷ c ∷ d ∷ text) rest x e = test-append _ text rest x e
-  after_four-extends text rest x e = cc
+  after_four-extends h rest x e = grind arith
 
   -- the tests that four bytes pass
   pub after_four-tests : (a b c d : ℕ) (text rest : List ℕ) → after_four p q r s (a ∷ b ∷ c ∷ d ∷ text) ≡ Some rest → (p a ≡ true) × (q b ≡ true) × (r c ≡ true) × (s d ≡ true) × (text ≡ rest)
-  after_four-tests a b c d text rest e =
-      let tests = where-some (p a && q b && r c && s d) text rest e in
-      let last = and_parts (p a && q b && r c) (s d) tests.0 in
-      let third = and_parts (p a && q b) (r c) last.0 in
-      let second = and_parts (p a) (q b) third.0 in
-      (second.0, second.1, third.1, last.1, tests.1)
+  after_four-tests a b c d text rest e = grind arith
 
   -- four bytes that fail go on failing
   after_four-fails : (text x : List ℕ) → 4 ≤ length text → after_four p q r s text ≡ None → after_four p q r s (text ++ x) ≡ None
-  after_four-fails (a ∷ b ∷ c ∷ d ∷ text) x long e = test-none _ text (text ++ x) e
-  after_four-fails text x long e = absurd (omega arith)
+  after_four-fails text x long e = grind arith
 
   -- also where the text is cut behind them
   pub after_four-none : (e : ℕ) (text x : List ℕ) → 4 ≤ e → e ≤ length text → after_four p q r s text ≡ None → after_four p q r s (take e text ++ x) ≡ None
-  after_four-none e text x long fits is = after_four-fails (take e text) x (omega (arith, length-take e text)) (by ((after_four-reads p q r s).cut text e))
-    where
-      by : IsFront (after_four p q r s text) (after_four p q r s (take e text)) → after_four p q r s (take e text) ≡ None
-      by (inl none) = none
-      by (inr some) = let was = some.2 in cc
+  after_four-none e text x long fits is = grind (arith, after_four-fails, length-take, after_four-reads)
 
 -- one mark behind another
 pub both-extend : (f g : List ℕ → Option (List ℕ)) → Extends f → Extends g → Extends (λ text. option_and_then g (f text))
@@ -177,19 +143,16 @@ mark-recut k read reads extends m text rest x e = extends (take (k + m) text) (t
 
 -- a drive is read off two bytes, whatever stands behind them
 pub drive-extends : (text x : List ℕ) (letter : ℕ) → drive text ≡ Some letter → drive (text ++ x) ≡ Some letter
-drive-extends (a ∷ b ∷ text) x letter e = e
-drive-extends text x letter e = cc
+drive-extends text x letter e = grind arith
 
 -- what stands apart makes no drive
 pub drive-apart : (s : Separators) (text x : List ℕ) → Apart s x → drive text ≡ None → drive (text ++ x) ≡ None
 drive-apart s (a ∷ b ∷ text) x h e = e
 drive-apart s (a ∷ []) x nothing e = refl
-drive-apart s (a ∷ []) x (parted b bs h) e =
-    cond-false (is_drive_letter a && b == colon) (Some (to_upper a)) None (and_right (is_drive_letter a) (b == colon) (separator-fails (λ c. c == colon) s b refl refl h))
+drive-apart s (a ∷ []) x (parted b bs h) e = grind (arith, common_steps, cond-false, and_right, separator-fails)
 drive-apart s [] x nothing e = refl
 drive-apart s [] x (parted b [] h) e = refl
-drive-apart s [] x (parted b (c ∷ bs) h) e =
-    cond-false (is_drive_letter b && c == colon) (Some (to_upper b)) None (and_left (is_drive_letter b) (c == colon) (separator-fails is_drive_letter s b refl refl h))
+drive-apart s [] x (parted b (c ∷ bs) h) e = grind (arith, common_steps, cond-false, and_left, separator-fails)
 
 -- A prefix stays where its text is cut behind it and something put apart behind that.
 
@@ -214,14 +177,6 @@ first-some o p f is = ap (λ q. option_or q p) is
 pub first-none : (o p r : Option Found) → o ≡ None → p ≡ r → option_or o p ≡ r
 first-none o p r is e = ap (λ q. option_or q p) is ∙ e
 
--- what no value tells: each value is impossible
-pub none_from : {A : Type 0} (o : Option A) → ((x : A) → o ≡ Some x → ⊥) → o ≡ None
-none_from {A = A} o never = by o refl
-  where
-    by : (p : Option A) → o ≡ p → p ≡ None
-    by None e = refl
-    by (Some x) e = absurd (never x e)
-
 -- a mark is read where more stands behind it
 pub mark-extends : (sign : ℕ) → Extends (after_mark sign)
 mark-extends sign = after_four-extends (is_separator Either) (is_separator Either) (λ b. b == sign) (is_separator Either)
@@ -236,44 +191,23 @@ mark-again sign m text rest x is = mark-recut 4 (after_mark sign) (after_mark-re
 
 -- a text whose first name ends with a separator behind `UNC` has that name
 after_unc-name : (s : Separators) (text rest : List ℕ) → after_unc s text ≡ Some rest → name s text ≡ codes "UNC"
-after_unc-name s (a ∷ b ∷ c ∷ d ∷ text) rest is =
-    let tests = after_four-tests (λ b. b == 85) (λ b. b == 78) (λ b. b == 67) (is_separator s) a b c d text rest is in
-    (λ i. name s (eqb-true a 85 tests.0 i ∷ eqb-true b 78 tests.1 i ∷ eqb-true c 67 tests.2 i ∷ d ∷ text)) ∙ by s tests.3
-  where
-    by : (s : Separators) → is_separator s d ≡ true → name s (85 ∷ 78 ∷ 67 ∷ d ∷ text) ≡ codes "UNC"
-    by Slash h = rw h refl
-    by Backslash h = rw h refl
-    by Either h = rw h refl
-after_unc-name s text rest is = cc
+after_unc-name s text rest is = grind (arith, after_four-tests, eqb-true)
 
 -- a drive has a colon behind its letter
 pub drive-letter : (a b : ℕ) (text : List ℕ) (letter : ℕ) → drive (a ∷ b ∷ text) ≡ Some letter → (is_drive_letter a ≡ true) × (b ≡ 58) × (to_upper a ≡ letter)
-drive-letter a b text letter is =
-    let some = where-some (is_drive_letter a && b == colon) (to_upper a) letter is in
-    let tests = and_parts (is_drive_letter a) (b == colon) some.0 in
-    (tests.0, eqb-true b 58 tests.1, some.1)
+drive-letter a b text letter is = grind (arith, and_parts, eqb-true)
 
 -- a drive is not `UNC`
 drive-no_unc : (s : Separators) (text : List ℕ) (letter : ℕ) → drive text ≡ Some letter → after_unc s text ≡ None
-drive-no_unc s (a ∷ b ∷ c ∷ d ∷ text) letter is = none_from _ (λ rest found.
-    let tests = after_four-tests (λ b. b == 85) (λ b. b == 78) (λ b. b == 67) (is_separator s) a b c d text rest found in
-    omega (arith, eqb-true b 78 tests.1, (drive-letter a b (c ∷ d ∷ text) letter is).1))
-drive-no_unc s text letter is = refl
+drive-no_unc s text letter is = grind (arith, eqb-true, drive-letter)
 
 -- a mark has one sign
 pub marks-differ : (text rest : List ℕ) → after_mark dot text ≡ Some rest → after_mark question text ≡ None
-marks-differ (a ∷ b ∷ c ∷ d ∷ text) rest is = none_from _ (λ other found.
-    let one = after_four-tests (is_separator Either) (is_separator Either) (λ b. b == dot) (is_separator Either) a b c d text rest is in
-    let two = after_four-tests (is_separator Either) (is_separator Either) (λ b. b == question) (is_separator Either) a b c d text other found in
-    omega (arith, eqb-true c 46 one.2, eqb-true c 63 two.2))
-marks-differ text rest is = refl
+marks-differ text rest is = grind arith
 
 -- a text without a question mark has no verbatim prefix
 pub unmarked : (s : Separators) (t : List ℕ) → after_mark question t ≡ None → prefix_by s t ≡ option_or (device_case t) (option_or (unc_case t) (disk_case t))
-unmarked s t none =
-    first-none _ _ _ (ap (λ o. option_and_then (share_made verbatim_unc 8 s) (option_and_then (after_unc s) o)) none)
-    (first-none _ _ _ (ap (λ o. option_and_then disk_made (option_and_then drive o)) none)
-    (first-none _ _ _ (ap (option_and_then (verbatim_made s)) none) refl))
+unmarked s t h = grind arith
 
 -- a verbatim drive stays, whatever is put behind it
 pub verbatim_disk-stays : (s : Separators) (text x rest : List ℕ) (letter : ℕ) → after_mark question text ≡ Some rest → drive rest ≡ Some letter → prefix_by s (take 6 text ++ x) ≡ Some (found (verbatim_disk letter) 6)
@@ -371,9 +305,7 @@ module _ (s : Separators) (text x : List ℕ) (apart : Apart s x) where
 
 -- a text that is longer than a mark and has no verbatim name has no mark of one
 pub no_question : (s : Separators) (text : List ℕ) → 4 < length text → verbatim_case s text ≡ None → after_mark question text ≡ None
-no_question s text long none = none_from _ (λ other mark.
-    let bare = unless-none (is_empty other) _ (ap (option_and_then (verbatim_made s)) (sym mark) ∙ none) in
-    omega (arith, after_mark-size question text other mark, eqb-true (length other) 0 bare))
+no_question s text long h = grind arith
 
 -- a prefix that every path keeps behind its text
 abbrev pub is_firm : Prefix → Bool
@@ -381,12 +313,7 @@ is_firm p = keeps_by_prefix [] (Some p)
 
 -- a prefix that is firm and no drive takes four bytes or more
 pub firm-long : (s : Separators) (text : List ℕ) (f : Found) → Read s text f → is_firm f.prefix ≡ true → is_disk f.prefix ≡ false → 4 ≤ f.length
-firm-long s text f (of_verbatim_unc rest mark filled) firm other = omega arith
-firm-long s text f (of_verbatim_disk rest letter mark drives) firm other = omega arith
-firm-long s text f (of_verbatim rest mark filled no_unc no_drive) firm other = omega arith
-firm-long s text f (of_device rest mark filled) firm other = omega arith
-firm-long s text f (of_unc rest mark filled no_verbatim no_device) firm other = let long = names-long Either rest filled (not-true _ firm) in omega arith
-firm-long s text f (of_disk letter drives) firm other = cc
+firm-long s text f h firm other = grind arith
 
 -- it is read again where its text is cut behind it and has something put apart behind that
 pub firm-again : (s : Separators) (text x : List ℕ) (f : Found) → Read s text f → is_firm f.prefix ≡ true → is_disk f.prefix ≡ false → Apart s x → 4 < f.length + length x → prefix_by s (take f.length text ++ x) ≡ Some f
@@ -394,11 +321,7 @@ firm-again s text x f (of_verbatim_unc rest mark filled) firm other apart long =
 firm-again s text x f (of_verbatim_disk rest letter mark drives) firm other apart long = verbatim_disk-stays s text x rest letter mark.marked drives
 firm-again s text x f (of_verbatim rest mark filled no_unc no_drive) firm other apart long = verbatim-again s text x apart rest mark.marked no_drive (not-true _ firm) (omega arith)
 firm-again s text x f (of_device rest mark filled) firm other apart long = device-again s text x apart rest mark.marked filled
-firm-again s text x f (of_unc rest mark filled no_verbatim no_device) firm other apart long =
-    let shared : is_empty (second_name Either rest) ≡ false = not-true _ firm in
-    let fits : 2 + names_length Either rest ≤ length text = omega (arith, mark.size, names-fit Either rest) in
-    let more : 4 < length text = omega (arith, fits, names-long Either rest filled shared) in
-    unc-again s text x apart rest mark.marked filled (second-inside Either rest shared) (no_question s text more no_verbatim) no_device fits
+firm-again s text x f (of_unc rest mark filled no_verbatim no_device) firm other apart long = grind (arith, common_steps, of_unc, not-true, names-fit, names-long, unc-again, second-inside, no_question)
 firm-again s text x f (of_disk letter drives) firm other apart long = cc
 
 -- so the prefix stays, and with it the separators
@@ -416,29 +339,15 @@ firm-stays text x f is firm other apart long =
 
 -- a text that does not begin with two separators has no mark
 no_mark : (sign a b : ℕ) (text : List ℕ) → (is_separator Either a && is_separator Either b) ≡ false → after_mark sign (a ∷ b ∷ text) ≡ None
-no_mark sign a b (c ∷ d ∷ text) apart = none_from _ (λ rest found.
-    let tests = after_four-tests (is_separator Either) (is_separator Either) (λ e. e == sign) (is_separator Either) a b c d text rest found in
-    both_ways _ apart (and_from (is_separator Either a) (is_separator Either b) tests.0 tests.1))
-no_mark sign a b text apart = refl
+no_mark sign a b text apart = grind arith
 
 -- its prefix can only be a drive
 pub prefix-apart : (a b : ℕ) (text : List ℕ) → (is_separator Either a && is_separator Either b) ≡ false → prefix_of windows (a ∷ b ∷ text) ≡ disk_case (a ∷ b ∷ text)
-prefix-apart a b text apart =
-    let whole = a ∷ b ∷ text in
-    unmarked (separators windows whole) whole (no_mark question a b text apart)
-    ∙ first-none (device_case whole) (option_or (unc_case whole) (disk_case whole)) _
-    (ap (option_and_then device_made) (no_mark dot a b text apart))
-    (first-none (unc_case whole) (disk_case whole) _
-    (ap (option_and_then (share_made unc 2 Either)) (cond-false (is_separator Either a && is_separator Either b) (Some text) None apart))
-    refl)
+prefix-apart a b text apart = grind arith
 
 -- a drive stays, whatever is put behind its text
 pub drive-stays : (text x : List ℕ) (letter : ℕ) → drive text ≡ Some letter → prefix_of windows (text ++ x) ≡ Some (found (disk letter) 2)
-drive-stays (a ∷ b ∷ text) x letter is =
-    let two = drive-letter a b text letter is in
-    let plain : is_separator Either a ≡ false = false_from_ne_true _ (λ h. both_ways _ (separator-fails is_drive_letter Either a refl refl h) two.0) in
-    prefix-apart a b (text ++ x) (and_left (is_separator Either a) (is_separator Either b) plain) ∙ ap (option_and_then (λ l. Some (found (disk l) 2))) is
-drive-stays text x letter is = cc
+drive-stays text x letter is = grind (arith, common_steps)
 
 -- three separators in front are no prefix
 pub three_separators : (a b c : ℕ) (text : List ℕ) → is_separator Either a ≡ true → is_separator Either b ≡ true → is_separator Either c ≡ true → prefix_of windows (a ∷ b ∷ c ∷ text) ≡ None
@@ -453,7 +362,4 @@ three_separators a b c text first second third =
     (ap (option_and_then (λ l. Some (found (disk l) 2))) (cond-false (is_drive_letter a && b == colon) (Some (to_upper a)) None (and_left (is_drive_letter a) (b == colon) (separator-fails is_drive_letter Either a refl refl first)))))
   where
     no_sign : (sign : ℕ) → (47 == sign) ≡ false → (92 == sign) ≡ false → (rest : List ℕ) → after_mark sign (a ∷ b ∷ c ∷ rest) ≡ None
-    no_sign sign slash backslash [] = refl
-    no_sign sign slash backslash (d ∷ rest) = none_from _ (λ other found.
-        let tests = after_four-tests (is_separator Either) (is_separator Either) (λ e. e == sign) (is_separator Either) a b c d rest other found in
-        both_ways _ (separator-fails (λ e. e == sign) Either c slash backslash third) tests.2)
+    no_sign sign slash backslash rest = grind (arith, none_from, after_four-tests, both_ways, separator-fails)

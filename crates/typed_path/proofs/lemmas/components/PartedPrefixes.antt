@@ -1,19 +1,20 @@
 -- A prefix with more of its text behind it: where it ends, and what stands right behind it; and which texts with a prefix are not read verbatim.
-use Rattle.std.proofs.Common.{◌≡◌, ℕ, suc, ◌+◌, ◌<◌, Bool, true, false, not, cond, if◌then◌else◌, List, [], ◌∷◌, length, drop, Some, None, refl, sym, ap, ◌∙◌, subst, length-drop, arith, ◌≤◌, nat_lt, ◌++◌, take, inl, inr, length-take, ◌⊎◌, ◌==◌, append-nil, le-ltb, eqb-true, drop-drop, take_all, get_or, take-append-drop}
+use Rattle.std.proofs.Common.{◌≡◌, ℕ, suc, ◌+◌, ◌<◌, Bool, true, false, not, cond, if◌then◌else◌, List, [], ◌∷◌, length, drop, Some, None, refl, sym, ap, ◌∙◌, subst, length-drop, arith, ◌≤◌, ◌++◌, take, inl, inr, length-take, ◌⊎◌, append-nil, le-ltb, eqb-true, drop-drop, take_all, get_or, take-append-drop}
+use Rattle.std.proofs.lemmas.Grind.{common_steps}
 use Rattle.std.specs.List.{position_or_len, after_first, list_any}
-use Rattle.std.proofs.lemmas.Bool.{not-true, false_from_ne_true, cases_lt, cond-false, both_ways, or_cases, cases_Bool}
+use Rattle.std.proofs.lemmas.Bool.{not-true, both_ways}
 use Rattle.std.proofs.lemmas.List.{take-append-le, drop_more}
 use Rattle.std.proofs.lemmas.List.Splits.{slice_split-cons_yes}
 use Rattle.typed_path.specs.declared.scan.separators.Separators.{Separators}
 use Rattle.typed_path.specs.declared.scan.separators.Separators.TheVariants.{Backslash, Either, Slash}
-use Rattle.typed_path.specs.components.{windows, separators, is_separator, question, begins_verbatim, is_verbatim, slash, backslash, Found, after_mark, name, second_name, names_length, prefix_of, found, verbatim, Prefix, verbatim_unc, verbatim_disk, device_ns, unc, disk, kinds, drive}
+use Rattle.typed_path.specs.components.{windows, separators, is_separator, question, begins_verbatim, is_verbatim, slash, backslash, Found, after_mark, name, second_name, names_length, prefix_of, found, verbatim, Prefix, verbatim_disk, unc, kinds, drive}
 use Rattle.typed_path.specs.queries.{is_disk, is_verbatim_prefix, begins_with_root}
 use Rattle.typed_path.specs.promises.{is_verbatim_unc_name}
 use Rattle.typed_path.specs.changes.{raw_length}
 use Rattle.typed_path.specs.places.{resolve, IsPartedEither, TakesRows, IsHeadOf}
-use Rattle.typed_path.proofs.lemmas.components.Prefixes.{drive-size, name-fits, names-fit, Read, of_verbatim_unc, of_verbatim_disk, of_verbatim, of_device, of_unc, of_disk, prefix-read, after_mark-reads}
-use Rattle.typed_path.proofs.lemmas.components.PrefixCuts.{name-length, verbatim_text, IsUnended, name-unended, prefix_by, verbatim-take, plain-kind}
-use Rattle.typed_path.proofs.lemmas.components.FirmPrefixes.{Apart, nothing, parted, filled-long, second-inside, names-inside, names-size, names-long, is_firm, marks-differ, no_question, verbatim_unc-again, verbatim_disk-stays, verbatim-again, device-again, unc-again, after_four-tests}
+use Rattle.typed_path.proofs.lemmas.components.Prefixes.{names-fit, Read, of_verbatim_unc, of_verbatim_disk, of_verbatim, of_device, of_unc, of_disk, prefix-read, after_mark-reads}
+use Rattle.typed_path.proofs.lemmas.components.PrefixCuts.{name-length, IsUnended, name-unended, prefix_by, verbatim-take, plain-kind}
+use Rattle.typed_path.proofs.lemmas.components.FirmPrefixes.{Apart, nothing, parted, filled-long, second-inside, names-inside, names-size, names-long, is_firm, marks-differ, no_question, verbatim_unc-again, verbatim_disk-stays, verbatim-again, device-again, unc-again}
 use Rattle.typed_path.proofs.lemmas.components.Segments.{first_parts, body_parts}
 
 -- Where a firm prefix ends that is neither a drive nor verbatim.
@@ -41,9 +42,7 @@ module _ (s : Separators) where
 
 -- a text without the mark of a verbatim prefix is not read verbatim
 unmarked-plain : (text : List ℕ) → after_mark question text ≡ None → separators windows text ≡ Either
-unmarked-plain text none = ap (λ b. if b then Backslash else Either) (false_from_ne_true _ (λ marked.
-    let some : after_mark question text ≡ Some (drop 4 text) = ap (after_mark question) (verbatim_text text marked) in
-    cc))
+unmarked-plain text h = grind arith
 
 -- behind such a prefix stands nothing, or a separator, and where it is the whole text, that does not end with `\`
 pub record FirmEnd (text : List ℕ) (f : Found) : Type 0 where
@@ -80,19 +79,11 @@ firm-end text f is firm other plain = firm_end (separators windows text) text f 
 
 -- a text with a firm prefix that is no drive has more than four bytes
 pub firm-more : (s : Separators) (text : List ℕ) (f : Found) → Read s text f → is_firm f.prefix ≡ true → is_disk f.prefix ≡ false → 4 < length text
-firm-more s text f (of_verbatim_unc rest mark filled) firm other = omega (arith, mark.size)
-firm-more s text f (of_verbatim_disk rest letter mark drives) firm other = omega (arith, mark.size, drive-size rest letter drives)
-firm-more s text f (of_verbatim rest mark filled no_unc no_drive) firm other = omega (arith, mark.size, filled-long rest filled)
-firm-more s text f (of_device rest mark filled) firm other = omega (arith, mark.size, filled-long _ filled, name-fits Either rest)
-firm-more s text f (of_unc rest mark filled no_verbatim no_device) firm other = omega (arith, mark.size, names-long Either rest filled (not-true _ firm), names-fit Either rest)
-firm-more s text f (of_disk letter drives) firm other = cc
+firm-more s text f h firm other = grind (arith, common_steps)
 
 -- a text that begins with a drive is not read verbatim
 pub drive-plain : (t : List ℕ) (letter : ℕ) → drive t ≡ Some letter → begins_verbatim t ≡ false
-drive-plain t letter is = false_from_ne_true _ (λ marked. no_drive (sym (ap drive (verbatim_text t marked)) ∙ is))
-  where
-    no_drive : None ≡ Some letter → ⊥
-    no_drive e = cc
+drive-plain t letter is = grind arith
 
 -- so its separators are both
 pub drive-either : (t : List ℕ) (letter : ℕ) → drive t ≡ Some letter → separators windows t ≡ Either
@@ -100,35 +91,20 @@ drive-either t letter is = ap (λ v. if v then Backslash else Either) (drive-pla
 
 -- a text with a prefix that is not verbatim is not read verbatim
 on-drive : (text : List ℕ) (f : Found) → Read (separators windows text) text f → is_disk f.prefix ≡ true → separators windows text ≡ Either
-on-drive text f (of_disk letter drives) kind = drive-either text letter drives
-on-drive text f read kind = cc
+on-drive text f h kind = grind arith
 
 pub either : (text : List ℕ) (f : Found) → prefix_of windows text ≡ Some f → is_verbatim_prefix f.prefix ≡ false → (is_disk f.prefix ≡ false → 4 < length text) → separators windows text ≡ Either
-either text f is plain long = elim (cases_Bool (is_disk f.prefix)) [
-  | inl drives ↦ on-drive text f (prefix-read text f is) drives
-  | inr other ↦ ap (λ c. if c then Backslash else Either) (plain-kind text f is plain (long other))
-]
+either text f is plain long = grind (arith, common_steps, prefix-read, plain-kind)
 
 -- A prefix with more of its text behind it stays where something else is put apart in the place of that.
 
 -- two names that are not the whole text have a separator between them
 pub names-parted : (s : Separators) (text : List ℕ) → names_length s text < length text → position_or_len (is_separator s) text < length text
-names-parted s text less = elim (cases_lt (position_or_len (is_separator s) text) (length text)) [
-  | inl inside ↦ inside
-  | inr most ↦
-      let size = cond-false (nat_lt (length (name s text)) (length text)) (length (name s text) + 1 + length (second_name s text)) (length (name s text)) (le-ltb _ _ (omega (arith, name-length s text))) in
-      omega (arith, size, name-length s text)
-]
+names-parted s text less = grind (arith, le-ltb, name-length)
 
 -- a prefix that is no drive, with more behind it, takes four bytes or more
 pub parted-long : (s : Separators) (text : List ℕ) (f : Found) → Read s text f → is_disk f.prefix ≡ false → f.length < length text → 4 ≤ f.length
-parted-long s text f (of_verbatim_unc rest mark filled) other more = omega arith
-parted-long s text f (of_verbatim_disk rest letter mark drives) other more = omega arith
-parted-long s text f (of_verbatim rest mark filled no_unc no_drive) other more = omega arith
-parted-long s text f (of_device rest mark filled) other more = omega arith
-parted-long s text f (of_unc rest mark filled no_verbatim no_device) other more =
-    omega (arith, names-inside Either rest (names-parted Either rest (omega (arith, mark.size))), filled-long (name Either rest) filled)
-parted-long s text f (of_disk letter drives) other more = cc
+parted-long s text f h other more = grind arith
 
 -- it is read again with something put apart behind it, which an empty verbatim name needs
 parted-again : (s : Separators) (text x : List ℕ) (f : Found) → Read s text f → is_disk f.prefix ≡ false → is_verbatim_unc_name (Some f.prefix) ≡ false → f.length < length text → Apart s x → (f.prefix ≡ verbatim [] → 0 < length x)
@@ -140,8 +116,7 @@ parted-again s text x f (of_verbatim rest mark filled no_share no_drive) other n
     verbatim-again s text x put_apart rest mark.marked no_drive no_unc (by (name s rest) refl)
   where
     by : (bytes : List ℕ) → name s rest ≡ bytes → 0 < length bytes + length x
-    by [] e = omega (arith, some (ap verbatim e))
-    by (b ∷ bs) e = omega arith
+    by bytes e = grind arith
 parted-again s text x f (of_device rest mark filled) other no_unc more put_apart some = device-again s text x put_apart rest mark.marked filled
 parted-again s text x f (of_unc rest mark filled no_verbatim no_device) other no_unc more put_apart some =
     let names_apart = names-parted Either rest (omega (arith, mark.size)) in
@@ -221,15 +196,11 @@ apart-behind text f is other more = by f is more (behind_prefix text f read othe
     by f is more (apart s kind plain h) long = inr (subst (λ r. Apart r (drop f.length text)) (same (is_verbatim_prefix f.prefix) refl) h)
       where
         same : (b : Bool) → is_verbatim_prefix f.prefix ≡ b → s ≡ separators windows text
-        same true e = kind e
-        same false e = plain e ∙ sym (ap (λ b. if b then Backslash else Either) (plain-kind text f is e (omega (arith, long, more))))
+        same b e = grind (arith, plain-kind)
 
 -- each prefix with more behind it is one of these
 pub root-behind : (text : List ℕ) (f : Found) → prefix_of windows text ≡ Some f → is_disk f.prefix ≡ false → f.length < length text → RootBehind text f
-root-behind text f is other more = elim (apart-behind text f is other more) [
-  | inl drives ↦ inl drives
-  | inr h ↦ inr (apart-root (separators windows text) (drop f.length text) h (omega (arith, more, length-drop f.length text)))
-]
+root-behind text f is other more = grind (arith, apart-behind, apart-root, length-drop)
 
 -- a part that stands behind a place is a root and the rest, or begins with no separator
 ends-parted : (s : Separators) (text root rest : List ℕ) → s ≡ Either → Apart s text → IsPartedEither text root rest → length root ≡ 0 → length rest ≡ 0
@@ -245,19 +216,13 @@ pub plain-takes : (text root rest : List ℕ) (f : Found) → prefix_of windows 
 plain-takes text root rest f is other plain cut = record { no_unc = no-unc f.prefix plain; ends = ends (drop f.length text) refl; slashless = slashless (drop f.length text) refl }
   where
     no-unc : (p : Prefix) → is_verbatim_prefix p ≡ false → is_verbatim_unc_name (Some p) ≡ false
-    no-unc (verbatim n) e = cc
-    no-unc (verbatim_unc server share) e = refl
-    no-unc (verbatim_disk letter) e = refl
-    no-unc (device_ns n) e = refl
-    no-unc (unc server share) e = refl
-    no-unc (disk letter) e = refl
+    no-unc p e = grind arith
 
     more : (b : ℕ) (bs : List ℕ) → drop f.length text ≡ b ∷ bs → f.length < length text
     more b bs e = omega (arith, ap length e, length-drop f.length text)
 
     ends-behind : (g : Found) → is_verbatim_prefix g.prefix ≡ false → IsPartedEither (drop g.length text) root rest → BehindPrefix text g → length root ≡ 0 → length rest ≡ 0
-    ends-behind _ e h (behind_drive letter n) = cc
-    ends-behind g e h (apart s kind either behind) = ends-parted s (drop g.length text) root rest (either e) behind h
+    ends-behind g e h h1 = grind (arith, either, ends-parted)
 
     ends : (t : List ℕ) → drop f.length text ≡ t → length root ≡ 0 → length rest ≡ 0
     ends [] e = ends-parted Either [] root rest refl nothing (subst (λ t. IsPartedEither t root rest) e cut)
@@ -281,17 +246,13 @@ head-size path raw root rest h =
     omega (arith, behind, ap length h.0, length-take (raw_length (prefix_of windows path)) path, length-drop (raw_length (prefix_of windows path)) path)
   where
     sizes : (text : List ℕ) → IsPartedEither text root rest → length root + length rest ≤ length text
-    sizes text (inl cut) = omega (arith, ap length cut.2, ap length cut.3)
-    sizes text (inr cut) = omega (arith, ap length cut.0, ap length cut.1)
+    sizes text h = grind arith
 
 -- The raw text of a Windows prefix with more behind it, read again: it is a prefix and nothing else.
 
 -- what holds at both separators holds at each
 at_separators : (P : ℕ → Type 0) → P slash → P backslash → (b : ℕ) → is_separator Either b ≡ true → P b
-at_separators P one other b h = elim (or_cases _ _ h) [
-  | inl e ↦ subst P (sym (eqb-true b slash e)) one
-  | inr e ↦ subst P (sym (eqb-true b backslash e)) other
-]
+at_separators P one other b h = grind arith
 
 -- three bytes around the mark of a verbatim prefix, read as a share
 abbrev IsShare : ℕ → ℕ → ℕ → Type 0
@@ -299,15 +260,7 @@ IsShare x y z = prefix_of windows (x ∷ y ∷ question ∷ z ∷ []) ≡ Some (
 
 -- the mark of a verbatim prefix alone is a share
 mark-alone : (text : List ℕ) → after_mark question text ≡ Some [] → prefix_of windows text ≡ Some (found (unc (question ∷ []) []) 4)
-mark-alone (a ∷ b ∷ c ∷ d ∷ rest) is =
-    let tests = after_four-tests (is_separator Either) (is_separator Either) (λ e. e == question) (is_separator Either) a b c d rest [] is in
-    (λ i. prefix_of windows (a ∷ b ∷ eqb-true c question tests.2 i ∷ d ∷ tests.4 i))
-    ∙ at_separators (λ x. IsShare x b d) (at_separators (λ y. IsShare slash y d) (by slash slash refl refl tests.3) (by slash backslash refl refl tests.3) b tests.1)
-    (at_separators (λ y. IsShare backslash y d) (by backslash slash refl refl tests.3) (by backslash backslash refl refl tests.3) b tests.1) a tests.0
-  where
-    by : (x y : ℕ) → IsShare x y slash → IsShare x y backslash → is_separator Either d ≡ true → IsShare x y d
-    by x y one other h = at_separators (λ z. IsShare x y z) one other d h
-mark-alone text is = cc
+mark-alone text is = grind (arith, eqb-true, at_separators)
 
 -- an empty verbatim name stands right behind its mark
 bare_name : (s : Separators) (text : List ℕ) (f : Found) → Read s text f → f.prefix ≡ verbatim [] → (f.length ≡ 4) × (after_mark question (take f.length text) ≡ Some [])

@@ -1,6 +1,6 @@
 -- The names of a prefix, a Windows text that is cut behind its prefix, what it is read as, and how many bytes a prefix takes of it.
-use Rattle.std.proofs.Common.{◌≡◌, ℕ, zero, suc, ◌+◌, ◌-◌, ◌<◌, ◌≤◌, Bool, true, false, not, cond, nat_lt, List, [], ◌∷◌, inl, inr, length, min, take, drop, sym, ap, ap₂, ◌∙◌, arith, length-take, take_all, take-take, if◌then◌else◌, Option, Some, None, option_and_then, refl, subst, ne_eqb, nat_eq, ◌⊎◌, ◌++◌, lt-ltb, le-ltb, eq-eqb, eqb-true, length-append, length-drop}
-use Rattle.std.specs.List.{position_or_len, prefix_len, after_first}
+use Rattle.std.proofs.Common.{◌≡◌, ℕ, zero, suc, ◌+◌, ◌-◌, ◌<◌, ◌≤◌, Bool, true, false, not, nat_lt, List, [], ◌∷◌, inl, inr, length, min, take, drop, sym, ap, ap₂, ◌∙◌, arith, length-take, take_all, take-take, if◌then◌else◌, Option, Some, None, option_and_then, refl, subst, ne_eqb, nat_eq, ◌⊎◌, ◌++◌, lt-ltb, le-ltb, eq-eqb, eqb-true, length-append, length-drop}
+use Rattle.std.specs.List.{position_or_len, after_first}
 use Rattle.std.proofs.lemmas.Bool.{cases_lt, cond-true, cond-false, cases_Bool, false_from_ne_true, eqb-false, both_ways}
 use Rattle.std.proofs.lemmas.List.{drop-take, drop-append-le}
 use Rattle.std.proofs.lemmas.List.Sums.{prefix_len-le-length}
@@ -10,22 +10,14 @@ use Rattle.std.proofs.lemmas.Bool.Decides.{Decides-eqb}
 use Rattle.std.proofs.lemmas.Slice.Eq.{starts_is}
 use Rattle.typed_path.specs.declared.scan.separators.Separators.{Separators}
 use Rattle.typed_path.specs.declared.scan.separators.Separators.TheVariants.{Either, Backslash}
-use Rattle.typed_path.specs.components.{is_separator, question, dot, windows, backslash, separators, begins_verbatim, is_empty, name, second_name, names_length, Found, found, drive, after_two, after_mark, after_unc, verbatim_unc_case, verbatim_disk_case, verbatim_case, device_case, unc_case, disk_case, prefix_of, Prefix, verbatim, verbatim_unc, verbatim_disk, device_ns, unc, disk, parts_of, Kind, prefix, Part, kinds}
+use Rattle.typed_path.specs.components.{is_separator, question, dot, windows, backslash, separators, begins_verbatim, is_empty, name, second_name, names_length, Found, found, drive, after_two, after_mark, after_unc, verbatim_unc_case, verbatim_disk_case, verbatim_case, device_case, unc_case, disk_case, prefix_of, Prefix, verbatim, verbatim_unc, verbatim_disk, device_ns, unc, disk, parts_of, kinds}
 use Rattle.typed_path.specs.queries.{is_disk, is_verbatim_prefix, begins_with_prefix, has_any_verbatim_prefix}
-use Rattle.typed_path.proofs.lemmas.components.Prefixes.{and_then-some, unless-some, some_is, ReadsMark, IsFront, after_mark-reads, after_unc-reads, after_two-reads, both-read, drive-take, drive-none, OfWindows, separators-windows, backslash-separates, name-fits, Read, of_verbatim_unc, of_verbatim_disk, of_verbatim, of_device, of_unc, of_disk, prefix-read}
-use Rattle.typed_path.proofs.lemmas.components.Segments.{position-append, body_parts, parts_behind, parts-comps_behind, body_parts-read, AreRead, IsWritten}
+use Rattle.typed_path.proofs.lemmas.components.Prefixes.{ReadsMark, IsFront, after_mark-reads, after_unc-reads, after_two-reads, both-read, drive-take, drive-none, OfWindows, separators-windows, backslash-separates, name-fits, Read, of_verbatim_unc, of_verbatim_disk, of_verbatim, of_device, of_unc, of_disk, prefix-read}
+use Rattle.typed_path.proofs.lemmas.components.Segments.{position-append, body_parts, parts_behind, parts-comps_behind}
+use Rattle.typed_path.proofs.lemmas.lists.Options.{and_then-some, unless-some, some_is, unless-none}
+use Rattle.typed_path.proofs.lemmas.lists.Lists.{prefix_len-take}
 
 -- The names at the front of a text that is cut behind them.
-
--- the front of a list passes a test as far as the list does
-prefix_len-take : (q : ℕ → Bool) (m : ℕ) (xs : List ℕ) → prefix_len q (take m xs) ≡ min m (prefix_len q xs)
-prefix_len-take q zero xs = omega arith
-prefix_len-take q (suc m) [] = omega arith
-prefix_len-take q (suc m) (x ∷ xs) = by (q x) (prefix_len-take q m xs)
-  where
-    by : (b : Bool) → prefix_len q (take m xs) ≡ min m (prefix_len q xs) → cond b (1 + prefix_len q (take m xs)) 0 ≡ min (suc m) (cond b (1 + prefix_len q xs) 0)
-    by true e = omega arith
-    by false e = omega arith
 
 module _ (s : Separators) where
   -- a name is as long as the place where it ends
@@ -42,9 +34,7 @@ module _ (s : Separators) where
 
   -- a text cut behind its name has the same name
   pub name-take : (m : ℕ) (text : List ℕ) → length (name s text) ≤ m → name s (take m text) ≡ name s text
-  name-take m text fits =
-      let place : position_or_len (is_separator s) (take m text) ≡ position_or_len (is_separator s) text = omega (arith, position-take m text, name-length text) in
-      ap (λ n. take n (take m text)) place ∙ take-take (position_or_len (is_separator s) text) m text (omega (arith, name-length text))
+  name-take m text fits = grind (arith, position-take, name-length, take-take)
 
   -- a text without a name has none where it is cut
   pub empty-take : (m : ℕ) (text : List ℕ) → is_empty (name s text) ≡ true → is_empty (name s (take m text)) ≡ true
@@ -81,11 +71,6 @@ module _ (s : Separators) where
 
 -- A Windows text that is cut behind its prefix begins with the same prefix.
 
--- what no value unless a test holds tells
-pub unless-none : {A : Type 0} (b : Bool) (x : A) → (if b then None else Some x) ≡ None → b ≡ true
-unless-none true x e = refl
-unless-none false x e = cc
-
 -- a text is cut at or behind the end of its prefix, and where it is cut at the end, no separator stands there
 pub record IsBehind (s : Separators) (text : List ℕ) (e : ℕ) (f : Found) : Type 0 where
   pub fits : f.length ≤ e
@@ -109,8 +94,7 @@ module _ (s : Separators) (text : List ℕ) (e : ℕ) where
 
   -- so do two cases of which the first that holds counts
   or-keeps : (was now others others_now : Option Found) → Keeps was now → Keeps others others_now → Keeps (option_or was others) (option_or now others_now)
-  or-keeps None now others others_now first rest = rw (first.none refl) rest
-  or-keeps (Some g) now others others_now first rest = record { some = λ f is h. ap (λ o. option_or o others_now) (first.some f is h); none = λ is. cc }
+  or-keeps was now others others_now first rest = grind arith
 
   -- what the names behind a mark of k bytes are, where the text is cut
   record KeepsNames (k : ℕ) (test : List ℕ → Bool) (make : List ℕ → Found) : Type 0 where
@@ -140,10 +124,7 @@ module _ (s : Separators) (text : List ℕ) (e : ℕ) where
           ∙ ap Some (same.1 ∙ is.1)
 
       none : marked_case read test make text ≡ None → IsFront (read text) (read (take e text)) → marked_case read test make (take e text) ≡ None
-      none was (inl nothing) = ap (option_and_then g) nothing
-      none was (inr front) =
-          let empty = unless-none (test front.0) (make front.0) (ap (option_and_then g) (sym front.2) ∙ was) in
-          ap (option_and_then g) front.3 ∙ cond-true (test (take front.1 front.0)) None (Some (make (take front.1 front.0))) (names.stays_empty front.0 front.1 empty)
+      none was h = grind (arith, g, unless-none, cond-true)
 
   -- two names with a separator between them
   two-keep : (k : ℕ) (t : Separators) (make : List ℕ → List ℕ → Prefix) → KeepsNames k (λ rest. is_empty (name t rest)) (λ rest. found (make (name t rest) (second_name t rest)) (k + names_length t rest))
@@ -188,21 +169,7 @@ module _ (s : Separators) (text : List ℕ) (e : ℕ) where
 
   -- a drive
   disk-keeps : Keeps (disk_case text) (disk_case (take e text))
-  disk-keeps = record { some = some; none = none }
-    where
-      some : (f : Found) → disk_case text ≡ Some f → IsBehind s text e f → disk_case (take e text) ≡ Some f
-      some f was h =
-          let letter = and_then-some _ (drive text) f was in
-          let size : 2 ≡ f.length = ap (λ g. g.length) (some_is letter.2) in
-          let fits = h.fits in
-          ap (option_and_then (λ l. Some (found (disk l) 2))) (drive-take e text (omega arith)) ∙ was
-
-      none : disk_case text ≡ None → disk_case (take e text) ≡ None
-      none was = by (drive text) refl was
-        where
-          by : (o : Option ℕ) → drive text ≡ o → option_and_then (λ l. Some (found (disk l) 2)) o ≡ None → disk_case (take e text) ≡ None
-          by None is was = ap (option_and_then (λ l. Some (found (disk l) 2))) (drive-none e text is)
-          by (Some letter) is was = cc
+  disk-keeps = grind (arith, drive-take, drive-none)
 
   -- a drive behind a mark
   verbatim_disk-keeps : Keeps (verbatim_disk_case text) (verbatim_disk_case (take e text))
@@ -230,8 +197,7 @@ module _ (s : Separators) (text : List ℕ) (e : ℕ) where
           ∙ ap (option_and_then g) (drive-none front.1 front.0 (no_letter (drive front.0) (ap (λ o. option_and_then g (option_and_then drive o)) (sym front.2) ∙ was)))
         where
           no_letter : (o : Option ℕ) → option_and_then g o ≡ None → o ≡ None
-          no_letter None is = refl
-          no_letter (Some letter) is = cc
+          no_letter o is = grind arith
 
   -- all six cases
   pub prefix-keeps : Keeps (prefix_by s text) (prefix_by s (take e text))
@@ -260,19 +226,9 @@ plain-take text e plain = elim (cases_lt e 4) [
   | inr long ↦ verbatim-take text e long ∙ plain
 ]
 
--- a value is not none
-pub not_none : {A : Type 0} (x : A) → Some x ≡ None → ⊥
-not_none x e = cc
-
 -- the first of two cases that holds is long where both are
 or-long : (o p : Option Found) (f : Found) → ((g : Found) → o ≡ Some g → 4 ≤ g.length) → ((g : Found) → p ≡ Some g → 4 ≤ g.length) → option_or o p ≡ Some f → 4 ≤ f.length
-or-long None p f first rest e = rest f e
-or-long (Some g) p f first rest e = first f e
-
--- where neither of two cases holds the second does not
-pub or-none : {A : Type 0} (o p : Option A) → option_or o p ≡ None → p ≡ None
-or-none None p e = e
-or-none (Some x) p e = cc
+or-long o p f first rest e = grind arith
 
 -- a text that is read verbatim with more behind its mark has a verbatim name
 verbatim_case-some : (b : ℕ) (bs : List ℕ) → verbatim_case Backslash (backslash ∷ backslash ∷ question ∷ backslash ∷ b ∷ bs) ≡ Some (found (verbatim (name Backslash (b ∷ bs))) (4 + length (name Backslash (b ∷ bs))))
@@ -280,37 +236,11 @@ verbatim_case-some b bs = cond-false (is_empty (b ∷ bs)) None (Some (found (ve
 
 -- a text that is read verbatim has a prefix of four bytes or more
 pub verbatim-long : (rest : List ℕ) (f : Found) → prefix_of windows (backslash ∷ backslash ∷ question ∷ backslash ∷ rest) ≡ Some f → 4 ≤ f.length
-verbatim-long [] f e = let size : 4 ≡ f.length = ap (λ g. g.length) (some_is e) in omega arith
-verbatim-long (b ∷ bs) f e =
-    or-long (verbatim_unc_case Backslash text) _ f unc_long (λ h. or-long (verbatim_disk_case text) _ h disk_long third) e
-  where
-    text : List ℕ
-    text = backslash ∷ backslash ∷ question ∷ backslash ∷ b ∷ bs
-
-    unc_long : (g : Found) → verbatim_unc_case Backslash text ≡ Some g → 4 ≤ g.length
-    unc_long g is =
-        let rest = and_then-some _ (option_and_then (after_unc Backslash) (after_mark question text)) g is in
-        omega (arith, ap (λ h. h.length) (unless-some (is_empty (name Backslash rest.0)) _ g rest.2).1)
-
-    disk_long : (g : Found) → verbatim_disk_case text ≡ Some g → 4 ≤ g.length
-    disk_long g is =
-        let letter = and_then-some _ (option_and_then drive (after_mark question text)) g is in
-        let size : 6 ≡ g.length = ap (λ h. h.length) (some_is letter.2) in
-        omega arith
-
-    third : (g : Found) → option_or (verbatim_case Backslash text) (option_or (device_case text) (option_or (unc_case text) (disk_case text))) ≡ Some g → 4 ≤ g.length
-    third g is =
-        let same = sym (ap (λ o. option_or o (option_or (device_case text) (option_or (unc_case text) (disk_case text)))) (verbatim_case-some b bs)) ∙ is in
-        omega (arith, ap (λ h. h.length) (some_is same))
+verbatim-long rest f e = grind (arith, and_then-some, unless-some, verbatim_case-some)
 
 -- a text that is read verbatim has a prefix
 verbatim-found : (rest : List ℕ) → prefix_of windows (backslash ∷ backslash ∷ question ∷ backslash ∷ rest) ≡ None → ⊥
-verbatim-found [] e = cc
-verbatim-found (b ∷ bs) e =
-    let text = backslash ∷ backslash ∷ question ∷ backslash ∷ b ∷ bs in
-    let others = option_or (device_case text) (option_or (unc_case text) (disk_case text)) in
-    let third : option_or (verbatim_case Backslash text) others ≡ None = or-none (verbatim_disk_case text) _ (or-none (verbatim_unc_case Backslash text) _ e) in
-    not_none _ (sym (ap (λ o. option_or o others) (verbatim_case-some b bs)) ∙ third)
+verbatim-found rest e = grind arith
 
 -- a text with a prefix keeps it, and its separators
 pub record SamePrefix (text : List ℕ) (e : ℕ) : Type 0 where
@@ -319,9 +249,7 @@ pub record SamePrefix (text : List ℕ) (e : ℕ) : Type 0 where
 
 -- the separators and the prefix stay where the text is read verbatim or not as before
 same_from : (text : List ℕ) (e : ℕ) → begins_verbatim (take e text) ≡ begins_verbatim text → prefix_by (separators windows text) (take e text) ≡ prefix_of windows text → SamePrefix text e
-same_from text e same is =
-    let seps : separators windows (take e text) ≡ separators windows text = ap (λ b. if b then Backslash else Either) same in
-    record { same_separators = seps; same_prefix = ap (λ s. prefix_by s (take e text)) seps ∙ is }
+same_from text e same is = grind arith
 
 -- they stay where the text is cut behind its prefix
 pub same-found : (text : List ℕ) (e : ℕ) (f : Found) → prefix_of windows text ≡ Some f → IsBehind (separators windows text) text e f → SamePrefix text e
@@ -345,10 +273,7 @@ same-none text e is = same_from text e (plain-take text e (plain-none text is) �
 
 -- the components of a text without a prefix
 pub parts_of-none : (t : List ℕ) → prefix_of windows t ≡ None → parts_of windows t ≡ body_parts Either t
-parts_of-none t none =
-    parts-comps_behind (separators windows t) t (prefix_of windows t)
-    ∙ ap (parts_behind (separators windows t) t) none
-    ∙ ap (λ b. body_parts (if b then Backslash else Either) t) (plain-none t none)
+parts_of-none t h = grind (arith, parts-comps_behind, parts_behind, body_parts, plain-none)
 
 -- the components of a text with a prefix
 pub parts_of-some : (t : List ℕ) (f : Found) → prefix_of windows t ≡ Some f → parts_of windows t ≡ parts_behind (separators windows t) t (Some f)
@@ -362,15 +287,7 @@ verbatim-some t f is = ap (λ ps. has_any_verbatim_prefix (kinds ps)) (parts_of-
 
 -- without one the list begins with none
 pub unprefixed : (test : Prefix → Bool) (t : List ℕ) → prefix_of windows t ≡ None → begins_with_prefix test (kinds (parts_of windows t)) ≡ false
-unprefixed test t none = ap (λ ps. begins_with_prefix test (kinds ps)) (parts_of-none t none) ∙ by (body_parts Either t) (body_parts-read Either t)
-  where
-    kind : (k : Kind) (text : List ℕ) (ps : List Part) → IsWritten Either k text → begins_with_prefix test (k ∷ kinds ps) ≡ false
-    kind (prefix q) text ps written = absurd written
-    kind k text ps written = refl
-
-    by : (ps : List Part) → AreRead Either ps → begins_with_prefix test (kinds ps) ≡ false
-    by [] read = refl
-    by (p ∷ ps) read = kind p.kind p.text ps read.0
+unprefixed test t h = grind (arith, parts_of-none)
 
 pub verbatim-none : (t : List ℕ) → prefix_of windows t ≡ None → has_any_verbatim_prefix (kinds (parts_of windows t)) ≡ false
 verbatim-none t none = unprefixed is_verbatim_prefix t none
@@ -402,30 +319,12 @@ IsSize (disk letter) t size = size ≡ 2
 
 -- a name that is the whole text ends with no separator
 pub name-unended : (s : Separators) (k : ℕ) (t rest : List ℕ) → OfWindows s → drop k t ≡ rest → length t ≡ k + length rest → is_empty (name s rest) ≡ false → length rest ≤ length (name s rest) → IsUnended t
-name-unended s k t rest w dropped size filled most front is =
-    let some : 0 < length rest = omega (arith, name-fits s rest, eqb-false (length (name s rest)) 0 filled) in
-    let ends : rest ≡ drop k front ++ backslash ∷ [] =
-    sym dropped ∙ ap (drop k) is ∙ drop-append-le k front (backslash ∷ []) (omega (arith, ap length is, length-append front (backslash ∷ []))) in
-    let place = ap (position_or_len (is_separator s)) ends ∙ position-append s backslash (backslash-separates s w) (drop k front) [] in
-    omega (arith, place, name-length s rest, prefix_len-le-length (λ b. not (is_separator s b)) (drop k front), ap length ends, length-append (drop k front) (backslash ∷ []))
+name-unended s k t rest w dropped size filled most front is = grind (arith, name-fits, eqb-false, drop-append-le, length-append, position-append, backslash-separates, name-length, prefix_len-le-length)
 
 -- two names behind a mark take one of the two sizes
 names-size : (s : Separators) (k : ℕ) (t rest : List ℕ) → OfWindows s → drop k t ≡ rest → length t ≡ k + length rest → is_empty (name s rest) ≡ false
     → IsShared k (name s rest) (second_name s rest) t (k + names_length s rest) ⊎ IsAlone k (name s rest) (second_name s rest) t (k + names_length s rest)
-names-size s k t rest w dropped size filled = elim (cases_lt (length (name s rest)) (length rest)) [
-  | inl less ↦
-      let long = cond-true (nat_lt (length (name s rest)) (length rest)) (length (name s rest) + 1 + length (second_name s rest)) (length (name s rest)) (lt-ltb _ _ less) in
-      inl (record { less = omega arith; long = omega arith })
-  | inr most ↦
-      let long = cond-false (nat_lt (length (name s rest)) (length rest)) (length (name s rest) + 1 + length (second_name s rest)) (length (name s rest)) (le-ltb _ _ most) in
-      let fits = name-fits s rest in
-      inr (record {
-        whole = omega arith;
-        long = omega arith;
-        no_share = omega (arith, name-fits s (after_first (is_separator s) rest), length-drop (position_or_len (is_separator s) rest + 1) rest, name-length s rest);
-        unended = name-unended s k t rest w dropped size filled most;
-      })
-]
+names-size s k t rest w dropped size filled = grind (arith, le-ltb, name-fits, length-drop, name-length, name-unended)
 
 -- so each prefix takes what its kind tells
 read-size : (s : Separators) (t : List ℕ) (f : Found) → OfWindows s → Read s t f → IsSize f.prefix t f.length
@@ -450,43 +349,19 @@ pub record IsGrown (p : Prefix) (t : List ℕ) (a b : ℕ) : Type 0 where
 -- two sizes of one server and share
 shared-sizes : (k : ℕ) (server share t u : List ℕ) (a b : ℕ) → IsShared k server share t a ⊎ IsAlone k server share t a → IsShared k server share u b ⊎ IsAlone k server share u b → a ≤ length u
     → (b ≡ a) ⊎ ((a ≡ length t) × (b ≡ suc a) × IsUnended t)
-shared-sizes k server share t u a b (inl one) (inl other) within = inl (omega (arith, one.long, other.long))
-shared-sizes k server share t u a b (inl one) (inr other) within = absurd (omega (arith, one.long, other.long, other.whole))
-shared-sizes k server share t u a b (inr one) (inl other) within = inr (one.whole, omega (arith, one.long, other.long, one.no_share), one.unended)
-shared-sizes k server share t u a b (inr one) (inr other) within = inl (omega (arith, one.long, other.long))
+shared-sizes k server share t u a b h h1 within = grind arith
 
 -- a prefix of one kind takes as much of one text as of another that is not shorter than it, or one separator more
 pub same-sizes : (p : Prefix) (t u : List ℕ) (a b : ℕ) → IsSize p t a → IsSize p u b → a ≤ length u → (b ≡ a) ⊎ IsGrown p t a b
-same-sizes p t u a b one other within = by p one other
-  where
-    grown : (p : Prefix) → is_disk p ≡ false → (b ≡ a) ⊎ ((a ≡ length t) × (b ≡ suc a) × IsUnended t) → (b ≡ a) ⊎ IsGrown p t a b
-    grown p no_drive (inl same) = inl same
-    grown p no_drive (inr more) = inr (record { whole = more.0; more = more.1; no_drive = no_drive; unended = more.2 })
-
-    by : (p : Prefix) → IsSize p t a → IsSize p u b → (b ≡ a) ⊎ IsGrown p t a b
-    by (verbatim name) one other = inl (other ∙ sym one)
-    by (verbatim_unc server share) one other = grown (verbatim_unc server share) refl (shared-sizes 8 server share t u a b one other within)
-    by (verbatim_disk letter) one other = inl (other ∙ sym one)
-    by (device_ns name) one other = inl (other ∙ sym one)
-    by (unc server share) one other = grown (unc server share) refl (shared-sizes 2 server share t u a b one other within)
-    by (disk letter) one other = inl (other ∙ sym one)
+same-sizes p t u a b one other within = grind arith
 
 -- a prefix of a verbatim kind takes four bytes or more
 pub verbatim-size : (p : Prefix) (t : List ℕ) (a : ℕ) → IsSize p t a → is_verbatim_prefix p ≡ true → 4 ≤ a
-verbatim-size (verbatim name) t a size kind = omega arith
-verbatim-size (verbatim_unc server share) t a (inl size) kind = omega (arith, size.long)
-verbatim-size (verbatim_unc server share) t a (inr size) kind = omega (arith, size.long)
-verbatim-size (verbatim_disk letter) t a size kind = omega arith
-verbatim-size p t a size kind = cc
+verbatim-size p t a size kind = grind arith
 
 -- what begins with exactly `\\?\` and has more behind it is of a verbatim kind
 marked-kind : (b : ℕ) (bs : List ℕ) (f : Found) → Read Backslash (backslash ∷ backslash ∷ question ∷ backslash ∷ b ∷ bs) f → is_verbatim_prefix f.prefix ≡ true
-marked-kind b bs _ (of_verbatim_unc rest mark filled) = refl
-marked-kind b bs _ (of_verbatim_disk rest letter mark drives) = refl
-marked-kind b bs _ (of_verbatim rest mark filled no_unc no_drive) = refl
-marked-kind b bs _ (of_device rest mark filled) = let marked = mark.marked in cc
-marked-kind b bs _ (of_unc rest mark filled no_verbatim no_device) = absurd (not_none _ (sym (verbatim_case-some b bs) ∙ no_verbatim))
-marked-kind b bs _ (of_disk letter drives) = cc
+marked-kind b bs f h = grind arith
 
 -- so a longer text of another kind does not begin with it
 pub plain-kind : (t : List ℕ) (f : Found) → prefix_of windows t ≡ Some f → is_verbatim_prefix f.prefix ≡ false → 4 < length t → begins_verbatim t ≡ false

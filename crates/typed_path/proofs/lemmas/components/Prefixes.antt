@@ -1,12 +1,13 @@
 -- The prefix of a Windows text: its separators, how many bytes it takes, its marks and what it was read from.
-use Rattle.std.proofs.Common.{◌≡◌, ℕ, ◌==◌, ◌||◌, ◌&&◌, Bool, true, false, List, [], ◌∷◌, refl, ◌+◌, ◌<◌, ◌≤◌, not, if◌then◌else◌, nat_lt, length, Option, Some, None, option_and_then, ap, arith, length-take, length-drop, zero, suc, ◌⊎◌, inl, inr, take, drop, option_map, sym, ◌∙◌, add_assoc, subst, ltb-true, eqb-true, drop-drop}
+use Rattle.std.proofs.Common.{◌≡◌, ℕ, ◌==◌, Bool, true, false, List, [], ◌∷◌, refl, ◌+◌, ◌<◌, ◌≤◌, if◌then◌else◌, length, Option, Some, None, option_and_then, ap, arith, length-take, length-drop, zero, suc, ◌⊎◌, inl, inr, take, drop, sym, ◌∙◌, add_assoc, subst, eqb-true, drop-drop}
+use Rattle.std.proofs.lemmas.Grind.{common_steps}
 use Rattle.std.proofs.lemmas.Bool.{cond_both}
 use Rattle.std.specs.Option.{option_or}
-use Rattle.std.specs.List.{position_or_len, after_first}
-use Rattle.std.proofs.lemmas.List.Sums.{prefix_len-le-length}
+use Rattle.std.specs.List.{position_or_len}
 use Rattle.typed_path.specs.declared.scan.separators.Separators.{Separators}
-use Rattle.typed_path.specs.declared.scan.separators.Separators.TheVariants.{Slash, Backslash, Either}
-use Rattle.typed_path.specs.components.{windows, dialect_of, separators, begins_verbatim, is_verbatim, slash, backslash, dot, colon, is_separator, root_text, Dialect, unix, question, Found, is_empty, is_drive_letter, to_upper, drive, after_two, after_four, after_mark, after_unc, name, second_name, names_length, verbatim_unc_case, verbatim_disk_case, verbatim_case, device_case, unc_case, disk_case, prefix_of, found, verbatim, verbatim_unc, verbatim_disk, device_ns, unc, disk}
+use Rattle.typed_path.specs.declared.scan.separators.Separators.TheVariants.{Backslash, Either}
+use Rattle.typed_path.specs.components.{windows, dialect_of, separators, begins_verbatim, is_verbatim, backslash, dot, is_separator, root_text, Dialect, unix, question, Found, is_empty, drive, after_two, after_four, after_mark, after_unc, name, second_name, names_length, verbatim_unc_case, verbatim_disk_case, verbatim_case, device_case, unc_case, disk_case, prefix_of, found, verbatim, verbatim_unc, verbatim_disk, device_ns, unc, disk, IsPartedDrive}
+use Rattle.typed_path.proofs.lemmas.lists.Options.{and_then-some, unless-some, where-some, some_is}
 
 -- The separators of a Windows text.
 
@@ -20,67 +21,29 @@ separators-windows text = cond_both (begins_verbatim text) Backslash Either OfWi
 
 -- two texts of Windows are separated alike where both are read verbatim, or neither
 pub same_separators : (t b : List ℕ) → is_verbatim (separators windows t) ≡ is_verbatim (separators windows b) → separators windows t ≡ separators windows b
-same_separators t b = by (begins_verbatim t) (begins_verbatim b)
-  where
-    by : (p q : Bool) → is_verbatim (if p then Backslash else Either) ≡ is_verbatim (if q then Backslash else Either) → (if p then Backslash else Either) ≡ (if q then Backslash else Either)
-    by true true e = refl
-    by false false e = refl
-    by true false e = cc
-    by false true e = cc
+same_separators t b = grind arith
 
 -- `\` is one of them
 pub backslash-separates : (s : Separators) → OfWindows s → is_separator s backslash ≡ true
-backslash-separates Slash w = cc
-backslash-separates Backslash w = refl
-backslash-separates Either w = refl
+backslash-separates s w = grind arith
 
 -- and it is how a root is written
 pub root_text-windows : (s : Separators) → OfWindows s → root_text s ≡ backslash ∷ []
-root_text-windows Slash w = cc
-root_text-windows Backslash w = refl
-root_text-windows Either w = refl
+root_text-windows s w = grind arith
 
 -- a dot separates nothing
 pub dot-unseparated : (s : Separators) → is_separator s dot ≡ false
-dot-unseparated Slash = refl
-dot-unseparated Backslash = refl
-dot-unseparated Either = refl
+dot-unseparated s = grind arith
 
 -- what separates nothing in one text separates nothing in the other
 pub unseparated-either : (s : Separators) (b : ℕ) → is_separator Either b ≡ false → is_separator s b ≡ false
-unseparated-either s b h = by s (b == slash) refl (b == backslash) refl h
-  where
-    by : (s : Separators) (x : Bool) → (b == slash) ≡ x → (y : Bool) → (b == backslash) ≡ y → x || y ≡ false → is_separator s b ≡ false
-    by Slash false e y f h = e
-    by Backslash false e false f h = f
-    by Either false e false f h = rw (e, f) refl
-    by s x e y f h = cc
+unseparated-either s b h = grind arith
 
 -- How many bytes a prefix takes: more than none, and no more than the text has.
 
--- what a value behind an option tells
-pub and_then-some : {A B : Type 0} (g : A → Option B) (o : Option A) (y : B) → option_and_then g o ≡ Some y → (x : A) × (o ≡ Some x) × (g x ≡ Some y)
-and_then-some g None y e = cc
-and_then-some g (Some x) y e = (x, refl, e)
-
--- what a value unless a test holds tells
-pub unless-some : {A : Type 0} (b : Bool) (x y : A) → (if b then None else Some x) ≡ Some y → (b ≡ false) × (x ≡ y)
-unless-some true x y e = cc
-unless-some false x y e = (refl, cc)
-
--- what a value where a test holds tells
-pub where-some : {A : Type 0} (b : Bool) (x y : A) → (if b then Some x else None) ≡ Some y → (b ≡ true) × (x ≡ y)
-where-some true x y e = (refl, cc)
-where-some false x y e = cc
-
--- what equal values tell
-pub some_is : {A : Type 0} {x y : A} → Some x ≡ Some y → x ≡ y
-some_is e = cc
-
 -- a mark is four bytes
 after_four-size : (p q r s : ℕ → Bool) (text rest : List ℕ) → after_four p q r s text ≡ Some rest → length text ≡ 4 + length rest
-after_four-size p q r s (a ∷ b ∷ c ∷ d ∷ text) rest e = omega (arith, ap length (where-some _ text rest e).1)
-after_four-size p q r s text rest e = cc
+after_four-size p q r s text rest e = grind arith
 
 pub after_mark-size : (sign : ℕ) (text rest : List ℕ) → after_mark sign text ≡ Some rest → length text ≡ 4 + length rest
 after_mark-size sign text rest e = after_four-size (is_separator Either) (is_separator Either) (λ b. b == sign) (is_separator Either) text rest e
@@ -90,13 +53,11 @@ after_unc-size s text rest e = after_four-size (λ b. b == 85) (λ b. b == 78) (
 
 -- two separators are two bytes
 pub after_two-size : (text rest : List ℕ) → after_two text ≡ Some rest → length text ≡ 2 + length rest
-after_two-size (a ∷ b ∷ text) rest e = omega (arith, ap length (where-some _ text rest e).1)
-after_two-size text rest e = cc
+after_two-size text rest e = grind arith
 
 -- a drive is two bytes
 pub drive-size : (text : List ℕ) (letter : ℕ) → drive text ≡ Some letter → 2 ≤ length text
-drive-size (a ∷ b ∷ text) letter e = omega arith
-drive-size text letter e = cc
+drive-size text letter e = grind arith
 
 -- a name is no longer than its text
 pub name-fits : (s : Separators) (text : List ℕ) → length (name s text) ≤ length text
@@ -104,12 +65,7 @@ name-fits s text = omega (arith, length-take (position_or_len (is_separator s) t
 
 -- nor are two names with the separator between them
 pub names-fit : (s : Separators) (text : List ℕ) → names_length s text ≤ length text
-names-fit s text =
-    let p = is_separator s in
-    let inside = prefix_len-le-length (λ b. not (p b)) text in
-    cond_both (nat_lt (length (name s text)) (length text)) (length (name s text) + 1 + length (second_name s text)) (length (name s text)) (λ n. n ≤ length text)
-    (λ less. omega (arith, ltb-true _ _ less, length-take (position_or_len p text) text, name-fits s (after_first p text), length-drop (position_or_len p text + 1) text))
-    (λ most. name-fits s text)
+names-fit s text = grind (arith, length-take, name-fits, length-drop)
 
 -- a prefix takes some bytes, and no more than the text has
 pub record FoundFits (text : List ℕ) (f : Found) : Type 0 where
@@ -118,64 +74,31 @@ pub record FoundFits (text : List ℕ) (f : Found) : Type 0 where
 
 -- the verbatim share
 verbatim_unc-fits : (s : Separators) (text : List ℕ) (f : Found) → verbatim_unc_case s text ≡ Some f → FoundFits text f
-verbatim_unc-fits s text f e =
-    let outer = and_then-some _ (option_and_then (after_unc s) (after_mark question text)) f e in
-    let inner = and_then-some (after_unc s) (after_mark question text) outer.0 outer.1 in
-    let size = ap (λ g. g.length) (unless-some (is_empty (name s outer.0)) _ f outer.2).1 in
-    let mark = after_mark-size question text inner.0 inner.1 in
-    let sized = after_unc-size s inner.0 outer.0 inner.2 in
-    let names = names-fit s outer.0 in
-    record { filled = omega arith; fits = omega arith }
+verbatim_unc-fits s text f e = grind (arith, after_mark-size, after_unc-size, names-fit)
 
 -- the verbatim drive
 verbatim_disk-fits : (text : List ℕ) (f : Found) → verbatim_disk_case text ≡ Some f → FoundFits text f
-verbatim_disk-fits text f e =
-    let outer = and_then-some _ (option_and_then drive (after_mark question text)) f e in
-    let inner = and_then-some drive (after_mark question text) outer.0 outer.1 in
-    let size : 6 ≡ f.length = ap (λ g. g.length) (some_is outer.2) in
-    let mark = after_mark-size question text inner.0 inner.1 in
-    let drives = drive-size inner.0 outer.0 inner.2 in
-    record { filled = omega arith; fits = omega arith }
+verbatim_disk-fits text f e = grind arith
 
 -- the verbatim name
 verbatim-fits : (s : Separators) (text : List ℕ) (f : Found) → verbatim_case s text ≡ Some f → FoundFits text f
-verbatim-fits s text f e =
-    let outer = and_then-some _ (after_mark question text) f e in
-    let size = ap (λ g. g.length) (unless-some (is_empty outer.0) _ f outer.2).1 in
-    let mark = after_mark-size question text outer.0 outer.1 in
-    let names = name-fits s outer.0 in
-    record { filled = omega arith; fits = omega arith }
+verbatim-fits s text f e = grind (arith, after_mark-size, name-fits)
 
 -- the device
 device-fits : (text : List ℕ) (f : Found) → device_case text ≡ Some f → FoundFits text f
-device-fits text f e =
-    let outer = and_then-some _ (after_mark dot text) f e in
-    let size = ap (λ g. g.length) (unless-some (is_empty (name Either outer.0)) _ f outer.2).1 in
-    let mark = after_mark-size dot text outer.0 outer.1 in
-    let names = name-fits Either outer.0 in
-    record { filled = omega arith; fits = omega arith }
+device-fits text f e = grind (arith, after_mark-size, name-fits)
 
 -- the share
 unc-fits : (text : List ℕ) (f : Found) → unc_case text ≡ Some f → FoundFits text f
-unc-fits text f e =
-    let outer = and_then-some _ (after_two text) f e in
-    let size = ap (λ g. g.length) (unless-some (is_empty (name Either outer.0)) _ f outer.2).1 in
-    let two = after_two-size text outer.0 outer.1 in
-    let names = names-fit Either outer.0 in
-    record { filled = omega arith; fits = omega arith }
+unc-fits text f e = grind (arith, common_steps)
 
 -- the drive
 disk-fits : (text : List ℕ) (f : Found) → disk_case text ≡ Some f → FoundFits text f
-disk-fits text f e =
-    let outer = and_then-some _ (drive text) f e in
-    let size : 2 ≡ f.length = ap (λ g. g.length) (some_is outer.2) in
-    let drives = drive-size text outer.0 outer.1 in
-    record { filled = omega arith; fits = omega arith }
+disk-fits text f e = grind arith
 
 -- the first of two cases that holds
 or-fits : (text : List ℕ) (o p : Option Found) → ((f : Found) → o ≡ Some f → FoundFits text f) → ((f : Found) → p ≡ Some f → FoundFits text f) → (f : Found) → option_or o p ≡ Some f → FoundFits text f
-or-fits text None p first others f e = others f e
-or-fits text (Some g) p first others f e = first f e
+or-fits text o p first others f e = grind arith
 
 -- each prefix takes some bytes, and no more than the text has
 pub prefix-fits : (d : Dialect) (text : List ℕ) (f : Found) → prefix_of d text ≡ Some f → FoundFits text f
@@ -202,19 +125,16 @@ pub record ReadsMark (k : ℕ) (read : List ℕ → Option (List ℕ)) : Type 0 
 
 -- a test at the front
 by_test : (b : Bool) (text rest : List ℕ) (m : ℕ) → (if b then Some text else None) ≡ Some rest → (if b then Some (take m text) else None) ≡ Some (take m rest)
-by_test true text rest m e = ap (λ o. option_map (take m) o) e
-by_test false text rest m e = cc
+by_test b text rest m e = grind arith
 
 -- the same, read back from the cut text
 test_cut : (b : Bool) (text : List ℕ) (m : ℕ) → IsFront (if b then Some text else None) (if b then Some (take m text) else None)
-test_cut true text m = inr (text, m, refl, refl)
-test_cut false text m = inl refl
+test_cut b text m = grind arith
 
 -- what stands behind four bytes
 module _ (p q r s : ℕ → Bool) where
   after_four-short : (text : List ℕ) → length text < 4 → after_four p q r s text ≡ None
-  after_four-short (a ∷ b ∷ c ∷ d ∷ text) h = absurd (omega arith)
-  after_four-short text h = refl
+  after_four-short text h = grind arith
 
   pub after_four-reads : ReadsMark 4 (after_four p q r s)
   after_four-reads = record {
@@ -224,12 +144,10 @@ module _ (p q r s : ℕ → Bool) where
   }
     where
       whole : (text rest : List ℕ) (m : ℕ) → after_four p q r s text ≡ Some rest → after_four p q r s (take (suc (suc (suc (suc m)))) text) ≡ Some (take m rest)
-      whole (a ∷ b ∷ c ∷ d ∷ text) rest m e = by_test _ text rest m e
-      whole text rest m e = cc
+      whole text rest m e = grind (arith, by_test)
 
       behind : (text rest : List ℕ) → after_four p q r s text ≡ Some rest → drop 4 text ≡ rest
-      behind (a ∷ b ∷ c ∷ d ∷ text) rest e = (where-some _ text rest e).1
-      behind text rest e = cc
+      behind text rest e = grind (arith, where-some)
 
       cut : (text : List ℕ) (e : ℕ) → IsFront (after_four p q r s text) (after_four p q r s (take e text))
       cut (a ∷ b ∷ c ∷ d ∷ text) (suc (suc (suc (suc m)))) = test_cut _ text m
@@ -245,20 +163,17 @@ after_unc-reads s = after_four-reads (λ b. b == 85) (λ b. b == 78) (λ b. b ==
 
 -- a text of fewer than two bytes has no two separators
 after_two-short : (text : List ℕ) → length text < 2 → after_two text ≡ None
-after_two-short (a ∷ b ∷ text) h = absurd (omega arith)
-after_two-short text h = refl
+after_two-short text h = grind arith
 
 -- two separators are two bytes
 pub after_two-reads : ReadsMark 2 after_two
 after_two-reads = record { whole = λ text rest m e. let size : 2 + m ≡ suc (suc m) = omega arith in ap (λ n. after_two (take n text)) size ∙ whole text rest m e; cut = cut; behind = behind }
   where
     whole : (text rest : List ℕ) (m : ℕ) → after_two text ≡ Some rest → after_two (take (suc (suc m)) text) ≡ Some (take m rest)
-    whole (a ∷ b ∷ text) rest m e = by_test _ text rest m e
-    whole text rest m e = cc
+    whole text rest m e = grind (arith, by_test)
 
     behind : (text rest : List ℕ) → after_two text ≡ Some rest → drop 2 text ≡ rest
-    behind (a ∷ b ∷ text) rest e = (where-some _ text rest e).1
-    behind text rest e = cc
+    behind text rest e = grind (arith, where-some)
 
     cut : (text : List ℕ) (e : ℕ) → IsFront (after_two text) (after_two (take e text))
     cut (a ∷ b ∷ text) (suc (suc m)) = test_cut _ text m
@@ -282,8 +197,7 @@ both-read k l f g first second = record {
     outer text now (inr some) = inner (second.cut some.0 some.1)
       where
         inner : IsFront (g some.0) (g (take some.1 some.0)) → IsFront (option_and_then g (f text)) (option_and_then g (f now))
-        inner (inl none) = inl (ap (option_and_then g) some.3 ∙ none)
-        inner (inr more) = inr (more.0, more.1, ap (option_and_then g) some.2 ∙ more.2, ap (option_and_then g) some.3 ∙ more.3)
+        inner h = grind arith
 
 -- a drive is read off the first two bytes
 pub drive-take : (m : ℕ) (text : List ℕ) → 2 ≤ m → drive (take m text) ≡ drive text
@@ -324,8 +238,7 @@ pub data Read (s : Separators) (text : List ℕ) : Found → Type 0 where
 
 -- a drive is missed where nothing is made of it
 no_letter : (g : ℕ → Found) (o : Option ℕ) → option_and_then (λ letter. Some (g letter)) o ≡ None → o ≡ None
-no_letter g None is = refl
-no_letter g (Some letter) is = cc
+no_letter g o is = grind arith
 
 module _ (s : Separators) (text : List ℕ) where
   -- what stands behind the mark of a verbatim prefix
@@ -334,8 +247,7 @@ module _ (s : Separators) (text : List ℕ) where
 
   -- the first of two cases that holds
   or-read : (o p : Option Found) → ((f : Found) → o ≡ Some f → Read s text f) → (o ≡ None → (f : Found) → p ≡ Some f → Read s text f) → (f : Found) → option_or o p ≡ Some f → Read s text f
-  or-read None p first others f is = others refl f is
-  or-read (Some g) p first others f is = first f is
+  or-read o p first others f is = grind arith
 
   -- the verbatim share
   verbatim_unc-read : (f : Found) → verbatim_unc_case s text ≡ Some f → Read s text f
@@ -396,26 +308,8 @@ prefix-read text f is =
 
 -- no drive behind a mark is `UNC`, so either may be asked for first
 pub drive_first : (s : Separators) (text : List ℕ) (o : Option Found) → option_or (verbatim_disk_case text) (option_or (verbatim_unc_case s text) o) ≡ option_or (verbatim_unc_case s text) (option_or (verbatim_disk_case text) o)
-drive_first s text o = by (after_mark question text)
-  where
-    of_names : List ℕ → Option Found
-    of_names rest = if is_empty (name s rest) then None else Some (found (verbatim_unc (name s rest) (second_name s rest)) (8 + names_length s rest))
+drive_first s text o = grind (arith, eqb-true)
 
-    by_bytes : (u n k p l : Bool) (c : ℕ) (rest : List ℕ) (letter : ℕ) → (c == 78) ≡ n → (col : Bool) → (c == colon) ≡ col
-        → option_or (option_and_then (λ x. Some (found (verbatim_disk x) 6)) (if (l && col) then Some letter else None)) (option_or (option_and_then of_names (if (((u && n) && k) && p) then Some rest else None)) o)
-        ≡ option_or (option_and_then of_names (if (((u && n) && k) && p) then Some rest else None)) (option_or (option_and_then (λ x. Some (found (verbatim_disk x) 6)) (if (l && col) then Some letter else None)) o)
-    by_bytes false n k p l c rest letter e col f = refl
-    by_bytes true false k p l c rest letter e col f = refl
-    by_bytes true true k p false c rest letter e col f = refl
-    by_bytes true true k p true c rest letter e false f = refl
-    by_bytes true true k p true c rest letter e true f = absurd (omega (arith, eqb-true c 78 e, eqb-true c colon f))
-
-    by : (marked : Option (List ℕ))
-        → option_or (option_and_then (λ letter. Some (found (verbatim_disk letter) 6)) (option_and_then drive marked)) (option_or (option_and_then of_names (option_and_then (after_unc s) marked)) o)
-        ≡ option_or (option_and_then of_names (option_and_then (after_unc s) marked)) (option_or (option_and_then (λ letter. Some (found (verbatim_disk letter) 6)) (option_and_then drive marked)) o)
-    by None = refl
-    by (Some []) = refl
-    by (Some (a ∷ [])) = refl
-    by (Some (a ∷ b ∷ [])) = refl
-    by (Some (a ∷ b ∷ c ∷ [])) = refl
-    by (Some (a ∷ b ∷ c ∷ d ∷ rest)) = by_bytes (a == 85) (b == 78) (c == 67) (is_separator s d) (is_drive_letter a) b rest (to_upper a) refl (b == colon) refl
+-- what stands behind a drive is no longer than the text
+pub parted-fits : (t : List ℕ) (a : Option ℕ) (v : List ℕ) → IsPartedDrive t a v → length v ≤ length t
+parted-fits t a v own = grind arith

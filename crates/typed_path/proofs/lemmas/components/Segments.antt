@@ -1,10 +1,11 @@
 -- Segments, a body taken apart at a separator, the components read off its pieces, and the first component of a clean text.
-use Rattle.std.proofs.Common.{◌≡◌, ℕ, ◌==◌, Bool, true, false, cond, List, [], ◌∷◌, length, refl, eqb-true, ◌+◌, ◌-◌, ◌<◌, ◌≤◌, ◌++◌, not, ◌&&◌, ◌||◌, eqb, take, drop, get_or, slice_range, sym, ap, ◌∙◌, add-zero, arith, All, inl, inr, append-nil, append_assoc, if◌then◌else◌, map, Option, Some, None, flat_map, ap₂, drop-drop, take_all, length-take-le, length-take, length-drop}
+use Rattle.std.proofs.Common.{◌≡◌, ℕ, ◌==◌, Bool, true, false, cond, List, [], ◌∷◌, length, refl, eqb-true, ◌+◌, ◌<◌, ◌≤◌, ◌++◌, not, ◌&&◌, ◌||◌, eqb, take, drop, get_or, sym, ap, ◌∙◌, arith, All, inl, inr, append-nil, append_assoc, if◌then◌else◌, map, Option, Some, None, flat_map, length-take-le}
+use Rattle.std.proofs.lemmas.Grind.{common_steps}
 use Rattle.std.specs.List.{slice_split, before_first, after_first, position_or_len, onto_first, AllByRecursion}
-use Rattle.std.proofs.lemmas.List.{drop-take, drop_more, drop_all, take-append-le, map-append}
-use Rattle.std.proofs.lemmas.List.Splits.{slice_split-cons_yes, slice_split_none, slice_split_first}
+use Rattle.std.proofs.lemmas.List.{drop_more, drop_all, take-append-le, map-append}
+use Rattle.std.proofs.lemmas.List.Splits.{slice_split_none, slice_split_first}
 use Rattle.std.proofs.lemmas.List.Sums.{prefix_len_passes, prefix_len_stops, prefix_len-le-length}
-use Rattle.std.proofs.lemmas.Bool.{and_parts, cases_lt, not-true, not-false, not_from_true, cond_both}
+use Rattle.std.proofs.lemmas.Bool.{cases_lt, not-true, not-false, not_from_true}
 use Rattle.std.proofs.lemmas.List.Concat.{flat_map-append}
 use Rattle.std.specs.Prelude.{⊤}
 use Rattle.typed_path.specs.declared.scan.separators.Separators.{Separators}
@@ -12,7 +13,7 @@ use Rattle.typed_path.specs.declared.scan.cursor.Begin.{Begin}
 use Rattle.typed_path.specs.declared.scan.cursor.Begin.TheVariants.{Body, Inside}
 use Rattle.typed_path.specs.components.{is_verbatim, root_text, is_separator, dot, Placed, current_part, parent_part, name_part, root_part, Part, Kind, prefix, root, current, parent, normal, parts, kinds, texts, prefix_part, Segment, component, later, first, is_dot, is_dot_dot, placed, segments, later_body, body_of, named, body, comps_behind, Found}
 use Rattle.typed_path.specs.scan.{body_from, is_clean, counts, slice_after_front}
-use Rattle.typed_path.proofs.lemmas.lists.Lists.{slice_split-some, slice_split-append, choice, IsUnseparated, slice_split-unseparated, AllByRecursion-append, AllByRecursion-weaker, map-through, before_first-byte}
+use Rattle.typed_path.proofs.lemmas.lists.Lists.{slice_split-some, slice_split-append, choice, IsUnseparated, slice_split-unseparated, AllByRecursion-weaker, map-through, before_first-byte}
 
 -- What a segment is, and what is made of it as a later one and as the first one.
 
@@ -26,12 +27,10 @@ pub data Seen (s : Separators) (g : Segment) : List Placed → List Placed → T
 
 -- `.` and `..` are told by their tests
 pub dot-is : (piece : List ℕ) → is_dot piece ≡ true → piece ≡ dot ∷ []
-dot-is (b ∷ []) h = ap (λ c. c ∷ []) (eqb-true b dot h)
-dot-is piece h = cc
+dot-is piece h = grind arith
 
 pub dot_dot-is : (piece : List ℕ) → is_dot_dot piece ≡ true → piece ≡ dot ∷ dot ∷ []
-dot_dot-is (b ∷ c ∷ []) h = let both = and_parts (b == dot) (c == dot) h in ap₂ (λ x y. x ∷ y ∷ []) (eqb-true b dot both.0) (eqb-true c dot both.1)
-dot_dot-is piece h = cc
+dot_dot-is piece h = grind arith
 
 -- every segment is one of these
 pub seen : (s : Separators) (g : Segment) → Seen s g (later s g) (first s g)
@@ -54,9 +53,7 @@ segment-byte s b bs = before_first-byte (is_separator s) b bs
 
 -- a separator at the front of what stands behind a component is nothing
 pub later_body-separator : (s : Separators) (at x : ℕ) (xs : List ℕ) → is_separator s x ≡ true → later_body s at (x ∷ xs) ≡ later_body s (at + 1) xs
-later_body-separator s at x xs h =
-    ap (λ pieces. flat_map (later s) (placed at pieces)) (slice_split-cons_yes (is_separator s) x xs h)
-    ∙ ap (λ n. flat_map (later s) (placed (n + 1) (slice_split (is_separator s) xs))) (add-zero at)
+later_body-separator s at x xs h = grind arith
 
 -- what is left of the segments once the first is taken, and the components of it
 record Behind (s : Separators) (at : ℕ) (text : List ℕ) : Type 0 where
@@ -69,12 +66,7 @@ module _ (s : Separators) (at : ℕ) (text : List ℕ) where
   none_separates h k d l = not-true _ (prefix_len_passes (λ b. not (is_separator s b)) text k d (omega arith))
 
   behind_last : length text ≤ position_or_len (is_separator s) text → Behind s at text
-  behind_last h = record {
-    rest = [];
-    split = ap (placed at) (slice_split_none (is_separator s) text (none_separates h))
-        ∙ ap (λ t. record { text = t; start = at } ∷ []) (sym (take_all _ text h));
-    components = ap (later_body s (at + position_or_len (is_separator s) text)) (sym (drop_all _ text h));
-  }
+  behind_last h = grind (arith, common_steps, slice_split_none, none_separates, drop_all)
 
   behind_separator : position_or_len (is_separator s) text < length text → Behind s at text
   behind_separator h = record {
@@ -93,23 +85,16 @@ module _ (s : Separators) (at : ℕ) (text : List ℕ) where
   -- the first segment, and then the components of what stands behind it
   pub later_body-first : later_body s at text ≡ later s (record { text = before_first (is_separator s) text; start = at })
       ++ later_body s (at + position_or_len (is_separator s) text) (drop (position_or_len (is_separator s) text) text)
-  later_body-first =
-      ap (flat_map (later s)) behind.split
-      ∙ ap (λ cs. later s (record { text = before_first (is_separator s) text; start = at }) ++ cs) behind.components
+  later_body-first = grind (arith, behind)
 
   pub body_of-first : body_of s (segments s at text) ≡ first s (record { text = before_first (is_separator s) text; start = at })
       ++ later_body s (at + position_or_len (is_separator s) text) (drop (position_or_len (is_separator s) text) text)
-  body_of-first =
-      ap (body_of s) behind.split
-      ∙ ap (λ cs. first s (record { text = before_first (is_separator s) text; start = at }) ++ cs) behind.components
+  body_of-first = grind (arith, behind)
 
 -- a later segment that counts is read as a first one, by the tests
 later_by_tests : (empty dotted verbatim : Bool) (named rooting dotting : List Placed) → not empty && (verbatim || not dotted) ≡ true
     → cond empty [] (cond dotted (cond verbatim dotting []) named) ≡ cond empty rooting (cond dotted dotting named)
-later_by_tests false false verbatim named rooting dotting h = refl
-later_by_tests false true true named rooting dotting h = refl
-later_by_tests false true false named rooting dotting h = cc
-later_by_tests true dotted verbatim named rooting dotting h = cc
+later_by_tests e dotted verbatim named rooting dotting h = grind arith
 
 -- the same, for the segment
 pub later-first : (s : Separators) (g : Segment) → counts s g.text ≡ true → later s g ≡ first s g
@@ -138,8 +123,7 @@ first_is_component s g = by (later s g) (first s g) (seen s g)
 
 -- an empty text has no component
 pub body_from-empty : (begin : Begin) (s : Separators) (at : ℕ) → body_from begin s at [] ≡ []
-body_from-empty Body s at = refl
-body_from-empty Inside s at = refl
+body_from-empty begin s at = grind arith
 
 -- a clean text begins with its first component
 pub body_from-starts : (begin : Begin) (s : Separators) (at b : ℕ) (bs : List ℕ) → is_clean begin s (b ∷ bs) ≡ true
@@ -153,30 +137,7 @@ body_from-starts begin s at b bs clean =
 -- behind the first component the slice left begins with the next one
 pub slice_after_front-first : (begin : Begin) (s : Separators) (p : Part) (at k : ℕ) (slice : List ℕ) → is_clean begin s (drop k slice) ≡ true
     → slice_after_front (component p at ++ body_from begin s (at + k) (drop k slice)) slice ≡ drop k slice
-slice_after_front-first begin s p at k slice clean = by_rest (drop k slice) refl clean
-  where
-    by_next : (cs : List Placed) (q : Part) (rest : List Placed) → cs ≡ record { part = q; start = at + k } ∷ rest
-        → slice_after_front (record { part = p; start = at } ∷ cs) slice ≡ drop k slice
-    by_next cs q rest e = ap (λ ds. slice_after_front (record { part = p; start = at } ∷ ds) slice) e ∙ ap (λ n. drop n slice) (omega arith)
-
-    by_rest : (rest : List ℕ) → rest ≡ drop k slice → is_clean begin s rest ≡ true
-        → slice_after_front (component p at ++ body_from begin s (at + k) rest) slice ≡ drop k slice
-    by_rest [] e h = ap (λ cs. slice_after_front (component p at ++ cs) slice) (body_from-empty begin s (at + k)) ∙ e
-    by_rest (b ∷ bs) e h =
-        let next = body_from-starts begin s (at + k) b bs h in
-        by_next (body_from begin s (at + k) (b ∷ bs)) next.0 next.1 next.2
-
--- a range of a text that begins later
-pub slice_range-later : (text left : List ℕ) (from k to : ℕ) → from ≤ to → to ≤ length text → left ≡ slice_range text from to → k ≤ length left
-    → slice_range text (from + k) to ≡ drop k left
-slice_range-later text left from k to ordered in_range e h =
-    let size = length-take (to - from) (drop from text) in
-    let rest = length-drop from text in
-    let fits : from + k ≤ to = omega (arith, ap length e) in
-    ap (take (to - (from + k))) (sym (drop-drop k from text))
-    ∙ sym (drop-take k (to - (from + k)) (drop from text))
-    ∙ ap (λ n. drop k (take n (drop from text))) (omega arith)
-    ∙ ap (drop k) (sym e)
+slice_after_front-first begin s p at k slice clean = grind (arith, common_steps)
 
 -- A text with a separator in it, read as what stands before that and what stands behind.
 
@@ -215,10 +176,7 @@ opened Inside s at us = later_body s at us
 module _ (s : Separators) (at x : ℕ) (separates : is_separator s x ≡ true) where
   -- the segments before a separator, and then those behind it
   segments-append : (us vs : List ℕ) → segments s at (us ++ x ∷ vs) ≡ segments s at us ++ segments s (at + length us + 1) vs
-  segments-append us vs =
-      ap (placed at) (slice_split-append (is_separator s) us x vs separates)
-      ∙ placed-append at (slice_split (is_separator s) us) (slice_split (is_separator s) vs)
-      ∙ ap (λ n. segments s at us ++ placed n (slice_split (is_separator s) vs)) (place_behind-split s at us)
+  segments-append us vs = grind (arith, slice_split-append, placed-append, place_behind-split)
 
   -- the same of the components, where the first segment is the first of all
   body_of-append : (us vs : List ℕ) → body_of s (segments s at (us ++ x ∷ vs)) ≡ body_of s (segments s at us) ++ later_body s (at + length us + 1) vs
@@ -258,20 +216,15 @@ module _ (s : Separators) (x : ℕ) (separates : is_separator s x ≡ true) wher
 
   -- so it is the same with and without
   before_first-append : (us vs : List ℕ) → before_first (is_separator s) (us ++ x ∷ vs) ≡ before_first (is_separator s) us
-  before_first-append us vs =
-      ap (λ n. take n (us ++ x ∷ vs)) (position-append us vs)
-      ∙ take-append-le (position_or_len (is_separator s) us) us (x ∷ vs) (prefix_len-le-length (λ b. not (is_separator s b)) us)
+  before_first-append us vs = grind (arith, position-append, take-append-le, prefix_len-le-length)
 
   -- what stands behind a separator may be cut
   pub is_clean-append : (begin : Begin) (us vs : List ℕ) → is_clean begin s (us ++ x ∷ vs) ≡ is_clean begin s (us ++ x ∷ [])
-  is_clean-append Body us vs = refl
-  is_clean-append Inside [] vs = ap (counts s) (before_first-append [] vs ∙ sym (before_first-append [] []))
-  is_clean-append Inside (u ∷ us) vs = ap (counts s) (before_first-append (u ∷ us) vs ∙ sym (before_first-append (u ∷ us) []))
+  is_clean-append begin us vs = grind (arith, common_steps, before_first-append)
 
   -- and the separator too
   pub is_clean-separator : (begin : Begin) (u : ℕ) (us : List ℕ) → is_clean begin s (u ∷ us ++ x ∷ []) ≡ is_clean begin s (u ∷ us)
-  is_clean-separator Body u us = refl
-  is_clean-separator Inside u us = ap (counts s) (before_first-append (u ∷ us) [])
+  is_clean-separator begin u us = grind (arith, common_steps)
 
 -- The components of a text, read off its pieces alone: what they are does not depend on where they stand.
 
@@ -315,17 +268,12 @@ parts-first s g = simp (choice parts, choice {A = Part} (λ p. p ∷ []))
 
 -- the components of later pieces do not depend on where these stand
 parts-later_pieces : (s : Separators) (at : ℕ) (pieces : List (List ℕ)) → parts (flat_map (later s) (placed at pieces)) ≡ later_parts s pieces
-parts-later_pieces s at [] = refl
-parts-later_pieces s at (piece ∷ pieces) =
-    let g : Segment = record { text = piece; start = at } in
-    map-append _ (later s g) _ ∙ ap₂ ◌++◌ (parts-later s g) (parts-later_pieces s (at + length piece + 1) pieces)
+parts-later_pieces s at [] = grind arith
+parts-later_pieces s at (piece ∷ pieces) = grind (arith, map-append, parts-later, parts-later_pieces s (at + length piece + 1) pieces)
 
 -- the components of all pieces do not depend on where these stand
 parts-body_of : (s : Separators) (at : ℕ) (pieces : List (List ℕ)) → parts (body_of s (placed at pieces)) ≡ first_parts s pieces
-parts-body_of s at [] = refl
-parts-body_of s at (piece ∷ pieces) =
-    let g : Segment = record { text = piece; start = at } in
-    map-append _ (first s g) _ ∙ ap₂ ◌++◌ (parts-first s g) (parts-later_pieces s (at + length piece + 1) pieces)
+parts-body_of s at pieces = grind (arith, parts-first, parts-later_pieces)
 
 -- the components of a later text, read off its pieces
 pub parts-later_body : (s : Separators) (at : ℕ) (text : List ℕ) → parts (later_body s at text) ≡ later_parts s (pieces s text)
@@ -333,8 +281,7 @@ parts-later_body s at text = parts-later_pieces s at (pieces s text)
 
 -- the components behind a prefix, read off the pieces
 pub parts-body : (s : Separators) (at : ℕ) (text : List ℕ) → parts (body s at text) ≡ body_parts s text
-parts-body s at [] = refl
-parts-body s at (b ∷ bs) = parts-body_of s at (pieces s (b ∷ bs))
+parts-body s at text = grind (arith, parts-body_of)
 
 -- pieces behind the first one are later pieces
 pub first_parts-append : (s : Separators) (piece : List ℕ) (bs cs : List (List ℕ)) → first_parts s (piece ∷ bs ++ cs) ≡ first_parts s (piece ∷ bs) ++ later_parts s cs
@@ -376,26 +323,16 @@ AreRead s (p ∷ ps) = IsWrittenPart s p × AllByRecursion (IsLaterPart s) ps
 
 -- a piece that is neither empty nor `.` gives a parent or a name
 named_part-later : (s : Separators) (piece : List ℕ) → IsUnseparated (is_separator s) piece → (length piece == 0) ≡ false → is_dot piece ≡ false → IsLaterPart s (named_part piece)
-named_part-later s piece unseparated filled no_dot =
-    cond_both (is_dot_dot piece) parent_part (name_part piece) (IsLaterPart s)
-    (λ two. refl)
-    (λ no_dot_dot. (refl, record { filled = filled; no_dot = no_dot; no_dot_dot = no_dot_dot; unseparated = unseparated }))
+named_part-later s piece unseparated filled no_dot = grind arith
 
 -- a later piece gives later components
 later_part-later : (s : Separators) (piece : List ℕ) → IsUnseparated (is_separator s) piece → AllByRecursion (IsLaterPart s) (later_part s piece)
-later_part-later s piece unseparated =
-    let Each : List Part → Type 0 = AllByRecursion (IsLaterPart s) in
-    cond_both (length piece == 0) [] _ Each
-    (λ blank. tt)
-    (λ filled. cond_both (is_dot piece) _ _ Each
-    (λ one. cond_both (is_verbatim s) (current_part ∷ []) [] Each (λ verbatim. ((verbatim, refl), tt)) (λ plain. tt))
-    (λ no_dot. (named_part-later s piece unseparated filled no_dot, tt)))
+later_part-later s piece unseparated = grind arith
 
 -- later pieces give later components
 pub later_parts-later : (s : Separators) (pieces : List (List ℕ)) → AllByRecursion (IsUnseparated (is_separator s)) pieces → AllByRecursion (IsLaterPart s) (later_parts s pieces)
 later_parts-later s [] each = tt
-later_parts-later s (piece ∷ pieces) each =
-    AllByRecursion-append (IsLaterPart s) (later_part s piece) (later_parts s pieces) (later_part-later s piece each.0) (later_parts-later s pieces each.1)
+later_parts-later s (piece ∷ pieces) each = grind (arith, common_steps, later_part-later, later_parts-later s pieces each.1)
 
 -- a later component is written as its kind tells
 pub IsWritten-later : (s : Separators) (k : Kind) (text : List ℕ) → IsLater s k text → IsWritten s k text
@@ -405,27 +342,19 @@ IsWritten-later s k text later = later
 
 -- later components are a list as it is read
 pub AreRead-later : (s : Separators) (ps : List Part) → AllByRecursion (IsLaterPart s) ps → AreRead s ps
-AreRead-later s [] each = tt
-AreRead-later s (p ∷ ps) each = (IsWritten-later s p.kind p.text each.0, each.1)
+AreRead-later s ps each = grind arith
 
 -- the first piece gives a component that is written as its kind tells
 first_part-written : (s : Separators) (piece : List ℕ) → IsUnseparated (is_separator s) piece → IsWrittenPart s (first_part s piece)
-first_part-written s piece unseparated =
-    cond_both (length piece == 0) (root_part (root_text s)) _ (IsWrittenPart s)
-    (λ blank. refl)
-    (λ filled. cond_both (is_dot piece) current_part (named_part piece) (IsWrittenPart s)
-    (λ one. refl)
-    (λ no_dot. IsWritten-later s (named_part piece).kind (named_part piece).text (named_part-later s piece unseparated filled no_dot)))
+first_part-written s piece unseparated = grind arith
 
 -- all pieces of a text give a list as it is read
 first_parts-read : (s : Separators) (pieces : List (List ℕ)) → AllByRecursion (IsUnseparated (is_separator s)) pieces → AreRead s (first_parts s pieces)
-first_parts-read s [] each = tt
-first_parts-read s (piece ∷ pieces) each = (first_part-written s piece each.0, later_parts-later s pieces each.1)
+first_parts-read s pieces each = grind (arith, first_part-written, later_parts-later)
 
 -- the components of a text without a prefix are a list as it is read
 pub body_parts-read : (s : Separators) (text : List ℕ) → AreRead s (body_parts s text)
-body_parts-read s [] = tt
-body_parts-read s (b ∷ bs) = first_parts-read s (pieces s (b ∷ bs)) (slice_split-unseparated (is_separator s) (b ∷ bs))
+body_parts-read s text = grind (arith, first_parts-read, slice_split-unseparated)
 
 -- each component of a list as it is read is written as its kind tells
 pub each-written : (s : Separators) (ps : List Part) → AreRead s ps → AllByRecursion (IsWrittenPart s) ps
@@ -442,9 +371,7 @@ text_by_kind s (normal name) = name
 
 -- a component is written as its kind tells
 text-written : (s : Separators) (k : Kind) (text : List ℕ) → IsWritten s k text → text ≡ text_by_kind s k
-text-written s (prefix p) text written = absurd written
-text-written s (normal name) text written = written.0
-text-written s k text written = written
+text-written s k text written = grind arith
 
 -- the kinds of a list as it is read tell its texts
 pub texts-read : (s : Separators) (ps : List Part) → AreRead s ps → texts ps ≡ map (text_by_kind s) (kinds ps)
@@ -459,5 +386,4 @@ parts_behind s text (Some f) = prefix_part f.prefix (take f.length text) ∷ bod
 
 -- the components of a text do not depend on where they stand
 pub parts-comps_behind : (s : Separators) (text : List ℕ) (o : Option Found) → parts (comps_behind s text o) ≡ parts_behind s text o
-parts-comps_behind s text None = parts-body s 0 text
-parts-comps_behind s text (Some f) = ap (λ ps. prefix_part f.prefix (take f.length text) ∷ ps) (parts-body s f.length (drop f.length text))
+parts-comps_behind s text o = grind (arith, parts-body)

@@ -1,18 +1,19 @@
 -- Names that are read as names in each Windows text, alone and pushed one by one.
-use Rattle.std.proofs.Common.{◌≡◌, ℕ, ◌==◌, true, false, ◌&&◌, ◌||◌, List, [], ◌∷◌, map, Some, None, refl, sym, ap, subst, ◌∙◌, ◌++◌, option_and_then, append-nil, ◌-◌, ◌<◌, Bool, if◌then◌else◌, length, slice_index, append_assoc, ne_eqb, arith, take, drop, Option, ap₂, inl, inr, eqb-true, length-append}
+use Rattle.std.proofs.Common.{◌≡◌, ℕ, ◌==◌, true, false, ◌&&◌, ◌||◌, List, [], ◌∷◌, map, Some, None, refl, sym, ap, subst, ◌∙◌, ◌++◌, append-nil, if◌then◌else◌, length, append_assoc, arith, Option, eqb-true, length-append}
+use Rattle.std.proofs.lemmas.Grind.{common_steps}
 use Rattle.std.specs.List.{list_any, AllByRecursion}
-use Rattle.std.proofs.lemmas.Bool.{and_parts, or_parts, and_right, both_ways, cond-false, false_from_ne_true, not-true, and_left, eqb-false, cases_Bool, cond-true}
-use Rattle.std.proofs.lemmas.List.Elements.{All-nil, All-cons, All-head}
+use Rattle.std.proofs.lemmas.Bool.{and_parts, or_parts, both_ways, cond-false, false_from_ne_true, not-true, eqb-false, cases_Bool, cond-true}
+use Rattle.std.proofs.lemmas.List.Elements.{All-head}
 use Rattle.std.proofs.lemmas.List.{get_or-append_right, map-append, nil_from_length}
 use Rattle.std.proofs.Math.Seq.{drop-append_seam, take-append_seam}
 use Rattle.typed_path.specs.declared.scan.separators.Separators.{Separators}
 use Rattle.typed_path.specs.declared.scan.separators.Separators.TheVariants.{Either, Slash}
-use Rattle.typed_path.specs.components.{windows, backslash, slash, colon, is_separator, Dialect, unix, separators, Kind, prefix, root, normal, Part, kinds, name_part, root_part, disk, Prefix, prefix_part, is_drive_letter, to_upper, drive, found, prefix_of, is_empty, Found, parts_of, is_dot, is_dot_dot}
+use Rattle.typed_path.specs.components.{windows, backslash, is_separator, Dialect, unix, separators, Kind, prefix, root, normal, Part, kinds, name_part, root_part, Prefix, prefix_part, drive, prefix_of, is_empty, Found, parts_of, is_dot, is_dot_dot}
 use Rattle.typed_path.specs.queries.{is_disallowed, have_allowed_bytes, has_allowed_bytes, is_valid_name, is_verbatim_prefix, has_any_verbatim_prefix}
 use Rattle.typed_path.specs.places.{stays, resolve}
-use Rattle.typed_path.specs.changes.{fault_behind, fault, ended_with, joint, spelled, is_disk_alone, ended_windows, merged, push_all, push_windows, raw_length}
+use Rattle.typed_path.specs.changes.{fault, ended_with, joint, spelled, is_disk_alone, ended_windows, merged, push_all, push_windows, raw_length}
 use Rattle.typed_path.proofs.lemmas.lists.Lists.{IsUnseparated, AllByRecursion-append}
-use Rattle.typed_path.proofs.lemmas.components.Prefixes.{OfWindows, root_text-windows, unseparated-either}
+use Rattle.typed_path.proofs.lemmas.components.Prefixes.{OfWindows, root_text-windows}
 use Rattle.typed_path.proofs.lemmas.components.Segments.{IsCleanName, IsWritten, IsLater, IsLaterPart, AreRead, IsWrittenPart, body_parts, parts_behind, parts-comps_behind}
 use Rattle.typed_path.proofs.lemmas.places.Resolving.{IsKept, resolve-each}
 use Rattle.typed_path.proofs.lemmas.components.FirmPrefixes.{Apart, nothing, drive-apart, prefix-apart}
@@ -29,8 +30,7 @@ pub record IsPlain (name : List ℕ) : Type 0 where
 
 -- a name that is clean in each Windows text is clean in one
 pub clean-either : (s : Separators) (name : List ℕ) → IsCleanName Either name → IsCleanName s name
-clean-either s name clean =
-    record { filled = clean.filled; no_dot = clean.no_dot; no_dot_dot = clean.no_dot_dot; unseparated = λ k d l. unseparated-either s _ (clean.unseparated k d l) }
+clean-either s name clean = grind arith
 
 -- so is a plain one
 pub plain-clean : (s : Separators) (name : List ℕ) → IsPlain name → IsCleanName s name
@@ -42,26 +42,15 @@ other-byte b c never h = false_from_ne_true _ (λ e. both_ways (is_disallowed wi
 
 -- such bytes separate nothing
 pub allowed-unseparated : (bytes : List ℕ) → list_any (is_disallowed windows) bytes ≡ false → IsUnseparated (is_separator Either) bytes
-allowed-unseparated [] h = All-nil _
-allowed-unseparated (b ∷ bs) h =
-    let parts = or_parts (is_disallowed windows b) (list_any (is_disallowed windows) bs) h in
-    All-cons (λ c. is_separator Either c ≡ false) b bs (rw (other-byte b slash refl parts.0, other-byte b backslash refl parts.0) refl) (allowed-unseparated bs parts.1)
+allowed-unseparated bytes h = grind (arith, common_steps)
 
 -- nor do they begin with a drive
 pub allowed-drive : (bytes : List ℕ) → list_any (is_disallowed windows) bytes ≡ false → drive bytes ≡ None
-allowed-drive [] h = refl
-allowed-drive (a ∷ []) h = refl
-allowed-drive (a ∷ b ∷ bs) h =
-    let behind = or_parts (is_disallowed windows a) (is_disallowed windows b || list_any (is_disallowed windows) bs) h in
-    let second = or_parts (is_disallowed windows b) (list_any (is_disallowed windows) bs) behind.1 in
-    cond-false (is_drive_letter a && b == colon) (Some (to_upper a)) None (and_right (is_drive_letter a) (b == colon) (other-byte b colon refl second.0))
+allowed-drive bytes h = grind (arith, or_parts, cond-false)
 
 -- a name of allowed bytes is plain
 pub allowed-plain : (s : Separators) (name : List ℕ) → IsCleanName s name → list_any (is_disallowed windows) name ≡ false → IsPlain name
-allowed-plain s name clean h = record {
-  clean = record { filled = clean.filled; no_dot = clean.no_dot; no_dot_dot = clean.no_dot_dot; unseparated = allowed-unseparated name h };
-  no_drive = allowed-drive name h;
-}
+allowed-plain s name clean h = grind (arith, allowed-unseparated, allowed-drive)
 
 -- a component that is a name of allowed bytes, or none
 abbrev IsAllowedPart : Part → Type 0
@@ -120,9 +109,7 @@ allowed-resolve ps h = back (resolve ps) (resolve-each IsAllowedPart ps (allowed
 
 -- a text that begins with no separator and no drive has no prefix
 pub unseparated-none : (b : ℕ) (bs : List ℕ) → is_separator Either b ≡ false → drive (b ∷ bs) ≡ None → prefix_of windows (b ∷ bs) ≡ None
-unseparated-none b [] plain no_drive = refl
-unseparated-none b (c ∷ bs) plain no_drive =
-    prefix-apart b c bs (and_left (is_separator Either b) (is_separator Either c) plain) ∙ ap (option_and_then (λ l. Some (found (disk l) 2))) no_drive
+unseparated-none b bs plain no_drive = grind arith
 
 -- a plain name with something apart behind it has no prefix
 pub plain-no_prefix : (name x : List ℕ) → IsPlain name → Apart Either x → prefix_of windows (name ++ x) ≡ None
@@ -137,44 +124,25 @@ rooted-none b bs plain = prefix-apart backslash b bs plain
 
 -- a plain name alone is read as one
 pub plain-read : (name : List ℕ) → IsPlain name → parts_of windows name ≡ name_part name ∷ []
-plain-read name plain =
-    let none : prefix_of windows name ≡ None = ap (prefix_of windows) (sym (append-nil name)) ∙ plain-no_prefix name [] plain nothing in
-    parts_of-none name none ∙ body_parts-name Either name plain.clean
+plain-read name plain = grind (arith, nothing, parts_of-none, body_parts-name)
 
 -- A name that is allowed is refused nowhere.
 
 -- bytes that a name of Unix may have separate nothing
 allowed-unseparated_unix : (name : List ℕ) → list_any (is_disallowed unix) name ≡ false → IsUnseparated (is_separator Slash) name
-allowed-unseparated_unix [] none = All-nil _
-allowed-unseparated_unix (b ∷ bs) none =
-    let both = or_parts (is_disallowed unix b) (list_any (is_disallowed unix) bs) none in
-    All-cons (λ c. is_separator Slash c ≡ false) b bs (or_parts (b == slash) (b == 0) both.0).0 (allowed-unseparated_unix bs both.1)
+allowed-unseparated_unix name h = grind (arith, common_steps)
 
 -- so it is read as one name where it is neither empty nor `.` nor `..`
 module _ (name : List ℕ) (filled : is_empty name ≡ false) (no_dot : is_dot name ≡ false) (no_dot_dot : is_dot_dot name ≡ false) where
   read-unix : has_allowed_bytes unix name ≡ true → parts_of unix name ≡ name_part name ∷ []
-  read-unix allowed =
-      parts_of-unix name
-      ∙ body_parts-name Slash name (record { filled = filled; no_dot = no_dot; no_dot_dot = no_dot_dot; unseparated = allowed-unseparated_unix name (not-true _ allowed) })
+  read-unix allowed = grind (arith, parts_of-unix, body_parts-name, allowed-unseparated_unix, not-true)
 
   read-windows : has_allowed_bytes windows name ≡ true → parts_of windows name ≡ name_part name ∷ []
-  read-windows allowed =
-      let none = not-true _ allowed in
-      plain-read name (record {
-        clean = record { filled = filled; no_dot = no_dot; no_dot_dot = no_dot_dot; unseparated = allowed-unseparated name none };
-        no_drive = allowed-drive name none;
-      })
+  read-windows allowed = grind (arith, not-true, plain-read, allowed-unseparated, allowed-drive)
 
 -- a name that is valid is not refused
 pub fault_name : (d : Dialect) (name : List ℕ) → (is_empty name || is_dot name || is_dot_dot name) ≡ false → is_valid_name d name ≡ true → fault d name ≡ None
-fault_name d name no_dots valid = by d valid
-  where
-    dots : (is_empty name ≡ false) × (is_dot name ≡ false) × (is_dot_dot name ≡ false)
-    dots = let last = or_parts _ _ no_dots in let first = or_parts _ _ last.0 in (first.0, first.1, last.1)
-
-    by : (d : Dialect) → is_valid_name d name ≡ true → fault d name ≡ None
-    by unix valid = ap (λ ps. fault_behind unix [] (kinds ps)) (read-unix name dots.0 dots.1 dots.2 (and_parts _ _ valid).0) ∙ rw valid refl
-    by windows valid = ap (λ ps. fault_behind windows [] (kinds ps)) (read-windows name dots.0 dots.1 dots.2 (and_parts _ _ valid).0) ∙ rw valid refl
+fault_name d name no_dots valid = grind (arith, or_parts, read-unix, and_parts, read-windows)
 
 -- A root or a name, and names behind it, spelled, with one more name put behind that.
 
@@ -199,27 +167,11 @@ headed-read s w q names head plain = (head-written s w q head, names-read s name
 
 -- the end of a text put behind another is ended alike
 pub ended_with-append : (b : ℕ) (front text : List ℕ) → (length text == 0) ≡ false → ended_with b (front ++ text) ≡ front ++ ended_with b text
-ended_with-append b front text filled =
-    let some : 0 < length text = grind (arith, eqb-false) in
-    let whole : (length (front ++ text) == 0) ≡ false = ne_eqb _ 0 (λ none. omega (arith, some, length-append front text)) in
-    let place : length (front ++ text) - 1 - length front ≡ length text - 1 = omega (arith, some, length-append front text) in
-    let last : slice_index (front ++ text) (length (front ++ text) - 1) ≡ slice_index text (length text - 1) =
-    get_or-append_right front text (length front) (length (front ++ text) - 1) 0 refl (omega (arith, some, length-append front text)) ∙ ap (slice_index text) place in
-    rw (whole, last, filled) (by (slice_index text (length text - 1) == b))
-  where
-    by : (c : Bool) → (if c then front ++ text else front ++ text ++ b ∷ []) ≡ front ++ (if c then text else text ++ b ∷ [])
-    by true = refl
-    by false = append_assoc front text (b ∷ [])
+ended_with-append b front text filled = grind (arith, eqb-false, length-append, get_or-append_right, append_assoc)
 
 -- a plain name does not end with `\`
 plain-ended : (name : List ℕ) → IsPlain name → ended_with backslash name ≡ name ++ backslash ∷ []
-plain-ended name plain =
-    let clean = plain.clean in
-    let filled = clean.filled in
-    let some : length name - 1 < length name = grind (arith, eqb-false) in
-    let last : (slice_index name (length name - 1) == backslash) ≡ false =
-    false_from_ne_true _ (λ e. both_ways (is_separator Either (slice_index name (length name - 1))) (clean.unseparated (length name - 1) 0 some) (ap (is_separator Either) (eqb-true _ backslash e))) in
-    rw (filled, last) refl
+plain-ended name plain = grind arith
 
 -- one more name stands behind a separator, which a root has
 pub ended-spelled : (q : Part) (names : List (List ℕ)) (name : List ℕ) → IsHead q → AllByRecursion IsPlain names
@@ -251,15 +203,11 @@ pub record Settled (raw : List ℕ) (o : Option Found) (s : Separators) (q : Par
 
 -- a raw prefix, and what stands behind it
 parts_behind-raw : (s : Separators) (raw rest : List ℕ) (o : Option Found) → raw_length o ≡ length raw → parts_behind s (raw ++ rest) o ≡ prefix_parts o raw ++ body_parts s rest
-parts_behind-raw s raw rest None whole = ap (λ t. body_parts s (t ++ rest)) (nil_from_length raw (sym whole))
-parts_behind-raw s raw rest (Some f) whole =
-    ap (λ n. prefix_part f.prefix (take n (raw ++ rest)) ∷ body_parts s (drop n (raw ++ rest))) whole
-    ∙ ap₂ (λ t u. prefix_part f.prefix t ∷ body_parts s u) (take-append_seam raw rest) (drop-append_seam raw rest)
+parts_behind-raw s raw rest o whole = grind (arith, body_parts, nil_from_length, take-append_seam, drop-append_seam)
 
 -- a prefix with more behind it is no drive alone
 pub disk_alone-more : (p : Prefix) (k : Kind) (ks : List Kind) → is_disk_alone (prefix p ∷ k ∷ ks) ≡ false
-disk_alone-more (disk letter) k ks = refl
-disk_alone-more p k ks = refl
+disk_alone-more p k ks = grind arith
 
 -- nor is a root or a name
 disk_alone-head : (o : Option Found) (raw : List ℕ) (q : Part) (qs : List Part) → IsHead q → is_disk_alone (kinds (prefix_parts o raw ++ q ∷ qs)) ≡ false
@@ -280,13 +228,7 @@ module _ (raw : List ℕ) (o : Option Found) (s : Separators) (q : Part) (h : Se
 
   -- it is read as the prefix, the root or name, and the names
   pub settled-read : (names : List (List ℕ)) → AllByRecursion IsPlain names → parts_of windows (text_of names) ≡ prefix_parts o raw ++ q ∷ map name_part names
-  settled-read names plain =
-      let same = h.stays names plain in
-      let t = text_of names in
-      parts-comps_behind (separators windows t) t (prefix_of windows t)
-      ∙ ap₂ (λ r p. parts_behind r t p) same.0 same.1
-      ∙ parts_behind-raw s raw (spelled (q ∷ map name_part names)) o h.whole
-      ∙ ap (λ ps. prefix_parts o raw ++ ps) (body_parts-spelled s h.of_windows q (map name_part names) (headed-read s h.of_windows q names h.head plain))
+  settled-read names plain = grind (arith, parts-comps_behind, parts_behind, parts_behind-raw, body_parts-spelled, headed-read)
 
   -- one more name behind a prefix that is not verbatim
   push-ended : (names : List (List ℕ)) (name : List ℕ) → AllByRecursion IsPlain names → ended_windows (text_of names) ++ name ≡ text_of (names ++ name ∷ [])
@@ -302,33 +244,11 @@ module _ (raw : List ℕ) (o : Option Found) (s : Separators) (q : Part) (h : Se
   -- one more name behind a verbatim one
   push-anew : (names : List (List ℕ)) (name : List ℕ) → has_any_verbatim_prefix (kinds (prefix_parts o raw ++ q ∷ map name_part names)) ≡ true
       → spelled (merged (prefix_parts o raw ++ q ∷ map name_part names) (name_part name ∷ [])) ≡ text_of (names ++ name ∷ [])
-  push-anew names name anew = by o q h.head h.rooted anew
-    where
-      by : (o : Option Found) (q : Part) → IsHead q → ((f : Found) → o ≡ Some f → is_verbatim_prefix f.prefix ≡ true → q ≡ root_part (backslash ∷ []))
-          → has_any_verbatim_prefix (kinds (prefix_parts o raw ++ q ∷ map name_part names)) ≡ true
-          → spelled (merged (prefix_parts o raw ++ q ∷ map name_part names) (name_part name ∷ [])) ≡ raw ++ spelled (q ∷ map name_part (names ++ name ∷ []))
-      by None _ a_root marking anew = cc
-      by None _ (a_name own plain) marking anew = cc
-      by (Some f) q head marking anew =
-          subst (λ r. spelled (prefix_part f.prefix raw ∷ r ∷ map name_part names ++ name_part name ∷ []) ≡ raw ++ spelled (r ∷ map name_part (names ++ name ∷ []))) (sym (marking f refl anew))
-          (ap (λ ps. spelled (prefix_part f.prefix raw ∷ root_part (backslash ∷ []) ∷ ps)) (sym (map-append name_part names (name ∷ [])))
-          ∙ ap (λ t. t ++ spelled (root_part (backslash ∷ []) ∷ map name_part (names ++ name ∷ []))) (append-nil raw))
+  push-anew names name anew = grind (arith, map-append, append-nil)
 
   -- one more name
   push-settled : (names : List (List ℕ)) (name : List ℕ) → AllByRecursion IsPlain names → IsPlain name → push_windows (text_of names) name ≡ text_of (names ++ name ∷ [])
-  push-settled names name plain own =
-      let read = settled-read names plain in
-      let whole = prefix_parts o raw ++ q ∷ map name_part names in
-      push-plain (text_of names) name own
-      ∙ elim (cases_Bool (has_any_verbatim_prefix (kinds whole))) [
-        | inl anew ↦
-            cond-true _ (spelled (merged (parts_of windows (text_of names)) (name_part name ∷ []))) (ended_windows (text_of names) ++ name) (ap (λ ps. has_any_verbatim_prefix (kinds ps)) read ∙ anew)
-            ∙ ap (λ ps. spelled (merged ps (name_part name ∷ []))) read
-            ∙ push-anew names name anew
-        | inr other ↦
-            cond-false _ (spelled (merged (parts_of windows (text_of names)) (name_part name ∷ []))) (ended_windows (text_of names) ++ name) (ap (λ ps. has_any_verbatim_prefix (kinds ps)) read ∙ other)
-            ∙ push-ended names name plain
-      ]
+  push-settled names name plain own = grind (arith, settled-read, push-plain, cases_Bool, cond-true, push-anew, cond-false, push-ended)
 
   -- names one by one
   pub push_all-settled : (names more : List (List ℕ)) → AllByRecursion IsPlain names → AllByRecursion IsPlain more → push_all windows (text_of names) more ≡ text_of (names ++ more)

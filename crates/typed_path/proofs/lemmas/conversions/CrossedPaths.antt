@@ -1,23 +1,23 @@
 -- What a path is read as once it is converted, and what comes back.
 use Rattle.std.proofs.Common.{◌≡◌, ℕ, ◌-◌, ◌==◌, ◌||◌, Bool, true, false, if◌then◌else◌, List, [], ◌∷◌, ◌++◌, map, length, slice_index, None, Ok, refl, sym, ap, ap₂, ◌∙◌, subst, append_assoc, append-nil, ne_eqb, true≢false, arith, take, drop, Option, Some, inl, inr, eqb-true, length-append}
+use Rattle.std.proofs.lemmas.Grind.{common_steps}
 use Rattle.std.specs.List.{AllByRecursion, list_any}
 use Rattle.std.proofs.lemmas.Bool.{and_parts, cond-false, false_from_ne_true, and_left, both_ways, cases_Bool, not-true}
-use Rattle.std.proofs.lemmas.List.Elements.{All-head, All-nil, All-cons, filter-append}
+use Rattle.std.proofs.lemmas.List.Elements.{All-head, filter-append}
 use Rattle.std.proofs.Math.Bool.{or-false}
 use Rattle.std.proofs.Math.Dec.{eqb-suc-zero}
 use Rattle.typed_path.specs.declared.scan.separators.Separators.TheVariants.{Slash, Either}
 use Rattle.typed_path.specs.declared.scan.separators.Separators.{Separators}
-use Rattle.typed_path.specs.components.{unix, windows, backslash, dot, is_separator, slash, root_of, separators, Kind, prefix, root, current, parent, normal, Part, kinds, texts, parent_part, name_part, root_part, Prefix, disk, prefix_part, is_name, is_parent, prefix_of, Found, is_drive_letter, drive, parts_of, written_windows}
+use Rattle.typed_path.specs.components.{unix, windows, backslash, dot, is_separator, slash, root_of, separators, Kind, prefix, root, current, parent, normal, Part, kinds, texts, parent_part, name_part, root_part, Prefix, disk, prefix_part, prefix_of, Found, drive, parts_of, written_windows}
 use Rattle.typed_path.specs.queries.{begins_with_root, has_prefix, have_allowed_bytes, is_disk, is_root}
 use Rattle.typed_path.specs.changes.{is_disk_alone, ended_with, push_windows, push_all, push_unix}
 use Rattle.typed_path.specs.conversions.{crossed, crossed_all, converted_checked}
 use Rattle.typed_path.specs.promises.{lack_backslash, CrossesAsItIs, parents_and_names, on_unix, CrossesToUnix, CrossesBack}
 use Rattle.typed_path.proofs.lemmas.components.Segments.{pieces, later_parts, body_parts, body_parts-read, IsWritten, IsLater, IsLaterPart, AreRead, IsCleanName, IsWritten-later}
 use Rattle.typed_path.proofs.lemmas.components.WindowsNames.{IsPlain, unseparated-none, plain-no_prefix, rooted-none, plain-read, a_name, ended_with-append, ended-spelled, plain-clean, allowed-plain}
-use Rattle.typed_path.proofs.lemmas.components.FirmPrefixes.{nothing, parted, drive-letter}
+use Rattle.typed_path.proofs.lemmas.components.FirmPrefixes.{nothing, parted}
 use Rattle.typed_path.proofs.lemmas.changes.Joins.{later_parts-name, body_parts-name, body_parts-ended}
 use Rattle.typed_path.proofs.lemmas.components.PrefixCuts.{parts_of-none, parts_of-some, verbatim-none}
-use Rattle.typed_path.proofs.lemmas.changes.WindowsPushes.{push-relative}
 use Rattle.typed_path.proofs.lemmas.conversions.Crossings.{crossed-plain, valid-allowed, converted_checked-ok}
 use Rattle.typed_path.proofs.lemmas.promises.WindowsBases.{read-no_drive}
 use Rattle.typed_path.proofs.lemmas.promises.WindowsStable.{push-first}
@@ -118,10 +118,7 @@ module _ (text : List ℕ) (bare : IsBare text) where
 
   -- so a step is pushed behind a separator
   pub push-step : (p : Part) (b : ℕ) (bs : List ℕ) → IsReadAlone p b bs → push_windows text p.text ≡ ended_with backslash text ++ b ∷ bs
-  push-step p b bs is =
-      ap (push_windows text) is.text
-      ∙ push-relative text (b ∷ bs) (eqb-suc-zero (length bs)) (ap (λ ps. has_prefix (kinds ps)) is.alone ∙ is.no_prefix) (verbatim-none text bare.no_prefix) (ap (λ ps. begins_with_root (kinds ps)) is.alone ∙ is.relative)
-      ∙ ap (λ t. t ++ b ∷ bs) (cond-false (is_disk_alone (kinds (parts_of windows text))) text (ended_with backslash text) bare-no_drive)
+  push-step p b bs is = grind (arith, verbatim-none, cond-false, bare-no_drive)
 
 -- steps pushed one by one add one component each
 push_all-steps : (text : List ℕ) (ps : List Part) → IsBare text → AllByRecursion IsStep ps → parts_of windows (push_all windows text (texts ps)) ≡ body_parts Either text ++ ps
@@ -184,23 +181,11 @@ crossed-first (normal name) text ps written lacks allowed steps =
 
 -- a list of Unix without `\` that has allowed bytes is read on Windows as it is, but for how its root is written
 crossed-read : (ps : List Part) → AreRead Slash ps → lack_backslash (kinds ps) ≡ true → have_allowed_bytes windows (kinds ps) ≡ true → parts_of windows (crossed_all windows ps) ≡ on_windows ps
-crossed-read [] read lacks allowed = refl
-crossed-read (p ∷ ps) read lacks allowed =
-    let without = and_parts _ (lack_backslash (kinds ps)) lacks in
-    let own = and_parts _ (have_allowed_bytes windows (kinds ps)) allowed in
-    crossed-first p.kind p.text ps read.0 (rw without.0 refl) (rw own.0 refl) (later-steps ps read.1 without.1 own.1)
+crossed-read ps read lacks allowed = grind (arith, crossed-first, later-steps)
 
 -- so its kinds stay
 on_windows-kinds : (ps : List Part) → kinds (on_windows ps) ≡ kinds ps
-on_windows-kinds [] = refl
-on_windows-kinds (p ∷ ps) = ap (λ k. k ∷ kinds ps) (by p.kind)
-  where
-    by : (k : Kind) → (written_windows p.text k).kind ≡ k
-    by (prefix q) = refl
-    by root = refl
-    by current = refl
-    by parent = refl
-    by (normal name) = refl
+on_windows-kinds ps = grind arith
 
 -- what Unix reads is a list as it is read
 pub parts_of-read : (t : List ℕ) → AreRead Slash (parts_of unix t)
@@ -224,18 +209,11 @@ slash_part = root_part (root_of unix)
 
 -- a text that is not empty stays so
 push_unix-filled : (base path : List ℕ) → (length base == 0) ≡ false → (length (push_unix base path) == 0) ≡ false
-push_unix-filled base [] filled = filled
-push_unix-filled base (b ∷ path) filled = by (b == slash)
-  where
-    by : (rooted : Bool) → (length (if rooted then b ∷ path else ended_with slash base ++ b ∷ path) == 0) ≡ false
-    by true = ne_eqb (length (b ∷ path)) 0 (λ none. omega (arith, none))
-    by false = ne_eqb (length (ended_with slash base ++ b ∷ path)) 0 (λ none. omega (arith, none, length-append (ended_with slash base) (b ∷ path)))
+push_unix-filled base path filled = grind (arith, length-append)
 
 -- later components are no roots
 later-unrooted : (s : Separators) (k : Kind) (text : List ℕ) → IsLater s k text → is_root k ≡ false
-later-unrooted s (prefix p) text later = absurd later
-later-unrooted s root text later = absurd later
-later-unrooted s k text later = refl
+later-unrooted s k text later = grind arith
 
 all-unrooted : (s : Separators) (ps : List Part) → AllByRecursion (IsLaterPart s) ps → list_any is_root (kinds ps) ≡ false
 all-unrooted s [] later = refl
@@ -263,12 +241,7 @@ module _ (s : Separators) (w : OfWindows s) where
   push_all-next : (base : List ℕ) (p : Part) (ps : List Part) → (length base == 0) ≡ false → IsWritten s p.kind p.text → have_allowed_bytes windows (p.kind ∷ []) ≡ true
       → ((next : List ℕ) → (length next == 0) ≡ false → body_parts Slash (push_all unix next (map (crossed unix) ps)) ≡ body_parts Slash next ++ parents_and_names ps)
       → body_parts Slash (push_all unix base (map (crossed unix) (p ∷ ps))) ≡ based (is_root p.kind) (body_parts Slash base) ++ parents_and_names (p ∷ ps)
-  push_all-next base p ps filled written allowed rest =
-      let front = based (is_root p.kind) (body_parts Slash base) in
-      rest (push_unix base (crossed unix p)) (push_unix-filled base (crossed unix p) filled)
-      ∙ ap (λ qs. qs ++ parents_and_names ps) (push-written base p.kind p.text filled written allowed)
-      ∙ append_assoc front (parents_and_names (p ∷ [])) (parents_and_names ps)
-      ∙ ap (λ qs. front ++ qs) (sym (filter-append (λ q. is_name q.kind || is_parent q.kind) (p ∷ []) ps))
+  push_all-next base p ps filled written allowed rest = grind (arith, body_parts, push_unix-filled, push-written, append_assoc, filter-append)
 
   -- later components, pushed one by one
   push_all-later : (ps : List Part) → AllByRecursion (IsLaterPart s) ps → have_allowed_bytes windows (kinds ps) ≡ true → (base : List ℕ) → (length base == 0) ≡ false
@@ -282,45 +255,23 @@ module _ (s : Separators) (w : OfWindows s) where
   -- a list behind a prefix, pushed onto a Unix text that is not empty
   push_all-body : (base : List ℕ) (ps : List Part) → (length base == 0) ≡ false → AreRead s ps → have_allowed_bytes windows (kinds ps) ≡ true
       → body_parts Slash (push_all unix base (map (crossed unix) ps)) ≡ based (list_any is_root (kinds ps)) (body_parts Slash base) ++ parents_and_names ps
-  push_all-body base [] filled read allowed = sym (append-nil (body_parts Slash base))
-  push_all-body base (p ∷ ps) filled read allowed =
-      let own = and_parts _ (have_allowed_bytes windows (kinds ps)) allowed in
-      push_all-next base p ps filled read.0 (rw own.0 refl) (push_all-later ps read.1 own.1)
-      ∙ ap (λ b. based b (body_parts Slash base) ++ parents_and_names (p ∷ ps)) (sym (ap (λ b. is_root p.kind || b) (all-unrooted s ps read.1) ∙ or-false (is_root p.kind)))
+  push_all-body base ps filled read allowed = grind (arith, push_all-next, push_all-later, all-unrooted, or-false)
 
   -- a list without a prefix, pushed onto the empty text
   push_all-first : (k : Kind) (text : List ℕ) (ps : List Part) → IsWritten s k text → AllByRecursion (IsLaterPart s) ps → have_allowed_bytes windows (k ∷ kinds ps) ≡ true
       → body_parts Slash (crossed_all unix (record { kind = k; text = text } ∷ ps)) ≡ on_unix (record { kind = k; text = text } ∷ ps)
   push_all-first (prefix p) text ps written later allowed = absurd written
   push_all-first root text ps written later allowed = push_all-later ps later allowed (slash ∷ []) refl
-  push_all-first current text ps written later allowed =
-      rw (written, all-unrooted s ps later) (push_all-later ps later allowed (dot ∷ []) refl)
-  push_all-first parent text ps written later allowed =
-      rw (written, all-unrooted s ps later) (push_all-later ps later allowed (dot ∷ dot ∷ []) refl)
-  push_all-first (normal name) text ps written later allowed =
-      let own = and_parts _ (have_allowed_bytes windows (kinds ps)) allowed in
-      let clean = plain-clean Slash name (allowed-plain s name written.1 (not-true _ own.0)) in
-      rw (written.0, all-unrooted s ps later)
-      (ap (λ base. body_parts Slash (push_all unix base (map (crossed unix) ps))) (push_unix-name [] name clean)
-      ∙ push_all-later ps later own.1 name clean.filled
-      ∙ ap (λ qs. qs ++ parents_and_names ps) (body_parts-name Slash name clean))
+  push_all-first current text ps written later allowed = grind (arith, common_steps, all-unrooted, push_all-later)
+  push_all-first parent text ps written later allowed = grind (arith, common_steps, all-unrooted, push_all-later)
+  push_all-first (normal name) text ps written later allowed = grind (arith, common_steps, and_parts, plain-clean, allowed-plain, not-true, all-unrooted, body_parts, push_unix-name, push_all-later, body_parts-name)
 
   none-crossed : (ps : List Part) → AreRead s ps → have_allowed_bytes windows (kinds ps) ≡ true → body_parts Slash (crossed_all unix ps) ≡ on_unix ps
-  none-crossed [] read allowed = refl
-  none-crossed (p ∷ ps) read allowed = push_all-first p.kind p.text ps read.0 read.1 allowed
+  none-crossed ps read allowed = grind (arith, push_all-first)
 
 -- a drive is a name on Unix
 drive-clean : (text : List ℕ) (letter : ℕ) → drive text ≡ Some letter → IsCleanName Slash (take 2 text)
-drive-clean (a ∷ b ∷ text) letter is =
-    let two = drive-letter a b text letter is in
-    let other : (c : ℕ) → is_drive_letter c ≡ false → (a == c) ≡ false = λ c fails. false_from_ne_true _ (λ e. both_ways _ (ap is_drive_letter (eqb-true a c e) ∙ fails) two.0) in
-    record {
-      filled = refl;
-      no_dot = refl;
-      no_dot_dot = and_left (a == dot) (b == dot) (other dot refl);
-      unseparated = All-cons (λ c. is_separator Slash c ≡ false) a (b ∷ []) (other slash refl) (All-cons (λ c. is_separator Slash c ≡ false) b [] (ap (is_separator Slash) two.1) (All-nil _));
-    }
-drive-clean text letter is = cc
+drive-clean text letter is = grind (arith, both_ways, eqb-true, and_left)
 
 -- a list behind a drive
 disk-crossed : (s : Separators) → OfWindows s → (text : List ℕ) (letter : ℕ) (ps : List Part) → drive text ≡ Some letter → AreRead s ps → have_allowed_bytes windows (kinds ps) ≡ true
@@ -334,12 +285,7 @@ disk-crossed s w text letter ps is read allowed =
 -- a list behind another prefix
 other-crossed : (s : Separators) → OfWindows s → (p : Prefix) (raw : List ℕ) (ps : List Part) → is_disk p ≡ false → AreRead s ps → have_allowed_bytes windows (kinds ps) ≡ true
     → body_parts Slash (crossed_all unix (prefix_part p raw ∷ ps)) ≡ on_unix (prefix_part p raw ∷ ps)
-other-crossed s w p raw ps other read allowed =
-    rw other (push_all-body s w (slash ∷ []) ps refl read allowed ∙ ap (λ qs. qs ++ parents_and_names ps) (both (list_any is_root (kinds ps))))
-  where
-    both : (b : Bool) → based b (slash_part ∷ []) ≡ slash_part ∷ []
-    both true = refl
-    both false = refl
+other-crossed s w p raw ps other read allowed = grind (arith, push_all-body)
 
 -- a list behind a prefix
 found-crossed : (text : List ℕ) (f : Found) (ps : List Part) → Read (separators windows text) text f → AreRead (separators windows text) ps → have_allowed_bytes windows (kinds ps) ≡ true
@@ -389,19 +335,11 @@ steps-unrooted (p ∷ ps) steps = by p steps.0 (steps-unrooted ps steps.1)
 
 -- a first component stays too, and steps behind it
 back-first : (k : Kind) (text : List ℕ) (ps : List Part) → IsWritten Slash k text → AllByRecursion IsStep ps → kinds (on_unix (written_windows text k ∷ ps)) ≡ k ∷ kinds ps
-back-first (prefix p) text ps written steps = absurd written
-back-first root text ps written steps = ap (λ qs. root ∷ kinds qs) (steps-kept ps steps)
-back-first current text ps written steps = rw (steps-unrooted ps steps) (ap (λ qs. current ∷ kinds qs) (steps-kept ps steps))
-back-first parent text ps written steps = rw (steps-unrooted ps steps) (ap (λ qs. parent ∷ kinds qs) (steps-kept ps steps))
-back-first (normal name) text ps written steps = rw (steps-unrooted ps steps) (ap (λ qs. normal name ∷ kinds qs) (steps-kept ps steps))
+back-first k text ps written steps = grind (arith, steps-kept, steps-unrooted)
 
 -- and so does a list of Unix without `\` that has allowed bytes
 back-read : (ps : List Part) → AreRead Slash ps → lack_backslash (kinds ps) ≡ true → have_allowed_bytes windows (kinds ps) ≡ true → kinds (on_unix (on_windows ps)) ≡ kinds ps
-back-read [] read lacks allowed = refl
-back-read (p ∷ ps) read lacks allowed =
-    let without = and_parts _ (lack_backslash (kinds ps)) lacks in
-    let own = and_parts _ (have_allowed_bytes windows (kinds ps)) allowed in
-    back-first p.kind p.text ps read.0 (later-steps ps read.1 without.1 own.1)
+back-read ps read lacks allowed = grind (arith, back-first, later-steps)
 
 -- the answer, converted to Unix, equals the path
 pub crosses_back : (t : List ℕ) → CrossesBack t

@@ -1,30 +1,28 @@
 -- Paths of which a conversion changes no more than the separators.
-use Rattle.std.proofs.Common.{take, not, take_all, get_or, ◌≡◌, ℕ, ◌-◌, ◌≤◌, ◌<◌, ◌==◌, ◌||◌, ◌&&◌, Bool, true, false, if◌then◌else◌, cond, List, [], ◌∷◌, ◌++◌, map, length, fold, flat_map, slice_index, refl, sym, ap, ap₂, ◌∙◌, subst, append_assoc, arith, eqb-true, true≢false, length-append, Some, None}
+use Rattle.std.proofs.Common.{take, not, take_all, get_or, ◌≡◌, ℕ, ◌-◌, ◌≤◌, ◌<◌, ◌==◌, ◌||◌, Bool, true, false, if◌then◌else◌, cond, List, [], ◌∷◌, ◌++◌, map, length, fold, flat_map, refl, sym, ap, ap₂, ◌∙◌, subst, append_assoc, arith, eqb-true, true≢false, length-append, Some, None}
+use Rattle.std.proofs.lemmas.Grind.{common_steps}
 use Rattle.std.specs.Prelude.{⊤}
 use Rattle.std.specs.List.{AllByRecursion, list_any, onto_first, before_first}
-use Rattle.std.proofs.lemmas.Bool.{and_right, or_parts, false_from_ne_true, both_ways, cond-false, eqb-false}
+use Rattle.std.proofs.lemmas.Bool.{or_parts, false_from_ne_true, both_ways, eqb-false}
 use Rattle.std.proofs.lemmas.List.{length-map, drop_all}
-use Rattle.std.proofs.lemmas.List.Elements.{All-head}
 use Rattle.typed_path.specs.declared.scan.separators.Separators.{Separators}
 use Rattle.typed_path.specs.declared.scan.separators.Separators.TheVariants.{Slash, Either}
-use Rattle.typed_path.specs.components.{Dialect, unix, windows, dot, slash, backslash, colon, is_separator, is_dot, is_dot_dot, root_text, root_of, Part, current_part, parent_part, name_part, root_part, drive, is_drive_letter, to_upper, parts_of, is_verbatim, body, parts, Found, prefix_of, prefix_part, separators}
+use Rattle.typed_path.specs.components.{Dialect, unix, windows, slash, backslash, colon, is_separator, is_dot, is_dot_dot, root_of, Part, current_part, drive, is_drive_letter, parts_of, is_verbatim, body, parts, Found, prefix_of, prefix_part, separators}
 use Rattle.typed_path.specs.changes.{ended_with, push_all, push_unix, push_windows, spells_anew, FitsEach, begins_with_separator}
 use Rattle.typed_path.specs.queries.{is_disk}
 use Rattle.typed_path.specs.conversions.{crossed, crossed_all, CrossesTurned}
 use Rattle.typed_path.specs.scan.{is_one_of, is_blank, has_blank_behind, turned}
-use Rattle.typed_path.proofs.lemmas.lists.Lists.{IsUnseparated, slice_split-some, slice_split-unseparated, AllByRecursion-weaker}
+use Rattle.typed_path.proofs.lemmas.lists.Lists.{IsUnseparated, slice_split-some, slice_split-unseparated, AllByRecursion-weaker, take-ended, both-each}
 use Rattle.typed_path.proofs.lemmas.components.Segments.{pieces, named_part, first_part, later_parts, first_parts, body_parts, parts-body, dot-is, dot_dot-is}
 use Rattle.typed_path.proofs.lemmas.components.WindowsNames.{IsPlain, ended_with-append}
 use Rattle.typed_path.proofs.lemmas.changes.WindowsPushes.{fits-plain}
 use Rattle.typed_path.proofs.lemmas.conversions.CrossedPaths.{IsStep, a_parent, a_plain, IsBare, step-read, bare-next, push-step, bare-root, bare-current, bare-parent, bare-name}
-use Rattle.typed_path.proofs.lemmas.components.Prefixes.{OfWindows, Read, of_disk, of_verbatim_unc, of_verbatim_disk, of_verbatim, of_device, of_unc, prefix-read}
-use Rattle.typed_path.proofs.lemmas.components.FirmPrefixes.{drive-letter}
+use Rattle.typed_path.proofs.lemmas.components.Prefixes.{OfWindows, Read, prefix-read}
 use Rattle.typed_path.proofs.lemmas.components.PrefixCuts.{parts_of-some, verbatim-none}
-use Rattle.typed_path.proofs.lemmas.places.UnixRows.{take-ended}
 use Rattle.typed_path.proofs.lemmas.places.WindowsRows.{IsWithoutSlash, pieces-own, separates-own}
 use Rattle.typed_path.proofs.lemmas.promises.UnixContained.{parts_of-unix, push_unix-nothing}
 use Rattle.typed_path.proofs.lemmas.promises.WindowsStable.{push-first}
-use Rattle.typed_path.proofs.lemmas.scan.Blanks.{split}
+use Rattle.typed_path.proofs.lemmas.scan.Blanks.{split, pieces-filled, filled}
 
 -- ---- the pieces of a text, and its bytes
 
@@ -35,12 +33,7 @@ rows_by b names = flat_map (λ name. name ++ b ∷ []) names
 -- the pieces of a text are the text with its separators turned
 pub pieces-turned : (s : Separators) (b : ℕ) (text : List ℕ) → rows_by b (pieces s text) ≡ turned s b text ++ b ∷ []
 pieces-turned s b [] = refl
-pieces-turned s b (x ∷ xs) = let some = slice_split-some (is_separator s) xs in by (is_separator s x) (pieces s xs) some.0 some.1 some.2 (pieces-turned s b xs)
-  where
-    by : (separates : Bool) (ps : List (List ℕ)) (piece : List ℕ) (others : List (List ℕ)) → ps ≡ piece ∷ others → rows_by b ps ≡ turned s b xs ++ b ∷ []
-        → rows_by b (cond separates ([] ∷ ps) (onto_first x ps)) ≡ (cond separates b x) ∷ (turned s b xs ++ b ∷ [])
-    by true ps piece others e rest = ap (λ t. b ∷ t) rest
-    by false ps piece others e rest = ap (λ qs. rows_by b (onto_first x qs)) e ∙ ap (λ t. x ∷ t) (ap (rows_by b) (sym e) ∙ rest)
+pieces-turned s b (x ∷ xs) = grind (arith, common_steps, slice_split-some, pieces, pieces-turned s b xs)
 
 -- bytes that a text does not hold are in no piece of it
 pub pieces-free : (s : Separators) (q : ℕ → Bool) (text : List ℕ) → list_any q text ≡ false → AllByRecursion (λ piece. list_any q piece ≡ false) (pieces s text)
@@ -49,10 +42,7 @@ pieces-free s q (x ∷ xs) free = let some = slice_split-some (is_separator s) x
   where
     by : (separates : Bool) (ps : List (List ℕ)) (piece : List ℕ) (others : List (List ℕ)) → ps ≡ piece ∷ others → q x ≡ false → AllByRecursion (λ piece. list_any q piece ≡ false) ps
         → AllByRecursion (λ piece. list_any q piece ≡ false) (cond separates ([] ∷ ps) (onto_first x ps))
-    by true ps piece others e own rest = (refl, rest)
-    by false ps piece others e own rest =
-        let each = subst (AllByRecursion (λ piece. list_any q piece ≡ false)) e rest in
-        subst (λ qs. AllByRecursion (λ piece. list_any q piece ≡ false) (onto_first x qs)) (sym e) (ap (λ b. b || list_any q piece) own ∙ each.0, each.1)
+    by separates ps piece others e own rest = grind arith
 
 -- the pieces of a text, where none but the first is blank
 pub tight-pieces : (s : Separators) (text : List ℕ) → has_blank_behind s text ≡ false
@@ -63,17 +53,7 @@ tight-pieces s text none = let cut = split s is_blank (has_blank_behind s) refl 
 
 -- a parent or a name crosses as it is written
 named-crossed : (e : Dialect) (piece : List ℕ) → crossed e (named_part piece) ≡ piece
-named-crossed e piece = by (is_dot_dot piece) (λ e. sym (dot_dot-is piece e))
-  where
-    by : (twice : Bool) → (twice ≡ true → dot ∷ dot ∷ [] ≡ piece) → crossed e (if twice then parent_part else name_part piece) ≡ piece
-    by true two = two refl
-    by false two = refl
-
--- a piece that is not blank is no `.`, and not empty
-filled : (piece : List ℕ) → is_blank piece ≡ false → ((length piece == 0) ≡ false) × (is_dot piece ≡ false)
-filled [] e = absurd (true≢false e)
-filled (a ∷ []) e = (refl, e)
-filled (a ∷ b ∷ piece) e = (false_from_ne_true _ (λ h. absurd (omega (arith, eqb-true _ 0 h))), refl)
+named-crossed e piece = grind arith
 
 later-crossed : (e : Dialect) (s : Separators) (ps : List (List ℕ)) → list_any is_blank ps ≡ false → map (crossed e) (later_parts s ps) ≡ ps
 later-crossed e s [] none = refl
@@ -84,9 +64,7 @@ later-crossed e s (p ∷ ps) none =
   where
     by : (empty dotted : Bool) → empty ≡ false → dotted ≡ false → map (crossed e) (later_parts s ps) ≡ ps
         → map (crossed e) ((if empty then [] else (if dotted then (if is_verbatim s then current_part ∷ [] else []) else named_part p ∷ [])) ++ later_parts s ps) ≡ p ∷ ps
-    by true dotted f g rest = cc
-    by false true f g rest = cc
-    by false false f g rest = ap₂ ◌∷◌ (named-crossed e p) rest
+    by empty dotted f g rest = grind (arith, named-crossed)
 
 -- the first piece, as it crosses
 abbrev pub first_text : Dialect → List ℕ → List ℕ
@@ -94,14 +72,7 @@ first_text e [] = root_of e
 first_text e (b ∷ bs) = b ∷ bs
 
 first-crossed : (e : Dialect) (s : Separators) (piece : List ℕ) → crossed e (first_part s piece) ≡ first_text e piece
-first-crossed e s [] = refl
-first-crossed e s (b ∷ bs) = by (length (b ∷ bs) == 0) (is_dot (b ∷ bs)) (false_from_ne_true _ (λ h. absurd (omega (arith, eqb-true _ 0 h)))) (λ e. sym (dot-is (b ∷ bs) e))
-  where
-    by : (empty dotted : Bool) → empty ≡ false → (dotted ≡ true → dot ∷ [] ≡ b ∷ bs)
-        → crossed e (if empty then root_part (root_text s) else (if dotted then current_part else named_part (b ∷ bs))) ≡ b ∷ bs
-    by true dotted f one = cc
-    by false true f one = one refl
-    by false false f one = named-crossed e (b ∷ bs)
+first-crossed e s piece = grind arith
 
 -- ---- pieces pushed one by one
 
@@ -123,57 +94,27 @@ module _ (push_one : List ℕ → List ℕ → List ℕ) (b : ℕ) (Base Piece :
 
   -- the same behind a root
   pushed-root : (p : List ℕ) (ps : List (List ℕ)) → Base (b ∷ []) → ended_with b (b ∷ []) ≡ b ∷ [] → AllByRecursion Piece (p ∷ ps) → fold push_one (b ∷ []) (p ∷ ps) ++ b ∷ [] ≡ b ∷ rows_by b (p ∷ ps)
-  pushed-root p ps base ends each =
-      let own = step (b ∷ []) p base each.0 in
-      let same : ended_with b (b ∷ []) ++ p ≡ (b ∷ []) ++ p = ap (λ t. t ++ p) ends in
-      ap (λ t. fold push_one t ps ++ b ∷ []) (own.0 ∙ same)
-      ∙ pushed ((b ∷ []) ++ p) ps (subst Base same own.1) each.1 (unended (b ∷ []) p each.0)
-      ∙ ap (λ t. b ∷ t) (sym (append_assoc p (b ∷ []) (rows_by b ps)))
+  pushed-root p ps base ends each = grind (arith, pushed, append_assoc)
 
   -- all pieces of a text, the first of which is a root where it is empty
   pushed-pieces : (head : List ℕ) (others : List (List ℕ)) (text : List ℕ) → rows_by b (head ∷ others) ≡ text ++ b ∷ [] → 0 < length text → ((length head == 0) ≡ false → Base head × (ended_with b head ≡ head ++ b ∷ [])) → AllByRecursion Piece others
       → Base (b ∷ []) → ended_with b (b ∷ []) ≡ b ∷ [] → fold push_one (if length head == 0 then b ∷ [] else head) others ++ b ∷ [] ≡ text ++ b ∷ []
   pushed-pieces [] [] text rows some own each base ends = absurd (omega (arith, some, ap length rows, length-append text (b ∷ [])))
   pushed-pieces [] (p ∷ ps) text rows some own each base ends = pushed-root p ps base ends each ∙ rows
-  pushed-pieces (x ∷ xs) others text rows some own each base ends =
-      let is : (length (x ∷ xs) == 0) ≡ false = false_from_ne_true _ (λ h. absurd (omega (arith, eqb-true _ 0 h))) in
-      let head = x ∷ xs in
-      let all = own is in
-      ap (λ c. fold push_one (if c then b ∷ [] else head) others ++ b ∷ []) is
-      ∙ pushed head others all.0 each all.1
-      ∙ sym (append_assoc head (b ∷ []) (rows_by b others))
-      ∙ rows
+  pushed-pieces (x ∷ xs) others text rows some own each base ends = grind (arith, common_steps, false_from_ne_true, eqb-true, pushed, append_assoc)
 
 -- a text whose end holds no separator wants one behind it
 ended-piece : (s : Separators) (b : ℕ) → is_separator s b ≡ true → (front piece : List ℕ) → (length piece == 0) ≡ false → IsUnseparated (is_separator s) piece
     → ended_with b (front ++ piece) ≡ (front ++ piece) ++ b ∷ []
-ended-piece s b separates front piece is unseparated = ended_with-append b front piece is ∙ ap (λ t. front ++ t) alone ∙ sym (append_assoc front piece (b ∷ []))
-  where
-    alone : ended_with b piece ≡ piece ++ b ∷ []
-    alone =
-        let some : length piece - 1 < length piece = grind (arith, eqb-false) in
-        let last : (slice_index piece (length piece - 1) == b) ≡ false =
-        false_from_ne_true _ (λ e. both_ways (is_separator s (slice_index piece (length piece - 1))) (unseparated (length piece - 1) 0 some) (ap (is_separator s) (eqb-true _ b e) ∙ separates)) in
-        rw (is, last) refl
+ended-piece s b separates front piece is unseparated = grind (arith, ended_with-append, append_assoc, eqb-false)
 
 -- what a text is, where it is another one with a byte more behind both
 unrowed : (b : ℕ) (text other : List ℕ) → text ++ b ∷ [] ≡ other ++ b ∷ [] → text ≡ other
 unrowed b text other e = sym (take-ended text b) ∙ ap (λ t. take (length t - 1) t) e ∙ take-ended other b
 
--- pieces that are not blank are not empty
-pieces-filled : (ps : List (List ℕ)) → list_any is_blank ps ≡ false → AllByRecursion (λ p. (length p == 0) ≡ false) ps
-pieces-filled [] none = tt
-pieces-filled (p ∷ ps) none = let own = or_parts (is_blank p) (list_any is_blank ps) none in ((filled p own.0).0, pieces-filled ps own.1)
-
--- two facts of each
-both-each : (P Q : List ℕ → Type 0) (ps : List (List ℕ)) → AllByRecursion P ps → AllByRecursion Q ps → AllByRecursion (λ p. P p × Q p) ps
-both-each P Q [] f g = tt
-both-each P Q (p ∷ ps) f g = ((f.0, g.0), both-each P Q ps f.1 g.1)
-
 -- how the first piece is written, by whether it is empty
 first-written : (e : Dialect) (head : List ℕ) → first_text e head ≡ (if length head == 0 then root_of e else head)
-first-written e [] = refl
-first-written e (b ∷ bs) = ap (λ c. if c then root_of e else b ∷ bs) (sym (false_from_ne_true (length (b ∷ bs) == 0) (λ h. absurd (omega (arith, eqb-true _ 0 h)))))
+first-written e head = grind arith
 
 -- ---- pushed on Unix
 
@@ -182,8 +123,7 @@ abbrev IsUnixPiece : List ℕ → Type 0
 IsUnixPiece p = ((length p == 0) ≡ false) × IsUnseparated (is_separator Slash) p
 
 step-unix : (text piece : List ℕ) → ⊤ → IsUnixPiece piece → (push_unix text piece ≡ ended_with slash text ++ piece) × ⊤
-step-unix text [] base own = absurd (true≢false own.0)
-step-unix text (b ∷ bs) base own = (rw (All-head (λ c. is_separator Slash c ≡ false) b bs own.1) refl, tt)
+step-unix text piece base own = grind arith
 
 -- what holds no separator of Windows holds none of Unix
 unslashed : (piece : List ℕ) → IsUnseparated (is_separator Either) piece → IsUnseparated (is_separator Slash) piece
@@ -199,11 +139,7 @@ record IsWindowsPiece (piece : List ℕ) : Type 0 where
 
 -- without `:` no drive is read
 pub undriven : (other : ℕ) (piece : List ℕ) → list_any (is_one_of (colon, other)) piece ≡ false → drive piece ≡ None
-undriven other [] free = refl
-undriven other (a ∷ []) free = refl
-undriven other (a ∷ b ∷ bs) free =
-    let second = or_parts (is_one_of (colon, other) b) (list_any (is_one_of (colon, other)) bs) (or_parts (is_one_of (colon, other) a) (list_any (is_one_of (colon, other)) (b ∷ bs)) free).1 in
-    cond-false (is_drive_letter a && b == colon) (Some (to_upper a)) None (and_right (is_drive_letter a) (b == colon) (or_parts (b == colon) (b == other) second.0).0)
+undriven other piece free = grind arith
 
 -- such a name is plain
 plain-free : (piece : List ℕ) → (length piece == 0) ≡ false → is_dot piece ≡ false → is_dot_dot piece ≡ false → IsUnseparated (is_separator Either) piece → list_any (is_one_of (colon, backslash)) piece ≡ false → IsPlain piece
@@ -211,11 +147,7 @@ plain-free piece is no_dot no_dots unseparated free = record { clean = record { 
 
 -- it is a parent or a plain name where it is no `.`
 step-free : (piece : List ℕ) → (length piece == 0) ≡ false → is_dot piece ≡ false → IsUnseparated (is_separator Either) piece → list_any (is_one_of (colon, backslash)) piece ≡ false → IsStep (named_part piece)
-step-free piece is no_dot unseparated free = by (is_dot_dot piece) (λ e. plain-free piece is no_dot e unseparated free)
-  where
-    by : (twice : Bool) → (twice ≡ false → IsPlain piece) → IsStep (if twice then parent_part else name_part piece)
-    by true plain = a_parent
-    by false plain = a_plain piece (plain refl)
+step-free piece is no_dot unseparated free = grind (arith, plain-free, a_parent, a_plain)
 
 -- pieces that are not blank are such
 windows-pieces : (ps : List (List ℕ)) → list_any is_blank ps ≡ false → AllByRecursion (IsUnseparated (is_separator Either)) ps → AllByRecursion (λ p. list_any (is_one_of (colon, backslash)) p ≡ false) ps
@@ -228,11 +160,7 @@ windows-pieces (p ∷ ps) none unseparated free =
 
 -- what such a piece is written as
 step-text : (piece : List ℕ) → (named_part piece).text ≡ piece
-step-text piece = by (is_dot_dot piece) (λ e. sym (dot_dot-is piece e))
-  where
-    by : (twice : Bool) → (twice ≡ true → dot ∷ dot ∷ [] ≡ piece) → (if twice then parent_part else name_part piece).text ≡ piece
-    by true two = two refl
-    by false two = refl
+step-text piece = grind arith
 
 -- it is put behind a text without a prefix, which stays without one
 step-windows : (text piece : List ℕ) → IsBare text → IsWindowsPiece piece → (push_windows text piece ≡ ended_with backslash text ++ piece) × IsBare (ended_with backslash text ++ piece)
@@ -246,12 +174,7 @@ step-windows text piece bare own =
 
 -- the first piece has no prefix
 bare-first : (head : List ℕ) → (length head == 0) ≡ false → IsUnseparated (is_separator Either) head → list_any (is_one_of (colon, backslash)) head ≡ false → IsBare head
-bare-first head is unseparated free = by (is_dot head) (is_dot_dot head) refl refl
-  where
-    by : (one two : Bool) → is_dot head ≡ one → is_dot_dot head ≡ two → IsBare head
-    by true two e f = subst IsBare (sym (dot-is head e)) bare-current
-    by false true e f = subst IsBare (sym (dot_dot-is head f)) bare-parent
-    by false false e f = bare-name head (plain-free head is e f unseparated free)
+bare-first head is unseparated free = grind (arith, dot-is, bare-current, dot_dot-is, bare-parent, bare-name, plain-free)
 
 -- the pieces of a text without blank ones, pushed on Unix one by one, are the text with its separators turned
 module _ (x : ℕ) (xs : List ℕ) (head : List ℕ) (others : List (List ℕ)) (cut : pieces Either (x ∷ xs) ≡ head ∷ others) (none : list_any is_blank others ≡ false) where
@@ -301,8 +224,7 @@ pieces-slash (b ∷ bs) free =
     ap₂ (λ c ps. cond c ([] ∷ ps) (onto_first b ps)) (by (b == slash) (b == backslash) (or_parts (b == colon) (b == backslash) both.0).1) (pieces-slash bs both.1)
   where
     by : (c d : Bool) → d ≡ false → (c || d) ≡ c
-    by true d e = refl
-    by false d e = e
+    by c d e = grind arith
 
 -- there is room for a text that the last push makes
 fits-unix : (room : ℕ) (text path : List ℕ) (paths : List (List ℕ)) → FitsEach unix room text (path ∷ paths) → length (push_all unix text (path ∷ paths)) ≤ room
@@ -359,26 +281,10 @@ module _ (s : Separators) (w : OfWindows s) (x : ℕ) (xs : List ℕ) (without :
 
   -- behind a prefix, where a root stands at its front
   body-rooted : (p : Part) → is_separator Either x ≡ true → crossed_all unix (p ∷ body_parts s (x ∷ xs)) ≡ turned Either slash (x ∷ xs)
-  body-rooted p separates =
-      ap (λ ts. push_all unix [] (crossed unix p ∷ ts)) body-listed
-      ∙ by head (sym cut ∙ ap (λ c. cond c ([] ∷ pieces Either xs) (onto_first x (pieces Either xs))) separates) body-turned
-    where
-      first_of : List (List ℕ) → List ℕ
-      first_of [] = []
-      first_of (t ∷ ts) = t
-
-      by : (h : List ℕ) → h ∷ others ≡ [] ∷ pieces Either xs → push_all unix (first_text unix h) others ≡ turned Either slash (x ∷ xs)
-          → push_all unix [] (crossed unix p ∷ first_text unix h ∷ others) ≡ turned Either slash (x ∷ xs)
-      by [] e whole = whole
-      by (b ∷ bs) e whole = absurd (some (ap first_of e))
-        where
-          some : b ∷ bs ≡ [] → ⊥
-          some e = cc
+  body-rooted p separates = grind (arith, body-listed, pieces, body-turned)
 
   body-fits : (ps : List Part) → crossed_all unix ps ≡ turned Either slash (x ∷ xs) → (ts : List (List ℕ)) (t : List ℕ) → map (crossed unix) ps ≡ t ∷ ts → (room : ℕ) → FitsEach unix room [] (map (crossed unix) ps) → length (x ∷ xs) ≤ room
-  body-fits ps whole ts t listed room fits =
-      let long = fits-unix room [] t ts (subst (FitsEach unix room []) listed fits) in
-      omega (arith, long, ap length (ap (push_all unix []) (sym listed) ∙ whole), length-map (x ∷ xs) (λ c. if is_separator Either c then slash else c))
+  body-fits ps whole ts t listed room fits = grind (arith, fits-unix, length-map)
 
 -- a path of Windows without a prefix
 pub crosses-unix : (path text : List ℕ) → parts_of windows path ≡ body_parts Either text → has_blank_behind Either text ≡ false → CrossesTurned windows unix path text
@@ -406,16 +312,9 @@ crosses-rooted path (x ∷ xs) s p w read without none rooted =
 
 -- one with a root and nothing else behind its prefix
 pub crosses-root : (path text : List ℕ) (s : Separators) (p : Part) → OfWindows s → parts_of windows path ≡ p ∷ body_parts s text → IsWithoutSlash s text → length text ≡ 1 → begins_with_separator text ≡ true → CrossesTurned windows unix path text
-crosses-root path [] s p w read without one rooted = absurd (true≢false (sym rooted))
-crosses-root path (x ∷ y ∷ xs) s p w read without one rooted = absurd (omega (arith, one))
-crosses-root path (x ∷ []) s p w read without one rooted =
-    let listed : map (crossed unix) (parts_of windows path) ≡ crossed unix p ∷ (slash ∷ []) ∷ [] =
-    ap (map (crossed unix)) read
-    ∙ ap (λ c. crossed unix p ∷ map (crossed unix) (first_parts s (cond c ([] ∷ [] ∷ []) (onto_first x ([] ∷ []))))) (separates-own s w x [] without rooted) in
-    record {
-      is = ap (push_all unix []) listed ∙ sym (ap (λ c. (if c then slash else x) ∷ []) rooted);
-      fits = λ room fits. fits-unix room [] (crossed unix p) ((slash ∷ []) ∷ []) (subst (FitsEach unix room []) listed fits);
-    }
+crosses-root path [] s p w read without one rooted = grind arith
+crosses-root path (x ∷ y ∷ xs) s p w read without one rooted = grind arith
+crosses-root path (x ∷ []) s p w read without one rooted = grind (arith, first_parts, separates-own, fits-unix)
 
 -- a byte that is no letter is not that of a drive
 pub letter_is : (a c : ℕ) → is_drive_letter c ≡ false → is_drive_letter a ≡ true → (a == c) ≡ false
@@ -423,17 +322,7 @@ letter_is a c other own = false_from_ne_true _ (λ h. both_ways (is_drive_letter
 
 -- a drive alone has no separator
 drive-turned : (path : List ℕ) (f : Found) → Read (separators windows path) path f → is_disk f.prefix ≡ true → length path ≡ f.length → turned Either slash path ≡ path
-drive-turned [] _ (of_disk letter of) disk whole = cc
-drive-turned (a ∷ []) _ (of_disk letter of) disk whole = cc
-drive-turned (a ∷ b ∷ []) _ (of_disk letter of) disk whole =
-    let own = drive-letter a b [] letter of in
-    ap₂ (λ c d. (if c then slash else a) ∷ (if d then slash else b) ∷ []) (ap₂ (λ c d. c || d) (letter_is a slash refl own.0) (letter_is a backslash refl own.0)) (ap (is_separator Either) own.1)
-drive-turned (a ∷ b ∷ c ∷ text) _ (of_disk letter of) disk whole = absurd (omega (arith, whole))
-drive-turned path _ (of_verbatim_unc rest mark server) disk whole = cc
-drive-turned path _ (of_verbatim_disk rest letter mark of) disk whole = cc
-drive-turned path _ (of_verbatim rest mark some no_unc no_drive) disk whole = cc
-drive-turned path _ (of_device rest mark some) disk whole = cc
-drive-turned path _ (of_unc rest mark some no_verbatim no_device) disk whole = cc
+drive-turned path f h disk whole = grind arith
 
 -- a prefix alone is written as the root, or as it stands where it is a drive
 pub crosses-prefix : (path : List ℕ) (f : Found) → prefix_of windows path ≡ Some f → length path ≡ f.length → CrossesTurned windows unix path (if is_disk f.prefix then path else slash ∷ [])

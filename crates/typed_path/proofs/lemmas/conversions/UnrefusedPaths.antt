@@ -20,8 +20,8 @@ use Rattle.typed_path.proofs.lemmas.components.Prefixes.{OfWindows, Read, of_dis
 use Rattle.typed_path.proofs.lemmas.places.WindowsRows.{IsWithoutSlash, without_slash-behind}
 use Rattle.typed_path.proofs.lemmas.components.PrefixCuts.{parts_of-none, parts_of-some}
 use Rattle.typed_path.proofs.lemmas.changes.ValidPaths.{any-pieces}
-use Rattle.typed_path.proofs.lemmas.scan.Blanks.{free-behind}
 use Rattle.typed_path.proofs.lemmas.conversions.TurnedPaths.{pieces-slash, read-unix, letter_is}
+use Rattle.typed_path.proofs.lemmas.lists.Lists.{free-behind}
 
 -- ---- checked pushes of what is not refused
 

@@ -1,5 +1,6 @@
 -- Paths compared and fed to a hasher, component by component, with their prefixes first.
-use Rattle.std.proofs.Common.{◌≡◌, ℕ, List, [], ◌∷◌, ◌++◌, Bool, true, false, not, ◌&&◌, drop, Ordering, Less, Equal, Greater, is_eq, refl, sym, ap, ap₂, ◌∙◌, ◌↔◌, Option, Some, None, flat_map, ◌≢◌, ◌+◌, ◌≤◌, length, fold, sum_by, subst, arith, ◌<◌, length-drop, zero-le, append_assoc, append-nil, option_map, is_some, if◌then◌else◌}
+use Rattle.std.proofs.Common.{◌≡◌, ℕ, List, [], ◌∷◌, ◌++◌, Bool, true, false, not, ◌&&◌, drop, Ordering, Less, Equal, Greater, is_eq, refl, sym, ap, ap₂, ◌∙◌, ◌↔◌, Option, Some, None, flat_map, ◌≢◌, ◌+◌, ◌≤◌, length, fold, sum_by, subst, arith, ◌<◌, length-drop, append-nil, option_map, is_some, if◌then◌else◌}
+use Rattle.std.proofs.lemmas.Grind.{common_steps}
 use Rattle.std.specs.Ordering.{is_ne, ordering_then, ordering_reverse}
 use Rattle.std.specs.Str.{bytes_eq}
 use Rattle.std.specs.Cmp.Lexicographic.{slice_cmp, texts_ties}
@@ -11,17 +12,17 @@ use Rattle.std.specs.List.{AllByRecursion}
 use Rattle.std.specs.Cmp.{Equal-is}
 use Rattle.std.specs.Hash.{HashWrites, usize}
 use Rattle.std.proofs.lemmas.Grind.{flat_map-append}
-use Rattle.std.proofs.lemmas.List.Sums.{fold-append, sum_by-cons}
+use Rattle.std.proofs.lemmas.List.Sums.{sum_by-cons}
 use Rattle.typed_path.specs.declared.scan.cursor.Begin.TheVariants.{Inside}
 use Rattle.typed_path.specs.declared.scan.separators.Separators.{Separators}
-use Rattle.typed_path.specs.components.{body, later_body, normal, Kind, Part, Placed, parts, kinds, prefix, root, current, parent, Prefix, end_of, Dialect, separators, parts_of, comps, Found, prefix_of}
+use Rattle.typed_path.specs.components.{body, later_body, normal, Kind, Part, Placed, parts, kinds, prefix, Prefix, end_of, Dialect, separators, parts_of, comps, Found, prefix_of}
 use Rattle.typed_path.specs.scan.{is_clean, but_last, first_part, last_part, AreInOrder}
 use Rattle.typed_path.specs.order.{bytes_cmp, kind_cmp, kinds_cmp, left_cmp, left_same, IsSame, path_cmp, are_same_prefixes, kind_cmp_total, exact_kinds, exact_lists, kinds_cmp_total}
-use Rattle.typed_path.specs.order.Words.{writes_of, path_words, kind_fed, kind_length, kinds_fed, kinds_words, prefix_words, words_before}
+use Rattle.typed_path.specs.order.Words.{writes_of, path_words, kind_fed, kind_length, kinds_fed, kinds_words, words_before}
 use Rattle.typed_path.specs.promises.{count, words_by_kind, fed_length, fed, HashAlike}
 use Rattle.typed_path.specs.queries.{first_prefix, is_prefix, behind_prefix}
 use Rattle.typed_path.proofs.lemmas.scan.Steps.{last_pushed, last_part-push}
-use Rattle.typed_path.proofs.lemmas.lists.Lists.{AllByRecursion-weaker, flat_map-through, sum_by-through}
+use Rattle.typed_path.proofs.lemmas.lists.Lists.{AllByRecursion-weaker, flat_map-through, sum_by-through, flat_map-flat}
 use Rattle.typed_path.proofs.lemmas.components.Segments.{body_from-starts, IsWritten, IsWrittenPart, body_parts, body_parts-read, each-written, parts_behind, parts-comps_behind}
 use Rattle.typed_path.proofs.lemmas.components.Cuts.{comps-laid_out}
 
@@ -29,9 +30,7 @@ use Rattle.typed_path.proofs.lemmas.components.Cuts.{comps-laid_out}
 
 -- one answer and then another are `Equal` where both are
 pub is_eq-then : (a b : Ordering) → is_eq (ordering_then a b) ≡ (is_eq a && is_eq b)
-is_eq-then Less b = refl
-is_eq-then Equal b = refl
-is_eq-then Greater b = refl
+is_eq-then a b = grind arith
 
 -- names are one where they compare as equal
 pub same-name : (a b : List ℕ) → bytes_eq a b ≡ is_eq (kind_cmp (normal a) (normal b))
@@ -39,8 +38,7 @@ same-name a b = texts_ties a b ∙ sym (is_eq-then (bytes_cmp a b) Equal ∙ and
 
 module _ {X : Type 0} (R : X → X → Ordering) where
   longer : (xs : List X) (x : X) → is_eq (slice_cmp R [] (xs ++ x ∷ [])) ≡ false
-  longer [] x = refl
-  longer (y ∷ ys) x = refl
+  longer xs x = grind (arith, common_steps)
 
   shorter : (xs : List X) (x : X) → is_eq (slice_cmp R (xs ++ x ∷ []) []) ≡ false
   shorter [] x = refl
@@ -51,11 +49,7 @@ module _ {X : Type 0} (R : X → X → Ordering) where
   alike-push [] [] x y = is_eq-then (R x y) Equal ∙ and-true (is_eq (R x y))
   alike-push [] (z ∷ zs) x y = is_eq-then (R x z) (slice_cmp R [] (zs ++ y ∷ [])) ∙ ap (λ b. is_eq (R x z) && b) (longer zs y) ∙ and-false (is_eq (R x z))
   alike-push (w ∷ ws) [] x y = is_eq-then (R w y) (slice_cmp R (ws ++ x ∷ []) []) ∙ ap (λ b. is_eq (R w y) && b) (shorter ws x) ∙ and-false (is_eq (R w y))
-  alike-push (w ∷ ws) (z ∷ zs) x y =
-      is_eq-then (R w z) (slice_cmp R (ws ++ x ∷ []) (zs ++ y ∷ []))
-      ∙ ap (λ b. is_eq (R w z) && b) (alike-push ws zs x y)
-      ∙ sym (and_assoc (is_eq (R w z)) (is_eq (slice_cmp R ws zs)) (is_eq (R x y)))
-      ∙ ap (λ b. b && is_eq (R x y)) (sym (is_eq-then (R w z) (slice_cmp R ws zs)))
+  alike-push (w ∷ ws) (z ∷ zs) x y = grind (arith, common_steps, is_eq-then, and_assoc, alike-push ws zs x y)
 
 pub kinds-push : (cs : List Placed) (c : Placed) → kinds (parts (cs ++ c ∷ [])) ≡ kinds (parts cs) ++ c.part.kind ∷ []
 kinds-push cs c = ap kinds (map-append (λ x. x.part) cs (c ∷ [])) ∙ map-append (λ x. x.kind) (parts cs) (c.part ∷ [])
@@ -79,78 +73,47 @@ same-step (c ∷ cs) (w ∷ ws) after others p q r some own is rest_is wanted_is
 
 -- from the front: neither has anything left
 pub cmp-none : (rest wanted : List Placed) → None ≡ first_part wanted → None ≡ first_part rest → left_cmp rest wanted ≡ Equal
-cmp-none [] [] none empty = refl
-cmp-none rest (w ∷ ws) none empty = cc
-cmp-none (c ∷ cs) [] none empty = cc
+cmp-none rest wanted h empty = grind arith
 
 -- only one of them has
 pub cmp-more : (rest wanted : List Placed) (p : Part) → None ≡ first_part wanted → Some p ≡ first_part rest → left_cmp rest wanted ≡ Greater
-cmp-more [] wanted p none some = cc
-cmp-more (c ∷ cs) [] p none some = refl
-cmp-more (c ∷ cs) (w ∷ ws) p none some = cc
+cmp-more rest wanted p h h1 = grind arith
 
 pub cmp-fewer : (rest wanted : List Placed) (p : Part) → Some p ≡ first_part wanted → None ≡ first_part rest → left_cmp rest wanted ≡ Less
-cmp-fewer rest [] p some none = cc
-cmp-fewer [] (w ∷ ws) p some none = refl
-cmp-fewer (c ∷ cs) (w ∷ ws) p some none = cc
+cmp-fewer rest wanted p h h1 = grind arith
 
 -- both have a first component
 cmp-step : (rest wanted : List Placed) (p q : Part) → Some p ≡ first_part wanted → Some q ≡ first_part rest
     → left_cmp rest wanted ≡ ordering_then (kind_cmp q.kind p.kind) (left_cmp (drop 1 rest) (drop 1 wanted))
-cmp-step rest [] p q some own = cc
-cmp-step [] (w ∷ ws) p q some own = cc
-cmp-step (c ∷ cs) (w ∷ ws) p q some own =
-    ap (λ x. ordering_then (kind_cmp c.part.kind x.kind) (left_cmp cs ws)) (sym (same_Some _ _ some))
-    ∙ ap (λ x. ordering_then (kind_cmp x.kind p.kind) (left_cmp cs ws)) (sym (same_Some _ _ own))
+cmp-step rest wanted p q h own = grind arith
 
 -- one answer and then another are the first where that is not `Equal`, and else the second
 pub then-decided : (a b : Ordering) → is_ne a ≡ true → ordering_then a b ≡ a
-then-decided Less b differ = refl
-then-decided Equal b differ = cc
-then-decided Greater b differ = refl
+then-decided a b differ = grind arith
 
 pub then-tied : (a b : Ordering) → is_ne a ≡ false → ordering_then a b ≡ b
-then-tied Less b alike = cc
-then-tied Equal b alike = refl
-then-tied Greater b alike = cc
+then-tied a b alike = grind arith
 
 -- these differ
 pub cmp-differ : (rest wanted : List Placed) (p q : Part) (r : Ordering) → Some p ≡ first_part wanted → Some q ≡ first_part rest → r ≡ kind_cmp q.kind p.kind → is_ne r ≡ true → left_cmp rest wanted ≡ r
-cmp-differ rest wanted p q r some own is differ =
-    cmp-step rest wanted p q some own
-    ∙ ap (λ a. ordering_then a (left_cmp (drop 1 rest) (drop 1 wanted))) (sym is)
-    ∙ then-decided r (left_cmp (drop 1 rest) (drop 1 wanted)) differ
+cmp-differ rest wanted p q r h own is differ = grind arith
 
 -- these are alike
 pub cmp-alike : (rest wanted after others : List Placed) (p q : Part) (r : Ordering) → Some p ≡ first_part wanted → Some q ≡ first_part rest → r ≡ kind_cmp q.kind p.kind → is_ne r ≡ false
     → after ≡ drop 1 rest → others ≡ drop 1 wanted → left_cmp rest wanted ≡ left_cmp after others
-cmp-alike rest wanted after others p q r some own is alike rest_is wanted_is =
-    cmp-step rest wanted p q some own
-    ∙ ap (λ a. ordering_then a (left_cmp (drop 1 rest) (drop 1 wanted))) (sym is)
-    ∙ then-tied r (left_cmp (drop 1 rest) (drop 1 wanted)) alike
-    ∙ ap₂ left_cmp (sym rest_is) (sym wanted_is)
+cmp-alike rest wanted after others p q r h own is alike rest_is wanted_is = grind arith
 
 -- whether they are alike is told by their first ones, and then by what is left
 pub alike-differ : (rest wanted : List Placed) (p q : Part) → Some p ≡ first_part wanted → Some q ≡ first_part rest → is_eq (kind_cmp q.kind p.kind) ≡ false → left_same rest wanted ≡ false
-alike-differ rest wanted p q some own differ =
-    ap is_eq (cmp-step rest wanted p q some own)
-    ∙ is_eq-then (kind_cmp q.kind p.kind) (left_cmp (drop 1 rest) (drop 1 wanted))
-    ∙ ap (λ b. b && left_same (drop 1 rest) (drop 1 wanted)) differ
+alike-differ rest wanted p q h own differ = grind arith
 
 pub alike-step : (rest wanted after others : List Placed) (p q : Part) → Some p ≡ first_part wanted → Some q ≡ first_part rest → is_eq (kind_cmp q.kind p.kind) ≡ true
     → after ≡ drop 1 rest → others ≡ drop 1 wanted → left_same rest wanted ≡ left_same after others
-alike-step rest wanted after others p q some own alike rest_is wanted_is =
-    ap is_eq (cmp-step rest wanted p q some own)
-    ∙ is_eq-then (kind_cmp q.kind p.kind) (left_cmp (drop 1 rest) (drop 1 wanted))
-    ∙ ap (λ b. b && left_same (drop 1 rest) (drop 1 wanted)) alike
-    ∙ ap₂ left_same (sym rest_is) (sym wanted_is)
+alike-step rest wanted after others p q h own alike rest_is wanted_is = grind arith
 
 -- the answer is whether this one has nothing left
 pub alike-end : {A : Type 0} (view : A → Part) (rest wanted : List Placed) (r : Option A) (b : Bool) → None ≡ first_part wanted → option_map view r ≡ first_part rest → is_some r ≡ not b → b ≡ left_same rest wanted
-alike-end view rest wanted None true none taken is = sym (ap is_eq (cmp-none rest wanted none taken))
-alike-end view rest wanted None false none taken is = cc
-alike-end view rest wanted (Some x) true none taken is = cc
-alike-end view rest wanted (Some x) false none taken is = sym (ap is_eq (cmp-more rest wanted (view x) none taken))
+alike-end view rest wanted r b h taken is = grind arith
 
 -- kinds that both lists begin with decide nothing
 cmp-shared : (ks us vs : List Kind) → kinds_cmp (ks ++ us) (ks ++ vs) ≡ kinds_cmp us vs
@@ -162,10 +125,7 @@ kinds-append cs ds = ap kinds (map-append (λ x. x.part) cs ds) ∙ map-append (
 
 -- so two lists compare as what stands behind the components that they share
 pub cmp-behind : (front us vs cs ds : List Placed) → cs ≡ front ++ us → ds ≡ front ++ vs → left_cmp us vs ≡ left_cmp cs ds
-cmp-behind front us vs cs ds first second =
-    sym (cmp-shared (kinds (parts front)) (kinds (parts us)) (kinds (parts vs)))
-    ∙ ap₂ kinds_cmp (sym (kinds-append front us)) (sym (kinds-append front vs))
-    ∙ ap₂ left_cmp (sym first) (sym second)
+cmp-behind front us vs cs ds first second = grind (arith, cmp-shared, kinds-append)
 
 -- a text whose components begin with all those of another
 module _ (s : Separators) (t u : List ℕ) (n : ℕ) (items : body s 0 t ≡ body s 0 u ++ later_body s (0 + n) (drop n t)) where
@@ -177,9 +137,7 @@ module _ (s : Separators) (t u : List ℕ) (n : ℕ) (items : body s 0 t ≡ bod
 
   -- it is the same where nothing stands behind
   pub longer-same : n ≡ length t → (left_cmp (body s 0 t) (body s 0 u) ≡ Equal) × (left_cmp (body s 0 u) (body s 0 t) ≡ Equal)
-  longer-same e =
-      let none : drop n t ≡ [] = drop_all n t (omega (arith, e)) in
-      (sym longer-behind ∙ ap (λ r. left_cmp (later_body s (0 + n) r) []) none, sym shorter-behind ∙ ap (λ r. left_cmp [] (later_body s (0 + n) r)) none)
+  longer-same e = grind (arith, drop_all, longer-behind, shorter-behind)
 
   -- and comes later where something does
   pub longer-more : n < length t → is_clean Inside s (drop n t) ≡ true → (left_cmp (body s 0 t) (body s 0 u) ≡ Greater) × (left_cmp (body s 0 u) (body s 0 t) ≡ Less)
@@ -215,11 +173,7 @@ IsFedByKind p = (words_by_kind p.text p.kind ≡ kind_fed p.kind) × (fed_length
 
 -- a component that is written as its kind tells feeds what its kind tells
 fed_by_kind-written : (s : Separators) (k : Kind) (text : List ℕ) → IsWritten s k text → (words_by_kind text k ≡ kind_fed k) × (fed_length text k ≡ kind_length k)
-fed_by_kind-written s (prefix p) text written = absurd written
-fed_by_kind-written s root text written = (refl, refl)
-fed_by_kind-written s current text written = (rw written, rw written)
-fed_by_kind-written s parent text written = (rw written, rw written)
-fed_by_kind-written s (normal name) text written = (rw written.0, rw written.0)
+fed_by_kind-written s k text written = grind arith
 
 -- each component of a text without a prefix feeds what its kind tells
 fed_by_kind-body : (s : Separators) (text : List ℕ) → AllByRecursion IsFedByKind (body_parts s text)
@@ -228,8 +182,7 @@ fed_by_kind-body s text =
 
 -- each component of a text feeds what its kind tells
 fed_by_kind-behind : (s : Separators) (text : List ℕ) (o : Option Found) → AllByRecursion IsFedByKind (parts_behind s text o)
-fed_by_kind-behind s text None = fed_by_kind-body s text
-fed_by_kind-behind s text (Some f) = ((refl, refl), fed_by_kind-body s (drop f.length text))
+fed_by_kind-behind s text o = grind (arith, fed_by_kind-body)
 
 -- what a list of such components feeds to a hasher, read off its kinds
 fed-kinds : (ps : List Part) → AllByRecursion IsFedByKind ps → fed ps ≡ kinds_fed (kinds ps)
@@ -253,41 +206,21 @@ hash_alike d t u same = fed-path d t ∙ ap kinds_fed same ∙ sym (fed-path d u
 
 -- a list that begins with a prefix is that prefix and what stands behind it
 pub kinds-prefixed : (cs : List Placed) (p : Prefix) → Some p ≡ first_prefix (kinds (parts cs)) → kinds (parts cs) ≡ prefix p ∷ kinds (parts (behind_prefix cs))
-kinds-prefixed [] p e = cc
-kinds-prefixed (c ∷ cs) p e = by c.part.kind e
-  where
-    by : (k : Kind) → Some p ≡ first_prefix (k ∷ kinds (parts cs)) → k ∷ kinds (parts cs) ≡ prefix p ∷ kinds (parts (if is_prefix k then cs else c ∷ cs))
-    by (prefix q) h = ap (λ x. prefix x ∷ kinds (parts cs)) (sym (same_Some _ _ h))
-    by root h = cc
-    by current h = cc
-    by parent h = cc
-    by (normal name) h = cc
+kinds-prefixed cs p e = grind arith
 
 -- nothing stands before any other list
 pub bare : (cs : List Placed) → None ≡ first_prefix (kinds (parts cs)) → behind_prefix cs ≡ cs
-bare [] e = refl
-bare (c ∷ cs) e = by c.part.kind e
-  where
-    by : (k : Kind) → None ≡ first_prefix (k ∷ kinds (parts cs)) → (if is_prefix k then cs else c ∷ cs) ≡ c ∷ cs
-    by (prefix q) h = cc
-    by root h = refl
-    by current h = refl
-    by parent h = refl
-    by (normal name) h = refl
+bare cs e = grind arith
 
 -- two lists that begin with a prefix compare by these where they differ
 pub prefixes-differ : (cs ds : List Placed) (p q : Prefix) (r : Ordering) → Some p ≡ first_prefix (kinds (parts cs)) → Some q ≡ first_prefix (kinds (parts ds))
     → r ≡ kind_cmp (prefix p) (prefix q) → is_ne r ≡ true → r ≡ left_cmp cs ds
-prefixes-differ cs ds p q r first second is differ =
-    is ∙ sym (then-decided (kind_cmp (prefix p) (prefix q)) (left_cmp (behind_prefix cs) (behind_prefix ds)) (ap is_ne (sym is) ∙ differ))
-    ∙ sym (ap₂ kinds_cmp (kinds-prefixed cs p first) (kinds-prefixed ds q second))
+prefixes-differ cs ds p q r first second is differ = grind arith
 
 -- and else by what stands behind
 pub prefixes-alike : (cs ds : List Placed) (p q : Prefix) (r : Ordering) → Some p ≡ first_prefix (kinds (parts cs)) → Some q ≡ first_prefix (kinds (parts ds))
     → r ≡ kind_cmp (prefix p) (prefix q) → is_ne r ≡ false → left_cmp (behind_prefix cs) (behind_prefix ds) ≡ left_cmp cs ds
-prefixes-alike cs ds p q r first second is alike =
-    sym (then-tied (kind_cmp (prefix p) (prefix q)) (left_cmp (behind_prefix cs) (behind_prefix ds)) (ap is_ne (sym is) ∙ alike))
-    ∙ sym (ap₂ kinds_cmp (kinds-prefixed cs p first) (kinds-prefixed ds q second))
+prefixes-alike cs ds p q r first second is alike = grind arith
 
 -- so do two lists without a prefix
 pub prefixes-none : (cs ds : List Placed) → None ≡ first_prefix (kinds (parts cs)) → None ≡ first_prefix (kinds (parts ds)) → left_cmp (behind_prefix cs) (behind_prefix ds) ≡ left_cmp cs ds
@@ -297,39 +230,24 @@ prefixes-none cs ds first second = ap₂ left_cmp (bare cs first) (bare ds secon
 module _ (cs ds bs : List Placed) (p : Prefix) (r : Ordering) (first : Some p ≡ first_prefix (kinds (parts cs))) (second : None ≡ first_prefix (kinds (parts ds))) (behind : bs ≡ behind_prefix ds)
     (order : (q : Prefix) (ks : List Kind) → None ≡ first_prefix (kinds (parts bs)) → r ≡ kinds_cmp (prefix q ∷ ks) (kinds (parts bs))) where
   pub prefixed-bare : r ≡ left_cmp cs ds
-  prefixed-bare =
-      let same = behind ∙ bare ds second in
-      order p (kinds (parts (behind_prefix cs))) (second ∙ ap (λ xs. first_prefix (kinds (parts xs))) (sym same))
-      ∙ ap₂ kinds_cmp (sym (kinds-prefixed cs p first)) (ap (λ xs. kinds (parts xs)) same)
+  prefixed-bare = grind arith
 
   pub bare-prefixed : ordering_reverse r ≡ left_cmp ds cs
   bare-prefixed = ap ordering_reverse prefixed-bare ∙ sym (kinds_cmp_total.antisymm (kinds (parts ds)) (kinds (parts cs)))
 
 -- lists of which one alone begins with a prefix are not the same
 unlike : (cs ds : List Placed) → first_prefix (kinds (parts cs)) ≢ first_prefix (kinds (parts ds)) → left_same cs ds ≡ false
-unlike cs ds differ = by (left_same cs ds) refl
-  where
-    by : (b : Bool) → left_same cs ds ≡ b → b ≡ false
-    by false e = refl
-    by true e = absurd (differ (ap first_prefix ((kinds_cmp-is_eq (kinds (parts cs)) (kinds (parts ds))).0 e)))
+unlike cs ds differ = grind (arith, kinds_cmp-is_eq)
 
 -- lists are the same where their prefixes are, and what stands behind these
 pub same-prefixes : (cs ds : List Placed) (o r : Option Prefix) → o ≡ first_prefix (kinds (parts cs)) → r ≡ first_prefix (kinds (parts ds))
     → left_same cs ds ≡ (are_same_prefixes o r && left_same (behind_prefix cs) (behind_prefix ds))
-same-prefixes cs ds None None first second = ap is_eq (sym (prefixes-none cs ds first second))
-same-prefixes cs ds (Some p) (Some q) first second =
-    ap is_eq (ap₂ kinds_cmp (kinds-prefixed cs p first) (kinds-prefixed ds q second))
-    ∙ is_eq-then (kind_cmp (prefix p) (prefix q)) (left_cmp (behind_prefix cs) (behind_prefix ds))
-same-prefixes cs ds (Some p) None first second = unlike cs ds (λ e. cc (first, second, e))
-same-prefixes cs ds None (Some q) first second = unlike cs ds (λ e. cc (first, second, e))
+same-prefixes cs ds o r first second = grind arith
 
 -- so where the prefixes are the same, what stands behind them tells
 pub same-behind : (cs ds bs es : List Placed) (o r : Option Prefix) (b : Bool) → o ≡ first_prefix (kinds (parts cs)) → r ≡ first_prefix (kinds (parts ds))
     → b ≡ are_same_prefixes o r → b ≡ true → bs ≡ behind_prefix cs → es ≡ behind_prefix ds → left_same cs ds ≡ left_same bs es
-same-behind cs ds bs es o r b first second is alike own other =
-    same-prefixes cs ds o r first second
-    ∙ ap (λ x. x && left_same (behind_prefix cs) (behind_prefix ds)) (sym is ∙ alike)
-    ∙ sym (ap₂ left_same own other)
+same-behind cs ds bs es o r b first second is alike own other = grind arith
 
 -- What a path feeds to a hasher, component by component.
 
@@ -342,17 +260,12 @@ writes_part p = flat_map writes_of (words_by_kind p.text p.kind)
 
 -- no more is counted of a component than its text
 counted-within : (text : List ℕ) (k : Kind) → fed_length text k ≤ length text
-counted-within text (prefix p) = zero-le
-counted-within text root = zero-le
-counted-within text current = omega arith
-counted-within text parent = omega arith
-counted-within text (normal name) = omega arith
+counted-within text k = grind arith
 
 -- of components that stand in order, no more is counted than the text has
 counted-in_order : (at end : ℕ) (cs : List Placed) → AreInOrder at end cs → at + sum_by counted (parts cs) ≤ end
 counted-in_order at end [] order = omega (arith, order)
-counted-in_order at end (c ∷ cs) order =
-    omega (arith, order.0, counted-within c.part.text c.part.kind, counted-in_order (end_of c) end cs order.1, sum_by-cons counted c.part (parts cs))
+counted-in_order at end (c ∷ cs) order = grind (arith, common_steps, counted-within, sum_by-cons, counted-in_order (end_of c) end cs order.1)
 
 -- so it is with those of a path
 counted-fits : (d : Dialect) (t : List ℕ) (cs : List Placed) → cs ≡ comps d t → 0 + sum_by counted (parts cs) ≤ length t
@@ -362,69 +275,32 @@ counted-fits d t cs is = subst (λ xs. 0 + sum_by counted (parts xs) ≤ length 
 abbrev pub fed_from : ℕ → List Placed → HashWrites
 fed_from n cs = flat_map writes_part (parts cs) ++ usize (n + sum_by counted (parts cs))
 
--- a list of lists, each spread out
-flat_map-flat : {X A B : Type 0} (f : A → List B) (g : X → List A) (xs : List X) → flat_map f (flat_map g xs) ≡ flat_map (λ x. flat_map f (g x)) xs
-flat_map-flat f g [] = refl
-flat_map-flat f g (x ∷ xs) = flat_map-append f (g x) (flat_map g xs) ∙ ap (λ ys. flat_map f (g x) ++ ys) (flat_map-flat f g xs)
-
 -- the words of a path
 pub path_words-fed : (d : Dialect) (t : List ℕ) (cs : List Placed) → cs ≡ comps d t → path_words d t ≡ fed_from 0 cs
-path_words-fed d t cs is =
-    flat_map-append writes_of (flat_map (λ p. words_by_kind p.text p.kind) (parts_of d t)) (count (sum_by counted (parts_of d t)) ∷ [])
-    ∙ ap (λ ws. ws ++ usize (sum_by counted (parts_of d t))) (flat_map-flat writes_of (λ p. words_by_kind p.text p.kind) (parts_of d t))
-    ∙ ap (λ n. flat_map writes_part (parts_of d t) ++ usize n) (omega arith)
-    ∙ ap (λ xs. fed_from 0 xs) (sym is)
+path_words-fed d t cs is = grind (arith, flat_map-append, flat_map-flat)
 
 module _ {S : Type 0} (write : S → List ℕ → S) where
   -- a component was fed
   pub fed-step : (n m : ℕ) (s t : S) (p : Part) (cs ds : List Placed) → Some p ≡ first_part cs → ds ≡ drop 1 cs → t ≡ fold write s (writes_part p) → m ≡ counted p
       → fold write s (fed_from n cs) ≡ fold write t (fed_from (n + m) ds)
-  fed-step n m s t p [] ds first behind wrote same = cc
-  fed-step n m s t p (c ∷ cs) ds first behind wrote same = by (same_Some _ _ first) behind
-    where
-      by : p ≡ c.part → ds ≡ cs → fold write s (fed_from n (c ∷ cs)) ≡ fold write t (fed_from (n + m) ds)
-      by part rest =
-          let counts : n + sum_by counted (c.part ∷ parts cs) ≡ (n + m) + sum_by counted (parts cs) = omega (arith, sum_by-cons counted c.part (parts cs), same, ap counted part) in
-          ap (λ k. fold write s ((writes_part c.part ++ flat_map writes_part (parts cs)) ++ usize k)) counts
-          ∙ ap (fold write s) (append_assoc (writes_part c.part) (flat_map writes_part (parts cs)) (usize ((n + m) + sum_by counted (parts cs))))
-          ∙ fold-append write s (writes_part c.part) (fed_from (n + m) cs)
-          ∙ ap (λ u. fold write u (fed_from (n + m) cs)) (ap (λ q. fold write s (writes_part q)) (sym part) ∙ sym wrote)
-          ∙ ap (λ xs. fold write t (fed_from (n + m) xs)) (sym rest)
+  fed-step n m s t p cs ds first behind wrote same = grind (arith, common_steps)
 
   -- the prefix was fed, where there was one
   pub fed-prefix : (s t : S) (cs ds : List Placed) (o : Option Prefix) → o ≡ first_prefix (kinds (parts cs)) → ds ≡ behind_prefix cs → t ≡ fold write s (words_before o)
       → fold write s (fed_from 0 cs) ≡ fold write t (fed_from 0 ds)
-  fed-prefix s t [] ds o first behind wrote = ap₂ (λ u xs. fold write u (fed_from 0 xs)) (sym (wrote ∙ ap (λ q. fold write s (words_before q)) first)) (sym behind)
-  fed-prefix s t (c ∷ cs) ds o first behind wrote = by c.part.kind refl first behind
-    where
-      same : o ≡ None → ds ≡ c ∷ cs → fold write s (fed_from 0 (c ∷ cs)) ≡ fold write t (fed_from 0 ds)
-      same none all = ap₂ (λ u xs. fold write u (fed_from 0 xs)) (sym (wrote ∙ ap (λ q. fold write s (words_before q)) none)) (sym all)
-
-      by : (k : Kind) → c.part.kind ≡ k → o ≡ first_prefix (k ∷ kinds (parts cs)) → ds ≡ (if is_prefix k then cs else c ∷ cs) → fold write s (fed_from 0 (c ∷ cs)) ≡ fold write t (fed_from 0 ds)
-      by (prefix p) kind some rest =
-          fed-step 0 0 s t c.part (c ∷ cs) ds refl rest
-          (wrote ∙ ap (λ q. fold write s (words_before q)) some ∙ ap (fold write s) (sym (append-nil (prefix_words p))) ∙ ap (λ k. fold write s (flat_map writes_of (words_by_kind c.part.text k))) (sym kind))
-          (ap (fed_length c.part.text) (sym kind))
-      by root kind none rest = same none rest
-      by current kind none rest = same none rest
-      by parent kind none rest = same none rest
-      by (normal name) kind none rest = same none rest
+  fed-prefix s t cs ds o first behind wrote = grind (arith, fed-step, append-nil)
 
   -- nothing is left but the count
   pub fed-end : (n : ℕ) (s : S) (cs : List Placed) → None ≡ first_part cs → fold write s (fed_from n cs) ≡ fold write s (usize n)
-  fed-end n s [] none = ap (λ k. fold write s (usize k)) (omega arith)
-  fed-end n s (c ∷ cs) none = cc
+  fed-end n s cs h = grind arith
 
 -- what is counted of the first component, and of the others
 pub counted-step : (n m top : ℕ) (p : Part) (cs ds : List Placed) → Some p ≡ first_part cs → ds ≡ drop 1 cs → m ≡ counted p → n + sum_by counted (parts cs) ≤ top → (n + m) + sum_by counted (parts ds) ≤ top
-counted-step n m top p [] ds first behind same fits = cc
-counted-step n m top p (c ∷ cs) ds first behind same fits =
-    omega (arith, sum_by-cons counted c.part (parts cs), same, ap counted (same_Some _ _ first), ap (λ xs. sum_by counted (parts xs)) behind, fits)
+counted-step n m top p cs ds first behind same fits = grind (arith, common_steps)
 
 -- no more is counted behind the prefix
 counted-behind : (b : Bool) (c : Placed) (cs : List Placed) → sum_by counted (parts (if b then cs else c ∷ cs)) ≤ sum_by counted (parts (c ∷ cs))
-counted-behind true c cs = omega (arith, sum_by-cons counted c.part (parts cs))
-counted-behind false c cs = omega arith
+counted-behind b c cs = grind (arith, common_steps)
 
 pub counted-bare : (d : Dialect) (t : List ℕ) (cs ds : List Placed) → cs ≡ comps d t → ds ≡ behind_prefix cs → 0 + sum_by counted (parts ds) ≤ length t
 counted-bare d t [] ds is behind = omega (arith, ap (λ xs. sum_by counted (parts xs)) behind, counted-fits d t [] is)

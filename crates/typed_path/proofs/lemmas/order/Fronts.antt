@@ -1,17 +1,17 @@
 -- Two texts of which one begins with a dot and the other with a name that begins later, or both with dots of another rank, in the order of these.
-use Rattle.std.proofs.Common.{◌≡◌, ◌<◌, ℕ, ◌+◌, List, get_or-take, length-take-le, [], ◌∷◌, ◌++◌, drop, Bool, true, false, ◌&&◌, cond, length, ◌==◌, if◌then◌else◌, Greater, refl, sym, ap, ◌∙◌, arith, ne_eqb, eqb-true, ap₂, Ordering, Equal}
+use Rattle.std.proofs.Common.{◌≡◌, ◌<◌, ℕ, ◌+◌, List, get_or-take, length-take-le, [], ◌∷◌, ◌++◌, drop, Bool, true, false, ◌&&◌, cond, length, ◌==◌, if◌then◌else◌, Greater, refl, sym, ap, ◌∙◌, arith, ne_eqb, eqb-true, ap₂, Ordering}
+use Rattle.std.proofs.lemmas.Grind.{common_steps}
 use Rattle.std.specs.List.{onto_first, before_first, position_or_len, starts_with}
 use Rattle.std.specs.Str.{bytes_eq}
-use Rattle.std.specs.Ordering.{nat_cmp, is_ne, ordering_then}
-use Rattle.std.proofs.lemmas.Bool.{and_parts}
+use Rattle.std.specs.Ordering.{nat_cmp, is_ne}
 use Rattle.typed_path.specs.declared.scan.separators.Separators.{Separators}
 use Rattle.typed_path.specs.declared.scan.cursor.Begin.TheVariants.{Body}
 use Rattle.typed_path.specs.components.{dot, is_separator, root_text, is_empty, is_dot, is_dot_dot, Kind, current, parent, normal, kinds, parts, texts, Placed, component, body, later_body, root_part, current_part, parent_part, name_part}
 use Rattle.typed_path.specs.scan.{dots_rank, IsParting}
-use Rattle.typed_path.specs.order.{left_cmp, kinds_cmp, bytes_cmp}
-use Rattle.typed_path.proofs.lemmas.components.Segments.{body_from-first, pieces, first_parts, later_parts, body_parts, parts-body, dot-is, dot_dot-is}
-use Rattle.typed_path.proofs.lemmas.lists.Lists.{slice_split-some}
-use Rattle.typed_path.proofs.lemmas.order.SharedNames.{AreInOrder, before_first-cons, ends-order, same-byte, unlike}
+use Rattle.typed_path.specs.order.{left_cmp, kinds_cmp}
+use Rattle.typed_path.proofs.lemmas.components.Segments.{body_from-first, pieces, first_parts, later_parts, body_parts, parts-body}
+use Rattle.typed_path.proofs.lemmas.lists.Lists.{slice_split-some, before_first-cons}
+use Rattle.typed_path.proofs.lemmas.order.SharedNames.{AreInOrder, ends-order, same-byte, unlike}
 
 -- what stands at the front of a text that begins with a byte that does not separate
 data IsFront (b : ℕ) : Kind → Type 0 where
@@ -27,13 +27,10 @@ record Begins (s : Separators) (b : ℕ) (text : List ℕ) : Type 0 where
 
 -- a segment that is a dot or two begins with one
 dot-first : (b : ℕ) (p : List ℕ) → is_dot (b ∷ p) ≡ true → (b == dot) ≡ true
-dot-first b [] h = h
-dot-first b (c ∷ p) h = cc
+dot-first b p h = grind arith
 
 dots-first : (b : ℕ) (p : List ℕ) → is_dot_dot (b ∷ p) ≡ true → (b == dot) ≡ true
-dots-first b [] h = cc
-dots-first b (c ∷ []) h = (and_parts (b == dot) (c == dot) h).0
-dots-first b (c ∷ d ∷ p) h = cc
+dots-first b p h = grind arith
 
 begins : (s : Separators) (b : ℕ) (bs : List ℕ) → is_separator s b ≡ false → Begins s b (b ∷ bs)
 begins s b bs e =
@@ -66,45 +63,26 @@ begins s b bs e =
 
 -- the order of two fronts
 fronts-greater : (a b : ℕ) (k l : Kind) (ks ls : List Kind) → b ≡ dot → nat_cmp a b ≡ Greater → IsFront a k → IsFront b l → kinds_cmp (k ∷ ks) (l ∷ ls) ≡ Greater
-fronts-greater a b k l ks ls dotted greater (current_in_front e) other = let same = sym (ap₂ nat_cmp e dotted) ∙ greater in cc
-fronts-greater a b k l ks ls dotted greater (parent_in_front e) other = let same = sym (ap₂ nat_cmp e dotted) ∙ greater in cc
-fronts-greater a b k l ks ls dotted greater (name_in_front p) (current_in_front d) = refl
-fronts-greater a b k l ks ls dotted greater (name_in_front p) (parent_in_front d) = refl
-fronts-greater a b k l ks ls dotted greater (name_in_front p) (name_in_front q) =
-    ap (λ o. ordering_then (ordering_then (ordering_then o (bytes_cmp p q)) Equal) (kinds_cmp ks ls)) greater
+fronts-greater a b k l ks ls dotted greater h other = grind arith
 
 -- the order of two texts by what is read of them
 read : (s : Separators) (t u : List ℕ) (ks ls : List Kind) → kinds (body_parts s t) ≡ ks → kinds (body_parts s u) ≡ ls → left_cmp (body s 0 t) (body s 0 u) ≡ kinds_cmp ks ls
-read s t u ks ls e f =
-    (λ i. kinds_cmp (kinds (parts-body s 0 t i)) (kinds (parts-body s 0 u i))) ∙ (λ i. kinds_cmp (e i) (f i))
+read s t u ks ls e f = grind (arith, parts-body)
 
 module _ (s : Separators) (a b : ℕ) (xs ys : List ℕ) (own : is_separator s a ≡ false) (other : is_separator s b ≡ false) where
   -- a dot in front comes before a greater byte, whatever it begins
   pub dot-greater : b ≡ dot → nat_cmp a b ≡ Greater → left_cmp (body s 0 (a ∷ xs)) (body s 0 (b ∷ ys)) ≡ Greater
-  dot-greater dotted greater =
-      let f = begins s a xs own in
-      let g = begins s b ys other in
-      read s (a ∷ xs) (b ∷ ys) _ _ f.is g.is ∙ fronts-greater a b f.head g.head f.rest g.rest dotted greater f.front g.front
+  dot-greater dotted greater = grind (arith, common_steps)
 
 -- two lists of which the first components are of two ranks are in the order of these
 ranked : (d dd e ee : Bool) (p q : List ℕ) (cs ds : List Placed) (o : Ordering) → nat_cmp (cond d 0 (cond dd 1 2)) (cond e 0 (cond ee 1 2)) ≡ o → is_ne o ≡ true
     → left_cmp (cond d (component current_part 0) (cond dd (component parent_part 0) (component (name_part p) 0)) ++ cs)
     (cond e (component current_part 0) (cond ee (component parent_part 0) (component (name_part q) 0)) ++ ds) ≡ o
-ranked true dd true ee p q cs ds o h n = let no = ap is_ne h ∙ n in cc
-ranked true dd false true p q cs ds o h n = h
-ranked true dd false false p q cs ds o h n = h
-ranked false true true ee p q cs ds o h n = h
-ranked false true false true p q cs ds o h n = let no = ap is_ne h ∙ n in cc
-ranked false true false false p q cs ds o h n = h
-ranked false false true ee p q cs ds o h n = h
-ranked false false false true p q cs ds o h n = h
-ranked false false false false p q cs ds o h n = let no = ap is_ne h ∙ n in cc
+ranked d dd e ee p q cs ds o h n = grind arith
 
 -- the first component of a list is written as its segment
 first-text : (d dd : Bool) (p : List ℕ) (cs : List Placed) → is_dot p ≡ d → is_dot_dot p ≡ dd → texts (parts (cond d (component current_part 0) (cond dd (component parent_part 0) (component (name_part p) 0)) ++ cs)) ≡ p ∷ texts (parts cs)
-first-text true dd p cs i j = ap (λ x. x ∷ texts (parts cs)) (sym (dot-is p i))
-first-text false true p cs i j = ap (λ x. x ∷ texts (parts cs)) (sym (dot_dot-is p j))
-first-text false false p cs i j = refl
+first-text d dd p cs i j = grind arith
 
 module _ (s : Separators) where
   -- a text that begins with a byte that does not separate has a first segment, and so a first component that is no root

@@ -1,7 +1,8 @@
 -- Two texts that begin alike and go on with different names: their order is that of the names.
-use Rattle.std.proofs.Common.{◌≡◌, ℕ, zero, suc, ◌+◌, ◌-◌, ◌<◌, ◌≤◌, ◌==◌, List, [], ◌∷◌, ◌++◌, Bool, true, false, not, ◌&&◌, ◌||◌, cond, All, take, drop, length, get_or, Ordering, Less, Equal, Greater, refl, sym, ap, ap₂, subst, ◌∙◌, arith, length-take-le, length-drop, take-append-drop, get_or-take, get_or-drop, eqb-true, take_all, append_assoc, length-append, inl, inr, Option, Some, None}
+use Rattle.std.proofs.Common.{◌≡◌, ℕ, zero, suc, ◌+◌, ◌-◌, ◌<◌, ◌≤◌, ◌==◌, List, [], ◌∷◌, ◌++◌, Bool, true, false, not, ◌&&◌, ◌||◌, All, take, drop, length, get_or, Ordering, Equal, refl, sym, ap, ap₂, subst, ◌∙◌, arith, length-take-le, length-drop, take-append-drop, get_or-take, get_or-drop, take_all, append_assoc, length-append, inl, inr, Option, Some, None}
+use Rattle.std.proofs.lemmas.Grind.{common_steps}
 use Rattle.std.specs.Ordering.{is_ne, ordering_then}
-use Rattle.std.specs.List.{before_first, position_or_len, starts_with, suffix_len}
+use Rattle.std.specs.List.{before_first, position_or_len, suffix_len}
 use Rattle.std.specs.Str.{bytes_eq}
 use Rattle.std.specs.Cmp.Lexicographic.{bytes_decides, nat_list_cmp_total}
 use Rattle.std.proofs.Math.Bool.{and-false}
@@ -15,13 +16,13 @@ use Rattle.typed_path.specs.declared.scan.separators.Separators.TheVariants.{Eit
 use Rattle.typed_path.specs.declared.scan.cursor.Body.{Body as Reading}
 use Rattle.typed_path.specs.declared.scan.cursor.Begin.{Begin}
 use Rattle.typed_path.specs.declared.scan.cursor.Begin.TheVariants.{Body, Inside}
-use Rattle.typed_path.specs.components.{is_separator, is_verbatim, dot, Placed, name_part, component, first, is_empty, is_dot, is_dot_dot, body, later_body, kinds, parts, texts, windows, Prefix, prefix, disk, found, prefix_part, Found, prefix_of, separators, comps, comps_behind, IsPartedDrive}
-use Rattle.typed_path.specs.scan.{body_from, is_clean, counts, begins_with_name, tells_name, differs_at, IsParting, PartWithinNames, PartAt}
+use Rattle.typed_path.specs.components.{is_separator, dot, Placed, name_part, component, first, body, later_body, kinds, parts, windows, Prefix, prefix, prefix_part, Found, prefix_of, separators, comps, comps_behind, IsPartedDrive}
+use Rattle.typed_path.specs.scan.{body_from, is_clean, counts, begins_with_name, tells_name, IsParting, PartWithinNames, PartAt}
 use Rattle.typed_path.specs.order.{bytes_cmp, left_cmp, kinds_cmp, path_cmp, kind_cmp_total, kinds_cmp_total}
 use Rattle.typed_path.specs.views.BodyViews.{body_slice, body_items}
-use Rattle.typed_path.proofs.lemmas.lists.Lists.{last_place, before_first-byte}
+use Rattle.typed_path.proofs.lemmas.lists.Lists.{last_place, before_first-cons, alike-front}
 use Rattle.typed_path.proofs.lemmas.components.Segments.{body_from-first, parts-body}
-use Rattle.typed_path.proofs.lemmas.components.Prefixes.{some_is, prefix-fits}
+use Rattle.typed_path.proofs.lemmas.components.Prefixes.{prefix-fits}
 use Rattle.typed_path.specs.changes.{HaveOnePrefix, raw_length, is_name_piece}
 use Rattle.typed_path.specs.queries.{path_starts_with}
 use Rattle.typed_path.proofs.lemmas.queries.Bases.{begins, body-ended}
@@ -29,22 +30,10 @@ use Rattle.typed_path.proofs.lemmas.order.Comparisons.{cmp-behind}
 
 -- a segment that is a name is read as one
 first-name : (s : Separators) (piece : List ℕ) (at : ℕ) → is_name_piece piece ≡ true → first s (record { text = piece; start = at }) ≡ component (name_part piece) at
-first-name s piece at h = by (is_empty piece) (is_dot piece) (is_dot_dot piece) _ _ _ _ h
-  where
-    by : (e d dd : Bool) (rooting dotting parenting naming : List Placed) → not (e || d || dd) ≡ true → cond e rooting (cond d dotting (cond dd parenting naming)) ≡ naming
-    by false false false rooting dotting parenting naming h = refl
-    by false false true rooting dotting parenting naming h = cc
-    by false true dd rooting dotting parenting naming h = cc
-    by true d dd rooting dotting parenting naming h = cc
+first-name s piece at h = grind arith
 
 counts-name : (s : Separators) (piece : List ℕ) → is_name_piece piece ≡ true → counts s piece ≡ true
-counts-name s piece h = by (is_empty piece) (is_dot piece) (is_dot_dot piece) (is_verbatim s) h
-  where
-    by : (e d dd v : Bool) → not (e || d || dd) ≡ true → not e && (v || not d) ≡ true
-    by false false dd true h = refl
-    by false false dd false h = refl
-    by false true dd v h = cc
-    by true d dd v h = cc
+counts-name s piece h = grind arith
 
 -- three bytes or more are a name
 long-name : (a b c : ℕ) (rest : List ℕ) → is_name_piece (a ∷ b ∷ c ∷ rest) ≡ true
@@ -59,10 +48,6 @@ holds-name (a ∷ []) b [] h = ap (λ d. not ((a == dot) && d)) h ∙ ap not (an
 holds-name (a ∷ []) b (c ∷ ys) h = long-name a b c ys
 holds-name (a ∷ c ∷ []) b ys h = long-name a c b ys
 holds-name (a ∷ c ∷ d ∷ xs) b ys h = long-name a c d (xs ++ b ∷ ys)
-
--- what stands before the first match, where the first elements do not match
-pub before_first-cons : (p : ℕ → Bool) (b : ℕ) (bs : List ℕ) → p b ≡ false → before_first p (b ∷ bs) ≡ b ∷ before_first p bs
-before_first-cons p b bs h = before_first-byte p b bs ∙ ap (λ c. cond c [] (b ∷ before_first p bs)) h
 
 before_first-open : (p : ℕ → Bool) (mid rest : List ℕ) → All (λ b. p b ≡ false) mid → before_first p (mid ++ rest) ≡ mid ++ before_first p rest
 before_first-open p [] rest none = refl
@@ -83,35 +68,20 @@ begins-name begin s at (b ∷ bs) h =
     )
   where
     is_clean-of : (begin : Begin) → counts s (before_first (is_separator s) (b ∷ bs)) ≡ true → is_clean begin s (b ∷ bs) ≡ true
-    is_clean-of Body h = refl
-    is_clean-of Inside h = h
+    is_clean-of begin h = grind arith
 
 -- two lists that begin with different names are in their order
 named-order : (cs ds : List Placed) (n m : List ℕ) (at : ℕ) (o : Ordering) → bytes_cmp n m ≡ o → is_ne o ≡ true
     → left_cmp (record { part = name_part n; start = at } ∷ cs) (record { part = name_part m; start = at } ∷ ds) ≡ o
-named-order cs ds n m at Less e h = ap (λ r. ordering_then (ordering_then r Equal) (left_cmp cs ds)) e
-named-order cs ds n m at Equal e h = cc
-named-order cs ds n m at Greater e h = ap (λ r. ordering_then (ordering_then r Equal) (left_cmp cs ds)) e
+named-order cs ds n m at o e h = grind arith
 
 -- what two lists of bytes begin with alike does not tell
 bytes-shared : (mid xs ys : List ℕ) → bytes_cmp (mid ++ xs) (mid ++ ys) ≡ bytes_cmp xs ys
 bytes-shared [] xs ys = refl
 bytes-shared (m ∷ mid) xs ys = ap (λ o. ordering_then o (bytes_cmp (mid ++ xs) (mid ++ ys))) (tied_itself nat_cmp_total m) ∙ bytes-shared mid xs ys
 
--- two texts are alike up to the first place at which they differ
-alike-front : (k : ℕ) (t u : List ℕ) → k ≤ length t → k ≤ length u → ((i : ℕ) → i < k → get_or t i 0 ≡ get_or u i 0) → take k t ≡ take k u
-alike-front zero t u fits fits' same = refl
-alike-front (suc k) [] u fits fits' same = absurd (omega (arith, fits))
-alike-front (suc k) (x ∷ t) [] fits fits' same = absurd (omega (arith, fits'))
-alike-front (suc k) (x ∷ t) (y ∷ u) fits fits' same =
-    ap₂ (λ a xs. a ∷ xs) (same 0 (omega arith)) (alike-front k t u (omega (arith, fits)) (omega (arith, fits')) (λ i l. same (suc i) (omega (arith, l))))
-
 pub same-byte : (a b : ℕ) → not (a == b) ≡ false → a ≡ b
-same-byte a b h = by (a == b) refl h
-  where
-    by : (same : Bool) → (a == b) ≡ same → not same ≡ false → a ≡ b
-    by true e h = eqb-true a b e
-    by false e h = cc
+same-byte a b h = grind arith
 
 -- what is left of a reading has the components of its slice, read from its beginning
 pub clean-parts : (begin : Begin) (s : Separators) (at : ℕ) (v : List ℕ) → is_clean begin s v ≡ true → parts (body_from begin s at v) ≡ parts (body s 0 v)
@@ -124,10 +94,7 @@ clean-parts begin s at (b ∷ bs) clean =
 
 -- a whole body has the components of its slice, wherever that stands
 pub whole-body : (b : Reading) (s : Separators) (text : List ℕ) → s ≡ b.separators → text ≡ body_slice b → b.begin ≡ Begin.Body → kinds (parts (body s 0 text)) ≡ kinds (parts (body_items b))
-whole-body b s text same slice begins =
-    ap kinds (parts-body s 0 text ∙ sym (parts-body s b.from text))
-    ∙ ap₂ (λ begin r. kinds (parts (body_from begin r b.from text))) (sym begins) same
-    ∙ ap (λ t. kinds (parts (body_from b.begin b.separators b.from t))) slice
+whole-body b s text same slice begins = grind (arith, begins, parts-body)
 
 -- two texts with the same components in front, and then names in a given order
 pub record Parted (s : Separators) (t u : List ℕ) (o : Ordering) : Type 0 where
@@ -169,9 +136,7 @@ unlike a b o is differ = (false_from_ne_true _ (λ same. apart ((bytes_decides a
 
 -- so the one does not begin with the other
 pub parted-begins : (s : Separators) (t u : List ℕ) (o : Ordering) → Parted s t u o → is_ne o ≡ true → begins (body s 0 t) (body s 0 u) ≡ false
-parted-begins s t u o p differ =
-    ap₂ begins p.own_is p.other_is
-    ∙ begins-apart p.front p.front (record { part = name_part p.own; start = p.at }) (record { part = name_part p.other; start = p.at }) p.behind_own p.behind_other refl (unlike p.own p.other o p.order differ).1
+parted-begins s t u o p differ = grind (arith, begins-apart, unlike)
 
 -- the first segments of what two texts hold behind a place are in an order
 abbrev pub AreInOrder : Separators → List ℕ → List ℕ → ℕ → Ordering → Type 0
@@ -202,8 +167,7 @@ module _ (s : Separators) (t u : List ℕ) (k n : ℕ) (parted : IsParting s t u
   take-front v long = ap (take n) (sym (take-append-drop k v)) ∙ take-append-le n (take k v) (drop k v) (omega (arith, length-take-le k v long, low))
 
   last_own : (j : ℕ) → n ≡ suc j → is_separator s (get_or t j 0) ≡ true
-  last_own j e =
-      ap (is_separator s) (sym (get_or-take k t j 0 (omega (arith, e, low)))) ∙ ap (λ i. is_separator s (get_or (take k t) i 0)) (omega (arith, e)) ∙ parted.1.1 (omega (arith, e)) 0
+  last_own j e = grind (arith, get_or-take, low)
 
   last_other : (j : ℕ) → n ≡ suc j → is_separator s (get_or u j 0) ≡ true
   last_other j e = ap (is_separator s) (sym (same-byte (get_or t j 0) (get_or u j 0) (parted.0.before j (omega arith) (omega (arith, e, low))))) ∙ last_own j e
@@ -269,18 +233,11 @@ module _ (s : Separators) (t u : List ℕ) (k n : ℕ) (parted : IsParting s t u
       ]
 
       name : (rest : List ℕ) → is_name_piece (mid ++ rest) ≡ true
-      name rest =
-          ap (λ xs. is_name_piece (xs ++ rest)) (ap (drop n) is ∙ drop-append-le n before (b ∷ []) inside)
-          ∙ ap is_name_piece (append_assoc (drop n before) (b ∷ []) rest)
-          ∙ holds-name (drop n before) b rest (not-true _ both.1)
+      name rest = grind (arith, drop-append-le, inside, append_assoc, holds-name, not-true, both)
 
   -- these are in the order of their ends
   pub ends-order : (o : Ordering) → AreInOrder s t u k o → bytes_cmp (before_first (is_separator s) (drop n t)) (before_first (is_separator s) (drop n u)) ≡ o
-  ends-order o is =
-      ap₂ bytes_cmp own-piece other-piece
-      ∙ bytes-shared mid (before_first (is_separator s) (drop k t)) (before_first (is_separator s) (drop k u))
-      ∙ ap₂ (λ x y. bytes_cmp (before_first (is_separator s) x) (before_first (is_separator s) y)) (sym (take_rest t k)) (sym (take_rest u k))
-      ∙ is
+  ends-order o is = grind (arith, own-piece, other-piece, bytes-shared, take_rest)
 
   -- where they are names, the texts are in the order of their ends
   pub names-parted : (o : Ordering) → begins_with_name s (drop n t) ≡ true → begins_with_name s (drop n u) ≡ true → AreInOrder s t u k o → Parted s t u o
@@ -336,28 +293,15 @@ alike-before t u k n place low = alike-front n t u (omega (arith, place.high)) (
 
 -- behind such a place they differ first at the same byte
 pub parted-behind : (t u : List ℕ) (k n : ℕ) → PartAt t u k → n ≤ k → PartAt (drop n t) (drop n u) (k - n)
-parted-behind t u k n place low = record {
-  low = omega arith;
-  high = omega (arith, place.high, length-drop n t, length-drop n u);
-  before = λ i h l. moved i ∙ place.before (n + i) (omega arith) (omega arith);
-  hit = λ l. moved (k - n) ∙ ap (differs_at t u) (omega arith) ∙ place.hit (omega (arith, l, length-drop n t, length-drop n u));
-}
-  where
-    moved : (i : ℕ) → differs_at (drop n t) (drop n u) i ≡ differs_at t u (n + i)
-    moved i = ap₂ (λ a b. not (a == b)) (get_or-drop n t i 0) (get_or-drop n u i 0)
+parted-behind t u k n place low = grind (arith, length-drop, get_or-drop)
 
 -- the same as a slice takes what stands there
 pub parted-rest : (t u : List ℕ) (k n : ℕ) → PartAt t u k → n ≤ k → PartAt (take (length t - n) (drop n t)) (take (length u - n) (drop n u)) (k - n)
-parted-rest t u k n place low =
-    subst (λ v. PartAt v (take (length u - n) (drop n u)) (k - n)) (sym (take_rest t n))
-    (subst (λ w. PartAt (drop n t) w (k - n)) (sym (take_rest u n)) (parted-behind t u k n place low))
+parted-rest t u k n place low = grind (arith, common_steps)
 
 -- and where that is the end of one of them, the other begins with it
 pub shared-begins : (t u : List ℕ) (k : ℕ) → PartAt t u k → k ≡ length u → (take (length u) t ≡ u) × (length u ≤ length t)
-shared-begins t u k place whole = (
-  sym (ap (λ n. take n t) whole) ∙ alike-before t u k k place (omega arith) ∙ take_all k u (omega (arith, whole)),
-  omega (arith, place.high, whole),
-)
+shared-begins t u k place whole = grind (arith, common_steps, alike-before)
 
 -- one text is in order with itself
 pub itself-order : (s : Separators) (t u : List ℕ) (k : ℕ) → PartAt t u k → k ≡ length t → k ≡ length u → left_cmp (body s 0 t) (body s 0 u) ≡ Equal
@@ -376,31 +320,11 @@ behind-order p a b s n m v w o is =
 -- and the one does not begin with the other where what stands there does not
 behind-apart : (p : Prefix) (a b : List ℕ) (s : Separators) (n m : ℕ) (v w : List ℕ) → begins (body s 0 v) (body s 0 w) ≡ false
     → begins (component (prefix_part p a) 0 ++ body s n v) (component (prefix_part p b) 0 ++ body s m w) ≡ false
-behind-apart p a b s n m v w apart =
-    ap (λ r. bytes_eq b a && r) (ap₂ (λ ps qs. starts_with bytes_eq (texts ps) (texts qs)) (parts-body s n v ∙ sym (parts-body s 0 v)) (parts-body s m w ∙ sym (parts-body s 0 w)) ∙ apart)
-    ∙ and-false (bytes_eq b a)
+behind-apart p a b s n m v w apart = grind (arith, parts-body, and-false)
 
 -- two Windows texts with no prefix but one drive
 pub parted-one : (t u : List ℕ) (a b : Option ℕ) (v w : List ℕ) → IsPartedDrive t a v → IsPartedDrive u b w → a ≡ b → HaveOnePrefix t u (length t - length v) Either
-parted-one t u None None v w own other same = (
-  own.0,
-  other.0,
-  other.1 ∙ sym own.1,
-  omega (arith, ap length own.2) ∙ sym (ap raw_length own.1),
-)
-parted-one t u None (Some m) v w own other same = cc
-parted-one t u (Some l) None v w own other same = cc
-parted-one t u (Some l) (Some m) v w own other same = (
-  own.0,
-  other.0,
-  other.1 ∙ ap (λ k. Some (found (disk k) 2)) (sym (some_is same)) ∙ sym own.1,
-  omega (arith, ap length own.2, length-drop 2 t, (prefix-fits windows t (found (disk l) 2) own.1).fits) ∙ sym (ap raw_length own.1),
-)
-
--- what stands behind a drive is no longer than the text
-pub parted-fits : (t : List ℕ) (a : Option ℕ) (v : List ℕ) → IsPartedDrive t a v → length v ≤ length t
-parted-fits t None v own = omega (arith, ap length own.2)
-parted-fits t (Some l) v own = omega (arith, ap length own.2, length-drop 2 t)
+parted-one t u a b v w own other same = grind arith
 
 -- a prefix ends within its text
 raw-fits : (t : List ℕ) (p : Option Found) → prefix_of windows t ≡ p → raw_length p ≤ length t
@@ -409,10 +333,7 @@ raw-fits t (Some f) is = (prefix-fits windows t f is).fits
 
 -- and one of two texts within both
 pub one-fits : (t u : List ℕ) (n : ℕ) (s : Separators) → HaveOnePrefix t u n s → (n ≤ length t) × (n ≤ length u)
-one-fits t u n s one = (
-  omega (arith, one.3, raw-fits t (prefix_of windows t) refl),
-  omega (arith, one.3, ap raw_length one.2, raw-fits u (prefix_of windows u) refl),
-)
+one-fits t u n s one = grind (arith, raw-fits)
 
 -- two Windows texts with one prefix, or none, are in the order of what stands behind it, and the one does not begin with the other where that does not
 module _ (t u : List ℕ) (n : ℕ) (s : Separators) (one : HaveOnePrefix t u n s) where

@@ -1,6 +1,7 @@
 -- How long clean texts are, and paths that lead from a base.
-use Rattle.std.proofs.Common.{◌≡◌, ℕ, zero, suc, ◌+◌, ◌*◌, ◌-◌, ◌≤◌, ◌==◌, ◌||◌, ◌&&◌, not, Bool, true, false, if◌then◌else◌, List, [], ◌∷◌, ◌++◌, length, take, drop, Option, Some, None, is_some, IfSome, refl, sym, ap, subst, ◌∙◌, arith, eqb-true, length-append, length-take, length-drop}
-use Rattle.std.specs.List.{AllByRecursion, join_with_byte, slice_split, onto_first}
+use Rattle.std.proofs.Common.{◌≡◌, ℕ, zero, suc, ◌+◌, ◌*◌, ◌-◌, ◌≤◌, ◌==◌, ◌||◌, not, Bool, true, false, if◌then◌else◌, List, [], ◌∷◌, ◌++◌, length, take, drop, Option, Some, None, is_some, IfSome, refl, sym, ap, subst, ◌∙◌, arith, eqb-true, length-append, length-take, length-drop}
+use Rattle.std.proofs.lemmas.Grind.{common_steps}
+use Rattle.std.specs.List.{AllByRecursion, join_with_byte}
 use Rattle.std.proofs.lemmas.Bool.{cond_both, both_ways, eqb-false}
 use Rattle.std.proofs.lemmas.List.Elements.{All-head}
 use Rattle.std.proofs.lemmas.List.Sums.{sum_by-cons}
@@ -10,7 +11,7 @@ use Rattle.typed_path.specs.components.{Dialect, unix, windows, dot, backslash, 
 use Rattle.typed_path.specs.queries.{begins_with_root, is_disk}
 use Rattle.typed_path.specs.changes.{room_of}
 use Rattle.typed_path.specs.places.{unmet, kept_names, is_anchored, rising, dots, kept_segments, own_separator, unheaded, behind_head, cleaned, clean_text, row_end, met_count, steps_up, names_down, is_reached, steps_text, relative_text}
-use Rattle.typed_path.proofs.lemmas.lists.Lists.{width, slice_split-some, slice_split-unseparated, IsUnseparated}
+use Rattle.typed_path.proofs.lemmas.lists.Lists.{width, slice_split-some, slice_split-unseparated, IsUnseparated, first-piece}
 use Rattle.typed_path.proofs.lemmas.components.FirmPrefixes.{parted, drive-apart, drive-stays}
 use Rattle.typed_path.proofs.lemmas.components.Segments.{pieces, named_part, first_part, first_parts, later_parts, body_parts, body_parts-read, parts-body, parts_behind, parts-comps_behind, IsWritten, IsWrittenPart, each-written}
 use Rattle.typed_path.proofs.lemmas.components.WindowsNames.{unseparated-none}
@@ -18,7 +19,6 @@ use Rattle.typed_path.proofs.lemmas.components.PrefixCuts.{parts_of-none}
 use Rattle.typed_path.proofs.lemmas.changes.Lengths.{size}
 use Rattle.typed_path.proofs.lemmas.changes.MergedInPlace.{room-body}
 use Rattle.typed_path.proofs.lemmas.places.CleanTexts.{cleaned-rooted, cleaned-bare, cleaned-prefixed}
-use Rattle.typed_path.proofs.lemmas.components.Cuts.{root_text-length}
 
 -- The room that components take by their kinds, each but a root with a separator.
 
@@ -34,11 +34,7 @@ weights [] = 0
 weights (k ∷ ks) = weight k + weights ks
 
 weight-size : (s : Separators) (k : Kind) (text : List ℕ) → IsWritten s k text → weight k ≤ size (record { kind = k; text = text })
-weight-size s (prefix p) text written = absurd written
-weight-size s root text written = omega (arith, ap length written, root_text-length s)
-weight-size s current text written = omega (arith, ap length written)
-weight-size s parent text written = omega (arith, ap length written)
-weight-size s (normal name) text written = omega (arith, ap length written.0)
+weight-size s k text written = grind arith
 
 weights-room : (s : Separators) (ps : List Part) → AllByRecursion (IsWrittenPart s) ps → weights (kinds ps) ≤ room_of ps
 weights-room s [] each = omega arith
@@ -63,22 +59,14 @@ kept-weight (prefix p ∷ ks) = omega (arith, kept-weight ks)
 kept-weight (root ∷ ks) = omega (arith, kept-weight ks)
 kept-weight (current ∷ ks) = omega (arith, kept-weight ks)
 kept-weight (parent ∷ ks) = omega (arith, kept-weight ks)
-kept-weight (normal name ∷ ks) =
-    cond_both (unmet ks == 0) (name ∷ kept_names ks) (kept_names ks) (λ names. (unmet ks - 1) * 3 + width names ≤ length name + 1 + weights ks)
-    (λ e. omega (arith, kept-weight ks)) (λ e. omega (arith, kept-weight ks))
+kept-weight (normal name ∷ ks) = grind (arith, common_steps, cond_both, width, kept-weight ks)
 
 segments-weight : (anchored : Bool) (ks : List Kind) → width (kept_segments anchored ks) ≤ weights ks
-segments-weight true ks = omega (arith, kept-weight ks)
-segments-weight false ks = omega (arith, kept-weight ks, width-append (dots (unmet ks)) (kept_names ks), width-dots (unmet ks))
+segments-weight anchored ks = grind (arith, kept-weight, width-append, width-dots)
 
 -- behind a root, which is kept apart from them, they take less
 rooted-weight : (anchored : Bool) (ks : List Kind) → width (kept_segments anchored ks) + (if begins_with_root ks then 1 else 0) ≤ weights ks
-rooted-weight anchored [] = omega (arith, segments-weight anchored [])
-rooted-weight anchored (prefix p ∷ ks) = omega (arith, segments-weight anchored ks)
-rooted-weight anchored (root ∷ ks) = omega (arith, segments-weight anchored ks)
-rooted-weight anchored (current ∷ ks) = omega (arith, segments-weight anchored ks)
-rooted-weight anchored (parent ∷ ks) = omega (arith, segments-weight anchored (parent ∷ ks))
-rooted-weight anchored (normal name ∷ ks) = omega (arith, segments-weight anchored (normal name ∷ ks))
+rooted-weight anchored ks = grind (arith, segments-weight)
 
 -- segments with a separator between
 joined-width : (c : ℕ) (segment : List ℕ) (segments : List (List ℕ)) → length (join_with_byte c (segment ∷ segments)) + 1 ≡ width (segment ∷ segments)
@@ -91,38 +79,16 @@ joined-length c (segment ∷ segments) = omega (arith, joined-width c segment se
 
 -- behind a head
 parted-length : (sep : ℕ) (raw text : List ℕ) (there : Bool) → length ((raw ++ (if there then sep ∷ [] else [])) ++ text) ≤ length raw + length text + 1
-parted-length sep raw text true = omega (arith, length-append (raw ++ sep ∷ []) text, length-append raw (sep ∷ []))
-parted-length sep raw text false = omega (arith, length-append (raw ++ []) text, length-append raw [])
+parted-length sep raw text there = grind (arith, length-append)
 
 headed-length : (sep : ℕ) (raw : List ℕ) (rooted implied : Bool) (segments : List (List ℕ))
     → length (behind_head sep raw rooted implied segments) ≤ length raw + width segments + (if rooted then 1 else 0)
 headed-length sep raw true implied segments = omega (arith, parted-length sep raw (join_with_byte sep segments) true, joined-length sep segments)
 headed-length sep raw false true [] = omega (arith, length-append (raw ++ []) [], length-append raw [])
 headed-length sep raw false false [] = omega (arith, length-append (raw ++ []) [], length-append raw [])
-headed-length sep raw false implied (segment ∷ segments) =
-    omega (
-      arith,
-      parted-length sep raw (join_with_byte sep (segment ∷ segments)) (implied && not (length (segment ∷ segments) == 0)),
-      joined-width sep segment segments,
-    )
+headed-length sep raw false implied (segment ∷ segments) = grind (arith, common_steps, parted-length, joined-width)
 
 -- Behind neither a prefix nor a root: what is read as a prefix there begins with another segment than the path, so some bytes of that are gone.
-
--- a text begins with its first piece
-first-piece : (p : ℕ → Bool) (t piece : List ℕ) (more : List (List ℕ)) → slice_split p t ≡ piece ∷ more → (x : List ℕ) × (t ≡ piece ++ x)
-first-piece p t [] more e = (t, refl)
-first-piece p [] (c ∷ piece) more e = cc
-first-piece p (b ∷ bs) (c ∷ piece) more e = let some = slice_split-some p bs in by (first-piece p bs) (p b) some.0 some.1 some.2 e
-  where
-    by : ((piece : List ℕ) (more : List (List ℕ)) → slice_split p bs ≡ piece ∷ more → (x : List ℕ) × (bs ≡ piece ++ x)) → (separates : Bool) (one : List ℕ) (others : List (List ℕ)) → slice_split p bs ≡ one ∷ others
-        → (if separates then [] ∷ slice_split p bs else onto_first b (slice_split p bs)) ≡ (c ∷ piece) ∷ more → (x : List ℕ) × (b ∷ bs ≡ c ∷ piece ++ x)
-    by again true one others some e = cc
-    by again false one others some e =
-        let whole : (b ∷ one) ∷ others ≡ (c ∷ piece) ∷ more = sym (ap (onto_first b) some) ∙ e in
-        let same : b ≡ c = cc in
-        let rest : one ≡ piece = cc in
-        let h = again one others some in
-        (h.0, ap (λ xs. b ∷ xs) h.1 ∙ (λ i. same i ∷ rest i ++ h.0))
 
 -- a first name that is kept is no prefix, whatever stands behind it
 named-none : (t piece x : List ℕ) (segments : List (List ℕ)) → prefix_of windows t ≡ None → t ≡ piece ++ x → (length piece == 0) ≡ false → IsUnseparated (is_separator Either) piece
@@ -140,15 +106,11 @@ named-none t (b ∷ bs) x segments none is filled unseparated =
     by (Some letter) e = let found = drive-stays (b ∷ bs) x letter e in cc
 
     behind : (segments : List (List ℕ)) → drive (b ∷ bs) ≡ None → prefix_of windows (join_with_byte backslash ((b ∷ bs) ∷ segments)) ≡ None
-    behind [] undriven = unseparated-none b bs plain undriven
-    behind (next ∷ segments) undriven =
-        unseparated-none b (bs ++ backslash ∷ join_with_byte backslash (next ∷ segments)) plain
-        (drive-apart Either (b ∷ bs) (backslash ∷ join_with_byte backslash (next ∷ segments)) (parted backslash _ refl) undriven)
+    behind segments undriven = grind (arith, unseparated-none, plain, drive-apart, parted)
 
 -- nor is `..`
 dotted-none : (segments : List (List ℕ)) → prefix_of windows (join_with_byte backslash ((dot ∷ dot ∷ []) ∷ segments)) ≡ None
-dotted-none [] = unseparated-none dot (dot ∷ []) refl refl
-dotted-none (next ∷ segments) = unseparated-none dot (dot ∷ backslash ∷ join_with_byte backslash (next ∷ segments)) refl refl
+dotted-none segments = grind arith
 
 abbrev IsPrefixed : List (List ℕ) → Type 0
 IsPrefixed segments = is_some (prefix_of windows (join_with_byte backslash segments)) ≡ true
@@ -161,14 +123,7 @@ abbrev Saves : Kind → List Kind → Type 0
 Saves k ks = IsPrefixed (kept_segments false (k ∷ ks)) → begins_with_root (k ∷ ks) ≡ false → width (kept_segments false (k ∷ ks)) + 2 ≤ weights (k ∷ ks)
 
 saves-name : (t piece x : List ℕ) (ks : List Kind) → prefix_of windows t ≡ None → t ≡ piece ++ x → (length piece == 0) ≡ false → IsUnseparated (is_separator Either) piece → Saves (normal piece) ks
-saves-name t piece x ks none is filled unseparated some relative = by (unmet ks == 0) refl some
-  where
-    by : (b : Bool) → (unmet ks == 0) ≡ b → IsPrefixed (dots (unmet ks - 1) ++ (if b then piece ∷ kept_names ks else kept_names ks))
-        → width (dots (unmet ks - 1) ++ (if b then piece ∷ kept_names ks else kept_names ks)) + 2 ≤ length piece + 1 + weights ks
-    by true e some =
-        let first : IsPrefixed (piece ∷ kept_names ks) = subst (λ n. IsPrefixed (dots (n - 1) ++ piece ∷ kept_names ks)) (eqb-true (unmet ks) 0 e) some in
-        unprefixed (piece ∷ kept_names ks) (named-none t piece x (kept_names ks) none is filled unseparated) first
-    by false e some = omega (arith, eqb-false (unmet ks) 0 e, kept-weight ks, width-append (dots (unmet ks - 1)) (kept_names ks), width-dots (unmet ks - 1))
+saves-name t piece x ks h is filled unseparated h1 relative = grind (arith, width, eqb-true, unprefixed, named-none, eqb-false, kept-weight, width-append, width-dots)
 
 saves-first : (t piece x : List ℕ) (ks : List Kind) → prefix_of windows t ≡ None → t ≡ piece ++ x → IsUnseparated (is_separator Either) piece → Saves (first_part Either piece).kind ks
 saves-first t piece x ks none is unseparated =
@@ -196,9 +151,7 @@ saves-body (b ∷ bs) none some relative = let h = slice_split-some (is_separato
 -- Clean texts.
 
 unheaded-length : (d : Dialect) (text : List ℕ) → length (unheaded d text) ≤ length text + 2
-unheaded-length d [] = omega arith
-unheaded-length d (b ∷ bs) =
-    cond_both (is_some (prefix_of d (b ∷ bs))) (dot ∷ own_separator d ∷ b ∷ bs) (b ∷ bs) (λ t. length t ≤ length (b ∷ bs) + 2) (λ e. omega arith) (λ e. omega arith)
+unheaded-length d text = grind arith
 
 -- what stands behind no head takes a byte less than its segments, or is read as a prefix
 bare-length : (d : Dialect) (segments : List (List ℕ)) (room : ℕ) → width segments ≤ room + 1
@@ -208,9 +161,7 @@ bare-length d [] room fits saves = omega arith
 bare-length d (segment ∷ segments) room fits saves = by (join_with_byte (own_separator d) (segment ∷ segments)) (joined-width (own_separator d) segment segments) saves
   where
     by : (text : List ℕ) → length text + 1 ≡ width (segment ∷ segments) → (is_some (prefix_of d text) ≡ true → width (segment ∷ segments) + 2 ≤ room + 1) → length (unheaded d text) ≤ room + 1
-    by [] size saves = omega arith
-    by (b ∷ bs) size saves =
-        cond_both (is_some (prefix_of d (b ∷ bs))) (dot ∷ own_separator d ∷ b ∷ bs) (b ∷ bs) (λ t. length t ≤ room + 1) (λ e. omega (arith, saves e, size)) (λ e. omega (arith, fits, size))
+    by text size saves = grind (arith, size, cond_both)
 
 -- without a prefix
 plain-length : (d : Dialect) (t : List ℕ) (ps : List Part) → ps ≡ parts (body (separators d t) 0 t) → weights (kinds ps) ≤ length t + 1
@@ -261,17 +212,8 @@ clean_text_length windows t = by (prefix_of windows t) refl
 
 -- each name that is kept takes two bytes at least
 few-names : (s : Separators) (ps : List Part) → AllByRecursion (IsWrittenPart s) ps → length (kept_names (kinds ps)) * 2 ≤ weights (kinds ps)
-few-names s [] each = omega arith
-few-names s (p ∷ ps) each = by p.kind p.text each.0 (few-names s ps each.1)
-  where
-    by : (k : Kind) (text : List ℕ) → IsWritten s k text → length (kept_names (kinds ps)) * 2 ≤ weights (kinds ps) → length (kept_names (k ∷ kinds ps)) * 2 ≤ weights (k ∷ kinds ps)
-    by (prefix q) text written h = absurd written
-    by root text written h = omega (arith, h)
-    by current text written h = omega (arith, h)
-    by parent text written h = omega (arith, h)
-    by (normal []) text written h = let clean = written.1 in let filled = clean.filled in cc
-    by (normal (b ∷ bs)) text written h =
-        cond_both (unmet (kinds ps) == 0) ((b ∷ bs) ∷ kept_names (kinds ps)) (kept_names (kinds ps)) (λ names. length names * 2 ≤ length (b ∷ bs) + 1 + weights (kinds ps)) (λ e. omega (arith, h)) (λ e. omega (arith, h))
+few-names s [] each = grind arith
+few-names s (p ∷ ps) each = grind (arith, cond_both, few-names s ps each.1)
 
 -- the same of a whole path, whose prefix holds none
 record Weighs (ks : List Kind) (room : ℕ) : Type 0 where

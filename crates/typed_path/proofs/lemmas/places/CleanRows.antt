@@ -1,17 +1,17 @@
 -- The parents and names that are kept of a path, put behind a head segment by segment.
-use Rattle.std.proofs.Common.{◌≡◌, ℕ, ◌+◌, ◌-◌, ◌<◌, ◌≤◌, ◌==◌, ◌||◌, Bool, true, false, cond, List, [], ◌∷◌, ◌++◌, map, replicate, fold, length, take, if◌then◌else◌, refl, sym, ap, ap₂, ◌∙◌, append_assoc, append-nil, arith, subst, length-append, length-take, drop, Some, None}
+use Rattle.std.proofs.Common.{◌≡◌, ℕ, ◌+◌, ◌-◌, ◌<◌, ◌≤◌, ◌==◌, ◌||◌, Bool, true, false, cond, List, [], ◌∷◌, ◌++◌, map, replicate, fold, length, take, refl, sym, ap, ap₂, ◌∙◌, append_assoc, append-nil, arith, subst, length-append, length-take, drop, Some, None}
 use Rattle.std.specs.List.{AllByRecursion, list_all, slice_split}
 use Rattle.std.proofs.lemmas.Bool.{and_parts, or_parts, not-true, both_ways}
 use Rattle.std.proofs.lemmas.List.{map-append, replicate_more, length-replicate}
 use Rattle.typed_path.specs.declared.scan.separators.Separators.{Separators}
-use Rattle.typed_path.specs.components.{dot, is_separator, is_verbatim, root_text, Kind, current, parent, normal, Part, root_part, current_part, parent_part, name_part, parts, kinds, is_dot, is_dot_dot, component, first, body}
+use Rattle.typed_path.specs.components.{dot, is_separator, root_text, Kind, current, parent, normal, Part, root_part, current_part, parent_part, name_part, parts, kinds, is_dot, is_dot_dot, component, first, body}
 use Rattle.typed_path.specs.changes.{is_name_piece}
 use Rattle.typed_path.specs.places.{unmet, kept_names, row_end, rows_of, settled, AreRowsOf, ArePut, AreKept, TellsNamesOf, dots, kept_segments, segment_kind, segment_kinds}
-use Rattle.typed_path.proofs.lemmas.lists.Lists.{IsUnseparated, slice_split-some, slice_split-unseparated, AllByRecursion-append}
-use Rattle.typed_path.proofs.lemmas.components.Segments.{pieces, later_parts, first_parts, body_parts, parts-body, dot_dot-is}
+use Rattle.typed_path.proofs.lemmas.lists.Lists.{IsUnseparated, slice_split-some, slice_split-unseparated, AllByRecursion-append, all-front, take-ended}
+use Rattle.typed_path.proofs.lemmas.components.Segments.{pieces, later_parts, first_parts, body_parts, parts-body}
 use Rattle.typed_path.proofs.lemmas.places.KeptNames.{AlikeKept, kept_names-append, unmet-names, kept-names}
 use Rattle.typed_path.proofs.lemmas.places.KeptFromBack.{alike-append, alike-cons, met-alike}
-use Rattle.typed_path.proofs.lemmas.places.UnixRows.{Ended, none, some, ended, take-ended, rows-append, rows-more, all-front, told-by_kind}
+use Rattle.typed_path.proofs.lemmas.places.UnixRows.{Ended, none, some, ended, rows-append, rows-more, told-by_kind}
 
 -- What is kept of names and of segments behind them.
 
@@ -39,8 +39,7 @@ settled-step : (names : List (List ℕ)) (segment : List ℕ) (ks : List Kind) �
 settled-step names segment ks = by (length segment == 0) (is_dot segment) (is_dot_dot segment)
   where
     parent_ends : (ns : List (List ℕ)) → Ended ns → kept_names (map normal (take (length ns - 1) ns) ++ ks) ≡ kept_names (map normal ns ++ parent ∷ ks)
-    parent_ends _ none = refl
-    parent_ends _ (some ns n) = ap (λ ms. kept_names (map normal ms ++ ks)) (take-ended ns n) ∙ sym (names-met ns n ks).names
+    parent_ends ns h = grind (arith, none, some, take-ended, names-met)
 
     by : (empty dotted twice : Bool)
         → kept_names (map normal (cond (empty || dotted) names (cond twice (take (length names - 1) names) (names ++ segment ∷ []))) ++ ks)
@@ -68,27 +67,13 @@ alike-settled ss ts same = record {
     names = replicate n []
 
     counts : (us : List (List ℕ)) → length (fold settled names us) ≡ (n - unmet (map segment_kind us)) + length (kept_names (map segment_kind us))
-    counts us =
-        let ks = map segment_kind us in
-        let size : length (kept_names (map normal names)) ≡ n = ap length (kept-names names) ∙ length-replicate n [] in
-        ap length (settled-kept us names ∙ kept_names-append (map normal names) ks)
-        ∙ length-append (take (length (kept_names (map normal names)) - unmet ks) (kept_names (map normal names))) (kept_names ks)
-        ∙ ap (λ m. m + length (kept_names ks)) (length-take (length (kept_names (map normal names)) - unmet ks) (kept_names (map normal names)) ∙ omega (arith, size))
+    counts us = grind (arith, names, n, kept-names, length-replicate, settled-kept, kept_names-append, length-append, length-take)
 
 -- The components of a body are kept as its segments are.
 
 later-alike : (s : Separators) (ps : List (List ℕ)) → AlikeKept (kinds (later_parts s ps)) (map segment_kind ps)
-later-alike s [] = record { unmet = refl; names = refl }
-later-alike s (p ∷ ps) = by (later-alike s ps) (length p == 0) (is_dot p) (is_verbatim s) (is_dot_dot p)
-  where
-    by : AlikeKept (kinds (later_parts s ps)) (map segment_kind ps) → (empty dotted verbatim twice : Bool)
-        → AlikeKept (kinds (cond empty [] (cond dotted (cond verbatim (current_part ∷ []) []) (cond twice parent_part (name_part p) ∷ [])) ++ later_parts s ps))
-        (cond (empty || dotted) current (cond twice parent (normal p)) ∷ map segment_kind ps)
-    by rest true dotted verbatim twice = record { unmet = rest.unmet; names = rest.names }
-    by rest false true true twice = record { unmet = rest.unmet; names = rest.names }
-    by rest false true false twice = record { unmet = rest.unmet; names = rest.names }
-    by rest false false verbatim true = alike-cons parent _ _ rest
-    by rest false false verbatim false = alike-cons (normal p) _ _ rest
+later-alike s [] = grind arith
+later-alike s (p ∷ ps) = grind (arith, later_parts, alike-cons, later-alike s ps)
 
 first-alike : (s : Separators) (p : List ℕ) (ps : List (List ℕ)) → AlikeKept (kinds (first_parts s (p ∷ ps))) (map segment_kind (p ∷ ps))
 first-alike s p ps = by (length p == 0) (is_dot p) (is_dot_dot p)
@@ -99,10 +84,7 @@ first-alike s p ps = by (length p == 0) (is_dot p) (is_dot_dot p)
     by : (empty dotted twice : Bool)
         → AlikeKept (kinds (cond empty (root_part (root_text s)) (cond dotted current_part (cond twice parent_part (name_part p))) ∷ later_parts s ps))
         (cond (empty || dotted) current (cond twice parent (normal p)) ∷ map segment_kind ps)
-    by true dotted twice = record { unmet = rest.unmet; names = rest.names }
-    by false true twice = record { unmet = rest.unmet; names = rest.names }
-    by false false true = alike-cons parent _ _ rest
-    by false false false = alike-cons (normal p) _ _ rest
+    by empty dotted twice = grind (arith, rest, alike-cons)
 
 pub body-alike : (s : Separators) (at : ℕ) (text : List ℕ) → AlikeKept (kinds (parts (body s at text))) (segment_kinds s text)
 body-alike s at text = subst (λ ps. AlikeKept (kinds ps) (segment_kinds s text)) (sym (parts-body s at text)) (by text)
@@ -125,12 +107,7 @@ segment-kind s segment p e = told-by_kind (kind_by segment) s segment p refl e
 
 -- a parent is written as two dots
 pub parent-dots : (segment : List ℕ) → segment_kind segment ≡ parent → segment ≡ dot ∷ dot ∷ []
-parent-dots segment e = dot_dot-is segment (by (length segment == 0 || is_dot segment) (is_dot_dot segment) e)
-  where
-    by : (blank twice : Bool) → cond blank current (cond twice parent (normal segment)) ≡ parent → twice ≡ true
-    by true twice h = cc
-    by false true h = refl
-    by false false h = cc
+parent-dots segment e = grind arith
 
 -- names are kinds of their own
 piece-kinds : (names : List (List ℕ)) → list_all is_name_piece names ≡ true → map segment_kind names ≡ map normal names
@@ -147,15 +124,7 @@ piece-kinds (name ∷ names) all =
 module _ (s : Separators) (anchored : Bool) (head : List ℕ) where
   -- nothing is put yet
   pub kept-start : (text : List ℕ) (floor : ℕ) (whole : List Kind) → text ≡ head → floor ≡ length head → AreKept s anchored head text floor whole whole
-  kept-start text floor whole e size = record {
-    over = 0;
-    names = [];
-    rows = record { unseparated = tt; is = e ∙ sym (append-nil (head ++ []) ∙ append-nil head) };
-    begin = size ∙ ap length (sym (append-nil head));
-    fixed = λ f. refl;
-    left = refl;
-    rises = λ f. omega arith;
-  }
+  kept-start text floor whole e size = grind (arith, append-nil)
 
   module _ (text : List ℕ) (floor : ℕ) (whole : List Kind) where
     -- what is to come may be read otherwise
@@ -236,29 +205,8 @@ module _ (s : Separators) (anchored : Bool) (head : List ℕ) where
 
         by : (ns : List (List ℕ)) → Ended ns → AreRowsOf s text front ns → kept_names (map normal ns ++ parent ∷ rest) ≡ kept_names whole
             → (anchored ≡ false → are.over + unmet (map normal ns ++ parent ∷ rest) ≡ unmet whole) → AreKept s anchored head new floor rest whole
-        by _ none rows left rises = record {
-          over = are.over;
-          names = [];
-          rows = record { unseparated = tt; is = dropped front [] (sym are.begin) rows };
-          begin = are.begin;
-          fixed = are.fixed;
-          left = left;
-          rises = λ f. absurd (omega (arith, filled f, are.begin, ap length (rows.is ∙ append-nil front)));
-        }
-        by _ (some ns n) rows left rises =
-            let h = names-met ns n rest in
-            record {
-              over = are.over;
-              names = ns;
-              rows = record {
-                unseparated = all-front (IsUnseparated (is_separator s)) ns (n ∷ []) rows.unseparated;
-                is = dropped front (ns ++ n ∷ []) (sym are.begin) rows ∙ ap (λ ms. front ++ rows_of s ms) (take-ended ns n);
-              };
-              begin = are.begin;
-              fixed = are.fixed;
-              left = sym h.names ∙ left;
-              rises = λ f. ap (λ m. are.over + m) (sym h.unmet) ∙ rises f;
-            }
+        by _ none rows left rises = grind (arith, none, front, append-nil)
+        by _ (some ns n) rows left rises = grind (arith, some, names-met, all-front, front, take-ended)
 
     -- a parent that finds no name is kept, where the path is not anchored
     pub kept-over : (new : List ℕ) (next : ℕ) (rest : List Kind) → anchored ≡ false → length text ≤ floor → new ≡ (text ++ dot ∷ dot ∷ []) ++ row_end s ∷ [] → next ≡ length new
@@ -297,18 +245,7 @@ module _ (s : Separators) (anchored : Bool) (head : List ℕ) where
 
     -- nothing is left
     pub kept-end : AreKept s anchored head text floor [] whole → text ≡ head ++ rows_of s (kept_segments anchored whole)
-    kept-end are =
-        are.rows.is
-        ∙ append_assoc head (rows_of s (dots are.over)) (rows_of s are.names)
-        ∙ ap (λ t. head ++ t) (sym (rows-append s (dots are.over) are.names))
-        ∙ ap₂ (λ n names. head ++ rows_of s (dots n ++ names)) (by anchored are.fixed are.rises) names
-      where
-        names : are.names ≡ kept_names whole
-        names = sym (kept-names are.names) ∙ ap kept_names (sym (append-nil (map normal are.names))) ∙ are.left
-
-        by : (b : Bool) → (b ≡ true → are.over ≡ 0) → (b ≡ false → are.over + unmet (map normal are.names ++ []) ≡ unmet whole) → are.over ≡ (if b then 0 else unmet whole)
-        by true fixed rises = fixed refl
-        by false fixed rises = omega (arith, rises refl, ap unmet (append-nil (map normal are.names)), unmet-names are.names)
+    kept-end are = grind (arith, append_assoc, rows-append, kept-names, append-nil, unmet-names)
 
   -- one segment more of a text, and what is to come behind it, which may be read from further on
   pub kept-next : (text new : List ℕ) (floor next : ℕ) (whole : List Kind) (rest segment behind later : List ℕ) → pieces s rest ≡ segment ∷ pieces s behind
@@ -342,10 +279,4 @@ module _ (s : Separators) (path : List ℕ) where
     pub parted : pieces s path ≡ names ++ pieces s (drop place path)
 
   pub told-before : (place : ℕ) → TellsNamesOf s path (Some place) → Told place
-  told-before place told =
-      let are = told.2 in
-      record {
-        names = are.names;
-        named = are.named;
-        parted = subst (λ p. slice_split p path ≡ are.names ++ slice_split p (drop place path)) (λ i b. sym (told.1 b) i) are.parted;
-      }
+  told-before place told = grind arith

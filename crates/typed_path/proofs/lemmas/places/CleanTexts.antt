@@ -1,32 +1,27 @@
 -- The clean text of a path, as it is written behind a text.
 use Rattle.std.proofs.Common.{◌≡◌, ℕ, suc, ◌+◌, ◌-◌, ◌<◌, ◌≤◌, ◌==◌, ◌||◌, ◌&&◌, not, Bool, true, false, List, [], ◌∷◌, ◌++◌, if◌then◌else◌, length, take, drop, refl, sym, ap, ap₂, ◌∙◌, append_assoc, append-nil, arith, subst, length-append, ne_eqb, Some, None}
+use Rattle.std.proofs.lemmas.Grind.{common_steps}
 use Rattle.std.specs.List.{join_with_byte}
 use Rattle.std.specs.Str.{bytes_eq}
 use Rattle.std.proofs.lemmas.List.{take_at}
 use Rattle.std.proofs.Math.Bool.{or-true}
 use Rattle.typed_path.specs.declared.scan.separators.Separators.{Separators}
-use Rattle.typed_path.specs.declared.scan.separators.Separators.TheVariants.{Slash, Backslash, Either}
-use Rattle.typed_path.specs.components.{Dialect, unix, windows, slash, separators, dialect_of, root_of, Kind, prefix, root, current, parent, normal, Part, parts, kinds, body, Found, prefix_of, comps_behind}
-use Rattle.typed_path.specs.places.{row_end, rows_of, behind_head, cleaned, clean_text, dots, kept_segments, own_separator, segment_kinds, unheaded}
+use Rattle.typed_path.specs.declared.scan.separators.Separators.TheVariants.{Either}
+use Rattle.typed_path.specs.components.{Dialect, unix, windows, slash, separators, dialect_of, root_of, Part, parts, kinds, body, Found, prefix_of}
+use Rattle.typed_path.specs.places.{row_end, rows_of, behind_head, cleaned, clean_text, kept_segments, own_separator, segment_kinds, unheaded}
 use Rattle.typed_path.specs.queries.{begins_with_root, is_disk}
-use Rattle.typed_path.proofs.lemmas.components.Prefixes.{separators-windows}
 use Rattle.typed_path.proofs.lemmas.components.PrefixCuts.{plain-none, parts_of-some}
-use Rattle.typed_path.proofs.lemmas.components.Segments.{AreRead, IsWritten, body_parts-read, parts-body}
+use Rattle.typed_path.proofs.lemmas.components.Segments.{AreRead, body_parts-read, parts-body}
 use Rattle.typed_path.proofs.lemmas.places.CleanRows.{body-alike}
 
 -- rows are the segments with one separator between, and one more
 pub rows-joined : (s : Separators) (segment : List ℕ) (segments : List (List ℕ)) → rows_of s (segment ∷ segments) ≡ join_with_byte (row_end s) (segment ∷ segments) ++ row_end s ∷ []
 rows-joined s segment [] = append-nil (segment ++ row_end s ∷ [])
-rows-joined s segment (next ∷ segments) =
-    ap (λ bs. (segment ++ row_end s ∷ []) ++ bs) (rows-joined s next segments)
-    ∙ append_assoc segment (row_end s ∷ []) (join_with_byte (row_end s) (next ∷ segments) ++ row_end s ∷ [])
-    ∙ sym (append_assoc segment (row_end s ∷ join_with_byte (row_end s) (next ∷ segments)) (row_end s ∷ []))
+rows-joined s segment (next ∷ segments) = grind (arith, common_steps, append_assoc, rows-joined s next segments)
 
 -- the separator that a text writes is its dialect's
 pub row_end-own : (s : Separators) → row_end s ≡ own_separator (dialect_of s)
-row_end-own Slash = refl
-row_end-own Backslash = refl
-row_end-own Either = refl
+row_end-own s = grind arith
 
 -- Rows behind a head, without the separator behind them.
 
@@ -44,24 +39,14 @@ module _ (s : Separators) (old raw text new : List ℕ) (rooted implied : Bool) 
   closed-text is at named stays = by segments is
     where
       size : (there : Bool) → length (front there) ≡ length (old ++ raw) + (if there then 1 else 0)
-      size true = length-append (old ++ raw) sep
-      size false = length-append (old ++ raw) []
+      size there = grind (arith, length-append)
 
       grouped : (b : List ℕ) (joined : List ℕ) → ((old ++ raw) ++ b) ++ joined ≡ old ++ ((raw ++ b) ++ joined)
       grouped b joined = ap (λ t. t ++ joined) (append_assoc old raw b) ∙ append_assoc old (raw ++ b) joined
 
       none : (r i : Bool) → text ≡ front (i || r) ++ [] → alone ≡ length (old ++ raw) + length (if r then sep else [])
           → new ≡ old ++ ((raw ++ (if r || (i && false) then sep else [])) ++ [])
-      none true i e f = let whole = e ∙ ap (λ b. front b ++ []) (or-true i) in stays (omega (arith, f, ap length (whole ∙ append-nil (front true)), size true)) ∙ whole ∙ grouped sep []
-      none false true e f =
-          let whole : text ≡ (old ++ raw) ++ sep = e ∙ append-nil (front true) in
-          named (omega (arith, f, ap length whole, size true))
-          ∙ ap (take (length text - 1)) whole
-          ∙ take_at (old ++ raw) sep _ (omega (arith, ap length whole, size true))
-          ∙ sym (append-nil (old ++ raw))
-          ∙ sym (append-nil ((old ++ raw) ++ []))
-          ∙ grouped [] []
-      none false false e f = stays (omega (arith, f, ap length (e ∙ append-nil (front false)), size false)) ∙ e ∙ grouped [] []
+      none r i e f = grind (arith, or-true, append-nil, size, grouped, take_at)
 
       some : (segment : List ℕ) (more : List (List ℕ)) → text ≡ front (implied || rooted) ++ rows_of s (segment ∷ more)
           → new ≡ old ++ ((raw ++ (if rooted || (implied && not (suc (length more) == 0)) then sep else [])) ++ join_with_byte (row_end s) (segment ∷ more))
@@ -76,17 +61,11 @@ module _ (s : Separators) (old raw text new : List ℕ) (rooted implied : Bool) 
           ∙ same implied rooted (ne_eqb (suc (length more)) 0 (λ z. cc))
         where
           fits : (i r : Bool) → length text ≡ length (front (i || r)) + length (join_with_byte (row_end s) (segment ∷ more)) + 1 → alone ≡ length (old ++ raw) + length (if r then sep else []) → alone < length text
-          fits true true e f = omega (arith, e, f, size true)
-          fits true false e f = omega (arith, e, f, size true)
-          fits false true e f = omega (arith, e, f, size true)
-          fits false false e f = omega (arith, e, f, size false)
+          fits i r e f = grind (arith, size)
 
           same : (i r : Bool) → (suc (length more) == 0) ≡ false → front (i || r) ++ join_with_byte (row_end s) (segment ∷ more)
               ≡ old ++ ((raw ++ (if r || (i && not (suc (length more) == 0)) then sep else [])) ++ join_with_byte (row_end s) (segment ∷ more))
-          same true true z = grouped sep _
-          same false true z = grouped sep _
-          same true false z = grouped sep _ ∙ ap (λ b. old ++ ((raw ++ (if not b then sep else [])) ++ join_with_byte (row_end s) (segment ∷ more))) (sym z)
-          same false false z = grouped [] _
+          same i r z = grind (arith, grouped)
 
       by : (ss : List (List ℕ)) → text ≡ front (implied || rooted) ++ rows_of s ss → new ≡ old ++ behind_head (row_end s) raw rooted implied ss
       by [] e = none rooted implied e at
@@ -94,38 +73,18 @@ module _ (s : Separators) (old raw text new : List ℕ) (rooted implied : Bool) 
 
 -- segments are kept as the components of the text are
 pub kept-body : (s : Separators) (anchored : Bool) (text : List ℕ) → kept_segments anchored (segment_kinds s text) ≡ kept_segments anchored (kinds (parts (body s 0 text)))
-kept-body s anchored text =
-    let h = body-alike s 0 text in
-    ap₂ (λ n names. dots (if anchored then 0 else n) ++ names) (sym h.unmet) (sym h.names)
+kept-body s anchored text = grind (arith, body-alike)
 
 -- Clean texts, by what a list begins with.
 
 -- a root
 pub cleaned-rooted : (d : Dialect) (ps : List Part) → begins_with_root (kinds ps) ≡ true → cleaned d ps ≡ behind_head (own_separator d) [] true false (kept_segments true (kinds ps))
-cleaned-rooted d [] e = cc
-cleaned-rooted d (p ∷ ps) e = by p.kind e
-  where
-    by : (k : Kind) → begins_with_root (k ∷ kinds ps) ≡ true
-        → cleaned d (record { kind = k; text = p.text } ∷ ps) ≡ behind_head (own_separator d) [] true false (kept_segments true (k ∷ kinds ps))
-    by root e = refl
-    by (prefix q) e = cc
-    by current e = cc
-    by parent e = cc
-    by (normal name) e = cc
+cleaned-rooted d ps e = grind arith
 
 -- neither a root nor a prefix
 cleaned-read : (d : Dialect) (s : Separators) (ps : List Part) → AreRead s ps → begins_with_root (kinds ps) ≡ false
     → cleaned d ps ≡ unheaded d (join_with_byte (own_separator d) (kept_segments false (kinds ps)))
-cleaned-read d s [] read e = refl
-cleaned-read d s (p ∷ ps) read e = by p.kind read.0 e
-  where
-    by : (k : Kind) → IsWritten s k p.text → begins_with_root (k ∷ kinds ps) ≡ false
-        → cleaned d (record { kind = k; text = p.text } ∷ ps) ≡ unheaded d (join_with_byte (own_separator d) (kept_segments false (k ∷ kinds ps)))
-    by (prefix q) written e = absurd written
-    by root written e = cc
-    by current written e = refl
-    by parent written e = refl
-    by (normal name) written e = refl
+cleaned-read d s ps read e = grind arith
 
 pub cleaned-bare : (d : Dialect) (s : Separators) (text : List ℕ) → begins_with_root (kinds (parts (body s 0 text))) ≡ false
     → cleaned d (parts (body s 0 text)) ≡ unheaded d (join_with_byte (own_separator d) (kept_segments false (kinds (parts (body s 0 text)))))
@@ -136,11 +95,7 @@ pub cleaned-prefixed : (path : List ℕ) (f : Found) → prefix_of windows path 
     → behind_head (row_end (separators windows path)) (take f.length path) (begins_with_root (kinds (parts (body (separators windows path) 0 (drop f.length path))))) (not (is_disk f.prefix))
     (kept_segments (not (is_disk f.prefix) || begins_with_root (kinds (parts (body (separators windows path) 0 (drop f.length path))))) (kinds (parts (body (separators windows path) 0 (drop f.length path)))))
     ≡ clean_text windows path
-cleaned-prefixed path f is =
-    let s = separators windows path in
-    ap₂ (λ sep ps. behind_head sep (take f.length path) (begins_with_root (kinds ps)) (not (is_disk f.prefix)) (kept_segments (not (is_disk f.prefix) || begins_with_root (kinds ps)) (kinds ps)))
-    (row_end-own s ∙ ap own_separator (separators-windows path)) (parts-body s 0 (drop f.length path))
-    ∙ sym (ap (cleaned windows) (parts_of-some path f is))
+cleaned-prefixed path f is = grind (arith, parts-body, parts_of-some)
 
 -- What is put for each of them.
 
@@ -150,20 +105,11 @@ module _ (s : Separators) (text : List ℕ) (rooted : Bool) (told : rooted ≡ b
 
   -- a root and what is behind it
   pub rooted-text : rooted ≡ true → bare_text ≡ cleaned (dialect_of s) (parts (body s 0 text))
-  rooted-text e =
-      let ps = parts (body s 0 text) in
-      ap (λ b. behind_head (row_end s) [] b false (kept_segments (false || b) (kinds ps))) e
-      ∙ ap (λ sep. behind_head sep [] true false (kept_segments true (kinds ps))) (row_end-own s)
-      ∙ sym (cleaned-rooted (dialect_of s) ps (sym told ∙ e))
+  rooted-text e = grind arith
 
   -- no root
   pub loose-text : rooted ≡ false → unheaded (dialect_of s) bare_text ≡ cleaned (dialect_of s) (parts (body s 0 text))
-  loose-text e =
-      let ps = parts (body s 0 text) in
-      let d = dialect_of s in
-      ap (λ b. unheaded d (behind_head (row_end s) [] b false (kept_segments (false || b) (kinds ps)))) e
-      ∙ ap (λ sep. unheaded d (join_with_byte sep (kept_segments false (kinds ps)))) (row_end-own s)
-      ∙ sym (cleaned-bare d s text (sym told ∙ e))
+  loose-text e = grind arith
 
 -- a prefix, and what is behind it
 pub prefixed-text : (path : List ℕ) (f : Found) (s : Separators) (rooted drives : Bool) → prefix_of windows path ≡ Some f → s ≡ separators windows path
@@ -175,9 +121,7 @@ prefixed-text path f s rooted drives is own told drive = rw (told, drive, own) (
 
 -- a text of Windows without a prefix
 pub clean_text-none : (path : List ℕ) → prefix_of windows path ≡ None → cleaned windows (parts (body Either 0 path)) ≡ clean_text windows path
-clean_text-none path none =
-    ap (λ b. cleaned windows (parts (comps_behind (if b then Backslash else Either) path None))) (sym (plain-none path none))
-    ∙ ap (λ o. cleaned windows (parts (comps_behind (separators windows path) path o))) (sym none)
+clean_text-none path h = grind (arith, plain-none)
 
 -- the root that a dialect writes tells which it is
 pub other-windows : (d : Dialect) (own other : List ℕ) → own ≡ root_of d → other ≡ slash ∷ [] → false ≡ bytes_eq own other → d ≡ windows

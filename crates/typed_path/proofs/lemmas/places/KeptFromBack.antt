@@ -1,34 +1,27 @@
 -- The names that are kept of a list, one component less at its end; and whether they begin with others, one name less at the ends.
-use Rattle.std.proofs.Common.{◌≡◌, ℕ, zero, suc, ◌+◌, ◌-◌, ◌==◌, ◌<◌, ◌^◌, Bool, true, false, ◌&&◌, List, [], ◌∷◌, ◌++◌, if◌then◌else◌, length, refl, sym, ap, ap₂, ◌∙◌, append_assoc, append-nil, arith, add-one, ne_eqb, subst, length-append}
-use Rattle.std.specs.Prelude.{Option, Some, None}
+use Rattle.std.proofs.Common.{◌≡◌, ℕ, zero, suc, ◌+◌, ◌-◌, ◌<◌, ◌^◌, Bool, true, false, ◌&&◌, List, [], ◌∷◌, ◌++◌, length, refl, sym, ap, ◌∙◌, append_assoc, append-nil, arith, add-one, subst, length-append}
+use Rattle.std.specs.Prelude.{Some, None}
 use Rattle.std.specs.List.{starts_with}
 use Rattle.std.specs.Str.{bytes_eq}
 use Rattle.std.proofs.lemmas.List.{take_all}
 use Rattle.std.proofs.lemmas.Option.{same_Some}
-use Rattle.std.proofs.Math.Bool.{and-false, and-true}
-use Rattle.typed_path.specs.components.{Dialect, Prefix, Kind, prefix, root, current, parent, normal, Part, Placed, parts, kinds, comps}
+use Rattle.std.proofs.Math.Bool.{and-true}
+use Rattle.typed_path.specs.components.{Dialect, Kind, parent, normal, Part, Placed, parts, kinds, comps}
 use Rattle.typed_path.specs.places.{unmet, kept_names, parents, names_under, unmet_under}
-use Rattle.typed_path.specs.queries.{behind_prefix, first_prefix, is_prefix}
+use Rattle.typed_path.specs.queries.{behind_prefix}
 use Rattle.typed_path.specs.scan.{but_last, last_part}
 use Rattle.typed_path.specs.declared.scan.step.StepKind.{StepKind}
-use Rattle.typed_path.specs.declared.scan.step.StepKind.TheVariants.{RootDir, CurDir, ParentDir, Normal}
+use Rattle.typed_path.specs.declared.scan.step.StepKind.TheVariants.{ParentDir, Normal}
 use Rattle.typed_path.specs.views.PieceViews.{step_view}
 use Rattle.typed_path.proofs.lemmas.components.Cuts.{comps-count}
 use Rattle.typed_path.proofs.lemmas.places.KeptNames.{AlikeKept, unmet-append, kept_names-append}
-use Rattle.typed_path.proofs.lemmas.order.Comparisons.{bare, kinds-prefixed, kinds-push}
+use Rattle.typed_path.proofs.lemmas.order.Comparisons.{kinds-push}
 use Rattle.typed_path.proofs.lemmas.scan.Steps.{last_pushed, last_part-push, empty-last}
 
 -- Lists that are seen alike by each list before them.
 
 pub alike-cons : (k : Kind) (ks ls : List Kind) → AlikeKept ks ls → AlikeKept (k ∷ ks) (k ∷ ls)
-alike-cons (prefix p) ks ls h = record { unmet = h.unmet; names = h.names }
-alike-cons root ks ls h = record { unmet = h.unmet; names = h.names }
-alike-cons current ks ls h = record { unmet = h.unmet; names = h.names }
-alike-cons parent ks ls h = record { unmet = ap suc h.unmet; names = h.names }
-alike-cons (normal name) ks ls h = record {
-  unmet = ap (λ n. n - 1) h.unmet;
-  names = ap₂ (λ n names. if n == 0 then name ∷ names else names) h.unmet h.names;
-}
+alike-cons k ks ls h = grind arith
 
 pub alike-append : (js ks ls : List Kind) → AlikeKept ks ls → AlikeKept (js ++ ks) (js ++ ls)
 alike-append [] ks ls h = h
@@ -36,11 +29,7 @@ alike-append (j ∷ js) ks ls h = alike-cons j (js ++ ks) (js ++ ls) (alike-appe
 
 -- a parent that a name before it meets
 pub met-alike : (name : List ℕ) (ks : List Kind) → AlikeKept (normal name ∷ parent ∷ ks) ks
-met-alike name ks = record { unmet = omega arith; names = by (suc (unmet ks) == 0) (ne_eqb (suc (unmet ks)) 0 (λ e. cc)) }
-  where
-    by : (b : Bool) → b ≡ false → (if b then name ∷ kept_names ks else kept_names ks) ≡ kept_names ks
-    by true e = cc
-    by false e = refl
+met-alike name ks = grind arith
 
 -- a name at the end of a list stays
 unmet-push : (ks : List Kind) (name : List ℕ) → unmet (ks ++ normal name ∷ []) ≡ unmet ks
@@ -96,10 +85,7 @@ module _ (cs ds : List Placed) (kind : StepKind) (text : List ℕ) (taken : Some
   goes-passed n no_parent unnamed = goes n n (by kind no_parent unnamed)
     where
       by : (k : StepKind) → (k ≡ ParentDir → ⊥) → (k ≡ Normal → ⊥) → AlikeKept (step_view k text ∷ parents n) (parents n)
-      by RootDir e f = record { unmet = refl; names = refl }
-      by CurDir e f = record { unmet = refl; names = refl }
-      by ParentDir e f = absurd (e refl)
-      by Normal e f = absurd (f refl)
+      by k e f = grind arith
 
   -- a name that stays
   pub stays-name : (n : ℕ) → n ≡ 0 → kind ≡ Normal → names_under n cs ≡ names_under n ds ++ text ∷ []
@@ -143,16 +129,7 @@ names-alone cs = ap kept_names (append-nil (kinds (parts cs)))
 
 -- a list begins with a prefix or with none
 behind-kinds : (cs ds : List Placed) → ds ≡ behind_prefix cs → AlikeKept (kinds (parts ds)) (kinds (parts cs))
-behind-kinds cs ds behind = by (first_prefix (kinds (parts cs))) refl
-  where
-    by : (o : Option Prefix) → o ≡ first_prefix (kinds (parts cs)) → AlikeKept (kinds (parts ds)) (kinds (parts cs))
-    by None e = let same = behind ∙ bare cs e in record { unmet = ap (λ xs. unmet (kinds (parts xs))) same; names = ap (λ xs. kept_names (kinds (parts xs))) same }
-    by (Some p) e =
-        let whole = kinds-prefixed cs p e in
-        record {
-          unmet = ap (λ xs. unmet (kinds (parts xs))) behind ∙ ap unmet (sym whole);
-          names = ap (λ xs. kept_names (kinds (parts xs))) behind ∙ ap kept_names (sym whole);
-        }
+behind-kinds cs ds behind = grind arith
 
 pub unmet_behind_prefix : (cs ds : List Placed) → ds ≡ behind_prefix cs → unmet (kinds (parts ds)) ≡ unmet (kinds (parts cs))
 unmet_behind_prefix cs ds behind = (behind-kinds cs ds behind).unmet
@@ -165,12 +142,7 @@ pub few : (d : Dialect) (t : List ℕ) (cs : List Placed) → cs ≡ comps d t �
 few d t cs read less = omega (arith, ap length read, comps-count d t, less)
 
 pub few_behind_prefix : (cs ds : List Placed) → ds ≡ behind_prefix cs → length cs < 2 ^ 64 → length ds < 2 ^ 64
-few_behind_prefix [] ds behind less = omega (arith, ap length behind)
-few_behind_prefix (c ∷ cs) ds behind less = by (is_prefix c.part.kind) behind
-  where
-    by : (b : Bool) → ds ≡ (if b then cs else c ∷ cs) → length ds < 2 ^ 64
-    by true e = omega (arith, ap length e, less)
-    by false e = omega (arith, ap length e, less)
+few_behind_prefix cs ds behind less = grind arith
 
 -- Names that begin with others, one name more at the ends.
 
@@ -182,8 +154,7 @@ both-longer [] (y ∷ ys) a b size = absurd (omega (arith, size))
 both-longer (x ∷ xs) (y ∷ ys) a b size = ap (λ t. bytes_eq y x && t) (both-longer xs ys a b (omega (arith, size))) ∙ by (bytes_eq y x)
   where
     by : (t : Bool) → t && (starts_with bytes_eq xs ys && bytes_eq b a) ≡ (t && starts_with bytes_eq xs ys) && bytes_eq b a
-    by true = refl
-    by false = refl
+    by t = grind arith
 
 -- what is left once both ends were taken, as the answer whether these are the same tells
 pub record EndsTaken (xs ys more_xs more_ys : List (List ℕ)) (same : Bool) : Type 0 where
@@ -193,12 +164,4 @@ pub record EndsTaken (xs ys more_xs more_ys : List (List ℕ)) (same : Bool) : T
 
 pub ends-taken : (xs ys more_xs more_ys : List (List ℕ)) (a b : List ℕ) (same : Bool) → more_xs ≡ xs ++ a ∷ [] → more_ys ≡ ys ++ b ∷ [] → length more_xs ≡ length more_ys → same ≡ bytes_eq b a
     → EndsTaken xs ys more_xs more_ys same
-ends-taken xs ys more_xs more_ys a b same e f size told =
-    let less : length xs ≡ length ys = omega (arith, size, ap length e, ap length f, length-append xs (a ∷ []), length-append ys (b ∷ [])) in
-    let answer : starts_with bytes_eq more_xs more_ys ≡ starts_with bytes_eq xs ys && same =
-    ap₂ (starts_with bytes_eq) e f ∙ both-longer xs ys a b less ∙ ap (λ t. starts_with bytes_eq xs ys && t) (sym told) in
-    record {
-      size = less;
-      alike = λ yes. answer ∙ ap (λ t. starts_with bytes_eq xs ys && t) yes ∙ and-true (starts_with bytes_eq xs ys);
-      unlike = λ no. answer ∙ ap (λ t. starts_with bytes_eq xs ys && t) no ∙ and-false (starts_with bytes_eq xs ys);
-    }
+ends-taken xs ys more_xs more_ys a b same e f size told = grind (arith, length-append, both-longer)

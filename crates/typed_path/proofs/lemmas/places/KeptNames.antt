@@ -1,16 +1,17 @@
 -- The names that are kept of a list: of names alone, of one with another behind it, and of one that is resolved; and the place of a path, read off them.
-use Rattle.std.proofs.Common.{◌≡◌, ℕ, zero, suc, ◌+◌, ◌-◌, ◌==◌, ◌<◌, ◌≤◌, Bool, true, false, not, ◌||◌, List, [], ◌∷◌, ◌++◌, map, if◌then◌else◌, length, take, drop, refl, sym, ap, ◌∙◌, arith, Option, Some, None, ap₂}
+use Rattle.std.proofs.Common.{◌≡◌, ℕ, zero, suc, ◌+◌, ◌-◌, ◌==◌, ◌<◌, ◌≤◌, Bool, true, false, not, ◌||◌, List, [], ◌∷◌, ◌++◌, map, if◌then◌else◌, length, take, refl, sym, ap, ◌∙◌, arith, Option, Some, None, ap₂}
 use Rattle.std.proofs.lemmas.Bool.{eqb-true, eqb-false, and_parts}
 use Rattle.typed_path.specs.declared.scan.separators.Separators.{Separators}
 use Rattle.typed_path.specs.declared.scan.separators.Separators.TheVariants.{Slash, Either}
-use Rattle.typed_path.specs.components.{Dialect, unix, windows, separators, Prefix, Kind, prefix, root, current, parent, normal, Part, kinds, parts_of, Found, prefix_of, prefix_part}
+use Rattle.typed_path.specs.components.{Dialect, unix, windows, Prefix, Kind, prefix, root, current, parent, normal, Part, kinds, parts_of, Found, prefix_of, prefix_part}
 use Rattle.typed_path.specs.places.{overdraws, resolve, place, with_implied_root, unmet, kept_names, headed, head_of}
 use Rattle.typed_path.specs.promises.{without_leading_current}
 use Rattle.typed_path.specs.queries.{begins_with_root, is_disk}
-use Rattle.typed_path.proofs.lemmas.components.Segments.{body_parts, body_parts-read, parts-body, AreRead, IsWritten}
+use Rattle.typed_path.proofs.lemmas.components.Segments.{body_parts, body_parts-read, parts-body, AreRead}
 use Rattle.typed_path.proofs.lemmas.changes.Faults.{place_of}
 use Rattle.typed_path.proofs.lemmas.places.Resolving.{no_heads, is_head, written-headless}
 use Rattle.typed_path.proofs.lemmas.components.PrefixCuts.{parts_of-none, parts_of-some}
+use Rattle.typed_path.proofs.lemmas.lists.Lists.{take-nothing}
 
 -- names alone take no parent up, and all are kept
 pub unmet-names : (names : List (List ℕ)) → unmet (map normal names) ≡ 0
@@ -18,12 +19,8 @@ unmet-names [] = refl
 unmet-names (name ∷ names) = ap (λ n. n - 1) (unmet-names names)
 
 pub kept-names : (names : List (List ℕ)) → kept_names (map normal names) ≡ names
-kept-names [] = refl
-kept-names (name ∷ names) = by (unmet (map normal names) == 0) (ap (λ n. n == 0) (unmet-names names)) ∙ ap (λ ns. name ∷ ns) (kept-names names)
-  where
-    by : (b : Bool) → b ≡ true → (if b then name ∷ kept_names (map normal names) else kept_names (map normal names)) ≡ name ∷ kept_names (map normal names)
-    by true e = refl
-    by false e = cc
+kept-names [] = grind arith
+kept-names (name ∷ names) = grind (arith, unmet-names, kept-names names)
 
 -- these are known by their kinds
 pub names-same : (ns ms : List (List ℕ)) → map normal ns ≡ map normal ms → ns ≡ ms
@@ -37,24 +34,15 @@ names-same (n ∷ ns) (m ∷ ms) e =
 
 -- the parents that are left over of the second list take names of the first
 pub unmet-append : (ks ls : List Kind) → unmet (ks ++ ls) ≡ unmet ks + (unmet ls - length (kept_names ks))
-unmet-append [] ls = omega arith
-unmet-append (prefix p ∷ ks) ls = unmet-append ks ls
-unmet-append (root ∷ ks) ls = unmet-append ks ls
-unmet-append (current ∷ ks) ls = unmet-append ks ls
-unmet-append (parent ∷ ks) ls = omega (arith, unmet-append ks ls)
-unmet-append (normal name ∷ ks) ls = by (unmet-append ks ls) (unmet ks == 0) refl
-  where
-    by : unmet (ks ++ ls) ≡ unmet ks + (unmet ls - length (kept_names ks)) → (b : Bool) → (unmet ks == 0) ≡ b
-        → unmet (ks ++ ls) - 1 ≡ (unmet ks - 1) + (unmet ls - length (if b then name ∷ kept_names ks else kept_names ks))
-    by h true e = omega (arith, h, eqb-true (unmet ks) 0 e)
-    by h false e = let some = eqb-false (unmet ks) 0 e in omega (arith, h, some)
+unmet-append [] ls = grind arith
+unmet-append (prefix p ∷ ks) ls = grind (arith, unmet-append ks ls)
+unmet-append (root ∷ ks) ls = grind (arith, unmet-append ks ls)
+unmet-append (current ∷ ks) ls = grind (arith, unmet-append ks ls)
+unmet-append (parent ∷ ks) ls = grind (arith, unmet-append ks ls)
+unmet-append (normal name ∷ ks) ls = grind (arith, eqb-true, eqb-false, unmet-append ks ls)
 
 take-none : (n : ℕ) (names : List (List ℕ)) → n ≡ 0 → take n names ≡ []
 take-none n names e = ap (λ m. take m names) e
-
-pub take-nothing : (n : ℕ) → take {A = List ℕ} n [] ≡ []
-take-nothing zero = refl
-take-nothing (suc n) = refl
 
 -- what is left of the first list but for these, and then of the second
 pub kept_names-append : (ks ls : List Kind) → kept_names (ks ++ ls) ≡ take (length (kept_names ks) - unmet ls) (kept_names ks) ++ kept_names ls
@@ -68,16 +56,7 @@ kept_names-append (normal name ∷ ks) ls = by (unmet-append ks ls) (kept_names-
     by : unmet (ks ++ ls) ≡ unmet ks + (unmet ls - length (kept_names ks)) → kept_names (ks ++ ls) ≡ take (length (kept_names ks) - unmet ls) (kept_names ks) ++ kept_names ls
         → (b : Bool) → (unmet ks == 0) ≡ b → (c : Bool) → (unmet (ks ++ ls) == 0) ≡ c
         → (if c then name ∷ kept_names (ks ++ ls) else kept_names (ks ++ ls)) ≡ take (length (if b then name ∷ kept_names ks else kept_names ks) - unmet ls) (if b then name ∷ kept_names ks else kept_names ks) ++ kept_names ls
-    by h rest true e true f =
-        let fits : suc (length (kept_names ks)) - unmet ls ≡ suc (length (kept_names ks) - unmet ls) = omega (arith, h, eqb-true (unmet ks) 0 e, eqb-true (unmet (ks ++ ls)) 0 f) in
-        ap (λ names. name ∷ names) rest ∙ ap (λ n. take n (name ∷ kept_names ks) ++ kept_names ls) (sym fits)
-    by h rest true e false f =
-        let some = eqb-false (unmet (ks ++ ls)) 0 f in
-        let all : length (kept_names ks) - unmet ls ≡ 0 = omega (arith, h, eqb-true (unmet ks) 0 e, some) in
-        let more : suc (length (kept_names ks)) - unmet ls ≡ 0 = omega (arith, h, eqb-true (unmet ks) 0 e, some) in
-        rest ∙ ap (λ names. names ++ kept_names ls) (take-none _ (kept_names ks) all ∙ sym (take-none _ (name ∷ kept_names ks) more))
-    by h rest false e true f = let some = eqb-false (unmet ks) 0 e in absurd (omega (arith, h, some, eqb-true (unmet (ks ++ ls)) 0 f))
-    by h rest false e false f = rest
+    by h rest b e c f = grind (arith, eqb-true, eqb-false, take-none)
 
 -- a list whose parents find names overdraws nothing, and another does
 overdraws-met : (n : ℕ) (ks : List Kind) → unmet ks ≤ n → overdraws n ks ≡ false
@@ -105,15 +84,7 @@ pub record AlikeKept (ks ls : List Kind) : Type 0 where
 
 -- a current directory at the front counts for nothing
 pub without_leading_current-kept : (ps : List Part) → AlikeKept (kinds (without_leading_current ps)) (kinds ps)
-without_leading_current-kept [] = record { unmet = refl; names = refl }
-without_leading_current-kept (p ∷ ps) = by p.kind p.text
-  where
-    by : (k : Kind) (text : List ℕ) → AlikeKept (kinds (without_leading_current (record { kind = k; text = text } ∷ ps))) (k ∷ kinds ps)
-    by current text = record { unmet = refl; names = refl }
-    by (prefix q) text = record { unmet = refl; names = refl }
-    by root text = record { unmet = refl; names = refl }
-    by parent text = record { unmet = refl; names = refl }
-    by (normal name) text = record { unmet = refl; names = refl }
+without_leading_current-kept ps = grind arith
 
 -- Where a list leads: its head, with the root that is implied, and the names that are kept.
 
@@ -127,21 +98,11 @@ resolved-names (p ∷ ps) none = by p.kind p.text both.0 (resolved-names ps both
 
     met : (name text : List ℕ) → kinds (resolve ps) ≡ map normal (kept_names (kinds ps)) → (b : Bool) → (unmet (kinds ps) == 0) ≡ b
         → kinds ((if not (overdraws zero (kinds ps)) then record { kind = normal name; text = text } ∷ [] else []) ++ resolve ps) ≡ map normal (if b then name ∷ kept_names (kinds ps) else kept_names (kinds ps))
-    met name text rest true f =
-        ap (λ c. kinds ((if not c then record { kind = normal name; text = text } ∷ [] else []) ++ resolve ps)) (overdraws-met zero (kinds ps) (omega (arith, eqb-true (unmet (kinds ps)) 0 f)))
-        ∙ ap (λ ks. normal name ∷ ks) rest
-    met name text rest false f =
-        let some = eqb-false (unmet (kinds ps)) 0 f in
-        ap (λ c. kinds ((if not c then record { kind = normal name; text = text } ∷ [] else []) ++ resolve ps)) (overdraws-unmet zero (kinds ps) (omega (arith, some)))
-        ∙ rest
+    met name text rest b f = grind (arith, overdraws-met, eqb-true, eqb-false, overdraws-unmet)
 
     by : (k : Kind) (text : List ℕ) → not (is_head k) ≡ true → kinds (resolve ps) ≡ map normal (kept_names (kinds ps))
         → kinds (resolve (record { kind = k; text = text } ∷ ps)) ≡ map normal (kept_names (k ∷ kinds ps))
-    by (prefix q) text e rest = cc
-    by root text e rest = cc
-    by current text e rest = rest
-    by parent text e rest = rest
-    by (normal name) text e rest = met name text rest (unmet (kinds ps) == 0) refl
+    by k text e rest = grind (arith, met)
 
 -- a list that has a root at its front at most, and no prefix; and one with a prefix before that
 abbrev pub is_body : List Kind → Bool
@@ -201,23 +162,10 @@ place_of-kept (p ∷ ps) e = by p.kind p.text e
 
 -- so it is of each list as it is read
 pub read-body : (s : Separators) (ps : List Part) → AreRead s ps → is_body (kinds ps) ≡ true
-read-body s [] read = refl
-read-body s (p ∷ ps) read = by p.kind p.text read.0
-  where
-    rest : no_heads (kinds ps) ≡ true
-    rest = written-headless s ps read.1
-
-    by : (k : Kind) (text : List ℕ) → IsWritten s k text → is_body (k ∷ kinds ps) ≡ true
-    by (prefix q) text written = absurd written
-    by root text written = rest
-    by current text written = rest
-    by parent text written = rest
-    by (normal name) text written = rest
+read-body s ps read = grind (arith, no_heads, written-headless)
 
 bare-headed : (ks : List Kind) → is_body ks ≡ true → is_headed ks ≡ true
-bare-headed [] e = refl
-bare-headed (prefix p ∷ ks) e = cc
-bare-headed (k ∷ ks) e = e
+bare-headed ks e = grind arith
 
 read-headed : (s : Separators) (text : List ℕ) → is_headed (kinds (body_parts s text)) ≡ true
 read-headed s text = bare-headed (kinds (body_parts s text)) (read-body s (body_parts s text) (body_parts-read s text))
@@ -228,9 +176,7 @@ parts_of-headed windows t = by (prefix_of windows t) refl
   where
     by : (o : Option Found) → prefix_of windows t ≡ o → is_headed (kinds (parts_of windows t)) ≡ true
     by None e = ap (λ ps. is_headed (kinds ps)) (parts_of-none t e) ∙ read-headed Either t
-    by (Some f) e =
-        let s = separators windows t in
-        ap (λ ps. is_headed (kinds ps)) (parts_of-some t f e) ∙ read-body s (body_parts s (drop f.length t)) (body_parts-read s (drop f.length t))
+    by (Some f) e = grind (arith, parts_of-some, read-body, body_parts, body_parts-read)
 
 -- the place of a path
 pub place-kept : (d : Dialect) (t : List ℕ) → place d t ≡ head_of (kinds (parts_of d t)) ++ map normal (kept_names (kinds (parts_of d t)))

@@ -1,5 +1,5 @@
 -- The rows of names that stand side by side in a text: its bytes there, put behind what is settled.
-use Rattle.std.proofs.Common.{◌≡◌, ℕ, ◌==◌, ◌||◌, true, false, if◌then◌else◌, List, [], ◌∷◌, ◌++◌, take, drop, fold, refl, sym, ap, ◌∙◌, subst, append_assoc, append-nil, length, ◌≤◌, take-take}
+use Rattle.std.proofs.Common.{◌≡◌, ℕ, ◌==◌, ◌||◌, true, false, if◌then◌else◌, List, [], ◌∷◌, ◌++◌, take, drop, fold, refl, sym, ap, ◌∙◌, subst, append_assoc, append-nil, length}
 use Rattle.std.specs.List.{list_all, list_any, AllByRecursion}
 use Rattle.std.proofs.lemmas.Bool.{and_parts, or_parts, not-true}
 use Rattle.std.proofs.lemmas.List.{append_cancel_right, take-append-drop, map-append}
@@ -10,10 +10,10 @@ use Rattle.typed_path.specs.components.{colon, is_separator, is_dot, is_dot_dot}
 use Rattle.typed_path.specs.changes.{is_name_piece}
 use Rattle.typed_path.specs.scan.{is_one_of, turned}
 use Rattle.typed_path.specs.places.{row_end, rows_of, settled, names_left_of, AreRowsOf, ArePut, HaveNoDisks}
-use Rattle.typed_path.proofs.lemmas.lists.Lists.{IsUnseparated, slice_split-unseparated, AllByRecursion-append, AllByRecursion-weaker}
+use Rattle.typed_path.proofs.lemmas.lists.Lists.{IsUnseparated, slice_split-unseparated, AllByRecursion-append, AllByRecursion-weaker, all-front}
 use Rattle.typed_path.proofs.lemmas.components.Segments.{pieces}
 use Rattle.typed_path.proofs.lemmas.conversions.TurnedPaths.{pieces-turned, pieces-free, undriven}
-use Rattle.typed_path.proofs.lemmas.places.UnixRows.{Standing, rows-append, all-front}
+use Rattle.typed_path.proofs.lemmas.places.UnixRows.{Standing, rows-append}
 
 -- names settle one behind the other
 settled-names : (names ps : List (List ℕ)) → list_all is_name_piece ps ≡ true → fold settled names ps ≡ names ++ ps
@@ -98,14 +98,6 @@ module _ (s : Separators) (P : List ℕ → Type 0) (text new head rest whole : 
 
   pub whole-each : ArePut s text new (pieces s rest) [] → AllByRecursion P (names_left_of s whole)
   whole-each put = subst (AllByRecursion P) (sym (more-left s P text new head rest whole [] every put stands)) (more-each s P text new head rest whole [] every put stands)
-
--- what stands at the front of a text stays as names are put behind it
-pub kept-front : (n : ℕ) (old new : List ℕ) → n ≤ length old → take (length old) new ≡ old → take n new ≡ take n old
-kept-front n old new within front = sym (take-take n (length old) new within) ∙ ap (take n) front
-
--- so do fewer bytes of it than those that stay
-pub kept-shorter : (n m : ℕ) (old new : List ℕ) → n ≤ m → take m new ≡ take m old → take n new ≡ take n old
-kept-shorter n m old new less same = sym (take-take n m new less) ∙ ap (take n) same ∙ take-take n m old less
 
 -- no piece of a text begins with a drive in which no colon stands
 pub free-pieces : (text : List ℕ) → list_any (is_one_of (colon, colon)) text ≡ false → HaveNoDisks (pieces Either text)

@@ -1,29 +1,25 @@
 -- Two texts that go on with names alone behind the components that both begin with: the steps from one to the other, and how they are written.
 -- Names that are read between separators of which `/` is one hold none.
-use Rattle.std.proofs.Common.{◌≡◌, ℕ, zero, suc, ◌+◌, ◌-◌, ◌==◌, ◌||◌, ◌&&◌, Bool, true, false, not, cond, List, [], ◌∷◌, ◌++◌, map, if◌then◌else◌, length, take, drop, refl, sym, ap, ap₂, subst, ◌∙◌, append_assoc, append-nil, arith, inl, inr, take_all, length-append, nat_le, add-one, Ordering}
-use Rattle.std.specs.List.{AllByRecursion, list_all, slice_split, before_first, position_or_len}
+use Rattle.std.proofs.Common.{◌≡◌, ℕ, zero, suc, ◌+◌, ◌-◌, ◌==◌, Bool, true, false, cond, List, [], ◌∷◌, ◌++◌, map, if◌then◌else◌, length, take, drop, refl, sym, ap, ap₂, subst, ◌∙◌, append_assoc, append-nil, arith, length-append, add-one, Ordering}
+use Rattle.std.proofs.lemmas.Grind.{common_steps}
+use Rattle.std.specs.List.{AllByRecursion, list_all, before_first}
 use Rattle.std.specs.Ordering.{is_ne}
-use Rattle.std.specs.Str.{bytes_eq}
 use Rattle.std.specs.Cmp.Lexicographic.{bytes_decides}
-use Rattle.std.proofs.lemmas.Bool.{and_parts, cases_lt, eq-eqb, or_parts}
+use Rattle.std.proofs.lemmas.Bool.{and_parts, eq-eqb}
 use Rattle.std.proofs.lemmas.List.{append_cancel_right, drop_at, map-append, take_rest}
-use Rattle.std.proofs.lemmas.List.Splits.{slice_split_none, slice_split_first}
-use Rattle.std.proofs.lemmas.List.Sums.{fails_before_first}
 use Rattle.typed_path.specs.declared.scan.separators.Separators.{Separators}
-use Rattle.typed_path.specs.components.{Dialect, unix, windows, dot, is_separator, is_verbatim, is_empty, is_dot, is_dot_dot, Kind, normal, Part, Placed, kinds, parts, body, later_body, current_part, parent_part, name_part, slash}
+use Rattle.typed_path.specs.components.{Dialect, unix, windows, dot, is_separator, is_verbatim, is_dot, is_dot_dot, Kind, normal, Part, Placed, kinds, parts, body, later_body, current_part, parent_part, name_part, slash}
 use Rattle.typed_path.specs.changes.{is_name_piece}
-use Rattle.typed_path.specs.order.{bytes_cmp, are_same_prefixes}
-use Rattle.typed_path.specs.queries.{first_prefix}
+use Rattle.typed_path.specs.order.{bytes_cmp}
 use Rattle.typed_path.specs.scan.{IsParting, turned, body_from}
 use Rattle.typed_path.specs.places.{AreAlone, AreNearSteps, PartInNames, PartInto, bare_separators, can_stand, dots, is_anchored, kept_names, met_count, names_down, rising, row_end, rows_of, same_heads, shared_count, unmet}
-use Rattle.typed_path.proofs.lemmas.lists.Lists.{IsUnseparated, slice_split-unseparated, AllByRecursion-weaker}
+use Rattle.typed_path.proofs.lemmas.lists.Lists.{IsUnseparated, slice_split-unseparated, AllByRecursion-weaker, all-front, pieces-first}
 use Rattle.typed_path.proofs.lemmas.components.Segments.{first_parts, later_part, later_parts, parts-body, parts-later_body, pieces, IsCleanName, IsLaterPart, IsWritten-later, IsWrittenPart, body_parts, body_parts-read, each-written, later_parts-later}
 use Rattle.typed_path.proofs.lemmas.conversions.TurnedPaths.{pieces-turned}
 use Rattle.typed_path.proofs.lemmas.order.SharedNames.{AreInOrder, ends-order, other-at, own-at, unlike}
 use Rattle.typed_path.proofs.lemmas.places.KeptNames.{kept_names-append, unmet-append, kept-names, unmet-names}
-use Rattle.typed_path.proofs.lemmas.places.UnixRows.{all-front, rows-append}
+use Rattle.typed_path.proofs.lemmas.places.UnixRows.{rows-append}
 use Rattle.std.proofs.lemmas.List.Folds.{list_any_none}
-use Rattle.typed_path.specs.declared.scan.separators.Separators.TheVariants.{Slash, Backslash, Either}
 use Rattle.typed_path.specs.declared.scan.cursor.Begin.{Begin}
 use Rattle.typed_path.specs.declared.scan.cursor.Begin.TheVariants.{Body, Inside}
 use Rattle.typed_path.specs.declared.scan.cursor.Body.{Body as Reading}
@@ -33,14 +29,11 @@ use Rattle.typed_path.proofs.lemmas.promises.StepsBack.{clean-drop}
 
 -- a byte that does not separate is no `/`
 other-byte : (s : Separators) (b : ℕ) → is_verbatim s ≡ false → is_separator s b ≡ false → (b == slash) ≡ false
-other-byte Slash b plain e = e
-other-byte Backslash b plain e = cc
-other-byte Either b plain e = (or_parts (b == slash) (b == 92) e).0
+other-byte s b plain e = grind arith
 
 pub open-stand : (s : Separators) (names : List (List ℕ)) → is_verbatim s ≡ false → AllByRecursion (IsUnseparated (is_separator s)) names → can_stand names ≡ true
 open-stand s [] plain each = refl
-open-stand s (name ∷ names) plain each =
-    ap₂ (λ a b. not a && b) (list_any_none (λ b. b == slash) name (λ n e less. other-byte s _ plain (each.0 n e less))) (open-stand s names plain each.1)
+open-stand s (name ∷ names) plain each = grind (arith, common_steps, list_any_none, other-byte, open-stand s names plain each.1)
 
 -- the components of a reading are written as their kinds tell
 written : (begin : Begin) (s : Separators) (at : ℕ) (text : List ℕ) → AllByRecursion (IsWrittenPart s) (parts (body_from begin s at text))
@@ -59,30 +52,17 @@ plain_stand b n plain =
 -- A text that is names alone.
 
 named-later : (s : Separators) (piece : List ℕ) → is_name_piece piece ≡ true → later_part s piece ≡ name_part piece ∷ []
-named-later s piece h = by (is_empty piece) (is_dot piece) (is_dot_dot piece) (if is_verbatim s then current_part ∷ [] else []) h
-  where
-    by : (e d dd : Bool) (dotting : List Part) → not (e || d || dd) ≡ true → cond e [] (cond d dotting (cond dd parent_part (name_part piece) ∷ [])) ≡ name_part piece ∷ []
-    by false false false dotting h = refl
-    by false false true dotting h = cc
-    by false true dd dotting h = cc
-    by true d dd dotting h = cc
+named-later s piece h = grind arith
 
 named-first : (s : Separators) (piece : List ℕ) (rooting : Part) → is_name_piece piece ≡ true → cond (length piece == 0) rooting (cond (is_dot piece) current_part (cond (is_dot_dot piece) parent_part (name_part piece))) ≡ name_part piece
-named-first s piece rooting h = by (is_empty piece) (is_dot piece) (is_dot_dot piece) h
-  where
-    by : (e d dd : Bool) → not (e || d || dd) ≡ true → cond e rooting (cond d current_part (cond dd parent_part (name_part piece))) ≡ name_part piece
-    by false false false h = refl
-    by false false true h = cc
-    by false true dd h = cc
-    by true d dd h = cc
+named-first s piece rooting h = grind arith
 
 -- the piece behind a separator at the end
 abbrev ending : Bool → List (List ℕ)
 ending ended = if ended then [] ∷ [] else []
 
 none-ending : (s : Separators) (ended : Bool) → later_parts s (ending ended) ≡ []
-none-ending s true = refl
-none-ending s false = refl
+none-ending s ended = grind arith
 
 later-names : (s : Separators) (ended : Bool) (names : List (List ℕ)) → list_all is_name_piece names ≡ true → kinds (later_parts s (names ++ ending ended)) ≡ map normal names
 later-names s ended [] named = ap kinds (none-ending s ended)
@@ -102,15 +82,11 @@ no-name s b bs ended e = by ended e (pieces-turned s (row_end s) (b ∷ bs))
     by false e rows = omega (arith, ap length rows, ap (λ ps. length (rows_of s ps)) e, length-append (turned s (row_end s) (b ∷ bs)) (row_end s ∷ []))
 
 pub none-alone : (s : Separators) (ended : Bool) (names : List (List ℕ)) → AreAlone s [] ended names → names ≡ []
-none-alone s ended [] alone = refl
-none-alone s true (name ∷ []) alone = cc
-none-alone s true (name ∷ more ∷ names) alone = cc
-none-alone s false (name ∷ []) alone = by name (ap (λ ps. ps) alone.1) (and_parts (is_name_piece name) true alone.0).0
-  where
-    by : (name : List ℕ) → [] ∷ [] ≡ name ∷ [] → is_name_piece name ≡ true → name ∷ [] ≡ []
-    by [] e h = cc
-    by (b ∷ bs) e h = cc
-none-alone s false (name ∷ more ∷ names) alone = cc
+none-alone s ended [] alone = grind arith
+none-alone s true (name ∷ []) alone = grind arith
+none-alone s true (name ∷ more ∷ names) alone = grind arith
+none-alone s false (name ∷ []) alone = grind (arith, and_parts)
+none-alone s false (name ∷ more ∷ names) alone = grind arith
 
 pub alone-body : (s : Separators) (text : List ℕ) (ended : Bool) (names : List (List ℕ)) → AreAlone s text ended names → kinds (parts (body s 0 text)) ≡ map normal names
 alone-body s [] ended names alone = ap (map normal) (sym (none-alone s ended names alone))
@@ -123,22 +99,14 @@ alone-body s (b ∷ bs) ended (name ∷ names) alone =
 
 -- What two texts share.
 
-pieces-first : (p : ℕ → Bool) (xs : List ℕ) → (more : List (List ℕ)) × (slice_split p xs ≡ before_first p xs ∷ more)
-pieces-first p xs = elim (cases_lt (position_or_len p xs) (length xs)) [
-  | inl h ↦ (_, slice_split_first p xs 0 h)
-  | inr h ↦ ([], slice_split_none p xs (λ k d l. fails_before_first p xs k d (omega (arith, h, l))) ∙ ap (λ t. t ∷ []) (sym (take_all (position_or_len p xs) xs h)))
-]
-
 first-is : (s : Separators) (text : List ℕ) (ended : Bool) (name : List ℕ) (names : List (List ℕ)) → AreAlone s text ended (name ∷ names) → name ≡ before_first (is_separator s) text
 first-is s text ended name names alone = let first = pieces-first (is_separator s) text in let e : name ∷ names ++ ending ended ≡ before_first (is_separator s) text ∷ first.0 = sym alone.1 ∙ first.1 in cc
 
 names-apart : (s : Separators) (v w : List ℕ) (o : Ordering) → bytes_cmp (before_first (is_separator s) v) (before_first (is_separator s) w) ≡ o → is_ne o ≡ true
     → (ended more : Bool) (names others : List (List ℕ)) → AreAlone s v ended names → AreAlone s w more others → shared_count names others ≡ 0
-names-apart s v w o is differ ended more [] others own other = refl
-names-apart s v w o is differ ended more (x ∷ xs) [] own other = refl
-names-apart s v w o is differ ended more (x ∷ xs) (y ∷ ys) own other =
-    let apart : bytes_eq x y ≡ false = ap₂ bytes_eq (first-is s v ended x xs own) (first-is s w more y ys other) ∙ (unlike (before_first (is_separator s) v) (before_first (is_separator s) w) o is differ).0 in
-    ap (λ b. if b then suc (shared_count xs ys) else 0) apart
+names-apart s v w o is differ ended more [] others own other = grind arith
+names-apart s v w o is differ ended more (x ∷ xs) [] own other = grind arith
+names-apart s v w o is differ ended more (x ∷ xs) (y ∷ ys) own other = grind (arith, first-is, unlike)
 
 pub none-shared : (names : List (List ℕ)) → shared_count names [] ≡ 0
 none-shared [] = refl
@@ -175,8 +143,7 @@ parted-into s t u k n o parted is differ =
 -- a text that begins with another, behind which it goes on
 module _ (s : Separators) (t beginning : List ℕ) (n : ℕ) (is : body s 0 t ≡ body s 0 beginning ++ later_body s (0 + n) (drop n t)) where
   longer-own : (ended : Bool) (names : List (List ℕ)) → AreAlone s (drop n t) ended names → kinds (parts (body s 0 t)) ≡ kinds (parts (body s 0 beginning)) ++ map normal names
-  longer-own ended names alone =
-      ap (λ cs. kinds (parts cs)) is ∙ behind-front (body s 0 beginning) (later_body s (0 + n) (drop n t)) names (alone-later s (0 + n) (drop n t) ended names alone)
+  longer-own ended names alone = grind (arith, behind-front, alone-later)
 
   shorter-own : (ended : Bool) (names : List (List ℕ)) → AreAlone s [] ended names → kinds (parts (body s 0 beginning)) ≡ kinds (parts (body s 0 beginning)) ++ map normal names
   shorter-own ended names alone = sym (ap (λ ns. kinds (parts (body s 0 beginning)) ++ map normal ns) (none-alone s ended names alone) ∙ append-nil (kinds (parts (body s 0 beginning))))
@@ -210,9 +177,7 @@ unmet-front : (front : List Kind) (names : List (List ℕ)) → unmet (front ++ 
 unmet-front front names = omega (arith, unmet-append front (map normal names), unmet-names names)
 
 kept-front : (front : List Kind) (names : List (List ℕ)) → kept_names (front ++ map normal names) ≡ kept_names front ++ names
-kept-front front names =
-    kept_names-append front (map normal names)
-    ∙ ap₂ ◌++◌ (take_all (length (kept_names front) - unmet (map normal names)) (kept_names front) (omega (arith, unmet-names names))) (kept-names names)
+kept-front front names = grind (arith, common_steps, kept_names-append, unmet-names, kept-names)
 
 module _ (s : Separators) (ks ls kbs lbs : List Kind) (ups : ℕ) (rest : List ℕ) (ended : Bool) (plain : is_verbatim s ≡ false)
     (heads : same_heads ks ls ≡ true) (own_names : kept_names kbs ≡ kept_names ks) (other_names : kept_names lbs ≡ kept_names ls) (own_unmet : unmet kbs ≡ unmet ks) (other_unmet : unmet lbs ≡ unmet ls)
@@ -227,30 +192,13 @@ module _ (s : Separators) (ks ls kbs lbs : List Kind) (ups : ℕ) (rest : List �
   other-kept = sym other_names ∙ ap kept_names part.other ∙ kept-front part.front part.others
 
   anchored : is_anchored ks ≡ is_anchored ls
-  anchored = by (is_anchored ks) (is_anchored ls) (and_parts (are_same_prefixes (first_prefix ks) (first_prefix ls)) (if is_anchored ks then is_anchored ls else not (is_anchored ls)) heads).1
-    where
-      by : (a b : Bool) → (if a then b else not b) ≡ true → a ≡ b
-      by true true h = refl
-      by true false h = cc
-      by false true h = cc
-      by false false h = refl
+  anchored = grind arith
 
   same-rising : rising ks ≡ rising ls
-  same-rising =
-      ap₂ (λ b n. if b then 0 else n) anchored
-      (sym own_unmet ∙ ap unmet part.own ∙ unmet-front part.front part.names ∙ sym (unmet-front part.front part.others) ∙ sym (ap unmet part.other) ∙ other_unmet)
+  same-rising = grind (arith, anchored, unmet-front)
 
   met : met_count ks ls ≡ length front
-  met =
-      ap (λ n. if n == rising ls then shared_count (kept_names ks) (kept_names ls) else 0) same-rising
-      ∙ by (rising ls == rising ls) (eq-eqb (rising ls) (rising ls) refl)
-      ∙ ap₂ shared_count own-kept other-kept
-      ∙ shared-behind front part.names part.others
-      ∙ omega (arith, part.apart)
-    where
-      by : (b : Bool) → b ≡ true → (if b then shared_count (kept_names ks) (kept_names ls) else 0) ≡ shared_count (kept_names ks) (kept_names ls)
-      by true e = refl
-      by false e = cc
+  met = grind (arith, same-rising, eq-eqb, own-kept, other-kept, shared-behind)
 
   down : names_down ks ls ≡ part.names
   down = ap₂ drop met own-kept ∙ drop_at front part.names (length front) refl
@@ -262,13 +210,7 @@ module _ (s : Separators) (ks ls kbs lbs : List Kind) (ups : ℕ) (rest : List �
       (all-front (IsUnseparated (is_separator s)) part.names (ending ended) (subst (AllByRecursion (IsUnseparated (is_separator s))) part.alone.1 (slice_split-unseparated (is_separator s) rest)))
 
   pub near-steps : AreNearSteps s ks ls ups rest ended
-  near-steps =
-      let le : nat_le (rising ls) (rising ks) ≡ true = grind (arith, same-rising) in
-      record {
-        reached = ap₂ ◌&&◌ (ap₂ ◌&&◌ heads le) stands;
-        up = part.up ∙ omega (arith, met, same-rising, ap length other-kept, length-append front part.others);
-        alone = subst (AreAlone s rest ended) (sym down) part.alone;
-      }
+  near-steps = grind (arith, common_steps, same-rising, stands, met, other-kept, length-append, down)
 
 -- How they are written.
 
@@ -291,22 +233,14 @@ alone-open s old new text ended names is e alone =
 
 -- one parent more behind others
 dots-behind : (s : Separators) (n : ℕ) → rows_of s (dots n) ++ dot ∷ dot ∷ row_end s ∷ [] ≡ rows_of s (dots (suc n))
-dots-behind s zero = refl
-dots-behind s (suc n) = ap (λ t. dot ∷ dot ∷ row_end s ∷ t) (dots-behind s n)
+dots-behind s n = grind (arith, common_steps)
 
 pub ups-more : (s : Separators) (n : ℕ) (old : List ℕ) → ((old ++ rows_of s (dots n)) ++ dot ∷ dot ∷ []) ++ row_end s ∷ [] ≡ old ++ rows_of s (dots (n + 1))
-ups-more s n old =
-    append_assoc (old ++ rows_of s (dots n)) (dot ∷ dot ∷ []) (row_end s ∷ [])
-    ∙ append_assoc old (rows_of s (dots n)) (dot ∷ dot ∷ row_end s ∷ [])
-    ∙ ap (λ t. old ++ t) (dots-behind s n)
-    ∙ ap (λ m. old ++ rows_of s (dots m)) (sym (add-one n))
+ups-more s n old = grind (arith, append_assoc, dots-behind, add-one)
 
 -- how many names there are, by the pieces
 pub alone-count : (s : Separators) (text : List ℕ) (ended b : Bool) (names : List (List ℕ)) (ends : ℕ) → ended ≡ b → AreAlone s text ended names → ends + 1 ≡ length (pieces s text) → (if b then ends else ends + 1) ≡ length names
-alone-count s text true true names ends is alone size = omega (arith, size, ap length alone.1, length-append names ([] ∷ []))
-alone-count s text false false names ends is alone size = omega (arith, size, ap length alone.1, length-append names [])
-alone-count s text true false names ends is alone size = cc
-alone-count s text false true names ends is alone size = cc
+alone-count s text ended b names ends is alone size = grind (arith, length-append)
 
 -- what is written leads there
 pub bare-plain : (d : Dialect) → is_verbatim (bare_separators d) ≡ false

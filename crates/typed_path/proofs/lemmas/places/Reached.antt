@@ -1,12 +1,13 @@
 -- Whether a path is reached from a base, by how many steps, and what room these take.
 -- A path that is reached from a base lies within it exactly where no step leads up.
-use Rattle.std.proofs.Common.{◌≡◌, ℕ, suc, ◌+◌, ◌-◌, ◌≤◌, ◌==◌, Bool, true, false, ◌&&◌, List, [], ◌∷◌, ◌++◌, if◌then◌else◌, length, drop, sym, ap, ap₂, ◌∙◌, arith, nat_le, subst, length-drop, Option, Some, None, not, ◌||◌, refl, eq-eqb}
+use Rattle.std.proofs.Common.{◌≡◌, ℕ, suc, ◌+◌, ◌-◌, ◌≤◌, ◌==◌, Bool, true, false, ◌&&◌, List, [], ◌∷◌, ◌++◌, if◌then◌else◌, length, drop, sym, ap, ◌∙◌, arith, nat_le, length-drop, Some, None, ◌||◌, refl, eq-eqb}
+use Rattle.std.proofs.lemmas.Grind.{common_steps}
 use Rattle.std.proofs.lemmas.Bool.{cond_both, and_parts, eqb-true, leb-true}
 use Rattle.std.proofs.lemmas.List.{length-map}
 use Rattle.std.proofs.Math.Bool.{and-false}
 use Rattle.typed_path.specs.declared.scan.separators.Separators.{Separators}
-use Rattle.typed_path.specs.components.{Dialect, separators, is_separator, is_verbatim, root_text, is_dot, is_dot_dot, Kind, prefix, root, current, parent, normal, Part, Placed, parts, root_part, current_part, parent_part, name_part, kinds, parts_of, Found, prefix_of}
-use Rattle.typed_path.specs.places.{AreSteps, can_stand, is_anchored, is_reached, kept_names, met_count, names_down, relative_by, rising, rows_of, same_heads, shared_count, steps_text, steps_up, unmet, AreNearSteps, holds_all, leads_within}
+use Rattle.typed_path.specs.components.{Dialect, is_separator, is_dot_dot, Kind, prefix, root, current, parent, normal, Part, Placed, parts, parent_part, name_part, kinds, parts_of}
+use Rattle.typed_path.specs.places.{AreSteps, can_stand, is_reached, kept_names, met_count, names_down, relative_by, rising, rows_of, same_heads, shared_count, steps_text, steps_up, unmet, AreNearSteps, holds_all, leads_within}
 use Rattle.typed_path.proofs.lemmas.lists.Lists.{width, width-slice_split}
 use Rattle.typed_path.proofs.lemmas.components.Segments.{body_parts, first_part, first_parts, later_part, later_parts, named_part, parts_behind, parts-comps_behind, pieces}
 use Rattle.typed_path.proofs.lemmas.places.SharedFromBack.{shared_count-fits}
@@ -14,74 +15,47 @@ use Rattle.typed_path.proofs.lemmas.places.TakenNames.{rows-drop, row-size}
 use Rattle.std.specs.List.{starts_with}
 use Rattle.std.specs.Str.{bytes_eq}
 use Rattle.std.proofs.lemmas.Slice.Eq.{bytes_eq-Decides}
-use Rattle.typed_path.specs.order.{are_same_prefixes}
-use Rattle.typed_path.specs.queries.{first_prefix, has_prefix}
 
 -- no more names meet than either list keeps
 pub met-fits : (ks ls : List Kind) → (met_count ks ls ≤ length (kept_names ks)) × (met_count ks ls ≤ length (kept_names ls))
-met-fits ks ls = by (rising ks == rising ls)
-  where
-    n : ℕ
-    n = shared_count (kept_names ks) (kept_names ls)
-
-    by : (b : Bool) → ((if b then n else 0) ≤ length (kept_names ks)) × ((if b then n else 0) ≤ length (kept_names ls))
-    by true = shared_count-fits (kept_names ks) (kept_names ls)
-    by false = (omega arith, omega arith)
+met-fits ks ls = grind (arith, shared_count-fits)
 
 -- no more names are kept, and parents are left over, than there are components
 few-kept : (ks : List Kind) → unmet ks + length (kept_names ks) ≤ length ks
-few-kept [] = omega arith
-few-kept (prefix p ∷ ks) = omega (arith, few-kept ks)
-few-kept (root ∷ ks) = omega (arith, few-kept ks)
-few-kept (current ∷ ks) = omega (arith, few-kept ks)
-few-kept (parent ∷ ks) = omega (arith, few-kept ks)
-few-kept (normal name ∷ ks) = by (unmet ks == 0) (few-kept ks)
-  where
-    by : (b : Bool) → unmet ks + length (kept_names ks) ≤ length ks → (unmet ks - 1) + length (if b then name ∷ kept_names ks else kept_names ks) ≤ suc (length ks)
-    by true h = omega (arith, h)
-    by false h = omega (arith, h)
+few-kept [] = grind arith
+few-kept (prefix p ∷ ks) = grind (arith, few-kept ks)
+few-kept (root ∷ ks) = grind (arith, few-kept ks)
+few-kept (current ∷ ks) = grind (arith, few-kept ks)
+few-kept (parent ∷ ks) = grind (arith, few-kept ks)
+few-kept (normal name ∷ ks) = grind (arith, few-kept ks)
 
 pub few-steps : (cs : List Placed) → rising (kinds (parts cs)) + length (kept_names (kinds (parts cs))) ≤ length cs
-few-steps cs =
-    let ks = kinds (parts cs) in
-    omega (arith, few-kept ks, less (is_anchored ks), length-map (parts cs) (λ p. p.kind), length-map cs (λ c. c.part))
-  where
-    less : (b : Bool) → (if b then 0 else unmet (kinds (parts cs))) ≤ unmet (kinds (parts cs))
-    less true = omega arith
-    less false = omega arith
+few-steps cs = grind (arith, few-kept, length-map)
 
 pub not-standing : (ks ls : List Kind) → can_stand (names_down ks ls) ≡ false → is_reached ks ls ≡ false
 not-standing ks ls e = ap (λ b. (same_heads ks ls && nat_le (rising ls) (rising ks)) && b) e ∙ and-false (same_heads ks ls && nat_le (rising ls) (rising ks))
 
 -- the names behind those that are met
 pub names-down : (ks ls : List Kind) (m downs : ℕ) → m ≡ met_count ks ls → downs ≡ length (kept_names ks) - m → drop (length (kept_names ks) - downs) (kept_names ks) ≡ names_down ks ls
-names-down ks ls m downs is e =
-    let same : length (kept_names ks) - downs ≡ met_count ks ls = omega (arith, is, e, (met-fits ks ls).0) in
-    ap (λ n. drop n (kept_names ks)) same
+names-down ks ls m downs is e = grind (arith, met-fits)
 
 pub reached-text : (d : Dialect) (ks ls : List Kind) (ups downs : ℕ) (text : List ℕ) → AreSteps ks ls ups downs → text ≡ steps_text d ups (drop (length (kept_names ks) - downs) (kept_names ks)) → Some text ≡ relative_by d ks ls
-reached-text d ks ls ups downs text steps is =
-    ap Some (is ∙ ap₂ (steps_text d) steps.up steps.names)
-    ∙ ap (λ b. if b then Some (steps_text d (steps_up ks ls) (names_down ks ls)) else None) (sym steps.reached)
+reached-text d ks ls ups downs text steps is = grind arith
 
 pub unreached-text : (d : Dialect) (ks ls : List Kind) → is_reached ks ls ≡ false → None ≡ relative_by d ks ls
 unreached-text d ks ls e = ap (λ b. if b then Some (steps_text d (steps_up ks ls) (names_down ks ls)) else None) (sym e)
 
 pub reached-all : (ks ls : List Kind) → same_heads ks ls ≡ true → rising ls ≤ rising ks → can_stand (names_down ks ls) ≡ true → is_reached ks ls ≡ true
-reached-all ks ls heads rises stands =
-    let le : nat_le (rising ls) (rising ks) ≡ true = grind (arith, rises) in
-    ap₂ ◌&&◌ (ap₂ ◌&&◌ heads le) stands
+reached-all ks ls heads rises stands = grind (arith, common_steps)
 
 -- steps lead to a text
 pub steps-some : (d : Dialect) (ks ls : List Kind) (ups downs : ℕ) → AreSteps ks ls ups downs → relative_by d ks ls ≡ None → ⊥
-steps-some d ks ls ups downs steps none =
-    let some : Some (steps_text d (steps_up ks ls) (names_down ks ls)) ≡ None = sym (ap (λ b. if b then Some (steps_text d (steps_up ks ls) (names_down ks ls)) else None) steps.reached) ∙ none in cc
+steps-some d ks ls ups downs steps h = grind arith
 
 -- names that are met, told by numbers and names that are those of two lists
 pub met-told : (ks ls : List Kind) (own other : ℕ) (xs ys : List (List ℕ)) → own ≡ rising ks → other ≡ rising ls → xs ≡ kept_names ks → ys ≡ kept_names ls
     → (if own == other then shared_count xs ys else 0) ≡ met_count ks ls
-met-told ks ls own other xs ys a b e f =
-    ap₂ (λ m n. if m == n then shared_count xs ys else 0) a b ∙ ap₂ (λ us vs. if rising ks == rising ls then shared_count us vs else 0) e f
+met-told ks ls own other xs ys a b e f = grind arith
 
 -- How many bytes the names that are kept take, each with a separator behind it.
 
@@ -94,16 +68,12 @@ names_size [] = 0
 names_size (k ∷ ks) = name_size k + names_size ks
 
 kept-size : (s : Separators) (ks : List Kind) → length (rows_of s (kept_names ks)) ≤ names_size ks
-kept-size s [] = omega arith
-kept-size s (prefix p ∷ ks) = omega (arith, kept-size s ks)
-kept-size s (root ∷ ks) = omega (arith, kept-size s ks)
-kept-size s (current ∷ ks) = omega (arith, kept-size s ks)
-kept-size s (parent ∷ ks) = omega (arith, kept-size s ks)
-kept-size s (normal name ∷ ks) = by (unmet ks == 0) (kept-size s ks)
-  where
-    by : (b : Bool) → length (rows_of s (kept_names ks)) ≤ names_size ks → length (rows_of s (if b then name ∷ kept_names ks else kept_names ks)) ≤ (length name + 1) + names_size ks
-    by true h = omega (arith, h, row-size s name (kept_names ks))
-    by false h = omega (arith, h)
+kept-size s [] = grind arith
+kept-size s (prefix p ∷ ks) = grind (arith, kept-size s ks)
+kept-size s (root ∷ ks) = grind (arith, kept-size s ks)
+kept-size s (current ∷ ks) = grind (arith, kept-size s ks)
+kept-size s (parent ∷ ks) = grind (arith, kept-size s ks)
+kept-size s (normal name ∷ ks) = grind (arith, row-size, kept-size s ks)
 
 names_size-append : (ps qs : List Part) → names_size (kinds (ps ++ qs)) ≡ names_size (kinds ps) + names_size (kinds qs)
 names_size-append [] qs = omega arith
@@ -113,35 +83,24 @@ size-named : (piece : List ℕ) → name_size (named_part piece).kind ≤ length
 size-named piece = cond_both (is_dot_dot piece) parent_part (name_part piece) (λ p. name_size p.kind ≤ length piece + 1) (λ e. omega arith) (λ e. omega arith)
 
 size-later : (s : Separators) (piece : List ℕ) → names_size (kinds (later_part s piece)) ≤ length piece + 1
-size-later s piece =
-    cond_both (length piece == 0) [] _ (λ ps. names_size (kinds ps) ≤ length piece + 1) (λ e. omega arith)
-    (λ filled. cond_both (is_dot piece) (if is_verbatim s then current_part ∷ [] else []) (named_part piece ∷ []) (λ ps. names_size (kinds ps) ≤ length piece + 1)
-    (λ e. cond_both (is_verbatim s) (current_part ∷ []) [] (λ ps. names_size (kinds ps) ≤ length piece + 1) (λ f. omega arith) (λ f. omega arith))
-    (λ e. omega (arith, size-named piece)))
+size-later s piece = grind arith
 
 size-first : (s : Separators) (piece : List ℕ) → name_size (first_part s piece).kind ≤ length piece + 1
-size-first s piece =
-    cond_both (length piece == 0) (root_part (root_text s)) _ (λ p. name_size p.kind ≤ length piece + 1) (λ e. omega arith)
-    (λ filled. cond_both (is_dot piece) current_part (named_part piece) (λ p. name_size p.kind ≤ length piece + 1) (λ e. omega arith) (λ e. size-named piece))
+size-first s piece = grind arith
 
 sizes-later : (s : Separators) (all : List (List ℕ)) → names_size (kinds (later_parts s all)) ≤ width all
 sizes-later s [] = omega arith
 sizes-later s (piece ∷ all) = omega (arith, size-later s piece, sizes-later s all, names_size-append (later_part s piece) (later_parts s all))
 
 sizes-first : (s : Separators) (all : List (List ℕ)) → names_size (kinds (first_parts s all)) ≤ width all
-sizes-first s [] = omega arith
-sizes-first s (piece ∷ all) = omega (arith, size-first s piece, sizes-later s all)
+sizes-first s all = grind (arith, size-first, sizes-later)
 
 sizes-body : (s : Separators) (text : List ℕ) → names_size (kinds (body_parts s text)) ≤ length text + 1
 sizes-body s [] = omega arith
 sizes-body s (b ∷ bs) = omega (arith, sizes-first s (pieces s (b ∷ bs)), width-slice_split (is_separator s) (b ∷ bs))
 
 sizes-whole : (d : Dialect) (t : List ℕ) → names_size (kinds (parts_of d t)) ≤ length t + 1
-sizes-whole d t = subst (λ ps. names_size (kinds ps) ≤ length t + 1) (sym (parts-comps_behind (separators d t) t (prefix_of d t))) (by (prefix_of d t))
-  where
-    by : (o : Option Found) → names_size (kinds (parts_behind (separators d t) t o)) ≤ length t + 1
-    by None = sizes-body (separators d t) t
-    by (Some f) = omega (arith, sizes-body (separators d t) (drop f.length t), length-drop f.length t)
+sizes-whole d t = grind (arith, parts-comps_behind, parts_behind, sizes-body, length-drop)
 
 -- the last of them take a byte more than the path at the most
 pub rows-room : (s : Separators) (d : Dialect) (t : List ℕ) (n : ℕ) → length (rows_of s (drop n (kept_names (kinds (parts_of d t))))) ≤ length t + 1
@@ -156,8 +115,7 @@ starts-shared (x ∷ xs) (y ∷ ys) all = by (starts-shared xs ys) (bytes_eq x y
   where
     by : (shared_count xs ys ≡ length ys → starts_with bytes_eq xs ys ≡ true) → (same : Bool) → bytes_eq x y ≡ same → (if same then suc (shared_count xs ys) else 0) ≡ suc (length ys)
         → bytes_eq y x && starts_with bytes_eq xs ys ≡ true
-    by more true e is = ap₂ ◌&&◌ ((bytes_eq-Decides y x).1 (sym ((bytes_eq-Decides x y).0 e))) (more (omega (arith, is)))
-    by more false e is = absurd (omega (arith, is))
+    by more same e is = grind (arith, bytes_eq-Decides)
 
 shared-starts : (xs ys : List (List ℕ)) → starts_with bytes_eq xs ys ≡ true → shared_count xs ys ≡ length ys
 shared-starts [] [] begins = refl
@@ -179,43 +137,16 @@ module _ (ks ls : List Kind) (reached : is_reached ks ls ≡ true) where
   rises = leb-true (rising ls) (rising ks) (and_parts (same_heads ks ls) (nat_le (rising ls) (rising ks)) (and_parts (same_heads ks ls && nat_le (rising ls) (rising ks)) (can_stand (names_down ks ls)) reached).0).1
 
   no-step : steps_up ks ls ≡ 0 → leads_within ks ls ≡ true
-  no-step none =
-      let level : rising ks ≡ rising ls = omega (arith, none, rises) in
-      let all : shared_count (kept_names ks) (kept_names ls) ≡ length (kept_names ls) = omega (arith, none, (met-fits ks ls).1, level-met ks ls level) in
-      ap₂ ◌&&◌ (ap₂ ◌&&◌ heads (eq-eqb (rising ks) (rising ls) level)) (starts-shared (kept_names ks) (kept_names ls) all)
+  no-step h = grind (arith, rises, met-fits, level-met, heads, eq-eqb, starts-shared)
 
   within-no-step : leads_within ks ls ≡ true → steps_up ks ls ≡ 0
-  within-no-step leads =
-      let outer = and_parts (same_heads ks ls && (rising ks == rising ls)) (starts_with bytes_eq (kept_names ks) (kept_names ls)) leads in
-      let level = eqb-true (rising ks) (rising ls) (and_parts (same_heads ks ls) (rising ks == rising ls) outer.0).1 in
-      omega (arith, level, level-met ks ls level, shared-starts (kept_names ks) (kept_names ls) outer.1)
+  within-no-step leads = grind (arith, and_parts, eqb-true, level-met, shared-starts)
 
   held-no-step : holds_all ks ls ≡ true → steps_up ks ls ≡ 0
-  held-no-step holds =
-      let outer = and_parts (are_same_prefixes (first_prefix ks) (first_prefix ls) && (length (kept_names ls) == 0)) (if is_anchored ls then not (has_prefix ls) else not (is_anchored ks) && nat_le (unmet ks) (unmet ls)) holds in
-      let none = eqb-true (length (kept_names ls)) 0 (and_parts (are_same_prefixes (first_prefix ks) (first_prefix ls)) (length (kept_names ls) == 0) outer.0).1 in
-      let rooted = (and_parts (are_same_prefixes (first_prefix ks) (first_prefix ls)) (if is_anchored ks then is_anchored ls else not (is_anchored ls)) heads).1 in
-      let low = by (is_anchored ks) (is_anchored ls) rooted outer.1 in
-      omega (arith, none, low)
-    where
-      by : (a b : Bool) → (if a then b else not b) ≡ true → (if b then not (has_prefix ls) else not a && nat_le (unmet ks) (unmet ls)) ≡ true → (if a then 0 else unmet ks) ≤ (if b then 0 else unmet ls)
-      by true true same why = omega arith
-      by true false same why = cc
-      by false true same why = cc
-      by false false same why = leb-true (unmet ks) (unmet ls) why
+  held-no-step holds = grind (arith, and_parts, eqb-true)
 
   pub reached-within : (steps_up ks ls == 0) ≡ (leads_within ks ls || holds_all ks ls)
-  reached-within =
-      by (steps_up ks ls == 0) (leads_within ks ls) (holds_all ks ls)
-      (λ e. no-step (eqb-true (steps_up ks ls) 0 e))
-      (λ e. eq-eqb (steps_up ks ls) 0 (within-no-step e))
-      (λ e. eq-eqb (steps_up ks ls) 0 (held-no-step e))
-    where
-      by : (none leads holds : Bool) → (none ≡ true → leads ≡ true) → (leads ≡ true → none ≡ true) → (holds ≡ true → none ≡ true) → none ≡ (leads || holds)
-      by true leads holds f g h = ap (λ b. b || holds) (sym (f refl))
-      by false true holds f g h = g refl
-      by false false true f g h = h refl
-      by false false false f g h = refl
+  reached-within = grind (arith, common_steps, no-step, eqb-true, eq-eqb, within-no-step, held-no-step)
 
 -- as the steps that bytes tell say
 pub near-within : (s : Separators) (ks ls : List Kind) (ups : ℕ) (rest : List ℕ) (ended : Bool) → AreNearSteps s ks ls ups rest ended → (ups == 0) ≡ (leads_within ks ls || holds_all ks ls)

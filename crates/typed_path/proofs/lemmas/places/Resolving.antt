@@ -1,5 +1,5 @@
 -- What a list resolves to: names that it comes down to, lists put behind one another, and a root put in.
-use Rattle.std.proofs.Common.{◌≡◌, ℕ, zero, suc, List, [], ◌∷◌, ◌++◌, Bool, true, false, not, ◌&&◌, cond, map, append_assoc, append-nil, refl, ap, sym, ◌∙◌, if◌then◌else◌}
+use Rattle.std.proofs.Common.{◌≡◌, ℕ, zero, suc, List, [], ◌∷◌, ◌++◌, Bool, true, false, not, ◌&&◌, cond, map, append_assoc, append-nil, refl, ap, sym, ◌∙◌, if◌then◌else◌, arith, true≢false}
 use Rattle.std.proofs.lemmas.List.{map-append}
 use Rattle.std.specs.List.{list_all, AllByRecursion}
 use Rattle.std.proofs.lemmas.Bool.{and_parts, cond_both, not-true}
@@ -10,7 +10,7 @@ use Rattle.typed_path.specs.places.{overdraws, stays, resolve, with_implied_root
 use Rattle.typed_path.specs.promises.{with_drive_root, without_leading_current}
 use Rattle.typed_path.proofs.lemmas.lists.Lists.{AllByRecursion-append}
 use Rattle.typed_path.specs.queries.{begins_with_root}
-use Rattle.typed_path.proofs.lemmas.components.Segments.{IsLater, IsLaterPart, IsWritten, AreRead, AreRead-later}
+use Rattle.typed_path.proofs.lemmas.components.Segments.{IsLater, IsLaterPart, IsWritten, AreRead, AreRead-later, first_parts, later_parts}
 
 -- Names that a list comes down to, one component at a time.
 
@@ -116,9 +116,6 @@ pub record Comes (d : Dialect) (goal text : List ℕ) (names : List (List ℕ)) 
 
 kinds-append : (ps qs : List Part) → kinds (ps ++ qs) ≡ kinds ps ++ kinds qs
 kinds-append ps qs = map-append (λ p. p.kind) ps qs
-
-true≢false : true ≡ false → ⊥
-true≢false h = cc
 
 stays-head : (k : Kind) (ks : List Kind) → is_head k ≡ true → stays k ks ≡ true
 stays-head (prefix p) ks h = refl
@@ -384,3 +381,7 @@ resolve-without_leading_current (p ∷ ps) = by p.kind p.text
     by root text = refl
     by parent text = refl
     by (normal name) text = refl
+
+-- pieces that do not begin with a root resolve alike at the beginning and later
+pub first_parts-alike : (s : Separators) (some : List (List ℕ)) → begins_with_root (kinds (first_parts s some)) ≡ false → Alike (first_parts s some) (later_parts s some)
+first_parts-alike s some relative = grind arith

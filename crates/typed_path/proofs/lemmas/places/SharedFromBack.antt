@@ -1,5 +1,5 @@
 -- How many first names two lists share, told from the back.
-use Rattle.std.proofs.Common.{◌≡◌, ℕ, zero, suc, ◌+◌, ◌-◌, ◌<◌, ◌≤◌, Bool, true, false, List, [], ◌∷◌, ◌++◌, if◌then◌else◌, length, take, refl, sym, ap, ap₂, ◌∙◌, arith, inl, inr}
+use Rattle.std.proofs.Common.{◌≡◌, ℕ, zero, suc, ◌+◌, ◌-◌, ◌<◌, ◌≤◌, Bool, true, false, List, [], ◌∷◌, ◌++◌, if◌then◌else◌, length, take, refl, sym, ap, ◌∙◌, arith, inl, inr}
 use Rattle.std.specs.Prelude.{◌⊎◌, bytes_eq}
 use Rattle.std.proofs.lemmas.List.{length-append, length-take-le}
 use Rattle.std.proofs.lemmas.Bool.{cases_lt}
@@ -7,14 +7,9 @@ use Rattle.typed_path.specs.places.{IsLast, shared_count}
 
 -- no more than either has
 pub shared_count-fits : (xs ys : List (List ℕ)) → (shared_count xs ys ≤ length xs) × (shared_count xs ys ≤ length ys)
-shared_count-fits [] ys = (omega arith, omega arith)
-shared_count-fits (x ∷ xs) [] = (omega arith, omega arith)
-shared_count-fits (x ∷ xs) (y ∷ ys) = by (bytes_eq x y) (shared_count-fits xs ys)
-  where
-    by : (b : Bool) → (shared_count xs ys ≤ length xs) × (shared_count xs ys ≤ length ys)
-        → ((if b then suc (shared_count xs ys) else 0) ≤ suc (length xs)) × ((if b then suc (shared_count xs ys) else 0) ≤ suc (length ys))
-    by true h = (omega (arith, h.0), omega (arith, h.1))
-    by false h = (omega arith, omega arith)
+shared_count-fits [] ys = grind arith
+shared_count-fits (x ∷ xs) [] = grind arith
+shared_count-fits (x ∷ xs) (y ∷ ys) = grind (arith, shared_count-fits xs ys)
 
 -- what another name at the end of each does
 record More (before after n : ℕ) (same : Bool) : Type 0 where
@@ -26,20 +21,14 @@ more : (xs ys : List (List ℕ)) (a b : List ℕ) → length xs ≡ length ys �
 more [] [] a b size = by (bytes_eq a b)
   where
     by : (s : Bool) → More 0 (if s then suc 0 else 0) 0 s
-    by true = record { all = λ e f. omega arith; last = λ e f. cc; less = λ e. absurd (omega (arith, e)) }
-    by false = record { all = λ e f. cc; last = λ e f. refl; less = λ e. refl }
+    by s = grind arith
 more (x ∷ xs) [] a b size = absurd (omega (arith, size))
 more [] (y ∷ ys) a b size = absurd (omega (arith, size))
 more (x ∷ xs) (y ∷ ys) a b size = by (bytes_eq x y) (more xs ys a b (omega (arith, size)))
   where
     by : (s : Bool) → More (shared_count xs ys) (shared_count (xs ++ a ∷ []) (ys ++ b ∷ [])) (length xs) (bytes_eq a b)
         → More (if s then suc (shared_count xs ys) else 0) (if s then suc (shared_count (xs ++ a ∷ []) (ys ++ b ∷ [])) else 0) (suc (length xs)) (bytes_eq a b)
-    by true h = record {
-      all = λ e f. omega (arith, h.all (omega (arith, e)) f);
-      last = λ e f. omega (arith, h.last (omega (arith, e)) f);
-      less = λ e. omega (arith, h.less (omega (arith, e)));
-    }
-    by false h = record { all = λ e f. absurd (omega (arith, e)); last = λ e f. absurd (omega (arith, e)); less = λ e. refl }
+    by s h = grind arith
 
 -- lists of one length share so many in all: what is known already where they are the same, and otherwise what they share
 pub record Tells (all : ℕ) (xs ys : List (List ℕ)) (n known : ℕ) : Type 0 where
@@ -61,9 +50,7 @@ shared_count-take (suc m) (x ∷ xs) (y ∷ ys) h g (inr e) = ap (λ n. if bytes
 -- of two lists as long as the shorter
 pub tells-first : (xs ys left others : List (List ℕ)) (n : ℕ) → n ≤ length xs → n ≤ length ys → (n ≡ length xs) ⊎ (n ≡ length ys) → left ≡ take n xs → others ≡ take n ys
     → length left ≡ n → length others ≡ n → Tells (shared_count xs ys) left others n n
-tells-first xs ys left others n h g e is are size other =
-    let same : shared_count left others ≡ shared_count xs ys = ap₂ shared_count is are ∙ shared_count-take n xs ys h g e in
-    record { size = size; other = other; same = λ f. omega (arith, f, same); less = λ f. sym same }
+tells-first xs ys left others n h g e is are size other = grind (arith, shared_count-take)
 
 module _ (all : ℕ) (xs ys xs' ys' : List (List ℕ)) (n known : ℕ) (a b : List ℕ) (is : xs ≡ xs' ++ a ∷ []) (are : ys ≡ ys' ++ b ∷ []) (h : Tells all xs ys n known) where
   size : length xs' + 1 ≡ n
@@ -73,56 +60,24 @@ module _ (all : ℕ) (xs ys xs' ys' : List (List ℕ)) (n known : ℕ) (a b : Li
   other = omega (arith, h.other, ap length are, length-append ys' (b ∷ []))
 
   step : More (shared_count xs' ys') (shared_count xs ys) (length xs') (bytes_eq a b)
-  step =
-      let m = more xs' ys' a b (omega (arith, size, other)) in
-      let e : shared_count xs ys ≡ shared_count (xs' ++ a ∷ []) (ys' ++ b ∷ []) = ap₂ shared_count is are in
-      record { all = λ f g. e ∙ m.all f g; last = λ f g. e ∙ m.last f g; less = λ f. e ∙ m.less f }
+  step = grind (arith, more, size, other)
 
   -- the same name at both ends
   pub tells-same : bytes_eq a b ≡ true → Tells all xs' ys' (n - 1) known
-  tells-same alike = record {
-    size = omega (arith, size);
-    other = omega (arith, other);
-    same = λ f. h.same (omega (arith, step.all (omega (arith, f, size)) alike, size));
-    less = λ f.
-        let e = step.less (omega (arith, f, size)) in
-        h.less (omega (arith, e, f)) ∙ e;
-  }
+  tells-same alike = grind (arith, size, other, step)
 
   -- different names
   pub tells-other : bytes_eq a b ≡ false → Tells all xs' ys' (n - 1) (n - 1)
-  tells-other alike = record {
-    size = omega (arith, size);
-    other = omega (arith, other);
-    same = λ f.
-        let e = step.last (omega (arith, f, size)) alike in
-        omega (arith, h.less (omega (arith, e, size)), e, size);
-    less = λ f.
-        let e = step.less (omega (arith, f, size)) in
-        h.less (omega (arith, e, f)) ∙ e;
-  }
+  tells-other alike = grind (arith, size, other, step)
 
 -- nothing is left
 pub tells-end : (all : ℕ) (xs ys : List (List ℕ)) (n known : ℕ) → Tells all xs ys n known → ys ≡ [] → all ≡ known
-tells-end all xs ys n known h none =
-    let zero : n ≡ 0 = omega (arith, h.other, ap length none) in
-    h.same (omega (arith, zero, h.size, (shared_count-fits xs ys).0))
+tells-end all xs ys n known h h1 = grind (arith, size, shared_count-fits)
 
 -- of two lists, the deeper one cut to the length of the other
 pub tells-start : (xs ys left others : List (List ℕ)) (names base_names n deeper base_deeper : ℕ) → length xs ≡ names → length ys ≡ base_names → deeper ≡ names - base_names → base_deeper ≡ base_names - names → n ≡ names - deeper
     → left ≡ take (length xs - deeper) xs → others ≡ take (length ys - base_deeper) ys → Tells (shared_count xs ys) left others n n
-tells-start xs ys left others names base_names n deeper base_deeper size other cut base_cut is left_is others_is =
-    let first : length xs - deeper ≡ n = omega (arith, size, is) in
-    let second : length ys - base_deeper ≡ n = omega (arith, other, cut, base_cut, is) in
-    let fits : n ≤ length xs = omega (arith, first) in
-    let base_fits : n ≤ length ys = omega (arith, second) in
-    let le = left_is ∙ ap (λ m. take m xs) first in
-    let oe = others_is ∙ ap (λ m. take m ys) second in
-    tells-first xs ys left others n fits base_fits (choose (cases_lt base_names names) first second size other cut base_cut) le oe (ap length le ∙ length-take-le n xs fits) (ap length oe ∙ length-take-le n ys base_fits)
-  where
-    choose : (base_names < names) ⊎ (names ≤ base_names) → length xs - deeper ≡ n → length ys - base_deeper ≡ n → length xs ≡ names → length ys ≡ base_names → deeper ≡ names - base_names → base_deeper ≡ base_names - names → (n ≡ length xs) ⊎ (n ≡ length ys)
-    choose (inl h) f s z o c b = inr (omega (arith, h, s, b))
-    choose (inr h) f s z o c b = inl (omega (arith, h, f, c))
+tells-start xs ys left others names base_names n deeper base_deeper size other cut base_cut is left_is others_is = grind (arith, tells-first, cases_lt, length-take-le)
 
 -- one name more was taken off both
 module _ (all : ℕ) (xs ys xs' ys' : List (List ℕ)) (n known : ℕ) (b : List ℕ) (are : ys ≡ ys' ++ b ∷ []) (h : Tells all xs ys n known) where

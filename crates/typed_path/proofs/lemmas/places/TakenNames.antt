@@ -1,6 +1,6 @@
 -- Names that are taken off the end of a list one after another: what is left and what was taken, whether these can stand, and the rows that they make from their ends.
-use Rattle.std.proofs.Common.{◌≡◌, ℕ, zero, suc, ◌+◌, ◌-◌, ◌<◌, ◌≤◌, ◌==◌, Bool, true, false, not, ◌&&◌, List, [], ◌∷◌, ◌++◌, length, take, drop, reverse, refl, sym, ap, ap₂, ◌∙◌, append_assoc, append-nil, arith, take-append-drop, length-append, add-one}
-use Rattle.std.specs.Prelude.{Option, Some, None, MatchOption}
+use Rattle.std.proofs.Common.{◌≡◌, ℕ, zero, suc, ◌+◌, ◌-◌, ◌<◌, ◌≤◌, ◌==◌, true, false, not, ◌&&◌, List, [], ◌∷◌, ◌++◌, length, take, drop, reverse, refl, sym, ap, ap₂, ◌∙◌, append_assoc, append-nil, arith, take-append-drop, length-append, add-one}
+use Rattle.std.specs.Prelude.{Option, MatchOption}
 use Rattle.std.specs.List.{list_any, join_with_byte}
 use Rattle.std.proofs.lemmas.List.{length-take-le, take_at, drop_at, drop_all, take_all, drop-drop, reverse-append, reverse-reverse, length-reverse}
 use Rattle.std.proofs.lemmas.Grind.{flat_map-append}
@@ -31,8 +31,7 @@ some-left whole left n is less none = omega (arith, less, ap length none, ap len
 -- whatever it is, it is one less
 pub took-any : {X : Type 0} (f : X → List ℕ) (whole left next : List (List ℕ)) (n : ℕ) (o : Option X) → left ≡ take (length whole - n) whole → n < length whole
     → MatchOption o (left ≡ []) (λ x. left ≡ next ++ f x ∷ []) → next ≡ take (length whole - (n + 1)) whole
-took-any f whole left next n None is less h = absurd (some-left whole left n is less h)
-took-any f whole left next n (Some x) is less h = (took f whole left next n x is less h).left
+took-any f whole left next n o is less h = grind (arith, some-left, took)
 
 -- none is taken yet
 pub none-taken : (whole : List (List ℕ)) → whole ≡ take (length whole - 0) whole
@@ -50,13 +49,9 @@ stands-one : (name : List ℕ) (names : List (List ℕ)) → list_any (λ b. b =
 stands-one name names some = ap (λ b. not b && can_stand names) some
 
 stands-drop : (n : ℕ) (names : List (List ℕ)) → can_stand (drop n names) ≡ false → can_stand names ≡ false
-stands-drop zero names h = h
-stands-drop (suc n) [] h = h
-stands-drop (suc n) (name ∷ names) h = by (not (list_any (λ b. b == slash) name)) (stands-drop n names h)
-  where
-    by : (a : Bool) → can_stand names ≡ false → a && can_stand names ≡ false
-    by true e = e
-    by false e = refl
+stands-drop zero names h = grind arith
+stands-drop (suc n) [] h = grind arith
+stands-drop (suc n) (name ∷ names) h = grind (arith, stands-drop n names h)
 
 -- one of the last names that can't stand is one of more
 pub stands-not : (whole : List (List ℕ)) (n count : ℕ) (name : List ℕ) (behind : List (List ℕ)) → n + 1 ≤ count → drop (length whole - (n + 1)) whole ≡ name ∷ behind → list_any (λ b. b == slash) name ≡ true
@@ -75,25 +70,11 @@ patched len start d r items =
 
 pub patched-turned : (len start : ℕ) (d r items old name : List ℕ) → d ≡ items → items ≡ old ++ name → start ≡ length old → len ≡ length items → r ≡ reverse (take (length d - start) (drop start d))
     → patched len start d r items ≡ old ++ reverse name
-patched-turned len start d r items old name same is place size turned =
-    let whole : d ≡ old ++ name = same ∙ is in
-    let both : length d ≡ length old + length name = ap length whole ∙ length-append old name in
-    let first : take start d ≡ old = ap (take start) whole ∙ take_at old name start (sym place) in
-    let behind : drop start d ≡ name = ap (drop start) whole ∙ drop_at old name start (sym place) in
-    let end : take (length d - start) (drop start d) ≡ name = ap (take (length d - start)) behind ∙ take_all (length d - start) name (omega (arith, both, place)) in
-    let none : drop (length d - start) (drop start d) ≡ [] = ap (drop (length d - start)) behind ∙ drop_all (length d - start) name (omega (arith, both, place)) in
-    let shape : take start d ++ (r ++ drop (length d - start) (drop start d)) ≡ old ++ reverse name =
-    ap₂ ◌++◌ first (ap₂ ◌++◌ (turned ∙ ap reverse end) none ∙ append-nil (reverse name)) in
-    let count : length (old ++ reverse name) ≡ len = omega (arith, length-append old (reverse name), length-reverse name, size, ap length is, length-append old name) in
-    ap (λ l. take len (l ++ drop (length l) items)) shape
-    ∙ take_at (old ++ reverse name) (drop (length (old ++ reverse name)) items) len count
+patched-turned len start d r items old name same is place size turned = grind (arith, length-append, take_at, drop_at, take_all, drop_all, append-nil, length-reverse)
 
 -- a separator and a name from its end, behind a text: read from the end, the name, the separator, and the text
 pub turned-name : (text name : List ℕ) (sep : ℕ) → reverse ((text ++ sep ∷ []) ++ reverse name) ≡ (name ++ sep ∷ []) ++ reverse text
-turned-name text name sep =
-    reverse-append (text ++ sep ∷ []) (reverse name)
-    ∙ ap₂ ◌++◌ (reverse-reverse name) (reverse-append text (sep ∷ []))
-    ∙ sym (append_assoc name (sep ∷ []) (reverse text))
+turned-name text name sep = grind (arith, reverse-append, reverse-reverse, append_assoc)
 
 module _ (s : Separators) where
   pub turned-row : (new text name : List ℕ) (segments : List (List ℕ)) → reverse new ≡ (name ++ row_end s ∷ []) ++ reverse text → reverse text ≡ rows_of s segments → reverse new ≡ rows_of s (name ∷ segments)
@@ -126,17 +107,12 @@ dots-more s n rest = rw (add-one n) refl
 -- the last byte is taken off, where there is one
 pub unended : (s : Separators) (segments : List (List ℕ)) (old new : List ℕ) → old ≡ rows_of s segments → (0 < length old → new ≡ take (length old - 1) old) → (length old ≤ 0 → new ≡ old)
     → new ≡ join_with_byte (row_end s) segments
-unended s [] old new is named alone = alone (omega (arith, ap length is)) ∙ is
-unended s (segment ∷ segments) old new is named alone =
-    let joined = join_with_byte (row_end s) (segment ∷ segments) in
-    let whole : old ≡ joined ++ row_end s ∷ [] = is ∙ rows-joined s segment segments in
-    let size : length old ≡ length joined + 1 = ap length whole ∙ length-append joined (row_end s ∷ []) in
-    named (omega (arith, size)) ∙ ap (take (length old - 1)) whole ∙ take_at joined (row_end s ∷ []) (length old - 1) (omega (arith, size))
+unended s [] old new is named alone = grind arith
+unended s (segment ∷ segments) old new is named alone = grind (arith, rows-joined, length-append, take_at)
 
 -- it has a byte less, or none
 pub unended-size : (old new : List ℕ) → (0 < length old → new ≡ take (length old - 1) old) → (length old ≤ 0 → new ≡ old) → length new ≤ length old - 1
-unended-size [] new named alone = omega (arith, ap length (alone (omega arith)))
-unended-size (b ∷ bs) new named alone = omega (arith, ap length (named (omega arith)), length-take-le (length (b ∷ bs) - 1) (b ∷ bs) (omega arith))
+unended-size old new named alone = grind (arith, length-take-le)
 
 pub dialect-bare : (d : Dialect) → dialect_of (bare_separators d) ≡ d
 dialect-bare unix = refl

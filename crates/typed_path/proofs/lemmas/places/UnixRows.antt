@@ -1,16 +1,17 @@
 -- The normal text of Unix, written row by row.
-use Rattle.std.proofs.Common.{◌⊎◌, ◌≡◌, inl, inr, ℕ, suc, ◌+◌, ◌-◌, ◌<◌, ◌==◌, ◌||◌, Bool, true, false, cond, List, [], ◌∷◌, ◌++◌, length, take, slice_index, fold, refl, sym, ap, ◌∙◌, append_assoc, append-nil, subst, arith, ne_eqb, eqb-true, get_or, ◌≤◌, drop, length-append, get_or-append-add, take_at, drop_at}
+use Rattle.std.proofs.Common.{◌⊎◌, ◌≡◌, inl, inr, ℕ, suc, ◌+◌, ◌-◌, ◌<◌, ◌==◌, ◌||◌, Bool, true, false, cond, List, [], ◌∷◌, ◌++◌, length, take, fold, refl, sym, ap, ◌∙◌, append_assoc, append-nil, subst, arith, ne_eqb, eqb-true, get_or, ◌≤◌, drop, length-append, get_or-append-add, take_at, drop_at}
+use Rattle.std.proofs.lemmas.Grind.{common_steps}
 use Rattle.std.specs.List.{onto_first, AllByRecursion, slice_split, IsAfterLastMatch}
 use Rattle.std.proofs.lemmas.List.{get_or_append_left}
 use Rattle.std.proofs.lemmas.List.Splits.{slice_split-cons_yes, slice_split-cons_no}
 use Rattle.std.proofs.lemmas.Bool.{cond-false, or_from, false_from_ne_true, eqb-false, cases_lt}
 use Rattle.std.proofs.Math.Seq.{get_or-append_seam, get_or-append_right, take-append-add}
 use Rattle.typed_path.specs.declared.scan.separators.Separators.{Separators}
-use Rattle.typed_path.specs.declared.scan.separators.Separators.TheVariants.{Slash, Backslash, Either}
-use Rattle.typed_path.specs.components.{Dialect, unix, slash, is_separator, is_verbatim, root_text, Part, name_part, current_part, parent_part, root_part, kinds, texts, Placed, Kind, root as root_kind, current, parent, normal, is_dot, is_dot_dot, component, first}
+use Rattle.typed_path.specs.declared.scan.separators.Separators.TheVariants.{Slash}
+use Rattle.typed_path.specs.components.{Dialect, unix, slash, is_separator, is_verbatim, root_text, Part, name_part, current_part, parent_part, root_part, kinds, texts, Kind, root as root_kind, current, parent, normal, is_dot, is_dot_dot, component, first}
 use Rattle.typed_path.specs.changes.{ended_with, push_all}
 use Rattle.typed_path.specs.places.{normal_text, resolve, row_end, rows_of, rows, IsNormal, settled, names_left, IsParted, AreRowsOf, names_left_of}
-use Rattle.typed_path.proofs.lemmas.lists.Lists.{IsUnseparated, slice_split-some, slice_split-unseparated, AllByRecursion-append}
+use Rattle.typed_path.proofs.lemmas.lists.Lists.{IsUnseparated, slice_split-some, slice_split-unseparated, all-front, take-ended}
 use Rattle.typed_path.proofs.lemmas.components.Segments.{pieces, named_part, later_part, later_parts, first_parts, body_parts, IsCleanName}
 use Rattle.typed_path.proofs.lemmas.places.Resolving.{heads_first, Comes, comes-current, comes-parent, comes-parent_alone, comes-name, comes-head, comes-end}
 use Rattle.typed_path.proofs.lemmas.components.WrittenForms.{heads_first-parts_of}
@@ -31,15 +32,8 @@ ended {X} (x ∷ xs) = by xs (ended xs)
     by _ none = some [] x
     by _ (some ys y) = some (x ∷ ys) y
 
-pub take-ended : {X : Type 0} (xs : List X) (x : X) → take (length (xs ++ x ∷ []) - 1) (xs ++ x ∷ []) ≡ xs
-take-ended [] x = refl
-take-ended (y ∷ xs) x =
-    let size : length (y ∷ (xs ++ x ∷ [])) - 1 ≡ suc (length (xs ++ x ∷ []) - 1) = omega (arith, length-append xs (x ∷ [])) in
-    ap (λ n. take n (y ∷ (xs ++ x ∷ []))) size ∙ ap (λ ys. y ∷ ys) (take-ended xs x)
-
 pub rows-append : (s : Separators) (ms ns : List (List ℕ)) → rows_of s (ms ++ ns) ≡ rows_of s ms ++ rows_of s ns
-rows-append s [] ns = refl
-rows-append s (m ∷ ms) ns = ap (λ bs. (m ++ row_end s ∷ []) ++ bs) (rows-append s ms ns) ∙ sym (append_assoc (m ++ row_end s ∷ []) (rows_of s ms) (rows_of s ns))
+rows-append s ms ns = grind (arith, common_steps)
 
 -- one more segment settles one more component, where the segment is a later one
 comes-settled : {d : Dialect} {goal head : List ℕ} (s : Separators) (names : List (List ℕ)) (segment : List ℕ) (ps : List Part)
@@ -104,13 +98,7 @@ comes-relative text relative =
 
 -- a name ends with no separator
 ended_with-name : (front name : List ℕ) → IsCleanName Slash name → ended_with slash (front ++ name) ≡ (front ++ name) ++ slash ∷ []
-ended_with-name front name clean =
-    let some : 0 < length name = grind (arith, eqb-false, clean.filled) in
-    let size = length-append front name in
-    let place : length (front ++ name) - 1 ≡ length front + (length name - 1) = omega arith in
-    let last : slice_index (front ++ name) (length (front ++ name) - 1) ≡ get_or name (length name - 1) 0 = ap (λ i. get_or (front ++ name) i 0) place ∙ get_or-append-add front name (length name - 1) 0 in
-    let apart : (slice_index (front ++ name) (length (front ++ name) - 1) == slash) ≡ false = ap (λ b. b == slash) last ∙ clean.unseparated (length name - 1) 0 (omega arith) in
-    cond-false _ (front ++ name) ((front ++ name) ++ slash ∷ []) (or_from _ _ (ne_eqb (length (front ++ name)) 0 (λ e. omega arith)) apart)
+ended_with-name front name clean = grind (arith, eqb-false, length-append, get_or-append-add, cond-false, or_from)
 
 -- names pushed behind a name are its row and theirs, without the last separator
 push_all-rows : (front name : List ℕ) (names : List (List ℕ)) → IsCleanName Slash name → AllByRecursion (IsCleanName Slash) names
@@ -129,42 +117,24 @@ IsHead head = (head ≡ []) ⊎ (head ≡ slash ∷ [])
 
 -- a head ends as it is
 ended_with-head : (head : List ℕ) → IsHead head → ended_with slash head ≡ head
-ended_with-head head (inl e) = rw e
-ended_with-head head (inr e) = rw e
+ended_with-head head h = grind arith
 
 -- the rows of a text without their last separator are its names pushed one by one
 pub pushed-rows : (head name : List ℕ) (names : List (List ℕ)) → IsHead head → IsCleanName Slash name → AllByRecursion (IsCleanName Slash) names
     → push_all unix head (name ∷ names) ++ slash ∷ [] ≡ head ++ rows (name ∷ names)
-pushed-rows head name names is clean each =
-    ap (λ text. push_all unix text names ++ slash ∷ []) (push_unix-name head name clean ∙ ap (λ text. text ++ name) (ended_with-head head is))
-    ∙ push_all-rows head name names clean each
-    ∙ ap (λ text. text ++ rows names) (append_assoc head name (slash ∷ []))
-    ∙ append_assoc head (name ++ slash ∷ []) (rows names)
-
--- what holds of each element but the last
-pub all-front : {X : Type 0} (P : X → Type 0) (xs ys : List X) → AllByRecursion P (xs ++ ys) → AllByRecursion P xs
-all-front P [] ys each = tt
-all-front P (x ∷ xs) ys each = (each.0, all-front P xs ys each.1)
+pushed-rows head name names is clean each = grind (arith, push_all-rows, append_assoc)
 
 all-but_last : {X : Type 0} (P : X → Type 0) (xs : List X) → AllByRecursion P xs → AllByRecursion P (take (length xs - 1) xs)
 all-but_last {X} P xs each = by xs (ended xs) each
   where
     by : (ys : List X) → Ended ys → AllByRecursion P ys → AllByRecursion P (take (length ys - 1) ys)
-    by _ none h = tt
-    by _ (some ys y) h = subst (λ zs. AllByRecursion P zs) (sym (take-ended ys y)) (all-front P ys (y ∷ []) h)
+    by ys h1 h = grind (arith, take-ended, all-front)
 
 -- what holds of names, and of a segment that is one, holds once it is settled
 module _ (P : List ℕ → Type 0) where
   pub settled-each : (names : List (List ℕ)) (segment : List ℕ) → ((length segment == 0) ≡ false → is_dot segment ≡ false → is_dot_dot segment ≡ false → P segment)
       → AllByRecursion P names → AllByRecursion P (settled names segment)
-  settled-each names segment own each = by (length segment == 0) refl (is_dot segment) refl (is_dot_dot segment) refl
-    where
-      by : (empty : Bool) → (length segment == 0) ≡ empty → (dotted : Bool) → is_dot segment ≡ dotted → (twice : Bool) → is_dot_dot segment ≡ twice
-          → AllByRecursion P (cond (empty || dotted) names (cond twice (take (length names - 1) names) (names ++ segment ∷ [])))
-      by true e dotted f twice g = each
-      by false e true f twice g = each
-      by false e false f true g = all-but_last P names each
-      by false e false f false g = AllByRecursion-append P names (segment ∷ []) each (own e f g, tt)
+  settled-each names segment own each = grind (arith, common_steps)
 
 -- the names that are left of a text are clean
 pub left-clean : (s : Separators) (segments : List (List ℕ)) (names : List (List ℕ)) → AllByRecursion (IsUnseparated (is_separator s)) segments
@@ -176,26 +146,16 @@ left-clean s (segment ∷ segments) names segmented each =
 
 -- a text of rows is the normal text without its last separator: no names, or that text with the separator behind it
 pub rowed-alone : (goal head text : List ℕ) → text ≡ head ++ [] → goal ≡ head → IsNormal goal head text
-rowed-alone goal head text e written = record {
-  named = λ more. absurd (omega (arith, ap length (e ∙ append-nil head)));
-  alone = λ _. written ∙ sym (append-nil head) ∙ sym e;
-}
+rowed-alone goal head text e written = grind (arith, append-nil)
 
 pub rowed-named : (s : Separators) (goal head text name : List ℕ) (names : List (List ℕ)) → (length name == 0) ≡ false → text ≡ head ++ rows_of s (name ∷ names)
     → goal ++ row_end s ∷ [] ≡ text → IsNormal goal head text
-rowed-named s goal head text name names filled e whole =
-    let some : 0 < length name = grind (arith, eqb-false, filled) in
-    record {
-      named = λ more. sym (take-ended goal (row_end s)) ∙ ap (λ t. take (length t - 1) t) whole;
-      alone = λ fits. absurd (omega (arith, ap length e, length-append head (rows_of s (name ∷ names)), length-append (name ++ row_end s ∷ []) (rows_of s names), length-append name (row_end s ∷ [])));
-    }
+rowed-named s goal head text name names filled e whole = grind (arith, take-ended, length-append)
 
 rows_normal : (goal head text : List ℕ) (names : List (List ℕ)) → IsHead head → AllByRecursion (IsCleanName Slash) names
     → goal ≡ push_all unix head names → text ≡ head ++ rows names → IsNormal goal head text
-rows_normal goal head text [] is each written e = rowed-alone goal head text e written
-rows_normal goal head text (name ∷ names) is each written e =
-    let clean = each.0 in
-    rowed-named Slash goal head text name names clean.filled e (ap (λ t. t ++ slash ∷ []) written ∙ pushed-rows head name names is each.0 each.1 ∙ sym e)
+rows_normal goal head text [] is each written e = grind (arith, rowed-alone)
+rows_normal goal head text (name ∷ names) is each written e = grind (arith, rowed-named, pushed-rows)
 
 pub written_normal : (goal head rest text : List ℕ) → IsHead head → Comes unix goal head [] (later_parts Slash (pieces Slash rest)) → text ≡ head ++ rows (names_left rest) → IsNormal goal head text
 written_normal goal head rest text is comes e =
@@ -212,16 +172,11 @@ relative_normal path text relative e = written_normal (normal_text unix path) []
 
 -- rows of names with one more
 pub rows-more : (s : Separators) (head : List ℕ) (names : List (List ℕ)) (name : List ℕ) → head ++ rows_of s (names ++ name ∷ []) ≡ ((head ++ rows_of s names) ++ name) ++ row_end s ∷ []
-rows-more s head names name =
-    ap (λ bs. head ++ bs) (rows-append s names (name ∷ []) ∙ ap (λ bs. rows_of s names ++ bs) (append-nil (name ++ row_end s ∷ [])))
-    ∙ sym (append_assoc head (rows_of s names) (name ++ row_end s ∷ []))
-    ∙ sym (append_assoc (head ++ rows_of s names) name (row_end s ∷ []))
+rows-more s head names name = grind (arith, rows-append, append-nil, append_assoc)
 
 -- the separator behind a name separates
 row_end-separates : (s : Separators) → is_separator s (row_end s) ≡ true
-row_end-separates Slash = refl
-row_end-separates Backslash = refl
-row_end-separates Either = refl
+row_end-separates s = grind arith
 
 -- rows end with a separator, where there are any
 ends_separated : (s : Separators) (names : List (List ℕ)) → 0 < length (rows_of s names) → get_or (rows_of s names) (length (rows_of s names) - 1) 0 ≡ row_end s
@@ -281,11 +236,7 @@ name_dropped s text head cut names n start head_size are filled is within last =
 
 -- no name is left to take off
 pub none_dropped : (s : Separators) (text head : List ℕ) (names : List (List ℕ)) → AreRowsOf s text head names → length text ≤ length head → text ≡ head ++ rows_of s (take (length names - 1) names)
-none_dropped s text head names are fits = by names (ended names) are.is
-  where
-    by : (ns : List (List ℕ)) → Ended ns → text ≡ head ++ rows_of s ns → text ≡ head ++ rows_of s (take (length ns - 1) ns)
-    by _ none e = e
-    by _ (some ns n) e = absurd (omega (arith, ap length (e ∙ rows-more s head ns n), length-append ((head ++ rows_of s ns) ++ n) (row_end s ∷ []), length-append (head ++ rows_of s ns) n, length-append head (rows_of s ns)))
+none_dropped s text head names are fits = grind (arith, common_steps)
 
 -- what a segment does, by the component that it is as a first one
 abbrev pub by_kind : List (List ℕ) → List ℕ → Kind → List (List ℕ)
@@ -296,19 +247,7 @@ by_kind names segment k = names
 -- what the tests of a segment tell is told by the component that it is as a first one
 pub told-by_kind : {A : Type 0} (f : Kind → A) (s : Separators) (segment : List ℕ) (p : Part) → f root_kind ≡ f current → first s (record { text = segment; start = 0 }) ≡ component p 0
     → cond (length segment == 0 || is_dot segment) (f current) (cond (is_dot_dot segment) (f parent) (f (normal segment))) ≡ f p.kind
-told-by_kind f s segment p alike e = by (length segment == 0) (is_dot segment) (is_dot_dot segment) e
-  where
-    kind_at : List Placed → Kind
-    kind_at [] = current
-    kind_at (c ∷ cs) = c.part.kind
-
-    by : (empty dotted twice : Bool)
-        → cond empty (component (root_part (root_text s)) 0) (cond dotted (component current_part 0) (cond twice (component parent_part 0) (component (name_part segment) 0))) ≡ component p 0
-        → cond (empty || dotted) (f current) (cond twice (f parent) (f (normal segment))) ≡ f p.kind
-    by true dotted twice h = sym alike ∙ ap f (ap kind_at h)
-    by false true twice h = ap f (ap kind_at h)
-    by false false true h = ap f (ap kind_at h)
-    by false false false h = ap f (ap kind_at h)
+told-by_kind f s segment p alike e = grind arith
 
 pub settled_by : (s : Separators) (names : List (List ℕ)) (segment : List ℕ) (p : Part) → first s (record { text = segment; start = 0 }) ≡ component p 0 → settled names segment ≡ by_kind names segment p.kind
 settled_by s names segment p e = told-by_kind (by_kind names segment) s segment p refl e
@@ -329,18 +268,7 @@ module _ (s : Separators) (P : List ℕ → Type 0) where
   pub standing-step : (text new head rest behind segment whole : List ℕ) → slice_split (is_separator s) rest ≡ segment ∷ slice_split (is_separator s) behind
       → slice_split (is_separator s) segment ≡ segment ∷ [] → P segment
       → ((names : List (List ℕ)) → AreRowsOf s text head names → new ≡ head ++ rows_of s (settled names segment)) → Standing s P text head rest whole → Standing s P new head behind whole
-  standing-step text new head rest behind segment whole split alone own settles stands =
-      let All : List (List ℕ) → Type 0 = λ ss. AllByRecursion (IsUnseparated (is_separator s)) ss in
-      let unseparated = (subst All alone (slice_split-unseparated (is_separator s) segment)).0 in
-      record {
-        names = settled stands.names segment;
-        rows = record {
-          unseparated = settled-each (IsUnseparated (is_separator s)) stands.names segment (λ e f g. unseparated) stands.rows.unseparated;
-          is = settles stands.names stands.rows;
-        };
-        each = settled-each P stands.names segment (λ e f g. own) stands.each;
-        left = stands.left ∙ ap (fold settled stands.names) split;
-      }
+  standing-step text new head rest behind segment whole split alone own settles stands = grind (arith, slice_split-unseparated, settled-each)
 
   -- segments that add nothing are passed over
   pub standing-over : (text head rest behind whole : List ℕ) → ((names : List (List ℕ)) → fold settled names (slice_split (is_separator s) rest) ≡ fold settled names (slice_split (is_separator s) behind))
@@ -350,13 +278,11 @@ module _ (s : Separators) (P : List ℕ → Type 0) where
   -- the last segment
   pub standing-end : (text new head rest whole : List ℕ) → slice_split (is_separator s) rest ≡ rest ∷ []
       → ((names : List (List ℕ)) → AreRowsOf s text head names → new ≡ head ++ rows_of s (settled names rest)) → Standing s P text head rest whole → new ≡ head ++ rows_of s (names_left_of s whole)
-  standing-end text new head rest whole split settles stands =
-      settles stands.names stands.rows ∙ ap (λ ns. head ++ rows_of s ns) (sym (stands.left ∙ ap (fold settled stands.names) split))
+  standing-end text new head rest whole split settles stands = grind arith
 
   -- what holds of each name then
   pub standing-each : (text head rest whole : List ℕ) → slice_split (is_separator s) rest ≡ rest ∷ [] → P rest → Standing s P text head rest whole → AllByRecursion P (names_left_of s whole)
-  standing-each text head rest whole split own stands =
-      subst (AllByRecursion P) (sym (stands.left ∙ ap (fold settled stands.names) split)) (settled-each P stands.names rest (λ e f g. own) stands.each)
+  standing-each text head rest whole split own stands = grind (arith, settled-each)
 
 -- no name stands behind a head at first
 pub rows-start : (s : Separators) (head : List ℕ) → AreRowsOf s head head []
@@ -364,9 +290,7 @@ rows-start s head = record { unseparated = tt; is = sym (append-nil head) }
 
 -- the names that are left, without the last separator, are the normal text
 parted-normal : (path head rest text : List ℕ) → IsParted path head rest → text ≡ head ++ rows (names_left rest) → IsNormal (normal_text unix path) head text
-parted-normal path head rest text (inl at) e = rw (at.0, at.1) (root_normal rest text (e ∙ ap (λ h. h ++ rows (names_left rest)) at.0))
-parted-normal path head rest text (inr at) e =
-    rw at.0 (relative_normal path text at.2 (e ∙ ap (λ h. h ++ rows (names_left rest)) at.0 ∙ ap (λ r. rows (names_left r)) at.1))
+parted-normal path head rest text h e = grind (arith, root_normal, relative_normal)
 
 -- what is left behind a text once that separator is gone is the normal text
 pub normal-end : (goal before head own text new : List ℕ) → IsNormal goal head own → text ≡ before ++ own

@@ -1,9 +1,9 @@
 -- The normal text of Windows, written row by row.
-use Rattle.std.proofs.Common.{◌≡◌, inl, inr, ℕ, ◌<◌, ◌||◌, Bool, true, false, List, [], ◌∷◌, ◌++◌, map, length, take, drop, fold, Option, Some, None, if◌then◌else◌, cond, refl, sym, ap, ap₂, ◌∙◌, subst, append_assoc, append-nil, length-take, length-drop, arith}
+use Rattle.std.proofs.Common.{◌≡◌, inl, inr, ℕ, ◌<◌, ◌||◌, true, false, List, [], ◌∷◌, ◌++◌, map, length, take, drop, fold, Option, Some, None, if◌then◌else◌, cond, refl, sym, ap, ap₂, ◌∙◌, subst, append_assoc, append-nil, length-take, length-drop, arith}
+use Rattle.std.proofs.lemmas.Grind.{common_steps}
 use Rattle.std.specs.List.{list_any, onto_first, AllByRecursion}
 use Rattle.std.proofs.lemmas.Bool.{or_parts}
 use Rattle.std.proofs.lemmas.List.{nil_from_length}
-use Rattle.std.proofs.lemmas.List.Splits.{slice_split-cons_yes}
 use Rattle.typed_path.specs.declared.scan.separators.Separators.{Separators}
 use Rattle.typed_path.specs.declared.scan.separators.Separators.TheVariants.{Slash, Backslash, Either}
 use Rattle.typed_path.specs.components.{windows, backslash, separators, is_separator, is_verbatim, disk, Part, name_part, root_part, prefix_part, Found, found, drive, prefix_of, parts_of}
@@ -12,8 +12,8 @@ use Rattle.typed_path.specs.changes.{push_windows, push_all, spelled}
 use Rattle.typed_path.specs.places.{normal_text, rows_of, settled, names_left_of, HaveNoDisks, ArePlainRows, IsNormal, IsRowHead, IsPartedEither}
 use Rattle.typed_path.specs.promises.{is_verbatim_unc_name}
 use Rattle.typed_path.proofs.lemmas.lists.Lists.{slice_split-unseparated}
-use Rattle.typed_path.proofs.lemmas.components.Prefixes.{OfWindows, root_text-windows, separators-windows, drive-size, Read, of_disk, prefix-read}
-use Rattle.typed_path.proofs.lemmas.components.Segments.{pieces, first_parts, later_parts, body_parts, IsCleanName}
+use Rattle.typed_path.proofs.lemmas.components.Prefixes.{OfWindows, separators-windows, drive-size, Read, of_disk, prefix-read}
+use Rattle.typed_path.proofs.lemmas.components.Segments.{pieces, later_parts, body_parts, IsCleanName}
 use Rattle.typed_path.proofs.lemmas.components.WrittenForms.{heads_first-parts_of}
 use Rattle.typed_path.proofs.lemmas.components.WindowsNames.{IsPlain, IsHead, a_root, a_name, Settled, push_all-settled}
 use Rattle.typed_path.proofs.lemmas.components.PartedPrefixes.{raw-whole, drive-plain}
@@ -25,9 +25,7 @@ use Rattle.typed_path.proofs.lemmas.promises.WindowsStable.{settled-none, settle
 -- names spelled, with a separator behind them, are their rows
 spelled-rows : (name : List ℕ) (names : List (List ℕ)) → spelled (name_part name ∷ map name_part names) ++ backslash ∷ [] ≡ rows_of Either (name ∷ names)
 spelled-rows name [] = sym (append-nil (name ++ backslash ∷ []))
-spelled-rows name (own ∷ names) =
-    append_assoc (name ++ backslash ∷ []) (spelled (name_part own ∷ map name_part names)) (backslash ∷ [])
-    ∙ ap (λ t. (name ++ backslash ∷ []) ++ t) (spelled-rows own names)
+spelled-rows name (own ∷ names) = grind (arith, common_steps, append_assoc, spelled-rows own names)
 
 -- clean names without drives are plain
 plain-each : (names : List (List ℕ)) → AllByRecursion (IsCleanName Either) names → HaveNoDisks names → AllByRecursion IsPlain names
@@ -76,10 +74,7 @@ comes-prefix {goal} f raw ps h = subst (λ t. Comes windows goal t [] ps) (push-
 -- and behind the root
 comes-rooted : {goal raw : List ℕ} (s : Separators) → OfWindows s → (b : ℕ) (bs : List ℕ) → is_separator s b ≡ true → push_windows raw (backslash ∷ []) ≡ raw ++ backslash ∷ []
     → Comes windows goal raw [] (body_parts s (b ∷ bs)) → Comes windows goal (raw ++ backslash ∷ []) [] (later_parts s (pieces s bs))
-comes-rooted {goal} {raw} s w b bs separates pushed h =
-    let P : List (List ℕ) → Type 0 = λ segments. Comes windows goal raw [] (first_parts s segments) in
-    let Q : List ℕ → Type 0 = λ t. Comes windows goal t [] (later_parts s (pieces s bs)) in
-    subst Q (ap (push_windows raw) (root_text-windows s w) ∙ pushed) (comes-head refl (subst P (slice_split-cons_yes (is_separator s) b bs separates) h))
+comes-rooted {goal} {raw} s w b bs separates pushed h = grind arith
 
 -- under no prefix
 pub none-head : (path root rest : List ℕ) → prefix_of windows path ≡ None → IsPartedEither path root rest → IsRowHead path root rest
@@ -171,19 +166,11 @@ IsWithoutSlash s text = is_verbatim s ≡ true → list_any (is_separator Slash)
 
 -- so it is cut alike by its own separators and by both
 pub pieces-own : (s : Separators) → OfWindows s → (text : List ℕ) → IsWithoutSlash s text → pieces Either text ≡ pieces s text
-pieces-own Slash w text h = cc
-pieces-own Backslash w text h = pieces-either text (h refl)
-pieces-own Either w text h = refl
+pieces-own s w text h = grind (arith, pieces-either)
 
 -- a byte of it that separates in the one separates in the other
 pub separates-own : (s : Separators) → OfWindows s → (b : ℕ) (bs : List ℕ) → IsWithoutSlash s (b ∷ bs) → is_separator Either b ≡ true → is_separator s b ≡ true
-separates-own Slash w b bs h separates = cc
-separates-own Backslash w b bs h separates = by (is_separator Slash b) (or_parts (is_separator Slash b) (list_any (is_separator Slash) bs) (h refl)).0 separates
-  where
-    by : (c : Bool) → c ≡ false → c || is_separator Backslash b ≡ true → is_separator Backslash b ≡ true
-    by true e f = cc
-    by false e f = f
-separates-own Either w b bs h separates = separates
+separates-own s w b bs h separates = grind arith
 
 pub without_slash-behind : (s : Separators) (b : ℕ) (bs : List ℕ) → IsWithoutSlash s (b ∷ bs) → IsWithoutSlash s bs
 without_slash-behind s b bs h verbatim = (or_parts (is_separator Slash b) (list_any (is_separator Slash) bs) (h verbatim)).1

@@ -1,26 +1,26 @@
 -- A path cut where a component ends is read as the components up to there; so what two paths share is the longest that begins both.
 use Rattle.std.proofs.Common.{◌≡◌, ℕ, zero, suc, ◌+◌, ◌-◌, ◌<◌, ◌≤◌, inl, inr, List, [], ◌∷◌, ◌++◌, Bool, true, false, if◌then◌else◌, length, take, drop, refl, sym, ap, ap₂, ◌∙◌, arith, subst, append-nil, length-take, length-take-le}
-use Rattle.std.specs.Prelude.{Option, Some, None, option_and_then}
+use Rattle.std.specs.Prelude.{Option, Some, None}
 use Rattle.std.proofs.lemmas.Bool.{cases_lt}
 use Rattle.std.proofs.lemmas.List.{take_min, take-take, drop-take, drop_all, take_all}
 use Rattle.std.proofs.lemmas.Slice.Eq.{bytes_eq-Decides}
 use Rattle.std.specs.List.{starts_with}
 use Rattle.std.specs.Str.{bytes_eq}
 use Rattle.typed_path.specs.declared.scan.separators.Separators.{Separators}
-use Rattle.typed_path.specs.declared.scan.separators.Separators.TheVariants.{Slash, Backslash, Either}
-use Rattle.typed_path.specs.components.{Dialect, unix, windows, separators, question, verbatim, verbatim_unc, verbatim_disk, disk, Placed, parts, texts, prefix_part, Found, found, prefix_of, name, after_mark, after_unc, drive, is_empty, verbatim_unc_case, verbatim_disk_case, verbatim_case, comps, comps_behind, component, body, parts_of, Part}
+use Rattle.typed_path.specs.declared.scan.separators.Separators.TheVariants.{Slash}
+use Rattle.typed_path.specs.components.{Dialect, unix, windows, separators, question, verbatim, disk, Placed, parts, texts, prefix_part, Found, found, prefix_of, name, after_mark, drive, is_empty, comps, comps_behind, component, body, parts_of, Part}
 use Rattle.typed_path.specs.queries.{is_disk, shared_count, end_of_first, shared_end, common_ancestor_of, unless_empty}
 use Rattle.typed_path.specs.promises.{is_verbatim_unc_name, IsLongest, ShareNothing}
 use Rattle.typed_path.specs.scan.{end_at}
-use Rattle.typed_path.proofs.lemmas.components.Segments.{body_parts}
 use Rattle.typed_path.proofs.lemmas.components.Cuts.{body-take}
 use Rattle.typed_path.proofs.lemmas.components.Prefixes.{Read, of_verbatim, of_disk, prefix-read, prefix-fits, after_mark-reads, drive-take, drive-size}
-use Rattle.typed_path.proofs.lemmas.components.PrefixCuts.{same-none, same-found, prefix_by, parts_of-some}
-use Rattle.typed_path.proofs.lemmas.components.FirmPrefixes.{drive-stays, first-none, first-some, share_made}
+use Rattle.typed_path.proofs.lemmas.components.PrefixCuts.{same-none, same-found, prefix_by}
+use Rattle.typed_path.proofs.lemmas.components.FirmPrefixes.{drive-stays, first-some}
 use Rattle.typed_path.proofs.lemmas.components.PartedPrefixes.{raw-whole}
-use Rattle.typed_path.proofs.lemmas.queries.Shared.{texts-length, starts_own, starts_other, starts_shared, starts_nothing}
-use Rattle.typed_path.proofs.lemmas.queries.Parents.{take-front, nonempty-cut}
+use Rattle.typed_path.proofs.lemmas.queries.Shared.{texts-length, starts_other, starts_shared}
+use Rattle.typed_path.proofs.lemmas.queries.Parents.{nonempty-cut}
 use Rattle.typed_path.proofs.lemmas.places.SharedFromBack.{shared_count-fits}
+use Rattle.typed_path.proofs.lemmas.lists.Lists.{take-front, starts_own, starts_nothing}
 
 abbrev texts_of : List Placed → List (List ℕ)
 texts_of cs = texts (parts cs)
@@ -35,25 +35,17 @@ abbrev IsWhole : List ℕ → Type 0
 IsWhole raw = (g : Found) × (prefix_of windows raw ≡ Some g) × (g.length ≡ length raw)
 
 whole-texts : (raw : List ℕ) → IsWhole raw → texts (parts_of windows raw) ≡ raw ∷ []
-whole-texts raw (g, is, size) =
-    ap texts (parts_of-some raw g is)
-    ∙ ap (λ n. take n raw ∷ texts (body_parts (separators windows raw) (drop n raw))) size
-    ∙ ap₂ (λ u v. u ∷ texts (body_parts (separators windows raw) v)) (take_all (length raw) raw (omega arith)) (drop_all (length raw) raw (omega arith))
+whole-texts raw h = grind (arith, take_all, drop_all)
 
 -- the verbatim prefix named `UNC` is such a text
 abbrev verbatim_made : Separators → List ℕ → Option Found
 verbatim_made s rest = if is_empty rest then None else Some (found (verbatim (name s rest)) (4 + length (name s rest)))
 
 unc_made : (s : Separators) → verbatim_made s (85 ∷ 78 ∷ 67 ∷ []) ≡ Some (found (verbatim (85 ∷ 78 ∷ 67 ∷ [])) 7)
-unc_made Slash = refl
-unc_made Backslash = refl
-unc_made Either = refl
+unc_made s = grind arith
 
 unc_read : (s : Separators) (raw : List ℕ) → after_mark question raw ≡ Some (85 ∷ 78 ∷ 67 ∷ []) → prefix_by s raw ≡ Some (found (verbatim (85 ∷ 78 ∷ 67 ∷ [])) 7)
-unc_read s raw mark =
-    first-none (verbatim_unc_case s raw) _ _ (ap (λ o. option_and_then (share_made verbatim_unc 8 s) (option_and_then (after_unc s) o)) mark)
-    (first-none (verbatim_disk_case raw) _ _ (ap (λ o. option_and_then (λ letter. Some (found (verbatim_disk letter) 6)) (option_and_then drive o)) mark)
-    (first-some (verbatim_case s raw) _ _ (ap (option_and_then (verbatim_made s)) mark ∙ unc_made s)))
+unc_read s raw mark = grind (arith, first-some, unc_made)
 
 unc_whole : (s : Separators) (t : List ℕ) (f : Found) → Read s t f → is_verbatim_unc_name (Some f.prefix) ≡ true → f.length ≤ length t → IsWhole (take f.length t)
 unc_whole s t f (of_verbatim rest mark filled no_unc no_drive) named fits =
@@ -120,10 +112,7 @@ front_texts windows t k inside = by (prefix_of windows t) refl inside
     s = separators windows t
 
     by : (o : Option Found) → prefix_of windows t ≡ o → k < length (comps_behind s t o) → texts (parts_of windows (take (end_at (comps_behind s t o) k) t)) ≡ take (suc k) (texts_of (comps_behind s t o))
-    by None is less =
-        let same = same-none t (end_at (body s 0 t) k) is in
-        ap texts_of (ap₂ (λ r p. comps_behind r (take (end_at (body s 0 t) k) t) p) same.same_separators (same.same_prefix ∙ is) ∙ plain_front s t k less)
-        ∙ texts-take (suc k) (body s 0 t)
+    by None is less = grind (arith, same-none, s, plain_front, texts-take)
     by (Some f) is less = found_front t f is (body s f.length (drop f.length t)) refl k (omega arith)
 
 nothing_read : (d : Dialect) → texts (parts_of d []) ≡ []
@@ -132,33 +121,19 @@ nothing_read windows = refl
 
 -- the first components of a path, read anew
 first_texts : (d : Dialect) (t : List ℕ) (n : ℕ) → n ≤ length (comps d t) → texts (parts_of d (take (end_of_first (comps d t) n) t)) ≡ take n (texts (parts_of d t))
-first_texts d t zero within = nothing_read d
-first_texts d t (suc k) within = front_texts d t k (omega arith)
+first_texts d t n within = grind (arith, nothing_read, front_texts)
 
 shared_texts : (d : Dialect) (t u : List ℕ) → texts (parts_of d (take (shared_end d t u) t)) ≡ take (shared_count (texts (parts_of d t)) (texts (parts_of d u))) (texts (parts_of d t))
-shared_texts d t u =
-    first_texts d t (shared_count (texts (parts_of d t)) (texts (parts_of d u)))
-    (omega (arith, (shared_count-fits (texts (parts_of d t)) (texts (parts_of d u))).0, texts-length d t))
+shared_texts d t u = grind (arith, first_texts, shared_count-fits, texts-length)
 
 pub shared_longest : (d : Dialect) (t u : List ℕ) → IsLongest d t u (take (shared_end d t u) t)
-shared_longest d t u =
-    let ts = texts (parts_of d t) in
-    let us = texts (parts_of d u) in
-    let read = shared_texts d t u in
-    record {
-      front = ap (λ n. take n t) (length-take (shared_end d t u) t) ∙ take_min (shared_end d t u) t;
-      begins = ap (starts_with bytes_eq ts) read ∙ starts_own (shared_count ts us) ts;
-      begins_other = ap (starts_with bytes_eq us) read ∙ starts_other ts us;
-      holds_all = λ b one other. ap (λ vs. starts_with bytes_eq vs (texts (parts_of d b))) read ∙ starts_shared ts us (texts (parts_of d b)) one other;
-    }
+shared_longest d t u = grind (arith, shared_texts, length-take, take_min, starts_own, starts_other, starts_shared)
 
 some_is : (t c : List ℕ) → unless_empty t ≡ Some c → t ≡ c
-some_is [] c e = cc
-some_is (b ∷ bs) c e = cc
+some_is t c e = grind arith
 
 none_is : (t : List ℕ) → unless_empty t ≡ None → t ≡ []
-none_is [] e = refl
-none_is (b ∷ bs) e = cc
+none_is t e = grind arith
 
 pub longest : (d : Dialect) (t u c : List ℕ) → common_ancestor_of d t u ≡ Some c → IsLongest d t u c
 longest d t u c is = subst (IsLongest d t u) (some_is (take (shared_end d t u) t) c is) (shared_longest d t u)

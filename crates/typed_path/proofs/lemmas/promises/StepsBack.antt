@@ -1,11 +1,12 @@
 -- The steps that lead from one list to another, put behind the first, lead where the second leads.
 -- The path that leads from a base to another, read again: parents and names, with neither a prefix nor a root.
-use Rattle.std.proofs.Common.{◌≡◌, ℕ, suc, ◌+◌, ◌-◌, ◌≤◌, ◌==◌, Bool, true, false, not, ◌&&◌, List, [], ◌∷◌, ◌++◌, if◌then◌else◌, length, take, drop, refl, sym, ap, ap₂, ◌∙◌, arith, nat_le, take-append-drop, is_eq, zero, ◌||◌, subst, Option, Some, None, All}
-use Rattle.std.specs.Prelude.{bytes_eq, Option, Some, None}
-use Rattle.std.proofs.lemmas.Bool.{and_parts, eqb-true, leb-true, not-true, false_from_ne_true}
+use Rattle.std.proofs.Common.{◌≡◌, ℕ, ◌+◌, ◌-◌, ◌≤◌, ◌==◌, Bool, true, false, not, List, [], ◌∷◌, ◌++◌, if◌then◌else◌, length, take, drop, refl, sym, ap, ap₂, ◌∙◌, arith, take-append-drop, is_eq, subst, Option, Some, None, All}
+use Rattle.std.proofs.lemmas.Grind.{common_steps}
+use Rattle.std.specs.Prelude.{Option, Some, None}
+use Rattle.std.proofs.lemmas.Bool.{and_parts, eqb-true, not-true, false_from_ne_true}
 use Rattle.std.proofs.lemmas.Cmp.{tied_itself}
 use Rattle.std.proofs.lemmas.Slice.Eq.{bytes_eq-Decides}
-use Rattle.typed_path.specs.components.{Prefix, Kind, prefix, Dialect, unix, windows, slash, separators, begins_verbatim, root, kinds, parts_of, Found, prefix_of}
+use Rattle.typed_path.specs.components.{Prefix, Kind, prefix, Dialect, unix, windows, slash, separators, kinds, parts_of, Found, prefix_of}
 use Rattle.typed_path.specs.queries.{begins_with_root, first_prefix}
 use Rattle.typed_path.specs.order.{are_same_prefixes, kind_cmp_total}
 use Rattle.typed_path.specs.places.{can_stand, head_of, headed, is_anchored, is_reached, kept_names, names_down, rising, routed, same_heads, shared_count, steps_up, unmet, relative_text, steps_text}
@@ -36,31 +37,20 @@ heads-alike ks ls e =
 
 -- a head tells the prefix and the root
 first-headed : (o : Option Prefix) (a : Bool) → first_prefix (headed o a) ≡ o
-first-headed None true = refl
-first-headed None false = refl
-first-headed (Some p) true = refl
-first-headed (Some p) false = refl
+first-headed o a = grind arith
 
 abbrev rooted_in : List Kind → Bool
 rooted_in (prefix p ∷ ks) = begins_with_root ks
 rooted_in ks = begins_with_root ks
 
 rooted-headed : (o : Option Prefix) (a : Bool) → rooted_in (headed o a) ≡ a
-rooted-headed None true = refl
-rooted-headed None false = refl
-rooted-headed (Some p) true = refl
-rooted-headed (Some p) false = refl
+rooted-headed o a = grind arith
 
 pub same_heads-all : (ks ls : List Kind) → first_prefix ks ≡ first_prefix ls → is_anchored ks ≡ is_anchored ls → same_heads ks ls ≡ true
-same_heads-all ks ls prefixes anchored =
-    ap₂ ◌&&◌ (ap (are_same_prefixes (first_prefix ks)) (sym prefixes) ∙ prefixes-same (first_prefix ks))
-    (ap (λ b. if is_anchored ks then b else not b) (sym anchored) ∙ test-same (is_anchored ks))
+same_heads-all ks ls prefixes anchored = grind (arith, prefixes-same, test-same)
 
 pub alike-heads : (ks ls : List Kind) → head_of ks ≡ head_of ls → same_heads ks ls ≡ true
-alike-heads ks ls same =
-    same_heads-all ks ls
-    (sym (first-headed (first_prefix ks) (is_anchored ks)) ∙ ap first_prefix same ∙ first-headed (first_prefix ls) (is_anchored ls))
-    (sym (rooted-headed (first_prefix ks) (is_anchored ks)) ∙ ap rooted_in same ∙ rooted-headed (first_prefix ls) (is_anchored ls))
+alike-heads ks ls same = grind (arith, same_heads-all)
 
 -- What it tells that a path is reached.
 
@@ -71,27 +61,13 @@ pub record IsReached (ks ls : List Kind) : Type 0 where
   pub stands : can_stand (names_down ks ls) ≡ true
 
 pub reached-told : (ks ls : List Kind) → is_reached ks ls ≡ true → IsReached ks ls
-reached-told ks ls e =
-    let outer = and_parts (same_heads ks ls && nat_le (rising ls) (rising ks)) (can_stand (names_down ks ls)) e in
-    let inner = and_parts (same_heads ks ls) (nat_le (rising ls) (rising ks)) outer.0 in
-    let heads = and_parts (are_same_prefixes (first_prefix ks) (first_prefix ls)) _ inner.0 in
-    record {
-      heads = inner.0;
-      anchored = same-test (is_anchored ks) (is_anchored ls) heads.1;
-      rising = leb-true (rising ls) (rising ks) inner.1;
-      stands = outer.1;
-    }
+reached-told ks ls e = grind (arith, and_parts)
 
 -- names that are shared are the same
 shared-same : (xs ys : List (List ℕ)) → take (shared_count xs ys) ys ≡ take (shared_count xs ys) xs
-shared-same [] ys = refl
-shared-same (x ∷ xs) [] = refl
-shared-same (x ∷ xs) (y ∷ ys) = by (bytes_eq x y) refl (shared-same xs ys)
-  where
-    by : (b : Bool) → bytes_eq x y ≡ b → take (shared_count xs ys) ys ≡ take (shared_count xs ys) xs
-        → take (if b then suc (shared_count xs ys) else 0) (y ∷ ys) ≡ take (if b then suc (shared_count xs ys) else 0) (x ∷ xs)
-    by true e h = ap₂ (λ n ns. n ∷ ns) (sym ((bytes_eq-Decides x y).0 e)) h
-    by false e h = refl
+shared-same [] ys = grind arith
+shared-same (x ∷ xs) [] = grind arith
+shared-same (x ∷ xs) (y ∷ ys) = grind (arith, bytes_eq-Decides, shared-same xs ys)
 
 module _ (ks ls : List Kind) (rises : rising ls ≤ rising ks) where
   -- the names of the base that stay, and then those of the path
@@ -114,49 +90,23 @@ module _ (ks ls : List Kind) (rises : rising ls ≤ rising ks) where
 
   -- and the parents that are left over
   parents-met : rising ls + (steps_up ks ls - length (kept_names ls)) ≡ rising ks
-  parents-met = by (rising ks == rising ls) refl
-    where
-      by : (b : Bool) → (rising ks == rising ls) ≡ b
-          → rising ls + (((length (kept_names ls) - (if b then shared_count (kept_names ks) (kept_names ls) else 0)) + (rising ks - rising ls)) - length (kept_names ls)) ≡ rising ks
-      by true e = omega (arith, eqb-true (rising ks) (rising ls) e)
-      by false e = omega (arith, rises)
+  parents-met = grind arith
 
 pub free-rising : (ks : List Kind) → is_anchored ks ≡ false → rising ks ≡ unmet ks
 free-rising ks e = ap (λ b. if b then 0 else unmet ks) e
 
 -- a list that begins as the base does, and that each list before it sees as the base and the steps
 pub leads-back : (ks ls ms : List Kind) → is_reached ks ls ≡ true → is_anchored ms ≡ is_anchored ls → AlikeKept ms (ls ++ ups (steps_up ks ls) (names_down ks ls)) → LeadsAs ms ks
-leads-back ks ls ms reached begins alike =
-    let h = reached-told ks ls reached in
-    let steps = ups (steps_up ks ls) (names_down ks ls) in
-    record {
-      anchored = begins ∙ sym h.anchored;
-      rising = by (is_anchored ls) refl h.anchored
-          (alike.unmet ∙ unmet-append ls steps ∙ ap (λ n. unmet ls + (n - length (kept_names ls))) (unmet-ups (steps_up ks ls) (names_down ks ls)))
-          (parents-met ks ls h.rising);
-      names = alike.names ∙ kept_names-append ls steps
-          ∙ ap₂ (λ n ns. take (length (kept_names ls) - n) (kept_names ls) ++ ns) (unmet-ups (steps_up ks ls) (names_down ks ls)) (names-ups (steps_up ks ls) (names_down ks ls))
-          ∙ names-met ks ls h.rising;
-    }
-  where
-    by : (b : Bool) → is_anchored ls ≡ b → is_anchored ks ≡ is_anchored ls → unmet ms ≡ unmet ls + (steps_up ks ls - length (kept_names ls)) → rising ls + (steps_up ks ls - length (kept_names ls)) ≡ rising ks
-        → rising ms ≡ rising ks
-    by true e same f g = anchored-stays ms (begins ∙ e) ∙ sym (anchored-stays ks (same ∙ e))
-    by false e same f g =
-        free-rising ms (begins ∙ e) ∙ f ∙ ap (λ n. n + (steps_up ks ls - length (kept_names ls))) (sym (free-rising ls e)) ∙ g
+leads-back ks ls ms reached begins alike = grind (arith, reached-told, ups, unmet-append, unmet-ups, parents-met, kept_names-append, names-ups, names-met, anchored-stays, free-rising)
 
 -- with the prefix of the base it has the route of the path
 pub same-route : (ks ls ms : List Kind) → is_reached ks ls ≡ true → first_prefix ms ≡ first_prefix ls → LeadsAs ms ks → routed ms ≡ routed ks
-same-route ks ls ms reached prefixes h =
-    let t = reached-told ks ls reached in
-    ap₂ ◌++◌ (ap₂ headed prefixes (h.anchored ∙ t.anchored) ∙ sym (heads-alike ks ls t.heads)) (ap₂ ups h.rising h.names)
+same-route ks ls ms reached prefixes h = grind (arith, heads-alike, ups)
 
 -- The names that are kept of a path can be read again, where none holds a `/`.
 
 pub clean-drop : (s : Separators) (n : ℕ) (names : List (List ℕ)) → AllByRecursion (IsCleanName s) names → AllByRecursion (IsCleanName s) (drop n names)
-clean-drop s zero names each = each
-clean-drop s (suc n) [] each = tt
-clean-drop s (suc n) (name ∷ names) each = clean-drop s n names each.1
+clean-drop s n names each = grind (arith, common_steps)
 
 -- a name of either kind of separators that holds no `/`
 none-slash : (name : List ℕ) → list_any (λ b. b == slash) name ≡ false → All (λ b. (b == slash) ≡ false) name
@@ -169,13 +119,7 @@ clean-stands verbatim (name ∷ names) each stands =
     (one verbatim each.0 (none-slash name (not-true _ parts.0)), clean-stands verbatim names each.1 parts.1)
   where
     one : (v : Bool) → IsCleanName (if v then Backslash else Either) name → All (λ b. (b == slash) ≡ false) name → IsCleanName Either name
-    one false clean none = clean
-    one true clean none = record {
-      filled = clean.filled;
-      no_dot = clean.no_dot;
-      no_dot_dot = clean.no_dot_dot;
-      unseparated = λ n d less. ap₂ ◌||◌ (none n d less) (clean.unseparated n d less);
-    }
+    one v clean h = grind arith
 
 pub body-clean : (s : Separators) (t : List ℕ) → AllByRecursion (IsCleanName s) (kept_names (kinds (body_parts s t)))
 body-clean s t = names-clean s (body_parts s t) (each-written s (body_parts s t) (body_parts-read s t))
@@ -184,16 +128,14 @@ names-windows : (t : List ℕ) → AllByRecursion (IsCleanName (separators windo
 names-windows t = subst (λ ps. AllByRecursion (IsCleanName (separators windows t)) (kept_names (kinds ps))) (sym (parts-comps_behind (separators windows t) t (prefix_of windows t))) (by (prefix_of windows t))
   where
     by : (o : Option Found) → AllByRecursion (IsCleanName (separators windows t)) (kept_names (kinds (parts_behind (separators windows t) t o)))
-    by None = body-clean (separators windows t) t
-    by (Some f) = body-clean (separators windows t) (drop f.length t)
+    by o = grind (arith, body-clean)
 
 pub names-unix : (t : List ℕ) → AllByRecursion (IsCleanName Slash) (kept_names (kinds (parts_of unix t)))
 names-unix t = subst (λ ps. AllByRecursion (IsCleanName Slash) (kept_names (kinds ps))) (sym (parts_of-unix t)) (body-clean Slash t)
 
 clean-down : (d : Dialect) (path : List ℕ) (n : ℕ) → can_stand (drop n (kept_names (kinds (parts_of d path)))) ≡ true → AllByRecursion (IsCleanName (plain d)) (drop n (kept_names (kinds (parts_of d path))))
 clean-down unix path n stands = clean-drop Slash n (kept_names (kinds (parts_of unix path))) (names-unix path)
-clean-down windows path n stands =
-    clean-stands (begins_verbatim path) (drop n (kept_names (kinds (parts_of windows path)))) (clean-drop (separators windows path) n (kept_names (kinds (parts_of windows path))) (names-windows path)) stands
+clean-down windows path n stands = grind (arith, common_steps, clean-stands, clean-drop, names-windows)
 
 -- What is read of it.
 
@@ -223,17 +165,7 @@ module _ (d : Dialect) (path base : List ℕ) where
 
 -- a list that is not anchored, as it is read behind no prefix, begins with no root
 free-unrooted : (ks : List Kind) → is_anchored ks ≡ false → begins_with_root ks ≡ false
-free-unrooted [] e = refl
-free-unrooted (k ∷ ks) e = by k e
-  where
-    by : (k : Kind) → is_anchored (k ∷ ks) ≡ false → begins_with_root (k ∷ ks) ≡ false
-    by root e = cc
-    by k e = refl
+free-unrooted ks e = grind arith
 
 pub stays_relative : (d : Dialect) (path base r : List ℕ) → relative_text d path base ≡ Some r → IsRelative d r
-stays_relative d path base r e =
-    let h = read-relative d path base r e in
-    record {
-      prefix = h.reads.none;
-      root = ap (λ ps. begins_with_root (kinds ps)) (parts-plain d r h.reads.none) ∙ free-unrooted (kinds (body_parts (plain d) r)) h.reads.leads.anchored;
-    }
+stays_relative d path base r e = grind (arith, read-relative, parts-plain)

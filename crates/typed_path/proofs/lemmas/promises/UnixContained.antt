@@ -1,25 +1,25 @@
 -- The normal text of Unix, a relative path joined on Unix, and where a checked one leads.
 use Rattle.std.proofs.Common.{◌≡◌, ℕ, zero, suc, Bool, true, false, not, if◌then◌else◌, List, [], ◌∷◌, ◌++◌, map, refl, sym, ap, ◌∙◌, ◌==◌, length, append_assoc, append-nil, ne_eqb, arith, ◌-◌, ◌<◌, drop, bytes_eq, Some, None, ap₂, inl, inr}
+use Rattle.std.proofs.lemmas.Grind.{common_steps}
 use Rattle.std.proofs.lemmas.List.{map-append, drop-map, drop_all, length-map}
-use Rattle.std.specs.List.{AllByRecursion, onto_first}
-use Rattle.std.proofs.lemmas.List.Elements.{All-head}
-use Rattle.std.proofs.lemmas.List.Splits.{slice_split-cons_yes, slice_split-cons_no}
-use Rattle.std.proofs.lemmas.Bool.{both_ways, cases_lt, true_from_ne_false}
+use Rattle.std.specs.List.{AllByRecursion}
+use Rattle.std.proofs.lemmas.List.Splits.{slice_split-cons_yes}
+use Rattle.std.proofs.lemmas.Bool.{cases_lt}
 use Rattle.std.proofs.lemmas.Slice.Eq.{starts_is, bytes_eq-Decides}
 use Rattle.typed_path.specs.declared.errors.CheckedPathError.TheVariants.{InvalidFilename}
 use Rattle.typed_path.specs.declared.scan.separators.Separators.{Separators}
 use Rattle.typed_path.specs.declared.scan.separators.Separators.TheVariants.{Slash}
-use Rattle.typed_path.specs.components.{Dialect, unix, slash, is_separator, is_verbatim, root_text, Kind, prefix, root, current, parent, normal, Part, kinds, texts, name_part, current_part, parent_part, root_part, parts, parts_of, is_dot, is_dot_dot, comps}
+use Rattle.typed_path.specs.components.{Dialect, unix, slash, is_separator, is_verbatim, Kind, prefix, root, current, parent, normal, Part, kinds, texts, name_part, parts, parts_of, is_dot, is_dot_dot, comps}
 use Rattle.typed_path.specs.queries.{is_valid_name, begins_with_root, path_starts_with}
 use Rattle.typed_path.specs.changes.{fault, fault_at, ended_with, push_unix, push_all}
 use Rattle.typed_path.specs.places.{overdraws, resolve, place, stays, normal_text, with_implied_root}
 use Rattle.typed_path.specs.promises.{keeps_prefix, HasPrefixOf, LiesWithin, ReadsAsResolved, StaysNormal, IsCanonical, IsCanonicalForm, IsBelow, without_leading_current, JoinAppends, StripJoins}
 use Rattle.typed_path.specs.scan.{left, start_at}
 use Rattle.typed_path.proofs.lemmas.changes.Faults.{fault_behind-at, fault_at-closed, no_heads-relative}
-use Rattle.typed_path.proofs.lemmas.components.Segments.{body_parts, parts-body, body_parts-read, IsCleanName, IsLaterPart, IsWritten, IsLater, AreRead, text_by_kind, texts-read, pieces, first_parts, later_parts, parts-later_body, IsWrittenPart, each-written}
+use Rattle.typed_path.proofs.lemmas.components.Segments.{body_parts, parts-body, body_parts-read, IsCleanName, IsLaterPart, IsWritten, AreRead, text_by_kind, texts-read, pieces, first_parts, later_parts, parts-later_body, IsWrittenPart, each-written}
 use Rattle.typed_path.proofs.lemmas.changes.Joins.{later_parts-name, body_parts-name, body_parts-ended}
 use Rattle.typed_path.proofs.lemmas.places.Resolving.{IsKept, resolve-kept, resolve-read, resolve-resolve, resolve-append, overdraws-without_leading_current, resolve-without_leading_current}
-use Rattle.typed_path.proofs.lemmas.lists.Lists.{slice_split-some, map-through, AllByRecursion-weaker}
+use Rattle.typed_path.proofs.lemmas.lists.Lists.{map-through, AllByRecursion-weaker}
 use Rattle.typed_path.proofs.lemmas.scan.Readings.{left-taken, left-all, left-front}
 use Rattle.typed_path.proofs.lemmas.components.Cuts.{body-filled, tail}
 
@@ -41,8 +41,7 @@ resolved-more d (suc depth) parent text ps e rest = rest depth e
 resolved-more d depth (normal name) text ps e rest = named (not (overdraws zero (kinds ps))) (rest (suc depth) (valid (is_valid_name d name) e))
   where
     valid : (b : Bool) → (if b then fault_at d (suc depth) (kinds ps) else Some InvalidFilename) ≡ None → fault_at d (suc depth) (kinds ps) ≡ None
-    valid true h = h
-    valid false h = cc
+    valid b h = grind arith
 
     named : (b : Bool) → AreNames (kinds (resolve ps)) → AreNames (kinds ((if b then record { kind = normal name; text = text } ∷ [] else []) ++ resolve ps))
     named true h = record { names = name ∷ h.names; are = ap (λ ks. normal name ∷ ks) h.are }
@@ -71,8 +70,7 @@ parts_of-unix t = parts-body Slash 0 t
 
 -- a name pushed onto a text stands behind a separator
 pub push_unix-name : (base name : List ℕ) → IsCleanName Slash name → push_unix base name ≡ ended_with slash base ++ name
-push_unix-name base [] clean = cc
-push_unix-name base (b ∷ bs) clean = rw (All-head (λ c. is_separator Slash c ≡ false) b bs clean.unseparated)
+push_unix-name base name clean = grind arith
 
 -- a name pushed onto a text adds one component
 push_unix-parts : (base name : List ℕ) → (length base == 0) ≡ false → IsCleanName Slash name → body_parts Slash (push_unix base name) ≡ body_parts Slash base ++ name_part name ∷ []
@@ -81,21 +79,11 @@ push_unix-parts base name filled clean =
 
 -- a text with a name behind it is not empty
 push_unix-filled : (base name : List ℕ) → IsCleanName Slash name → (length (push_unix base name) == 0) ≡ false
-push_unix-filled base name clean = rw (push_unix-name base name clean) (behind (ended_with slash base))
-  where
-    behind : (front : List ℕ) → (length (front ++ name) == 0) ≡ false
-    behind [] = clean.filled
-    behind (b ∷ bs) = ne_eqb (suc (length (bs ++ name))) 0 (λ e. cc)
+push_unix-filled base name clean = grind (arith, common_steps)
 
 -- a later component that a list resolves to is a name
 later-name : (p : Part) → IsLaterPart Slash p → IsKept p → (p ≡ name_part p.text) × IsCleanName Slash p.text
-later-name p later kept = by p.kind p.text later kept
-  where
-    by : (k : Kind) (text : List ℕ) → IsLater Slash k text → stays k [] ≡ true → ((record { kind = k; text = text }) ≡ name_part text) × IsCleanName Slash text
-    by (prefix q) text later kept = absurd later
-    by root text later kept = absurd later
-    by (normal name) text later kept = (ap (λ n. record { kind = normal n; text = text }) (sym later.0), rw later.0 later.1)
-    by k text later kept = cc
+later-name p later kept = grind arith
 
 -- names pushed one by one add one component each
 push_all-names : (base : List ℕ) (ps : List Part) → (length base == 0) ≡ false → AllByRecursion (IsLaterPart Slash) ps → AllByRecursion IsKept ps
@@ -111,19 +99,11 @@ push_all-names base (p ∷ ps) filled later kept =
 -- a first component pushed onto the empty text is read as itself
 push_all-first : (k : Kind) (text : List ℕ) (ps : List Part) → IsWritten Slash k text → stays k [] ≡ true → AllByRecursion (IsLaterPart Slash) ps → AllByRecursion IsKept ps
     → body_parts Slash (push_all unix [] (text ∷ texts ps)) ≡ record { kind = k; text = text } ∷ ps
-push_all-first (prefix q) text ps written kept later rest = absurd written
-push_all-first root text ps written kept later rest = rw written (push_all-names (slash ∷ []) ps refl later rest)
-push_all-first (normal name) text ps written kept later rest =
-    rw written.0
-    (ap (λ base. body_parts Slash (push_all unix base (texts ps))) (push_unix-name [] name written.1)
-    ∙ push_all-names name ps written.1.filled later rest
-    ∙ ap (λ qs. qs ++ ps) (body_parts-name Slash name written.1))
-push_all-first k text ps written kept later rest = cc
+push_all-first k text ps written kept later rest = grind (arith, push_all-names, body_parts, push_unix-name, body_parts-name)
 
 -- a root and names, pushed one by one onto the empty text, are read as themselves
 push_all-read : (ps : List Part) → AreRead Slash ps → AllByRecursion IsKept ps → parts_of unix (push_all unix [] (texts ps)) ≡ ps
-push_all-read [] read kept = refl
-push_all-read (p ∷ ps) read kept = parts_of-unix (push_all unix [] (texts (p ∷ ps))) ∙ push_all-first p.kind p.text ps read.0 kept.0 read.1 kept.1
+push_all-read ps read kept = grind (arith, parts_of-unix, push_all-first)
 
 -- what the list of a Unix path resolves to is a list as it is read
 pub resolved-read : (t : List ℕ) → AreRead Slash (resolve (parts_of unix t))
@@ -156,57 +136,25 @@ canonical_form t = record { reads = reads_as_resolved t; stays = stays_normal t;
 -- a text that is empty or begins with no slash is read as later pieces, once it is pushed
 pub push_unix-behind : (base path : List ℕ) → (length base == 0) ≡ false → begins_with_root (kinds (body_parts Slash path)) ≡ false
     → body_parts Slash (push_unix base path) ≡ body_parts Slash base ++ later_parts Slash (pieces Slash path)
-push_unix-behind base [] filled relative = sym (append-nil (body_parts Slash base))
-push_unix-behind base (b ∷ path) filled relative = by (b == slash) refl
-  where
-    by : (rooted : Bool) → (b == slash) ≡ rooted
-        → body_parts Slash (if rooted then b ∷ path else ended_with slash base ++ b ∷ path) ≡ body_parts Slash base ++ later_parts Slash (pieces Slash (b ∷ path))
-    by true e = let e = rw (slice_split-cons_yes (is_separator Slash) b path e) at relative in cc
-    by false e = body_parts-ended Slash slash base (b ∷ path) refl filled
+push_unix-behind base path filled relative = grind (arith, append-nil, body_parts, later_parts, pieces, slice_split-cons_yes, body_parts-ended)
 
 -- read as later pieces, a relative text that is not read verbatim loses a current directory at its beginning
 later_parts-relative : (s : Separators) (some : List (List ℕ)) → is_verbatim s ≡ false → begins_with_root (kinds (first_parts s some)) ≡ false → later_parts s some ≡ without_leading_current (first_parts s some)
-later_parts-relative s [] plain relative = refl
-later_parts-relative s (piece ∷ rest) plain relative = by (length piece == 0) (is_dot piece) (is_dot_dot piece) relative
-  where
-    named : Bool → Part
-    named twice = if twice then parent_part else name_part piece
-
-    first : Bool → Bool → Bool → Part
-    first empty dotted twice = if empty then root_part (root_text s) else (if dotted then current_part else named twice)
-
-    by : (empty dotted twice : Bool) → begins_with_root ((first empty dotted twice).kind ∷ kinds (later_parts s rest)) ≡ false
-        → (if empty then [] else (if dotted then (if is_verbatim s then current_part ∷ [] else []) else named twice ∷ [])) ++ later_parts s rest ≡ without_leading_current (first empty dotted twice ∷ later_parts s rest)
-    by true dotted twice unrooted = cc
-    by false true twice unrooted = ap (λ b. (if b then current_part ∷ [] else []) ++ later_parts s rest) plain
-    by false false true unrooted = refl
-    by false false false unrooted = refl
+later_parts-relative s some plain relative = grind arith
 
 -- an empty text is read as no pieces, both at the beginning and later
 pub body_parts-later : (s : Separators) (path : List ℕ) → is_verbatim s ≡ false → begins_with_root (kinds (body_parts s path)) ≡ false → later_parts s (pieces s path) ≡ without_leading_current (body_parts s path)
-body_parts-later s [] plain relative = refl
-body_parts-later s (b ∷ path) plain relative = later_parts-relative s (pieces s (b ∷ path)) plain relative
+body_parts-later s path plain relative = grind arith
 
 -- a relative path joined to a base that is not empty
 pub join_appends : (base path : List ℕ) → JoinAppends base path
-join_appends base path filled relative =
-    let read : begins_with_root (kinds (body_parts Slash path)) ≡ false = ap (λ ps. begins_with_root (kinds ps)) (sym (parts_of-unix path)) ∙ relative in
-    rw (parts_of-unix (push_unix base path), parts_of-unix base, parts_of-unix path)
-    (push_unix-behind base path (ne_eqb (length base) 0 (λ none. omega arith)) read ∙ ap (λ ps. body_parts Slash base ++ ps) (body_parts-later Slash path refl read))
+join_appends base path filled relative = grind (arith, body_parts, parts_of-unix, push_unix-behind, body_parts-later)
 
 -- A checked push on Unix stays within its base.
 
 -- no root is implied by a list without a prefix
 with_implied_root-read : (ps : List Part) → AreRead Slash ps → with_implied_root (kinds ps) ≡ kinds ps
-with_implied_root-read [] read = refl
-with_implied_root-read (p ∷ ps) read = by p.kind read
-  where
-    by : (k : Kind) → AreRead Slash (record { kind = k; text = p.text } ∷ ps) → with_implied_root (k ∷ kinds ps) ≡ k ∷ kinds ps
-    by (prefix q) r = absurd r.0
-    by root r = refl
-    by current r = refl
-    by parent r = refl
-    by (normal name) r = refl
+with_implied_root-read ps read = grind arith
 
 -- the place of a Unix path is what its list resolves to
 place-unix : (t : List ℕ) → place unix t ≡ kinds (resolve (parts_of unix t))
@@ -214,12 +162,7 @@ place-unix t = with_implied_root-read (resolve (parts_of unix t)) (resolved-read
 
 -- pushed onto the empty path, a path stays as it is
 pub push_unix-nothing : (path : List ℕ) → push_unix [] path ≡ path
-push_unix-nothing [] = refl
-push_unix-nothing (b ∷ path) = by (b == slash)
-  where
-    by : (rooted : Bool) → (if rooted then b ∷ path else b ∷ path) ≡ b ∷ path
-    by true = refl
-    by false = refl
+push_unix-nothing path = grind arith
 
 -- a path that is not refused resolves behind what its base resolves to
 resolve-pushed : (base path : List ℕ) → fault unix path ≡ None → resolve (parts_of unix (push_unix base path)) ≡ resolve (parts_of unix base) ++ resolve (parts_of unix path)
@@ -232,11 +175,7 @@ resolve-pushed (b ∷ base) path accepted =
     ∙ ap (λ ps. resolve (parts_of unix (b ∷ base)) ++ ps) (resolve-without_leading_current (parts_of unix path))
 
 pub contained : (base path : List ℕ) → fault unix path ≡ None → LiesWithin unix base path (push_unix base path)
-contained base path accepted stays =
-    place-unix (push_unix base path)
-    ∙ ap kinds (resolve-pushed base path accepted)
-    ∙ map-append (λ p. p.kind) (resolve (parts_of unix base)) (resolve (parts_of unix path))
-    ∙ ap (λ ks. ks ++ kinds (resolve (parts_of unix path))) (sym (place-unix base))
+contained base path accepted stays = grind (arith, place-unix, resolve-pushed, map-append)
 
 pub keeps : (base path : List ℕ) → fault unix path ≡ None → HasPrefixOf unix base (push_unix base path)
 keeps base path accepted kept = refl
@@ -249,8 +188,7 @@ kind_by_text text = if bytes_eq text (slash ∷ []) then root else (if is_dot te
 
 -- a clean name is not the root's text
 clean-no_root : (name : List ℕ) → IsCleanName Slash name → bytes_eq name (slash ∷ []) ≡ false
-clean-no_root [] clean = refl
-clean-no_root (b ∷ bs) clean = rw (All-head (λ c. is_separator Slash c ≡ false) b bs clean.unseparated)
+clean-no_root name clean = grind arith
 
 -- a component that is written as its kind tells has the kind that its text tells
 kind-written : (k : Kind) (text : List ℕ) → IsWritten Slash k text → k ≡ kind_by_text text
@@ -282,20 +220,11 @@ kinds-begin t b begins =
 
 -- a text whose first piece is filled has no root
 filled-relative : (s : Separators) (text head : List ℕ) (others : List (List ℕ)) → pieces s text ≡ head ∷ others → (length head == 0) ≡ false → begins_with_root (kinds (body_parts s text)) ≡ false
-filled-relative s [] head others split filled = refl
-filled-relative s (b ∷ text) head others split filled = rw (split, filled) (by (is_dot head) (is_dot_dot head))
-  where
-    by : (dotted twice : Bool) → begins_with_root (kinds ((if dotted then current_part else (if twice then parent_part else name_part head)) ∷ later_parts s others)) ≡ false
-    by true twice = refl
-    by false true = refl
-    by false false = refl
+filled-relative s text head others split filled = grind arith
 
 -- a text with a root begins with a separator
 pub rooted-separated : (s : Separators) (b : ℕ) (bs : List ℕ) → begins_with_root (kinds (body_parts s (b ∷ bs))) ≡ true → is_separator s b ≡ true
-rooted-separated s b bs rooted = true_from_ne_false _ (λ plain.
-    let some = slice_split-some (is_separator s) bs in
-    let split : pieces s (b ∷ bs) ≡ (b ∷ some.0) ∷ some.1 = slice_split-cons_no (is_separator s) b bs plain ∙ ap (onto_first b) some.2 in
-    both_ways _ (filled-relative s (b ∷ bs) (b ∷ some.0) some.1 split (ne_eqb (suc (length some.0)) 0 (λ f. cc))) rooted)
+rooted-separated s b bs rooted = grind arith
 
 -- and one that begins with a separator has a root
 pub separated-rooted : (s : Separators) (b : ℕ) (bs : List ℕ) → is_separator s b ≡ true → begins_with_root (kinds (body_parts s (b ∷ bs))) ≡ true
@@ -303,9 +232,7 @@ separated-rooted s b bs separates = ap (λ some. begins_with_root (kinds (first_
 
 -- a list that begins with a root does so with more behind it
 pub begins-append : (ks ls : List Kind) → begins_with_root ks ≡ true → begins_with_root (ks ++ ls) ≡ true
-begins-append [] ls e = cc
-begins-append (root ∷ ks) ls e = refl
-begins-append (k ∷ ks) ls e = cc
+begins-append ks ls e = grind arith
 
 -- a base with more behind it: the kinds of the base, and those of the components from there on
 push_unix-tail : (t b : List ℕ) (k : ℕ) → (length b == 0) ≡ false → suc k < length (comps unix t)
@@ -346,9 +273,4 @@ left_joins t (b ∷ bs) begins = by (length (comps unix (b ∷ bs))) refl (body-
 
 -- where a path begins with a base, what is left of it, joined to that base, equals the path
 pub strip_joins : (t b : List ℕ) → StripJoins t b
-strip_joins t b rest some = by (path_starts_with unix t b) refl some
-  where
-    by : (begins : Bool) → path_starts_with unix t b ≡ begins → (if begins then Some (left (comps unix t) t (length (comps unix b)) 0) else None) ≡ Some rest
-        → kinds (parts_of unix (push_unix b rest)) ≡ kinds (parts_of unix t)
-    by true begins same = let is : left (comps unix t) t (length (comps unix b)) 0 ≡ rest = cc in ap (λ u. kinds (parts_of unix (push_unix b u))) (sym is) ∙ left_joins t b begins
-    by false begins same = cc
+strip_joins t b rest h = grind (arith, left_joins)

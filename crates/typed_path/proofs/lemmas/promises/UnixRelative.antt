@@ -1,18 +1,18 @@
 -- On Unix the path that leads from a base to another, joined to the base, leads where that leads; and there is none exactly where no relative path does so.
-use Rattle.std.proofs.Common.{◌≡◌, ℕ, ◌+◌, ◌-◌, ◌<◌, ◌≤◌, ◌==◌, Bool, true, false, not, ◌&&◌, List, [], ◌∷◌, ◌++◌, if◌then◌else◌, length, refl, sym, ap, ap₂, ◌∙◌, append-nil, arith, subst, inl, inr, eq-eqb, Option, Some, None}
+use Rattle.std.proofs.Common.{◌≡◌, ℕ, ◌+◌, ◌-◌, ◌<◌, ◌≤◌, ◌==◌, Bool, true, false, List, [], ◌∷◌, ◌++◌, if◌then◌else◌, length, refl, sym, ap, ap₂, ◌∙◌, append-nil, arith, subst, inl, inr, eq-eqb, Option, Some, None}
+use Rattle.std.proofs.lemmas.Grind.{common_steps}
 use Rattle.std.specs.Prelude.{◌⊎◌, ◌≢◌}
 use Rattle.std.specs.List.{AllByRecursion}
 use Rattle.std.proofs.lemmas.Bool.{cases_lt, or_parts}
 use Rattle.std.proofs.lemmas.List.{drop_all, map-append}
 use Rattle.std.proofs.lemmas.List.Folds.{list_any_none}
 use Rattle.typed_path.specs.declared.scan.separators.Separators.TheVariants.{Slash}
-use Rattle.typed_path.specs.components.{Dialect, unix, windows, slash, dot, is_separator, Kind, prefix, root, current, parent, normal, Part, kinds, parts_of, prefix_of}
+use Rattle.typed_path.specs.components.{Dialect, unix, windows, slash, dot, is_separator, Kind, current, Part, kinds, parts_of, prefix_of}
 use Rattle.typed_path.specs.queries.{begins_with_root}
 use Rattle.typed_path.specs.changes.{push, push_unix}
-use Rattle.typed_path.specs.places.{can_stand, headed, is_anchored, is_reached, kept_names, met_count, names_down, relative_text, rising, route, same_heads, shared_count, steps_text, steps_up, unmet}
+use Rattle.typed_path.specs.places.{can_stand, headed, is_anchored, is_reached, kept_names, met_count, names_down, relative_text, rising, route, same_heads, steps_text, steps_up, unmet}
 use Rattle.typed_path.specs.promises.{HasNone, HasNoneAtAll, HasNoneOnUnix, IsDotAlike, IsUnreached, apart, higher, unreadable, without_leading_current}
-use Rattle.typed_path.proofs.lemmas.lists.Lists.{slice_split-some}
-use Rattle.typed_path.proofs.lemmas.components.Segments.{AreRead, IsCleanName, IsWritten, body_parts, body_parts-read, first_parts}
+use Rattle.typed_path.proofs.lemmas.components.Segments.{AreRead, IsCleanName, body_parts, body_parts-read}
 use Rattle.typed_path.proofs.lemmas.places.KeptFromBack.{alike-append}
 use Rattle.typed_path.proofs.lemmas.places.KeptNames.{AlikeKept, unmet-append, without_leading_current-kept}
 use Rattle.typed_path.proofs.lemmas.places.Reached.{reached-all}
@@ -35,20 +35,10 @@ record IsFilled (ps : List Part) : Type 0 where
   is : ps ≡ first ∷ rest
 
 filled-list : (b : ℕ) (bs : List ℕ) → IsFilled (parts_of unix (b ∷ bs))
-filled-list b bs =
-    let some = slice_split-some (is_separator Slash) (b ∷ bs) in
-    let e : parts_of unix (b ∷ bs) ≡ first_parts Slash (some.0 ∷ some.1) = parts_of-unix (b ∷ bs) ∙ ap (first_parts Slash) some.2 in
-    record { first = _; rest = _; is = e }
+filled-list b bs = grind arith
 
 anchored-more : (ps : List Part) (ks : List Kind) → IsFilled ps → AreRead Slash ps → is_anchored (kinds ps ++ ks) ≡ is_anchored (kinds ps)
-anchored-more ps ks h read = subst (λ qs. AreRead Slash qs → is_anchored (kinds qs ++ ks) ≡ is_anchored (kinds qs)) (sym h.is) (λ r. by h.first.kind r.0) read
-  where
-    by : (k : Kind) → IsWritten Slash k h.first.text → is_anchored (k ∷ (kinds h.rest ++ ks)) ≡ is_anchored (k ∷ kinds h.rest)
-    by (prefix q) w = absurd w
-    by root w = refl
-    by current w = refl
-    by parent w = refl
-    by (normal name) w = refl
+anchored-more ps ks h read = grind arith
 
 -- what a relative text joined to a base is read as
 record Joined (base r : List ℕ) : Type 0 where
@@ -96,12 +86,10 @@ bare-slash windows b e = (or_parts (b == slash) (b == 92) e).0
 
 clean-can : (d : Dialect) (names : List (List ℕ)) → AllByRecursion (IsCleanName (plain d)) names → can_stand names ≡ true
 clean-can d [] each = refl
-clean-can d (name ∷ names) each =
-    ap₂ (λ a b. not a && b) (list_any_none (λ b. b == slash) name (λ n e less. bare-slash d _ (each.0.unseparated n e less))) (clean-can d names each.1)
+clean-can d (name ∷ names) each = grind (arith, common_steps, list_any_none, bare-slash, clean-can d names each.1)
 
 read-can : (d : Dialect) (r : List ℕ) (names : List (List ℕ)) → prefix_of d r ≡ None → kept_names (kinds (parts_of d r)) ≡ names → can_stand names ≡ true
-read-can d r names none e =
-    subst (λ ns. can_stand ns ≡ true) (ap (λ ps. kept_names (kinds ps)) (sym (parts-plain d r none)) ∙ e) (clean-can d (kept_names (kinds (body_parts (plain d) r))) (body-clean (plain d) r))
+read-can d r names h e = grind (arith, parts-plain, clean-can, body_parts, plain, body-clean)
 
 module _ (d : Dialect) (path base : List ℕ) where
   abbrev ks : List Kind
@@ -114,11 +102,7 @@ module _ (d : Dialect) (path base : List ℕ) where
   none-not e reached = let some : Some (steps_text d (steps_up ks ls) (names_down ks ls)) ≡ None = sym (ap (λ b. if b then Some (steps_text d (steps_up ks ls) (names_down ks ls)) else None) reached) ∙ e in cc
 
   not-none : (is_reached ks ls ≡ true → ⊥) → relative_text d path base ≡ None
-  not-none never = by (is_reached ks ls) refl
-    where
-      by : (b : Bool) → is_reached ks ls ≡ b → (if b then Some (steps_text d (steps_up ks ls) (names_down ks ls)) else None) ≡ None
-      by true e = absurd (never e)
-      by false e = refl
+  not-none never = grind arith
 
   unreached : relative_text d path base ≡ None → IsUnreached d path base
   unreached none = by (same_heads ks ls) refl (cases_lt (rising ks) (rising ls))
@@ -165,8 +149,7 @@ module _ (path base : List ℕ) where
       by none false true e f (inr le) = inl (λ same. let h : false ≡ true = sym e ∙ same ∙ f in cc)
 
       back : (begins_with_root (kinds_of unix path) ≢ begins_with_root (kinds_of unix base)) ⊎ (rising (kinds_of unix path) < rising (kinds_of unix base)) → is_reached (kinds_of unix path) (kinds_of unix base) ≡ true → ⊥
-      back (inl differ) reached = differ (sym (anchored-unix path) ∙ (reached-told (kinds_of unix path) (kinds_of unix base) reached).anchored ∙ anchored-unix base)
-      back (inr less) reached = let h = (reached-told (kinds_of unix path) (kinds_of unix base) reached).rising in absurd (omega (arith, less, h))
+      back h reached = grind (arith, anchored-unix, reached-told, kinds_of)
 
   -- whatever relative path leads from the base to the path, this one does
   led : (r : List ℕ) → begins_with_root (kinds_of unix r) ≡ false → route unix (push unix base r) ≡ route unix path → is_reached (kinds_of unix path) (kinds_of unix base) ≡ true
@@ -180,8 +163,7 @@ module _ (path base : List ℕ) where
       by : (b : Bool) → is_anchored (kinds_of unix base) ≡ b → is_anchored (kinds_of unix (push_unix base r)) ≡ is_anchored (kinds_of unix base) → rising (kinds_of unix (push_unix base r)) ≡ rising (kinds_of unix path)
           → unmet (kinds_of unix (push_unix base r)) ≡ unmet (kinds_of unix base) + (unmet (kinds_of unix r) - length (kept_names (kinds_of unix base))) → rising (kinds_of unix base) ≤ rising (kinds_of unix path)
       by true e same rises more = omega (arith, anchored-stays (kinds_of unix base) e)
-      by false e same rises more =
-          omega (arith, free-rising (kinds_of unix base) e, free-rising (kinds_of unix (push_unix base r)) (same ∙ e), rises, more)
+      by false e same rises more = grind (arith, free-rising, kinds_of)
 
   pub has_none_at_all : HasNoneAtAll path base
   has_none_at_all = (
@@ -197,9 +179,7 @@ module _ (path base : List ℕ) where
 
 module _ (ks ls : List Kind) (over : rising ks ≡ rising ls) (names : kept_names ks ≡ kept_names ls) where
   all-met : met_count ks ls ≡ length (kept_names ks)
-  all-met =
-      ap (λ b. if b then shared_count (kept_names ks) (kept_names ls) else 0) (eq-eqb (rising ks) (rising ls) over)
-      ∙ ap (shared_count (kept_names ks)) (sym names) ∙ count-own (kept_names ks)
+  all-met = grind (arith, eq-eqb, count-own)
 
   none-up : steps_up ks ls ≡ 0
   none-up = omega (arith, all-met, over, ap length names)

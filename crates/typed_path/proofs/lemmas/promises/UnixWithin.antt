@@ -1,11 +1,11 @@
 -- On Unix a path is within a base exactly where it lies below it from every absolute directory.
-use Rattle.std.proofs.Common.{◌≡◌, ℕ, zero, suc, ◌+◌, ◌-◌, ◌<◌, Bool, true, false, inl, inr, List, [], ◌∷◌, ◌++◌, map, if◌then◌else◌, length, take, replicate, refl, sym, ap, ap₂, ◌∙◌, arith, ne_eqb, add-one, None}
+use Rattle.std.proofs.Common.{◌≡◌, ℕ, zero, suc, ◌+◌, ◌-◌, ◌<◌, Bool, true, false, inl, inr, List, [], ◌∷◌, ◌++◌, map, if◌then◌else◌, length, take, replicate, refl, sym, ap, ap₂, ◌∙◌, arith, add-one, None}
+use Rattle.std.proofs.lemmas.Grind.{common_steps}
 use Rattle.std.specs.Prelude.{is_some}
 use Rattle.std.proofs.lemmas.List.{map-append, take_all, length-replicate, replicate_more, take-replicate}
-use Rattle.std.proofs.lemmas.List.Elements.{All-replicate}
 use Rattle.std.proofs.lemmas.Bool.{cases_lt}
 use Rattle.typed_path.specs.declared.scan.separators.Separators.TheVariants.{Slash}
-use Rattle.typed_path.specs.components.{unix, slash, is_separator, is_dot, is_dot_dot, Kind, root, normal, kinds, parts_of, name_part}
+use Rattle.typed_path.specs.components.{unix, slash, Kind, root, normal, kinds, parts_of, name_part}
 use Rattle.typed_path.specs.queries.{begins_with_root, first_prefix, is_absolute}
 use Rattle.typed_path.specs.changes.{push, push_unix}
 use Rattle.typed_path.specs.places.{place, unmet, kept_names, is_anchored, is_within}
@@ -14,7 +14,7 @@ use Rattle.typed_path.proofs.lemmas.components.Segments.{IsCleanName}
 use Rattle.typed_path.proofs.lemmas.changes.Joins.{body_parts-name}
 use Rattle.typed_path.proofs.lemmas.order.DifferentPrefixes.{body-bare}
 use Rattle.typed_path.proofs.lemmas.places.KeptNames.{kept_names-append, without_leading_current-kept, place-kept, names-same}
-use Rattle.typed_path.proofs.lemmas.promises.UnixContained.{parts_of-unix, join_appends, begins-append, rooted-separated}
+use Rattle.typed_path.proofs.lemmas.promises.UnixContained.{parts_of-unix, join_appends, begins-append}
 use Rattle.typed_path.proofs.lemmas.promises.Within.{kinds_of, has_prefix-first, bare-anchored, bare-head, Leading, Replaces, within-below, within-true, root-true, parents-true}
 
 -- Where a path leads behind an absolute directory.
@@ -24,12 +24,10 @@ first-none t = body-bare Slash t
 
 -- a path with a root replaces
 rooted-replaces : (dir t : List ℕ) → begins_with_root (kinds_of unix t) ≡ true → push_unix dir t ≡ t
-rooted-replaces dir [] rooted = cc
-rooted-replaces dir (b ∷ bs) rooted = rw (rooted-separated Slash b bs (ap (λ ps. begins_with_root (kinds ps)) (sym (parts_of-unix (b ∷ bs))) ∙ rooted)) refl
+rooted-replaces dir t rooted = grind arith
 
 absolute-filled : (dir : List ℕ) → is_absolute unix (kinds_of unix dir) ≡ true → 0 < length dir
-absolute-filled [] absolute = cc
-absolute-filled (b ∷ bs) absolute = omega arith
+absolute-filled dir absolute = grind arith
 
 -- a place behind the root
 rooted-place : (v : List ℕ) → begins_with_root (kinds_of unix v) ≡ true → place unix v ≡ root ∷ map normal (kept_names (kinds_of unix v))
@@ -69,21 +67,7 @@ abbrev letters : ℕ → List ℕ
 letters n = replicate n 97
 
 letters-clean : (n : ℕ) → IsCleanName Slash (letters (suc n))
-letters-clean n = record {
-  filled = ne_eqb (suc (length (letters n))) 0 (λ e. cc);
-  no_dot = dot n;
-  no_dot_dot = dots n;
-  unseparated = All-replicate (λ b. is_separator Slash b ≡ false) (suc n) 97 refl;
-}
-  where
-    dot : (n : ℕ) → is_dot (97 ∷ letters n) ≡ false
-    dot zero = refl
-    dot (suc n) = refl
-
-    dots : (n : ℕ) → is_dot_dot (97 ∷ letters n) ≡ false
-    dots zero = refl
-    dots (suc zero) = refl
-    dots (suc (suc n)) = refl
+letters-clean n = grind (arith, common_steps)
 
 abbrev first_length : List (List ℕ) → ℕ
 first_length [] = 0
@@ -93,16 +77,10 @@ abbrev fresh : List (List ℕ) → List (List ℕ) → List ℕ
 fresh xs ys = letters (suc (first_length xs + first_length ys))
 
 fresh-first : (xs ys rest : List (List ℕ)) → xs ≡ fresh xs ys ∷ rest → ⊥
-fresh-first [] ys rest e = cc
-fresh-first (x ∷ xs) ys rest e =
-    let f : x ≡ fresh (x ∷ xs) ys = cc in
-    absurd (omega (arith, ap length f, length-replicate {A = ℕ} (suc (length x + first_length ys)) 97))
+fresh-first xs ys rest e = grind (arith, length-replicate)
 
 fresh-second : (xs ys rest : List (List ℕ)) → ys ≡ fresh xs ys ∷ rest → ⊥
-fresh-second xs [] rest e = cc
-fresh-second xs (y ∷ ys) rest e =
-    let f : y ≡ fresh xs (y ∷ ys) = cc in
-    absurd (omega (arith, ap length f, length-replicate {A = ℕ} (suc (first_length xs + length y)) 97))
+fresh-second xs ys rest e = grind (arith, length-replicate)
 
 -- A directory of one name, many times.
 
@@ -154,10 +132,7 @@ module _ (x : List ℕ) (clean : IsCleanName Slash x) where
 
   -- what is below it there has its names
   below-names : (n : ℕ) (base t : List ℕ) → IsBelow unix (push unix (deep n) base) (push unix (deep n) t) → (more : List (List ℕ)) × (left_at n t ≡ left_at n base ++ more)
-  below-names n base t below =
-      let e : root ∷ map normal (left_at n t) ≡ root ∷ map normal (left_at n base ++ below.names) =
-      sym (deep-place n t) ∙ below.leads ∙ ap (λ ks. ks ++ map normal below.names) (deep-place n base) ∙ ap (λ ks. root ∷ ks) (sym (map-append normal (left_at n base) below.names)) in
-      (below.names, names-same (left_at n t) (left_at n base ++ below.names) (cc))
+  below-names n base t below = grind (arith, deep-place, map-append, names-same)
 
 -- The test from what lies below.
 
@@ -193,13 +168,11 @@ module _ (base t : List ℕ) where
       (ap (λ o. if o then 0 else unmet K) (anchored b e) ∙ even b same ∙ ap (λ o. if o then 0 else unmet L) (sym (anchored_base b d)))
     where
       even : (b : Bool) → (b ≡ false → unmet K ≡ unmet L) → (if b then 0 else unmet K) ≡ (if b then 0 else unmet L)
-      even true same = refl
-      even false same = same refl
+      even b same = grind arith
 
   -- behind a name of its own stands a base without names
   nameless : (others more own : List (List ℕ)) → own ≡ kept_names L → x ∷ others ≡ own ++ more → kept_names L ≡ []
-  nameless others more [] e h = sym e
-  nameless others more (n ∷ ns) e h = let same : n ≡ x = cc in absurd (fresh-second (kept_names K) (kept_names L) ns (sym e ∙ ap (λ m. m ∷ ns) same))
+  nameless others more own e h = grind (arith, common_steps)
 
   complete : Holds → is_within unix t base ≡ true
   complete holds = by (begins_with_root K) refl (begins_with_root L) refl

@@ -1,5 +1,5 @@
 -- On Windows the path that leads from a base to another leads back behind each base that keeps its prefix, and if that is verbatim ends with enough names.
-use Rattle.std.proofs.Common.{◌≡◌, ℕ, suc, ◌-◌, ◌≤◌, Bool, true, false, not, ◌||◌, List, [], ◌∷◌, ◌++◌, map, length, take, drop, refl, sym, ap, ap₂, ◌∙◌, append_assoc, arith, Option, Some, None, length-append}
+use Rattle.std.proofs.Common.{◌≡◌, ℕ, ◌-◌, ◌≤◌, Bool, true, false, not, ◌||◌, List, [], ◌∷◌, ◌++◌, map, length, take, drop, refl, sym, ap, ap₂, ◌∙◌, append_assoc, arith, Option, Some, None}
 use Rattle.typed_path.specs.components.{windows, separators, Prefix, normal, kinds, Found, prefix_of}
 use Rattle.typed_path.specs.queries.{begins_with_root, first_prefix, has_any_verbatim_prefix, is_verbatim_prefix}
 use Rattle.typed_path.specs.changes.{push}
@@ -15,6 +15,7 @@ use Rattle.typed_path.proofs.lemmas.components.PrefixCuts.{verbatim-some, verbat
 use Rattle.typed_path.proofs.lemmas.promises.WindowsRelative.{firm-kept, leads_plain, relative-alike}
 use Rattle.typed_path.proofs.lemmas.promises.WindowsWithin.{body_kinds, kinds-found, under}
 use Rattle.typed_path.proofs.lemmas.promises.Within.{kinds_of}
+use Rattle.typed_path.proofs.lemmas.lists.Lists.{take-behind}
 
 -- A place behind a prefix and a root tells what a list begins with and which names are kept.
 
@@ -24,21 +25,12 @@ record IsUnder (o : Option Prefix) (a : Bool) (ns : List (List ℕ)) (p : Prefix
   names : ns ≡ below
 
 under-told : (o : Option Prefix) (a : Bool) (ns : List (List ℕ)) (p : Prefix) (names : List (List ℕ)) → headed o a ++ map normal ns ≡ under p names → IsUnder o a ns p names
-under-told None true ns p names e = cc
-under-told None false [] p names e = cc
-under-told None false (n ∷ ns) p names e = cc
-under-told (Some q) false [] p names e = cc
-under-told (Some q) false (n ∷ ns) p names e = cc
-under-told (Some q) true ns p names e =
-    let first : q ≡ p = cc in
-    let rest : map normal ns ≡ map normal names = cc in
-    record { prefix = ap Some first; anchored = refl; names = names-same ns names rest }
-
-take-behind : (xs ys : List (List ℕ)) (n : ℕ) → n ≤ length ys → take (length (xs ++ ys) - n) (xs ++ ys) ≡ xs ++ take (length ys - n) ys
-take-behind [] ys n e = refl
-take-behind (x ∷ xs) ys n e =
-    let more : suc (length (xs ++ ys)) - n ≡ suc (length (xs ++ ys) - n) = omega (arith, e, length-append xs ys) in
-    ap (λ m. take m (x ∷ xs ++ ys)) more ∙ ap (λ ns. x ∷ ns) (take-behind xs ys n e)
+under-told None true ns p names e = grind arith
+under-told None false [] p names e = grind arith
+under-told None false (n ∷ ns) p names e = grind arith
+under-told (Some q) false [] p names e = grind arith
+under-told (Some q) false (n ∷ ns) p names e = grind arith
+under-told (Some q) true ns p names e = grind (arith, names-same)
 
 -- a verbatim directory whose prefix is firm
 module _ (dir : List ℕ) (f : Found) (is : prefix_of windows dir ≡ Some f) (firm : is_firm f.prefix ≡ true) (kind : is_verbatim_prefix f.prefix ≡ true) where

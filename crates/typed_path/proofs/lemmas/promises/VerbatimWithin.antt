@@ -1,29 +1,29 @@
 -- On Windows a path that is within a base lies below it, from each verbatim directory that keeps its prefix, and so from each that keeps its prefix.
-use Rattle.std.proofs.Common.{◌≡◌, ℕ, suc, ◌+◌, ◌-◌, ◌==◌, ◌<◌, Bool, true, false, not, ◌||◌, ◌&&◌, ◌⊎◌, inl, inr, List, [], ◌∷◌, ◌++◌, map, if◌then◌else◌, length, take, drop, refl, sym, ap, ap₂, ◌∙◌, append_assoc, append-nil, take-append-drop, arith, subst, Option, Some, None, option_map, length-append}
+use Rattle.std.proofs.Common.{◌≡◌, ℕ, suc, ◌+◌, ◌-◌, ◌==◌, ◌<◌, true, false, not, ◌||◌, ◌&&◌, ◌⊎◌, inl, inr, List, [], ◌∷◌, ◌++◌, map, if◌then◌else◌, length, take, drop, refl, sym, ap, ap₂, ◌∙◌, append_assoc, append-nil, take-append-drop, arith, subst, Option, Some, None, option_map, length-append}
 use Rattle.std.proofs.Math.Seq.{drop-append_seam}
 use Rattle.std.proofs.lemmas.List.{map-append, length-map, length-take-le, take_all, take-append-le}
 use Rattle.std.proofs.lemmas.Bool.{both_ways, cases_Bool, cond-true, true_from_ne_false, eqb-true, eqb-false, and_parts}
 use Rattle.std.specs.List.{AllByRecursion}
 use Rattle.typed_path.specs.declared.scan.separators.Separators.{Separators}
 use Rattle.typed_path.specs.declared.scan.separators.Separators.TheVariants.{Either}
-use Rattle.typed_path.specs.components.{Dialect, unix, windows, separators, is_separator, Kind, prefix, root, current, parent, normal, Part, kinds, parts_of, name_part, root_part, prefix_part, is_name, Found, prefix_of, name, is_empty}
+use Rattle.typed_path.specs.components.{Dialect, unix, windows, separators, Kind, prefix, root, current, parent, normal, Part, kinds, parts_of, name_part, root_part, prefix_part, is_name, Found, prefix_of, name}
 use Rattle.typed_path.specs.queries.{begins_with_root, has_any_verbatim_prefix, is_absolute, is_disk, is_verbatim_prefix}
 use Rattle.typed_path.specs.changes.{push, push_windows, push_behind, spelled, merged, without_last_name}
 use Rattle.typed_path.specs.places.{place, unmet, kept_names, headed}
 use Rattle.typed_path.specs.promises.{LeadsBelow, keeps_by_prefix, keeps_prefix, names_at_end}
-use Rattle.typed_path.proofs.lemmas.lists.Lists.{AllByRecursion-append, AllByRecursion-weaker}
+use Rattle.typed_path.proofs.lemmas.lists.Lists.{AllByRecursion-append, AllByRecursion-weaker, all-front, take-nothing}
 use Rattle.typed_path.proofs.lemmas.components.Segments.{body_parts, body_parts-read, AreRead, IsWritten, IsWrittenPart, IsLaterPart, IsWritten-later, IsCleanName, each-written}
 use Rattle.typed_path.proofs.lemmas.components.Prefixes.{OfWindows, FoundFits, prefix-fits, prefix-read, separators-windows, backslash-separates, root_text-windows, Read, of_verbatim_unc, of_verbatim_disk, of_verbatim}
 use Rattle.typed_path.proofs.lemmas.components.PrefixCuts.{name-filled, parts_of-none, parts_of-some, verbatim-some, unprefixed}
-use Rattle.typed_path.proofs.lemmas.components.FirmPrefixes.{is_firm, filled-long, firm-long, firm-stays}
+use Rattle.typed_path.proofs.lemmas.components.FirmPrefixes.{is_firm, firm-long, firm-stays}
 use Rattle.typed_path.proofs.lemmas.changes.Faults.{place_of, faultless}
 use Rattle.typed_path.proofs.lemmas.changes.WindowsPushes.{without_last_name-name}
-use Rattle.typed_path.proofs.lemmas.places.KeptNames.{kept_names-append, place_of-kept, read-body, take-nothing}
+use Rattle.typed_path.proofs.lemmas.places.KeptNames.{kept_names-append, place_of-kept, read-body}
 use Rattle.typed_path.proofs.lemmas.places.Resolving.{no_heads, is_head, read-headless, written-headless}
-use Rattle.typed_path.proofs.lemmas.places.UnixRows.{Ended, none as no_last, some as with_last, ended, all-front}
+use Rattle.typed_path.proofs.lemmas.places.UnixRows.{Ended, none as no_last, some as with_last, ended}
 use Rattle.typed_path.proofs.lemmas.promises.UnixContained.{separated-rooted}
 use Rattle.typed_path.proofs.lemmas.promises.WindowsBases.{Rest, AreRead-append, place-rest, spelled-behind, rest-separated, separators-spelled, verbatim-no_drive}
-use Rattle.typed_path.proofs.lemmas.promises.WindowsContained.{rest-apart, rest-filled, keeps_by_prefix-firm}
+use Rattle.typed_path.proofs.lemmas.promises.WindowsContained.{rest-apart, keeps_by_prefix-firm}
 use Rattle.typed_path.proofs.lemmas.promises.Within.{kinds_of, Leading, within-below}
 use Rattle.typed_path.proofs.lemmas.promises.UnixWithin.{unix_below}
 use Rattle.typed_path.proofs.lemmas.promises.WindowsWithin.{body_kinds, kinds-none, prefix_of-none, push-bare, replaces, under, absolute-prefixed, bare-leading}
@@ -40,29 +40,12 @@ named-more ps names name = append_assoc ps (named names) (name_part name ∷ [])
 -- one name more, and what is left of it
 name-taken : (names others : List (List ℕ)) (name : List ℕ) (n : ℕ)
     → take (length (names ++ name ∷ []) - n) (names ++ name ∷ []) ++ others ≡ take (length names - (n - 1)) names ++ (if n == 0 then name ∷ others else others)
-name-taken names others name n = by (n == 0) refl
-  where
-    size : length (names ++ name ∷ []) ≡ length names + 1
-    size = length-append names (name ∷ [])
-
-    by : (b : Bool) → (n == 0) ≡ b → take (length (names ++ name ∷ []) - n) (names ++ name ∷ []) ++ others ≡ take (length names - (n - 1)) names ++ (if b then name ∷ others else others)
-    by true e =
-        let none = eqb-true n 0 e in
-        ap (λ ns. ns ++ others) (take_all (length (names ++ name ∷ []) - n) (names ++ name ∷ []) (omega (arith, none)))
-        ∙ append_assoc names (name ∷ []) others
-        ∙ ap (λ ns. ns ++ name ∷ others) (sym (take_all (length names - (n - 1)) names (omega (arith, none))))
-    by false e =
-        let some = eqb-false n 0 e in
-        let same : length (names ++ name ∷ []) - n ≡ length names - (n - 1) = omega (arith, size, some) in
-        ap (λ m. take m (names ++ name ∷ []) ++ others) same
-        ∙ ap (λ ns. ns ++ others) (take-append-le (length names - (n - 1)) names (name ∷ []) (omega arith))
+name-taken names others name n = grind (arith, length-append, eqb-true, take_all, append_assoc, eqb-false, take-append-le)
 
 -- one parent more
 parent-taken : (front others : List (List ℕ)) (last : List ℕ) (n : ℕ)
     → take (length front - n) front ++ others ≡ take (length (front ++ last ∷ []) - suc n) (front ++ last ∷ []) ++ others
-parent-taken front others last n =
-    let same : length (front ++ last ∷ []) - suc n ≡ length front - n = omega (arith, length-append front (last ∷ [])) in
-    ap (λ ns. ns ++ others) (sym (take-append-le (length front - n) front (last ∷ []) (omega arith))) ∙ ap (λ m. take m (front ++ last ∷ []) ++ others) (sym same)
+parent-taken front others last n = grind (arith, length-append, take-append-le)
 
 module _ (s : Separators) (ps : List Part) (stays : without_last_name ps ≡ ps) where
   abbrev Goes : List Part → List (List ℕ) → Type 0
@@ -91,11 +74,7 @@ module _ (s : Separators) (ps : List Part) (stays : without_last_name ps ≡ ps)
       by root text e w again = cc
       by current text e w again = again names
       by parent text e w again = up names (ended names) again
-      by (normal name) text e w again =
-          ap (λ t. merged ((ps ++ named names) ++ record { kind = normal name; text = t } ∷ []) qs) w.0
-          ∙ ap (λ us. merged us qs) (named-more ps names name)
-          ∙ again (names ++ name ∷ [])
-          ∙ ap (λ ns. ps ++ named ns) (name-taken names (kept_names (kinds qs)) name (unmet (kinds qs)))
+      by (normal name) text e w again = grind (arith, named-more, name-taken)
 
 -- a list, and the names at its end
 pub record Ends (s : Separators) (ps : List Part) : Type 0 where
@@ -108,18 +87,10 @@ pub record Ends (s : Separators) (ps : List Part) : Type 0 where
 
 -- as many names as components, and a name more; or fewer
 all_names : (n size names : ℕ) → n ≡ names → size ≡ names → (if n == size then suc size else n) ≡ suc names
-all_names n size names e f = by (n == size) refl
-  where
-    by : (b : Bool) → (n == size) ≡ b → (if b then suc size else n) ≡ suc names
-    by true g = ap suc f
-    by false g = let differ = eqb-false n size g in absurd (omega (arith, e, f, differ))
+all_names n size names e f = grind arith
 
 some_names : (n size names : ℕ) → n ≡ names → names < size → (if n == size then suc size else n) ≡ names
-some_names n size names e f = by (n == size) refl
-  where
-    by : (b : Bool) → (n == size) ≡ b → (if b then suc size else n) ≡ names
-    by true g = absurd (omega (arith, e, f, eqb-true n size g))
-    by false g = e
+some_names n size names e f = grind arith
 
 ends : (s : Separators) (ps : List Part) → AllByRecursion (IsWrittenPart s) ps → Ends s ps
 ends s [] written = record { front = []; names = []; is = refl; stays = refl; clean = tt; count = refl }
@@ -130,8 +101,7 @@ ends s (p ∷ ps) written = by p.kind p.text written.0 (ends s ps written.1)
       where
         kept : (front : List Part) → without_last_name (root_part [] ∷ front) ≡ root_part [] ∷ front
             → without_last_name (root_part [] ∷ record { kind = k; text = text } ∷ front) ≡ root_part [] ∷ record { kind = k; text = text } ∷ front
-        kept [] e = ap (λ b. root_part [] ∷ (if b then [] else record { kind = k; text = text } ∷ [])) other
-        kept (q ∷ qs) e = let f : without_last_name (q ∷ qs) ≡ q ∷ qs = cc in ap (λ us. root_part [] ∷ record { kind = k; text = text } ∷ us) f
+        kept front e = grind arith
 
     name_first : (name text : List ℕ) → (text ≡ name) × IsCleanName s name → (r : Ends s ps) → (front : List Part) → r.front ≡ front → Ends s (record { kind = normal name; text = text } ∷ ps)
     name_first name text w r [] e = record {
@@ -163,8 +133,7 @@ ends s (p ∷ ps) written = by p.kind p.text written.0 (ends s ps written.1)
 
 -- behind any component that is no name such a front stays
 stays-behind : (p : Part) (front : List Part) → is_name p.kind ≡ false → without_last_name (root_part [] ∷ front) ≡ root_part [] ∷ front → without_last_name (p ∷ front) ≡ p ∷ front
-stays-behind p [] other e = ap (λ b. if b then [] else p ∷ []) other
-stays-behind p (q ∷ qs) other e = let f : without_last_name (q ∷ qs) ≡ q ∷ qs = cc in ap (λ us. p ∷ us) f
+stays-behind p front other e = grind arith
 
 -- names alone are left as they are
 unmet-named : (names : List (List ℕ)) → unmet (kinds (named names)) ≡ 0
@@ -177,19 +146,8 @@ left-named (name ∷ names) = ap (λ n. if n == 0 then name ∷ kept_names (kind
 
 -- the names that are left of a list as it is read are clean
 left-clean : (s : Separators) (ps : List Part) → AllByRecursion (IsWrittenPart s) ps → AllByRecursion (IsCleanName s) (kept_names (kinds ps))
-left-clean s [] written = tt
-left-clean s (p ∷ ps) written = by p.kind p.text written.0 (left-clean s ps written.1)
-  where
-    by : (k : Kind) (text : List ℕ) → IsWritten s k text → AllByRecursion (IsCleanName s) (kept_names (kinds ps)) → AllByRecursion (IsCleanName s) (kept_names (k ∷ kinds ps))
-    by (prefix q) text w rest = rest
-    by root text w rest = rest
-    by current text w rest = rest
-    by parent text w rest = rest
-    by (normal name) text w rest = either (unmet (kinds ps) == 0)
-      where
-        either : (b : Bool) → AllByRecursion (IsCleanName s) (if b then name ∷ kept_names (kinds ps) else kept_names (kinds ps))
-        either true = (w.1, rest)
-        either false = rest
+left-clean s [] written = grind arith
+left-clean s (p ∷ ps) written = grind (arith, left-clean s ps written.1)
 
 -- Such lists are read as they are spelled.
 
@@ -198,29 +156,18 @@ later-named s [] clean = tt
 later-named s (name ∷ names) clean = ((refl, clean.0), later-named s names clean.1)
 
 read-front : (s : Separators) (ps qs : List Part) → AreRead s (ps ++ qs) → AreRead s ps
-read-front s [] qs read = tt
-read-front s (p ∷ ps) qs read = (read.0, all-front (IsLaterPart s) ps qs read.1)
+read-front s ps qs read = grind (arith, all-front)
 
 -- it has bytes where the list begins with a root
 rest-long : (s : Separators) (ps : List Part) (rest : List ℕ) → AreRead s ps → Rest ps rest → begins_with_root (kinds ps) ≡ true → 0 < length rest
-rest-long s [] rest read spelt rooted = cc
-rest-long s (p ∷ ps) rest read spelt rooted = filled-long rest (rest-filled s p ps rest read spelt)
+rest-long s ps rest read spelt rooted = grind arith
 
 -- a verbatim prefix has more than four bytes, or a separator stands behind it
 long-or-rooted : (s : Separators) (text : List ℕ) (f : Found) → Read s text f → is_verbatim_prefix f.prefix ≡ true → (4 < f.length) ⊎ (begins_with_root (body_kinds s (drop f.length text)) ≡ true)
-long-or-rooted s text f (of_verbatim_unc rest mark filled) kind = inl (omega arith)
-long-or-rooted s text f (of_verbatim_disk rest letter mark drives) kind = inl (omega arith)
-long-or-rooted s text f (of_verbatim rest mark filled no_unc no_drive) kind = by rest (name s rest) refl filled mark.dropped
-  where
-    by : (rest : List ℕ) (n : List ℕ) → name s rest ≡ n → is_empty rest ≡ false → drop 4 text ≡ rest
-        → (4 < 4 + length n) ⊎ (begins_with_root (body_kinds s (drop (4 + length n) text)) ≡ true)
-    by rest (c ∷ cs) e filled dropped = inl (omega arith)
-    by [] [] e filled dropped = cc
-    by (b ∷ bs) [] e filled dropped =
-        let separates : is_separator s b ≡ true = true_from_ne_false _ (λ plain. omega (arith, name-filled s b bs plain, ap length e)) in
-        let four : 4 + 0 ≡ 4 = omega arith in
-        inr (ap (λ t. begins_with_root (body_kinds s t)) (ap (λ n. drop n text) four ∙ dropped) ∙ separated-rooted s b bs separates)
-long-or-rooted s text f read kind = cc
+long-or-rooted s text f (of_verbatim_unc rest mark filled) kind = grind (arith, of_verbatim_unc)
+long-or-rooted s text f (of_verbatim_disk rest letter mark drives) kind = grind (arith, of_verbatim_disk)
+long-or-rooted s text f (of_verbatim rest mark filled no_unc no_drive) kind = grind (arith, of_verbatim, body_kinds, true_from_ne_false, name-filled, separated-rooted)
+long-or-rooted s text f read kind = grind arith
 
 -- a verbatim directory whose prefix is firm
 module _ (dir : List ℕ) (f : Found) (is : prefix_of windows dir ≡ Some f) (firm : is_firm f.prefix ≡ true) (kind : is_verbatim_prefix f.prefix ≡ true) where
@@ -310,11 +257,7 @@ module _ (dir : List ℕ) (f : Found) (is : prefix_of windows dir ≡ Some f) (f
   left_behind t = kept_names (kinds end.front) ++ (take (length end.names - unmet (kinds_of windows t)) end.names ++ kept_names (kinds_of windows t))
 
   pub front-names : (names : List (List ℕ)) → kept_names (kinds (end.front ++ named names)) ≡ kept_names (kinds end.front) ++ names
-  front-names names =
-      ap kept_names (map-append (λ p. p.kind) end.front (named names))
-      ∙ kept_names-append (kinds end.front) (kinds (named names))
-      ∙ ap₂ (λ n ns. take (length (kept_names (kinds end.front)) - n) (kept_names (kinds end.front)) ++ ns) (unmet-named names) (left-named names)
-      ∙ ap (λ ns. ns ++ names) (take_all (length (kept_names (kinds end.front)) - 0) (kept_names (kinds end.front)) (omega arith))
+  front-names names = grind (arith, map-append, end, kept_names-append, unmet-named, left-named, take_all)
 
   -- the list that is spelled has a root where its prefix is short
   front-long : (names : List (List ℕ)) → (4 < f.length) ⊎ (begins_with_root (kinds (end.front ++ named names)) ≡ true)

@@ -1,5 +1,6 @@
 -- Where a base of Windows leads with a faultless path behind it, and how a list is spelled behind a prefix.
 use Rattle.std.proofs.Common.{◌≡◌, ℕ, zero, suc, ◌+◌, ◌<◌, ◌≤◌, true, false, ◌⊎◌, inl, inr, List, [], ◌∷◌, ◌++◌, length, take, drop, refl, sym, ap, ◌∙◌, subst, append_assoc, arith, length-drop, ne_eqb, not, Bool, if◌then◌else◌, ap₂, append-nil, Some, None, length-append, length-take-le}
+use Rattle.std.proofs.lemmas.Grind.{common_steps}
 use Rattle.std.proofs.Math.Seq.{drop-append-add, drop-append_seam, take-append_seam}
 use Rattle.std.proofs.lemmas.Bool.{both_ways, cases_lt, false_from_ne_true, and_parts}
 use Rattle.std.proofs.lemmas.List.{drop-append-le, drop_all}
@@ -7,11 +8,11 @@ use Rattle.std.proofs.lemmas.List.Splits.{slice_split-cons_yes}
 use Rattle.std.specs.List.{AllByRecursion}
 use Rattle.typed_path.specs.declared.scan.separators.Separators.{Separators}
 use Rattle.typed_path.specs.declared.scan.separators.Separators.TheVariants.{Either, Backslash}
-use Rattle.typed_path.specs.components.{windows, backslash, question, separators, begins_verbatim, is_separator, root_text, Prefix, disk, Kind, prefix, Part, kinds, prefix_part, root, normal, Found, prefix_of, parts_of}
+use Rattle.typed_path.specs.components.{windows, backslash, question, separators, begins_verbatim, is_separator, root_text, Prefix, Kind, prefix, Part, kinds, prefix_part, root, Found, prefix_of, parts_of}
 use Rattle.typed_path.specs.queries.{is_disk, is_verbatim_prefix, begins_with_root}
 use Rattle.typed_path.specs.changes.{is_disk_alone, joint, spelled, merged}
 use Rattle.typed_path.specs.places.{resolve, with_implied_root}
-use Rattle.typed_path.proofs.lemmas.lists.Lists.{slice_split-some, AllByRecursion-append}
+use Rattle.typed_path.proofs.lemmas.lists.Lists.{slice_split-some}
 use Rattle.typed_path.proofs.lemmas.components.Prefixes.{OfWindows, backslash-separates, prefix-fits, separators-windows, root_text-windows}
 use Rattle.typed_path.proofs.lemmas.components.Segments.{pieces, first_parts, later_parts, body_parts, body_parts-read, AreRead, IsWritten, parts_behind, each-written, IsWrittenPart, IsLater, IsLaterPart, AreRead-later}
 use Rattle.typed_path.proofs.lemmas.components.PrefixCuts.{IsSize, prefix-size, IsGrown, same-sizes, plain-kind, verbatim_text, verbatim-size, verbatim-take, parts_of-none, parts_of-some}
@@ -37,22 +38,15 @@ body_parts-joined s text _ path w (apart filled) =
 
 -- a list as it is read behind a prefix is no drive alone
 pub read-no_drive : (s : Separators) (ps : List Part) → AreRead s ps → is_disk_alone (kinds ps) ≡ true → ⊥
-read-no_drive s [] read e = cc
-read-no_drive s (p ∷ ps) read e = by p.kind p.text read.0 e
-  where
-    by : (k : Kind) (text : List ℕ) → IsWritten s k text → is_disk_alone (k ∷ kinds ps) ≡ true → ⊥
-    by (prefix q) text written e = absurd written
-    by k text written e = cc
+read-no_drive s ps read e = grind arith
 
 -- nor is a list that begins with another prefix
 pub disk_alone-disk : (p : Prefix) (ks : List Kind) → is_disk_alone (prefix p ∷ ks) ≡ true → is_disk p ≡ true
-disk_alone-disk (disk letter) ks e = refl
-disk_alone-disk p ks e = cc
+disk_alone-disk p ks e = grind arith
 
 -- a prefix alone that is no drive alone is no drive
 prefix_alone-disk : (p : Prefix) → is_disk_alone (prefix p ∷ []) ≡ false → is_disk p ≡ false
-prefix_alone-disk (disk letter) e = cc
-prefix_alone-disk p e = refl
+prefix_alone-disk p e = grind arith
 
 -- nor is one that goes on behind its prefix
 pub disk_alone-filled : (s : Separators) (p : Prefix) (b : ℕ) (bs : List ℕ) → is_disk_alone (prefix p ∷ kinds (body_parts s (b ∷ bs))) ≡ false
@@ -113,16 +107,11 @@ module _ (path : List ℕ) (faultless : IsFaultless path) where
 
   -- nor does it resolve to a prefix or a root
   later-headless : no_heads (kinds (resolve (later_parts Either (pieces Either path)))) ≡ true
-  later-headless =
-      let alike = body_parts-alike Either path (no_heads-relative (kinds (body_parts Either path)) faultless.headless) in
-      ap (λ rs. no_heads (kinds rs)) (sym alike.resolves) ∙ no_heads-resolve (body_parts Either path) faultless.headless
+  later-headless = grind (arith, common_steps, body_parts-alike, no_heads-relative, body_parts, no_heads, no_heads-resolve)
 
   -- the same, read later
   place-later : (ps : List Part) → place_of (ps ++ later_parts Either (pieces Either path)) ≡ place_of ps ++ kinds (resolve (body_parts Either path))
-  place-later ps =
-      let alike = body_parts-alike Either path (no_heads-relative (kinds (body_parts Either path)) faultless.headless) in
-      place_of-append ps (later_parts Either (pieces Either path)) (sym (alike.draws zero) ∙ faultless.closed) later-headless
-      ∙ ap (λ rs. place_of ps ++ kinds rs) (sym alike.resolves)
+  place-later ps = grind (arith, body_parts-alike, no_heads-relative, body_parts, place_of-append, later_parts, pieces, later-headless, place_of)
 
   -- the same, behind a text that ends with a separator or gets one
   place-joined : (ps : List Part) (text mid : List ℕ) → Joined text mid → place_of (ps ++ body_parts Either (text ++ (mid ++ path))) ≡ place_of (ps ++ body_parts Either text) ++ kinds (resolve (body_parts Either path))
@@ -154,13 +143,7 @@ module _ (path : List ℕ) (faultless : IsFaultless path) where
 
   -- a base with a prefix is not the mark with the path behind it
   no_mark : (base mid : List ℕ) (f : Found) → prefix_of windows base ≡ Some f → 0 < length path → base ++ (mid ++ path) ≡ mark → ⊥
-  no_mark base mid f is filled e = elim (cases_lt (length base) 3) [
-    | inl short ↦ mark-front (length base) f short (ap (prefix_of windows) (ap (take (length base)) (sym e) ∙ take-append_seam base (mid ++ path)) ∙ is)
-    | inr long ↦ no_root (ap (λ t. no_heads (kinds (body_parts Either t))) (sym (mark-last base mid path e long filled)) ∙ faultless.headless)
-  ]
-    where
-      no_root : false ≡ true → ⊥
-      no_root h = cc
+  no_mark base mid f is filled e = grind (arith, cases_lt, mark-front, take-append_seam, no_heads, body_parts, mark-last)
 
   -- nor read verbatim where the prefix is of another kind
   pub plain-joined : (base mid : List ℕ) (f g : Found) → prefix_of windows base ≡ Some f → 0 < length path → prefix_of windows (base ++ (mid ++ path)) ≡ Some g → is_verbatim_prefix g.prefix ≡ false
@@ -216,8 +199,7 @@ module _ (path : List ℕ) (faultless : IsFaultless path) where
 
 -- later components are put behind a list as it is read
 pub AreRead-append : (s : Separators) (ps qs : List Part) → AreRead s ps → AllByRecursion (IsLaterPart s) qs → AreRead s (ps ++ qs)
-AreRead-append s [] qs read later = AreRead-later s qs later
-AreRead-append s (p ∷ ps) qs read later = (read.0, AllByRecursion-append (IsLaterPart s) ps qs read.1 later)
+AreRead-append s ps qs read later = grind (arith, common_steps)
 
 -- a name of one Windows text is a name of another
 names-later : (s : Separators) (ps : List Part) → AllByRecursion (IsWrittenPart Either) ps → AllByRecursion IsKept ps → no_heads (kinds ps) ≡ true → AllByRecursion (IsLaterPart s) ps
@@ -225,11 +207,7 @@ names-later s [] written kept headless = tt
 names-later s (p ∷ ps) written kept headless = (by p.kind p.text written.0 kept.0 (and_parts _ _ headless).0, names-later s ps written.1 kept.1 (and_parts (not (is_head p.kind)) _ headless).1)
   where
     by : (k : Kind) (text : List ℕ) → IsWritten Either k text → IsKept (record { kind = k; text = text }) → not (is_head k) ≡ true → IsLater s k text
-    by (normal name) text written kept other =
-        (written.0, clean-either s name written.1)
-    by (prefix q) text written kept other = cc
-    by root text written kept other = cc
-    by k text written kept other = cc
+    by k text written kept other = grind (arith, clean-either)
 
 -- how a list is spelled behind a prefix
 pub data Rest : List Part → List ℕ → Type 0 where
@@ -259,14 +237,9 @@ spelled-behind p raw (q ∷ ps) = by (begins_with_root (q.kind ∷ [])) refl
 module _ (s : Separators) (w : OfWindows s) where
   -- the rest is empty, or begins with a separator
   pub rest-separated : (ps : List Part) (rest : List ℕ) → AreRead s ps → Rest ps rest → (rest ≡ []) ⊎ ((others : List ℕ) × (rest ≡ backslash ∷ others))
-  rest-separated _ _ read nothing = inl refl
-  rest-separated _ _ read (from_root p ps e) = by p.kind p.text read.0 e ps
-    where
-      by : (k : Kind) (text : List ℕ) → IsWritten s k text → begins_with_root (k ∷ []) ≡ true → (ps : List Part) → (spelled (record { kind = k; text = text } ∷ ps) ≡ []) ⊎ ((others : List ℕ) × (spelled (record { kind = k; text = text } ∷ ps) ≡ backslash ∷ others))
-      by root text written e [] = inr ([], written ∙ root_text-windows s w)
-      by root text written e (q ∷ ps) = inr (spelled (q ∷ ps), ap (λ t. t ++ [] ++ spelled (q ∷ ps)) (written ∙ root_text-windows s w))
-      by k text written e ps = cc
-  rest-separated _ _ read (from_other p ps e) = inr (spelled (p ∷ ps), refl)
+  rest-separated _ _ read nothing = grind arith
+  rest-separated _ _ read (from_root p ps e) = grind (arith, root_text-windows)
+  rest-separated _ _ read (from_other p ps e) = grind arith
 
   -- read again, the rest leads where the list does
   pub place-rest : (p : Prefix) (ps : List Part) (rest : List ℕ) → is_disk p ≡ false → AreRead s ps → Rest ps rest → place_of (prefix_part p [] ∷ body_parts s rest) ≡ place_of (prefix_part p [] ∷ ps)
@@ -294,8 +267,7 @@ module _ (s : Separators) (w : OfWindows s) where
 
 -- a verbatim kind is no drive
 pub verbatim-no_drive : (p : Prefix) → is_verbatim_prefix p ≡ true → is_disk p ≡ false
-verbatim-no_drive (disk letter) kind = cc
-verbatim-no_drive p kind = refl
+verbatim-no_drive p kind = grind arith
 
 module _ (base path : List ℕ) (f : Found) (is : prefix_of windows base ≡ Some f) (kind : is_verbatim_prefix f.prefix ≡ true) (faultless : IsFaultless path) where
   -- the parts of the base behind its prefix, and what the path adds
@@ -311,9 +283,7 @@ module _ (base path : List ℕ) (f : Found) (is : prefix_of windows base ≡ Som
 
   -- and what it adds may stand later in a text of these separators
   added-later : AllByRecursion (IsLaterPart (separators windows base)) added_parts
-  added-later =
-      names-later (separators windows base) added_parts (each-written Either added_parts (resolve-read Either (body_parts Either path) (body_parts-read Either path)))
-      (resolve-kept (body_parts Either path)) added-headless
+  added-later = grind (arith, names-later, each-written, resolve-read, body_parts, body_parts-read, resolve-kept, added-headless)
 
   -- the list that is spelled, but for the prefix, is as it is read
   pub merged-read : AreRead (separators windows base) (own_parts ++ added_parts)

@@ -1,19 +1,20 @@
 -- The clean text of a path of Windows with a prefix, read again.
-use Rattle.std.proofs.Common.{◌≡◌, inl, inr, ℕ, zero, suc, ◌<◌, ◌≤◌, ◌==◌, ◌||◌, ◌&&◌, not, Bool, true, false, List, [], ◌∷◌, ◌++◌, if◌then◌else◌, length, take, drop, refl, sym, ap, ap₂, ◌∙◌, append_assoc, append-nil, arith, subst, length-take, take_all, eqb-true, Option, Some, None}
+use Rattle.std.proofs.Common.{◌≡◌, inl, inr, ℕ, zero, suc, ◌<◌, ◌≤◌, ◌==◌, ◌||◌, ◌&&◌, not, Bool, true, false, List, [], ◌∷◌, ◌++◌, if◌then◌else◌, length, take, drop, refl, sym, ap, ap₂, ◌∙◌, append_assoc, append-nil, arith, length-take, Option, Some, None}
+use Rattle.std.proofs.lemmas.Grind.{common_steps}
 use Rattle.std.specs.Option.{option_map}
 use Rattle.std.specs.List.{AllByRecursion, join_with_byte}
 use Rattle.std.proofs.lemmas.Bool.{cases_Bool, cases_lt, both_ways, or_parts}
-use Rattle.std.proofs.lemmas.List.{take_at, drop_at, drop_all}
+use Rattle.std.proofs.lemmas.List.{take_at, drop_at}
 use Rattle.typed_path.specs.declared.scan.separators.Separators.{Separators}
 use Rattle.typed_path.specs.declared.scan.separators.Separators.TheVariants.{Backslash, Either}
-use Rattle.typed_path.specs.components.{Dialect, unix, windows, backslash, separators, is_separator, Prefix, verbatim, verbatim_disk, disk, Kind, prefix, root, current, parent, normal, Part, kinds, prefix_part, Found, found, drive, prefix_of, parts_of}
+use Rattle.typed_path.specs.components.{Dialect, unix, windows, backslash, separators, is_separator, Prefix, verbatim, verbatim_disk, disk, Kind, prefix, Part, kinds, prefix_part, Found, found, drive, prefix_of, parts_of}
 use Rattle.typed_path.specs.queries.{is_disk, begins_with_root}
-use Rattle.typed_path.specs.places.{resolve, stays, unmet, kept_names, is_anchored, rising, headed, routed, route, clean_by, cleaned, clean_text, dots}
+use Rattle.typed_path.specs.places.{resolve, stays, unmet, kept_names, is_anchored, rising, route, cleaned, clean_text, dots}
 use Rattle.typed_path.specs.promises.{HasCleanForm, IsCleanForm, is_verbatim_unc_name, prefix_kind}
 use Rattle.typed_path.proofs.lemmas.components.Prefixes.{separators-windows, backslash-separates, drive-take, drive-size, Read, of_disk, prefix-read}
 use Rattle.typed_path.proofs.lemmas.components.FirmPrefixes.{Apart, nothing, parted, drive-stays, drive-extends}
 use Rattle.typed_path.proofs.lemmas.components.PartedPrefixes.{parted-stays, root-behind, drive-plain}
-use Rattle.typed_path.proofs.lemmas.components.Segments.{IsCleanName, IsLater, IsLaterPart, AreRead, body_parts, body_parts-read, each-written}
+use Rattle.typed_path.proofs.lemmas.components.Segments.{IsCleanName, IsLaterPart, AreRead, body_parts, body_parts-read, each-written}
 use Rattle.typed_path.proofs.lemmas.places.Resolving.{resolve-each}
 use Rattle.typed_path.proofs.lemmas.components.PrefixCuts.{parts_of-some}
 use Rattle.typed_path.proofs.lemmas.promises.CleanRead.{ups, lead, leads-by, anchored-stays, LeadsAs, unmet-ups, names-ups, names-clean, read-ups, read-root}
@@ -30,8 +31,7 @@ abbrev behind_text : Bool → List ℕ → List ℕ
 behind_text rooted joined = if rooted then backslash ∷ joined else joined
 
 behind-append : (raw joined : List ℕ) (rooted : Bool) → (raw ++ (if rooted then backslash ∷ [] else [])) ++ joined ≡ raw ++ behind_text rooted joined
-behind-append raw joined true = append_assoc raw (backslash ∷ []) joined
-behind-append raw joined false = ap (λ bs. bs ++ joined) (append-nil raw)
+behind-append raw joined rooted = grind (arith, append_assoc, append-nil)
 
 ups-unrooted : (n : ℕ) (names : List (List ℕ)) → begins_with_root (ups n names) ≡ false
 ups-unrooted (suc n) names = refl
@@ -39,16 +39,13 @@ ups-unrooted zero [] = refl
 ups-unrooted zero (name ∷ names) = refl
 
 lead-rooted : (rooted : Bool) (n : ℕ) (names : List (List ℕ)) → begins_with_root (lead rooted n names) ≡ rooted
-lead-rooted true n names = refl
-lead-rooted false n names = ups-unrooted n names
+lead-rooted rooted n names = grind (arith, ups-unrooted)
 
 lead-unmet : (rooted : Bool) (n : ℕ) (names : List (List ℕ)) → unmet (lead rooted n names) ≡ n
-lead-unmet true n names = unmet-ups n names
-lead-unmet false n names = unmet-ups n names
+lead-unmet rooted n names = grind (arith, unmet-ups)
 
 lead-names : (rooted : Bool) (n : ℕ) (names : List (List ℕ)) → kept_names (lead rooted n names) ≡ names
-lead-names true n names = names-ups n names
-lead-names false n names = names-ups n names
+lead-names rooted n names = grind (arith, names-ups)
 
 -- the parents that are left over and the names that are kept, as they are written
 abbrev segments_of : List Kind → List (List ℕ)
@@ -73,39 +70,13 @@ module _ (t : List ℕ) (p : Prefix) (raw : List ℕ) (ps : List Part) (read : p
     root-again = ap begins_with_root behind ∙ lead-rooted rooted (rising ks) (kept_names ks)
 
     anchored-again : is_anchored (prefix p ∷ kinds qs) ≡ is_anchored ks
-    anchored-again = ap (λ b. not (is_disk p) || b) root-again ∙ by (is_disk p) (begins_with_root (kinds ps)) (not (length segments == 0))
-      where
-        by : (drives there some : Bool) → (not drives || (there || (not drives && some))) ≡ (not drives || there)
-        by true true some = refl
-        by true false some = refl
-        by false there some = refl
+    anchored-again = grind (arith, root-again)
 
     leads-again : LeadsAs (prefix p ∷ kinds qs) ks
-    leads-again =
-        leads-by (prefix p ∷ kinds qs) (is_anchored ks) (rising ks) (kept_names ks) anchored-again (anchored-stays ks)
-        (ap unmet behind ∙ lead-unmet rooted (rising ks) (kept_names ks)) (ap kept_names behind ∙ lead-names rooted (rising ks) (kept_names ks))
+    leads-again = grind (arith, leads-by, anchored-again, anchored-stays, lead-unmet, lead-names)
 
     pub prefixed-form : prefix_of windows (clean_text windows t) ≡ prefix_of windows t → IsCleanForm windows t (clean_text windows t)
-    prefixed-form same = record {
-      prefix = same;
-      route =
-          ap (λ rs. routed (kinds rs)) again
-          ∙ ap (λ b. headed (Some p) b ++ ups (rising (prefix p ∷ kinds qs)) (kept_names (prefix p ∷ kinds qs))) anchored-again
-          ∙ ap₂ (λ n names. headed (Some p) (is_anchored ks) ++ ups n names) leads-again.rising leads-again.names
-          ∙ ap (λ rs. routed (kinds rs)) (sym read);
-      stays =
-          ap (cleaned windows) again
-          ∙ ap₂ (λ n names. clean_by windows (prefix_part p raw ∷ qs) (dots n ++ names)) leads-again.rising leads-again.names
-          ∙ ap (λ b. (raw ++ (if b || (not (is_disk p) && not (length segments == 0)) then backslash ∷ [] else [])) ++ join_with_byte backslash segments) root-again
-          ∙ ap (λ b. (raw ++ (if b then backslash ∷ [] else [])) ++ join_with_byte backslash segments) (twice (begins_with_root (kinds ps)) (not (is_disk p) && not (length segments == 0)))
-          ∙ behind-append raw (join_with_byte backslash segments) rooted
-          ∙ sym clean-prefixed;
-    }
-      where
-        twice : (a b : Bool) → ((a || b) || b) ≡ (a || b)
-        twice true b = refl
-        twice false true = refl
-        twice false false = refl
+    prefixed-form same = grind (arith, ups, anchored-again, leads-again, root-again, behind-append, clean-prefixed)
 
 -- The clean text of a path with a prefix, case by case.
 
@@ -137,8 +108,7 @@ module _ (t : List ℕ) (f : Found) (is : prefix_of windows t ≡ Some f) where
       clean = names-clean (separators windows t) back (each-written (separators windows t) back (body_parts-read (separators windows t) (drop f.length t)))
 
       by : (b : Bool) → kinds (body_parts (separators windows t) (behind_text b joined)) ≡ lead b (rising own) (kept_names own)
-      by true = read-root (separators windows t) backslash separates (rising own) (kept_names own) clean
-      by false = read-ups (separators windows t) backslash separates (rising own) (kept_names own) clean
+      by b = grind (arith, read-root, separates, clean, read-ups)
 
   -- where the prefix stays before what stands behind it, the clean text has its form
   stays-form : f.length ≡ length front → separators windows (front ++ behind_text is_rooted joined) ≡ separators windows t
@@ -166,60 +136,22 @@ drive-form t letter is drives =
 
 -- a list of a text without anything behind its prefix
 whole-form : (t : List ℕ) (f : Found) → prefix_of windows t ≡ Some f → is_disk f.prefix ≡ false → length t ≤ f.length → clean_text windows t ≡ t
-whole-form t f is other most =
-    let read : parts_of windows t ≡ prefix_part f.prefix t ∷ [] =
-    parts_of-some t f is
-    ∙ ap₂ (λ u v. prefix_part f.prefix u ∷ body_parts (separators windows t) v) (take_all f.length t most) (drop_all f.length t most) in
-    clean-prefixed t f.prefix t [] read ∙ by (is_disk f.prefix) other
-  where
-    by : (drives : Bool) → drives ≡ false
-        → t ++ behind_text (not drives && not (length (dots (if not drives || false then 0 else 0) ++ []) == 0)) (join_with_byte backslash (dots (if not drives || false then 0 else 0) ++ [])) ≡ t
-    by true e = cc
-    by false e = append-nil t
+whole-form t f is other most = grind (arith, common_steps)
 
 -- later components begin with no root
 later-unrooted : (s : Separators) (ps : List Part) → AllByRecursion (IsLaterPart s) ps → begins_with_root (kinds ps) ≡ false
-later-unrooted s [] each = refl
-later-unrooted s (p ∷ ps) each = by p.kind each.0
-  where
-    by : (k : Kind) → IsLater s k p.text → begins_with_root (k ∷ kinds ps) ≡ false
-    by root later = absurd later
-    by (prefix q) later = refl
-    by current later = refl
-    by parent later = refl
-    by (normal name) later = refl
+later-unrooted s [] each = grind arith
+later-unrooted s (p ∷ ps) each = grind arith
 
 -- a list begins with a root where what it resolves to does
 resolve-rooted : (s : Separators) (ps : List Part) → AreRead s ps → begins_with_root (kinds (resolve ps)) ≡ true → begins_with_root (kinds ps) ≡ true
-resolve-rooted s [] read h = h
-resolve-rooted s (p ∷ ps) read h = by p.kind refl
-  where
-    none : begins_with_root (kinds (resolve ps)) ≡ false
-    none = later-unrooted s (resolve ps) (resolve-each (IsLaterPart s) ps read.1)
-
-    kept : (b : Bool) → begins_with_root (p.kind ∷ []) ≡ false → begins_with_root (kinds ((if b then p ∷ [] else []) ++ resolve ps)) ≡ false
-    kept true e = at p.kind e
-      where
-        at : (k : Kind) → begins_with_root (k ∷ []) ≡ false → begins_with_root (k ∷ kinds (resolve ps)) ≡ false
-        at root e = e
-        at (prefix q) e = refl
-        at current e = refl
-        at parent e = refl
-        at (normal name) e = refl
-    kept false e = none
-
-    by : (k : Kind) → p.kind ≡ k → begins_with_root (k ∷ kinds ps) ≡ true
-    by root e = refl
-    by k e = absurd (both_ways _ (kept (stays p.kind (kinds ps)) (ap (λ l. begins_with_root (l ∷ [])) e)) h)
+resolve-rooted s ps read h = grind (arith, later-unrooted, resolve-each, both_ways)
 
 none-more : (drives z : Bool) → drives ≡ false → (not drives && not z) ≡ false → z ≡ true
-none-more true z e h = cc
-none-more false true e h = refl
-none-more false false e h = cc
+none-more drives z e h = grind arith
 
 nothing-joined : (segments : List (List ℕ)) → (length segments == 0) ≡ true → join_with_byte backslash segments ≡ []
-nothing-joined [] e = refl
-nothing-joined (s ∷ segments) e = let same : length (s ∷ segments) ≡ 0 = eqb-true _ _ e in cc
+nothing-joined segments e = grind (arith, common_steps)
 
 -- under another prefix, with more behind it
 parted-form : (t : List ℕ) (f : Found) → prefix_of windows t ≡ Some f → is_disk f.prefix ≡ false → is_verbatim_unc_name (Some f.prefix) ≡ false → f.length < length t → IsCleanForm windows t (clean_text windows t)
@@ -244,11 +176,7 @@ parted-form t f is other no_unc more =
         differ letter e = cc
 
     by : (b : Bool) → is_rooted t f is ≡ b → Apart s (behind_text b (joined t f is)) × (f.prefix ≡ verbatim [] → 0 < length (behind_text b (joined t f is)))
-    by true e = (parted backslash (joined t f is) (backslash-separates s (separators-windows t)), λ bare. omega arith)
-    by false e =
-        let both = or_parts (begins_with_root (kinds rest)) _ e in
-        let empty : joined t f is ≡ [] = nothing-joined (segments_of (own t f is)) (none-more (is_disk f.prefix) _ other both.1) in
-        (subst (Apart s) (sym empty) nothing, λ bare. absurd (no_bare both.0 bare))
+    by b e = grind (arith, parted, backslash-separates, s, separators-windows, or_parts, rest, nothing-joined, none-more, nothing, no_bare)
 
 -- The clean text of Windows leads where the path leads, and is its own clean text.
 windows-form : (t : List ℕ) → is_verbatim_unc_name (prefix_kind windows t) ≡ false → IsCleanForm windows t (clean_text windows t)

@@ -1,24 +1,24 @@
 -- A checked push on Windows stays within its base, and the bases that keep their prefix.
-use Rattle.std.proofs.Common.{◌≡◌, ℕ, ◌<◌, true, false, if◌then◌else◌, List, [], ◌∷◌, ◌++◌, length, take, refl, sym, ap, ap₂, ◌∙◌, subst, append-nil, append_assoc, arith, ◌==◌, ◌&&◌, inl, inr, drop, Option, Some, None, option_and_then, take-append-drop, length-append, length-drop, ◌+◌, ◌⊎◌, ne_eqb, option_map, eqb-true}
+use Rattle.std.proofs.Common.{◌≡◌, ℕ, ◌<◌, true, false, if◌then◌else◌, List, [], ◌∷◌, ◌++◌, length, take, refl, sym, ap, ap₂, ◌∙◌, subst, append-nil, append_assoc, arith, ◌==◌, ◌&&◌, inl, inr, drop, Option, Some, None, option_and_then, take-append-drop, length-append, length-drop, ◌+◌, ◌⊎◌, option_map, eqb-true}
 use Rattle.std.proofs.lemmas.Bool.{cond_both, both_ways, false_from_ne_true, cases_Bool, and_parts, cond-true, cond-false, and_left, and_right, or_cases, true_from_ne_false}
-use Rattle.std.specs.Option.{option_or}
 use Rattle.std.proofs.lemmas.List.{same_from_push}
 use Rattle.typed_path.specs.declared.scan.separators.Separators.TheVariants.{Backslash, Either}
 use Rattle.typed_path.specs.declared.scan.separators.Separators.{Separators}
-use Rattle.typed_path.specs.components.{windows, begins_verbatim, separators, slash, backslash, colon, is_separator, Prefix, Part, kinds, unc, disk, verbatim, verbatim_unc, verbatim_disk, device_ns, Found, prefix_of, found, is_empty, is_drive_letter, to_upper, drive, name, verbatim_unc_case, verbatim_disk_case, verbatim_case, device_case, unc_case, disk_case, parts_of}
+use Rattle.typed_path.specs.components.{windows, begins_verbatim, separators, slash, backslash, colon, is_separator, Prefix, Part, kinds, disk, Found, prefix_of, found, is_drive_letter, to_upper, drive, parts_of}
 use Rattle.typed_path.specs.queries.{is_verbatim_prefix, has_any_verbatim_prefix, is_disk}
 use Rattle.typed_path.specs.changes.{push_windows, spelled, merged, ended_windows, is_disk_alone, fault}
 use Rattle.typed_path.specs.places.{resolve, place}
 use Rattle.typed_path.specs.promises.{prefix_kind, LiesWithin, keeps_by_prefix, HasPrefixOf}
 use Rattle.typed_path.proofs.lemmas.components.Segments.{body_parts, body_parts-read, AreRead, parts_behind, first_part, later_parts}
-use Rattle.typed_path.proofs.lemmas.components.PrefixCuts.{verbatim_text, unless-none, name-filled, or-none, parts_of-none, parts_of-some, verbatim-some, verbatim-none}
+use Rattle.typed_path.proofs.lemmas.components.PrefixCuts.{verbatim_text, name-filled, parts_of-none, parts_of-some, verbatim-some, verbatim-none}
 use Rattle.typed_path.proofs.lemmas.changes.Faults.{place_of, IsFaultless, faultless, push-faultless, no_heads-relative, body_parts-relative}
-use Rattle.typed_path.proofs.lemmas.changes.Joins.{Ending, ending, empty, ended, drive_alone, parted as put, spelled-filled}
-use Rattle.typed_path.proofs.lemmas.promises.WindowsBases.{none-place, plain-joined, found-place, spelled-rest, separators-spelled, spelled-place, Rest, from_root, from_other, read-no_drive, disk_alone-disk, rest-separated, verbatim-no_drive, merged-read}
+use Rattle.typed_path.proofs.lemmas.changes.Joins.{Ending, ending, empty, ended, drive_alone, parted as put}
+use Rattle.typed_path.proofs.lemmas.promises.WindowsBases.{none-place, plain-joined, found-place, spelled-rest, separators-spelled, spelled-place, Rest, read-no_drive, disk_alone-disk, rest-separated, verbatim-no_drive, merged-read}
 use Rattle.typed_path.proofs.lemmas.components.Prefixes.{FoundFits, prefix-fits, prefix-read, separators-windows, backslash-separates, Read, of_disk}
 use Rattle.typed_path.proofs.lemmas.components.FirmPrefixes.{Apart, nothing, parted, share_made, is_firm, firm-long, firm-stays, prefix-apart, three_separators, nothing as bare, filled-long, drive-stays}
 use Rattle.typed_path.proofs.lemmas.components.PartedPrefixes.{FirmEnd, firm-end, firm-more}
 use Rattle.typed_path.proofs.lemmas.lists.Lists.{slice_split-some}
+use Rattle.typed_path.proofs.lemmas.lists.Options.{unless-none, or-none, none-first}
 
 -- A checked push on Windows stays within its base, where the prefix stays.
 
@@ -27,15 +27,13 @@ prefix_kind-none : (t : List ℕ) → prefix_kind windows t ≡ None → prefix_
 prefix_kind-none t e = by (prefix_of windows t) e
   where
     by : (o : Option Found) → option_map (λ f. f.prefix) o ≡ None → o ≡ None
-    by None e = refl
-    by (Some f) e = cc
+    by o e = grind arith
 
 prefix_kind-some : (t : List ℕ) (p : Prefix) → prefix_kind windows t ≡ Some p → (g : Found) × (prefix_of windows t ≡ Some g) × (g.prefix ≡ p)
 prefix_kind-some t p e = by (prefix_of windows t) e
   where
     by : (o : Option Found) → option_map (λ f. f.prefix) o ≡ Some p → (g : Found) × (o ≡ Some g) × (g.prefix ≡ p)
-    by None e = cc
-    by (Some g) e = (g, refl, cc)
+    by o e = grind arith
 
 -- a text is read verbatim where its front is
 plain-front : (front rest : List ℕ) → begins_verbatim (front ++ rest) ≡ false → begins_verbatim front ≡ false
@@ -48,12 +46,7 @@ parts_of-plain t f is plain = parts_of-some t f is ∙ ap (λ b. parts_behind (i
 module _ (base path : List ℕ) (fine : IsFaultless path) where
   -- a base without a prefix
   within-none : (mid : List ℕ) → Ending base mid → prefix_of windows base ≡ None → LiesWithin windows base path (base ++ (mid ++ path))
-  within-none mid ending none stays =
-      let text = base ++ (mid ++ path) in
-      let now = prefix_kind-none text (stays ∙ ap (option_map (λ f. f.prefix)) none) in
-      ap place_of (parts_of-none text now)
-      ∙ none-place path fine base mid ending none
-      ∙ ap₂ (λ ps qs. place_of ps ++ kinds (resolve qs)) (sym (parts_of-none base none)) (sym fine.read)
+  within-none mid ending h stays = grind (arith, ending, prefix_kind-none, place_of, parts_of-none, none-place)
 
   -- a base with a prefix that is not verbatim
   within-found : (mid : List ℕ) (f : Found) → Ending base mid → 0 < length path → prefix_of windows base ≡ Some f → is_verbatim_prefix f.prefix ≡ false → LiesWithin windows base path (base ++ (mid ++ path))
@@ -128,21 +121,9 @@ firm-joined base mid path f is firm other plain no_drive ending =
     by _ e nothing _ (drive_alone drive) = absurd (both_ways _ no_drive drive)
     by _ e nothing _ (put other_drive filled unended) = (parted backslash path refl, omega arith)
 
--- the first of two cases does not hold where neither does
-none-first : {A : Type 0} (o p : Option A) → option_or o p ≡ None → o ≡ None
-none-first None p e = refl
-none-first (Some x) p e = cc
-
 -- two separators that begin a text without a prefix have a third behind them
 third-separates : (a b c : ℕ) (text : List ℕ) → (is_separator Either a && is_separator Either b) ≡ true → prefix_of windows (a ∷ b ∷ c ∷ text) ≡ None → is_separator Either c ≡ true
-third-separates a b c text two none =
-    let whole = a ∷ b ∷ c ∷ text in
-    let s = separators windows whole in
-    let case : unc_case whole ≡ None = none-first (unc_case whole) (disk_case whole)
-    (or-none (device_case whole) _ (or-none (verbatim_case s whole) _ (or-none (verbatim_disk_case whole) _ (or-none (verbatim_unc_case s whole) _ none)))) in
-    let nameless = unless-none (is_empty (name Either (c ∷ text))) _
-    (sym (ap (option_and_then (share_made unc 2 Either)) (cond-true (is_separator Either a && is_separator Either b) (Some (c ∷ text)) None two)) ∙ case) in
-    true_from_ne_false _ (λ plain. omega (arith, name-filled Either c text plain, eqb-true (length (name Either (c ∷ text))) 0 nameless))
+third-separates a b c text two h = grind (arith, none-first, or-none, unless-none, share_made, cond-true, true_from_ne_false, name-filled, eqb-true)
 
 -- a text with a path put behind it that begins with no separator
 module _ (b : ℕ) (path : List ℕ) (plain : is_separator Either b ≡ false) where
@@ -205,13 +186,11 @@ body_parts-some s b bs = let some = slice_split-some (is_separator s) (b ∷ bs)
 
 -- a list that is not empty is spelled with some bytes
 pub rest-filled : (s : Separators) (p : Part) (ps : List Part) (rest : List ℕ) → AreRead s (p ∷ ps) → Rest (p ∷ ps) rest → (length rest == 0) ≡ false
-rest-filled s _ _ _ read (from_root p ps e) = spelled-filled s p ps read.0
-rest-filled s _ _ _ read (from_other p ps e) = ne_eqb _ 0 (λ none. cc)
+rest-filled s p ps rest read h = grind arith
 
 -- a rest that begins with a separator or is empty stands apart
 pub rest-apart : (s : Separators) (rest : List ℕ) → is_separator s backslash ≡ true → (rest ≡ []) ⊎ ((more : List ℕ) × (rest ≡ backslash ∷ more)) → Apart s rest
-rest-apart s rest separates (inl none) = subst (Apart s) (sym none) bare
-rest-apart s rest separates (inr some) = subst (Apart s) (sym some.1) (parted backslash some.0 separates)
+rest-apart s rest separates h = grind (arith, bare, parted)
 
 -- a raw prefix with the rest of its list behind it, and more components at its end, has the same prefix
 pub spelled-keeps : (base rest : List ℕ) (f : Found) (added : List Part) → prefix_of windows base ≡ Some f → is_firm f.prefix ≡ true → is_disk f.prefix ≡ false
@@ -234,12 +213,7 @@ spelled-keeps base rest f added is firm other read spelt separated =
 
 -- where there is a prefix, the base itself does not count
 pub keeps_by_prefix-firm : (base : List ℕ) (p : Prefix) → keeps_by_prefix base (Some p) ≡ is_firm p
-keeps_by_prefix-firm base (verbatim name) = refl
-keeps_by_prefix-firm base (verbatim_unc server share) = refl
-keeps_by_prefix-firm base (verbatim_disk letter) = refl
-keeps_by_prefix-firm base (device_ns name) = refl
-keeps_by_prefix-firm base (unc server share) = refl
-keeps_by_prefix-firm base (disk letter) = refl
+keeps_by_prefix-firm base p = grind arith
 
 module _ (base : List ℕ) (b : ℕ) (bs : List ℕ) (fine : IsFaultless (b ∷ bs)) where
   abbrev path : List ℕ
@@ -298,7 +272,4 @@ keeps base (b ∷ bs) accepted kept = by (prefix_of windows base) refl kept
     fine = faultless (b ∷ bs) accepted
 
     by : (o : Option Found) → prefix_of windows base ≡ o → keeps_by_prefix base (option_map (λ f. f.prefix) o) ≡ true → prefix_kind windows (push_windows base (b ∷ bs)) ≡ option_map (λ f. f.prefix) o
-    by None is kept = none-kept base b bs fine is kept
-    by (Some f) is kept =
-        let firm = sym (keeps_by_prefix-firm base f.prefix) ∙ kept in
-        elim (cases_Bool (is_verbatim_prefix f.prefix)) [ inl marked ↦ verbatim-kept base b bs fine f is firm marked | inr plain ↦ plain-kept base b bs fine f is firm plain ]
+    by o is kept = grind (arith, none-kept, fine, keeps_by_prefix-firm, cases_Bool, verbatim-kept, plain-kept)

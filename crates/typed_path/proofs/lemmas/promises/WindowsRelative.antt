@@ -1,9 +1,9 @@
 -- On Windows the path that leads from a base to another, joined to a base that is not verbatim and keeps its prefix, leads where that leads.
-use Rattle.std.proofs.Common.{◌≡◌, ℕ, suc, ◌<◌, ◌≤◌, Bool, true, false, not, ◌||◌, inl, inr, List, [], ◌∷◌, ◌++◌, length, drop, refl, sym, ap, ap₂, ◌∙◌, append_assoc, append-nil, arith, ne_eqb, subst, Option, Some, None, option_map, length-append}
+use Rattle.std.proofs.Common.{◌≡◌, ℕ, suc, ◌<◌, ◌≤◌, true, false, not, ◌||◌, inl, inr, List, [], ◌∷◌, ◌++◌, length, drop, refl, sym, ap, ap₂, ◌∙◌, append_assoc, append-nil, arith, ne_eqb, subst, Option, Some, None, option_map, length-append}
 use Rattle.std.proofs.lemmas.List.{map-append, drop-append-le, drop_all}
 use Rattle.std.proofs.lemmas.Bool.{both_ways, cases_lt, cases_Bool, cond-false, false_from_ne_true}
 use Rattle.typed_path.specs.declared.scan.separators.Separators.TheVariants.{Either}
-use Rattle.typed_path.specs.components.{windows, backslash, separators, is_separator, Prefix, disk, prefix, root, kinds, parts_of, Found, prefix_of}
+use Rattle.typed_path.specs.components.{windows, backslash, separators, is_separator, Prefix, prefix, root, kinds, parts_of, Found, prefix_of}
 use Rattle.typed_path.specs.queries.{begins_with_root, first_prefix, has_any_verbatim_prefix, is_disk, is_verbatim_prefix}
 use Rattle.typed_path.specs.changes.{push, push_windows, push_behind, raw_prefix, ended_windows, is_disk_alone, spelled, merged}
 use Rattle.typed_path.specs.places.{is_anchored, kept_names, names_down, relative_text, route, steps_up, unmet}
@@ -19,7 +19,7 @@ use Rattle.typed_path.proofs.lemmas.places.KeptNames.{AlikeKept, without_leading
 use Rattle.typed_path.proofs.lemmas.promises.CleanForms.{head-plain, parts-plain}
 use Rattle.typed_path.proofs.lemmas.promises.CleanRead.{names-ups, unmet-ups, ups}
 use Rattle.typed_path.proofs.lemmas.promises.StepsBack.{free-rising, leads-back, same-route, IsRelativeRead, read-relative, stays_relative}
-use Rattle.typed_path.proofs.lemmas.promises.UnixContained.{body_parts-later, rooted-separated, separated-rooted}
+use Rattle.typed_path.proofs.lemmas.promises.UnixContained.{body_parts-later}
 use Rattle.typed_path.proofs.lemmas.promises.WindowsBases.{read-no_drive, disk_alone-disk, disk_alone-filled}
 use Rattle.typed_path.proofs.lemmas.promises.WindowsContained.{firm-joined, keeps_by_prefix-firm, none-joined}
 use Rattle.typed_path.proofs.lemmas.promises.WindowsStable.{push-first}
@@ -35,11 +35,7 @@ data End : List ℕ → List ℕ → Type 0 where
 
 -- a text begins with a root where its first byte separates
 rooted-first : (c : ℕ) (cs : List ℕ) → begins_with_root (body_kinds Either (c ∷ cs)) ≡ is_separator Either c
-rooted-first c cs = by (is_separator Either c) refl
-  where
-    by : (b : Bool) → is_separator Either c ≡ b → begins_with_root (body_kinds Either (c ∷ cs)) ≡ b
-    by true e = separated-rooted Either c cs e
-    by false e = false_from_ne_true _ (λ rooted. both_ways (is_separator Either c) e (rooted-separated Either c cs rooted))
+rooted-first c cs = grind arith
 
 module _ (t : List ℕ) (relative : begins_with_root (body_kinds Either t) ≡ false) where
   later : AlikeKept (kinds (later_parts Either (pieces Either t))) (body_kinds Either t)
@@ -79,11 +75,7 @@ none-anchored t none = bare-anchored (kinds_of windows t) ((head-plain windows t
 
 -- nothing is pushed, or a text onto nothing
 joined-nothing : (base : List ℕ) → Joined base []
-joined-nothing base = record {
-  prefix = refl;
-  anchored = refl;
-  alike = record { unmet = ap unmet (sym (append-nil (kinds_of windows base))); names = ap kept_names (sym (append-nil (kinds_of windows base))) };
-}
+joined-nothing base = grind (arith, append-nil, kinds_of)
 
 joined-first : (r : List ℕ) → prefix_of windows r ≡ None → begins_with_root (body_kinds Either r) ≡ false → Joined [] r
 joined-first r none relative =
@@ -177,8 +169,7 @@ module _ (base : List ℕ) (b : ℕ) (path : List ℕ) (none : prefix_of windows
           absurd (both_ways _ other (ap is_disk_alone (own ∙ ap (λ u. prefix f.prefix ∷ body_kinds Either u) e) ∙ is_alone f.prefix drives))
         where
           is_alone : (p : Prefix) → is_disk p ≡ true → is_disk_alone (prefix p ∷ []) ≡ true
-          is_alone (disk letter) h = refl
-          is_alone p h = cc
+          is_alone p h = grind arith
 
       by : (m : List ℕ) → Ending base m → End (drop f.length base) m
       by _ (empty e) = absurd (omega (arith, fits.filled, fits.fits, ap length e))
@@ -190,9 +181,7 @@ module _ (base : List ℕ) (b : ℕ) (path : List ℕ) (none : prefix_of windows
         where
           none_behind : (u : List ℕ) → drop f.length base ≡ u → End u []
           none_behind [] g = bare
-          none_behind (c ∷ cs) g =
-              absurd (both_ways _ (disk_alone-filled (separators windows base) f.prefix c cs)
-              (ap (λ v. is_disk_alone (prefix f.prefix ∷ body_kinds (separators windows base) v)) (sym g) ∙ ap is_disk_alone (sym (kinds-found base f is)) ∙ e))
+          none_behind (c ∷ cs) g = grind (arith, both_ways, disk_alone-filled, body_kinds, kinds-found)
       by _ (parted other some unended) = put (drop f.length base)
 
 -- The law.
@@ -208,12 +197,7 @@ relative-alike path base r h =
     }
 
 joined-route : (path base r : List ℕ) → IsRelativeRead windows (kinds_of windows path) (kinds_of windows base) r → Joined base r → route windows (push_windows base r) ≡ route windows path
-joined-route path base r h j =
-    let ks = kinds_of windows path in
-    let ls = kinds_of windows base in
-    let ms = kinds_of windows (push_windows base r) in
-    let steps = alike-append ls (kinds_of windows r) (ups (steps_up ks ls) (names_down ks ls)) (relative-alike path base r h) in
-    same-route ks ls ms h.reached j.prefix (leads-back ks ls ms h.reached j.anchored (record { unmet = j.alike.unmet ∙ steps.unmet; names = j.alike.names ∙ steps.names }))
+joined-route path base r h j = grind (arith, kinds_of, alike-append, ups, relative-alike, same-route, leads-back)
 
 pub firm-kept : (base : List ℕ) (f : Found) → prefix_of windows base ≡ Some f → keeps_prefix windows base ≡ true → is_firm f.prefix ≡ true
 firm-kept base f is kept = sym (keeps_by_prefix-firm base f.prefix) ∙ ap (λ o. keeps_by_prefix base (option_map (λ g. g.prefix) o)) (sym is) ∙ kept

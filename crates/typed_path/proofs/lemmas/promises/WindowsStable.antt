@@ -1,22 +1,23 @@
 -- The normal text of Windows is stable, where no name has a byte that no name may have.
-use Rattle.std.proofs.Common.{◌≡◌, ℕ, Bool, true, false, if◌then◌else◌, List, [], ◌∷◌, ◌++◌, map, Option, Some, None, refl, sym, ap, ◌∙◌, ◌<◌, length, take, append_assoc, append-nil, length-take, arith, ◌≤◌, ◌⊎◌, inl, inr, drop, option_map, ap₂, subst, take_all}
+use Rattle.std.proofs.Common.{◌≡◌, ℕ, true, false, if◌then◌else◌, List, [], ◌∷◌, ◌++◌, map, Option, Some, None, refl, sym, ap, ◌∙◌, ◌<◌, length, take, append_assoc, append-nil, length-take, arith, ◌≤◌, ◌⊎◌, inl, inr, drop, option_map, ap₂, subst, take_all}
+use Rattle.std.proofs.lemmas.Grind.{common_steps}
 use Rattle.std.specs.List.{AllByRecursion}
-use Rattle.std.proofs.lemmas.Bool.{both_ways, cases_Bool, cases_lt, cond-true}
+use Rattle.std.proofs.lemmas.Bool.{cases_Bool, cases_lt, cond-true}
 use Rattle.std.proofs.lemmas.List.Elements.{All-head}
 use Rattle.std.proofs.lemmas.List.{drop_all}
 use Rattle.typed_path.specs.declared.scan.separators.Separators.{Separators}
-use Rattle.typed_path.specs.declared.scan.separators.Separators.TheVariants.{Backslash, Either}
+use Rattle.typed_path.specs.declared.scan.separators.Separators.TheVariants.{Either}
 use Rattle.typed_path.specs.components.{windows, backslash, separators, is_separator, Dialect, unix, Part, kinds, texts, name_part, disk, root_part, verbatim, verbatim_disk, prefix_part, Found, found, drive, prefix_of, parts_of}
-use Rattle.typed_path.specs.queries.{begins_with_root, has_prefix, is_disk, is_verbatim_prefix, has_any_verbatim_prefix, have_allowed_bytes}
-use Rattle.typed_path.specs.changes.{push_all, push_windows, spelled, is_disk_alone, ended_with, ended_windows, merged, raw_prefix, raw_length}
-use Rattle.typed_path.specs.places.{normal_text, resolve, with_implied_root}
+use Rattle.typed_path.specs.queries.{begins_with_root, is_disk, is_verbatim_prefix, has_any_verbatim_prefix, have_allowed_bytes}
+use Rattle.typed_path.specs.changes.{push_all, push_windows, spelled, ended_windows, merged}
+use Rattle.typed_path.specs.places.{normal_text, resolve}
 use Rattle.typed_path.specs.promises.{with_drive_root, IsStableForm, is_verbatim_unc_name, StaysStable, HasNormalForm}
 use Rattle.typed_path.proofs.lemmas.places.Resolving.{texts-names, resolve-kept, resolve-same, with_drive_root-kept, with_drive_root-place, resolve-read, with_drive_root-rooted}
 use Rattle.typed_path.proofs.lemmas.components.WindowsNames.{IsPlain, Settled, prefix_parts, text_of, settled-read, push_all-settled, plain-no_prefix, rooted-none, IsHead, a_root, a_name, Resolved, unrooted, rooted, resolved, allowed-resolve, push-plain}
-use Rattle.typed_path.proofs.lemmas.components.Prefixes.{OfWindows, separators-windows, backslash-separates, drive-size, some_is, drive-take, prefix-fits, Read, of_disk, prefix-read}
+use Rattle.typed_path.proofs.lemmas.components.Prefixes.{OfWindows, separators-windows, backslash-separates, drive-size, drive-take, prefix-fits, Read, of_disk, prefix-read}
 use Rattle.typed_path.proofs.lemmas.components.PrefixCuts.{plain-none, parts_of-none, parts_of-some}
-use Rattle.typed_path.proofs.lemmas.components.FirmPrefixes.{Apart, nothing, parted, drive-extends, drive-stays}
-use Rattle.typed_path.proofs.lemmas.components.PartedPrefixes.{parted-stays, root-behind, raw-whole, drive-plain}
+use Rattle.typed_path.proofs.lemmas.components.FirmPrefixes.{Apart, nothing, parted, drive-stays}
+use Rattle.typed_path.proofs.lemmas.components.PartedPrefixes.{parted-stays, root-behind, raw-whole}
 use Rattle.typed_path.proofs.lemmas.components.Segments.{body_parts, body_parts-read}
 use Rattle.typed_path.proofs.lemmas.promises.UnixContained.{canonical_form}
 
@@ -29,25 +30,11 @@ pub record IsReadAgain (ps : List Part) : Type 0 where
 
 -- where the list that a path resolves to is, its normal text is stable
 pub stable-again : (t : List ℕ) → IsReadAgain (resolve (parts_of windows t)) → IsStableForm t (normal_text windows t)
-stable-again t again =
-    let ps = resolve (parts_of windows t) in
-    let settled : resolve (with_drive_root ps) ≡ with_drive_root ps = resolve-same (with_drive_root ps) (with_drive_root-kept ps (resolve-kept (parts_of windows t))) in
-    let twice = ap resolve again.reads ∙ settled in
-    record {
-      reads = again.reads;
-      same_place = ap (λ qs. with_implied_root (kinds qs)) twice ∙ with_drive_root-place ps;
-      stays = ap (λ qs. push_all windows [] (texts qs)) twice ∙ again.same_text;
-    }
+stable-again t again = grind (arith, resolve-same, with_drive_root-kept, resolve-kept, with_drive_root-place)
 
 -- a text pushed onto the empty one is that text
 pub push-first : (t : List ℕ) → push_windows [] t ≡ t
-push-first [] = refl
-push-first (b ∷ bs) = by (has_prefix (kinds (parts_of windows (b ∷ bs)))) (begins_with_root (kinds (parts_of windows (b ∷ bs))))
-  where
-    by : (prefixed has_root : Bool) → (if prefixed then b ∷ bs else (if has_root then b ∷ bs else b ∷ bs)) ≡ b ∷ bs
-    by true has_root = refl
-    by false true = refl
-    by false false = refl
+push-first t = grind arith
 
 module _ (raw : List ℕ) (o : Option Found) (s : Separators) (q : Part) (h : Settled raw o s q) where
   -- where the first texts are pushed to a settled text, names behind it are
@@ -60,8 +47,7 @@ module _ (raw : List ℕ) (o : Option Found) (s : Separators) (q : Part) (h : Se
     where
       by : (o : Option Found) → push_all windows [] (texts (prefix_parts o raw ++ q ∷ [])) ≡ raw ++ q.text
           → push_all windows [] (texts (prefix_parts o raw ++ q ∷ map name_part names)) ≡ push_all windows (raw ++ q.text) (texts (map name_part names))
-      by None first = ap (λ t. push_all windows t (texts (map name_part names))) first
-      by (Some f) first = ap (λ t. push_all windows t (texts (map name_part names))) first
+      by o first = grind arith
 
   -- so the list is read again
   pub settled-again : (names : List (List ℕ)) → AllByRecursion IsPlain names → push_all windows [] (texts (prefix_parts o raw ++ q ∷ [])) ≡ raw ++ q.text
@@ -95,55 +81,26 @@ headed-none _ (name ∷ names) a_root plain =
 
 -- under no prefix
 pub settled-none : (q : Part) → IsHead q → Settled [] None Either q
-settled-none q head = record {
-  of_windows = refl;
-  whole = refl;
-  head = head;
-  rooted = λ f e. absurd (none e);
-  stays = λ names plain. let is = headed-none q names head plain in (ap (λ b. if b then Backslash else Either) (plain-none (spelled (q ∷ map name_part names)) is), is);
-}
-  where
-    none : {f : Found} → None ≡ Some f → ⊥
-    none e = cc
+settled-none q head = grind (arith, headed-none, plain-none)
 
 -- under a drive
 pub settled-drive : (t : List ℕ) (letter : ℕ) (q : Part) → drive t ≡ Some letter → IsHead q → Settled (take 2 t) (Some (found (disk letter) 2)) Either q
-settled-drive t letter q is head = record {
-  of_windows = refl;
-  whole = omega (arith, length-take 2 t, drive-size t letter is);
-  head = head;
-  rooted = λ f e marked. absurd (both_ways (is_verbatim_prefix f.prefix) (ap (λ g. is_verbatim_prefix g.prefix) (sym (some_is e))) marked);
-  stays = λ names plain.
-      let rest = spelled (q ∷ map name_part names) in
-      (ap (λ b. if b then Backslash else Either) (drive-plain (take 2 t ++ rest) letter (drive-extends (take 2 t) rest letter cut)), drive-stays (take 2 t) rest letter cut);
-}
-  where
-    cut : drive (take 2 t) ≡ Some letter
-    cut = drive-take 2 t (omega arith) ∙ is
+settled-drive t letter q is head = grind (arith, common_steps)
 
 -- a root, with names behind it, begins with a separator
 rooted-apart : (s : Separators) → OfWindows s → (names : List (List ℕ)) → Apart s (spelled (root_part (backslash ∷ []) ∷ map name_part names)) × (0 < length (spelled (root_part (backslash ∷ []) ∷ map name_part names)))
-rooted-apart s w [] = (parted backslash [] (backslash-separates s w), omega arith)
-rooted-apart s w (name ∷ names) = (parted backslash _ (backslash-separates s w), omega arith)
+rooted-apart s w names = grind (arith, parted, backslash-separates)
 
 -- under another prefix with more behind it
 pub settled-parted : (t : List ℕ) (f : Found) → prefix_of windows t ≡ Some f → is_disk f.prefix ≡ false → is_verbatim_unc_name (Some f.prefix) ≡ false → f.length < length t
     → Settled (take f.length t) (Some f) (separators windows t) (root_part (backslash ∷ []))
-settled-parted t f is other no_unc more = record {
-  of_windows = separators-windows t;
-  whole = omega (arith, length-take f.length t, more);
-  head = a_root;
-  rooted = λ g e marked. refl;
-  stays = λ names plain. let apart = rooted-apart (separators windows t) (separators-windows t) names in parted-stays t _ f is other no_unc more apart.0 (λ e. apart.1);
-}
+settled-parted t f is other no_unc more = grind (arith, separators-windows, length-take, a_root, rooted, rooted-apart, parted-stays)
 
 -- The normal text of Windows is stable, where no name has a byte that no name may have and the prefix is not the verbatim one named `UNC`.
 
 -- a prefix and nothing else is read as that
 pub prefix-alone : (raw : List ℕ) (g : Found) → prefix_of windows raw ≡ Some g → g.length ≡ length raw → parts_of windows raw ≡ prefix_part g.prefix raw ∷ []
-prefix-alone raw g is whole =
-    parts_of-some raw g is
-    ∙ ap₂ (λ t u. prefix_part g.prefix t ∷ body_parts (separators windows raw) u) (take_all g.length raw (omega (arith, whole))) (drop_all g.length raw (omega (arith, whole)))
+prefix-alone raw g is whole = grind (arith, common_steps)
 
 -- so it is read again
 alone-again : (raw : List ℕ) (g : Found) → prefix_of windows raw ≡ Some g → g.length ≡ length raw → IsReadAgain (prefix_part g.prefix raw ∷ [])
@@ -151,15 +108,7 @@ alone-again raw g is whole = record { reads = ap (parts_of windows) (push-first 
 
 -- a root pushed onto a prefix and nothing else is put behind it
 pub push-root : (raw : List ℕ) (g : Found) → prefix_of windows raw ≡ Some g → g.length ≡ length raw → push_windows raw (backslash ∷ []) ≡ raw ++ backslash ∷ []
-push-root raw g is whole =
-    by (has_any_verbatim_prefix (kinds (parts_of windows raw)))
-    (ap (λ ps. spelled (merged ps (root_part (backslash ∷ []) ∷ []))) (prefix-alone raw g is whole) ∙ ap (λ t. t ++ backslash ∷ []) (append-nil raw))
-    (ap (λ o. take (raw_length o) raw ++ backslash ∷ []) is ∙ ap (λ t. t ++ backslash ∷ []) (take_all g.length raw (omega (arith, whole))))
-  where
-    by : (verbatim : Bool) → spelled (merged (parts_of windows raw) (root_part (backslash ∷ []) ∷ [])) ≡ raw ++ backslash ∷ [] → raw_prefix raw ++ backslash ∷ [] ≡ raw ++ backslash ∷ []
-        → (if verbatim then spelled (merged (parts_of windows raw) (root_part (backslash ∷ []) ∷ [])) else raw_prefix raw ++ backslash ∷ []) ≡ raw ++ backslash ∷ []
-    by true one other = one
-    by false one other = other
+push-root raw g is whole = grind (arith, common_steps)
 
 -- under no prefix
 none-again : (ps : List Part) → Resolved ps → IsReadAgain ps
@@ -167,19 +116,15 @@ none-again _ (unrooted [] plain) = record { reads = refl; same_text = refl }
 none-again _ (unrooted (name ∷ names) plain) = settled-again [] None Either (name_part name) (settled-none (name_part name) (a_name name plain.0)) names plain.1 (push-first name) (same names)
   where
     same : (ns : List (List ℕ)) → with_drive_root (name_part name ∷ map name_part ns) ≡ name_part name ∷ map name_part ns
-    same [] = refl
-    same (n ∷ ns) = refl
+    same ns = grind arith
 none-again _ (rooted names plain) = settled-again [] None Either (root_part (backslash ∷ [])) (settled-none (root_part (backslash ∷ [])) a_root) names plain (push-first (backslash ∷ [])) (same names)
   where
     same : (ns : List (List ℕ)) → with_drive_root (root_part (backslash ∷ []) ∷ map name_part ns) ≡ root_part (backslash ∷ []) ∷ map name_part ns
-    same [] = refl
-    same (n ∷ ns) = refl
+    same ns = grind arith
 
 -- a drive with a name or a root pushed onto it
 pub push-drive : (raw : List ℕ) (letter : ℕ) (name : List ℕ) → parts_of windows raw ≡ prefix_part (disk letter) raw ∷ [] → IsPlain name → push_windows raw name ≡ raw ++ name
-push-drive raw letter name read plain =
-    push-plain raw name plain
-    ∙ ap (λ ps. if has_any_verbatim_prefix (kinds ps) then spelled (merged ps (name_part name ∷ [])) else (if is_disk_alone (kinds ps) then raw else ended_with backslash raw) ++ name) read
+push-drive raw letter name read plain = grind (arith, push-plain)
 
 -- the raw text of a drive is a drive
 pub drive-raw : (t : List ℕ) (letter : ℕ) → drive t ≡ Some letter → prefix_of windows (take 2 t) ≡ Some (found (disk letter) 2)

@@ -5,20 +5,20 @@ use Rattle.std.proofs.lemmas.List.{map-append, drop-append-le, drop_all, length-
 use Rattle.std.proofs.lemmas.Bool.{both_ways, cases_lt, cases_Bool, cond-true, cond-false}
 use Rattle.typed_path.specs.declared.scan.separators.Separators.{Separators}
 use Rattle.typed_path.specs.declared.scan.separators.Separators.TheVariants.{Either}
-use Rattle.typed_path.specs.components.{windows, backslash, separators, Prefix, disk, Kind, prefix, root, normal, kinds, Found, prefix_of, parts_of}
+use Rattle.typed_path.specs.components.{windows, backslash, separators, Prefix, Kind, prefix, root, normal, kinds, Found, prefix_of, parts_of}
 use Rattle.typed_path.specs.queries.{begins_with_root, first_prefix, has_prefix, has_any_verbatim_prefix, is_absolute, is_disk, is_verbatim_prefix}
 use Rattle.typed_path.specs.changes.{push, push_windows, push_behind, raw_prefix, raw_length, ended_windows, is_disk_alone, spelled, merged}
 use Rattle.typed_path.specs.places.{place, unmet, kept_names, headed, head_of, is_within}
 use Rattle.typed_path.specs.promises.{IsBelow, without_leading_current}
 use Rattle.typed_path.proofs.lemmas.components.Segments.{body_parts}
 use Rattle.typed_path.proofs.lemmas.components.Prefixes.{FoundFits, drive-take, prefix-fits, prefix-read, Read, of_disk}
-use Rattle.typed_path.proofs.lemmas.components.PrefixCuts.{parts_of-none, parts_of-some, verbatim-some, unprefixed}
+use Rattle.typed_path.proofs.lemmas.components.PrefixCuts.{parts_of-none, parts_of-some, unprefixed}
 use Rattle.typed_path.proofs.lemmas.components.FirmPrefixes.{Apart, parted as apart, is_firm, firm-long, firm-stays, drive-stays}
 use Rattle.typed_path.proofs.lemmas.components.PartedPrefixes.{firm-end, firm-more, either}
 use Rattle.typed_path.proofs.lemmas.changes.Joins.{Ending, ending, empty, ended, drive_alone, parted, body_parts-more, body_parts-behind}
 use Rattle.typed_path.proofs.lemmas.order.DifferentPrefixes.{first-found}
 use Rattle.typed_path.proofs.lemmas.places.KeptNames.{kept_names-append, without_leading_current-kept, place-kept}
-use Rattle.typed_path.proofs.lemmas.promises.UnixContained.{body_parts-later, begins-append, rooted-separated, separated-rooted}
+use Rattle.typed_path.proofs.lemmas.promises.UnixContained.{body_parts-later, begins-append, rooted-separated}
 use Rattle.typed_path.proofs.lemmas.promises.WindowsContained.{firm-joined}
 use Rattle.typed_path.proofs.lemmas.promises.Within.{kinds_of, Leading, Replaces, prefixed-below}
 
@@ -38,13 +38,11 @@ pub prefix_of-none : (t : List ℕ) → first_prefix (kinds_of windows t) ≡ No
 prefix_of-none t bare = by (prefix_of windows t) refl
   where
     by : (o : Option Found) → prefix_of windows t ≡ o → o ≡ None
-    by None e = refl
-    by (Some f) e = let one : Some f.prefix ≡ None = first-found t f e ∙ bare in cc
+    by o e = grind (arith, first-found)
 
 -- a path with a prefix replaces
 pub replaces : (dir : List ℕ) → Replaces windows dir
-replaces dir [] prefixed = cc
-replaces dir (b ∷ path) prefixed = cond-true (has_prefix (kinds_of windows (b ∷ path))) (b ∷ path) _ prefixed
+replaces dir h prefixed = grind arith
 
 -- what is pushed otherwise
 pub push-bare : (dir : List ℕ) (b : ℕ) (path : List ℕ) → prefix_of windows (b ∷ path) ≡ None
@@ -68,18 +66,13 @@ place-under v p B is rooted =
 -- An absolute directory is not a drive alone, and has a prefix.
 
 pub absolute-prefixed : (ks : List Kind) → is_absolute windows ks ≡ true → has_prefix ks ≡ true
-absolute-prefixed [] absolute = cc
-absolute-prefixed (prefix p ∷ ks) absolute = refl
-absolute-prefixed (k ∷ ks) absolute = cc
+absolute-prefixed ks absolute = grind arith
 
 absolute-rooted : (p : Prefix) (ks : List Kind) → is_absolute windows (prefix p ∷ ks) ≡ true → is_disk p ≡ true → begins_with_root ks ≡ true
-absolute-rooted (disk letter) ks absolute drives = absolute
-absolute-rooted p ks absolute drives = cc
+absolute-rooted p ks absolute drives = grind arith
 
 disk-rooted : (p : Prefix) (ks : List Kind) → (is_disk p ≡ true → begins_with_root ks ≡ true) → is_disk_alone (prefix p ∷ ks) ≡ false
-disk-rooted (disk letter) [] h = let e : false ≡ true = h refl in cc
-disk-rooted (disk letter) (k ∷ ks) h = refl
-disk-rooted p ks h = refl
+disk-rooted p ks h = grind arith
 
 pub kinds-plain : (text : List ℕ) (f : Found) → prefix_of windows text ≡ Some f → separators windows text ≡ Either → kinds_of windows text ≡ prefix f.prefix ∷ body_kinds Either (drop f.length text)
 kinds-plain text f is plain = kinds-found text f is ∙ ap (λ s. prefix f.prefix ∷ body_kinds s (drop f.length text)) plain
@@ -94,8 +87,7 @@ names-parted (c ∷ cs) =
     ∙ append-nil (body_parts Either (c ∷ cs)))
 
 rooted-more : (rest mid : List ℕ) → begins_with_root (body_kinds Either rest) ≡ true → begins_with_root (body_kinds Either (rest ++ mid)) ≡ true
-rooted-more [] mid e = cc
-rooted-more (c ∷ cs) mid e = separated-rooted Either c (cs ++ mid) (rooted-separated Either c cs e)
+rooted-more rest mid e = grind arith
 
 -- a directory whose prefix is firm and not verbatim
 module _ (dir : List ℕ) (f : Found) (is : prefix_of windows dir ≡ Some f) (firm : is_firm f.prefix ≡ true) (plain : is_verbatim_prefix f.prefix ≡ false) (absolute : is_absolute windows (kinds_of windows dir) ≡ true) where
@@ -158,9 +150,7 @@ module _ (dir : List ℕ) (f : Found) (is : prefix_of windows dir ≡ Some f) (f
 
   -- what is pushed stands behind the directory
   pushed : (b : ℕ) (path : List ℕ) → prefix_of windows (b ∷ path) ≡ None → push_windows dir (b ∷ path) ≡ push_behind dir (b ∷ path)
-  pushed b path none =
-      push-bare dir b path none
-      ∙ cond-false (has_any_verbatim_prefix (kinds_of windows dir)) (spelled (merged (parts_of windows dir) (parts_of windows (b ∷ path)))) (push_behind dir (b ∷ path)) (verbatim-some dir f is ∙ plain)
+  pushed b path h = grind (arith, push-bare, cond-false)
 
   -- a path with a root stands behind the prefix
   rooted-place : (t : List ℕ) → prefix_of windows t ≡ None → begins_with_root (kinds_of windows t) ≡ true → place windows (push windows dir t) ≡ under f.prefix (kept_names (kinds_of windows t))

@@ -1,10 +1,11 @@
 -- A path that is within a base lies below it, from each directory of which is known where paths lead behind it.
-use Rattle.std.proofs.Common.{◌≡◌, ℕ, ◌-◌, ◌==◌, ◌≤◌, Bool, true, false, not, ◌&&◌, ◌||◌, inl, inr, List, [], ◌∷◌, ◌++◌, map, if◌then◌else◌, length, take, drop, refl, sym, ap, ap₂, ◌∙◌, append_assoc, append-nil, take-append-drop, arith, nat_le, eq-eqb, Option, Some, None}
+use Rattle.std.proofs.Common.{◌≡◌, ℕ, ◌-◌, ◌==◌, ◌≤◌, Bool, true, false, not, ◌&&◌, ◌||◌, inl, inr, List, [], ◌++◌, map, if◌then◌else◌, length, take, drop, refl, sym, ap, ap₂, ◌∙◌, append_assoc, append-nil, take-append-drop, arith, nat_le, eq-eqb, Option, Some, None}
+use Rattle.std.proofs.lemmas.Grind.{common_steps}
 use Rattle.std.specs.Prelude.{is_some}
 use Rattle.std.specs.List.{starts_with}
 use Rattle.std.specs.Str.{bytes_eq}
 use Rattle.std.specs.Cmp.{Equal-is}
-use Rattle.std.proofs.lemmas.Bool.{eqb-true, and_parts, or_cases, both_ways, leb-true, le-leb, not-true, or_right}
+use Rattle.std.proofs.lemmas.Bool.{eqb-true, and_parts, or_cases, both_ways, leb-true, le-leb, not-true}
 use Rattle.std.proofs.lemmas.List.{map-append, take-take}
 use Rattle.std.proofs.lemmas.Slice.Eq.{starts_is, bytes_eq-Decides}
 use Rattle.typed_path.specs.components.{Dialect, Prefix, Kind, prefix, normal, kinds, parts_of}
@@ -21,15 +22,11 @@ kinds_of d t = kinds (parts_of d t)
 -- Heads.
 
 pub has_prefix-first : (ks : List Kind) → has_prefix ks ≡ is_some (first_prefix ks)
-has_prefix-first [] = refl
-has_prefix-first (prefix p ∷ ks) = refl
-has_prefix-first (k ∷ ks) = refl
+has_prefix-first ks = grind arith
 
 -- without a prefix a root is written
 pub bare-anchored : (ks : List Kind) → first_prefix ks ≡ None → is_anchored ks ≡ begins_with_root ks
-bare-anchored [] bare = refl
-bare-anchored (prefix p ∷ ks) bare = cc
-bare-anchored (k ∷ ks) bare = refl
+bare-anchored ks bare = grind arith
 
 pub bare-head : (ks : List Kind) (b : Bool) → first_prefix ks ≡ None → begins_with_root ks ≡ b → head_of ks ≡ headed None b
 bare-head ks b bare e = ap₂ headed bare (bare-anchored ks bare ∙ e)
@@ -53,22 +50,17 @@ same-prefix None (Some q) e = cc
 same-prefix (Some p) None e = cc
 
 pub test-same : (a : Bool) → (if a then a else not a) ≡ true
-test-same true = refl
-test-same false = refl
+test-same a = grind arith
 
 pub same-test : (a b : Bool) → (if a then b else not b) ≡ true → a ≡ b
-same-test true b e = sym e
-same-test false true e = cc
-same-test false false e = refl
+same-test a b e = grind arith
 
 nothing : (names : List (List ℕ)) → (length names == 0) ≡ true → names ≡ []
-nothing [] e = refl
-nothing (name ∷ names) e = let none = eqb-true (length (name ∷ names)) 0 e in absurd (omega (arith, none))
+nothing names e = grind (arith, common_steps)
 
 -- parents that lead above are those that find no name, without a root
 unmet-rising : (ks ls : List Kind) → is_anchored ks ≡ is_anchored ls → rising ks ≡ rising ls → is_anchored ls ≡ false → unmet ks ≡ unmet ls
-unmet-rising ks ls same level e =
-    ap (λ c. if c then 0 else unmet ks) (sym (same ∙ e)) ∙ level ∙ ap (λ c. if c then 0 else unmet ls) e
+unmet-rising ks ls same level e = grind arith
 
 told : (ks ls : List Kind) → (leads_within ks ls || holds_all ks ls) ≡ true → IsTold ks ls
 told ks ls asked = elim (or_cases (leads_within ks ls) (holds_all ks ls) asked) [
@@ -92,10 +84,7 @@ told ks ls asked = elim (or_cases (leads_within ks ls) (holds_all ks ls) asked) 
 ]
   where
     by : (b : Bool) → is_anchored ls ≡ b → kept_names ls ≡ [] → (if b then not (has_prefix ls) else not (is_anchored ks) && nat_le (unmet ks) (unmet ls)) ≡ true → Leads ks ls
-    by true e none why = under_root e (not-true (has_prefix ls) why) none
-    by false e none why =
-        let low = and_parts (not (is_anchored ks)) _ why in
-        under_parents (not-true (is_anchored ks) low.0) e (leb-true (unmet ks) (unmet ls) low.1) none
+    by b e h why = grind (arith, not-true, and_parts, leb-true)
 
 -- The other way round, of lists without a prefix.
 
@@ -110,12 +99,7 @@ module _ (ks ls : List Kind) (bare : first_prefix ks ≡ None) (bare_base : firs
       ∙ ap₂ (λ b c. b && c) (eq-eqb (rising ks) (rising ls) level) begun)
 
   held : (b : Bool) → is_anchored ls ≡ b → (if b then not (has_prefix ls) else not (is_anchored ks) && nat_le (unmet ks) (unmet ls)) ≡ true → kept_names ls ≡ [] → (leads_within ks ls || holds_all ks ls) ≡ true
-  held b e why none =
-      or_right (leads_within ks ls) (holds_all ks ls)
-      (ap₂ (λ o r. are_same_prefixes o r && (length (kept_names ls) == 0) && (if is_anchored ls then not (has_prefix ls) else not (is_anchored ks) && nat_le (unmet ks) (unmet ls))) bare bare_base
-      ∙ ap (λ names. (length names == 0) && (if is_anchored ls then not (has_prefix ls) else not (is_anchored ks) && nat_le (unmet ks) (unmet ls))) none
-      ∙ ap (λ c. if c then not (has_prefix ls) else not (is_anchored ks) && nat_le (unmet ks) (unmet ls)) e
-      ∙ why)
+  held b e why h = grind arith
 
   pub root-true : is_anchored ls ≡ true → kept_names ls ≡ [] → (leads_within ks ls || holds_all ks ls) ≡ true
   root-true rooted = held true rooted (ap not (has_prefix-first ls ∙ ap is_some bare_base))
@@ -167,10 +151,7 @@ module _ (d : Dialect) (base t : List ℕ) where
     behind v = l.before ++ (take (length l.own - unmet (kinds_of d v)) l.own ++ kept_names (kinds_of d v))
 
     from : (names others more : List (List ℕ)) → place d (push d dir t) ≡ l.head ++ map normal names → place d (push d dir base) ≡ l.head ++ map normal others → names ≡ others ++ more → IsBelow d (push d dir base) (push d dir t)
-    from names others more leads leads_base begins = record {
-      names = more;
-      leads = leads ∙ ap (λ ns. l.head ++ map normal ns) begins ∙ more-behind l.head others more ∙ ap (λ ks. ks ++ map normal more) (sym leads_base);
-    }
+    from names others more leads leads_base begins = grind (arith, more-behind)
 
     -- as many parents left over: the names go on
     level-names : (n : ℕ) (names more : List (List ℕ)) → l.before ++ (take n l.own ++ (names ++ more)) ≡ (l.before ++ (take n l.own ++ names)) ++ more
@@ -202,9 +183,7 @@ module _ (d : Dialect) (base t : List ℕ) where
 
             rooted : (b : Bool) → begins_with_root L ≡ b → IsBelow d (push d dir base) (push d dir t)
             rooted true e = from (kept_names K) (kept_names L) more (l.rooted t bare (own ∙ e)) (l.rooted base bare_base e) begins
-            rooted false e =
-                from (behind t) (behind base) more (l.relative t bare (own ∙ e)) (l.relative base bare_base e)
-                (ap₂ (λ n names. l.before ++ (take (length l.own - n) l.own ++ names)) (level (begun ∙ e)) begins ∙ level-names (length l.own - unmet L) (kept_names L) more)
+            rooted false e = grind (arith, from, own, bare_base, begun, level-names)
         by (under_root anchored none_base none) = own (begins_with_root K) refl
           where
             leads_base : place d (push d dir base) ≡ l.head ++ map normal (kept_names L)

@@ -1,5 +1,6 @@
 -- The beginning and the end of a path compared with another, and a base taken off.
 use Rattle.std.proofs.Common.{◌≡◌, ℕ, zero, suc, ◌+◌, ◌<◌, ◌≤◌, List, [], ◌∷◌, Bool, true, false, ◌&&◌, cond, length, drop, replicate, refl, sym, ap, ◌∙◌, arith, ◌-◌, ◌++◌, take, append_assoc, length-take, Some, None, Option, drop-drop, length-drop, length-append}
+use Rattle.std.proofs.lemmas.Grind.{common_steps}
 use Rattle.std.specs.List.{starts_with, ends_with}
 use Rattle.std.specs.Str.{bytes_eq}
 use Rattle.std.proofs.Math.Seq.{take-append_seam}
@@ -14,7 +15,7 @@ use Rattle.typed_path.specs.components.{Dialect, windows, separators, is_separat
 use Rattle.typed_path.specs.scan.{first_part, last_part, is_clean, front, left, slice_after_front, but_last, start_at, slice_after, fronts, backs}
 use Rattle.typed_path.specs.queries.{path_starts_with, stripped}
 use Rattle.typed_path.specs.changes.{raw_length}
-use Rattle.typed_path.proofs.lemmas.components.Cuts.{comps-laid_out, body-filled}
+use Rattle.typed_path.proofs.lemmas.components.Cuts.{comps-laid_out}
 use Rattle.typed_path.proofs.lemmas.scan.Readings.{stepwise_slices, left-taken, left-front}
 use Rattle.typed_path.proofs.lemmas.scan.Steps.{last_pushed, last_part-push}
 use Rattle.typed_path.proofs.lemmas.components.Segments.{later_body-separator, body_from-starts, body_from-append, body_from-separator}
@@ -32,36 +33,24 @@ backs-replicate (suc k) = backs-replicate k
 
 -- one more step from the front
 pub slice_after-more : (k : ℕ) (cs : List Placed) (slice : List ℕ) → slice_after cs slice (replicate (suc k) front) ≡ slice_after_front (drop k cs) (slice_after cs slice (replicate k front))
-slice_after-more zero cs slice = refl
-slice_after-more (suc k) cs slice =
-    let next : 1 + k ≡ suc k = omega arith in
-    slice_after-more k (drop 1 cs) (slice_after_front cs slice)
-    ∙ ap (λ ds. slice_after_front ds (slice_after cs slice (replicate (suc k) front))) (drop-drop k 1 cs ∙ ap (λ n. drop n cs) next)
+slice_after-more zero cs slice = grind arith
+slice_after-more (suc k) cs slice = grind (arith, drop-drop, slice_after-more k (drop 1 cs) (slice_after_front cs slice))
 
 -- the slice left behind the first components
 pub left-fronts : (d : Dialect) (t : List ℕ) (k : ℕ) → k ≤ length (comps d t) → slice_after (comps d t) t (replicate k front) ≡ left (comps d t) t k 0
-left-fronts d t k within =
-    let f = fronts-replicate k in
-    let b = backs-replicate k in
-    stepwise_slices (comps d t) t (replicate k front) (comps-laid_out d t) (omega arith) ∙ ap (λ n. left (comps d t) t n (backs (replicate k front))) f ∙ ap (left (comps d t) t k) b
+left-fronts d t k within = grind (arith, fronts-replicate, backs-replicate, stepwise_slices, comps-laid_out)
 
 abbrev pub begins : List Placed → List Placed → Bool
 begins rest wanted = starts_with bytes_eq (texts (parts rest)) (texts (parts wanted))
 
 begins-short : (rest wanted : List Placed) (p : Part) → Some p ≡ first_part wanted → None ≡ first_part rest → begins rest wanted ≡ false
-begins-short rest [] p some none = cc
-begins-short [] (w ∷ ws) p some none = refl
-begins-short (c ∷ cs) (w ∷ ws) p some none = cc
+begins-short rest wanted p h h1 = grind arith
 
 begins-step : (rest wanted : List Placed) (p q : Part) → Some p ≡ first_part wanted → Some q ≡ first_part rest → begins rest wanted ≡ (bytes_eq p.text q.text && begins (drop 1 rest) (drop 1 wanted))
-begins-step rest [] p q some own = cc
-begins-step [] (w ∷ ws) p q some own = cc
-begins-step (c ∷ cs) (w ∷ ws) p q some own =
-    ap (λ x. bytes_eq x.text c.part.text && begins cs ws) (sym (same_Some _ _ some)) ∙ ap (λ x. bytes_eq p.text x.text && begins cs ws) (sym (same_Some _ _ own))
+begins-step rest wanted p q h own = grind arith
 
 filled_from : (cs : List Placed) (p : Part) → Some p ≡ first_part cs → 0 < length cs
-filled_from [] p some = cc
-filled_from (c ∷ cs) p some = omega arith
+filled_from cs p h = grind arith
 
 -- how far a base was taken off: as many components of each, all alike so far
 pub record Strips (d : Dialect) (t b : List ℕ) (rest wanted : List Placed) (slice : List ℕ) : Type 0 where
@@ -74,37 +63,20 @@ pub record Strips (d : Dialect) (t b : List ℕ) (rest wanted : List Placed) (sl
   pub alike : path_starts_with d t b ≡ begins rest wanted
 
 pub Strips-start : (d : Dialect) (t b : List ℕ) (rest wanted : List Placed) (slice : List ℕ) → rest ≡ comps d t → wanted ≡ comps d b → slice ≡ t → Strips d t b rest wanted slice
-Strips-start d t b rest wanted slice e f g = record {
-  taken = 0;
-  items = e;
-  base = f;
-  slice_left = g;
-  within = omega arith;
-  within_base = omega arith;
-  alike = ap (λ ds. begins (comps d t) ds) (sym f) ∙ ap (λ cs. begins cs wanted) (sym e);
-}
+Strips-start d t b rest wanted slice e f g = grind arith
 
 module _ {d : Dialect} {t b : List ℕ} {rest wanted : List Placed} {slice : List ℕ} (s : Strips d t b rest wanted slice) where
   -- no component is wanted any more
   pub Strips-end : wanted ≡ [] → stripped d t b ≡ Some slice
-  Strips-end none =
-      let size = length-drop s.taken (comps d b) in
-      let all : length (comps d b) ≤ s.taken = omega (arith, ap length (sym s.base ∙ none)) in
-      let within = s.within_base in
-      let same : length (comps d b) ≡ s.taken = omega arith in
-      ap (λ test. cond test (Some (left (comps d t) t (length (comps d b)) 0)) None) (s.alike ∙ ap (begins rest) none)
-      ∙ ap (λ n. Some (left (comps d t) t n 0)) same ∙ ap Some (sym (s.slice_left ∙ left-fronts d t s.taken s.within))
+  Strips-end h = grind (arith, common_steps, length-drop, left-fronts)
 
   -- a component is wanted, and the path has no other
   pub Strips-short : (p : Part) → Some p ≡ first_part wanted → None ≡ first_part rest → stripped d t b ≡ None
-  Strips-short p some none =
-      ap (λ test. cond test (Some (left (comps d t) t (length (comps d b)) 0)) None) (s.alike ∙ begins-short rest wanted p some none)
+  Strips-short p h h1 = grind arith
 
   -- the components differ
   pub Strips-differ : (p q : Part) → Some p ≡ first_part wanted → Some q ≡ first_part rest → bytes_eq p.text q.text ≡ false → stripped d t b ≡ None
-  Strips-differ p q some own differ =
-      ap (λ test. cond test (Some (left (comps d t) t (length (comps d b)) 0)) None)
-      (s.alike ∙ begins-step rest wanted p q some own ∙ ap (λ test. test && begins (drop 1 rest) (drop 1 wanted)) differ)
+  Strips-differ p q h own differ = grind arith
 
   -- they are alike, and both are taken
   pub Strips-step : (p q : Part) (rest' wanted' : List Placed) (slice' : List ℕ) → Some p ≡ first_part wanted → Some q ≡ first_part rest → bytes_eq p.text q.text ≡ true
@@ -136,12 +108,10 @@ ends rest wanted = ends_with bytes_eq (texts (parts rest)) (texts (parts wanted)
 
 module _ {X : Type 0} (eq : X → X → Bool) where
   pointwise-longer : (xs : List X) (x : X) → pointwise eq [] (xs ++ x ∷ []) ≡ false
-  pointwise-longer [] x = refl
-  pointwise-longer (y ∷ ys) x = refl
+  pointwise-longer xs x = grind (arith, common_steps)
 
   pointwise-shorter : (xs : List X) (x : X) → pointwise eq (xs ++ x ∷ []) [] ≡ false
-  pointwise-shorter [] x = refl
-  pointwise-shorter (y ∷ ys) x = refl
+  pointwise-shorter xs x = grind (arith, common_steps)
 
   -- two lists are alike where their last elements are, and those before
   pub pointwise-push : (xs ys : List X) (x y : X) → pointwise eq (xs ++ x ∷ []) (ys ++ y ∷ []) ≡ (pointwise eq xs ys && eq x y)
@@ -152,13 +122,7 @@ module _ {X : Type 0} (eq : X → X → Bool) where
 
   -- the end of a list
   pub ends_with-push : (xs ns : List X) (x n : X) → ends_with eq (xs ++ x ∷ []) (ns ++ n ∷ []) ≡ (ends_with eq xs ns && eq n x)
-  ends_with-push xs ns x n =
-      let size = length-append xs (x ∷ []) in
-      let wanted = length-append ns (n ∷ []) in
-      let skipped : length (xs ++ x ∷ []) - length (ns ++ n ∷ []) ≡ length xs - length ns = omega arith in
-      ap (λ k. pointwise eq (ns ++ n ∷ []) (drop k (xs ++ x ∷ []))) skipped
-      ∙ ap (pointwise eq (ns ++ n ∷ [])) (drop-append-le (length xs - length ns) xs (x ∷ []) (omega arith))
-      ∙ pointwise-push ns (drop (length xs - length ns) xs) n x
+  ends_with-push xs ns x n = grind (arith, length-append, pointwise, drop-append-le, pointwise-push)
 
   -- every list ends with the empty one
   pub ends_with-nothing : (xs : List X) → ends_with eq xs [] ≡ true
@@ -169,18 +133,11 @@ texts-push cs c = ap texts (map-append (λ x. x.part) cs (c ∷ [])) ∙ map-app
 
 -- nothing is wanted any more
 pub ends-nothing : (rest wanted : List Placed) → None ≡ last_part wanted → ends rest wanted ≡ true
-ends-nothing rest [] h = ends_with-nothing bytes_eq (texts (parts rest))
-ends-nothing rest (w ∷ ws) h =
-    let d = last_pushed w ws in
-    let some : None ≡ Some d.0.part = h ∙ ap last_part d.1 ∙ last_part-push (but_last (w ∷ ws)) d.0 in cc
+ends-nothing rest wanted h = grind (arith, common_steps)
 
 -- a component is wanted, and the path has no other
 pub ends-short : (rest wanted : List Placed) (p : Part) → Some p ≡ last_part wanted → None ≡ last_part rest → ends rest wanted ≡ false
-ends-short rest [] p some none = cc
-ends-short [] (w ∷ ws) p some none = ap (λ ns. pointwise bytes_eq (texts (parts (w ∷ ws))) ns) (drop_all (0 - length (texts (parts (w ∷ ws)))) [] (omega arith))
-ends-short (c ∷ cs) (w ∷ ws) p some none =
-    let d = last_pushed c cs in
-    let own : None ≡ Some d.0.part = none ∙ ap last_part d.1 ∙ last_part-push (but_last (c ∷ cs)) d.0 in cc
+ends-short rest wanted p h h1 = grind (arith, common_steps)
 
 -- both have a last component
 pub ends-step : (rest wanted : List Placed) (p q : Part) → Some p ≡ last_part wanted → Some q ≡ last_part rest
@@ -228,15 +185,11 @@ module _ (n : ℕ) (text base : List ℕ) (begun : text ≡ base ++ drop (length
   front-begun = ap (take n) begun ∙ take-append-le n base (drop (length base) text) low
 
   pub behind-begun : take (length (drop n base)) (drop n text) ≡ drop n base
-  behind-begun =
-      ap (λ t. take (length (drop n base)) (drop n t)) begun
-      ∙ ap (take (length (drop n base))) (drop-append-le n base (drop (length base) text) low)
-      ∙ take-append_seam (drop n base) (drop (length base) text)
+  behind-begun = grind (arith, drop-append-le, take-append_seam)
 
 -- a text that is not empty has a component
 pub filled : (s : Separators) (at : ℕ) (b : List ℕ) → 0 < length b → 0 < length (body s at b)
-filled s at [] some = absurd (omega arith)
-filled s at (x ∷ xs) some = body-filled s at x xs
+filled s at b h = grind arith
 
 -- where the components of a text are some written as those of a base are, and then those behind a place, that is what is left of the text behind the base
 module _ (d : Dialect) (s : Separators) (t b : List ℕ) (n : ℕ) (cs : List Placed) (some : 0 < length cs) (alike : texts (parts cs) ≡ texts (parts (comps d b)))
@@ -251,9 +204,7 @@ module _ (d : Dialect) (s : Separators) (t b : List ℕ) (n : ℕ) (cs : List Pl
   count = ap length split ∙ length-append cs (later_body s n (drop n t))
 
   size : length (comps d b) ≡ length cs
-  size =
-      let of = λ (es : List Placed). length-map (parts es) (λ p. p.text) ∙ length-map es (λ c. c.part) in
-      sym (of (comps d b)) ∙ sym (ap length alike) ∙ of cs
+  size = grind (arith, length-map)
 
   -- the component at the border
   start_at-append : (bs : List Placed) (c : Placed) (es : List Placed) → start_at (bs ++ c ∷ es) (length bs) ≡ c.start

@@ -1,5 +1,6 @@
 -- A file name, its stem and its extension, and names with allowed bytes.
-use Rattle.std.proofs.Common.{◌≡◌, ℕ, ◌+◌, ◌-◌, ◌<◌, ◌≤◌, Bool, true, false, not, if◌then◌else◌, List, [], ◌∷◌, ◌++◌, length, reverse, drop, get_or, Some, None, All, ◌⊎◌, inl, inr, refl, sym, ap, ◌∙◌, append_assoc, arith, cond, take, Bor, ◌||◌, ◌==◌, subst, true≢false, eqb-true, get_or-drop, length-drop, length-take, take-append-drop, Result, Ok, Err, MatchResult, option_copied}
+use Rattle.std.proofs.Common.{◌≡◌, ℕ, ◌+◌, ◌-◌, ◌<◌, ◌≤◌, Bool, true, false, not, if◌then◌else◌, List, [], ◌∷◌, ◌++◌, length, reverse, drop, get_or, Some, None, All, ◌⊎◌, inl, inr, refl, sym, ap, ◌∙◌, append_assoc, arith, cond, take, Bor, subst, eqb-true, get_or-drop, length-drop, length-take, take-append-drop, Result, MatchResult, option_copied}
+use Rattle.std.proofs.lemmas.Grind.{common_steps}
 use Rattle.std.specs.Prelude.{position, nat_lt}
 use Rattle.std.specs.List.{list_any, before_first, after_first, position_or_len, before_last, after_last, suffix_len, slice_split, onto_first, AllByRecursion}
 use Rattle.std.proofs.lemmas.Bool.{not-true, not-false, cases_lt, ltb-false, both_ways, cond_both, false_from_ne_true}
@@ -14,13 +15,12 @@ use Rattle.std.proofs.lemmas.List.Elements.{All-head, All-tail}
 use Rattle.typed_path.specs.declared.scan.separators.Separators.{Separators}
 use Rattle.typed_path.specs.declared.scan.cursor.Begin.{Begin}
 use Rattle.typed_path.specs.declared.scan.cursor.Begin.TheVariants.{Body, Inside}
-use Rattle.typed_path.specs.components.{dot, Dialect, dialect_of, is_separator, is_verbatim, root_text, Part, Kind, kinds, parts, root_part, current_part, parent_part, name_part, is_dot, is_dot_dot}
+use Rattle.typed_path.specs.components.{dot, Dialect, dialect_of, is_separator, root_text, Part, Kind, kinds, parts, root_part, current_part, parent_part, name_part}
 use Rattle.typed_path.specs.queries.{is_a_dot, has_extension, first_stem_of, stem_of, extension_of, text_of_bytes, is_disallowed, kind_has_allowed_bytes}
 use Rattle.typed_path.specs.scan.{body_from}
 use Rattle.typed_path.specs.changes.{SeparatesDisallowed}
-use Rattle.typed_path.proofs.lemmas.lists.Lists.{AllByRecursion-append}
-use Rattle.typed_path.proofs.lemmas.components.Prefixes.{where-some}
 use Rattle.typed_path.proofs.lemmas.components.Segments.{pieces, later_part, later_parts, first_parts, body_parts, parts-body, parts-later_body}
+use Rattle.typed_path.proofs.lemmas.lists.Options.{where-some}
 
 -- A file name, its stem and its extension.
 
@@ -56,8 +56,7 @@ module _ {X : Type 0} (p : X → Bool) (xs : List X) where
       }
     where
       early_by : (k + suffix_len (λ x. not (p x)) xs < length xs) ⊎ (length xs ≤ k + suffix_len (λ x. not (p x)) xs) → k + suffix_len (λ x. not (p x)) xs < length xs
-      early_by (inl h) = h
-      early_by (inr h) = absurd (both_ways _ (fails_behind k d inside h) passes)
+      early_by h = grind (arith, both_ways, fails_behind)
 
 -- a name with an extension is parted at its last dot
 named : (name : List ℕ) → has_extension name ≡ true → IsParted is_a_dot name 0
@@ -71,11 +70,7 @@ pub before_dot_some : (text : List ℕ) (at : ℕ) → position is_a_dot text �
 before_dot_some text at is = ap (λ n. take n text) (sym (where-some (nat_lt (position_or_len is_a_dot text) (length text)) (position_or_len is_a_dot text) at is).1)
 
 pub before_dot_none : (text : List ℕ) → position is_a_dot text ≡ None → text ≡ before_first is_a_dot text
-before_dot_none text is = by (nat_lt (position_or_len is_a_dot text) (length text)) refl is
-  where
-    by : (inside : Bool) → nat_lt (position_or_len is_a_dot text) (length text) ≡ inside → (if inside then Some (position_or_len is_a_dot text) else None) ≡ None → text ≡ before_first is_a_dot text
-    by true e none = cc
-    by false e none = sym (take_all (position_or_len is_a_dot text) text (ltb-false _ _ e))
+before_dot_none text is = grind (arith, take_all, ltb-false)
 
 -- a name is its own first stem, or a dot stands behind that
 pub first_stem_of-parted : (name : List ℕ) → (first_stem_of name ≡ name) ⊎ ((rest : List ℕ) × (name ≡ first_stem_of name ++ dot ∷ rest))
@@ -92,11 +87,7 @@ first_stem_of-parted (b ∷ bs) = elim (cases_lt (position_or_len is_a_dot bs) (
 
 -- without an extension a name is its own stem
 pub stem_of-whole : (name : List ℕ) → extension_of name ≡ None → stem_of name ≡ name
-stem_of-whole name none = by (has_extension name) none
-  where
-    by : (b : Bool) → (if b then Some (after_last is_a_dot name) else None) ≡ None → (if b then before_last is_a_dot name else name) ≡ name
-    by true e = cc
-    by false e = refl
+stem_of-whole name h = grind arith
 
 -- with one it is its stem, a dot, and the extension, which holds no dot
 pub stem_of-extension : (name e : List ℕ) → extension_of name ≡ Some e → (name ≡ stem_of name ++ dot ∷ e) × (list_any is_a_dot e ≡ false)
@@ -134,10 +125,7 @@ module _ (name : List ℕ) where
 
   module _ (at : ℕ) (later : 0 < at) (last : NoneAfter (Passes is_a_dot name) 0 (length name) at) (is_dot : Passes is_a_dot name at) where
     some_extension : has_extension name ≡ true
-    some_extension =
-        let size = length-drop 1 name in
-        let within = last.high in
-        list_any_at is_a_dot (drop 1 name) (at - 1) 0 (omega arith) (ap is_a_dot (get_or-drop 1 name (at - 1) 0 ∙ ap (λ i. get_or name i 0) (omega arith)) ∙ is_dot)
+    some_extension = grind (arith, list_any_at, get_or-drop)
 
     behind_last : suffix_len (λ b. not (is_a_dot b)) name ≡ length name - (at + 1)
     behind_last =
@@ -146,16 +134,10 @@ module _ (name : List ℕ) where
         (λ _. ap (λ i. not (is_a_dot (get_or name i 0))) (omega arith) ∙ ap not is_dot)
 
     pub stem-before : stem_of name ≡ take at name
-    stem-before =
-        let within = last.high in
-        let cut = behind_last in
-        ap (λ b. cond b (before_last is_a_dot name) name) some_extension ∙ ap (λ n. take n name) (omega arith)
+    stem-before = grind (arith, behind_last, some_extension)
 
     pub extension-behind : extension_of name ≡ Some (drop (at + 1) name)
-    extension-behind =
-        let within = last.high in
-        let cut = behind_last in
-        ap (λ b. cond b (Some (after_last is_a_dot name)) None) some_extension ∙ ap (λ n. Some (drop n name)) (omega arith)
+    extension-behind = grind (arith, behind_last, some_extension)
 
 -- Bytes that are a text, and bytes that are none.
 
@@ -179,8 +161,7 @@ text_of_bytes-is t u = by (is_utf8 t) refl
 
 -- what reading bytes as a text gives
 pub text_of_bytes-read : {E : Type 0} (P : E → Type 0) (r : Result (Bor (List ℕ)) E) (t : List ℕ) → MatchResult r (λ s. (s.now ≡ t) × IsUtf8 t) (λ e. ¬ (IsUtf8 t) × P e) → option_copied (result_ok r) ≡ text_of_bytes t
-text_of_bytes-read P (Ok s) t h = ap Some h.0 ∙ sym (text_of_bytes-some t h.1)
-text_of_bytes-read P (Err e) t h = sym (text_of_bytes-none t h.0)
+text_of_bytes-read P r t h = grind (arith, text_of_bytes-some, text_of_bytes-none)
 
 -- The names of a text in which each byte that no name may have is a separator.
 
@@ -205,37 +186,24 @@ allowed-pieces s d (x ∷ xs) h =
   where
     by : (separates disallowed : Bool) → is_separator s x ≡ separates → is_disallowed d x ≡ disallowed → (is_disallowed d x ≡ true → is_separator s x ≡ true)
         → (ps : List (List ℕ)) → AllByRecursion (IsAllowed d) ps → AllByRecursion (IsAllowed d) (cond separates ([] ∷ ps) (onto_first x ps))
-    by true disallowed e f g ps all = (refl, all)
-    by false true e f g ps all = absurd (true≢false (sym (g f) ∙ e))
-    by false false e f g [] all = (ap (λ b. b || false) f, tt)
-    by false false e f g (p ∷ ps) all = (ap (λ b. b || list_any (is_disallowed d) p) f ∙ all.0, all.1)
+    by separates disallowed e f g ps all = grind arith
 
 -- the component of a piece, by what the piece is
 module _ (s : Separators) (d : Dialect) (piece : List ℕ) (allowed : IsAllowed d piece) where
   allowed-first : (empty dotted twice : Bool) → IsAllowedPart d (if empty then root_part (root_text s) else (if dotted then current_part else (if twice then parent_part else name_part piece)))
-  allowed-first true dotted twice = refl
-  allowed-first false true twice = refl
-  allowed-first false false true = refl
-  allowed-first false false false = ap not allowed
+  allowed-first empty dotted twice = grind arith
 
   allowed-later : (empty dotted verbatim twice : Bool)
       → AllByRecursion (IsAllowedPart d) (if empty then [] else (if dotted then (if verbatim then current_part ∷ [] else []) else (if twice then parent_part else name_part piece) ∷ []))
-  allowed-later true dotted verbatim twice = tt
-  allowed-later false true true twice = (refl, tt)
-  allowed-later false true false twice = tt
-  allowed-later false false verbatim true = (refl, tt)
-  allowed-later false false verbatim false = (ap not allowed, tt)
+  allowed-later empty dotted verbatim twice = grind arith
 
 module _ (s : Separators) (d : Dialect) where
   allowed-later_parts : (ps : List (List ℕ)) → AllByRecursion (IsAllowed d) ps → AllByRecursion (IsAllowedPart d) (later_parts s ps)
   allowed-later_parts [] all = tt
-  allowed-later_parts (p ∷ ps) all =
-      AllByRecursion-append (IsAllowedPart d) (later_part s p) (later_parts s ps)
-      (allowed-later s d p all.0 (length p == 0) (is_dot p) (is_verbatim s) (is_dot_dot p)) (allowed-later_parts ps all.1)
+  allowed-later_parts (p ∷ ps) all = grind (arith, common_steps, later_part, later_parts, allowed-later, allowed-later_parts ps all.1)
 
   pub allowed-first_parts : (ps : List (List ℕ)) → AllByRecursion (IsAllowed d) ps → AllByRecursion (IsAllowedPart d) (first_parts s ps)
-  allowed-first_parts [] all = tt
-  allowed-first_parts (p ∷ ps) all = (allowed-first s d p all.0 (length p == 0) (is_dot p) (is_dot_dot p), allowed-later_parts ps all.1)
+  allowed-first_parts ps all = grind (arith, allowed-first, allowed-later_parts)
 
 -- the kinds of such components
 pub allowed-kinds : (d : Dialect) (ps : List Part) → AllByRecursion (IsAllowedPart d) ps → AllowsEach d (kinds ps)

@@ -1,29 +1,29 @@
 -- The list of a parent, of the paths above and of a path without its name.
-use Rattle.std.proofs.Common.{◌≡◌, ℕ, zero, suc, ◌-◌, ◌<◌, Bool, true, false, if◌then◌else◌, List, [], ◌∷◌, ◌≤◌, length, take, cond, Option, Some, None, option_and_then, option_map, refl, sym, ap, ◌∙◌, arith, inl, inr, ◌+◌, ◌++◌, drop, ap₂, le_refl, subst, length-take-le, ◌⊎◌, ◌↔◌, reverse, ◌&&◌, is_some, length-append, take_all, length-take, take-take, unwrap_or}
+use Rattle.std.proofs.Common.{◌≡◌, ℕ, zero, suc, ◌-◌, ◌<◌, Bool, true, false, if◌then◌else◌, List, [], ◌∷◌, ◌≤◌, length, take, cond, Option, Some, None, option_and_then, option_map, refl, sym, ap, ◌∙◌, arith, inl, inr, ◌+◌, ◌++◌, drop, ap₂, le_refl, subst, length-take-le, ◌⊎◌, ◌↔◌, reverse, ◌&&◌, is_some, length-append, take_all, take-take, unwrap_or}
+use Rattle.std.proofs.lemmas.Grind.{common_steps}
 use Rattle.std.specs.List.{last_or}
-use Rattle.std.proofs.lemmas.Bool.{cases_lt, false_from_ne_true, both_ways}
+use Rattle.std.proofs.lemmas.Bool.{false_from_ne_true, both_ways}
 use Rattle.std.proofs.lemmas.Option.{same_Some}
-use Rattle.std.proofs.lemmas.List.{take_min, drop-take, drop_all, nil_from_length, reverse-append, map-append}
-use Rattle.std.proofs.lemmas.List.Splits.{slice_split-cons_yes}
+use Rattle.std.proofs.lemmas.List.{drop-take, drop_all, nil_from_length, reverse-append, map-append}
 use Rattle.std.proofs.Math.Seq.{take-append_seam}
 use Rattle.std.specs.Cmp.{Equal-is, eq_by_cmp_equiv}
 use Rattle.std.specs.Ordering.{is_eq}
 use Rattle.typed_path.specs.declared.scan.separators.Separators.{Separators}
 use Rattle.typed_path.specs.declared.scan.separators.Separators.TheVariants.{Slash}
 use Rattle.typed_path.specs.declared.scan.step.Piece.{Piece}
-use Rattle.typed_path.specs.declared.scan.step.PieceKind.{PieceKind}
-use Rattle.typed_path.specs.declared.scan.step.PieceKind.TheVariants.{Prefix, RootDir, CurDir, ParentDir, Normal}
-use Rattle.typed_path.specs.components.{Dialect, unix, windows, separators, is_separator, root_text, Part, Placed, prefix_part, root_part, Kind, prefix, root, current, parent, normal, parts, kinds, is_name, end_of, name_part, comps, body, comps_behind, body_of, component, placed, parts_of, Found, prefix_of}
+use Rattle.typed_path.specs.components.{Dialect, unix, windows, separators, is_separator, Part, Placed, prefix_part, Kind, prefix, root, current, parent, normal, parts, kinds, is_name, end_of, name_part, comps, body, comps_behind, component, parts_of, Found, prefix_of}
 use Rattle.typed_path.specs.scan.{last_part, back, left, last_of, but_last, end_at, slice_after_back, first_of, AreInOrder}
 use Rattle.typed_path.specs.queries.{is_root, parent_of, name_of, file_name_of, upwards, is_top, upwards_from, readings_behind, readings_above, ancestors_of, is_read_as, is_child_of, IsOneBelow, stem_of}
 use Rattle.typed_path.specs.order.{kinds_cmp, kinds_cmp_total, exact_lists, exact_kinds}
-use Rattle.typed_path.specs.views.PieceViews.{part_of, kind_view}
-use Rattle.typed_path.specs.changes.{popped, without_file_name, start_of_last, stem_end, name_end}
+use Rattle.typed_path.specs.views.PieceViews.{part_of}
+use Rattle.typed_path.specs.changes.{popped, without_file_name, stem_end, name_end}
 use Rattle.typed_path.proofs.lemmas.scan.Readings.{left-taken, left-parent, stepwise_slices}
 use Rattle.typed_path.proofs.lemmas.components.Cuts.{body-take, comps-laid_out}
-use Rattle.typed_path.proofs.lemmas.components.Prefixes.{FoundFits, prefix-fits, some_is}
+use Rattle.typed_path.proofs.lemmas.components.Prefixes.{FoundFits, prefix-fits}
 use Rattle.typed_path.proofs.lemmas.components.PrefixCuts.{IsBehind, SamePrefix, same-found, same-none}
 use Rattle.typed_path.proofs.lemmas.scan.Steps.{last_of-push, last_pushed}
+use Rattle.typed_path.proofs.lemmas.lists.Options.{some_is}
+use Rattle.typed_path.proofs.lemmas.lists.Lists.{take-front}
 
 -- The list of a parent: the list without its last component.
 
@@ -36,20 +36,11 @@ pub record HasParent (d : Dialect) (t p : List ℕ) : Type 0 where
 
 -- each parent tells so
 pub has_parent : (d : Dialect) (t p : List ℕ) → parent_of d t ≡ Some p → HasParent d t p
-has_parent d t p some = by (last_of (comps d t)) refl some
-  where
-    by : (last : Option Placed) → last_of (comps d t) ≡ last → option_and_then (λ c. if is_root c.part.kind then None else Some (left (comps d t) t 0 1)) last ≡ Some p → HasParent d t p
-    by None e some = cc
-    by (Some last) e some = by_kind (is_root last.part.kind) refl some
-      where
-        by_kind : (rooted : Bool) → is_root last.part.kind ≡ rooted → (if rooted then None else Some (left (comps d t) t 0 1)) ≡ Some p → HasParent d t p
-        by_kind true f some = cc
-        by_kind false f some = record { last = last; is_last = e; no_root = f; slice = cc }
+has_parent d t p h = grind arith
 
 -- a list with a last component is not empty
 pub last-filled : (cs : List Placed) (c : Placed) → last_of cs ≡ Some c → 0 < length cs
-last-filled [] c e = cc
-last-filled (d ∷ cs) c e = omega arith
+last-filled cs c e = grind (arith, common_steps)
 
 -- without a prefix, the slice left without the last component is read as the others
 pub body_parent : (s : Separators) (t : List ℕ) (read : List ℕ → List Placed) → read [] ≡ [] → ((e : ℕ) → read (take e t) ≡ body s 0 (take e t)) → 0 < length (body s 0 t)
@@ -78,14 +69,12 @@ unix_parent_of t p some =
 
 -- a list with a last component has one at least
 some_last : (cs : List Placed) (p : Part) → Some p ≡ last_part cs → 1 ≤ length cs
-some_last [] p h = cc
-some_last (c ∷ cs) p h = omega arith
+some_last cs p h = grind (arith, common_steps)
 
 -- the parent behind a last component that is no root
 above : (o : Option Placed) (p : Part) (rest : List ℕ) → Some p ≡ option_map (λ c. c.part) o → is_root p.kind ≡ false
     → option_and_then (λ last. cond (is_root last.part.kind) None (Some rest)) o ≡ Some rest
-above None p rest h e = cc
-above (Some c) p rest h e = ap (λ b. cond b None (Some rest)) (ap (λ q. is_root q.kind) (sym (same_Some _ _ h)) ∙ e)
+above o p rest h e = grind arith
 
 -- the parent is the slice left behind one step from the back
 pub parent_left : (d : Dialect) (t : List ℕ) (p : Part) → Some p ≡ last_part (comps d t) → is_root p.kind ≡ false → parent_of d t ≡ Some (slice_after_back (comps d t) t)
@@ -93,19 +82,9 @@ parent_left d t p h e =
     let some = some_last (comps d t) p h in
     above (last_of (comps d t)) p (left (comps d t) t 0 1) h e ∙ ap Some (sym (stepwise_slices (comps d t) t (back ∷ []) (comps-laid_out d t) (omega arith)))
 
--- a front of a text is as many bytes of it as it has
-pub take-front : (e : ℕ) (t : List ℕ) → take (length (take e t)) t ≡ take e t
-take-front e t = ap (λ n. take n t) (length-take e t) ∙ take_min e t
-
 -- a parent is a front of its path
 pub parent-front : (d : Dialect) (t p : List ℕ) → parent_of d t ≡ Some p → take (length p) t ≡ p
-parent-front d t p some = let h = has_parent d t p some in rw h.slice (front (comps d t) (last-filled (comps d t) h.last h.is_last))
-  where
-    front : (cs : List Placed) → 0 < length cs → take (length (left cs t 0 1)) t ≡ left cs t 0 1
-    front cs filled = elim (cases_lt 1 (length cs)) [
-      | inl more ↦ rw (left-parent cs t more) (take-front (end_at cs (length cs - 1 - 1)) t)
-      | inr one ↦ rw (left-taken cs t 0 1 (omega arith) filled) refl
-    ]
+parent-front d t p h = grind (arith, left-parent, take-front, left-taken)
 
 -- The list of a Windows parent: the list without its last component.
 
@@ -115,24 +94,11 @@ same_comps t e o is same = ap₂ (λ s p. comps_behind s (take e t) p) same.same
 
 -- what begins with a separator begins with the root
 root-first : (s : Separators) (at b : ℕ) (bs : List ℕ) (c : Placed) → is_separator s b ≡ true → body s at (b ∷ bs) ≡ c ∷ [] → is_root c.part.kind ≡ true
-root-first s at b bs c separates is =
-    let starts = sym (ap (λ pieces. body_of s (placed at pieces)) (slice_split-cons_yes (is_separator s) b bs separates)) ∙ is in
-    let same : record { part = root_part (root_text s); start = at } ≡ c = first_same starts in
-    ap (λ d. is_root d.part.kind) (sym same)
-  where
-    first_same : {x y : Placed} {xs ys : List Placed} → x ∷ xs ≡ y ∷ ys → x ≡ y
-    first_same e = cc
+root-first s at b bs c separates is = grind arith
 
 -- what is cut behind a place and has a component reaches beyond that place
 pub nonempty-cut : (s : Separators) (at e : ℕ) (text : List ℕ) (c : Placed) (cs : List Placed) → body s at (take (e - at) text) ≡ c ∷ cs → at < e
-nonempty-cut s at e text c cs is = by (e - at) refl is
-  where
-    by : (m : ℕ) → e - at ≡ m → body s at (take m text) ≡ c ∷ cs → at < e
-    by zero size is = absurd (filled is)
-      where
-        filled : [] ≡ c ∷ cs → ⊥
-        filled h = cc
-    by (suc m) size is = omega arith
+nonempty-cut s at e text c cs is = grind arith
 
 module _ (s : Separators) (t : List ℕ) (f : Found) (fits : FoundFits t f) (read : List ℕ → List Placed) (nothing : read [] ≡ [])
     (front : (e : ℕ) → IsBehind s t e f → read (take e t) ≡ comps_behind s (take e t) (Some f)) where
@@ -149,8 +115,7 @@ module _ (s : Separators) (t : List ℕ) (f : Found) (fits : FoundFits t f) (rea
       ∙ ap₂ (λ u v. component (prefix_part f.prefix u) 0 ++ body s L v) (take-take L L t (le_refl L)) (drop_all L (take L t) (omega (arith, length-take-le L t fits.fits)))
     where
       no_separator : (b : ℕ) (bs : List ℕ) → drop f.length t ≡ b ∷ bs → is_separator s b ≡ false
-      no_separator b bs rest = false_from_ne_true _ (λ separates. both_ways (is_root last.part.kind) no_root
-          (ap (λ x. is_root x.part.kind) (sym (some_is is_last)) ∙ root-first s f.length b bs c separates (ap (body s f.length) (sym rest) ∙ is)))
+      no_separator b bs rest = grind (arith, false_from_ne_true, both_ways, some_is, root-first)
   found_parent (c ∷ d ∷ B) last is is_last no_root =
       let L = f.length in
       let cs = component (prefix_part f.prefix (take L t)) 0 ++ c ∷ d ∷ B in
@@ -187,8 +152,7 @@ parent_list windows t p some =
 -- A path and those above it, one step up.
 
 upwards-none : (d : Dialect) (n : ℕ) → upwards d n None ≡ []
-upwards-none d zero = refl
-upwards-none d (suc n) = refl
+upwards-none d n = grind arith
 
 -- a path and those above it are what is left of its reading as that goes on from the back
 upwards-reading : (d : Dialect) (n : ℕ) (t : List ℕ) → upwards d n (Some t) ≡ upwards_from n (comps d t) t
@@ -203,14 +167,10 @@ upwards-reading d (suc n) t = ap (λ ts. t ∷ ts) (by (upwards-reading d n (sli
 
     top : upwards d n (Some p) ≡ upwards_from n (comps d p) p → (c : Placed) → last_of (comps d t) ≡ Some c → (b : Bool) → is_root c.part.kind ≡ b
         → upwards d n (parent_of d t) ≡ cond b [] (upwards_from n (but_last (comps d t)) p)
-    top again c e true is = ap (upwards d n) (parent_by (Some c) e ∙ ap (λ b. cond b None (Some (left (comps d t) t 0 1))) is) ∙ upwards-none d n
-    top again c e false is =
-        let above = parent_left d t c.part (ap (option_map (λ x. x.part)) (sym e)) is in
-        ap (upwards d n) above ∙ again ∙ ap (λ cs. upwards_from n cs p) (parent_list d t p above)
+    top again c e b is = grind (arith, parent_by, upwards-none, above, parent_left, p, parent_list)
 
     by : upwards d n (Some p) ≡ upwards_from n (comps d p) p → (o : Option Placed) → last_of (comps d t) ≡ o → upwards d n (parent_of d t) ≡ cond (is_top o) [] (upwards_from n (but_last (comps d t)) p)
-    by again None e = ap (upwards d n) (parent_by None e) ∙ upwards-none d n
-    by again (Some c) e = top again c e (is_root c.part.kind) refl
+    by again o e = grind (arith, parent_by, upwards-none, top)
 
 pub ancestors-reading : (d : Dialect) (t : List ℕ) → readings_above (comps d t) t ≡ ancestors_of d t
 ancestors-reading d t = sym (upwards-reading d (length (comps d t)) t)
@@ -227,13 +187,11 @@ pub upwards-top : (d : Dialect) (n : ℕ) (t u : List ℕ) → length (comps d t
 upwards-top d zero t u few is = subst (λ x. parent_of d x ≡ None) (same_Some _ _ is) (by (parent_of d t) refl)
   where
     by : (o : Option (List ℕ)) → parent_of d t ≡ o → parent_of d t ≡ None
-    by None e = e
-    by (Some p) e = let has = has_parent d t p e in let filled = last-filled (comps d t) has.last has.is_last in absurd (omega arith)
+    by o e = grind (arith, has_parent, last-filled)
 upwards-top d (suc n) t u few is = by (λ p. upwards-top d n p u) (parent_of d t) refl
   where
     onward : (m : ℕ) (p : List ℕ) → last_or (Some t) (upwards d m (Some p)) ≡ last_or None (upwards d m (Some p))
-    onward zero p = refl
-    onward (suc m) p = refl
+    onward m p = grind arith
 
     by : ((p : List ℕ) → length (comps d p) ≤ n → last_or None (upwards d n (Some p)) ≡ Some u → parent_of d u ≡ None) → (o : Option (List ℕ)) → parent_of d t ≡ o → parent_of d u ≡ None
     by again None e =
@@ -246,14 +204,7 @@ upwards-top d (suc n) t u few is = by (λ p. upwards-top d n p u) (parent_of d t
 
 -- what is left of a reading, and then what is left behind its last component
 pub readings-step : (cs : List Placed) (slice : List ℕ) → readings_above cs slice ≡ slice ∷ readings_behind cs slice
-readings-step cs slice = by (length cs) refl
-  where
-    by : (n : ℕ) → length cs ≡ n → upwards_from n cs slice ≡ slice ∷ readings_behind cs slice
-    by zero size = ap (λ ds. slice ∷ cond (is_top (last_of ds)) [] (upwards_from (length (but_last cs)) (but_last cs) (slice_after_back cs slice))) (sym (nil_from_length cs size))
-    by (suc n) size =
-        let cut = length-take-le (length cs - 1) cs (omega arith) in
-        let same : n ≡ length (but_last cs) = omega arith in
-        ap (λ m. slice ∷ cond (is_top (last_of cs)) [] (upwards_from m (but_last cs) (slice_after_back cs slice))) same
+readings-step cs slice = grind (arith, nil_from_length, length-take-le)
 
 -- A path that ends in a name is read as its parent and that name behind it.
 
@@ -285,12 +236,10 @@ module _ {X : Type 0} where
   snoc-lasts xs ys x y e = first-same x y (reverse xs) (reverse ys) (sym (reverse-append xs (x ∷ [])) ∙ ap reverse e ∙ reverse-append ys (y ∷ []))
 
   nil-snoc : (ys : List X) (y : X) → [] ≡ ys ++ y ∷ [] → ⊥
-  nil-snoc [] y e = cc
-  nil-snoc (z ∷ ys) y e = cc
+  nil-snoc ys y e = grind (arith, common_steps)
 
   some-none : (o : Option X) (x : X) → o ≡ Some x → o ≡ None → ⊥
-  some-none None x e n = cc
-  some-none (Some y) x e n = cc
+  some-none o x e n = grind arith
 
 module _ (d : Dialect) (above : List Kind) (t : List ℕ) where
   -- what the two say of a path
@@ -309,10 +258,7 @@ module _ (d : Dialect) (above : List Kind) (t : List ℕ) where
     whole = ap (λ cs. kinds (parts cs)) is ∙ ap kinds (map-append (λ p. p.part) xs (c ∷ [])) ∙ map-append (λ p. p.kind) (parts xs) (c.part ∷ [])
 
     no_name : (k : Kind) → c.part.kind ≡ k → name_of k ≡ None → Agrees
-    no_name k e none = (
-      λ f. absurd (nameless (ap (option_and_then (λ p. name_of p.part.kind)) last ∙ ap name_of e ∙ none) f),
-      λ b. absurd (some-none (name_of k) b.0 (ap name_of (sym e ∙ snoc-lasts _ _ _ _ (sym whole ∙ b.1))) none),
-    )
+    no_name k e h = grind (arith, nameless, last, some-none, snoc-lasts, whole)
 
     below : (k : Kind) → c.part.kind ≡ k → Agrees
     below (prefix p) e = no_name (prefix p) e refl
@@ -333,11 +279,7 @@ module _ (d : Dialect) (above : List Kind) (t : List ℕ) where
             ∙ ap (λ cs. is_eq (kinds_cmp (kinds (parts cs)) above)) (parent_list d t _ over ∙ ap but_last is ∙ front-snoc xs c)
 
   by_end : Ends (comps d t) → Agrees
-  by_end (inl e) = (
-    λ f. absurd (nameless (ap (λ cs. option_and_then (λ p. name_of p.part.kind) (last_of cs)) e) f),
-    λ b. absurd (nil-snoc _ _ (sym (ap (λ cs. kinds (parts cs)) e) ∙ b.1)),
-  )
-  by_end (inr (xs, c, e)) = below xs c e c.part.kind refl
+  by_end h = grind (arith, nil-snoc, below)
 
 -- a child is read as one name below
 pub child_is_one_below : (d : Dialect) (t : List ℕ) (above : List Kind) → (is_child_of d above t ≡ true) ↔ IsOneBelow above (kinds (parts_of d t))
@@ -363,21 +305,14 @@ without_file_name-front d t = by (is_some (file_name_of d t))
 
 -- a name is no root
 no_root : (k : Kind) → is_name k ≡ true → is_root k ≡ false
-no_root (normal name) e = refl
-no_root k e = cc
+no_root k e = grind arith
 
 named : (o : Option Placed) (p : Part) → Some p ≡ option_map (λ c. c.part) o → is_name p.kind ≡ true → is_some (option_and_then (λ last. name_of last.part.kind) o) ≡ true
-named None p h e = cc
-named (Some c) p h e = by c.part.kind (ap (λ q. is_name q.kind) (sym (same_Some _ _ h)) ∙ e)
-  where
-    by : (k : Kind) → is_name k ≡ true → is_some (name_of k) ≡ true
-    by (normal name) e = refl
-    by k e = cc
+named o p h e = grind arith
 
 -- a path without its file name is the slice left behind one step from the back, where that gave a name
 pub without_file_name-step : (d : Dialect) (t : List ℕ) (p : Part) → Some p ≡ last_part (comps d t) → is_name p.kind ≡ true → without_file_name d t ≡ slice_after_back (comps d t) t
-without_file_name-step d t p h e =
-    rw (named (last_of (comps d t)) p h e) (ap (λ o. unwrap_or o t) (parent_left d t p h (no_root p.kind e)))
+without_file_name-step d t p h e = grind (arith, parent_left, no_root)
 
 -- the last component of a list, where it is a piece that is a name
 pub record HasName (d : Dialect) (t name : List ℕ) : Type 0 where
@@ -386,30 +321,15 @@ pub record HasName (d : Dialect) (t name : List ℕ) : Type 0 where
   pub part : last.part ≡ name_part name
 
 pub has_name : (d : Dialect) (t : List ℕ) (p : Piece) → Some (part_of p) ≡ last_part (comps d t) → is_name (part_of p).kind ≡ true → HasName d t p.text.now
-has_name d t p h e = by (last_of (comps d t)) refl h
-  where
-    written : (k : PieceKind) (text : List ℕ) → is_name (kind_view k text) ≡ true → (record { kind = kind_view k text; text = text }) ≡ name_part text
-    written Normal text e = refl
-    written (Prefix q) text e = cc
-    written RootDir text e = cc
-    written CurDir text e = cc
-    written ParentDir text e = cc
-
-    by : (o : Option Placed) → last_of (comps d t) ≡ o → Some (part_of p) ≡ option_map (λ c. c.part) o → HasName d t p.text.now
-    by None is h = cc
-    by (Some c) is h = record { last = c; is_last = is; part = sym (same_Some _ _ h) ∙ written p.kind p.text.now e }
+has_name d t p h e = grind arith
 
 -- where the stem of such a name ends
 pub stem_end-name : (d : Dialect) (t name : List ℕ) → (h : HasName d t name) → stem_end d t ≡ Some (h.last.start + length (stem_of name))
-stem_end-name d t name h =
-    ap (λ o. option_map (λ n. start_of_last o + length (stem_of n)) (option_and_then (λ last. name_of last.part.kind) o)) h.is_last
-    ∙ ap (λ p. option_map (λ n. h.last.start + length (stem_of n)) (name_of p.kind)) h.part
+stem_end-name d t name h = grind arith
 
 -- and where the name itself does
 pub name_end-name : (d : Dialect) (t name : List ℕ) → (h : HasName d t name) → name_end d t ≡ Some (h.last.start + length name)
-name_end-name d t name h =
-    ap (λ o. option_map (λ n. start_of_last o + length n) (option_and_then (λ last. name_of last.part.kind) o)) h.is_last
-    ∙ ap (λ p. option_map (λ n. h.last.start + length n) (name_of p.kind)) h.part
+name_end-name d t name h = grind arith
 
 -- a last component ends within its text
 in_order-last : (at end : ℕ) (cs : List Placed) (c : Placed) → AreInOrder at end (cs ++ c ∷ []) → end_of c ≤ end

@@ -1,5 +1,6 @@
 -- What two paths begin with: how far they have been read alike, and that it is the longest that both begin with.
-use Rattle.std.proofs.Common.{◌≡◌, ℕ, zero, suc, ◌+◌, ◌-◌, ◌<◌, ◌≤◌, List, [], ◌∷◌, true, false, if◌then◌else◌, length, drop, replicate, refl, sym, ap, ap₂, ◌∙◌, arith, length-drop, inl, inr, Bool, ◌&&◌, take}
+use Rattle.std.proofs.Common.{◌≡◌, ℕ, zero, suc, ◌+◌, ◌-◌, ◌<◌, ◌≤◌, List, [], ◌∷◌, true, false, if◌then◌else◌, length, drop, replicate, refl, sym, ap, ap₂, ◌∙◌, arith, length-drop, ◌&&◌, take}
+use Rattle.std.proofs.lemmas.Grind.{common_steps}
 use Rattle.std.specs.Prelude.{Some, None}
 use Rattle.std.specs.Str.{bytes_eq}
 use Rattle.std.proofs.lemmas.Bool.{cases_lt, and_parts}
@@ -13,14 +14,11 @@ use Rattle.typed_path.specs.queries.{shared_count, end_of_first, shared_end}
 use Rattle.typed_path.proofs.lemmas.components.Cuts.{comps-laid_out, ends-within, start-end}
 use Rattle.typed_path.proofs.lemmas.queries.Bases.{slice_after-more, left-fronts}
 use Rattle.typed_path.proofs.lemmas.scan.Readings.{left-all, left-front, left-taken}
+use Rattle.typed_path.proofs.lemmas.lists.Lists.{same-bytes}
 
 -- it is no longer than the text
 left-fits : (cs : List Placed) (t : List ℕ) (k : ℕ) → k ≤ length cs → length (left cs t k 0) ≤ length t
-left-fits cs t zero within = omega (arith, ap length (left-all cs t))
-left-fits cs t (suc k) within = elim (cases_lt (suc k) (length cs)) [
-  | inl inside ↦ omega (arith, ap length (left-front cs t (suc k) (omega arith) inside), length-drop (start_at cs (suc k)) t)
-  | inr all ↦ omega (arith, ap length (left-taken cs t (suc k) 0 (omega arith) (omega arith)))
-]
+left-fits cs t k within = grind (arith, left-all, cases_lt, left-front, length-drop, left-taken)
 
 abbrev shared : List Placed → List Placed → ℕ
 shared cs ds = shared_count (texts (parts cs)) (texts (parts ds))
@@ -36,23 +34,14 @@ pub record Shares (d : Dialect) (t u : List ℕ) (own others : List Placed) (sli
   pub alike : shared (comps d t) (comps d u) ≡ taken + shared own others
 
 pub shares_start : (d : Dialect) (t u : List ℕ) (own others : List Placed) (slice : List ℕ) → own ≡ comps d t → others ≡ comps d u → slice ≡ t → Shares d t u own others slice 0
-shares_start d t u own others slice e f g = record {
-  taken = 0;
-  items = e;
-  slice_left = g;
-  within = omega arith;
-  ends = refl;
-  fits = omega arith;
-  alike = ap₂ shared (sym e) (sym f) ∙ omega arith;
-}
+shares_start d t u own others slice e f g = grind arith
 
 -- where one of the lists is at its end, or the texts differ, no more is shared
 abbrev IsEnd : List Placed → List Placed → Type 0
 IsEnd own others = shared own others ≡ 0
 
 pub no_own : (own others : List Placed) → None ≡ first_part own → IsEnd own others
-no_own [] others none = refl
-no_own (c ∷ cs) others none = cc
+no_own own others h = grind arith
 
 pub no_other : (own others : List Placed) → None ≡ first_part others → IsEnd own others
 no_other [] [] none = refl
@@ -62,10 +51,7 @@ no_other own (e ∷ es) none = cc
 -- one step more of two lists
 pub shared_step : (own others : List Placed) (p q : Part) → Some p ≡ first_part own → Some q ≡ first_part others
     → shared own others ≡ (if bytes_eq p.text q.text then suc (shared (drop 1 own) (drop 1 others)) else 0)
-shared_step [] others p q some other = cc
-shared_step (c ∷ cs) [] p q some other = cc
-shared_step (c ∷ cs) (e ∷ es) p q some other =
-    ap₂ (λ r s. if bytes_eq r.text s.text then suc (shared cs es) else 0) (sym (same_Some _ _ some)) (sym (same_Some _ _ other))
+shared_step own others p q h other = grind arith
 
 -- the first component that is left is the next one of the path
 first_left : (cs : List Placed) (k : ℕ) (p : Part) → Some p ≡ first_part (drop k cs) → (k < length cs) × (end_at cs k ≡ start_at cs k + length p.text)
@@ -77,9 +63,7 @@ first_left (c ∷ cs) (suc k) p some = let h = first_left cs k p some in (omega 
 module _ {d : Dialect} {t u : List ℕ} {own others : List Placed} {slice : List ℕ} {end : ℕ} (h : Shares d t u own others slice end) where
   -- nothing more is shared
   pub shares_end : IsEnd own others → end ≡ shared_end d t u
-  shares_end none =
-      let all : h.taken ≡ shared (comps d t) (comps d u) = sym (h.alike ∙ ap (λ n. h.taken + n) none ∙ omega arith) in
-      h.ends ∙ ap (end_of_first (comps d t)) all
+  shares_end none = grind arith
 
   -- what is left is no longer than the path
   pub slice_fits : length slice ≤ length t
@@ -94,14 +78,7 @@ module _ {d : Dialect} {t u : List ℕ} {own others : List Placed} {slice : List
 
       by : (k : ℕ) → k < length (comps d t) → slice ≡ left (comps d t) t k 0 → length t - length slice ≡ start_at (comps d t) k
       by zero inside is = omega (arith, ap length (is ∙ left-all (comps d t) t), laid.from_start)
-      by (suc k) inside is =
-          omega (
-            arith,
-            ap length (is ∙ left-front (comps d t) t (suc k) (omega arith) inside),
-            length-drop (start_at (comps d t) (suc k)) t,
-            start-end (comps d t) (suc k),
-            ends-within 0 (length t) (comps d t) (suc k) laid.in_order inside,
-          )
+      by (suc k) inside is = grind (arith, left-front, length-drop, start-end, ends-within, laid)
 
   -- the next component of the path: where it begins and ends
   pub next_ends : (p : Part) → Some p ≡ first_part own → (length t - length slice + length p.text ≡ end_at (comps d t) h.taken) × (end_at (comps d t) h.taken ≤ length t)
@@ -133,36 +110,17 @@ module _ {d : Dialect} {t u : List ℕ} {own others : List Placed} {slice : List
 
 -- texts that differ end what is shared
 pub differ : (own others : List Placed) (p q : Part) → Some p ≡ first_part own → Some q ≡ first_part others → bytes_eq p.text q.text ≡ false → IsEnd own others
-differ own others p q some other unlike =
-    shared_step own others p q some other ∙ ap (λ b. if b then suc (shared (drop 1 own) (drop 1 others)) else 0) unlike
+differ own others p q h other unlike = grind arith
 
 -- a path has as many texts as components
 pub texts-length : (d : Dialect) (t : List ℕ) → length (texts (parts_of d t)) ≡ length (comps d t)
-texts-length d t = by (comps d t)
-  where
-    by : (cs : List Placed) → length (texts (parts cs)) ≡ length cs
-    by [] = refl
-    by (c ∷ cs) = ap suc (by cs)
-
-same-bytes : (x : List ℕ) → bytes_eq x x ≡ true
-same-bytes x = (bytes_eq-Decides x x).1 refl
-
--- a list begins with each front of it
-pub starts_own : (n : ℕ) (xs : List (List ℕ)) → starts_with bytes_eq xs (take n xs) ≡ true
-starts_own zero xs = refl
-starts_own (suc n) [] = refl
-starts_own (suc n) (x ∷ xs) = ap₂ (λ a b. a && b) (same-bytes x) (starts_own n xs)
+texts-length d t = grind (arith, common_steps)
 
 -- so does the other list, with what is shared
 pub starts_other : (xs ys : List (List ℕ)) → starts_with bytes_eq ys (take (shared_count xs ys) xs) ≡ true
-starts_other [] ys = refl
-starts_other (x ∷ xs) [] = refl
-starts_other (x ∷ xs) (y ∷ ys) = by (bytes_eq x y) refl (starts_other xs ys)
-  where
-    by : (same : Bool) → bytes_eq x y ≡ same → starts_with bytes_eq ys (take (shared_count xs ys) xs) ≡ true
-        → starts_with bytes_eq (y ∷ ys) (take (if same then suc (shared_count xs ys) else 0) (x ∷ xs)) ≡ true
-    by true e rest = ap₂ (λ a b. a && b) e rest
-    by false e rest = refl
+starts_other [] ys = grind arith
+starts_other (x ∷ xs) [] = grind arith
+starts_other (x ∷ xs) (y ∷ ys) = grind (arith, starts_other xs ys)
 
 -- and what both begin with begins what is shared
 pub starts_shared : (xs ys zs : List (List ℕ)) → starts_with bytes_eq xs zs ≡ true → starts_with bytes_eq ys zs ≡ true → starts_with bytes_eq (take (shared_count xs ys) xs) zs ≡ true
@@ -181,8 +139,3 @@ starts_shared (x ∷ xs) (y ∷ ys) (z ∷ zs) one other =
 pub count-own : (xs : List (List ℕ)) → shared_count xs xs ≡ length xs
 count-own [] = refl
 count-own (x ∷ xs) = ap (λ b. if b then suc (shared_count xs xs) else 0) (same-bytes x) ∙ ap suc (count-own xs)
-
--- what begins nothing is nothing
-pub starts_nothing : (zs : List (List ℕ)) → starts_with bytes_eq [] zs ≡ true → zs ≡ []
-starts_nothing [] e = refl
-starts_nothing (z ∷ zs) e = cc

@@ -9,9 +9,9 @@ use Rattle.typed_path.specs.declared.scan.separators.Separators.{Separators}
 use Rattle.typed_path.specs.declared.scan.cursor.Begin.{Begin}
 use Rattle.typed_path.specs.declared.scan.cursor.Begin.TheVariants.{Body, Inside}
 use Rattle.typed_path.specs.declared.scan.cursor.Body.{Body as Reading}
-use Rattle.typed_path.specs.components.{Dialect, is_separator, Kind, prefix, root, current, parent, normal, kinds, Placed, body, comps, end_of, later_body, parts, parts_of, texts}
+use Rattle.typed_path.specs.components.{Dialect, is_separator, kinds, Placed, body, comps, end_of, later_body, parts, parts_of, texts}
 use Rattle.typed_path.specs.scan.{IsParting, begins_with_name, body_from, end_at, end_from, last_of}
-use Rattle.typed_path.specs.queries.{IsSharedEnd, ShareFront, behind_prefix, end_of_first, has_prefix, is_prefix, shared_count, shared_end}
+use Rattle.typed_path.specs.queries.{IsSharedEnd, ShareFront, behind_prefix, end_of_first, has_prefix, shared_count, shared_end}
 use Rattle.typed_path.specs.views.BodyViews.{body_items, body_slice}
 use Rattle.typed_path.proofs.lemmas.components.Cuts.{comps-laid_out, ends-within}
 use Rattle.typed_path.proofs.lemmas.order.SharedNames.{AreInOrder, begins-name, ends-order, other-at, own-at, unlike}
@@ -46,8 +46,7 @@ front-end s t u front share =
 
 -- a reading of a whole body at the front of its text
 pub whole-items : (b : Reading) (s : Separators) (text : List ℕ) → s ≡ b.separators → text ≡ body_slice b → b.begin ≡ Begin.Body → b.from ≡ 0 → body s 0 text ≡ body_items b
-whole-items b s text same slice begins first =
-    ap₂ (λ r v. body_from Body r 0 v) same slice ∙ ap₂ (λ g n. body_from g b.separators n (body_slice b)) (sym begins) (sym first)
+whole-items b s text same slice begins first = grind arith
 
 -- what is shared ends within the path
 pub shared-within : (d : Dialect) (t u : List ℕ) → shared_end d t u ≤ length t
@@ -61,13 +60,7 @@ shared-within d t u = by (shared_count (texts (parts_of d t)) (texts (parts_of d
 
 module _ (s : Separators) (t beginning : List ℕ) (n : ℕ) (is : body s 0 t ≡ body s 0 beginning ++ later_body s (0 + n) (drop n t)) where
   pub longer-front : ShareFront s t beginning beginning
-  longer-front = record {
-    more = later_body s (0 + n) (drop n t);
-    others = [];
-    own = is;
-    other_is = sym (append-nil (body s 0 beginning));
-    apart = none-shared (texts (parts (later_body s (0 + n) (drop n t))));
-  }
+  longer-front = grind (arith, append-nil, none-shared)
 
   pub shorter-front : ShareFront s beginning t beginning
   shorter-front = record {
@@ -108,12 +101,4 @@ module _ (s : Separators) (t u : List ℕ) (k n : ℕ) (o : Ordering) (parted : 
 
 -- a list without a prefix is all that stands behind one
 pub unprefixed : (cs : List Placed) → has_prefix (kinds (parts cs)) ≡ false → behind_prefix cs ≡ cs
-unprefixed [] e = refl
-unprefixed (c ∷ cs) e = by c.part.kind e
-  where
-    by : (k : Kind) → has_prefix (k ∷ kinds (parts cs)) ≡ false → (if is_prefix k then cs else c ∷ cs) ≡ c ∷ cs
-    by (prefix p) h = cc
-    by root h = refl
-    by current h = refl
-    by parent h = refl
-    by (normal name) h = refl
+unprefixed cs e = grind arith

@@ -1,11 +1,10 @@
 -- A path of a verbatim drive without its `\\?\`: what the test for it finds, and what it is read as.
-use Rattle.std.proofs.Common.{◌≡◌, List, [], ◌∷◌, true, false, ◌&&◌, drop, refl, sym, ap, ap₂, ◌∙◌, ℕ, ◌≤◌, ◌==◌, ◌++◌, Bool, not, if◌then◌else◌, length, take, arith, append-nil, subst, ◌⊎◌, inl, inr, ◌↔◌, map, ◌<◌}
+use Rattle.std.proofs.Common.{◌≡◌, List, [], ◌∷◌, true, false, ◌&&◌, drop, refl, sym, ap, ◌∙◌, ℕ, ◌≤◌, ◌==◌, ◌++◌, Bool, if◌then◌else◌, length, take, arith, append-nil, subst, ◌⊎◌, inl, inr, ◌↔◌, map, ◌<◌}
 use Rattle.std.specs.Prelude.{Some, None, Option, option_and_then, nat_lt}
 use Rattle.std.specs.List.{list_all, slice_split, onto_first, AllByRecursion}
-use Rattle.std.proofs.lemmas.Option.{same_Some}
 use Rattle.std.proofs.lemmas.Bool.{cases_Bool, not-true, eqb-true, and_parts}
 use Rattle.std.proofs.lemmas.List.{drop-drop, nil_from_length}
-use Rattle.std.proofs.lemmas.List.Elements.{All-nil, All-head, All-tail}
+use Rattle.std.proofs.lemmas.List.Elements.{All-head, All-tail}
 use Rattle.std.proofs.lemmas.List.Splits.{slice_split-cons_yes, slice_split-cons_no}
 use Rattle.std.specs.Str.{str_eq_ignore_ascii_case, str_to_ascii_lowercase}
 use Rattle.std.specs.Char.{to_ascii_lowercase}
@@ -14,13 +13,13 @@ use Rattle.std.proofs.lemmas.Slice.Eq.{bytes_eq-Decides}
 use Rattle.std.proofs.Math.Bool.{and-false}
 use Rattle.typed_path.specs.declared.scan.separators.Separators.{Separators}
 use Rattle.typed_path.specs.declared.scan.separators.Separators.TheVariants.{Backslash, Either}
-use Rattle.typed_path.specs.components.{Part, Placed, kinds, parts, windows, separators, begins_verbatim, is_separator, is_verbatim, backslash, Prefix, verbatim_disk, disk, Kind, prefix, root, current, parent, normal, prefix_part, parent_part, name_part, current_part, root_part, Found, found, prefix_of, drive, parts_of, is_dot, is_dot_dot, comps, after_mark, question}
+use Rattle.typed_path.specs.components.{Part, Placed, kinds, parts, windows, separators, is_separator, is_verbatim, backslash, Prefix, verbatim_disk, disk, Kind, prefix, root, prefix_part, parent_part, name_part, current_part, root_part, Found, found, prefix_of, drive, parts_of, is_dot, is_dot_dot, comps, after_mark, question}
 use Rattle.typed_path.specs.scan.{first_part, last_of}
-use Rattle.typed_path.specs.queries.{is_exact, is_simple, is_verbatim_drive, is_written_root, has_allowed_bytes, is_reserved, is_exact_name, is_absolute, has_root, file_name_of, name_of, can_be_simplified, simplified_text, with_drive}
+use Rattle.typed_path.specs.queries.{is_exact, is_simple, is_verbatim_drive, is_written_root, is_exact_name, is_absolute, has_root, file_name_of, name_of, can_be_simplified, simplified_text, with_drive}
 use Rattle.typed_path.specs.places.{resolve}
 use Rattle.typed_path.specs.promises.{IsAlikeBehind}
 use Rattle.typed_path.proofs.lemmas.lists.Lists.{IsUnseparated, slice_split-some}
-use Rattle.typed_path.proofs.lemmas.components.Segments.{later_parts, first_part as segment_part, first_parts, body_parts, body_parts-read, AreRead, IsWritten}
+use Rattle.typed_path.proofs.lemmas.components.Segments.{later_parts, first_part as segment_part, first_parts, body_parts, body_parts-read, AreRead}
 use Rattle.typed_path.proofs.lemmas.components.Prefixes.{Read, of_verbatim_disk, prefix-read, prefix-fits}
 use Rattle.typed_path.proofs.lemmas.components.FirmPrefixes.{drive-stays, separates-either}
 use Rattle.typed_path.proofs.lemmas.components.WindowsNames.{allowed-unseparated}
@@ -29,43 +28,24 @@ use Rattle.typed_path.proofs.lemmas.scan.Steps.{last_of-behind}
 use Rattle.typed_path.proofs.lemmas.components.PartedPrefixes.{drive-either}
 
 pub none_exact : (cs : List Placed) → None ≡ first_part cs → true ≡ list_all is_exact (kinds (parts cs))
-none_exact [] none = refl
-none_exact (c ∷ cs) none = cc
+none_exact cs h = grind arith
 
 pub step_exact : (cs ds : List Placed) (p : Part) → Some p ≡ first_part cs → ds ≡ drop 1 cs → list_all is_exact (kinds (parts cs)) ≡ (is_exact p.kind && list_all is_exact (kinds (parts ds)))
-step_exact [] ds p some rest = cc
-step_exact (c ∷ cs) ds p some rest =
-    ap₂ (λ q es. is_exact q.kind && list_all is_exact (kinds (parts es))) (sym (same_Some _ _ some)) (sym rest)
+step_exact cs ds p h rest = grind arith
 
 -- a component that was taken is one less
 pub one_less : (cs ds : List Placed) (p : Part) → Some p ≡ first_part cs → ds ≡ drop 1 cs → length ds < length cs
-one_less [] ds p some rest = cc
-one_less (c ∷ cs) ds p some rest = omega (arith, ap length rest)
+one_less cs ds p h rest = grind arith
 
 pub none_simple : (cs : List Placed) → None ≡ first_part cs → false ≡ is_simple (kinds (parts cs))
-none_simple [] none = refl
-none_simple (c ∷ cs) none = cc
+none_simple cs h = grind arith
 
 pub one_simple : (cs ds : List Placed) (p : Part) → Some p ≡ first_part cs → ds ≡ drop 1 cs → None ≡ first_part ds → false ≡ is_simple (kinds (parts cs))
-one_simple [] ds p some rest none = refl
-one_simple (c ∷ []) ds p some rest none = refl
-one_simple (c ∷ e ∷ cs) ds p some rest none = absurd (filled (none ∙ ap first_part rest))
-  where
-    filled : None ≡ Some e.part → ⊥
-    filled h = cc
+one_simple cs ds p h rest h1 = grind arith
 
 pub two_simple : (cs ds es : List Placed) (p q : Part) → Some p ≡ first_part cs → ds ≡ drop 1 cs → Some q ≡ first_part ds → es ≡ drop 1 ds
     → (is_verbatim_drive p.kind && is_written_root q.kind && list_all is_exact (kinds (parts es))) ≡ is_simple (kinds (parts cs))
-two_simple [] ds es p q one rest two more = cc
-two_simple (c ∷ []) ds es p q one rest two more = absurd (empty (two ∙ ap first_part rest))
-  where
-    empty : Some q ≡ None → ⊥
-    empty h = cc
-two_simple (c ∷ e ∷ cs) ds es p q one rest two more =
-    let second : q ≡ e.part = same_Some _ _ (two ∙ ap first_part rest) in
-    let behind : es ≡ cs = more ∙ ap (drop 1) rest in
-    ap (λ r. is_verbatim_drive r.kind && is_written_root q.kind && list_all is_exact (kinds (parts es))) (same_Some _ _ one)
-    ∙ ap₂ (λ r fs. is_verbatim_drive c.part.kind && is_written_root r.kind && list_all is_exact (kinds (parts fs))) second behind
+two_simple cs ds es p q one rest two more = grind arith
 
 -- what the test finds: a verbatim drive, and a root and names in what stands behind it
 pub record IsSimple (t : List ℕ) : Type 0 where
@@ -77,16 +57,7 @@ pub record IsSimple (t : List ℕ) : Type 0 where
 
 -- a list that is read without a prefix is not simple
 unprefixed : (s : Separators) (ps : List Part) → AreRead s ps → is_simple (kinds ps) ≡ false
-unprefixed s [] read = refl
-unprefixed s (p ∷ []) read = refl
-unprefixed s (p ∷ q ∷ ps) read = by p.kind p.text read.0
-  where
-    by : (k : Kind) (text : List ℕ) → IsWritten s k text → is_simple (k ∷ q.kind ∷ kinds ps) ≡ false
-    by (prefix r) text e = absurd e
-    by root text e = refl
-    by current text e = refl
-    by parent text e = refl
-    by (normal name) text e = refl
+unprefixed s ps read = grind arith
 
 pub simple_text : (t : List ℕ) → is_simple (kinds (parts_of windows t)) ≡ true → IsSimple t
 simple_text t is = by (prefix_of windows t) refl
@@ -99,20 +70,10 @@ simple_text t is = by (prefix_of windows t) refl
     rooted k e = cc
 
     behind : (p : Prefix) (ks : List Kind) → is_simple (prefix p ∷ ks) ≡ true → (is_verbatim_drive (prefix p) ≡ true) × ((ls : List Kind) × (ks ≡ root ∷ ls) × (list_all is_exact ls ≡ true))
-    behind p [] e = cc
-    behind p (k ∷ ks) e =
-        let two = and_parts _ _ e in
-        let one = and_parts _ _ two.0 in
-        (one.0, (ks, ap (λ l. l ∷ ks) (rooted k one.1), two.1))
+    behind p ks e = grind (arith, and_parts, rooted)
 
     read : (f : Found) → prefix_of windows t ≡ Some f → is_verbatim_drive (prefix f.prefix) ≡ true → (ls : List Kind) × (kinds (body_parts s (drop f.length t)) ≡ root ∷ ls) × (list_all is_exact ls ≡ true) → Read s t f → IsSimple t
-    read f e drives names (of_verbatim_disk rest letter mark found_drive) = record {
-      letter = letter;
-      prefixed = e;
-      marked = mark.marked ∙ ap Some (sym mark.dropped);
-      dropped = ap drive mark.dropped ∙ found_drive;
-      names = names;
-    }
+    read f e drives names (of_verbatim_disk rest letter mark found_drive) = grind (arith, of_verbatim_disk)
     read f e drives names r = cc
 
     by : (o : Option Found) → prefix_of windows t ≡ o → IsSimple t
@@ -132,9 +93,7 @@ simple_long t is =
 
 -- a name that Windows takes as it is written holds no separator
 exact-unseparated : (name : List ℕ) → is_exact_name name ≡ true → IsUnseparated (is_separator Either) name
-exact-unseparated name e =
-    let valid = (and_parts _ _ (and_parts _ _ (and_parts _ _ e).0).0).0 in
-    allowed-unseparated name (not-true _ (and_parts (has_allowed_bytes windows name) (not (is_reserved windows name)) valid).0)
+exact-unseparated name e = grind (arith, allowed-unseparated, not-true)
 
 -- what is cut at `\` alone, in pieces without `/`, is cut at and_parts in the same pieces
 recut : (text : List ℕ) → AllByRecursion (IsUnseparated (is_separator Either)) (slice_split (is_separator Backslash) text) → slice_split (is_separator Either) text ≡ slice_split (is_separator Backslash) text
@@ -153,14 +112,7 @@ recut (b ∷ bs) each = by (λ h. recut bs h) (cases_Bool (is_separator Backslas
         ∙ ap (onto_first b) (again rest) ∙ sym (slice_split-cons_no (is_separator Backslash) b bs e)
 
     by : Again → (is_separator Backslash b ≡ true) ⊎ (is_separator Backslash b ≡ false) → slice_split (is_separator Either) (b ∷ bs) ≡ slice_split (is_separator Backslash) (b ∷ bs)
-    by again (inl e) =
-        let cut = slice_split-cons_yes (is_separator Backslash) b bs e in
-        let rest = (subst (AllByRecursion (IsUnseparated (is_separator Either))) cut each).1 in
-        slice_split-cons_yes (is_separator Either) b bs (separates-either Backslash b e) ∙ ap (λ ps. [] ∷ ps) (again rest) ∙ sym cut
-    by again (inr e) =
-        let some = slice_split-some (is_separator Backslash) bs in
-        let cut = slice_split-cons_no (is_separator Backslash) b bs e ∙ ap (onto_first b) some.2 in
-        plain again some.0 some.1 some.2 (subst (AllByRecursion (IsUnseparated (is_separator Either))) cut each) e
+    by again h = grind (arith, slice_split-cons_yes, separates-either, slice_split-some, slice_split-cons_no, plain)
 
 -- pieces that are read verbatim as such names are read so otherwise too
 pub record Rereads (others : List (List ℕ)) : Type 0 where
@@ -184,15 +136,7 @@ reread (piece ∷ others) exact =
 
     by : (none : Bool) → (length piece == 0) ≡ none → (dotted twice : Bool) → list_all is_exact (kinds (part Backslash none dotted twice ++ rest)) ≡ true
         → (list_all is_exact (kinds rest) ≡ true → Rereads others) → Goal none dotted twice
-    by true e dotted twice exact again =
-        let h = again exact in
-        (h.same, (subst (IsUnseparated (is_separator Either)) (sym (nil_from_length piece (eqb-true (length piece) 0 e))) (All-nil _), h.unseparated))
-    by false e true twice exact again = cc
-    by false e false true exact again = cc
-    by false e false false exact again =
-        let parts = and_parts (is_exact_name piece) (list_all is_exact (kinds rest)) exact in
-        let h = again parts.1 in
-        (ap (λ ps. name_part piece ∷ ps) h.same, (exact-unseparated piece parts.0, h.unseparated))
+    by none e dotted twice exact again = grind (arith, nil_from_length, eqb-true, and_parts, rest, exact-unseparated)
 
 heads : {k l : Kind} {ks ls : List Kind} → k ∷ ks ≡ l ∷ ls → (k ≡ l) × (ks ≡ ls)
 heads h = (cc, cc)
@@ -214,17 +158,10 @@ same_behind s (b ∷ bs) ks is exact (inl e) =
       where
         by : (none : Bool) → (length piece == 0) ≡ none → (dotted twice : Bool)
             → (if none then root_part (backslash ∷ []) else (if dotted then current_part else (if twice then parent_part else name_part piece))).kind ≡ root → IsUnseparated (is_separator Either) piece
-        by true e dotted twice h = subst (IsUnseparated (is_separator Either)) (sym (nil_from_length piece (eqb-true (length piece) 0 e))) (All-nil _)
-        by false e true twice h = cc
-        by false e false true h = cc
-        by false e false false h = cc
+        by none e dotted twice h = grind (arith, nil_from_length, eqb-true)
 
 of_either : (t : List ℕ) → (separators windows t ≡ Backslash) ⊎ (separators windows t ≡ Either)
-of_either t = by (begins_verbatim t)
-  where
-    by : (v : Bool) → ((if v then Backslash else Either) ≡ Backslash) ⊎ ((if v then Backslash else Either) ≡ Either)
-    by true = inl refl
-    by false = inr refl
+of_either t = grind arith
 
 -- a path of a verbatim drive, and the same without its mark: all but the prefix is the same
 pub record IsReread (t : List ℕ) : Type 0 where
@@ -265,8 +202,7 @@ end_named (p ∷ c ∷ cs) = ap (option_and_then (λ last. name_of last.part.kin
 
 -- two prefixes before the same components
 same_end : (p q : Prefix) (ks : List Kind) → end_name (prefix p ∷ ks) ≡ end_name (prefix q ∷ ks)
-same_end p q [] = refl
-same_end p q (k ∷ ks) = refl
+same_end p q ks = grind arith
 
 pub alike_behind : (t : List ℕ) → IsAlikeBehind t (simplified_text windows t)
 alike_behind t = by (can_be_simplified t) refl
@@ -304,12 +240,10 @@ simplified_again t = by (can_be_simplified t) refl
     not_again h = ap (λ b. nat_lt (length (drop 4 t)) 264 && b) (ap (λ ps. is_simple (kinds ps)) h.reread ∙ unsimple h.behind) ∙ and-false (nat_lt (length (drop 4 t)) 264)
       where
         unsimple : (ps : List Part) → is_simple (kinds (prefix_part (disk h.letter) (take 2 (drop 4 t)) ∷ ps)) ≡ false
-        unsimple [] = refl
-        unsimple (p ∷ ps) = refl
+        unsimple ps = grind arith
 
     by : (simple : Bool) → can_be_simplified t ≡ simple → simplified_text windows (if simple then drop 4 t else t) ≡ (if simple then drop 4 t else t)
-    by true e = ap (λ b. if b then drop 4 (drop 4 t) else drop 4 t) (not_again (simple_read t (simple_of t e)))
-    by false e = ap (λ b. if b then drop 4 t else t) e
+    by simple e = grind (arith, not_again, simple_read, simple_of)
 
 -- texts that are told to be the same, ASCII case aside, are
 pub told_same : (one other : List ℕ) (told : Bool) → IsTrue told ↔ (map to_ascii_lowercase one ≡ map to_ascii_lowercase other) → told ≡ str_eq_ignore_ascii_case one other

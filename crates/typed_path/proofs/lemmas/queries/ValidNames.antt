@@ -1,6 +1,7 @@
 -- Names are valid where no byte strays and none stands for a device.
-use Rattle.std.proofs.Common.{◌≡◌, ◌≤◌, ◌<◌, nat_le, ℕ, zero, suc, Bool, true, false, ◌||◌, ◌&&◌, ◌==◌, cond, not, List, [], ◌∷◌, ◌+◌, length, arith, refl, sym, ap, ◌∙◌, true≢false, if◌then◌else◌, ◌++◌, drop, slice_index, Option, Some, None, is_some, eqb-true, ne_eqb}
-use Rattle.std.specs.List.{list_any, before_first, AllByRecursion, onto_first, list_all}
+use Rattle.std.proofs.Common.{◌≡◌, ◌≤◌, ◌<◌, nat_le, ℕ, zero, suc, Bool, true, false, ◌||◌, ◌&&◌, ◌==◌, cond, not, List, [], ◌∷◌, ◌+◌, length, arith, refl, sym, ap, ◌∙◌, ◌++◌, drop, slice_index, Option, Some, None, is_some, eqb-true}
+use Rattle.std.proofs.lemmas.Grind.{common_steps}
+use Rattle.std.specs.List.{list_any, before_first, AllByRecursion, list_all}
 use Rattle.std.specs.Str.{bytes_eq, str_eq_ignore_ascii_case, str_to_ascii_lowercase}
 use Rattle.std.specs.Char.{to_ascii_lowercase}
 use Rattle.std.proofs.lemmas.Slice.Eq.{bytes_eq-Decides}
@@ -8,11 +9,10 @@ use Rattle.std.proofs.lemmas.Bool.{false_from_ne_true, and_parts, leb-true, eqb-
 use Rattle.std.proofs.lemmas.List.{get_or_default}
 use Rattle.memchr.specs.Find.{IsFirstByte, is_byte}
 use Rattle.std.proofs.lemmas.List.Folds.{list_any_at, list_any_none}
-use Rattle.std.proofs.Math.Bool.{and-true}
 use Rattle.typed_path.specs.declared.scan.separators.Separators.{Separators}
 use Rattle.typed_path.specs.declared.scan.separators.Separators.TheVariants.{Slash}
-use Rattle.typed_path.specs.components.{windows, dot, Dialect, unix, slash, dialect_of, separators, is_separator, is_verbatim, root_text, Part, kinds, parts, root_part, current_part, parent_part, name_part, Found, prefix_of, is_dot, is_dot_dot, body, comps_behind, parts_of}
-use Rattle.typed_path.specs.queries.{is_a_dot, reserved_names, is_reserved, is_disallowed, has_allowed_bytes, is_valid_name, is_valid_kind, is_valid}
+use Rattle.typed_path.specs.components.{windows, dot, Dialect, unix, dialect_of, separators, is_separator, Part, kinds, parts, Found, prefix_of, is_dot, is_dot_dot, body, comps_behind, parts_of}
+use Rattle.typed_path.specs.queries.{is_a_dot, reserved_names, is_reserved, has_allowed_bytes, is_valid_name, is_valid_kind, is_valid}
 use Rattle.typed_path.specs.changes.{is_bare_device, is_numbered_device, is_device, is_stray, raw_length}
 use Rattle.typed_path.proofs.lemmas.components.Segments.{pieces, first_part, first_parts, later_part, later_parts, body_parts, parts-body}
 use Rattle.typed_path.proofs.lemmas.components.Prefixes.{separators-windows}
@@ -39,8 +39,7 @@ one_of holds text (name ∷ names) all e = by (str_eq_ignore_ascii_case text nam
     by : (same : Bool) → str_eq_ignore_ascii_case text name ≡ same
         → (list_any (λ n. str_eq_ignore_ascii_case text n) names ≡ true → holds (str_to_ascii_lowercase text) ≡ true)
         → (same || list_any (λ n. str_eq_ignore_ascii_case text n) names) ≡ true → holds (str_to_ascii_lowercase text) ≡ true
-    by true is later h = ap holds ((bytes_eq-Decides (str_to_ascii_lowercase text) (str_to_ascii_lowercase name)).0 is) ∙ all.0
-    by false is later h = later h
+    by same is later h = grind (arith, bytes_eq-Decides)
 
 each_like : AllByRecursion (λ name. like_device (str_to_ascii_lowercase name) ≡ true) reserved_names
 each_like = (refl, (refl, (refl, (refl, (refl, (refl, (refl, (refl, (refl, (refl, (refl, (refl, (refl, (refl, (refl, (refl, (refl, (refl, (refl, (refl, (refl, (refl, (refl, (refl, tt))))))))))))))))))))))))
@@ -58,44 +57,29 @@ reserved-device [] h = stem-like [] h
 reserved-device (a ∷ []) h = by (a == dot) (sym (ap is_like (stem-byte a [])) ∙ stem-like (a ∷ []) h)
   where
     by : (p : Bool) → is_like (cond p [] (a ∷ [])) ≡ true → false ≡ true
-    by true like = like
-    by false like = like
+    by p like = grind arith
 reserved-device (a ∷ b ∷ []) h = by (a == dot) (b == dot) (sym (ap is_like stem) ∙ stem-like (a ∷ b ∷ []) h)
   where
     stem : before_first is_a_dot (a ∷ b ∷ []) ≡ cond (a == dot) [] (a ∷ cond (b == dot) [] (b ∷ []))
     stem = stem-byte a (b ∷ []) ∙ ap (λ t. cond (a == dot) [] (a ∷ t)) (stem-byte b [])
 
     by : (p q : Bool) → is_like (cond p [] (a ∷ cond q [] (b ∷ []))) ≡ true → false ≡ true
-    by true q like = like
-    by false true like = like
-    by false false like = like
+    by p q like = grind arith
 reserved-device (a ∷ b ∷ c ∷ []) h = by (a == dot) (b == dot) (c == dot) (sym (ap is_like stem) ∙ stem-like (a ∷ b ∷ c ∷ []) h)
   where
     stem : before_first is_a_dot (a ∷ b ∷ c ∷ []) ≡ cond (a == dot) [] (a ∷ cond (b == dot) [] (b ∷ cond (c == dot) [] (c ∷ [])))
-    stem =
-        stem-byte a (b ∷ c ∷ [])
-        ∙ ap (λ t. cond (a == dot) [] (a ∷ t)) (stem-byte b (c ∷ []) ∙ ap (λ t. cond (b == dot) [] (b ∷ t)) (stem-byte c []))
+    stem = grind (arith, stem-byte)
 
     by : (p q r : Bool) → is_like (cond p [] (a ∷ cond q [] (b ∷ cond r [] (c ∷ [])))) ≡ true → is_bare_device (to_ascii_lowercase a) (to_ascii_lowercase b) (to_ascii_lowercase c) ≡ true
-    by true q r like = cc
-    by false true r like = cc
-    by false false true like = cc
-    by false false false like = like
+    by p q r like = grind arith
 reserved-device (a ∷ b ∷ c ∷ d ∷ []) h = by (a == dot) (b == dot) (c == dot) (d == dot) (sym (ap is_like stem) ∙ stem-like (a ∷ b ∷ c ∷ d ∷ []) h)
   where
     stem : before_first is_a_dot (a ∷ b ∷ c ∷ d ∷ []) ≡ cond (a == dot) [] (a ∷ cond (b == dot) [] (b ∷ cond (c == dot) [] (c ∷ cond (d == dot) [] (d ∷ []))))
-    stem =
-        stem-byte a (b ∷ c ∷ d ∷ [])
-        ∙ ap (λ t. cond (a == dot) [] (a ∷ t)) (stem-byte b (c ∷ d ∷ [])
-        ∙ ap (λ t. cond (b == dot) [] (b ∷ t)) (stem-byte c (d ∷ []) ∙ ap (λ t. cond (c == dot) [] (c ∷ t)) (stem-byte d [])))
+    stem = grind (arith, stem-byte)
 
     by : (p q r s : Bool) → is_like (cond p [] (a ∷ cond q [] (b ∷ cond r [] (c ∷ cond s [] (d ∷ []))))) ≡ true
         → cond s (is_bare_device (to_ascii_lowercase a) (to_ascii_lowercase b) (to_ascii_lowercase c)) (is_numbered_device (to_ascii_lowercase a) (to_ascii_lowercase b) (to_ascii_lowercase c) (to_ascii_lowercase d)) ≡ true
-    by true q r s like = cc
-    by false true r s like = cc
-    by false false true s like = cc
-    by false false false true like = like
-    by false false false false like = like
+    by p q r s like = grind arith
 reserved-device (a ∷ b ∷ c ∷ d ∷ e ∷ rest) h =
     by (a == dot) (b == dot) (c == dot) (d == dot) (e == dot) (before_first is_a_dot rest) (sym (ap is_like stem) ∙ stem-like (a ∷ b ∷ c ∷ d ∷ e ∷ rest) h)
   where
@@ -111,12 +95,7 @@ reserved-device (a ∷ b ∷ c ∷ d ∷ e ∷ rest) h =
     by : (p q r s t : Bool) (more : List ℕ)
         → is_like (cond p [] (a ∷ cond q [] (b ∷ cond r [] (c ∷ cond s [] (d ∷ cond t [] (e ∷ more)))))) ≡ true
         → cond s (is_bare_device (to_ascii_lowercase a) (to_ascii_lowercase b) (to_ascii_lowercase c)) (t && is_numbered_device (to_ascii_lowercase a) (to_ascii_lowercase b) (to_ascii_lowercase c) (to_ascii_lowercase d)) ≡ true
-    by true q r s t more like = cc
-    by false true r s t more like = cc
-    by false false true s t more like = cc
-    by false false false true t more like = like
-    by false false false false true more like = like
-    by false false false false false more like = cc
+    by p q r s t more like = grind arith
 
 -- whether a text in small letters is the name of a device, by the list of them
 abbrev named : List ℕ → Bool
@@ -124,13 +103,7 @@ named small = list_any (λ device. bytes_eq small (str_to_ascii_lowercase device
 
 -- a byte that is no dot in small letters is none
 undotted : (k a : ℕ) → (to_ascii_lowercase a == k) ≡ true → (k == dot) ≡ false → (a == dot) ≡ false
-undotted k a e other = by (a == dot) refl
-  where
-    by : (p : Bool) → (a == dot) ≡ p → (a == dot) ≡ false
-    by false is = is
-    by true is =
-        let same : to_ascii_lowercase a ≡ k = eqb-true _ _ e in
-        absurd (true≢false (ap (λ x. x == dot) (sym (ap to_ascii_lowercase (eqb-true a dot is)) ∙ same) ∙ other))
+undotted k a e other = grind arith
 
 -- three letters of a name, and what stands behind them before its first dot, are looked for in the list
 reserved-letters : (k l m a b c : ℕ) (more : List ℕ) → (k == dot) ≡ false → (l == dot) ≡ false → (m == dot) ≡ false
@@ -168,14 +141,12 @@ one_along holds from (suc n) d all low high = by (d == from) refl (one_along hol
     each = and_parts (holds from) (holds_along holds (suc from) n) all
 
     by : (p : Bool) → (d == from) ≡ p → (suc from ≤ d → d < suc from + n → holds d ≡ true) → holds d ≡ true
-    by true is later = ap holds (eqb-true d from is) ∙ each.0
-    by false is later = let other = eqb-false d from is in later (omega (arith, low, other)) (omega (arith, high))
+    by p is later = grind (arith, eqb-true, each, eqb-false)
 
 -- one of some tests holds
 module _ (goal : Bool) where
   pub one_of_two : (p q : Bool) → (p ≡ true → goal ≡ true) → (q ≡ true → goal ≡ true) → (p || q) ≡ true → goal ≡ true
-  one_of_two true q f g e = f refl
-  one_of_two false q f g e = g e
+  one_of_two p q f g e = grind arith
 
 -- three letters with nothing behind them before the first dot
 bare-reserved : (a b c : ℕ) (more : List ℕ) → before_first is_a_dot more ≡ []
@@ -225,8 +196,7 @@ may-reserved (a ∷ b ∷ c ∷ d ∷ []) h = by (d == dot) refl h
     by : (s : Bool) → (d == dot) ≡ s
         → cond s (is_bare_device (to_ascii_lowercase a) (to_ascii_lowercase b) (to_ascii_lowercase c)) (is_numbered_device (to_ascii_lowercase a) (to_ascii_lowercase b) (to_ascii_lowercase c) (to_ascii_lowercase d)) ≡ true
         → is_reserved windows (a ∷ b ∷ c ∷ d ∷ []) ≡ true
-    by true is like = bare-reserved a b c (d ∷ []) (stem-byte d [] ∙ ap (λ p. cond p [] (d ∷ [])) is) like
-    by false is like = numbered-reserved a b c d (d ∷ []) (stem-byte d [] ∙ ap (λ p. cond p [] (d ∷ [])) is) like
+    by s is like = grind (arith, bare-reserved, stem-byte, numbered-reserved)
 may-reserved (a ∷ b ∷ c ∷ d ∷ e ∷ rest) h = by (d == dot) (e == dot) refl refl h
   where
     stem : before_first is_a_dot (d ∷ e ∷ rest) ≡ cond (d == dot) [] (d ∷ cond (e == dot) [] (e ∷ before_first is_a_dot rest))
@@ -243,12 +213,7 @@ may-reserved (a ∷ b ∷ c ∷ d ∷ e ∷ rest) h = by (d == dot) (e == dot) r
 
 -- both ways: the first bytes of a name tell whether it stands for a device
 pub devices_told : (name : List ℕ) → is_device name ≡ is_reserved windows name
-devices_told name = by (is_device name) (is_reserved windows name) (may-reserved name) (reserved-device name)
-  where
-    by : (may is : Bool) → (may ≡ true → is ≡ true) → (is ≡ true → may ≡ true) → may ≡ is
-    by true is to from = sym (to refl)
-    by false true to from = from refl
-    by false false to from = refl
+devices_told name = grind (arith, may-reserved, reserved-device)
 
 -- The names of a text are valid where no byte strays and no segment stands for a device.
 
@@ -274,28 +239,10 @@ valid-dots d (a ∷ b ∷ c ∷ piece) h = cc
 -- the component of a piece is valid where the piece is a valid name
 module _ (s : Separators) (d : Dialect) where
   valid-first : (piece : List ℕ) → is_valid_kind d (first_part s piece).kind ≡ is_valid_name d piece
-  valid-first piece = by (length piece == 0) (is_dot piece) (is_dot_dot piece) refl refl refl
-    where
-      by : (empty dotted twice : Bool) → (length piece == 0) ≡ empty → is_dot piece ≡ dotted → is_dot_dot piece ≡ twice
-          → is_valid_kind d (if empty then root_part (root_text s) else (if dotted then current_part else (if twice then parent_part else name_part piece))).kind ≡ is_valid_name d piece
-      by true dotted twice e f g = sym (valid-empty d piece e)
-      by false true twice e f g = sym (valid-dot d piece f)
-      by false false true e f g = sym (valid-dots d piece g)
-      by false false false e f g = refl
+  valid-first piece = grind (arith, valid-empty, valid-dot, valid-dots)
 
   valid-later : (piece : List ℕ) (more : List Part) → is_valid d (kinds (later_part s piece ++ more)) ≡ (is_valid_name d piece && is_valid d (kinds more))
-  valid-later piece more = by (length piece == 0) (is_dot piece) (is_verbatim s) (is_dot_dot piece) refl refl refl
-    where
-      rest : Bool
-      rest = is_valid d (kinds more)
-
-      by : (empty dotted verbatim twice : Bool) → (length piece == 0) ≡ empty → is_dot piece ≡ dotted → is_dot_dot piece ≡ twice
-          → is_valid d (kinds ((if empty then [] else (if dotted then (if verbatim then current_part ∷ [] else []) else (if twice then parent_part else name_part piece) ∷ [])) ++ more)) ≡ (is_valid_name d piece && rest)
-      by true dotted verbatim twice e f g = ap (λ b. b && rest) (sym (valid-empty d piece e))
-      by false true true twice e f g = ap (λ b. b && rest) (sym (valid-dot d piece f))
-      by false true false twice e f g = ap (λ b. b && rest) (sym (valid-dot d piece f))
-      by false false verbatim true e f g = ap (λ b. b && rest) (sym (valid-dots d piece g))
-      by false false verbatim false e f g = refl
+  valid-later piece more = grind (arith, valid-empty, valid-dot, valid-dots)
 
   valid-later_parts : (ps : List (List ℕ)) → is_valid d (kinds (later_parts s ps)) ≡ list_all (is_valid_name d) ps
   valid-later_parts [] = refl
@@ -306,35 +253,17 @@ module _ (s : Separators) (d : Dialect) where
   valid-body_parts (b ∷ bs) = by (pieces s (b ∷ bs)) (slice_split-some (is_separator s) (b ∷ bs)).2
     where
       by : {piece : List ℕ} {more : List (List ℕ)} (ps : List (List ℕ)) → ps ≡ piece ∷ more → is_valid d (kinds (first_parts s ps)) ≡ list_all (is_valid_name d) ps
-      by [] e = cc
-      by (p ∷ ps) e = ap (λ b. b && is_valid d (kinds (later_parts s ps))) (valid-first p) ∙ ap (λ b. is_valid_name d p && b) (valid-later_parts ps)
+      by ps e = grind (arith, later_parts, valid-first, valid-later_parts)
 
 -- a name is valid by its bytes, and as it stands for no device
 valid-both : (d : Dialect) (ps : List (List ℕ)) → list_all (is_valid_name d) ps ≡ (list_all (has_allowed_bytes d) ps && not (list_any (is_reserved d) ps))
 valid-both d [] = refl
-valid-both d (p ∷ ps) =
-    ap (λ b. is_valid_name d p && b) (valid-both d ps)
-    ∙ by (has_allowed_bytes d p) (is_reserved d p) (list_all (has_allowed_bytes d) ps) (list_any (is_reserved d) ps)
-  where
-    by : (a r b q : Bool) → ((a && not r) && (b && not q)) ≡ ((a && b) && not (r || q))
-    by false r b q = refl
-    by true true true q = refl
-    by true true false q = refl
-    by true false b q = refl
+valid-both d (p ∷ ps) = grind (arith, common_steps, valid-both d ps)
 
 -- the bytes of all pieces are allowed where none of the text strays
 allowed-pieces : (s : Separators) (text : List ℕ) → list_all (has_allowed_bytes (dialect_of s)) (pieces s text) ≡ not (list_any (is_stray s) text)
-allowed-pieces s [] = refl
-allowed-pieces s (x ∷ xs) = by (is_separator s x) (is_disallowed (dialect_of s) x) refl (pieces s xs) (slice_split-some (is_separator s) xs).2 (allowed-pieces s xs)
-  where
-    by : {piece : List ℕ} {more : List (List ℕ)} (separates disallowed : Bool) → is_disallowed (dialect_of s) x ≡ disallowed → (ps : List (List ℕ)) → ps ≡ piece ∷ more
-        → list_all (has_allowed_bytes (dialect_of s)) ps ≡ not (list_any (is_stray s) xs)
-        → list_all (has_allowed_bytes (dialect_of s)) (cond separates ([] ∷ ps) (onto_first x ps)) ≡ not ((disallowed && not separates) || list_any (is_stray s) xs)
-    by true true f ps e all = all
-    by true false f ps e all = all
-    by false disallowed f [] e all = cc
-    by false true f (p ∷ ps) e all = ap (λ b. not (b || list_any (is_disallowed (dialect_of s)) p) && list_all (has_allowed_bytes (dialect_of s)) ps) f
-    by false false f (p ∷ ps) e all = ap (λ b. not (b || list_any (is_disallowed (dialect_of s)) p) && list_all (has_allowed_bytes (dialect_of s)) ps) f ∙ all
+allowed-pieces s [] = grind arith
+allowed-pieces s (x ∷ xs) = grind (arith, pieces, slice_split-some, allowed-pieces s xs)
 
 -- the names of a text behind its prefix
 valid-body : (s : Separators) (at : ℕ) (text : List ℕ)
@@ -361,16 +290,11 @@ valid-windows t o e =
     ∙ by o ∙ ap (λ p. is_valid windows (kinds (parts (comps_behind (separators windows t) t p)))) (sym e)
   where
     by : (p : Option Found) → is_valid windows (kinds (parts (body (separators windows t) (raw_length p) (drop (raw_length p) t)))) ≡ is_valid windows (kinds (parts (comps_behind (separators windows t) t p)))
-    by None = refl
-    by (Some f) = refl
+    by p = grind arith
 
 -- a byte of a Unix text strays where it is NUL
 stray-nul : (b : ℕ) → is_stray Slash b ≡ (b == 0)
-stray-nul b = by (b == slash) refl
-  where
-    by : (separates : Bool) → (b == slash) ≡ separates → ((separates || b == 0) && not separates) ≡ (b == 0)
-    by true e = sym (ne_eqb b 0 (λ none. omega (arith, eqb-true b slash e)))
-    by false e = and-true (b == 0)
+stray-nul b = grind arith
 
 -- the search for NUL finds a byte that strays
 pub stray-slash : (text : List ℕ) (found : Option ℕ) → IsFirstByte (is_byte 0) text found → is_some found ≡ list_any (is_stray Slash) text

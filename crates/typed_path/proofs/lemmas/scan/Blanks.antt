@@ -1,15 +1,15 @@
 -- Segments that count for nothing behind others: how marks tell that there is none, and what that tells of the pieces of a text.
-use Rattle.std.proofs.Common.{◌≡◌, ℕ, zero, suc, ◌+◌, ◌-◌, ◌*◌, ◌^◌, ◌/◌, ◌%◌, ◌≤◌, ◌<◌, List, [], ◌∷◌, Bool, true, false, cond, ◌&&◌, ◌||◌, ◌==◌, w64, length, take, take_all, drop, ◌++◌, slice_index, refl, sym, ap, ◌∙◌, arith, bit_or, bit_and, shr-shr, true≢false, drop-drop, inl, inr}
+use Rattle.std.proofs.Common.{◌≡◌, ℕ, suc, ◌+◌, ◌-◌, ◌*◌, ◌^◌, ◌/◌, ◌%◌, ◌≤◌, ◌<◌, List, [], ◌∷◌, Bool, true, false, cond, ◌&&◌, ◌||◌, ◌==◌, w64, length, take, take_all, drop, ◌++◌, slice_index, refl, sym, ap, ◌∙◌, arith, bit_or, bit_and, shr-shr, true≢false, drop-drop, inl, inr}
 use Rattle.std.specs.Int.{bit_at}
-use Rattle.std.specs.List.{before_first, list_any, onto_first}
-use Rattle.std.proofs.lemmas.Bool.{and_parts, or_parts, false_from_ne_true, cases_lt}
+use Rattle.std.specs.List.{before_first, list_any, onto_first, AllByRecursion}
+use Rattle.std.proofs.lemmas.Bool.{and_parts, false_from_ne_true, cases_lt, or_parts}
 use Rattle.std.proofs.lemmas.List.{drop_more, drop_all, take_more}
 use Rattle.std.proofs.lemmas.Nat.Bits.{bit_at-zero, bit_at_or, bit_at_and, bit_at-lt, bit_at_set_same}
 use Rattle.typed_path.specs.declared.scan.separators.Separators.{Separators}
-use Rattle.typed_path.specs.components.{dot, is_separator, body}
+use Rattle.typed_path.specs.components.{dot, is_separator, body, is_dot}
 use Rattle.typed_path.specs.declared.scan.cursor.Begin.TheVariants.{Body}
 use Rattle.typed_path.proofs.lemmas.components.Segments.{body_from-separator, segment-byte, pieces}
-use Rattle.typed_path.specs.scan.{IsMask, stands_at, is_one_of, MarksNoBlank, is_blank, begins_blank, has_blank_behind}
+use Rattle.typed_path.specs.scan.{IsMask, stands_at, is_one_of, MarksNoBlank, begins_blank, has_blank_behind, is_blank}
 use Rattle.typed_path.proofs.lemmas.scan.Searches.{set-of}
 
 -- ---- marks
@@ -74,18 +74,7 @@ module _ (s : Separators) (test behind : List ℕ → Bool) (none : behind [] �
 
 -- the first segment is no blank one where it ends neither at once nor behind a dot
 unblank : (s : Separators) (text : List ℕ) → ends_segment s text ≡ false → (begins_with_dot text ≡ true → ends_segment s (drop 1 text) ≡ false) → begins_blank s text ≡ false
-unblank s [] e f = absurd (true≢false e)
-unblank s (a ∷ rest) e f = ap is_blank (segment-byte s a rest ∙ ap (λ p. cond p [] (a ∷ before_first (is_separator s) rest)) e) ∙ behind rest f
-  where
-    behind : (rest : List ℕ) → (begins_with_dot (a ∷ rest) ≡ true → ends_segment s rest ≡ false) → is_blank (a ∷ before_first (is_separator s) rest) ≡ false
-    behind [] f = false_from_ne_true (a == dot) (λ h. true≢false (f h))
-    behind (b ∷ rest) f = by (is_separator s b) refl
-      where
-        by : (p : Bool) → is_separator s b ≡ p → is_blank (a ∷ before_first (is_separator s) (b ∷ rest)) ≡ false
-        by true e =
-            ap (λ t. is_blank (a ∷ t)) (segment-byte s b rest ∙ ap (λ p. cond p [] (b ∷ before_first (is_separator s) rest)) e)
-            ∙ false_from_ne_true (a == dot) (λ h. true≢false (sym e ∙ f h))
-        by false e = ap (λ t. is_blank (a ∷ t)) (segment-byte s b rest ∙ ap (λ p. cond p [] (b ∷ before_first (is_separator s) rest)) e)
+unblank s text e f = grind (arith, segment-byte, false_from_ne_true)
 
 -- where no separator stands before a blank segment, no segment behind the first is one
 pub nowhere : (s : Separators) (text : List ℕ) → ((k : ℕ) → k < length text → (is_separator s (slice_index text k) && begins_blank s (drop (suc k) text)) ≡ false) → has_blank_behind s text ≡ false
@@ -124,10 +113,7 @@ module _ (s : Separators) (text : List ℕ) (at n bound separators ends dots : �
       unended m t is within unset = false_from_ne_true _ (λ e. let set = ended m within (ap (ends_segment s) (sym is) ∙ e) in absurd (omega (arith, set, unset)))
 
       clean : is_separator s (slice_index text (at + k)) ≡ true → begins_blank s (drop (suc (at + k)) text) ≡ false
-      clean separates =
-          let m = none k (separated k low separates) in
-          unblank s (drop (suc (at + k)) text) (unended (1 + k) _ at_one one m.0)
-          (λ d. let own = ap begins_with_dot (sym at_one) ∙ d in unended (2 + k) _ at_two (two own) (m.1 (dotted (1 + k) one own)))
+      clean separates = grind (arith, unblank, unended, at_one, at_two)
 
 -- a block of n bytes, by the marks of its separators and dots
 module _ (s : Separators) (pair : ℕ × ℕ) (paired : (b : ℕ) → is_separator s b ≡ is_one_of pair b) (text : List ℕ) (at n marks dots : ℕ) (fits : at + n ≤ length text)
@@ -181,14 +167,11 @@ last-separator s at text some separates filled = by (take (length text - 1) text
     by [] e = absurd (true≢false (sym (ap (λ t. length t == 0) e) ∙ filled))
     by (u ∷ us) e = ap (body s at) (whole ∙ ap (λ t. t ++ last ∷ []) e) ∙ body_from-separator s at last separates Body u us
 
--- what no byte of a text is, none of its first bytes is
-pub free-first : (p : ℕ → Bool) (text : List ℕ) (n : ℕ) → list_any p text ≡ false → list_any p (take n text) ≡ false
-free-first p text zero free = refl
-free-first p [] (suc n) free = refl
-free-first p (b ∷ bs) (suc n) free = let both = or_parts (p b) (list_any p bs) free in ap (λ x. x || list_any p (take n bs)) both.0 ∙ free-first p bs n both.1
+-- a piece that is not blank is no `.`, and not empty
+pub filled : (piece : List ℕ) → is_blank piece ≡ false → ((length piece == 0) ≡ false) × (is_dot piece ≡ false)
+filled piece e = grind arith
 
--- nor any of the others
-pub free-behind : (p : ℕ → Bool) (text : List ℕ) (n : ℕ) → list_any p text ≡ false → list_any p (drop n text) ≡ false
-free-behind p text zero free = free
-free-behind p [] (suc n) free = refl
-free-behind p (b ∷ bs) (suc n) free = free-behind p bs n (or_parts (p b) (list_any p bs) free).1
+-- pieces that are not blank are not empty
+pub pieces-filled : (ps : List (List ℕ)) → list_any is_blank ps ≡ false → AllByRecursion (λ p. (length p == 0) ≡ false) ps
+pieces-filled [] none = tt
+pieces-filled (p ∷ ps) none = let own = or_parts (is_blank p) (list_any is_blank ps) none in ((filled p own.0).0, pieces-filled ps own.1)

@@ -1,20 +1,18 @@
 -- The end of a text: what belongs to no component, the last component, and the text before it.
-use Rattle.std.proofs.Common.{◌≡◌, ℕ, ◌+◌, ◌-◌, ◌<◌, ◌≤◌, Bool, true, false, not, ◌&&◌, ◌||◌, cond, eqb, ltb, List, [], ◌∷◌, ◌++◌, length, take, drop, refl, sym, ap, subst, ◌∙◌, append-nil, append_assoc, arith, inl, inr, ◌⊎◌, ◌==◌, option_map, ne_eqb, ltb-false, ltb-true, length-append, take_at, length-drop, take_all, slice_index}
-use Rattle.std.specs.List.{after_last, suffix_len, position_or_len, slice_split}
-use Rattle.std.proofs.lemmas.Bool.{cases_lt, or_parts, or_right, and_from, not_from_false, or_cases, not_from_true}
+use Rattle.std.proofs.Common.{◌≡◌, ℕ, ◌+◌, ◌-◌, ◌<◌, ◌≤◌, Bool, true, false, not, ◌&&◌, cond, ltb, List, [], ◌∷◌, ◌++◌, length, take, drop, refl, sym, ap, subst, ◌∙◌, append-nil, append_assoc, arith, inl, inr, ◌⊎◌, ◌==◌, ne_eqb, ltb-false, ltb-true, length-append, take_at, length-drop, take_all, slice_index}
+use Rattle.std.proofs.lemmas.Grind.{common_steps}
+use Rattle.std.specs.List.{after_last, suffix_len, position_or_len}
+use Rattle.std.proofs.lemmas.Bool.{cases_lt, or_parts, not_from_true}
 use Rattle.std.proofs.lemmas.List.{drop_all, nil_from_length, take_more}
 use Rattle.std.proofs.lemmas.List.Concat.{flat_map-append}
 use Rattle.std.proofs.lemmas.List.Splits.{slice_split_none}
 use Rattle.std.proofs.lemmas.List.Sums.{position_or_len_is}
-use Rattle.std.specs.Option.{unwrap_or}
 use Rattle.typed_path.specs.declared.scan.separators.Separators.{Separators}
 use Rattle.typed_path.specs.declared.scan.cursor.Begin.{Begin}
-use Rattle.typed_path.specs.declared.scan.cursor.Begin.TheVariants.{Body, Inside}
-use Rattle.typed_path.specs.components.{is_separator, is_verbatim, dot, root_text, Placed, Part, end_of, current_part, parent_part, name_part, root_part, Segment, named, is_dot, later, later_body, component, first, parts}
+use Rattle.typed_path.specs.components.{is_separator, dot, root_text, Part, current_part, parent_part, name_part, root_part, Segment, later, later_body, component, first, parts}
 use Rattle.typed_path.specs.scan.{body_from, is_clean, is_trimmed, counts, end_from}
 use Rattle.typed_path.proofs.lemmas.lists.Lists.{IsUnseparated, last_place, after_last-drop, behind_last-unseparated, cut_last, IsLastPlace, slice_split-append}
 use Rattle.typed_path.proofs.lemmas.components.Segments.{body_from-append, body_from-separator, is_clean-append, is_clean-separator, later_body-separator, later-first, body_from-empty, body_from-first, later_part, later_parts, parts-later_body}
-use Rattle.typed_path.proofs.lemmas.scan.Steps.{last_of-push}
 use Rattle.typed_path.proofs.lemmas.components.Cuts.{root_text-length}
 
 -- The bytes at the end of a text that belong to no component.
@@ -25,15 +23,7 @@ later_body-last s at vs unseparated = rw (slice_split_none (is_separator s) vs u
 
 -- a later segment that does not count is no component
 later_none : (s : Separators) (g : Segment) → counts s g.text ≡ false → later s g ≡ []
-later_none s g h = by_tests (eqb (length g.text) 0) (is_dot g.text) (is_verbatim s) (named g) _ h
-  where
-    by_tests : (empty dotted verbatim : Bool) (naming current : List Placed) → not empty && (verbatim || not dotted) ≡ false
-        → cond empty [] (cond dotted (cond verbatim current []) naming) ≡ []
-    by_tests true dotted verbatim naming current h = refl
-    by_tests false true false naming current h = refl
-    by_tests false true true naming current h = cc
-    by_tests false false true naming current h = cc
-    by_tests false false false naming current h = cc
+later_none s g h = grind arith
 
 -- a text, and what is left of it once bytes at its end are cut that belong to no component
 pub record IsTrimOf (s : Separators) (kept text : List ℕ) : Type 0 where
@@ -43,31 +33,16 @@ pub record IsTrimOf (s : Separators) (kept text : List ℕ) : Type 0 where
 
 -- a separator at the end belongs to none
 trim-separator : (s : Separators) (us : List ℕ) (x : ℕ) → is_separator s x ≡ true → 0 < length us → IsTrimOf s us (us ++ x ∷ [])
-trim-separator s [] x separates some = absurd (omega arith)
-trim-separator s (u ∷ us) x separates some = record {
-  some = some;
-  same = λ begin at. sym (body_from-separator s at x separates begin u us);
-  clean = λ begin. sym (is_clean-separator s x separates begin u us);
-}
+trim-separator s us x separates h = grind (arith, body_from-separator, is_clean-separator)
 
 -- a last segment that does not count belongs to none
 trim-segment : (s : Separators) (us : List ℕ) (x : ℕ) (vs : List ℕ) → is_separator s x ≡ true → IsUnseparated (is_separator s) vs → counts s vs ≡ false
     → IsTrimOf s (us ++ x ∷ []) (us ++ x ∷ vs)
-trim-segment s us x vs separates unseparated blank = record {
-  some = omega (arith, length-append us (x ∷ []));
-  same = λ begin at.
-      let place = at + length us + 1 in
-      sym (body_from-append s at x separates begin us vs
-      ∙ ap (λ cs. body_from begin s at (us ++ x ∷ []) ++ cs) (later_body-last s place vs unseparated ∙ later_none s (record { text = vs; start = place }) blank)
-      ∙ append-nil (body_from begin s at (us ++ x ∷ [])));
-  clean = λ begin. sym (is_clean-append s x separates begin us vs);
-}
+trim-segment s us x vs separates unseparated blank = grind (arith, common_steps, length-append, body_from-append, later_body-last, later_none, append-nil, is_clean-append)
 
 -- two bytes or more count
 counts-long : (s : Separators) (vs : List ℕ) → 1 < length vs → counts s vs ≡ true
-counts-long s [] long = absurd (omega arith)
-counts-long s (v ∷ []) long = absurd (omega arith)
-counts-long s (v ∷ w ∷ vs) long = and_from _ _ (not_from_false _ (ne_eqb (length (v ∷ w ∷ vs)) 0 (λ e. omega arith))) (or_right (is_verbatim s) true refl)
+counts-long s vs long = grind arith
 
 -- without its last byte
 trim-behind : (s : Separators) (us : List ℕ) (x : ℕ) (vs : List ℕ) → is_separator s x ≡ true → IsUnseparated (is_separator s) vs → counts s vs ≡ false → 1 < length (us ++ x ∷ vs)
@@ -106,17 +81,10 @@ trim_once s text h =
 
 -- a separator at the end adds no later component
 later-end : (s : Separators) (mark : ℕ) (rest : List ℕ) → is_separator s mark ≡ true → parts (later_body s 0 rest) ≡ parts (later_body s 0 (rest ++ mark ∷ []))
-later-end s mark rest is =
-    parts-later_body s 0 rest
-    ∙ sym (ap (later_parts s) (slice_split-append (is_separator s) rest mark [] is) ∙ flat_map-append (later_part s) (slice_split (is_separator s) rest) ([] ∷ []) ∙ append-nil (later_parts s (slice_split (is_separator s) rest)))
-    ∙ sym (parts-later_body s 0 (rest ++ mark ∷ []))
+later-end s mark rest is = grind (arith, parts-later_body, later_parts, slice_split-append, flat_map-append, later_part, append-nil)
 
 pub end-cut : (s : Separators) (path : List ℕ) → 1 ≤ length path → is_separator s (slice_index path (length path - 1)) ≡ true → parts (later_body s 0 (take (length path - 1) path)) ≡ parts (later_body s 0 path)
-end-cut s path long is =
-    let before = length path - 1 in
-    let whole : before + 1 ≡ length path = omega (arith, long) in
-    later-end s (slice_index path before) (take before path) is
-    ∙ ap (λ t. parts (later_body s 0 t)) (sym (take_more path before 0 (omega (arith, long))) ∙ take_all (before + 1) path (omega (arith, whole)))
+end-cut s path long is = grind (arith, common_steps, later-end, take_more)
 
 -- The last component of a text, and the text before it.
 
@@ -134,13 +102,7 @@ pub record IsLast (begin : Begin) (s : Separators) (at : ℕ) (text kept segment
 -- a text with nothing behind its first segment is the component of that
 body_from-alone : (begin : Begin) (s : Separators) (at b : ℕ) (bs : List ℕ) (n : ℕ) → is_clean begin s (b ∷ bs) ≡ true → position_or_len (is_separator s) (b ∷ bs) ≡ n
     → later_body s (at + n) (drop n (b ∷ bs)) ≡ [] → body_from begin s at (b ∷ bs) ≡ body_from begin s at [] ++ first s (record { text = take n (b ∷ bs); start = at })
-body_from-alone begin s at b bs n clean e none =
-    let g : Segment = record { text = take n (b ∷ bs); start = at } in
-    body_from-first begin s at b bs clean
-    ∙ ap (λ k. first s (record { text = take k (b ∷ bs); start = at }) ++ later_body s (at + k) (drop k (b ∷ bs))) e
-    ∙ ap (λ cs. first s g ++ cs) none
-    ∙ append-nil (first s g)
-    ∙ ap (λ cs. cs ++ first s g) (sym (body_from-empty begin s at))
+body_from-alone begin s at b bs n clean e h = grind (arith, body_from-first)
 
 -- a separator alone is the root
 last-root : (begin : Begin) (s : Separators) (at x : ℕ) → is_separator s x ≡ true → is_clean begin s (x ∷ []) ≡ true → IsLast begin s at (x ∷ []) [] []
@@ -167,8 +129,7 @@ last-single begin s at (b ∷ bs) some unseparated clean =
 
 -- a segment that is not empty is as wide as it is long
 width-some : (segment : List ℕ) → 0 < length segment → width segment ≡ length segment
-width-some [] some = absurd (omega arith)
-width-some (b ∷ bs) some = refl
+width-some segment h = grind arith
 
 -- a segment that counts behind the last separator is the last component
 last-behind : (begin : Begin) (s : Separators) (at : ℕ) (us : List ℕ) (x : ℕ) (vs : List ℕ) → is_separator s x ≡ true → IsUnseparated (is_separator s) vs → counts s vs ≡ true → 0 < length vs
@@ -187,10 +148,7 @@ module _ (begin : Begin) (s : Separators) (at : ℕ) (text : List ℕ) (start : 
     (trimmed : is_trimmed s text ≡ true) (clean : is_clean begin s text ≡ true) where
   -- its last segment counts, or it is one byte long
   counted_or_short : (length text < 2) ⊎ (counts s (drop start text) ≡ true)
-  counted_or_short = elim (or_cases (ltb (length text) 2) (counts s (after_last (is_separator s) text)) trimmed) [
-    | inl short ↦ inl (ltb-true (length text) 2 short)
-    | inr counted ↦ inr (rw (after_last-drop (is_separator s) text start 0 place) at counted)
-  ]
+  counted_or_short = grind (arith, ltb-true, after_last-drop)
 
   -- where that is the end, the text is the root alone
   pub last-at_end : start ≡ length text → IsLast begin s at text [] (drop start text)
@@ -233,8 +191,7 @@ is_clean-kept begin s text start place clean = elim (cases_lt 0 start) [
 ]
   where
     empty_is_clean : (b : Begin) → is_clean b s [] ≡ true
-    empty_is_clean Body = refl
-    empty_is_clean Inside = refl
+    empty_is_clean b = grind arith
 
 -- a segment gives a component of its width
 component-width : (s : Separators) (at : ℕ) (segment : List ℕ) → (p : Part) × (first s (record { text = segment; start = at }) ≡ component p at) × (length p.text ≡ width segment)
@@ -255,13 +212,7 @@ component-width s at (a ∷ b ∷ c ∷ ds) =
 
 -- the components end where the text does
 end_from-segment : {begin : Begin} {s : Separators} {at : ℕ} {text kept segment : List ℕ} → IsLast begin s at text kept segment → end_from at (body_from begin s at text) ≡ at + length text
-end_from-segment {begin} {s} {at} {text} {kept} {segment} h =
-    let c = component-width s h.place segment in
-    let cs = body_from begin s at kept in
-    ap (end_from at) (h.items ∙ ap (λ ds. cs ++ ds) c.1)
-    ∙ ap (λ o. unwrap_or (option_map end_of o) at) (last_of-push cs (record { part = c.0; start = h.place }))
-    ∙ ap (λ n. h.place + n) c.2
-    ∙ h.ends
+end_from-segment {begin} {s} {at} {text} {kept} {segment} h = grind (arith, common_steps)
 
 -- so does each text that ends with a component
 pub end_from-trimmed : (begin : Begin) (s : Separators) (at : ℕ) (text : List ℕ) → is_trimmed s text ≡ true → is_clean begin s text ≡ true → end_from at (body_from begin s at text) ≡ at + length text

@@ -1,27 +1,19 @@
 -- A reading from both ends, step by step, and the slice that it leaves.
-use Rattle.std.proofs.Common.{◌≡◌, ℕ, ◌+◌, ◌-◌, ◌<◌, ◌≤◌, List, [], ◌∷◌, ◌++◌, length, reverse, take, drop, get_or, slice_get, Some, None, refl, sym, ap, ap₂, ◌∙◌, append_assoc, add-zero, zero-add, add_assoc, inl, inr, nat_lt, take-take, take_all, arith, ◌==◌, ◌&&◌, if◌then◌else◌, slice_range, ne_eqb, zero, suc, option_map, le_of_eq, unwrap_or, map, Option, length-drop, length-take, take-append-drop, drop-drop, take_at, get_or-take, get_or-drop, lt-ltb, le-ltb, eq-eqb}
-use Rattle.std.proofs.lemmas.List.{length-reverse, reverse-append, reverse-reverse, get_or-reverse, nil_from_length, drop-take, take_rest, drop_more, map-append}
+use Rattle.std.proofs.Common.{◌≡◌, ℕ, ◌+◌, ◌-◌, ◌<◌, ◌≤◌, List, [], ◌∷◌, ◌++◌, length, reverse, take, drop, get_or, slice_get, Some, None, refl, sym, ap, ap₂, ◌∙◌, append_assoc, add-zero, zero-add, add_assoc, inl, inr, nat_lt, take-take, take_all, arith, ◌==◌, ◌&&◌, if◌then◌else◌, slice_range, ne_eqb, zero, suc, option_map, le_of_eq, unwrap_or, map, Option, length-drop, length-take, take-append-drop, drop-drop, get_or-take, get_or-drop, lt-ltb, le-ltb, eq-eqb}
+use Rattle.std.proofs.lemmas.Grind.{common_steps}
+use Rattle.std.proofs.lemmas.List.{length-reverse, get_or-reverse, nil_from_length, drop-take, take_rest, drop_more, map-append}
 use Rattle.std.proofs.lemmas.Bool.{cases_lt, cond-true, cond-false, and_left, and_from}
 use Rattle.std.proofs.lemmas.Option.{slice_get-get_or}
 use Rattle.typed_path.specs.declared.scan.step.Piece.{Piece}
 use Rattle.typed_path.specs.declared.script.run.End.{End}
 use Rattle.typed_path.specs.declared.script.run.End.TheVariants.{Front}
-use Rattle.typed_path.specs.components.{Placed, current_part, end_of, Part}
+use Rattle.typed_path.specs.components.{Placed, current_part, end_of}
 use Rattle.typed_path.specs.scan.{Side, front, back, first_of, last_of, but_last, items_between, answer, reads_after, reads, left, start_at, end_at, slice_after_front, slice_after_back, cut_to, end_before_last, answers_after, items_after, fronts, backs, IsWhole, items_behind, slice_behind, slice_after, IsLaidOut, answer_of, side_of, sides, taken_parts}
 use Rattle.typed_path.specs.views.PieceViews.{part_of}
 use Rattle.typed_path.proofs.lemmas.components.Cuts.{ends-within, start-end, end-start}
+use Rattle.typed_path.proofs.lemmas.lists.Lists.{reverse-take-reverse}
 
 -- A reading from both ends, step by step, and its closed forms.
-
--- what was taken from the back stands at the end of the list
-reverse-take-reverse : {X : Type 0} (xs : List X) (j : ℕ) → j ≤ length xs → reverse (take j (reverse xs)) ≡ drop (length xs - j) xs
-reverse-take-reverse xs j h =
-    let n = length xs - j in
-    let size : length (reverse (drop n xs)) ≡ j = length-reverse (drop n xs) ∙ length-drop n xs ∙ omega arith in
-    ap (λ ys. reverse (take j (reverse ys))) (sym (take-append-drop n xs))
-    ∙ ap (λ ys. reverse (take j ys)) (reverse-append (take n xs) (drop n xs))
-    ∙ ap reverse (take_at (reverse (drop n xs)) (reverse (take n xs)) j size)
-    ∙ reverse-reverse (drop n xs)
 
 -- what was taken from the front, what is left, and what was taken from the back are together the list
 pub is_whole : (cs : List Placed) (i j : ℕ) → IsWhole cs i j
@@ -40,8 +32,7 @@ nowhere = record { part = current_part; start = 0 }
 
 -- the first component of a list that is not empty
 first_of-get : (cs : List Placed) → 0 < length cs → first_of cs ≡ Some (get_or cs 0 nowhere)
-first_of-get [] h = absurd (omega arith)
-first_of-get (c ∷ cs) h = refl
+first_of-get cs h = grind arith
 
 module _ (cs : List Placed) (i j : ℕ) where
   -- how many components are left
@@ -58,24 +49,11 @@ module _ (cs : List Placed) (i j : ℕ) where
 
   -- the first of the components left is the answer from the front
   between-first : first_of (items_between cs i j) ≡ answer cs i j front
-  between-first = elim (cases_lt (i + j) (length cs)) [
-    | inl some ↦
-        first_of-get (items_between cs i j) (rw between-length (omega arith))
-        ∙ ap Some (between-get 0 (omega arith) ∙ ap (λ n. get_or cs n nowhere) (add-zero i))
-        ∙ sym (cond-true (nat_lt (i + j) (length cs)) (slice_get cs i) None (lt-ltb (i + j) (length cs) some) ∙ slice_get-get_or cs i nowhere (omega arith))
-    | inr none ↦ ap first_of (between-none none) ∙ sym (cond-false (nat_lt (i + j) (length cs)) (slice_get cs i) None (le-ltb (i + j) (length cs) none))
-  ]
+  between-first = grind (arith, cases_lt, first_of-get, between-length, between-get, nowhere, add-zero, cond-true, lt-ltb, slice_get-get_or, between-none)
 
   -- the last of them is the answer from the back
   pub between-last : last_of (items_between cs i j) ≡ answer cs i j back
-  between-last = elim (cases_lt (i + j) (length cs)) [
-    | inl some ↦
-        let last : i + (length (items_between cs i j) - 1 - 0) ≡ length cs - j - 1 = omega (arith, between-length) in
-        first_of-get (reverse (items_between cs i j)) (rw (length-reverse (items_between cs i j), between-length) (omega arith))
-        ∙ ap Some (get_or-reverse (items_between cs i j) 0 nowhere (rw between-length (omega arith)) ∙ between-get (length (items_between cs i j) - 1 - 0) (omega (arith, between-length)) ∙ ap (λ n. get_or cs n nowhere) last)
-        ∙ sym (cond-true (nat_lt (i + j) (length cs)) (slice_get cs (length cs - j - 1)) None (lt-ltb (i + j) (length cs) some) ∙ slice_get-get_or cs (length cs - j - 1) nowhere (omega arith))
-    | inr none ↦ ap last_of (between-none none) ∙ sym (cond-false (nat_lt (i + j) (length cs)) (slice_get cs (length cs - j - 1)) None (le-ltb (i + j) (length cs) none))
-  ]
+  between-last = grind (arith, cases_lt, between-length, first_of-get, length-reverse, get_or-reverse, nowhere, between-get, cond-true, lt-ltb, slice_get-get_or)
 
 -- a step from the front leaves one component less
 pub between-front : (cs : List Placed) (i j : ℕ) → drop 1 (items_between cs i j) ≡ items_between cs (i + 1) j
@@ -88,9 +66,7 @@ between-front cs i j = elim (cases_lt (i + j) (length cs)) [
 
 -- so does a step from the back
 pub between-back : (cs : List Placed) (i j : ℕ) → but_last (items_between cs i j) ≡ items_between cs i (j + 1)
-between-back cs i j =
-    let size : length (items_between cs i j) - 1 ≡ length cs - (j + 1) - i = omega (arith, between-length cs i j) in
-    ap (λ n. take n (items_between cs i j)) size ∙ take-take (length cs - (j + 1) - i) (length cs - j - i) (drop i cs) (omega arith)
+between-back cs i j = grind (arith, between-length, take-take)
 
 -- the answers of the steps are those by counts
 answers_between : (cs : List Placed) (i j : ℕ) (sides : List Side) → answers_after (items_between cs i j) sides ≡ reads_after cs i j sides
@@ -101,10 +77,8 @@ answers_between cs i j (back ∷ sides) = ap₂ ◌∷◌ (between-last cs i j) 
 -- the list that the steps leave is the one by counts
 items_after-between : (cs : List Placed) (i j : ℕ) (sides : List Side) → items_after (items_between cs i j) sides ≡ items_between cs (i + fronts sides) (j + backs sides)
 items_after-between cs i j [] = ap₂ (items_between cs) (omega arith) (omega arith)
-items_after-between cs i j (front ∷ sides) =
-    ap (λ ds. items_after ds sides) (between-front cs i j) ∙ items_after-between cs (i + 1) j sides ∙ ap (λ n. items_between cs n (j + backs sides)) (add_assoc i 1 (fronts sides))
-items_after-between cs i j (back ∷ sides) =
-    ap (λ ds. items_after ds sides) (between-back cs i j) ∙ items_after-between cs i (j + 1) sides ∙ ap (items_between cs (i + fronts sides)) (add_assoc j 1 (backs sides))
+items_after-between cs i j (front ∷ sides) = grind (arith, common_steps, between-front, items_after-between cs (i + 1) j sides)
+items_after-between cs i j (back ∷ sides) = grind (arith, common_steps, between-back, items_after-between cs i (j + 1) sides)
 
 -- before the first step all components are left
 pub between-all : (cs : List Placed) → items_between cs 0 0 ≡ cs
@@ -147,15 +121,11 @@ left-none text = take_all (length text - 0) text (omega arith)
 
 -- nothing taken, all is left
 pub left-all : (cs : List Placed) (text : List ℕ) → left cs text 0 0 ≡ text
-left-all [] text = left-none text
-left-all (c ∷ cs) text = left-inside (c ∷ cs) text 0 0 (omega arith) ∙ take_all (length text - 0) text (omega arith)
+left-all cs text = grind (arith, left-none, left-inside)
 
 -- where only the front was taken, the slice left begins with the next component
 pub left-front : (cs : List Placed) (text : List ℕ) (i : ℕ) → 0 < i → i < length cs → left cs text i 0 ≡ drop (start_at cs i) text
-left-front cs text i some inside =
-    left-inside cs text i 0 (omega arith)
-    ∙ ap (λ n. slice_range text n (length text)) (cond-false (i == 0) 0 (start_at cs i) (ne_eqb i 0 (λ e. omega arith)))
-    ∙ take_rest text (start_at cs i)
+left-front cs text i h inside = grind (arith, cond-false, take_rest)
 
 -- where only the last was taken, it ends with the one before
 pub left-parent : (cs : List Placed) (text : List ℕ) → 1 < length cs → left cs text 0 1 ≡ take (end_at cs (length cs - 1 - 1)) text
@@ -165,20 +135,15 @@ left-parent cs text some = left-inside cs text 0 1 (omega arith) ∙ ap (λ n. t
 
 -- a step from the front to the end
 front-one : (ds : List Placed) (slice : List ℕ) → length ds ≡ 1 → slice_after_front ds slice ≡ []
-front-one [] slice h = absurd (omega arith)
-front-one (d ∷ []) slice h = refl
-front-one (d ∷ e ∷ ds) slice h = absurd (omega arith)
+front-one ds slice h = grind arith
 
 -- a step from the front, with more behind it
 front-more : (ds : List Placed) (slice : List ℕ) → 1 < length ds → slice_after_front ds slice ≡ drop (start_at ds 1 - start_at ds 0) slice
-front-more [] slice h = absurd (omega arith)
-front-more (d ∷ []) slice h = absurd (omega arith)
-front-more (d ∷ e ∷ ds) slice h = refl
+front-more ds slice h = grind arith
 
 -- a step from the back
 back-filled : (ds : List Placed) (slice : List ℕ) → 0 < length ds → slice_after_back ds slice ≡ cut_to (start_at ds 0) slice (end_before_last ds)
-back-filled [] slice h = absurd (omega arith)
-back-filled (d ∷ ds) slice h = refl
+back-filled ds slice h = grind arith
 
 -- without components a step leaves the slice
 slice_behind-nil : (slice : List ℕ) (side : Side) → slice_behind [] slice side ≡ slice
@@ -198,8 +163,7 @@ slice_after-nil slice (side ∷ sides) = rw (items_behind-nil side, slice_behind
 module _ (cs : List Placed) (text : List ℕ) (laid : IsLaidOut cs text) where
   -- where the slice left begins
   starts : (i j : ℕ) → left_start cs text i j ≡ start_at cs i
-  starts zero j = sym laid.from_start
-  starts (suc i) j = cond-false (suc i == 0) 0 (start_at cs (suc i)) (ne_eqb (suc i) 0 (λ e. omega arith))
+  starts i j = grind arith
 
   -- where component k of those left begins
   between-start : (i j k : ℕ) → i + j + k < length cs → start_at (items_between cs i j) k ≡ start_at cs (i + k)
@@ -316,17 +280,8 @@ module _ (ends : List End) (i : ℕ) (more : i < length ends) (end : End) (at : 
 
   pub slice-step : (before after : List ℕ) → after ≡ slice_behind cs before (side_of end)
       → slice_after ds after (sides (drop (i + 1) ends)) ≡ slice_after cs before (sides (drop i ends))
-  slice-step before after slice =
-      ap₂ (λ xs ys. slice_after xs ys (sides (drop (i + 1) ends))) items slice ∙ ap (λ es. slice_after cs before (sides es)) (sym split)
+  slice-step before after slice = grind (arith, split)
 
   pub answers-step : (before after : List (Option Piece)) (answer : Option Piece) → after ≡ before ++ answer ∷ [] → option_map part_of answer ≡ option_map (λ c. c.part) (answer_of cs (side_of end))
       → map (option_map part_of) after ++ taken_parts (answers_after ds (sides (drop (i + 1) ends))) ≡ map (option_map part_of) before ++ taken_parts (answers_after cs (sides (drop i ends)))
-  answers-step before after answer pushed taken =
-      ap₂ (λ xs ys. map (option_map part_of) xs ++ taken_parts (answers_after ys (sides (drop (i + 1) ends)))) pushed items
-      ∙ ap (λ xs. xs ++ rest) (map-append (option_map part_of) before (answer ∷ []))
-      ∙ append_assoc (map (option_map part_of) before) (option_map part_of answer ∷ []) rest
-      ∙ ap (λ p. map (option_map part_of) before ++ p ∷ rest) taken
-      ∙ ap (λ es. map (option_map part_of) before ++ taken_parts (answers_after cs (sides es))) (sym split)
-    where
-      rest : List (Option Part)
-      rest = taken_parts (answers_after (items_behind cs (side_of end)) (sides (drop (i + 1) ends)))
+  answers-step before after answer pushed taken = grind (arith, map-append, append_assoc, split)

@@ -1,5 +1,6 @@
 -- What masks say of places, and searches of a range put together from what was seen of it.
-use Rattle.std.proofs.Common.{◌≡◌, ℕ, suc, ◌+◌, ◌-◌, ◌*◌, ◌^◌, ◌/◌, ◌%◌, ◌≤◌, ◌<◌, List, Bool, true, false, not, ◌&&◌, ◌||◌, ◌==◌, max, min, w64, cond, length, slice_index, slice_range, take, drop, get_or, map, refl, sym, ap, ap₂, eqb, replicate, ◌∙◌, arith, bit_or, bit_and, ⊎_elim, pow_pos, pow_mono, div-lt_iff_lt-mul, le-div_iff_mul-le, [], ◌∷◌, nat_lt, true≢false, subst, shr-shr, eqb-true, ltb-true, lt-ltb, get_or-take, get_or-drop, length-take-le, length-drop, take_all, inl, inr}
+use Rattle.std.proofs.Common.{◌≡◌, ℕ, suc, ◌+◌, ◌-◌, ◌*◌, ◌^◌, ◌/◌, ◌%◌, ◌≤◌, ◌<◌, List, Bool, true, false, not, ◌&&◌, ◌||◌, ◌==◌, w64, cond, length, slice_index, slice_range, take, drop, get_or, map, refl, sym, ap, ap₂, eqb, replicate, ◌∙◌, arith, bit_or, bit_and, ⊎_elim, pow_mono, [], ◌∷◌, nat_lt, subst, shr-shr, eqb-true, get_or-take, get_or-drop, length-take-le, length-drop, take_all}
+use Rattle.std.proofs.lemmas.Grind.{common_steps}
 use Rattle.std.specs.Int.{bit_at, trailing_zeros}
 use Rattle.std.specs.Slice.Scan.{HoldsNowhere, IsFirstPlace, IsLastPlace, HoldsSomewhere}
 use Rattle.std.specs.Simd.Lanes.{mask_l}
@@ -20,16 +21,7 @@ use Rattle.typed_path.specs.scan.{IsMask, TellsWhether, is_one_of, stands_at, Is
 
 -- the mask of a comparison of the bytes from a place on
 pub mask-chunk : (f : ℕ → Bool) (at n : ℕ) (xs : List ℕ) → at + n ≤ length xs → IsMask (λ k. f (get_or xs (at + k) 0)) n (mask_l (map f (chunk at n xs)))
-mask-chunk f at n xs fits =
-    let long = length-chunk at n xs fits in
-    record {
-      within = λ k l.
-          bit_mask_l (map f (chunk at n xs)) k
-          ∙ ap (λ b. cond b 1 0) (get_or-map f (chunk at n xs) k 0 false (omega arith) ∙ ap f (get_or-chunk at n xs k 0 l));
-      beyond = λ k l.
-          bit_mask_l (map f (chunk at n xs)) k
-          ∙ ap (λ b. cond b 1 0) (get_or_past (map f (chunk at n xs)) k false (omega (arith, length-map (chunk at n xs) f)));
-    }
+mask-chunk f at n xs fits = grind (arith, length-chunk, bit_mask_l, chunk, get_or-map, get_or-chunk, get_or_past, length-map)
 
 -- a lane of ones where a test holds
 abbrev pub lane : Bool → ℕ
@@ -40,10 +32,7 @@ pub lanes-or : (p q : ℕ → Bool) (xs : List ℕ) {a b : List ℕ} → a ≡ m
 lanes-or p q xs e f = ap₂ (zip2 bit_or) e f ∙ by xs
   where
     both : (c d : Bool) → bit_or (lane c) (lane d) ≡ lane (c || d)
-    both true true = refl
-    both true false = refl
-    both false true = refl
-    both false false = refl
+    both c d = grind arith
 
     by : (ys : List ℕ) → zip2 bit_or (map (λ x. lane (p x)) ys) (map (λ x. lane (q x)) ys) ≡ map (λ x. lane (p x || q x)) ys
     by [] = refl
@@ -63,8 +52,7 @@ mask-lanes p at n text {z} fits short e =
     (mask-chunk p at n text fits)
   where
     own : (b : Bool) → top 7 (lane b) ≡ b
-    own true = refl
-    own false = refl
+    own b = grind arith
 
     tops : (ys : List ℕ) → map (top 7) (map (λ x. lane (p x)) ys) ≡ map p ys
     tops [] = refl
@@ -72,61 +60,24 @@ mask-lanes p at n text {z} fits short e =
 
 -- the mask of either of two tests
 pub mask-or : (p q : ℕ → Bool) (n a b : ℕ) → IsMask p n a → IsMask q n b → IsMask (λ k. p k || q k) n (bit_or a b)
-mask-or p q n a b g h = record {
-  within = λ k l. either (p k) (q k) (bit_at a k) (bit_at b k) _ (bit_at_or a b k) (g.within k l) (h.within k l);
-  beyond = λ k l. omega (arith, bit_at_or a b k, g.beyond k l, h.beyond k l);
-}
-  where
-    either : (x y : Bool) (i j m : ℕ) → m ≡ max i j → i ≡ cond x 1 0 → j ≡ cond y 1 0 → m ≡ cond (x || y) 1 0
-    either true true i j m e f g = omega arith
-    either true false i j m e f g = omega arith
-    either false true i j m e f g = omega arith
-    either false false i j m e f g = omega arith
+mask-or p q n a b g h = grind (arith, bit_at_or)
 
 -- the mask of both
 pub mask-and : (p q : ℕ → Bool) (n a b : ℕ) → IsMask p n a → IsMask q n b → IsMask (λ k. p k && q k) n (bit_and a b)
-mask-and p q n a b g h = record {
-  within = λ k l. both (p k) (q k) (bit_at a k) (bit_at b k) _ (bit_at_and a b k) (g.within k l) (h.within k l);
-  beyond = λ k l. omega (arith, bit_at_and a b k, g.beyond k l, h.beyond k l);
-}
-  where
-    both : (x y : Bool) (i j m : ℕ) → m ≡ min i j → i ≡ cond x 1 0 → j ≡ cond y 1 0 → m ≡ cond (x && y) 1 0
-    both true true i j m e f g = omega arith
-    both true false i j m e f g = omega arith
-    both false true i j m e f g = omega arith
-    both false false i j m e f g = omega arith
+mask-and p q n a b g h = grind (arith, bit_at_and)
 
 -- a mask of a test is one of each test that agrees with it
 pub mask-alike : (p q : ℕ → Bool) (n a : ℕ) → ((k : ℕ) → q k ≡ p k) → IsMask p n a → IsMask q n a
-mask-alike p q n a same g = record {
-  within = λ k l. g.within k l ∙ ap (λ b. cond b 1 0) (sym (same k));
-  beyond = g.beyond;
-}
+mask-alike p q n a same g = grind arith
 
 -- the mask of a comparison of the bytes from a place on with those of another text
 pub mask-chunks : (f : ℕ → ℕ → Bool) (at n : ℕ) (xs ys : List ℕ) → at + n ≤ length xs → at + n ≤ length ys
     → IsMask (λ k. f (get_or xs (at + k) 0) (get_or ys (at + k) 0)) n (mask_l (zip2 f (chunk at n xs) (chunk at n ys)))
-mask-chunks f at n xs ys fits fits' =
-    let long = length-chunk at n xs fits in
-    let long' = length-chunk at n ys fits' in
-    let zipped = length-zip2 f (chunk at n xs) (chunk at n ys) (long ∙ sym long') in
-    let marks = zip2 f (chunk at n xs) (chunk at n ys) in
-    record {
-      within = λ k l.
-          bit_mask_l marks k
-          ∙ ap (λ b. cond b 1 0) (get_or-zip2 f (chunk at n xs) (chunk at n ys) k 0 0 false (omega arith) (omega arith) ∙ (λ i. f (get_or-chunk at n xs k 0 l i) (get_or-chunk at n ys k 0 l i)));
-      beyond = λ k l. bit_mask_l marks k ∙ ap (λ b. cond b 1 0) (get_or_past marks k false (omega arith));
-    }
+mask-chunks f at n xs ys fits fits' = grind (arith, length-chunk, length-zip2, chunk, zip2, bit_mask_l, get_or-zip2, get_or-chunk, get_or_past)
 
 -- a mask without its lowest bits
 pub mask-behind : (p : ℕ → Bool) (s n mask : ℕ) → IsMask p (s + n) mask → IsMask (λ k. p (s + k)) n (mask / 2 ^ s)
-mask-behind p s n mask marks = record {
-  within = λ k l. shifted k ∙ marks.within (s + k) (omega arith);
-  beyond = λ k l. shifted k ∙ marks.beyond (s + k) (omega arith);
-}
-  where
-    shifted : (k : ℕ) → bit_at (mask / 2 ^ s) k ≡ bit_at mask (s + k)
-    shifted k = ap (λ x. x % 2) (shr-shr mask s k)
+mask-behind p s n mask marks = grind (arith, shr-shr)
 
 -- of the marks of a block that ends with a range, those of the range
 pub mask-last : (q : ℕ → Bool) (n from to mask : ℕ) → from ≤ to → to ≤ from + n → n ≤ to → IsMask (λ k. q (to - n + k)) n mask → IsMask (λ k. q (from + k)) (to - from) (mask / 2 ^ (n - (to - from)))
@@ -137,11 +88,7 @@ mask-last q n from to mask ordered near room marks =
 
 -- the highest bit of a number, and those above it
 pub highest_is_set : (mask k : ℕ) → 2 ^ k ≤ mask → mask < 2 * 2 ^ k → bit_at mask k ≡ 1
-highest_is_set mask k low high =
-    let p = pow_pos k in
-    let below : mask / 2 ^ k < 2 = (div-lt_iff_lt-mul p).1 high in
-    let above : 1 ≤ mask / 2 ^ k = (le-div_iff_mul-le p).1 (omega arith) in
-    omega arith
+highest_is_set mask k low high = grind arith
 
 pub clear_above : (mask j k : ℕ) → mask < 2 * 2 ^ j → j < k → bit_at mask k ≡ 0
 clear_above mask j k high l = ap (λ x. x % 2) (div-eq_of_lt (omega (arith, two-pow-succ j, pow_mono {i = suc j} {j = k} (omega arith))))
@@ -154,14 +101,7 @@ module _ (p : ℕ → Bool) (n mask k : ℕ) (marks : IsMask p n mask) where
 
   -- a test holds by a bit that is set
   pub of-set : bit_at mask k ≡ 1 → (k < n) × (p k ≡ true)
-  of-set set = elim (cases_lt k n) [
-    | inl low ↦ (low, by (p k) (sym (marks.within k low) ∙ set))
-    | inr high ↦ absurd (omega (arith, marks.beyond k high, set))
-  ]
-    where
-      by : (b : Bool) → cond {A = ℕ} b 1 0 ≡ 1 → b ≡ true
-      by true e = refl
-      by false e = absurd (omega arith)
+  of-set set = grind arith
 
   -- and does not by one that is not
   pub of-unset : k < n → bit_at mask k ≡ 0 → p k ≡ false
@@ -174,9 +114,7 @@ module _ (q : ℕ → Bool) (at n mask : ℕ) (marks : IsMask (λ k. q (at + k))
 
   -- one that is not
   block-clear : (k : ℕ) → at ≤ k → k < at + n → bit_at mask (k - at) ≡ 0 → q k ≡ false
-  block-clear k low high clear =
-      let same : at + (k - at) ≡ k = omega arith in
-      ap q (sym same) ∙ of-unset (λ k. q (at + k)) n mask (k - at) marks (omega arith) clear
+  block-clear k low high clear = grind arith
 
   -- no bit is set
   pub block-none : mask ≡ 0 → HoldsNowhere q at (at + n)
@@ -198,26 +136,11 @@ module _ (q : ℕ → Bool) (at n mask : ℕ) (marks : IsMask (λ k. q (at + k))
 
   -- the lowest bit
   pub block-first : (low : ℕ) → bit_at mask low ≡ 1 → ((k : ℕ) → k < low → bit_at mask k ≡ 0) → (low < n) × IsFirstPlace q at (at + n) (at + low)
-  block-first low set below =
-      let found = block-set low set in
-      let short = found.0 in (
-        short,
-        record { low = omega arith; high = omega arith; before = λ k l g. block-clear k l (omega arith) (below (k - at) (omega arith)); hit = λ _. found.1 },
-      )
+  block-first low set below = grind (arith, block-set, block-clear)
 
   -- the highest bit
   pub block-last : (high : ℕ) → bit_at mask high ≡ 1 → ((k : ℕ) → high < k → bit_at mask k ≡ 0) → (high < n) × IsLastPlace q at (at + n) (at + high + 1)
-  block-last high set above =
-      let found = block-set high set in
-      let short = found.0 in (
-        short,
-        record {
-          low = omega arith;
-          high = omega arith;
-          after = λ k l g. block-clear k (omega arith) g (above (k - at) (omega arith));
-          hit = λ _. ap q (omega arith) ∙ found.1;
-        },
-      )
+  block-last high set above = grind (arith, block-set, block-clear)
 
 -- where a test holds nowhere up to the end of a range
 pub place-none : (q : ℕ → Bool) (to : ℕ) → HoldsNowhere q 0 to → IsFirstPlace q 0 to to
@@ -229,12 +152,7 @@ place-front q n to place short found within = record { low = omega arith; high =
 
 -- so is the first within its end, where the test holds nowhere before it
 pub place-back : (q : ℕ → Bool) (from at to place : ℕ) → from ≤ at → HoldsNowhere q 0 at → IsFirstPlace q from to place → IsFirstPlace q 0 to place
-place-back q from at to place near none found = record {
-  low = omega arith;
-  high = found.high;
-  before = λ k low high. ⊎_elim (none k low) (λ l. found.before k (omega (arith, l, near)) high) (cases_lt k at);
-  hit = found.hit;
-}
+place-back q from at to place near h found = grind arith
 
 -- of the first block of a range and the last one, no mask marks a place
 pub both-none : (q : ℕ → Bool) (n to front back : ℕ) → n ≤ to → to ≤ n + n → IsMask (λ k. q (0 + k)) n front → IsMask (λ k. q (to - n + k)) n back → ((front == 0) && (back == 0)) ≡ true → HoldsNowhere q 0 to
@@ -245,9 +163,7 @@ both-none q n to front back room near first last none =
 
 -- what is told of n places from the first on, and of the last n, is told of all
 pub both-tell : (q : ℕ → Bool) (n last : ℕ) (front back : Bool) → last ≤ n → TellsWhether q 0 (0 + n) front → TellsWhether q last (last + n) back → TellsWhether q 0 (last + n) (front || back)
-both-tell q n last true back short some told = (some.0, omega arith, omega (arith, some.2), some.3)
-both-tell q n last false true short none some = (some.0, omega arith, some.2, some.3)
-both-tell q n last false false short none none' = λ k low high. ⊎_elim (λ l. none k low (omega arith)) (λ l. none' k (omega arith) high) (cases_lt k n)
+both-tell q n last front back short h told = grind arith
 
 -- ---- one of a pair, and a test that agrees with it
 module _ (pair : ℕ × ℕ) (p : ℕ → Bool) (same : (b : ℕ) → p b ≡ is_one_of pair b) (text : List ℕ) where
@@ -286,23 +202,12 @@ any-somewhere p text from to within some = list_any_at p text some.0 0 (omega (a
 
 -- the place of the first tells whether there is one
 pub first-tells : (holds : ℕ → Bool) (from to place : ℕ) → IsFirstPlace holds from to place → TellsWhether holds from to (nat_lt place to)
-first-tells holds from to place found = by (nat_lt place to) refl
-  where
-    by : (told : Bool) → nat_lt place to ≡ told → TellsWhether holds from to told
-    by true e = let l = ltb-true place to e in (place, found.low, l, found.hit l)
-    by false e = λ k low high. ⊎_elim (λ l. absurd (true≢false (sym (lt-ltb place to l) ∙ e))) (λ l. found.before k low (omega (arith, l, high))) (cases_lt place to)
+first-tells holds from to place found = grind arith
 
 -- what is told of the end of a text, before which it holds nowhere, is told of the whole
 pub any-told : (p : ℕ → Bool) (text : List ℕ) (from to : ℕ) (told : Bool) → TellsWhether (λ k. p (slice_index text k)) from to told → ((k : ℕ) → k < from → p (slice_index text k) ≡ false) → length text ≡ to → told ≡ list_any p text
-any-told p text from to true some before whole = sym (any-somewhere p text from to (omega arith) some)
-any-told p text from to false none before whole = sym (any-nowhere p text (λ k low high. ⊎_elim (before k) (λ l. none k l (omega arith)) (cases_lt k from)))
+any-told p text from to told h before whole = grind (arith, common_steps, any-nowhere, cases_lt)
 
 -- the tests of eight bytes, two by two and one by one
 pub paired : (a b c d e f g h : Bool) → (((a || b) || (c || d)) || (e || f)) || (g || h) ≡ (a || b || c || d || e || f || g || h)
-paired true b c d e f g h = refl
-paired false true c d e f g h = refl
-paired false false true d e f g h = refl
-paired false false false true e f g h = refl
-paired false false false false true f g h = refl
-paired false false false false false true g h = refl
-paired false false false false false false g h = refl
+paired a b c d e f g h = grind arith

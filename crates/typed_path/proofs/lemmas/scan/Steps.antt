@@ -1,7 +1,8 @@
 -- A step from either end, of a list, an iterator and a cursor.
-use Rattle.std.proofs.Common.{◌≡◌, ℕ, ◌+◌, ◌-◌, ◌≤◌, List, [], ◌∷◌, ◌++◌, length, map, take, drop, get_or, le_refl, slice_range, Option, Some, None, option_map, true, refl, sym, ap, subst, ◌∙◌, arith, ◌<◌, Bool, false, ap₂, if◌then◌else◌, length-append, length-take, take_at, take_all, take-take, length-drop, length-take-le}
+use Rattle.std.proofs.Common.{◌≡◌, ℕ, ◌+◌, ◌-◌, ◌≤◌, List, [], ◌∷◌, ◌++◌, length, map, take, drop, get_or, le_refl, slice_range, Option, Some, None, option_map, true, refl, sym, ap, subst, ◌∙◌, arith, ◌<◌, ap₂, length-append, take_at, take_all, take-take, length-drop, length-take-le}
+use Rattle.std.proofs.lemmas.Grind.{common_steps}
 use Rattle.std.specs.Prelude.{⊤}
-use Rattle.std.specs.Option.{unwrap_or, option_to_list}
+use Rattle.std.specs.Option.{option_to_list}
 use Rattle.std.proofs.lemmas.List.{reverse-append, length-map, take_more, map-append, drop-take}
 use Rattle.std.specs.Iterator.{MakesProgress, YieldsFirstBy, YieldsLastBy, item_count}
 use Rattle.std.proofs.lemmas.Option.{same_Some}
@@ -12,13 +13,14 @@ use Rattle.typed_path.specs.declared.scan.cursor.Cursor.{Cursor}
 use Rattle.typed_path.specs.declared.scan.cursor.Body.{Body}
 use Rattle.typed_path.specs.declared.scan.prefix.Found.{Found}
 use Rattle.typed_path.specs.components.{Placed, end_of, Part, parts, kinds, prefix_part, component}
-use Rattle.typed_path.specs.scan.{first_of, last_of, but_last, cut_to, slice_after_back, slice_after_front, body_from, is_clean, end_from, last_part, first_part, pending}
-use Rattle.typed_path.specs.queries.{is_prefix, prefix_among, behind_prefix}
+use Rattle.typed_path.specs.scan.{first_of, last_of, but_last, slice_after_back, slice_after_front, body_from, is_clean, end_from, last_part, first_part, pending}
+use Rattle.typed_path.specs.queries.{prefix_among, behind_prefix}
 use Rattle.typed_path.specs.views.PieceViews.{prefix_view}
 use Rattle.typed_path.specs.views.Shown.{Shown}
 use Rattle.typed_path.specs.views.BodyViews.{body_items, body_slice}
 use Rattle.typed_path.specs.views.CursorViews.{body_of, start_left, prefix_left, slice_left, items_left}
-use Rattle.typed_path.proofs.lemmas.components.Segments.{parts-body, parts-later_body, body_from-empty, body_from-starts, slice_after_front-first, slice_range-later}
+use Rattle.typed_path.proofs.lemmas.components.Segments.{parts-body, parts-later_body, slice_after_front-first}
+use Rattle.typed_path.proofs.lemmas.lists.Lists.{slice_range-later}
 
 -- What is left of a list and of its slice once the last component is taken.
 
@@ -48,53 +50,29 @@ StartsAt at (c ∷ cs) = c.start ≡ at
 
 -- the components of a clean text start where it does
 pub starts-body_from : (begin : Begin) (s : Separators) (at : ℕ) (text : List ℕ) → is_clean begin s text ≡ true → StartsAt at (body_from begin s at text)
-starts-body_from begin s at [] clean = subst (StartsAt at) (sym (body_from-empty begin s at)) tt
-starts-body_from begin s at (b ∷ bs) clean = subst (StartsAt at) (sym (body_from-starts begin s at b bs clean).2) refl
+starts-body_from begin s at text clean = grind (arith, common_steps)
 
 -- the slice left before the last component ends where the one before it does
 pub slice_after_back-push : (at k : ℕ) (slice : List ℕ) (cs : List Placed) (c : Placed) → StartsAt at cs → end_from at cs ≡ at + k → slice_after_back (cs ++ c ∷ []) slice ≡ take k slice
-slice_after_back-push at k slice [] c starts ends = let none : 0 ≡ k = omega arith in ap (λ n. take n slice) none
-slice_after_back-push at k slice (d ∷ ds) c starts ends =
-    ap (λ es. cut_to d.start slice (option_map end_of (last_of es))) (but_last-push (d ∷ ds) c) ∙ by_end (option_map end_of (last_of (d ∷ ds))) ends
-  where
-    by_end : (o : Option ℕ) → unwrap_or o at ≡ at + k → cut_to d.start slice o ≡ take k slice
-    by_end None e = let none : 0 ≡ k = omega arith in ap (λ n. take n slice) none
-    by_end (Some end) e = ap (λ n. take n slice) (omega arith)
-
--- a range of a text that ends earlier
-pub slice_range-earlier : (text left : List ℕ) (from k to : ℕ) → left ≡ slice_range text from to → k ≤ length left → slice_range text from (from + k) ≡ take k left
-slice_range-earlier text left from k to e h =
-    let size = length-take (to - from) (drop from text) in
-    let same = ap length e in
-    ap (λ n. take n (drop from text)) (omega arith)
-    ∙ sym (take-take k (to - from) (drop from text) (omega arith))
-    ∙ ap (take k) (sym e)
+slice_after_back-push at k slice cs c starts ends = grind (arith, common_steps)
 
 -- A step from either end, as the step of an iterator; and the prefix taken before all steps.
 
 -- what is left of a list behind its first component
 pub parts-rest : (cs : List Placed) → parts (drop 1 cs) ≡ drop 1 (parts cs)
-parts-rest [] = refl
-parts-rest (c ∷ cs) = refl
+parts-rest cs = grind arith
 
 -- a component taken from the front is one fewer
 pub fewer : (p : Part) (cs ds : List Placed) → Some p ≡ first_part cs → ds ≡ drop 1 cs → length ds < length cs
-fewer p [] ds taken items = cc
-fewer p (c ∷ cs) ds taken items = omega (arith, ap length items)
+fewer p cs ds taken items = grind arith
 
 -- the first component of a list, and what stands behind it
 pub taken-first : (cs : List Placed) (p : Part) → Some p ≡ first_part cs → (kinds (parts cs) ≡ p.kind ∷ kinds (parts (drop 1 cs))) × (length cs ≡ 1 + length (drop 1 cs))
-taken-first [] p e = cc
-taken-first (c ∷ cs) p e = (ap (λ q. q.kind ∷ kinds (parts cs)) (sym (same_Some _ _ e)), omega arith)
+taken-first cs p e = grind arith
 
 -- components are the prefix, where there is one, and those behind it
 parts-split : (cs : List Placed) → parts cs ≡ option_to_list (prefix_among (parts cs)) ++ parts (behind_prefix cs)
-parts-split [] = refl
-parts-split (c ∷ cs) = by (is_prefix c.part.kind)
-  where
-    by : (b : Bool) → parts (c ∷ cs) ≡ option_to_list (if b then Some c.part else None) ++ parts (if b then cs else c ∷ cs)
-    by true = refl
-    by false = refl
+parts-split cs = grind arith
 
 -- so are those of a reading
 pub parts-prefixed : (all cs ds : List Placed) (o : Option Part) → parts cs ≡ parts all → o ≡ prefix_among (parts cs) → ds ≡ behind_prefix cs → parts all ≡ option_to_list o ++ parts ds
@@ -103,10 +81,7 @@ parts-prefixed all cs ds o read first behind = sym read ∙ parts-split cs ∙ a
 module _ {X : Type 0} (view : X → Part) where
   -- what a step from the front gives
   pub yields_first : (r : Option X) (old new : List Placed) → option_map view r ≡ first_part old → new ≡ drop 1 old → YieldsFirstBy view parts old r new
-  yields_first None [] new e f = (refl, ap parts f)
-  yields_first None (c ∷ cs) new e f = cc
-  yields_first (Some x) [] new e f = cc
-  yields_first (Some x) (c ∷ cs) new e f = ap (λ q. q ∷ parts cs) (sym (same_Some _ _ e)) ∙ ap (λ ds. view x ∷ parts ds) (sym f)
+  yields_first r old new e f = grind arith
 
 -- A step from either end, as the step of an iterator whose items show something of a component.
 
@@ -117,16 +92,11 @@ module _ {X K : Type 0} (seen : X → K) (seen_of : Part → K) where
 
   -- what a step from the front gives
   pub seen_first : (r : Option X) (old new : List Placed) → option_map seen r ≡ option_map seen_of (first_part old) → new ≡ drop 1 old → YieldsFirstBy seen seen_all old r new
-  seen_first None [] new e f = (refl, ap seen_all f)
-  seen_first None (c ∷ cs) new e f = cc
-  seen_first (Some x) [] new e f = cc
-  seen_first (Some x) (c ∷ cs) new e f = ap (λ k. k ∷ seen_all cs) (sym (same_Some _ _ e)) ∙ ap (λ ds. seen x ∷ seen_all ds) (sym f)
+  seen_first r old new e f = grind arith
 
   -- an item, off the end of a list
   seen_pushed : (r : Option X) (old new : List Placed) (c : Placed) → option_map seen r ≡ Some (seen_of c.part) → new ≡ old → YieldsLastBy seen seen_all (old ++ c ∷ []) r new
-  seen_pushed None old new c e f = cc
-  seen_pushed (Some x) old new c e f =
-      ap (map seen_of) (map-append _ old (c ∷ [])) ∙ map-append seen_of (parts old) (c.part ∷ []) ∙ ap (λ k. seen_all old ++ k ∷ []) (sym (same_Some _ _ e)) ∙ ap (λ cs. seen_all cs ++ seen x ∷ []) (sym f)
+  seen_pushed r old new c e f = grind (arith, map-append, same_Some)
 
   -- what a step from the back gives
   pub seen_last : (r : Option X) (old new : List Placed) → option_map seen r ≡ option_map seen_of (last_part old) → new ≡ but_last old → YieldsLastBy seen seen_all old r new
@@ -140,19 +110,11 @@ module _ {X K : Type 0} (seen : X → K) (seen_of : Part → K) where
   -- so fewer are left
   pub progress_seen_first : {S : Type 0} (rest : S → List Part) (can : S → Type 0) → ((s : S) → can s) → (s t : S) (r : Option X)
       → YieldsFirstBy seen (λ u. map seen_of (rest u)) s r t → MakesProgress can (item_count rest) s r t
-  progress_seen_first rest can all s t None h = record { on = λ finite. tt; keeps = tt; rests = λ finite. tt }
-  progress_seen_first rest can all s t (Some x) h =
-      record { on = λ finite. (all t, tt, omega (arith, ap length h, length-map (rest s) seen_of, length-map (rest t) seen_of)); keeps = all t; rests = λ finite. tt }
+  progress_seen_first rest can all s t r h = grind (arith, length-map)
 
   pub progress_seen_last : {S : Type 0} (rest : S → List Part) (can : S → Type 0) → ((s : S) → can s) → (s t : S) (r : Option X)
       → YieldsLastBy seen (λ u. map seen_of (rest u)) s r t → MakesProgress can (item_count rest) s r t
-  progress_seen_last rest can all s t None h = record { on = λ finite. tt; keeps = tt; rests = λ finite. tt }
-  progress_seen_last rest can all s t (Some x) h =
-      record {
-        on = λ finite. (all t, tt, omega (arith, ap length h, length-append (map seen_of (rest t)) (seen x ∷ []), length-map (rest s) seen_of, length-map (rest t) seen_of));
-        keeps = all t;
-        rests = λ finite. tt;
-      }
+  progress_seen_last rest can all s t r h = grind (arith, length-append, length-map)
 
 -- the same, as what is shown of the components
 module _ {X K : Type 0} (seen : X → K) (shown : Shown K) where
@@ -160,9 +122,7 @@ module _ {X K : Type 0} (seen : X → K) (shown : Shown K) where
   shown_all cs = shown.of_list (parts cs)
 
   pub shown_first : (r : Option X) (old new : List Placed) → option_map seen r ≡ shown.of_option (first_part old) → new ≡ drop 1 old → YieldsFirstBy seen shown_all old r new
-  shown_first None old new e f = let h = seen_first seen shown.of None old new (e ∙ shown.option-mapped _) f in (shown.list-mapped _ ∙ h.0, shown.list-mapped _ ∙ h.1)
-  shown_first (Some x) old new e f =
-      shown.list-mapped _ ∙ seen_first seen shown.of (Some x) old new (e ∙ shown.option-mapped _) f ∙ ap (λ ks. seen x ∷ ks) (sym (shown.list-mapped _))
+  shown_first r old new e f = grind arith
 
   pub shown_last : (r : Option X) (old new : List Placed) → option_map seen r ≡ shown.of_option (last_part old) → new ≡ but_last old → YieldsLastBy seen shown_all old r new
   shown_last None old new e f = let h = seen_last seen shown.of None old new (e ∙ shown.option-mapped _) f in (shown.list-mapped _ ∙ h.0, shown.list-mapped _ ∙ h.1)
@@ -172,13 +132,10 @@ module _ {X K : Type 0} (seen : X → K) (shown : Shown K) where
 -- so fewer are left
 module _ {S X K : Type 0} (seen : X → K) (rest : S → List K) (can : S → Type 0) (all : (s : S) → can s) (s t : S) where
   pub progress_first : (r : Option X) → YieldsFirstBy seen rest s r t → MakesProgress can (item_count rest) s r t
-  progress_first None h = record { on = λ finite. tt; keeps = tt; rests = λ finite. tt }
-  progress_first (Some x) h = record { on = λ finite. (all t, tt, omega (arith, ap length h)); keeps = all t; rests = λ finite. tt }
+  progress_first r h = grind arith
 
   pub progress_last : (r : Option X) → YieldsLastBy seen rest s r t → MakesProgress can (item_count rest) s r t
-  progress_last None h = record { on = λ finite. tt; keeps = tt; rests = λ finite. tt }
-  progress_last (Some x) h =
-      record { on = λ finite. (all t, tt, omega (arith, length-append (rest t) (seen x ∷ []), ap length h)); keeps = all t; rests = λ finite. tt }
+  progress_last r h = grind (arith, length-append)
 
 -- Steps of a reading whose prefix is still to be taken.
 
@@ -189,14 +146,11 @@ last_of-behind p c cs =
     ap (λ ds. last_of (p ∷ ds)) d.1 ∙ last_of-push (p ∷ but_last (c ∷ cs)) d.0 ∙ sym (last_of-push (but_last (c ∷ cs)) d.0) ∙ ap last_of (sym d.1)
 
 pub but_last-behind : (p c : Placed) (cs : List Placed) → but_last (p ∷ c ∷ cs) ≡ p ∷ but_last (c ∷ cs)
-but_last-behind p c cs =
-    let d = last_pushed c cs in
-    ap (λ ds. but_last (p ∷ ds)) d.1 ∙ but_last-push (p ∷ but_last (c ∷ cs)) d.0
+but_last-behind p c cs = grind arith
 
 -- where the last of a prefix and a body ends
 pub end_from-behind : (p : Placed) (from : ℕ) (cs : List Placed) (last : Placed) → end_of p ≡ from → last_of (p ∷ cs) ≡ Some last → end_from from cs ≡ end_of last
-end_from-behind p from [] last e h = sym e ∙ ap (λ o. unwrap_or (option_map end_of o) from) h
-end_from-behind p from (c ∷ cs) last e h = ap (λ o. unwrap_or (option_map end_of o) from) (sym (last_of-behind p c cs) ∙ h)
+end_from-behind p from cs last e h = grind (arith, common_steps)
 
 module _ (text : List ℕ) (from to len : ℕ) (pending : len ≤ from) (ordered : from ≤ to) (in_range : to ≤ length text) where
   -- the slice left while the prefix is still to be taken
@@ -208,9 +162,7 @@ module _ (text : List ℕ) (from to len : ℕ) (pending : len ≤ from) (ordered
 
   -- the body behind it
   pub body-behind : slice_range text from to ≡ drop len whole
-  body-behind =
-      let at : from - len + len ≡ from = omega arith in
-      ap (λ n. slice_range text n to) (sym at) ∙ slice_range-later text whole (from - len) len to (omega arith) in_range refl (omega (arith, whole-length))
+  body-behind = grind (arith, slice_range-later, whole-length)
 
   -- the raw text of the prefix
   pub prefix-text : take len whole ≡ slice_range text (from - len) from
@@ -222,11 +174,7 @@ module _ (text : List ℕ) (from to len : ℕ) (pending : len ≤ from) (ordered
   -- once the prefix is taken the body is left
   pub prefix_taken : (begin : Begin) (s : Separators) (p : Part) → is_clean begin s (slice_range text from to) ≡ true
       → slice_range text from to ≡ slice_after_front (component p (from - len) ++ body_from begin s from (slice_range text from to)) whole
-  prefix_taken begin s p clean =
-      let at : from - len + len ≡ from = omega arith in
-      body-behind
-      ∙ sym (slice_after_front-first begin s p (from - len) len whole (ap (is_clean begin s) (sym body-behind) ∙ clean))
-      ∙ ap (λ cs. slice_after_front (component p (from - len) ++ cs) whole) (ap₂ (body_from begin s) at (sym body-behind))
+  prefix_taken begin s p clean = grind (arith, body-behind, slice_after_front-first)
 
   -- a slice that ends earlier
   pub whole-earlier : (end : ℕ) → end ≤ to → from ≤ end → slice_range text (from - len) end ≡ take (end - (from - len)) whole
@@ -235,16 +183,7 @@ module _ (text : List ℕ) (from to len : ℕ) (pending : len ≤ from) (ordered
 -- the slice left before the last component of a prefix and a body ends where the one before it does
 pub slice_after_back-behind : (p c : Placed) (cs : List Placed) (from end : ℕ) (slice : List ℕ) → end_of p ≡ from → end ≡ end_from from (but_last (c ∷ cs))
     → slice_after_back (p ∷ c ∷ cs) slice ≡ take (end - p.start) slice
-slice_after_back-behind p c cs from end slice e h =
-    ap (λ ds. cut_to p.start slice (option_map end_of (last_of ds))) (but_last-behind p c cs) ∙ by (but_last (c ∷ cs)) h
-  where
-    by : (ds : List Placed) → end ≡ end_from from ds → cut_to p.start slice (option_map end_of (last_of (p ∷ ds))) ≡ take (end - p.start) slice
-    by [] g = ap (λ n. take (n - p.start) slice) (e ∙ sym g)
-    by (d ∷ ds) g =
-        let last = last_pushed d ds in
-        let pushed : last_of (d ∷ ds) ≡ Some last.0 = ap last_of last.1 ∙ last_of-push (but_last (d ∷ ds)) last.0 in
-        ap (λ o. cut_to p.start slice (option_map end_of o)) (last_of-behind p d ds ∙ pushed)
-        ∙ ap (λ n. take (n - p.start) slice) (sym (g ∙ ap (λ o. unwrap_or (option_map end_of o) from) pushed))
+slice_after_back-behind p c cs from end slice e h = grind (arith, common_steps)
 
 -- a list that has a last component is not empty
 pub filled-last : (cs : List Placed) (p : Part) → Some p ≡ last_part cs → (c : Placed) × (ds : List Placed) × (cs ≡ c ∷ ds)
@@ -254,13 +193,10 @@ filled-last (c ∷ ds) p h = (c, ds, refl)
 -- and one that has none is
 pub empty-last : (cs : List Placed) → None ≡ last_part cs → cs ≡ []
 empty-last [] h = refl
-empty-last (c ∷ cs) h =
-    let last = last_pushed c cs in
-    let pushed = ap last_part last.1 ∙ last_part-push (but_last (c ∷ cs)) last.0 in cc
+empty-last (c ∷ cs) h = grind (arith, common_steps, last_pushed, last_part-push)
 
 pub empty-first : (cs : List Placed) → None ≡ first_part cs → cs ≡ []
-empty-first [] h = refl
-empty-first (c ∷ cs) h = cc
+empty-first cs h = grind arith
 
 -- Steps of a cursor whose prefix is still to be taken.
 
@@ -276,25 +212,15 @@ module _ (c : Cursor) (f : Found) (e : c.prefix ≡ Some f) where
   slice_left-pending = ap (λ p. slice_range c.text.now (start_left p c.from) c.to) e
 
   pub items_left-pending : items_left c ≡ prefix_before f c.text.now c.from ∷ body_items (body_of c)
-  items_left-pending =
-      ap (λ p. prefix_left p (start_left p c.from) (slice_range c.text.now (start_left p c.from) c.to) (body_items (body_of c))) e
-      ∙ ap (λ raw. record { part = prefix_part (prefix_view f.kind) raw; start = c.from - f.length } ∷ body_items (body_of c))
-      (prefix-text c.text.now c.from c.to f.length pending-fits c.ordered c.in_range)
+  items_left-pending = grind (arith, prefix-text, pending-fits)
 
   -- the prefix ends where the body begins
   pub prefix_before-end : end_of (prefix_before f c.text.now c.from) ≡ c.from
-  prefix_before-end =
-      let raw = ap length (sym (prefix-text c.text.now c.from c.to f.length pending-fits c.ordered c.in_range))
-      ∙ prefix-length c.text.now c.from c.to f.length pending-fits c.ordered c.in_range in
-      let fits = pending-fits in
-      omega (arith, raw)
+  prefix_before-end = grind (arith, common_steps)
 
   -- once the prefix is taken the body is left
   pub slice_behind-prefix : body_slice (body_of c) ≡ slice_after_front (items_left c) (slice_left c)
-  slice_behind-prefix =
-      prefix_taken c.text.now c.from c.to f.length pending-fits c.ordered c.in_range c.begin c.separators
-      (prefix_part (prefix_view f.kind) (slice_range c.text.now (c.from - f.length) c.from)) c.starts_clean
-      ∙ ap₂ slice_after_front (sym items_left-pending) (sym slice_left-pending)
+  slice_behind-prefix = grind (arith, prefix_taken, pending-fits)
 
   -- where the last component ends
   pub last_end-pending : (last : Placed) → last_of (items_left c) ≡ Some last → end_from c.from (body_items (body_of c)) ≡ end_of last
@@ -302,9 +228,7 @@ module _ (c : Cursor) (f : Found) (e : c.prefix ≡ Some f) where
 
   -- no component of the body is left, so the prefix is the last
   pub back-none : (p : Part) → None ≡ last_part (body_items (body_of c)) → Some p ≡ first_part (items_left c) → Some p ≡ last_part (items_left c)
-  back-none p none taken =
-      let alone = items_left-pending ∙ ap (λ cs. prefix_before f c.text.now c.from ∷ cs) (empty-last (body_items (body_of c)) none) in
-      taken ∙ ap first_part alone ∙ ap last_part (sym alone)
+  back-none p h taken = grind (arith, items_left-pending, empty-last)
 
 -- a cursor with another body, which begins where its own did
 abbrev pub with_body : (c : Cursor) (b : Body) → b.from ≡ c.from → Cursor
@@ -381,13 +305,10 @@ parts-anywhere Inside s at bt text = parts-later_body s at text ∙ sym (parts-l
 
 parts-prefix_left : (o : Option Found) (begin : Begin) (s : Separators) (at bt from gone : ℕ) (slice left rest more : List ℕ) → slice ≡ left → rest ≡ more
     → parts (prefix_left o at slice (body_from begin s from rest)) ≡ parts (prefix_left o bt left (body_from begin s gone more))
-parts-prefix_left None begin s at bt from gone slice left rest more e h = ap (λ t. parts (body_from begin s from t)) h ∙ parts-anywhere begin s from gone more
-parts-prefix_left (Some f) begin s at bt from gone slice left rest more e h =
-    ap₂ (λ t ps. prefix_part (prefix_view f.kind) (take f.length t) ∷ ps) e (ap (λ t. parts (body_from begin s from t)) h ∙ parts-anywhere begin s from gone more)
+parts-prefix_left o begin s at bt from gone slice left rest more e h = grind (arith, parts-anywhere)
 
 start_left-pending : (o : Option Found) (from : ℕ) → start_left o from ≡ from - pending o
-start_left-pending None from = omega arith
-start_left-pending (Some f) from = refl
+start_left-pending o from = grind arith
 
 -- the slice left of a cursor is the front of a text
 module _ (c : Cursor) (text : List ℕ) (len : ℕ) (within : len ≤ length text) (same : slice_left c ≡ take len text) where
@@ -413,26 +334,18 @@ module _ (c : Cursor) (text : List ℕ) (len : ℕ) (within : len ≤ length tex
   -- and all that is left
   pub within-parts : parts (prefix_left c.prefix (start_left c.prefix (pending c.prefix)) (slice_range text (start_left c.prefix (pending c.prefix)) len)
       (body_from c.begin c.separators (pending c.prefix) (slice_range text (pending c.prefix) len))) ≡ parts (items_left c)
-  within-parts =
-      let none : pending c.prefix - pending c.prefix ≡ 0 = omega arith in
-      parts-prefix_left c.prefix c.begin c.separators _ _ _ _ _ _ _ _
-      (ap (λ n. slice_range text n len) (start_left-pending c.prefix (pending c.prefix) ∙ none) ∙ ap (λ n. take n text) (omega arith) ∙ sym same) within-body
+  within-parts = grind (arith, parts-prefix_left, start_left-pending, within-body)
 
 -- A text that two steps from the front tell to be one component.
 
 -- no component
 pub no_component : (cs : List Placed) → None ≡ first_part cs → parts cs ≡ []
-no_component [] h = refl
-no_component (c ∷ cs) h = cc
+no_component cs h = grind arith
 
 -- one component and no more
 pub one_component : (cs : List Placed) (p : Part) → Some p ≡ first_part cs → None ≡ first_part (drop 1 cs) → parts cs ≡ p ∷ []
-one_component [] p some none = cc
-one_component (c ∷ []) p some none = ap (λ q. q ∷ []) (sym (same_Some _ _ some))
-one_component (c ∷ d ∷ cs) p some none = cc
+one_component cs p h h1 = grind arith
 
 -- one component, and another
 pub more_components : (cs : List Placed) (p q : Part) → Some p ≡ first_part cs → Some q ≡ first_part (drop 1 cs) → 1 < length (parts cs)
-more_components [] p q some next = cc
-more_components (c ∷ []) p q some next = cc
-more_components (c ∷ d ∷ cs) p q some next = omega arith
+more_components cs p q h next = grind arith

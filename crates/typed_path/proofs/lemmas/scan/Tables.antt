@@ -1,6 +1,7 @@
 -- Tables that bytes are looked up in by their low bits, a block of them at once.
-use Rattle.std.proofs.Common.{◌≡◌, ℕ, zero, suc, ◌+◌, ◌-◌, ◌*◌, ◌^◌, ◌/◌, ◌%◌, ◌≤◌, ◌<◌, List, [], ◌∷◌, Bool, true, false, ◌&&◌, ◌||◌, w8, length, map, take, drop, get_or, refl, sym, ap, ap₂, eqb, replicate, ◌∙◌, arith, bit_and, inl, inr, ltb, ltb-true, get_or-take, get_or-drop}
-use Rattle.std.proofs.lemmas.Bool.{cases_lt, ne_eqb, and_parts, false≢true}
+use Rattle.std.proofs.Common.{◌≡◌, ℕ, zero, suc, ◌+◌, ◌-◌, ◌*◌, ◌^◌, ◌/◌, ◌%◌, ◌<◌, List, [], ◌∷◌, Bool, true, ◌&&◌, ◌||◌, w8, length, map, take, drop, get_or, refl, sym, ap, eqb, replicate, ◌∙◌, arith, bit_and, inl, inr, get_or-take, get_or-drop}
+use Rattle.std.proofs.lemmas.Grind.{common_steps}
+use Rattle.std.proofs.lemmas.Bool.{cases_lt, and_parts}
 use Rattle.std.proofs.lemmas.List.{get_or-map, length-map, ext_get_or}
 use Rattle.std.proofs.lemmas.Nat.{and_mask}
 use Rattle.std.proofs.lemmas.Simd.{zip2_splat, swz_l, length-swz_l, get_or-swz_l_below}
@@ -37,11 +38,7 @@ lanes-held f (x ∷ xs) = ap (λ l. lane (eqb (f x) x) ∷ l) (lanes-held f xs)
 
 -- the low bits of each byte of a block
 pub low-bits : (n bits : ℕ) (xs : List ℕ) → length xs ≡ n → zip2 bit_and xs (replicate n (2 ^ bits - 1)) ≡ map (λ x. x % 2 ^ bits) xs
-low-bits n bits xs long = zip2_splat bit_and xs n (2 ^ bits - 1) long ∙ by xs
-  where
-    by : (ys : List ℕ) → map (λ x. bit_and x (2 ^ bits - 1)) ys ≡ map (λ x. x % 2 ^ bits) ys
-    by [] = refl
-    by (y ∷ ys) = ap₂ ◌∷◌ (and_mask y bits) (by ys)
+low-bits n bits xs long = grind (arith, zip2_splat, and_mask)
 
 -- what a table of two halves alike holds at the place that each byte of a block has in its half
 pub looked-up : (table xs js : List ℕ) → drop 16 table ≡ take 16 table → length xs ≡ 32 → js ≡ map (λ x. x % 16) xs → swz_l w8 16 table 0 js ≡ map (λ x. get_or table (x % 16) 0) xs
@@ -69,32 +66,8 @@ abbrev pub holds : List ℕ → ℕ → Bool
 holds table b = eqb (get_or table (b % 16) 0) b
 
 same-under : (b : ℕ) → b < 256 → (holds FORBIDDEN b || holds ALSO_FORBIDDEN b) ≡ is_forbidden b
-same-under b low = alike _ _ (under (λ m. same (holds FORBIDDEN m || holds ALSO_FORBIDDEN m) (is_forbidden m)) 256 refl b low)
-  where
-    same : Bool → Bool → Bool
-    same true c = c
-    same false true = false
-    same false false = true
-
-    alike : (c d : Bool) → same c d ≡ true → c ≡ d
-    alike true d e = sym e
-    alike false true e = absurd (false≢true e)
-    alike false false e = refl
+same-under b low = grind (arith, common_steps)
 
 -- two tables hold them
 pub forbidden-held : (b : ℕ) → (holds FORBIDDEN b || holds ALSO_FORBIDDEN b) ≡ is_forbidden b
-forbidden-held b = elim (cases_lt b 256) [
-  | inl low ↦ same-under b low
-  | inr high ↦ cc (unheld FORBIDDEN b refl high, unheld ALSO_FORBIDDEN b refl high, unlike b high)
-]
-  where
-    far : (b n : ℕ) → n < 256 → 256 ≤ b → eqb b n ≡ false
-    far b n low high = ne_eqb b n (λ e. omega arith)
-
-    unlike : (b : ℕ) → 256 ≤ b → is_forbidden b ≡ false
-    unlike b high = simp (far b 58 (omega arith) high, far b 63 (omega arith) high, far b 42 (omega arith) high, far b 34 (omega arith) high, far b 62 (omega arith) high, far b 60 (omega arith) high, far b 124 (omega arith) high, far b 0 (omega arith) high)
-
-    unheld : (table : List ℕ) (b : ℕ) → all-under (λ m. ltb (get_or table m 0) 256) 16 ≡ true → 256 ≤ b → holds table b ≡ false
-    unheld table b small high =
-        let low = ltb-true _ _ (under (λ m. ltb (get_or table m 0) 256) 16 small (b % 16) (omega arith)) in
-        ne_eqb _ b (λ e. omega arith)
+forbidden-held b = grind (arith, common_steps)

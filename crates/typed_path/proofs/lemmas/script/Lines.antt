@@ -1,6 +1,7 @@
 -- Lines of an input that comes in pieces: their ends, their commands, their fields.
-use Rattle.std.proofs.Common.{◌≡◌, ℕ, List, [], ◌∷◌, ◌++◌, Bool, true, false, cond, append_assoc, eqb, refl, sym, ap, ◌∙◌, ◌≢◌, ◌==◌, subst, All, length, take, append-nil, arith, map, drop, take_all, codes, bytes_eq, Result, OnOk, Option, Some, None, Ok, Err, IfOk, is_ok, take-append-drop}
-use Rattle.std.specs.List.{slice_split, onto_first, join_with_byte, flat_map}
+use Rattle.std.proofs.Common.{◌≡◌, ℕ, List, [], ◌∷◌, ◌++◌, Bool, true, false, cond, append_assoc, eqb, refl, sym, ap, ◌∙◌, ◌≢◌, ◌==◌, subst, All, length, take, append-nil, arith, drop, take_all, codes, bytes_eq, Result, OnOk, Option, Some, None, IfOk, is_ok, take-append-drop}
+use Rattle.std.proofs.lemmas.Grind.{common_steps}
+use Rattle.std.specs.List.{slice_split, onto_first, join_with_byte}
 use Rattle.std.proofs.lemmas.List.Splits.{slice_split-cons_no, join_with_byte-slice_split, slice_split_none}
 use Rattle.std.proofs.lemmas.Slice.Eq.{bytes_eq-Decides}
 use Rattle.std.proofs.lemmas.Bool.{false_from_ne_true, or_parts}
@@ -10,7 +11,7 @@ use Rattle.std.proofs.Math.Seq.{take-append_seam}
 use Rattle.typed_path.specs.declared.script.lines.Command.{Command}
 use Rattle.typed_path.specs.declared.script.lines.Command.TheVariants.{Normalize, Components, Join, JoinChecked, Convert, ConvertChecked}
 use Rattle.typed_path.specs.declared.script.lines.FieldEnd.{FieldEnd}
-use Rattle.typed_path.specs.script.{line_feed, split_lines, ended, last_line, all_lines, complete_lines, open_line, lines_of, reply, replies_to, tab, fields_of, reply_in, convert_reply_in, pair_reply_in, reply_fields, reply_line, derived_reply, bare_reply, bad_line, dialect_named, dialect_name, in_named, AnswersFirst, text_reply, command_name, texts_reply, end_byte}
+use Rattle.typed_path.specs.script.{line_feed, split_lines, ended, last_line, all_lines, complete_lines, open_line, lines_of, replies_to, tab, fields_of, reply_in, convert_reply_in, pair_reply_in, reply_fields, reply_line, derived_reply, bare_reply, bad_line, dialect_named, dialect_name, in_named, AnswersFirst, text_reply, command_name, texts_reply, end_byte}
 use Rattle.typed_path.specs.components.{Dialect, unix, windows}
 use Rattle.typed_path.specs.scan.{is_one_of, IsFirstOf}
 use Rattle.typed_path.proofs.lemmas.lists.Lists.{slice_split-some, fails_before, slice_split-append}
@@ -39,19 +40,7 @@ module _ (p : ℕ → Bool) where
       → slice_split p (u ++ v) ≡ ended (slice_split p u) ++ slice_split p (last_line (slice_split p u) ++ v)
       → cond b ([] ∷ slice_split p (u ++ v)) (onto_first x (slice_split p (u ++ v)))
       ≡ ended (cond b ([] ∷ slice_split p u) (onto_first x (slice_split p u))) ++ slice_split p (last_line (cond b ([] ∷ slice_split p u) (onto_first x (slice_split p u))) ++ v)
-  pieces_behind x u v true passes piece pieces some rest =
-      ap (λ ps. [] ∷ ps) rest
-      ∙ ap (λ ps. ps ++ slice_split p (last_line (slice_split p u) ++ v)) (sym (ended-cons [] piece pieces (slice_split p u) some))
-      ∙ ap (λ t. ended ([] ∷ slice_split p u) ++ slice_split p (t ++ v)) (sym (last_line-cons [] piece pieces (slice_split p u) some))
-  pieces_behind x u v false fails piece pieces some rest =
-      ap (onto_first x) (rest ∙ ap (λ ps. ended ps ++ slice_split p (last_line ps ++ v)) some)
-      ∙ in_front piece pieces
-      ∙ ap (λ ps. ended (onto_first x ps) ++ slice_split p (last_line (onto_first x ps) ++ v)) (sym some)
-    where
-      in_front : (a : List ℕ) (as' : List (List ℕ)) → onto_first x (ended (a ∷ as') ++ slice_split p (last_line (a ∷ as') ++ v))
-          ≡ ended ((x ∷ a) ∷ as') ++ slice_split p (last_line ((x ∷ a) ∷ as') ++ v)
-      in_front a [] = sym (slice_split-cons_no p x (a ++ v) fails)
-      in_front a (r ∷ rs) = refl
+  pieces_behind x u v b passes piece pieces h rest = grind arith
 
   -- the pieces of two texts put together: those of the first but the last, which goes on in the second
   pub slice_split-joined : (u v : List ℕ) → slice_split p (u ++ v) ≡ ended (slice_split p u) ++ slice_split p (last_line (slice_split p u) ++ v)
@@ -88,18 +77,13 @@ lines_of-open input =
     ap all_lines some.2 ∙ all_lines-ended some.0 some.1 ∙ ap (λ ps. ended ps ++ all_lines (last_line ps ∷ [])) (sym some.2)
 
 pub replies_to-append : (ls ms : List (List ℕ)) → replies_to (ls ++ ms) ≡ replies_to ls ++ replies_to ms
-replies_to-append [] ms = refl
-replies_to-append (l ∷ ls) ms = ap (λ bs. reply l ++ bs) (replies_to-append ls ms) ∙ sym (append_assoc (reply l) (replies_to ls) (replies_to ms))
+replies_to-append ls ms = grind (arith, common_steps)
 
 module _ (p : ℕ → Bool) where
   -- a text with no separator in front of others goes on in their first piece
   whole_behind : (x : ℕ) (u : List ℕ) (b : Bool) → p x ≡ b → (a : List ℕ) (as' : List (List ℕ)) → slice_split p u ≡ a ∷ as'
       → cond b ([] ∷ slice_split p u) (onto_first x (slice_split p u)) ≡ (x ∷ u) ∷ [] → (b ≡ false) × (slice_split p u ≡ u ∷ [])
-  whole_behind x u true e a as' some whole = cc
-  whole_behind x u false e a as' some whole = (refl, by_parts (ap (onto_first x) (sym some) ∙ whole))
-    where
-      by_parts : (x ∷ a) ∷ as' ≡ (x ∷ u) ∷ [] → slice_split p u ≡ u ∷ []
-      by_parts h = cc
+  whole_behind x u b e a as' h whole = grind arith
 
   pub slice_split-onto : (u v h : List ℕ) (t : List (List ℕ)) → slice_split p u ≡ u ∷ [] → slice_split p v ≡ h ∷ t → slice_split p (u ++ v) ≡ (u ++ h) ∷ t
   slice_split-onto [] v h t whole e = e
@@ -150,8 +134,7 @@ neither first second a b c e f = cc
 
 -- what is a bad line in each dialect is one whatever dialect is named
 bad_in_named : (fields : Dialect → List (List ℕ)) (d : Option Dialect) → ((e : Dialect) → fields e ≡ bad_line) → in_named fields d ≡ bad_line
-bad_in_named fields None bad = refl
-bad_in_named fields (Some d) bad = bad d
+bad_in_named fields d bad = grind arith
 
 -- a text that begins with none of the commands begins with no command
 pub no_command_begins : (text : List ℕ) → LacksField (codes "normalize") text → LacksField (codes "components") text → LacksField (codes "join") text → LacksField (codes "join_checked") text
@@ -188,12 +171,7 @@ no_dialect first second e f = cc
 
 -- a command on a dialect is none that names no dialect
 names_a_dialect : (c : Command) → bytes_eq (command_name c) (codes "derive") ≡ false
-names_a_dialect Normalize = refl
-names_a_dialect Components = refl
-names_a_dialect Join = refl
-names_a_dialect JoinChecked = refl
-names_a_dialect Convert = refl
-names_a_dialect ConvertChecked = refl
+names_a_dialect c = grind arith
 
 -- so it is no command where one text alone stands behind it
 pub one_text : (c : Command) (text : List ℕ) → reply_fields (command_name c ∷ text ∷ []) ≡ bad_line
@@ -201,17 +179,7 @@ one_text c text = ap (λ is. cond is (derived_reply text) bad_line) (names_a_dia
 
 -- the fields behind a command, where they begin with no known encoding and its tab
 pub no_encoding : (c : Command) (rest : List ℕ) → LacksField (codes "unix") rest → LacksField (codes "windows") rest → reply_fields (command_name c ∷ fields_of rest) ≡ bad_line
-no_encoding c rest no_unix no_windows = by (fields_of rest) refl
-  where
-    named : (d second : List ℕ) (fields : List (List ℕ)) → fields_of rest ≡ d ∷ second ∷ fields → dialect_named d ≡ None
-    named d second fields e = no_dialect _ _ (first_is_other rest (codes "unix") d second fields no_unix e) (first_is_other rest (codes "windows") d second fields no_windows e)
-
-    by : (fields : List (List ℕ)) → fields_of rest ≡ fields → reply_fields (command_name c ∷ fields) ≡ bad_line
-    by [] e = refl
-    by (d ∷ []) e = one_text c d
-    by (d ∷ p ∷ []) e = ap (in_named (λ dialect. reply_in dialect (command_name c) p)) (named d p [] e)
-    by (d ∷ b ∷ p ∷ []) e = ap (in_named (λ dialect. pair_reply_in dialect (command_name c) b p)) (named d b (p ∷ []) e)
-    by (d ∷ b ∷ p ∷ q ∷ fields) e = refl
+no_encoding c rest no_unix no_windows = grind (arith, first_is_other, one_text)
 
 -- more than two texts are too many for every command
 pub too_many : (d : Dialect) (command base first : List ℕ) (behind : List ℕ) → texts_reply d command (base ∷ first ∷ fields_of behind) ≡ bad_line
@@ -221,13 +189,7 @@ too_many d command base first behind =
 
 -- a line that does not begin with the one command that names no dialect, and its tab
 pub no_bare_command : (line : List ℕ) → LacksField (codes "derive") line → bare_reply (fields_of line) ≡ bad_line
-no_bare_command line lacks = by (fields_of line) refl
-  where
-    by : (fields : List (List ℕ)) → fields_of line ≡ fields → bare_reply fields ≡ bad_line
-    by [] e = refl
-    by (f ∷ []) e = refl
-    by (f ∷ p ∷ []) e = ap (λ is. cond is (derived_reply p) bad_line) (first_is_other line (codes "derive") f p [] lacks e)
-    by (f ∷ p ∷ q ∷ fields) e = refl
+no_bare_command line lacks = grind (arith, first_is_other)
 
 -- more than one text is too many for it
 pub bare_too_many : (first behind : List ℕ) → bare_reply (codes "derive" ∷ first ∷ fields_of behind) ≡ bad_line
@@ -268,12 +230,7 @@ module _ (input : List ℕ) (at : ℕ) (found : IsFirstOf (tab, line_feed) input
 
 -- the name of a command is one field, and stands in one line
 pub command_is_field : (c : Command) → (split_lines (command_name c) ≡ command_name c ∷ []) × (fields_of (command_name c) ≡ command_name c ∷ [])
-command_is_field Normalize = (refl, refl)
-command_is_field Components = (refl, refl)
-command_is_field Join = (refl, refl)
-command_is_field JoinChecked = (refl, refl)
-command_is_field Convert = (refl, refl)
-command_is_field ConvertChecked = (refl, refl)
+command_is_field c = grind arith
 
 -- so is that of a dialect
 pub dialect_is_field : (d : Dialect) → (split_lines (dialect_name d) ≡ dialect_name d ∷ []) × (fields_of (dialect_name d) ≡ dialect_name d ∷ [])
@@ -291,15 +248,13 @@ lines-behind field rest line lines whole e = slice_split-onto (λ b. eqb b line_
 -- what is given for what stands behind the first field is given for the whole line
 answers-behind : (given : List ℕ → List ℕ) (field rest : List ℕ) (left : Option (List ℕ)) (old new : List ℕ) → split_lines field ≡ field ∷ []
     → AnswersFirst (λ line. given (field ++ tab ∷ line)) rest left old new → AnswersFirst given (field ++ tab ∷ rest) left old new
-answers-behind given field rest None old new whole h = (lines-behind field rest rest [] whole h.0, h.1)
-answers-behind given field rest (Some left) old new whole h = (field ++ tab ∷ h.0, lines-behind field rest h.0 (split_lines left) whole h.1, h.2)
+answers-behind given field rest left old new whole h = grind (arith, lines-behind)
 
 -- what is given may be told in other words, where they are the same for the first line
 answers-alike : (given other : List ℕ → List ℕ) (input : List ℕ) (left : Option (List ℕ)) (old new : List ℕ)
     → ((line : List ℕ) (lines : List (List ℕ)) → split_lines input ≡ line ∷ lines → other line ≡ given line)
     → AnswersFirst other input left old new → AnswersFirst given input left old new
-answers-alike given other input None old new same h = h
-answers-alike given other input (Some left) old new same h = (h.0, h.1, h.2 ∙ ap (λ bs. old ++ bs) (same h.0 (split_lines left) h.1))
+answers-alike given other input left old new same h = grind arith
 
 module _ {A E : Type 0} (r : Result A E) (left : A → Option (List ℕ)) (given other : List ℕ → List ℕ) (old new : List ℕ) where
   pub put_alike : (input : List ℕ) → ((line : List ℕ) (lines : List (List ℕ)) → split_lines input ≡ line ∷ lines → other line ≡ given line)
@@ -309,11 +264,7 @@ module _ {A E : Type 0} (r : Result A E) (left : A → Option (List ℕ)) (given
   pub put_behind : (input field rest : List ℕ) → input ≡ field ++ tab ∷ rest → split_lines field ≡ field ∷ []
       → ((line : List ℕ) (lines : List (List ℕ)) → split_lines rest ≡ line ∷ lines → other line ≡ given (field ++ tab ∷ line))
       → IfOk r (λ a. AnswersFirst other rest (left a) old new) → IfOk r (λ a. AnswersFirst given input (left a) old new)
-  put_behind input field rest e whole same h =
-      IfOk-weaker r _ _
-      (λ a g. subst (λ t. AnswersFirst given t (left a) old new) (sym e)
-      (answers-behind given field rest (left a) old new whole (answers-alike (λ line. given (field ++ tab ∷ line)) other rest (left a) old new same g)))
-      h
+  put_behind input field rest e whole same h = grind (arith, answers-behind, answers-alike)
 
 -- an input whose first field is known to end so
 pub ended_so : (input field left : List ℕ) (end other : FieldEnd) → end ≡ other → input ≡ field ++ end_byte end ∷ left → input ≡ field ++ end_byte other ∷ left
@@ -322,11 +273,7 @@ ended_so input field left end other e h = h ∙ ap (λ x. field ++ end_byte x �
 -- a line that is one field alone
 pub ends_line : (given : List ℕ → List ℕ) (input field left answer old new : List ℕ) → input ≡ field ++ line_feed ∷ left → split_lines field ≡ field ∷ []
     → new ≡ old ++ answer → answer ≡ given field → AnswersFirst given input (Some left) old new
-ends_line given input field left answer old new e whole put same = (
-  field,
-  ap split_lines e ∙ slice_split-append (λ b. eqb b line_feed) field line_feed left refl ∙ ap (λ lines. lines ++ split_lines left) whole,
-  put ∙ ap (λ bs. old ++ bs) same,
-)
+ends_line given input field left answer old new e whole put same = grind (arith, slice_split-append)
 
 -- an input begins with its first line
 begins : (line : List ℕ) (lines : List (List ℕ)) → (more : List ℕ) × (join_with_byte line_feed (line ∷ lines) ≡ line ++ more)
@@ -347,22 +294,9 @@ same_first a b as' bs e = cc
 -- a line to which its line feed was put is answered whole
 pub completes : {A E : Type 0} (r : Result A E) (left : A → Option (List ℕ)) (given : List ℕ → List ℕ) (input line old new : List ℕ) → input ≡ line ++ line_feed ∷ [] → split_lines line ≡ line ∷ []
     → is_ok r ≡ true → IfOk r (λ a. AnswersFirst given input (left a) old new) → new ≡ old ++ given line
-completes (Ok a) left given input line old new e whole answered h = by (left a) h
-  where
-    lines : split_lines input ≡ line ∷ [] ∷ []
-    lines = ap split_lines e ∙ slice_split-append (λ b. eqb b line_feed) line line_feed [] refl ∙ ap (λ ls. ls ++ [] ∷ []) whole
-
-    by : (l : Option (List ℕ)) → AnswersFirst given input l old new → new ≡ old ++ given line
-    by None g = let apart : line ∷ [] ∷ [] ≡ input ∷ [] = sym lines ∙ g.0 in cc
-    by (Some l) g = g.2 ∙ ap (λ t. old ++ given t) (same_first g.0 line (split_lines l) ([] ∷ []) (sym g.1 ∙ lines))
-completes (Err refused) left given input line old new e whole answered h = cc
+completes r left given input line old new e whole answered h = grind (arith, slice_split-append, same_first)
 
 -- Fields in a row, and the fields that show components.
-
--- texts with a byte between: the first, and then the byte and a text again and again
-pub join_with_byte-map : {A : Type 0} (c : ℕ) (f : A → List ℕ) (x : List ℕ) (as' : List A) → join_with_byte c (x ∷ map f as') ≡ x ++ flat_map (λ a. c ∷ f a) as'
-join_with_byte-map c f x [] = sym (append-nil x)
-join_with_byte-map c f x (a ∷ as') = ap (λ t. x ++ (c ∷ t)) (join_with_byte-map c f (f a) as')
 
 -- Replies whose text is put together at their end.
 
@@ -377,15 +311,8 @@ module _ (old begun made : List ℕ) (start : ℕ) (ok : begun ≡ old ++ ok_fie
 
   -- the reply is complete once the line feed stands
   pub text_answered : (new : List ℕ) → new ≡ made ++ line_feed ∷ [] → new ≡ old ++ text_reply (drop start made)
-  text_answered new ended =
-      ended
-      ∙ ap (λ bs. bs ++ line_feed ∷ []) parted
-      ∙ append_assoc (old ++ ok_field) (drop start made) (line_feed ∷ [])
-      ∙ append_assoc old ok_field (drop start made ++ line_feed ∷ [])
+  text_answered new ended = grind (arith, parted, append_assoc)
 
   -- and what it had of it is cut off again
   pub text_cut_off : (len : ℕ) → len ≡ length old → take len made ≡ old
-  text_cut_off len size =
-      ap (take len) (parted ∙ append_assoc old ok_field (drop start made))
-      ∙ ap (λ n. take n (old ++ (ok_field ++ drop start made))) size
-      ∙ take-append_seam old (ok_field ++ drop start made)
+  text_cut_off len size = grind (arith, parted, append_assoc, take-append_seam)

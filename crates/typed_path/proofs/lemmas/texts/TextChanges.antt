@@ -1,5 +1,6 @@
 -- What changes a text leaves a text, and what the search is told of texts.
 use Rattle.std.proofs.Common.{◌≡◌, ℕ, ◌-◌, ◌<◌, ◌==◌, ◌||◌, true, List, [], ◌∷◌, ◌++◌, length, take, slice_index, refl, arith, ◌+◌, sym, ap, subst, ◌∙◌, map, drop, Option, Some, None, option_and_then, option_map, Ok, Bool, false, if◌then◌else◌}
+use Rattle.std.proofs.lemmas.Grind.{common_steps}
 use Rattle.std.specs.List.{AllByRecursion}
 use Rattle.std.specs.Str.{IsUtf8, is_utf8, IsCharBoundary}
 use Rattle.std.proofs.lemmas.Bool.{cond_both, and_parts}
@@ -8,16 +9,16 @@ use Rattle.std.specs.String.{string_bytes}
 use Rattle.std.specs.declared.string.String.{String}
 use Rattle.typed_path.specs.declared.scan.step.Piece.{Piece}
 use Rattle.typed_path.specs.components.{Dialect, unix, windows, slash, backslash, dot, question, root_of, Kind, root, current, parent, Part, kinds, is_name, texts, Placed, parts, Found, prefix_of, parts_of, comps, written, as_written}
-use Rattle.typed_path.specs.queries.{begins_with_root, begins_with_prefix, has_prefix, has_any_verbatim_prefix, name_of, is_root, is_absolute, parent_of, file_name_of, file_stem_of, file_prefix_of, extension, can_be_simplified, simplified_text, common_ancestor_of, stripped, stem_of, extension_of}
+use Rattle.typed_path.specs.queries.{begins_with_root, has_prefix, has_any_verbatim_prefix, name_of, is_root, is_absolute, parent_of, file_name_of, file_stem_of, file_prefix_of, extension, can_be_simplified, simplified_text, common_ancestor_of, stripped, stem_of, extension_of}
 use Rattle.typed_path.specs.changes.{ended_with, push_unix, prefix_alone, without_last_name, merge_by_kind, merged, joint, spelled, raw_length, raw_prefix, is_disk_alone, ended_windows, push_behind, push_windows, push, push_all, dotted, start_of_last, stem_end, name_end, cut_at, without_file_name, with_file_name, with_extension, with_added_extension}
 use Rattle.typed_path.specs.texts.{are_texts, is_text_part, are_text_parts, is_text_option}
 use Rattle.typed_path.specs.scan.{last_of, but_last, first_part, last_part}
-use Rattle.typed_path.specs.places.{stays, resolve, normal_text}
-use Rattle.typed_path.specs.conversions.{same_dialect, crossed, crossed_all, converted, converted_checked, platform, absolute_from}
+use Rattle.typed_path.specs.places.{resolve, normal_text}
+use Rattle.typed_path.specs.conversions.{crossed, converted, converted_checked, platform, absolute_from}
 use Rattle.typed_path.specs.views.PieceViews.{part_of}
-use Rattle.typed_path.proofs.lemmas.lists.Lists.{AllByRecursion-append}
+use Rattle.typed_path.proofs.lemmas.lists.Lists.{AllByRecursion-append, AllByRecursion-last}
 use Rattle.typed_path.proofs.lemmas.texts.TextCuts.{byte-utf8, after_mark-utf8, prefix-text, ascii-cuts, IsCut, comps-cut, slash-text, backslash-text, current-text, parent-text as parent_part-text, name-text}
-use Rattle.typed_path.proofs.lemmas.texts.TextsLeft.{parts_of-text, AllByRecursion-last, some_text, name_of-text, without_file_name-text, ancestors-text, reading-starts, reading-front, reading-back, reading-slice, reading-first, reading-last, reading-first_some, reading-last_some, reading-parts, reading-texts, reading-above, reading-behind, stem_of-text, extension_of-text, components-text, single-text, first-text, last-text, parent-text, file_name-text, file_stem-text, file_prefix-text, extension-text, stripped-text, common_ancestor-text, popped-text}
+use Rattle.typed_path.proofs.lemmas.texts.TextsLeft.{parts_of-text, some_text, name_of-text, without_file_name-text, ancestors-text, reading-starts, reading-front, reading-back, reading-slice, reading-first, reading-last, reading-first_some, reading-last_some, reading-parts, reading-texts, reading-above, reading-behind, stem_of-text, extension_of-text, components-text, single-text, first-text, last-text, parent-text, file_name-text, file_stem-text, file_prefix-text, extension-text, stripped-text, common_ancestor-text, popped-text}
 use Rattle.typed_path.proofs.lemmas.queries.FileNames.{stem_of-whole, stem_of-extension}
 use Rattle.typed_path.proofs.lemmas.queries.Simplified.{simple_text, simple_of}
 use Rattle.typed_path.proofs.lemmas.scan.Steps.{last_of-push, last_pushed}
@@ -64,8 +65,7 @@ push_unix-utf8 base (b ∷ path) is other =
 
 -- a list without what stands behind its prefix, and without its last name
 prefix_alone-written : (ps : List Part) → AllByRecursion IsWritten ps → AllByRecursion IsWritten (prefix_alone ps)
-prefix_alone-written [] each = tt
-prefix_alone-written (p ∷ ps) each = cond_both (begins_with_prefix (λ q. true) (p.kind ∷ [])) (p ∷ []) [] (AllByRecursion IsWritten) (λ has. (each.0, tt)) (λ none. tt)
+prefix_alone-written ps each = grind arith
 
 without_last_name-written : (ps : List Part) → AllByRecursion IsWritten ps → AllByRecursion IsWritten (without_last_name ps)
 without_last_name-written [] each = tt
@@ -138,14 +138,11 @@ push_all-utf8 d base (path ∷ paths) is others = push_all-utf8 d (push d base p
 -- what a list resolves to is part of it
 resolve-written : (ps : List Part) → AllByRecursion IsWritten ps → AllByRecursion IsWritten (resolve ps)
 resolve-written [] each = tt
-resolve-written (p ∷ ps) each =
-    cond_both (stays p.kind (kinds ps)) (p ∷ []) [] (λ qs. AllByRecursion IsWritten (qs ++ resolve ps)) (λ kept. (each.0, resolve-written ps each.1)) (λ taken. resolve-written ps each.1)
+resolve-written (p ∷ ps) each = grind (arith, common_steps, cond_both, resolve-written ps each.1)
 
 -- so the normal text of a text is a text
 pub normal_text-utf8 : (d : Dialect) (t : List ℕ) → IsUtf8 t → IsUtf8 (normal_text d t)
-normal_text-utf8 d t is =
-    let ps = resolve (parts_of d t) in
-    push_all-utf8 d [] (texts ps) IsUtf8-nil (texts-utf8 ps (resolve-written (parts_of d t) (parts_of-written d t is)))
+normal_text-utf8 d t is = grind (arith, push_all-utf8, texts-utf8, resolve-written, parts_of-written)
 
 -- a name may be cut behind its stem
 stem_of-cut : (name : List ℕ) → IsUtf8 name → IsCharBoundary name (length (stem_of name))
@@ -258,9 +255,7 @@ module _ (d e : Dialect) (t : List ℕ) (is : is_utf8 t ≡ true) where
 
   -- a text in another dialect
   pub converted-text : is_utf8 (converted d e t) ≡ true
-  converted-text =
-      cond_both (same_dialect d e) t (crossed_all e (parts_of d t)) (λ bs. is_utf8 bs ≡ true) (λ same. is)
-      (λ other. is_utf8-from_IsUtf8 _ crossed-text)
+  converted-text = grind (arith, is_utf8-from_IsUtf8, crossed-text)
 
   -- the same by checked pushes
   pub converted_checked-text : (u : List ℕ) → converted_checked d e t ≡ Ok u → is_utf8 u ≡ true

@@ -1,6 +1,7 @@
 -- The clean text of a text in UTF-8 is one.
 -- The path that leads from a base to a text is a text.
 use Rattle.std.proofs.Common.{◌≡◌, ℕ, zero, suc, ◌<◌, ◌==◌, ◌||◌, ◌&&◌, not, Bool, true, false, List, [], ◌∷◌, ◌++◌, if◌then◌else◌, length, arith, drop, subst, Some, None}
+use Rattle.std.proofs.lemmas.Grind.{common_steps}
 use Rattle.std.specs.Prelude.{is_some}
 use Rattle.std.specs.List.{AllByRecursion, join_with_byte}
 use Rattle.std.specs.Str.{IsUtf8, is_utf8}
@@ -88,9 +89,7 @@ clean_text-text d t is =
 pub ruleset clean_laws = (clean_text-text)
 
 drop-utf8 : (n : ℕ) (ts : List (List ℕ)) → AllByRecursion IsUtf8 ts → AllByRecursion IsUtf8 (drop n ts)
-drop-utf8 zero ts each = each
-drop-utf8 (suc n) [] each = tt
-drop-utf8 (suc n) (t ∷ ts) each = drop-utf8 n ts each.1
+drop-utf8 n ts each = grind (arith, common_steps)
 
 pub steps_text-utf8 : (d : Dialect) (n : ℕ) (names : List (List ℕ)) → AllByRecursion IsUtf8 names → IsUtf8 (steps_text d n names)
 steps_text-utf8 d n names each = unheaded-utf8 d _ (joined-utf8 (own_separator d) (dots n ++ names) (separator-low d) (AllByRecursion-append IsUtf8 (dots n) names (dots-utf8 n) each))

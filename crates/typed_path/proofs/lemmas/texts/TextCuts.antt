@@ -1,5 +1,6 @@
 -- A text cut beside a byte of ASCII, and the segments, prefixes and components that are texts.
-use Rattle.std.proofs.Common.{◌≡◌, ℕ, ◌+◌, ◌-◌, ◌<◌, ◌≤◌, ◌==◌, ◌||◌, Bool, true, false, List, [], ◌∷◌, ◌++◌, length, take, drop, get_or, slice_range, inl, inr, refl, sym, ap, subst, ◌∙◌, append_assoc, eqb-true, arith, cond, ◌&&◌, not, nat_lt, Option, Some, flat_map, None, take-append-drop, length-take-le, ltb-true, get_or-append-add, take_at, drop_at, length-append, take_all}
+use Rattle.std.proofs.Common.{◌≡◌, ℕ, ◌+◌, ◌-◌, ◌<◌, ◌==◌, Bool, true, false, List, [], ◌∷◌, ◌++◌, length, take, drop, get_or, slice_range, inl, inr, refl, sym, ap, subst, ◌∙◌, append_assoc, eqb-true, arith, cond, ◌&&◌, not, nat_lt, Option, Some, flat_map, None, take-append-drop, length-take-le, ltb-true, get_or-append-add, take_at, drop_at, length-append, take_all}
+use Rattle.std.proofs.lemmas.Grind.{common_steps}
 use Rattle.std.specs.Str.{IsUtf8, IsCharBoundary, is_utf8}
 use Rattle.std.proofs.lemmas.Bool.{cases_lt, cond_both, and_parts, and_from, not-false}
 use Rattle.std.proofs.lemmas.List.{get_or_at, get_or_append_left, drop_all}
@@ -14,22 +15,17 @@ use Rattle.typed_path.specs.components.{slash, backslash, is_separator, Dialect,
 use Rattle.typed_path.specs.texts.{is_text_prefix, is_text_part}
 use Rattle.typed_path.specs.queries.{name_of}
 use Rattle.typed_path.proofs.lemmas.lists.Lists.{slice_split-some, AllByRecursion-append}
-use Rattle.typed_path.proofs.lemmas.components.Prefixes.{and_then-some, where-some, after_mark-reads, after_unc-reads, after_two-reads, both-read, Read, IsBehindMark, of_verbatim_unc, of_verbatim_disk, of_verbatim, of_device, of_unc, of_disk, prefix-read, prefix-fits}
-use Rattle.typed_path.proofs.lemmas.components.PrefixCuts.{name-length, name-take, names-take}
+use Rattle.typed_path.proofs.lemmas.components.Prefixes.{after_mark-reads, after_unc-reads, after_two-reads, both-read, Read, IsBehindMark, of_verbatim_unc, of_verbatim_disk, of_verbatim, of_device, of_unc, of_disk, prefix-read, prefix-fits}
+use Rattle.typed_path.proofs.lemmas.components.PrefixCuts.{name-length, names-take}
 use Rattle.typed_path.proofs.lemmas.components.Segments.{Seen, empty, passed_dot, kept_dot, dot_dot, word, seen}
 use Rattle.typed_path.proofs.lemmas.components.Cuts.{empty_first}
+use Rattle.typed_path.proofs.lemmas.lists.Options.{and_then-some, where-some}
 
 -- A text cut beside a byte of ASCII.
 
 -- each separator is a byte of ASCII
 pub separator-ascii : (s : Separators) (b : ℕ) → is_separator s b ≡ true → b < 128
-separator-ascii Slash b h = omega (arith, eqb-true b slash h)
-separator-ascii Backslash b h = omega (arith, eqb-true b backslash h)
-separator-ascii Either b h = by (b == slash) refl h
-  where
-    by : (x : Bool) → (b == slash) ≡ x → x || (b == backslash) ≡ true → b < 128
-    by true e h = omega (arith, eqb-true b slash e)
-    by false e h = omega (arith, eqb-true b backslash h)
+separator-ascii s b h = grind arith
 
 -- a text may be cut before a byte of ASCII, and behind it
 pub ascii-cuts : (t u v : List ℕ) (x : ℕ) → IsUtf8 t → t ≡ u ++ x ∷ v → x < 128 → IsCharBoundary t (length u) × IsCharBoundary t (length u + 1)
@@ -65,13 +61,7 @@ part-utf8 t front part rest is whole start end =
 
 -- where a part of a text may be cut, the text may be
 pub inside-cut : (t front part rest : List ℕ) (n : ℕ) → t ≡ front ++ (part ++ rest) → IsCharBoundary t (length front + length part) → IsCharBoundary part n → IsCharBoundary t (length front + n)
-inside-cut t front part rest n whole end cut = elim (cases_lt n (length part)) [
-  | inl less ↦
-      let same : get_or t (length front + n) 0 ≡ get_or part n 0 = ap (λ bs. get_or bs (length front + n) 0) whole ∙ get_or-append-add front (part ++ rest) n 0 ∙ get_or_append_left part rest 0 n less in
-      let within : length front + n ≤ length t = omega (arith, ap length whole, length-append front (part ++ rest), length-append part rest) in
-      (within, λ l high. let lead = cut.1 less (omega arith) in omega arith)
-  | inr most ↦ let last : length part ≡ n = omega (arith, cut.0) in subst (λ k. IsCharBoundary t (length front + k)) last end
-]
+inside-cut t front part rest n whole end cut = grind (arith, cases_lt, get_or-append-add, get_or_append_left, length-append)
 
 -- The segments of a text begin and end where it may be cut.
 
@@ -100,14 +90,7 @@ at_place t m n e cut = subst (IsCharBoundary t) e cut
 module _ (s : Separators) (t : List ℕ) (is : IsUtf8 t) where
   -- a first segment that begins where the text may be cut is one like the others
   opened : (front part : List ℕ) (g : Segment) → t ≡ front ++ part → g.start ≡ length front → IsCharBoundary t g.start → IsFront t part g → IsTextSegment t g
-  opened front part g whole place start first = record {
-    start = start;
-    end = first.end;
-    text = part-utf8 t front g.text first.rest is (whole ∙ ap (λ bs. front ++ bs) first.whole) (at_place t _ _ place start)
-        (at_place t _ _ (ap (λ n. n + length g.text) place) first.end);
-    inside = λ n cut. at_place t _ _ (ap (λ m. m + n) (sym place))
-        (inside-cut t front g.text first.rest n (whole ∙ ap (λ bs. front ++ bs) first.whole) (at_place t _ _ (ap (λ m. m + length g.text) place) first.end) cut);
-  }
+  opened front part g whole place start first = grind (arith, part-utf8, at_place, inside-cut)
 
   -- the segments of what stands behind a front of the text
   cut_behind : (front part : List ℕ) (at : ℕ) → t ≡ front ++ part → at ≡ length front → AreCut t part (segments s at part)
@@ -232,9 +215,7 @@ read-end s t _ is (of_disk letter drives) = drive-cut t letter is drives
 
 -- a name at the front of bytes is a text where it alone is, and two are where they are one with what parts them
 one-text : (s : Separators) (rest : List ℕ) → IsUtf8 (take (length (name s rest)) rest) → is_utf8 (name s rest) ≡ true
-one-text s rest is =
-    let n = length (name s rest) in
-    is_utf8-from_IsUtf8 _ (subst IsUtf8 (name-take s n rest (omega arith)) (parted s (take n rest) is).front)
+one-text s rest is = grind (arith, common_steps, is_utf8-from_IsUtf8)
 
 two-text : (s : Separators) (rest : List ℕ) → IsUtf8 (take (names_length s rest) rest) → is_utf8 (name s rest) && is_utf8 (second_name s rest) ≡ true
 two-text s rest is =
@@ -310,42 +291,24 @@ name-text name is = let text = is_utf8-from_IsUtf8 name is in and_from _ _ text 
 
 -- a component that takes a whole segment
 taken : (t : List ℕ) (g : Segment) (p : Part) → IsTextSegment t g → length g.text ≡ length p.text → is_text_part p ≡ true → ((name : List ℕ) → name_of p.kind ≡ Some name → g.text ≡ name) → AllByRecursion (IsCut t) (component p g.start)
-taken t g p is size text named = (
-  record {
-    start = is.start;
-    end = subst (λ n. IsCharBoundary t (g.start + n)) size is.end;
-    part = text;
-    inside = λ name n e cut. is.inside n (subst (λ bs. IsCharBoundary bs n) (sym (named name e)) cut);
-  },
-  tt,
-)
+taken t g p is size text named = grind arith
 
 -- what is made of a later segment
 later-cut : (s : Separators) (t : List ℕ) (g : Segment) → IsTextSegment t g → AllByRecursion (IsCut t) (later s g)
 later-cut s t g is = by (later s g) (first s g) (seen s g)
   where
     by : (own front : List Placed) → Seen s g own front → AllByRecursion (IsCut t) own
-    by _ _ (empty e) = tt
-    by _ _ (passed_dot e) = tt
-    by _ _ (kept_dot e) = taken t g current_part is e current-text (λ name h. cc)
-    by _ _ (dot_dot e) = taken t g parent_part is e parent-text (λ name h. cc)
-    by _ _ (word e) = taken t g (name_part g.text) is refl (name-text g.text is.text) (λ name h. cc)
+    by own front h = grind (arith, empty, passed_dot, kept_dot, taken, current-text, dot_dot, parent-text, word, name-text)
 
 -- what is made of the first one, where the text may be cut behind a root
 first-cut : (s : Separators) (t : List ℕ) (g : Segment) → IsTextSegment t g → (length g.text ≡ 0 → IsCharBoundary t (g.start + 1)) → AllByRecursion (IsCut t) (first s g)
 first-cut s t g is behind = by (later s g) (first s g) (seen s g)
   where
     root_cut : (r : Separators) → IsCharBoundary t (g.start + 1) → AllByRecursion (IsCut t) (component (root_part (root_text r)) g.start)
-    root_cut Slash end = (record { start = is.start; end = end; part = root-text Slash; inside = λ name n e cut. cc }, tt)
-    root_cut Backslash end = (record { start = is.start; end = end; part = root-text Backslash; inside = λ name n e cut. cc }, tt)
-    root_cut Either end = (record { start = is.start; end = end; part = root-text Either; inside = λ name n e cut. cc }, tt)
+    root_cut r end = grind (arith, root-text)
 
     by : (own front : List Placed) → Seen s g own front → AllByRecursion (IsCut t) front
-    by _ _ (empty e) = root_cut s (behind e)
-    by _ _ (passed_dot e) = taken t g current_part is e current-text (λ name h. cc)
-    by _ _ (kept_dot e) = taken t g current_part is e current-text (λ name h. cc)
-    by _ _ (dot_dot e) = taken t g parent_part is e parent-text (λ name h. cc)
-    by _ _ (word e) = taken t g (name_part g.text) is refl (name-text g.text is.text) (λ name h. cc)
+    by own front h = grind (arith, empty, root_cut, passed_dot, taken, current-text, kept_dot, dot_dot, parent-text, word, name-text)
 
 -- what is made of all later segments
 laters-cut : (s : Separators) (t : List ℕ) (gs : List Segment) → AllByRecursion (IsTextSegment t) gs → AllByRecursion (IsCut t) (flat_map (later s) gs)

@@ -1,20 +1,20 @@
 -- What is left of a text, and what it answers about itself, are texts.
-use Rattle.std.proofs.Common.{◌≡◌, List, [], ◌∷◌, ◌++◌, drop, length, Option, Some, None, refl, ap, sym, subst, ◌∙◌, option_map, arith, ℕ, zero, suc, ◌+◌, ◌-◌, ◌==◌, ◌&&◌, true, nat_lt, take, inl, inr, Bool, false, if◌then◌else◌, is_some, unwrap_or, option_and_then}
+use Rattle.std.proofs.Common.{◌≡◌, List, [], ◌∷◌, ◌++◌, drop, length, Option, Some, None, refl, ap, sym, subst, ◌∙◌, option_map, arith, ℕ, zero, suc, ◌+◌, ◌-◌, ◌==◌, ◌&&◌, true, nat_lt, take, inl, inr, Bool, if◌then◌else◌, is_some, option_and_then}
 use Rattle.std.specs.List.{AllByRecursion}
 use Rattle.std.specs.Str.{IsUtf8, is_utf8, IsCharBoundary}
 use Rattle.std.proofs.lemmas.Bool.{cases_lt, cond_both, and_parts, and_from}
 use Rattle.std.proofs.lemmas.Str.{IsUtf8-nil, IsCharBoundary-start, IsCharBoundary-end, IsUtf8-from_is_utf8, is_utf8-from_IsUtf8, IsUtf8-take}
 use Rattle.std.proofs.Math.Bool.{Bool-set}
 use Rattle.std.proofs.Math.Logic.{∥∥₁_elim, ∥∥₁_map}
-use Rattle.typed_path.specs.components.{Part, Placed, parts, texts, Kind, normal, Dialect, dot, comps, parts_of}
+use Rattle.typed_path.specs.components.{Part, Placed, parts, texts, Kind, Dialect, dot, comps, parts_of}
 use Rattle.typed_path.specs.scan.{but_last, start_at, end_at, left, Side, front, back, last_of, slice_after_front, slice_after_back, first_part, last_part, items_after, slice_after, fronts, backs, items_behind, slice_behind}
 use Rattle.typed_path.specs.texts.{are_texts, is_text_part, is_text_part_option, are_text_parts, is_text_option, is_text_kind, IsTextReading}
-use Rattle.typed_path.specs.queries.{stem_of, first_stem_of, extension_of, is_root, parent_of, name_of, file_name_of, file_stem_of, file_prefix_of, extension, shared_count, shared_end, end_of_first, unless_empty, common_ancestor_of, path_starts_with, stripped, is_prefix, prefix_among, is_top, upwards_from, readings_above, readings_behind, ancestors_of}
+use Rattle.typed_path.specs.queries.{stem_of, first_stem_of, extension_of, is_root, parent_of, name_of, file_name_of, file_stem_of, file_prefix_of, extension, shared_count, shared_end, end_of_first, unless_empty, common_ancestor_of, path_starts_with, stripped, prefix_among, is_top, upwards_from, readings_above, readings_behind, ancestors_of}
 use Rattle.typed_path.specs.changes.{popped, without_file_name}
 use Rattle.typed_path.proofs.lemmas.scan.Steps.{last_part-push, last_pushed}
 use Rattle.typed_path.proofs.lemmas.components.Cuts.{comps-laid_out}
 use Rattle.typed_path.proofs.lemmas.scan.Readings.{slice_after-nil, stepwise_slices, stepwise_end}
-use Rattle.typed_path.proofs.lemmas.lists.Lists.{AllByRecursion-weaker}
+use Rattle.typed_path.proofs.lemmas.lists.Lists.{AllByRecursion-weaker, AllByRecursion-tail, AllByRecursion-take, AllByRecursion-last}
 use Rattle.typed_path.proofs.lemmas.texts.TextCuts.{range-utf8, IsCut, comps-cut, utf8-around}
 use Rattle.typed_path.proofs.lemmas.queries.FileNames.{stem_of-whole, stem_of-extension, first_stem_of-parted}
 use Rattle.typed_path.proofs.lemmas.queries.Parents.{ancestors-reading}
@@ -63,21 +63,6 @@ slice_after-utf8 d t sides is = by (comps d t) refl
           | inr all ↦ rw (stepwise_end (c ∷ cs) t sides laid (omega arith) all) IsUtf8-nil
         ]
 
--- what holds of each element holds of each that is left behind the first, and of each of the first ones
-AllByRecursion-tail : {X : Type 0} (P : X → Type 0) (xs : List X) → AllByRecursion P xs → AllByRecursion P (drop 1 xs)
-AllByRecursion-tail P [] each = tt
-AllByRecursion-tail P (x ∷ xs) each = each.1
-
-AllByRecursion-take : {X : Type 0} (P : X → Type 0) (n : ℕ) (xs : List X) → AllByRecursion P xs → AllByRecursion P (take n xs)
-AllByRecursion-take P zero xs each = tt
-AllByRecursion-take P (suc n) [] each = tt
-AllByRecursion-take P (suc n) (x ∷ xs) each = (each.0, AllByRecursion-take P n xs each.1)
-
--- of the last one
-pub AllByRecursion-last : {X : Type 0} (P : X → Type 0) (xs : List X) (x : X) → AllByRecursion P (xs ++ x ∷ []) → P x
-AllByRecursion-last P [] x each = each.0
-AllByRecursion-last P (y ∷ ys) x each = AllByRecursion-last P ys x each.1
-
 -- of each component that steps from either end leave
 pub items_after-each : (P : Placed → Type 0) (cs : List Placed) (sides : List Side) → AllByRecursion P cs → AllByRecursion P (items_after cs sides)
 items_after-each P cs [] each = each
@@ -90,8 +75,7 @@ IsTextPlaced c = is_text_part c.part ≡ true
 
 -- the first and the last of such components
 pub first_part-text : (cs : List Placed) → AllByRecursion IsTextPlaced cs → is_text_part_option (first_part cs) ≡ true
-first_part-text [] each = refl
-first_part-text (c ∷ cs) each = each.0
+first_part-text cs each = grind arith
 
 pub last_part-text : (cs : List Placed) → AllByRecursion IsTextPlaced cs → is_text_part_option (last_part cs) ≡ true
 last_part-text [] each = refl
@@ -127,22 +111,18 @@ some_text o t e is = IsUtf8-from_is_utf8 t (ap is_text_option (sym e) ∙ is)
 
 -- one that is there where a test holds, or where it fails
 where_text : (b : Bool) (t : List ℕ) → is_utf8 t ≡ true → is_text_option (if b then Some t else None) ≡ true
-where_text true t is = is
-where_text false t is = refl
+where_text b t is = grind arith
 
 unless_text : (b : Bool) (t : List ℕ) → is_utf8 t ≡ true → is_text_option (if b then None else Some t) ≡ true
-unless_text true t is = refl
-unless_text false t is = is
+unless_text b t is = grind arith
 
 -- one that is made of another
 map_text : (f : List ℕ → List ℕ) → ((name : List ℕ) → is_utf8 name ≡ true → is_utf8 (f name) ≡ true) → (o : Option (List ℕ)) → is_text_option o ≡ true → is_text_option (option_map f o) ≡ true
-map_text f each None e = refl
-map_text f each (Some name) e = each name e
+map_text f each o e = grind arith
 
 -- the name that a kind is
 pub name_of-text : (k : Kind) → is_text_kind k ≡ true → is_text_option (name_of k) ≡ true
-name_of-text (normal name) e = e
-name_of-text k e = refl
+name_of-text k e = grind arith
 
 -- a name without its extension
 pub stem_of-text : (name : List ℕ) → is_utf8 name ≡ true → is_utf8 (stem_of name) ≡ true
@@ -196,11 +176,7 @@ module _ (d : Dialect) (t : List ℕ) (is : is_utf8 t ≡ true) where
 
   -- the file name
   pub file_name-text : is_text_option (file_name_of d t) ≡ true
-  file_name-text = by (last_of (comps d t)) last-text
-    where
-      by : (o : Option Placed) → is_text_part_option (option_map (λ c. c.part) o) ≡ true → is_text_option (option_and_then (λ last. name_of last.part.kind) o) ≡ true
-      by None e = refl
-      by (Some last) e = name_of-text last.part.kind (and_parts (is_utf8 last.part.text) _ e).1
+  file_name-text = grind (arith, last-text, name_of-text)
 
   -- its stem
   pub file_stem-text : is_text_option (file_stem_of d t) ≡ true
@@ -212,11 +188,7 @@ module _ (d : Dialect) (t : List ℕ) (is : is_utf8 t ≡ true) where
 
   -- and its extension
   pub extension-text : is_text_option (extension d t) ≡ true
-  extension-text = by (file_name_of d t) file_name-text
-    where
-      by : (o : Option (List ℕ)) → is_text_option o ≡ true → is_text_option (option_and_then extension_of o) ≡ true
-      by None e = refl
-      by (Some name) e = extension_of-text name e
+  extension-text = grind (arith, file_name-text, extension_of-text)
 
   -- what is left behind a base
   pub stripped-text : (b : List ℕ) → is_text_option (stripped d t b) ≡ true
@@ -231,16 +203,11 @@ module _ (d : Dialect) (t : List ℕ) (is : is_utf8 t ≡ true) where
       cut (suc k) = end_at-cut t text (comps d t) k (comps-cut d t text)
 
       unless : (v : List ℕ) → is_utf8 v ≡ true → is_text_option (unless_empty v) ≡ true
-      unless [] e = refl
-      unless (b ∷ bs) e = e
+      unless v e = grind arith
 
   -- the path cut to its parent
   pub popped-text : is_utf8 (popped d t) ≡ true
-  popped-text = by (parent_of d t) parent-text
-    where
-      by : (o : Option (List ℕ)) → is_text_option o ≡ true → is_utf8 (unwrap_or o t) ≡ true
-      by None e = is
-      by (Some p) e = e
+  popped-text = grind (arith, parent-text)
 
   -- and without its file name
   pub without_file_name-text : is_utf8 (without_file_name d t) ≡ true
@@ -248,12 +215,7 @@ module _ (d : Dialect) (t : List ℕ) (is : is_utf8 t ≡ true) where
 
 -- the prefix among components that are texts
 pub prefix_among-text : (ps : List Part) → are_text_parts ps ≡ true → is_text_part_option (prefix_among ps) ≡ true
-prefix_among-text [] all = refl
-prefix_among-text (p ∷ ps) all = by (is_prefix p.kind) (and_parts (is_text_part p) (are_text_parts ps) all).0
-  where
-    by : (b : Bool) → is_text_part p ≡ true → is_text_part_option (if b then Some p else None) ≡ true
-    by true is = is
-    by false is = refl
+prefix_among-text ps all = grind arith
 
 -- Readings of texts: what they leave is a text after every step.
 
@@ -292,9 +254,7 @@ module _ (cs : List Placed) (slice : List ℕ) (reading : IsTextReading cs slice
 
   -- and so is each component
   left_parts : AllByRecursion IsTextPlaced cs
-  left_parts =
-      subst (AllByRecursion IsTextPlaced) (sym reading.items_left)
-      (items_after-each IsTextPlaced (comps reading.dialect reading.text) reading.sides (comps-text reading.dialect reading.text (IsUtf8-from_is_utf8 reading.text reading.is_text)))
+  left_parts = grind (arith, items_after-each, text, comps-text)
 
 -- so is all that is left as it goes on from the back
 upwards_from-text : (n : ℕ) (cs : List Placed) (slice : List ℕ) → IsTextReading cs slice → are_texts (upwards_from n cs slice) ≡ true

@@ -2,12 +2,11 @@ use Rattle.std.proofs.Common.{length, sym, ap, ◌∙◌, arith}
 use Rattle.typed_path.specs.views.BodyViews.{body_items}
 use Rattle.typed_path.specs.views.PieceViews.{step_part}
 use Rattle.typed_path.proofs.lemmas.scan.Steps.{taken-first}
-use Rattle.typed_path.proofs.lemmas.order.Comparisons.{cmp-none, cmp-more, cmp-fewer, cmp-differ, cmp-alike}
+use Rattle.typed_path.proofs.lemmas.order.Comparisons.{cmp-none, cmp-more, cmp-differ, cmp-alike}
 use Rattle.typed_path.proofs.common.order.compare_each.Goals as goal
 
 pub returns-in_default-front : goal.returns-in_default-front
-returns-in_default-front c =
-    sym (c.steps.invariant ∙ cmp-fewer (body_items c.steps.rest) (body_items c.steps.wanted) (step_part c.in-Some.step) c.in-Some.ensures.taken c.in_default-front.ensures.taken)
+returns-in_default-front c = grind (arith, c.steps.invariant, c.in-Some.ensures.taken, c.in_default-front.ensures.taken)
 
 pub returns-then-is_ne : goal.returns-then-is_ne
 returns-then-is_ne c =
@@ -29,5 +28,4 @@ returns-in-Some-front-2 c =
     sym (c.steps.invariant ∙ cmp-more (body_items c.steps.rest) (body_items c.steps.wanted) (step_part c.in-Some-front-2.field-0) c.in_default.ensures.taken c.in-Some-front-2.ensures.taken)
 
 pub returns-in-None : goal.returns-in-None
-returns-in-None c =
-    sym (c.steps.invariant ∙ cmp-none (body_items c.steps.rest) (body_items c.steps.wanted) c.in_default.ensures.taken c.in-None.ensures.taken)
+returns-in-None c = grind (arith, cmp-none)

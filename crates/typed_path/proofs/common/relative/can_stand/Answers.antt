@@ -7,9 +7,7 @@ use Rattle.typed_path.proofs.common.relative.can_stand.Goals as goal
 use Rattle.typed_path.proofs.common.relative.can_stand.Goals.{in-Some+else-contains, in_default}
 
 pub names-init : goal.names-init
-names-init c =
-    let whole = names_under 0 (body_items c.args.rest) in
-    record { left = none-taken whole; fits = omega arith; stand = ap can_stand (none-behind whole) }
+names-init c = grind (arith, none-taken, none-behind)
 
 pub returns-then-contains : goal.returns-then-contains
 returns-then-contains c =

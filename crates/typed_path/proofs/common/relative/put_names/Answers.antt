@@ -7,15 +7,7 @@ use Rattle.typed_path.proofs.common.relative.put_names.Goals as goal
 use Rattle.typed_path.proofs.common.relative.put_names.Goals.{in-Some+in_ok-put_reversed, in_default}
 
 pub names-init : goal.names-init
-names-init c =
-    let whole = names_under 0 (body_items c.args.rest) in
-    record {
-      left = none-taken whole;
-      fits = omega arith;
-      put = ap reverse c.requires.empty ∙ ap (rows_of c.args.separators) (sym (none-behind whole));
-      room = omega (arith, ap length c.requires.empty, ap (λ ns. length (rows_of c.args.separators ns)) (none-behind whole));
-      capacity = omega arith;
-    }
+names-init c = grind (arith, none-taken, none-behind)
 
 pub names-preserved : goal.names-preserved
 names-preserved c =

@@ -8,24 +8,10 @@ pub returns-in_err-put_ups-clause-succeeds : goal.returns-in_err-put_ups-clause-
 returns-in_err-put_ups-clause-succeeds g c = λ fits. absurd (true≢false (sym {a = false} (c.in_err-put_ups.ensures.succeeds (omega (arith, fits, ap length c.requires.empty)))))
 
 pub returns-in_err-put_alone-clause-succeeds : goal.returns-in_err-put_alone-clause-succeeds
-returns-in_err-put_alone-clause-succeeds g c = λ fits.
-    absurd (true≢false (sym {a = false} (c.in_err-put_alone.ensures.succeeds (omega (arith, fits, ap length c.requires.empty, c.in_ok-put_ups.ensures.room, c.put_ups.ensures.capacity)))))
+returns-in_err-put_alone-clause-succeeds g c = grind arith
 
 pub returns-clause-succeeds : goal.returns-clause-succeeds
-returns-clause-succeeds g c = λ fits.
-    let cut = unended-size c.put_alone.new.text.items c.drop_separator.new.text.items c.drop_separator.ensures.named c.drop_separator.ensures.alone in
-    c.put_apart.ensures.succeeds
-    (omega (
-      arith,
-      fits,
-      ap length c.requires.empty,
-      c.in_ok-put_ups.ensures.room,
-      c.put_ups.ensures.capacity,
-      c.in_ok-put_alone.ensures.room,
-      c.put_alone.ensures.capacity,
-      cut,
-      c.drop_separator.ensures.capacity,
-    ))
+returns-clause-succeeds g c = grind (arith, unended-size)
 
 pub returns-clause-ok : goal.returns-clause-ok
 returns-clause-ok g c = λ names alone.

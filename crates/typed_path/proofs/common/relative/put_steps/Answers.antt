@@ -1,4 +1,4 @@
-use Rattle.std.proofs.Common.{◌≡◌, ◌-◌, ◌++◌, false, length, drop, reverse, ap, sym, ◌∙◌, arith, true≢false}
+use Rattle.std.proofs.Common.{◌≡◌, ◌-◌, ◌++◌, length, drop, reverse, ap, ◌∙◌, arith}
 use Rattle.std.proofs.lemmas.List.{length-reverse}
 use Rattle.std.proofs.lemmas.Result.{on_ok_weaker}
 use Rattle.typed_path.specs.components.{kinds, parts_of}
@@ -8,47 +8,13 @@ use Rattle.typed_path.proofs.lemmas.places.TakenNames.{rows-steps, unended-size}
 use Rattle.typed_path.proofs.common.relative.put_steps.Goals as goal
 
 pub returns-in_err-put_names-clause-succeeds : goal.returns-in_err-put_names-clause-succeeds
-returns-in_err-put_names-clause-succeeds g c = λ fits.
-    let d = g.T.Encoding.dialect in
-    let s = c.bare_separators-separators.result in
-    let names = kept_names (kinds (parts_of d c.args.path.now)) in
-    let same = ap (λ ns. length (rows_of s (drop (length ns - c.args.steps.down) ns))) c.body_of.ensures.names in
-    absurd (true≢false (sym {a = false} (c.in_err-put_names.ensures.succeeds (omega (arith, fits, same, rows-room s d c.args.path.now (length names - c.args.steps.down))))))
+returns-in_err-put_names-clause-succeeds g c = grind (arith, rows-room)
 
 pub returns-in_err-put_parents-clause-succeeds : goal.returns-in_err-put_parents-clause-succeeds
-returns-in_err-put_parents-clause-succeeds g c = λ fits.
-    let d = g.T.Encoding.dialect in
-    let s = c.bare_separators-separators.result in
-    let names = kept_names (kinds (parts_of d c.args.path.now)) in
-    let same = ap (λ ns. length (rows_of s (drop (length ns - c.args.steps.down) ns))) c.body_of.ensures.names in
-    let size = ap length c.in_ok-put_names.ensures.ok in
-    absurd (true≢false (sym {a = false} (c.in_err-put_parents.ensures.succeeds
-    (omega (arith, fits, same, size, length-reverse c.put_names.new.text.items, c.put_names.ensures.capacity, rows-room s d c.args.path.now (length names - c.args.steps.down))))))
+returns-in_err-put_parents-clause-succeeds g c = grind (arith, length-reverse, rows-room)
 
 pub returns-clause-succeeds : goal.returns-clause-succeeds
-returns-clause-succeeds g c = λ fits.
-    let d = g.T.Encoding.dialect in
-    let s = c.bare_separators-separators.result in
-    let names = kept_names (kinds (parts_of d c.args.path.now)) in
-    let same = ap (λ ns. length (rows_of s (drop (length ns - c.args.steps.down) ns))) c.body_of.ensures.names in
-    let size = ap length c.in_ok-put_names.ensures.ok in
-    let cut = unended-size c.reverse.new.self.items c.drop_separator.new.text.items c.drop_separator.ensures.named c.drop_separator.ensures.alone in
-    c.put_apart.ensures.succeeds
-    (omega (
-      arith,
-      fits,
-      same,
-      size,
-      length-reverse c.put_names.new.text.items,
-      c.put_names.ensures.capacity,
-      rows-room s d c.args.path.now (length names - c.args.steps.down),
-      c.in_ok-put_parents.ensures.room,
-      c.put_parents.ensures.capacity,
-      c.reverse.ensures.len,
-      c.reverse.ensures.capacity,
-      cut,
-      c.drop_separator.ensures.capacity,
-    ))
+returns-clause-succeeds g c = grind (arith, unended-size, length-reverse, rows-room)
 
 pub returns-clause-ok : goal.returns-clause-ok
 returns-clause-ok g c =

@@ -1,8 +1,9 @@
-use Rattle.std.proofs.Common.{◌≡◌, length, sym, ap, ap₂, ◌∙◌, arith, refl}
+use Rattle.std.proofs.Common.{◌≡◌, length, sym, ap, ◌∙◌, arith, refl}
+use Rattle.std.proofs.lemmas.Grind.{common_steps}
 use Rattle.typed_path.specs.views.BodyViews.{body_items}
-use Rattle.typed_path.specs.places.{names_under, shared_count}
+use Rattle.typed_path.specs.places.{names_under}
 use Rattle.typed_path.proofs.lemmas.places.KeptFromBack.{names-alone}
-use Rattle.typed_path.proofs.lemmas.places.SharedFromBack.{tells-end, tells-start, step-same, step-other}
+use Rattle.typed_path.proofs.lemmas.places.SharedFromBack.{tells-start, step-same, step-other}
 use Rattle.typed_path.proofs.common.relative.shared_count.Goals as goal
 
 pub names-init : goal.names-init
@@ -34,6 +35,4 @@ names-preserved c =
     }
 
 pub returns : goal.returns
-returns c =
-    sym (tells-end _ (names_under c.names.owed (body_items c.names.rest)) (names_under c.names.base_owed (body_items c.names.base)) c.names.below c.names.met c.names.invariant.tells c.in_default.ensures.name)
-    ∙ ap₂ shared_count (names-alone (body_items c.args.rest)) (names-alone (body_items c.args.base))
+returns c = grind (arith, common_steps)

@@ -5,8 +5,8 @@ use Rattle.typed_path.specs.declared.scan.separators.Separators.TheVariants.{Sla
 use Rattle.typed_path.specs.places.{segment_kinds}
 use Rattle.typed_path.proofs.lemmas.components.Segments.{pieces}
 use Rattle.typed_path.proofs.lemmas.places.CleanRows.{alike-settled, kept-start, kept-alike, kept-next, kept-last, kept-end, kept-names_put}
-use Rattle.typed_path.proofs.lemmas.places.NamedRows.{kept-front, kept-shorter}
 use Rattle.typed_path.proofs.common.rows.put_kept_by_slashes.Goals as goal
+use Rattle.typed_path.proofs.lemmas.lists.Lists.{kept-front, kept-shorter}
 
 pub segments-init : goal.segments-init
 segments-init c =

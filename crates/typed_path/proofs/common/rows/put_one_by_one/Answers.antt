@@ -1,7 +1,7 @@
 use Rattle.std.proofs.Common.{◌∙◌, arith}
 use Rattle.typed_path.proofs.lemmas.places.CleanRows.{kept-next, kept-last}
-use Rattle.typed_path.proofs.lemmas.places.NamedRows.{kept-shorter}
 use Rattle.typed_path.proofs.common.rows.put_one_by_one.Goals as goal
+use Rattle.typed_path.proofs.lemmas.lists.Lists.{kept-shorter}
 
 pub segments-preserved : goal.segments-preserved
 segments-preserved c =

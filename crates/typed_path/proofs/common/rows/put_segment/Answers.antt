@@ -1,4 +1,4 @@
-use Rattle.std.proofs.Common.{◌≡◌, ◌<◌, ◌≤◌, ◌⊎◌, inl, inr, false, ℕ, List, [], ◌∷◌, ◌++◌, length, ap, sym, ◌∙◌, subst, arith}
+use Rattle.std.proofs.Common.{◌≡◌, ◌<◌, ◌≤◌, ◌⊎◌, false, ℕ, List, [], ◌∷◌, ◌++◌, length, ap, sym, ◌∙◌, subst, arith}
 use Rattle.std.specs.List.{AllByRecursion, slice_split}
 use Rattle.std.proofs.lemmas.Bool.{both_ways}
 use Rattle.typed_path.specs.declared.scan.step.StepKind.{StepKind}
@@ -56,8 +56,7 @@ returns-in_ok-put_row-in-Normal-clause-ok c = λ head left whole alone are.
 
 -- every other component counts for nothing
 other : (k : StepKind) (text segment : List ℕ) → (k ≡ RootDir) ⊎ (k ≡ CurDir) → kind_by segment (step_view k text) ≡ current
-other k text segment (inl h) = ap (λ l. kind_by segment (step_view l text)) h
-other k text segment (inr h) = ap (λ l. kind_by segment (step_view l text)) h
+other k text segment h = grind arith
 
 pub returns-in-RootDir-clause-ok : goal.returns-in-RootDir-clause-ok
 returns-in-RootDir-clause-ok c = λ head left whole alone are.

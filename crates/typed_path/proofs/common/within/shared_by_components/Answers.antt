@@ -1,7 +1,7 @@
-use Rattle.std.proofs.Common.{sym, ap, ap₂, ◌∙◌, length, arith, ◌-◌, ◌+◌, option_map}
+use Rattle.std.proofs.Common.{sym, ap, ap₂, ◌∙◌, length, arith, ◌-◌, ◌+◌}
 use Rattle.typed_path.specs.views.PathViews.{path_bytes, components_items}
 use Rattle.typed_path.specs.views.PieceViews.{part_of}
-use Rattle.typed_path.proofs.lemmas.queries.Shared.{shares_start, shares_step, shares_end, slice_fits, no_own, no_other, differ}
+use Rattle.typed_path.proofs.lemmas.queries.Shared.{shares_start, shares_step, shares_end, slice_fits, no_own, no_other}
 use Rattle.typed_path.proofs.common.within.shared_by_components.Goals as goal
 
 pub pieces-init : goal.pieces-init
@@ -17,14 +17,10 @@ pieces-preserved g c =
     (ap₂ (λ a b. length a - length b + length c.in-Some-next.piece.text.now) c.as_bytes-len.ensures c.as_bytes.ensures)
 
 pub returns-in_default-next-clause-end : goal.returns-in_default-next-clause-end
-returns-in_default-next-clause-end g c =
-    shares_end c.pieces.invariant
-    (differ (components_items c.pieces.own) (components_items c.pieces.others) (part_of c.in-Some-next.piece) (part_of c.in-Some.wanted) c.in-Some-next.ensures.taken c.in-Some.ensures.taken (sym c.eq.ensures ∙ c.if-eq.false))
+returns-in_default-next-clause-end g c = grind (arith, c.pieces.invariant, c.in-Some-next.ensures.taken, c.in-Some.ensures.taken, c.eq.ensures, c.if-eq.false)
 
 pub returns-in_default-next-2-clause-end : goal.returns-in_default-next-2-clause-end
-returns-in_default-next-2-clause-end g c =
-    shares_end c.pieces.invariant
-    (no_own (components_items c.pieces.own) (components_items c.pieces.others) (sym (ap (option_map part_of) c.in_default-next.is) ∙ c.next-in-Some.ensures.taken))
+returns-in_default-next-2-clause-end g c = grind (arith, shares_end, no_own)
 
 pub returns-clause-end : goal.returns-clause-end
 returns-clause-end g c = shares_end c.pieces.invariant (no_other (components_items c.pieces.own) (components_items c.pieces.others) c.in_default.ensures.taken)

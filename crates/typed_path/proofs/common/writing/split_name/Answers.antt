@@ -1,4 +1,4 @@
-use Rattle.std.proofs.Common.{ap, sym, ◌∙◌, ◌+◌, arith, Some}
+use Rattle.std.proofs.Common.{sym, arith}
 use Rattle.std.proofs.lemmas.List.{take_rest}
 use Rattle.typed_path.proofs.lemmas.queries.FileNames.{stem-whole, extension-none, stem-before, extension-behind}
 use Rattle.typed_path.proofs.common.writing.split_name.Goals as goal
@@ -19,5 +19,4 @@ pub returns-clause-stem : goal.returns-clause-stem
 returns-clause-stem c = sym (stem-before c.args.name.now c.in-Some.at (omega arith) c.in-Some.ensures.0 c.in-Some.ensures.1)
 
 pub returns-clause-extension : goal.returns-clause-extension
-returns-clause-extension c =
-    ap Some (take_rest c.args.name.now (c.in-Some.at + 1)) ∙ sym (extension-behind c.args.name.now c.in-Some.at (omega arith) c.in-Some.ensures.0 c.in-Some.ensures.1)
+returns-clause-extension c = grind (arith, take_rest, extension-behind)

@@ -1,4 +1,4 @@
-use Rattle.std.proofs.Common.{◌≡◌, ◌+◌, ◌==◌, ℕ, List, length, sym, arith}
+use Rattle.std.proofs.Common.{◌≡◌, ◌==◌, ℕ, List, length, sym, arith}
 use Rattle.std.proofs.Math.Bool.{or_self}
 use Rattle.std.specs.List.{position_or_len}
 use Rattle.std.proofs.lemmas.List.{take_rest}
@@ -11,8 +11,7 @@ first : (byte : ℕ) (text : List ℕ) (at : ℕ) → IsFirstOf (byte, byte) tex
 first byte = first-of _ (λ b. b == byte) (λ b. sym (or_self (b == byte)))
 
 pub returns-then-at-text-clause-pieces : goal.returns-then-at-text-clause-pieces
-returns-then-at-text-clause-pieces c =
-    rw (take_rest c.args.text.now (c.first_between-at.result + 1)) (split-at_first (λ b. b == c.args.byte) c.args.text.now c.first_between-at.result (first c.args.byte c.args.text.now _ c.first_between-at.ensures) c.if-at-text.true)
+returns-then-at-text-clause-pieces c = grind (arith, take_rest, split-at_first, first)
 
 pub returns-then-at-text-clause-open : goal.returns-then-at-text-clause-open
 returns-then-at-text-clause-open c = open-at_first (λ b. b == c.args.byte) c.args.text.now c.first_between-at.result (first c.args.byte c.args.text.now _ c.first_between-at.ensures) c.if-at-text.true

@@ -1,8 +1,8 @@
 use Rattle.std.proofs.Common.{sym, ap, ◌∙◌}
 use Rattle.std.specs.List.{before_first}
 use Rattle.typed_path.specs.components.{is_separator}
-use Rattle.typed_path.proofs.lemmas.order.SharedNames.{before_first-cons}
 use Rattle.typed_path.proofs.scan.cut.first_of_name.Goals as goal
+use Rattle.typed_path.proofs.lemmas.lists.Lists.{before_first-cons}
 
 pub returns : goal.returns
 returns c =

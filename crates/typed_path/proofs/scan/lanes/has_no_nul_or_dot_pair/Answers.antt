@@ -1,4 +1,4 @@
-use Rattle.std.proofs.Common.{◌≡◌, ◌-◌, length, slice_index, sym, ap, ◌∙◌, arith, eq-eqb, not}
+use Rattle.std.proofs.Common.{sym, arith, eq-eqb}
 use Rattle.typed_path.proofs.lemmas.changes.Faults.{no_pair-last, no_pair-before}
 use Rattle.typed_path.proofs.scan.lanes.has_no_nul_or_dot_pair.Goals as goal
 
@@ -6,7 +6,4 @@ pub returns-then-last-ne0 : goal.returns-then-last-ne0
 returns-then-last-ne0 c = sym (no_pair-before c.args.text.now (omega (arith, c.in-len1-up.len_at_least)) _ c.if-last-ne0.true c.has_nul_or_dot_pair_before.ensures)
 
 pub returns-else-last-ne0 : goal.returns-else-last-ne0
-returns-else-last-ne0 c =
-    let text = c.args.text.now in
-    let zeros : slice_index text (length text - 1) ≡ 0 = c.if-last-ne0.false in
-    ap not (eq-eqb (slice_index text (length text - 1)) 0 zeros) ∙ sym (no_pair-last text (omega (arith, c.in-len1-up.len_at_least)) zeros)
+returns-else-last-ne0 c = grind (arith, eq-eqb, no_pair-last)

@@ -1,4 +1,4 @@
-use Rattle.std.proofs.Common.{◌≡◌, ◌+◌, ◌-◌, ◌&&◌, Bool, true, false, length, slice_index, refl, sym, ap, ◌∙◌, arith}
+use Rattle.std.proofs.Common.{◌≡◌, ◌+◌, ◌-◌, ◌&&◌, Bool, false, length, slice_index, refl, sym, ap, ◌∙◌, arith}
 use Rattle.std.proofs.lemmas.Bool.{and_parts}
 use Rattle.typed_path.specs.scan.{is_one_of}
 use Rattle.typed_path.specs.changes.{begins_no_name}
@@ -8,37 +8,19 @@ use Rattle.typed_path.proofs.scan.names.names_behind.Goals.{else-is_one_of-via-t
 
 -- of two tests not both hold
 second : {x y : Bool} (b : Bool) → y ≡ x → y ≡ false → (b && x) ≡ false
-second true e none = sym e ∙ none
-second false e none = refl
+second b e h = grind arith
 
 first : {x y : Bool} (b : Bool) → y ≡ x → y ≡ false → (x && b) ≡ false
 first b e none = ap (λ x. x && b) (sym e ∙ none)
 
 pub returns-then-found-to : goal.returns-then-found-to
-returns-then-found-to c =
-    let text = c.args.text.now in
-    let found = c.first_no_name-found.ensures in
-    names-before c.args.pair text _ _ c.first_no_name-found.result (omega arith) refl refl c.requires.first
-    (and_parts (is_one_of c.args.pair (slice_index text c.first_no_name-found.result)) _ (found.hit c.if-found-to.true)).0 found.before
+returns-then-found-to c = grind (arith, names-before, first, and_parts)
 
 pub returns-then-begins_no_name : goal.returns-then-begins_no_name
-returns-then-begins_no_name c =
-    names-before c.args.pair c.args.text.now _ _ (length c.args.text.now - 2) (omega (arith, c.requires.size)) refl refl c.requires.first
-    (sym c.is_one_of.ensures ∙ c.if-is_one_of.true) (λ k low high. c.first_no_name-found.ensures.before k low (omega (arith, high, c.if-found-to.false)))
+returns-then-begins_no_name c = grind (arith, names-before, first)
 
 pub returns-then-is_one_of-2 : goal.returns-then-is_one_of-2
-returns-then-is_one_of-2 c =
-    let text = c.args.text.now in
-    let pair = c.args.pair in
-    let to = length text - 2 in
-    let last = slice_index text (to + 1) in
-    let filled : (is_one_of pair (slice_index text to) && begins_no_name pair last last) ≡ false =
-    elim c.else-is_one_of.branch [
-      | else-is_one_of-via-then-is_one_of+else-begins_no_name w ↦ second (is_one_of pair (slice_index text to)) w.begins_no_name.ensures w.if-begins_no_name.false
-      | else-is_one_of-via-else-is_one_of w ↦ first (begins_no_name pair last last) c.is_one_of.ensures w.if-is_one_of.false
-    ] in
-    names-ended pair text _ _ (omega (arith, c.requires.size)) refl refl c.requires.first (sym c.is_one_of-2.ensures ∙ c.if-is_one_of-2.true) filled
-    (λ k low high. c.first_no_name-found.ensures.before k low (omega (arith, high, c.if-found-to.false)))
+returns-then-is_one_of-2 c = grind (arith, else-is_one_of-via-then-is_one_of+else-begins_no_name, second, else-is_one_of-via-else-is_one_of, first, names-ended)
 
 pub returns : goal.returns
 returns c =

@@ -10,9 +10,7 @@ here : (text : List ℕ) (at : ℕ) (segment : Bool) → segment ≡ begins_with
 here text at segment is = ap (λ b. b || has_device_behind (drop at text)) (ap begins_with_device (sym (take_rest text at)) ∙ sym is)
 
 pub returns : goal.returns
-returns c =
-    c.marks.invariant.same
-    ∙ unmarked c.args.text.now c.marks.at c.args.to c.marks.left c.marks.invariant.high c.requires.in_range c.marks.invariant.marked c.marks-test.false
+returns c = grind (arith, unmarked)
 
 pub returns-then-begins_with_device : goal.returns-then-begins_with_device
 returns-then-begins_with_device c =

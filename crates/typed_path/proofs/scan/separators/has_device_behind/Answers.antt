@@ -21,10 +21,7 @@ told : (text : List ℕ) (at found : ℕ) (segment : Bool) → IsFirstOf (slash,
     → has_device_behind text ≡ has_device_behind (drop at text)
     → segment ≡ begins_with_device (take (length text - (found + 1)) (drop (found + 1) text))
     → has_device_behind text ≡ (segment || has_device_behind (drop (found + 1) text))
-told text at found segment first within same is =
-    same
-    ∙ behind-separator text at (length text) found (omega arith) first within
-    ∙ ap (λ b. b || has_device_behind (drop (found + 1) text)) (ap begins_with_device (sym (take_rest text (found + 1))) ∙ sym is)
+told text at found segment first within same is = grind (arith, behind-separator, take_rest)
 
 pub returns-then-begins_with_device : goal.returns-then-begins_with_device
 returns-then-begins_with_device c =

@@ -1,20 +1,15 @@
-use Rattle.std.proofs.Common.{◌≡◌, ◌≤◌, true, false, ◌||◌, Bool, List, ℕ, sym, ap, ◌∙◌, ◌+◌, ◌-◌, ◌/◌, ◌^◌, bit_and, drop, length, subst, arith, refl, inl, inr}
+use Rattle.std.proofs.Common.{◌≡◌, ◌≤◌, true, false, ◌||◌, Bool, List, ℕ, ap, ◌∙◌, ◌+◌, ◌-◌, ◌/◌, ◌^◌, bit_and, length, subst, arith, refl}
 use Rattle.std.specs.Slice.Scan.{HoldsNowhere}
-use Rattle.std.proofs.lemmas.Bool.{both_ways, cases_lt, or_right}
+use Rattle.std.proofs.lemmas.Bool.{both_ways, cases_lt}
 use Rattle.std.proofs.Math.Bool.{or-false}
-use Rattle.typed_path.specs.changes.{TellsBegins, has_device_behind, has_dot_pair, dot_pair_at}
+use Rattle.typed_path.specs.changes.{TellsBegins, has_dot_pair, dot_pair_at}
 use Rattle.typed_path.proofs.lemmas.changes.MayBegins.{block-front, tells-later}
 use Rattle.typed_path.proofs.lemmas.changes.ValidPaths.{behind-end, nowhere-dots, nowhere-strays}
 use Rattle.typed_path.proofs.scan.separators.look_for.Goals as goal
 use Rattle.typed_path.proofs.scan.separators.look_for.Goals.{else-dots-via-then-dots+else-has_dot_pair_at, else-dots-via-else-dots, else-dots-2-via-then-dots-2+else-has_dot_pair_at-2, else-dots-2-via-else-dots-2}
 
 pub wholes-init : goal.wholes-init
-wholes-init c = record {
-  within = omega arith;
-  passed = λ k low high. absurd (omega (arith, high));
-  unpaired = λ asked k low high. absurd (omega (arith, high));
-  same = ap (λ b. b || has_device_behind c.args.text.now) (sym c.begins_with_device.ensures ∙ c.if-begins_with_device.false);
-}
+wholes-init c = grind arith
 
 pub overflow_sub-len : goal.overflow_sub-len
 overflow_sub-len c = c.wholes.invariant.within
@@ -30,36 +25,17 @@ found : (told rest whole behind : Bool) → whole ≡ behind → behind ≡ (tol
 found told rest whole behind same own is = same ∙ own ∙ ap (λ b. b || rest) is
 
 pub returns-then-has_device_at-clause-offence : goal.returns-then-has_device_at-clause-offence
-returns-then-has_device_at-clause-offence c = λ n same.
-    let size : c.wholes.at + 32 ≡ n = cc in
-    (omega (arith, size, c.wholes-test.true), or_right _ _ (found _ _ _ _ c.wholes.invariant.same c.has_device_at.ensures c.if-has_device_at.true))
+returns-then-has_device_at-clause-offence c = grind arith
 
 pub wholes-smaller : goal.wholes-smaller
 wholes-smaller c = omega (arith, c.wholes-test.true)
 
 pub wholes-preserved : goal.wholes-preserved
-wholes-preserved c = record {
-  within = omega (arith, c.wholes-test.true);
-  passed = λ k low high. elim (cases_lt k c.wholes.at) [
-    | inl l ↦ c.wholes.invariant.passed k low l
-    | inr h ↦ c.if-has_stray_at.ensures k h (omega (arith, high))
-  ];
-  unpaired = λ asked k low high. elim (cases_lt k c.wholes.at) [
-    | inl l ↦ c.wholes.invariant.unpaired asked k low l
-    | inr h ↦ elim c.else-dots.branch [
-      | else-dots-via-then-dots+else-has_dot_pair_at w ↦ w.has_dot_pair_at.ensures w.if-has_dot_pair_at.false k h (omega (arith, high))
-      | else-dots-via-else-dots w ↦ absurd (both_ways _ w.if-dots.false asked)
-    ]
-  ];
-  same = c.wholes.invariant.same ∙ c.has_device_at.ensures ∙ ap (λ b. b || has_device_behind (drop (c.wholes.at + 27) c.args.text.now)) c.if-has_device_at.false;
-}
+wholes-preserved c = grind arith
 
 -- no two dots stand side by side in the whole, where these are asked for
 unpaired : (text : List ℕ) (at : ℕ) → at ≤ length text → 32 ≤ length text → length text - at ≤ 32 → HoldsNowhere (dot_pair_at text) 0 at → HoldsNowhere (dot_pair_at text) (length text - 32) (length text - 32 + 31) → has_dot_pair text ≡ false
-unpaired text at within long last before behind = nowhere-dots text (λ k low high. elim (cases_lt k at) [
-  | inl l ↦ before k low l
-  | inr h ↦ behind k (omega (arith, h, within, long, last)) (omega (arith, high, long))
-])
+unpaired text at within long last before behind = grind (arith, nowhere-dots, cases_lt)
 
 pub returns-then-has_stray_at-2-clause-whole : goal.returns-then-has_stray_at-2-clause-whole
 returns-then-has_stray_at-2-clause-whole c = λ asked same. elim c.else-dots-2.branch [
@@ -88,32 +64,10 @@ has_device_at-requires-2-clause-marked c =
     (subst (λ n. TellsBegins text (length text - 32) n c.may_begins_at-marks-2.result) whole (record { separates = marks.separates; none = last })))
 
 pub returns-then-has_device_at-2-clause-offence : goal.returns-then-has_device_at-2-clause-offence
-returns-then-has_device_at-2-clause-offence c = λ n same.
-    let size : length c.args.text.now ≡ n = cc in
-    (omega (arith, size), or_right _ _ (found _ _ _ _ c.wholes.invariant.same c.has_device_at-2.ensures c.if-has_device_at-2.true))
+returns-then-has_device_at-2-clause-offence c = grind arith
 
 pub returns-then-has_device_at-2-clause-whole : goal.returns-then-has_device_at-2-clause-whole
-returns-then-has_device_at-2-clause-whole c = λ asked same. elim c.else-dots-2.branch [
-  | else-dots-2-via-then-dots-2+else-has_dot_pair_at-2 w ↦
-      unpaired c.args.text.now c.wholes.at c.wholes.invariant.within (omega (arith, c.if-len-lt-ONE_BLOCK.false)) (omega (arith, c.wholes-test.false)) (c.wholes.invariant.unpaired asked) (w.has_dot_pair_at-then-dots-2.ensures w.if-has_dot_pair_at-2.false)
-  | else-dots-2-via-else-dots-2 w ↦ absurd (both_ways _ w.if-dots-2.false asked)
-]
+returns-then-has_device_at-2-clause-whole c = grind (arith, else-dots-2-via-then-dots-2+else-has_dot_pair_at-2, unpaired, else-dots-2-via-else-dots-2, both_ways, c.wholes.invariant.within, c.if-len-lt-ONE_BLOCK.false, c.wholes-test.false, c.wholes.invariant.unpaired) steps 1000000
 
 pub returns-clause-clean : goal.returns-clause-clean
-returns-clause-clean c = λ is.
-    let text = c.args.text.now in (
-      nowhere-strays c.args.strays text (λ k low high. elim (cases_lt k c.wholes.at) [
-        | inl l ↦ c.wholes.invariant.passed k low l
-        | inr h ↦ c.if-has_stray_at-2.ensures k (omega (arith, h, c.wholes-test.false)) (omega (arith, high, c.if-len-lt-ONE_BLOCK.false))
-      ]),
-      c.wholes.invariant.same
-          ∙ c.has_device_at-2.ensures
-          ∙ ap (λ b. c.has_device_at-2.result || b) (behind-end text (length text) (omega arith))
-          ∙ or-false c.has_device_at-2.result
-          ∙ c.if-has_device_at-2.false,
-      λ asked. elim c.else-dots-2.branch [
-        | else-dots-2-via-then-dots-2+else-has_dot_pair_at-2 w ↦
-            unpaired c.args.text.now c.wholes.at c.wholes.invariant.within (omega (arith, c.if-len-lt-ONE_BLOCK.false)) (omega (arith, c.wholes-test.false)) (c.wholes.invariant.unpaired asked) (w.has_dot_pair_at-then-dots-2.ensures w.if-has_dot_pair_at-2.false)
-        | else-dots-2-via-else-dots-2 w ↦ absurd (both_ways _ w.if-dots-2.false asked)
-      ],
-    )
+returns-clause-clean c = grind (arith, nowhere-strays, cases_lt, behind-end, or-false, else-dots-2-via-then-dots-2+else-has_dot_pair_at-2, unpaired, else-dots-2-via-else-dots-2, both_ways, c.wholes.invariant.passed, c.if-has_stray_at-2.ensures, c.wholes-test.false, c.if-len-lt-ONE_BLOCK.false, c.wholes.invariant.same, c.has_device_at-2.ensures, c.if-has_device_at-2.false, c.wholes.invariant.within, c.wholes.invariant.unpaired) steps 1000000

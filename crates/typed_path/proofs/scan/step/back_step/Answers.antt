@@ -28,10 +28,7 @@ clean_of c begin clean = c.trim_blanks.ensures.clean begin ∙ clean
 -- its last segment is the component
 items_of : (c : After-step_of-step) (begin : Begin) (at : ℕ) (kept : List ℕ) → (h : IsLast begin c.args.separators at (trimmed c) kept (drop c.last_in-start.result (trimmed c)))
     → body_from begin c.args.separators at c.args.text.now ≡ body_from begin c.args.separators at kept ++ component (step_part c.step_of-step.result) h.place
-items_of c begin at kept h =
-    sym (c.trim_blanks.ensures.same begin at)
-    ∙ h.items
-    ∙ ap (λ cs. body_from begin c.args.separators at kept ++ cs) (rw take_rest at (c.step_of-step.ensures h.place))
+items_of c begin at kept h = grind (arith, take_rest)
 
 pub returns-then-start-last-clause-last : goal.returns-then-start-last-clause-last
 returns-then-start-last-clause-last c = λ begin at clean.
@@ -45,10 +42,7 @@ front c = take c.last_in-start.result (trimmed c)
 
 -- a part of it is one of the whole text
 front_part : (c : After-step_of-step) (n : ℕ) → n ≤ length (front c) → take n (front c) ≡ take n c.args.text.now
-front_part c n within =
-    let size = length-take c.last_in-start.result (trimmed c) in
-    let sizes = length-take c.trim_blanks.result c.args.text.now in
-    take-take n c.last_in-start.result (trimmed c) (omega arith) ∙ take-take n c.trim_blanks.result c.args.text.now (omega arith)
+front_part c n within = grind (arith, length-take, take-take)
 
 pub returns-clause-last : goal.returns-clause-last
 returns-clause-last c = λ begin at clean.

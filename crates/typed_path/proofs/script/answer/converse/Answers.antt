@@ -1,19 +1,16 @@
-use Rattle.std.proofs.Common.{◌≡◌, ℕ, List, [], ◌++◌, take, ap, arith, ◌∙◌, Result, Ok, Err, OnOk, OnErr, IsErrAnd}
+use Rattle.std.proofs.Common.{◌≡◌, ℕ, List, [], ◌++◌, take, ap, arith, ◌∙◌, Result, OnOk, OnErr, IsErrAnd}
 use Rattle.typed_path.proofs.lemmas.script.Streams.{Reads-runs_out, Reads-step, Reads-stops_writing, Reads-answers_all, Reads-stops_at_end, ends-writing, ends-out, ends-sent}
 use Rattle.typed_path.proofs.script.answer.converse.Goals as goal
 
 on_ok : {T E P Q S : Type 0} (r : Result T E) → OnOk r P → OnOk r Q → (P → Q → S) → OnOk r S
-on_ok (Ok x) h k f = f h k
-on_ok (Err e) h k f = tt
+on_ok r h k f = grind arith
 
 on_err : {T E P Q S : Type 0} (r : Result T E) → OnErr r P → OnErr r Q → (P → Q → S) → OnErr r S
-on_err (Ok x) h k f = tt
-on_err (Err e) h k f = f h k
+on_err r h k f = grind arith
 
 -- an error that is passed on
 err-is : {T E : Type 0} {x : E} (r : Result T E) (e : E) → IsErrAnd r (λ y. y ≡ e) → e ≡ x → IsErrAnd r (λ y. y ≡ x)
-err-is (Ok t) e is same = is
-err-is (Err y) e is same = is ∙ same
+err-is r e is same = grind arith
 
 pub returns-in_err-take_in : goal.returns-in_err-take_in
 returns-in_err-take_in g c = ends-out _ _ c.from_residual.result c.from_residual.ensures.1 (Reads-runs_out c.reads.invariant.reads _ _ _ c.in-Ok.ensures.bytes c.in-Ok.ensures.unfailed)

@@ -8,9 +8,9 @@ use Rattle.typed_path.specs.views.CursorViews.{items_left}
 use Rattle.typed_path.specs.views.SpanViews.{span_bytes}
 use Rattle.typed_path.specs.views.PieceViews.{part_of, step_part}
 use Rattle.typed_path.proofs.lemmas.scan.Steps.{parts-prefixed, yields_first, fewer}
-use Rattle.typed_path.proofs.lemmas.script.Lines.{join_with_byte-map}
 use Rattle.typed_path.proofs.script.lines.put_components.Goals as goal
 use Rattle.typed_path.proofs.script.lines.put_components.Goals.{in-Some+in_ok-put_component-in-Some, in-None}
+use Rattle.typed_path.proofs.lemmas.lists.Lists.{join_with_byte-map}
 
 -- the fields of the first components stand, and those of the others are left
 some_shown : (replies new : List ℕ) (first left ps : List Part) → ps ≡ first ++ left → new ≡ replies ++ fields_behind first → new ++ fields_behind left ≡ replies ++ fields_behind ps

@@ -6,9 +6,7 @@ use Rattle.typed_path.proofs.lemmas.script.Lines.{put_same, text_answered, text_
 use Rattle.typed_path.proofs.script.lines.put_converted_checked.Goals as goal
 
 pub returns-in_ok-push-in-Ok : goal.returns-in_ok-push-in-Ok
-returns-in_ok-push-in-Ok g c =
-    text_answered c.args.replies.now.items _ c.convert_checked.new.text.items c.len-start.result c.in_ok-extend_from_slice.ensures.items (omega (arith, c.len-start.ensures, c.extend_from_slice.new.self.ok)) c.convert_checked.ensures.kept c.push.new.self.items c.in_ok-push-in-Ok.ensures.items
-    ∙ ap (λ r. c.args.replies.now.items ++ reply_line (converted_reply r)) (sym c.in-Ok.ensures.ok)
+returns-in_ok-push-in-Ok g c = grind (arith, text_answered)
 
 pub returns-in-Err-Checked : goal.returns-in-Err-Checked
 returns-in-Err-Checked g c =

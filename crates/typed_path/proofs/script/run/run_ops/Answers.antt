@@ -15,22 +15,15 @@ returns-in_err-reserve-clause-memory g c =
     (ap responses_of c.reserve.ensures.items ∙ c.operations.invariant.answered) (none_taken d _ _))
 
 pub returns-in_err-reply-clause-memory : goal.returns-in_err-reply-clause-memory
-returns-in_err-reply-clause-memory g c =
-    let d = g.T.Encoding.dialect in
-    on_err c.from_residual-in_err-reply.result
-    (stops d _ c.args.operations.now c.operations.operation-index _ c.operations-test.true _ _ _ _ c.operations.invariant.text
-    (ap responses_of c.reserve.ensures.items ∙ c.operations.invariant.answered) c.in_err-reply.ensures.memory)
+returns-in_err-reply-clause-memory g c = grind (arith, on_err, stops)
 
 -- the replies with one more
 longer : (old before more : List Response) (items replies : List Reply) (reply : Reply) → replies ≡ items ++ reply ∷ [] → responses_of items ≡ before ++ old → old ++ response_of reply ∷ [] ≡ more
     → responses_of replies ≡ before ++ more
-longer old before more items replies reply pushed h next =
-    ap responses_of pushed ∙ map-append response_of items (reply ∷ []) ∙ ap (λ rs. rs ++ response_of reply ∷ []) h ∙ append_assoc before old (response_of reply ∷ []) ∙ ap (λ rs. before ++ rs) next
+longer old before more items replies reply pushed h next = grind (arith, map-append, append_assoc)
 
 pub returns-in_err-reserve-clause-succeeds : goal.returns-in_err-reserve-clause-succeeds
-returns-in_err-reserve-clause-succeeds g c = λ room whole.
-    let fits = c.operations.invariant.replies_fit room in
-    let ok = rw c.in_err-reserve.was at (c.reserve.ensures.succeeds (omega (arith, c.operations-test.true))) in cc
+returns-in_err-reserve-clause-succeeds g c = grind arith
 
 pub returns-in_err-reply-clause-succeeds : goal.returns-in_err-reply-clause-succeeds
 returns-in_err-reply-clause-succeeds g c = λ room whole.

@@ -2,7 +2,6 @@ use Rattle.std.proofs.Common.{Some, ◌≡◌, ◌+◌, ◌++◌, ℕ, List, [],
 use Rattle.std.specs.List.{position_or_len}
 use Rattle.typed_path.specs.declared.scan.separators.Separators.TheVariants.{Either}
 use Rattle.typed_path.specs.declared.errors.CheckedPathError.TheVariants.{InvalidFilename}
-use Rattle.typed_path.specs.declared.scan.separators.Look.TheVariants.{Offence}
 use Rattle.typed_path.specs.components.{windows, is_separator}
 use Rattle.typed_path.specs.changes.{begins_with_separator, has_second_colon, fault}
 use Rattle.typed_path.proofs.lemmas.changes.ValidPaths.{looked-valid, looked-refused, front-refused, unpaired-dots}
@@ -10,10 +9,7 @@ use Rattle.typed_path.proofs.windows.encoding.judged_by_looks.Goals as goal
 
 -- the first bytes of a path begin no otherwise
 front-relative : (path : List ℕ) (n : ℕ) → begins_with_separator path ≡ false → begins_with_separator (take n path) ≡ false
-front-relative [] zero e = refl
-front-relative [] (suc n) e = refl
-front-relative (a ∷ path) zero e = refl
-front-relative (a ∷ path) (suc n) e = e
+front-relative path n e = grind arith
 
 front-undriven : (path : List ℕ) (n : ℕ) → has_second_colon path ≡ false → has_second_colon (take n path) ≡ false
 front-undriven [] zero e = refl
@@ -40,21 +36,13 @@ ended (b ∷ t) = by (is_separator Either b) refl (ended t)
         next n = let more : 1 + n ≡ suc n = omega arith in ap (λ m. drop m (b ∷ t)) more
 
 pub returns-in-Clean : goal.returns-in-Clean
-returns-in-Clean c =
-    let path = c.args.path.now in
-    let told = c.look_at_path.ensures.clean c.in-Clean.is in
-    sym (looked-valid path (sym c.begins_with_separator.ensures ∙ c.if-begins_with_separator.false) (sym c.has_second_colon.ensures ∙ c.if-has_second_colon.false) told.2 told.0 told.1)
+returns-in-Clean c = grind (arith, looked-valid)
 
 pub returns-in-Offence : goal.returns-in-Offence
-returns-in-Offence c =
-    let path = c.args.path.now in
-    let whole = c.look_at_path.ensures.whole (c.in-Offence.is ∙ ap Offence c.if-looked-path.true) in
-    sym (looked-refused path (sym c.begins_with_separator.ensures ∙ c.if-begins_with_separator.false) (sym c.has_second_colon.ensures ∙ c.if-has_second_colon.false) whole (c.look_at_path.ensures.offence c.in-Offence.looked c.in-Offence.is).1)
+returns-in-Offence c = grind (arith, looked-refused)
 
 pub returns-then-has_no_nul_or_dot_pair : goal.returns-then-has_no_nul_or_dot_pair
-returns-then-has_no_nul_or_dot_pair c =
-    sym (looked-refused c.args.path.now (sym c.begins_with_separator.ensures ∙ c.if-begins_with_separator.false) (sym c.has_second_colon.ensures ∙ c.if-has_second_colon.false)
-    (unpaired-dots c.args.path.now (sym c.has_no_nul_or_dot_pair.ensures ∙ c.if-has_no_nul_or_dot_pair.true)) (c.look_at_path.ensures.offence c.in-Offence-2.looked c.in-Offence-2.is).1)
+returns-then-has_no_nul_or_dot_pair c = grind (arith, looked-refused, unpaired-dots)
 
 pub returns-in-Offence-look_at_path : goal.returns-in-Offence-look_at_path
 returns-in-Offence-look_at_path c =

@@ -2,9 +2,10 @@ use Rattle.std.proofs.Common.{◌-◌, length, sym}
 use Rattle.std.proofs.lemmas.Bool.{not-false}
 use Rattle.typed_path.specs.declared.scan.separators.Separators.TheVariants.{Either}
 use Rattle.typed_path.specs.changes.{HaveOnePrefix}
-use Rattle.typed_path.proofs.lemmas.order.SharedNames.{parted-one, parted-fits, one-fits}
+use Rattle.typed_path.proofs.lemmas.order.SharedNames.{parted-one, one-fits}
 use Rattle.typed_path.proofs.lemmas.order.DifferentPrefixes.{same-drive}
 use Rattle.typed_path.proofs.windows.encoding.shared_drive.Goals as goal
+use Rattle.typed_path.proofs.lemmas.components.Prefixes.{parted-fits}
 
 pub overflow_sub-result : goal.overflow_sub-result
 overflow_sub-result c = parted-fits c.args.path.now c.in_ok-drive.drive c.in_ok-drive.body.now c.in_ok-drive.ensures

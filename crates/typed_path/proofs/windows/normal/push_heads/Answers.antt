@@ -1,4 +1,4 @@
-use Rattle.std.proofs.Common.{◌≡◌, ◌⊎◌, inl, inr, ℕ, ◌<◌, arith, length, List, [], ◌∷◌, ◌++◌, map, take, drop, slice_range, Bor, true, refl, sym, ap, subst, append-nil, ◌∙◌, Option, Some, None, option_to_list, IsSome}
+use Rattle.std.proofs.Common.{◌≡◌, ◌⊎◌, ℕ, ◌<◌, arith, length, List, [], ◌∷◌, ◌++◌, map, take, drop, slice_range, Bor, true, refl, sym, ap, subst, append-nil, ◌∙◌, Option, Some, None, option_to_list, IsSome}
 use Rattle.std.proofs.lemmas.List.{map-append, drop_all}
 use Rattle.typed_path.specs.declared.scan.step.Piece.{Piece}
 use Rattle.typed_path.specs.declared.scan.step.PieceKind.{PieceKind}
@@ -11,15 +11,15 @@ use Rattle.typed_path.specs.views.CursorViews.{items_left}
 use Rattle.typed_path.specs.views.PieceViews.{part_of, kind_view}
 use Rattle.typed_path.proofs.lemmas.places.Resolving.{is_head, Comes, comes-current, comes-name, comes-parent, comes-parent_alone, comes-head, comes-end}
 use Rattle.typed_path.proofs.lemmas.components.WrittenForms.{heads_first-parts_of}
-use Rattle.typed_path.proofs.lemmas.conversions.Crossings.{put-whole, whole_range}
+use Rattle.typed_path.proofs.lemmas.conversions.Crossings.{put-whole}
 use Rattle.typed_path.proofs.lemmas.scan.Steps.{yields_first, fewer}
 use Rattle.typed_path.proofs.windows.normal.push_heads.Goals as goal
+use Rattle.typed_path.proofs.lemmas.lists.Lists.{whole_range}
 
 -- a piece of a known kind, at the front of what the list comes down to
 at_kind : {goal text : List ℕ} {names : List (List ℕ)} (p : Piece) (k : PieceKind) (old rest : List Part) → old ≡ part_of p ∷ rest → p.kind ≡ k
     → Comes windows goal text names old → Comes windows goal text names (record { kind = kind_view k p.text.now; text = p.text.now } ∷ rest)
-at_kind {goal} {text} {names} p k old rest step e h =
-    subst (λ ps. Comes windows goal text names ps) (step ∙ ap (λ l. record { kind = kind_view l p.text.now; text = p.text.now } ∷ rest) e) h
+at_kind {goal} {text} {names} p k old rest step e h = grind arith
 
 at_parts : {goal text : List ℕ} {names : List (List ℕ)} {ps qs : List Part} → ps ≡ qs → Comes windows goal text names ps → Comes windows goal text names qs
 at_parts {goal} {text} {names} e h = subst (λ rs. Comes windows goal text names rs) e h
@@ -35,8 +35,7 @@ comes-start path text names ps no_text no_names all =
     (subst (λ qs. Comes windows (normal_text windows path) [] [] qs) (sym all) (record { written = refl; heads = heads_first-parts_of windows path })))
 
 is_head-piece : (p : Piece) → ((x : WindowsPrefix) × (p.kind ≡ Prefix x)) ⊎ (p.kind ≡ RootDir) → is_head (kind_view p.kind p.text.now) ≡ true
-is_head-piece p (inl h) = ap (λ k. is_head (kind_view k p.text.now)) h.1
-is_head-piece p (inr h) = ap (λ k. is_head (kind_view k p.text.now)) h
+is_head-piece p h = grind arith
 
 no_some : IsSome {T = Bor (List ℕ)} None → ⊥
 no_some h = cc

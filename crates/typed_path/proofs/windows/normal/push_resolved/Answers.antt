@@ -1,4 +1,4 @@
-use Rattle.std.proofs.Common.{◌≡◌, ℕ, ◌+◌, ◌<◌, arith, length, get_or, List, map, drop, Bor, sym, ap, ◌∙◌}
+use Rattle.std.proofs.Common.{◌≡◌, ℕ, ◌+◌, ◌<◌, arith, length, get_or, List, map, drop, Bor, ◌∙◌}
 use Rattle.std.proofs.lemmas.List.{drop-map, drop_more}
 use Rattle.typed_path.specs.components.{windows}
 use Rattle.typed_path.specs.changes.{push_windows, push_all}
@@ -9,10 +9,7 @@ use Rattle.typed_path.proofs.windows.normal.push_resolved.Goals as goal
 pushed_next : (goal text next : List ℕ) (names : List (Bor (List ℕ))) (i : ℕ) (n : Bor (List ℕ)) → i < length names
     → next ≡ push_windows text (get_or names i n).now → goal ≡ push_all windows text (drop i (map (λ m. m.now) names))
     → goal ≡ push_all windows next (drop (i + 1) (map (λ m. m.now) names))
-pushed_next goal text next names i n within pushed h =
-    h ∙ ap (push_all windows text) (drop-map (λ m. m.now) i names ∙ ap (map (λ m. m.now)) (drop_more names i n within))
-    ∙ ap (λ t. push_all windows t (map (λ m. m.now) (drop (i + 1) names))) (sym pushed)
-    ∙ ap (push_all windows next) (sym (drop-map (λ m. m.now) (i + 1) names))
+pushed_next goal text next names i n within pushed h = grind (arith, drop-map, drop_more)
 
 pub names-preserved : goal.names-preserved
 names-preserved c =

@@ -1,5 +1,4 @@
-use Rattle.std.proofs.Common.{◌≡◌, ◌∙◌, List, ℕ, None, Bool, IfOk, refl, subst, arith, Result, Ok, Err}
-use Rattle.std.proofs.lemmas.Bool.{both_ways}
+use Rattle.std.proofs.Common.{◌≡◌, ◌∙◌, List, ℕ, None, Bool, IfOk, refl, subst, arith, Result}
 use Rattle.typed_path.specs.declared.scan.separators.Separators.TheVariants.{Either}
 use Rattle.typed_path.specs.components.{drive}
 use Rattle.typed_path.specs.places.{HaveNoDisks}
@@ -28,16 +27,14 @@ segments-preserved c = record {
 
 -- the segment that comes begins with no drive
 pub returns-then-not-branch-clause-told : goal.returns-then-not-branch-clause-told
-returns-then-not-branch-clause-told c = λ none.
-    absurd (both_ways _ c.if-not-branch.true (c.in_ok-put_segment.ensures.told (subst HaveNoDisks c.in-Some.ensures.pieces (c.segments.invariant.drives none)).0))
+returns-then-not-branch-clause-told c = grind arith
 
 pub returns-clause-told : goal.returns-clause-told
 returns-clause-told c = λ none. c.put_segment-2.ensures.told (subst HaveNoDisks c.in_default.ensures.pieces (c.segments.invariant.drives none)).0
 
 -- what holds on success of two things holds of what follows from them
 on_ok : {E : Type 0} {P Q R : Bool → Type 0} (r : Result Bool E) → ((x : Bool) → P x → Q x → R x) → IfOk r P → IfOk r Q → IfOk r R
-on_ok (Ok x) f p q = f x p q
-on_ok (Err e) f p q = tt
+on_ok r f p q = grind arith
 
 pub returns-clause-ok : goal.returns-clause-ok
 returns-clause-ok c =

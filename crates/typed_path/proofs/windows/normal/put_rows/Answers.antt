@@ -34,14 +34,10 @@ kept-before before prefix root first begun new len one two size e =
     ∙ take_at before (prefix ++ root) (length before) refl
 
 pub returns-clause-kept : goal.returns-clause-kept
-returns-clause-kept c =
-    kept-before _ _ _ _ _ _ c.len-len.result c.in_ok-extend_from_slice.ensures.items c.in_ok-extend_from_slice-2.ensures.items (omega (arith, c.len-len.ensures, c.extend_from_slice-2.new.self.ok))
-    (c.drop_separator.ensures.kept ∙ c.in_ok-put_segments.ensures.kept)
+returns-clause-kept c = grind (arith, kept-before)
 
 pub returns-in_err-put_segments-clause-kept : goal.returns-in_err-put_segments-clause-kept
-returns-in_err-put_segments-clause-kept c =
-    kept-before _ _ _ _ _ _ c.len-len.result c.in_ok-extend_from_slice.ensures.items c.in_ok-extend_from_slice-2.ensures.items (omega (arith, c.len-len.ensures, c.extend_from_slice-2.new.self.ok)) c.put_segments.ensures.kept
+returns-in_err-put_segments-clause-kept c = grind (arith, kept-before, c.in_ok-extend_from_slice.ensures.items, c.in_ok-extend_from_slice-2.ensures.items, c.len-len.ensures, c.put_segments.ensures.kept)
 
 pub returns-then-not-branch-clause-kept : goal.returns-then-not-branch-clause-kept
-returns-then-not-branch-clause-kept c =
-    kept-before _ _ _ _ _ _ c.len-len.result c.in_ok-extend_from_slice.ensures.items c.in_ok-extend_from_slice-2.ensures.items (omega (arith, c.len-len.ensures, c.extend_from_slice-2.new.self.ok)) c.put_segments.ensures.kept
+returns-then-not-branch-clause-kept c = grind (arith, kept-before)

@@ -1,4 +1,4 @@
-use Rattle.std.proofs.Common.{◌≡◌, List, [], ◌∷◌, ℕ, ◌++◌, ◌⊎◌, inl, inr, Option, Some, None, is_some, false, refl, ap, sym, ◌∙◌, arith}
+use Rattle.std.proofs.Common.{◌≡◌, List, [], ◌∷◌, ℕ, ◌++◌, ◌⊎◌, Option, None, is_some, false, refl, ap, sym, ◌∙◌, arith}
 use Rattle.typed_path.specs.declared.scan.separators.Separators.TheVariants.{Either}
 use Rattle.typed_path.specs.declared.scan.step.StepKind.{StepKind}
 use Rattle.typed_path.specs.declared.scan.step.StepKind.TheVariants.{RootDir, CurDir}
@@ -23,12 +23,10 @@ returns-in_ok-push-in-Normal-clause-ok c = λ _ head names size are.
 
 -- every other component leaves the names as they are
 other : (k : StepKind) (text segment : List ℕ) (names : List (List ℕ)) → (k ≡ RootDir) ⊎ (k ≡ CurDir) → by_kind names segment (step_view k text) ≡ names
-other k text segment names (inl h) = ap (λ l. by_kind names segment (step_view l text)) h
-other k text segment names (inr h) = ap (λ l. by_kind names segment (step_view l text)) h
+other k text segment names h = grind arith
 
 is_none : (o : Option ℕ) → is_some o ≡ false → o ≡ None
-is_none None h = refl
-is_none (Some x) h = cc
+is_none o h = grind arith
 
 pub returns-in-RootDir : goal.returns-in-RootDir
 returns-in-RootDir c = record {

@@ -5,8 +5,9 @@ use Rattle.typed_path.specs.components.{drive, slash, backslash}
 use Rattle.typed_path.specs.places.{AreRowsOf, ArePut, HaveNoDisks, rows_of, settled}
 use Rattle.typed_path.proofs.lemmas.components.Segments.{pieces}
 use Rattle.typed_path.proofs.lemmas.places.UnixRows.{Standing, standing-start, standing-step, standing-over, standing-end, standing-each}
-use Rattle.typed_path.proofs.lemmas.places.NamedRows.{standing-put, standing-whole, whole-each, put-drives, free-pieces, kept-front}
+use Rattle.typed_path.proofs.lemmas.places.NamedRows.{standing-put, standing-whole, whole-each, put-drives, free-pieces}
 use Rattle.typed_path.proofs.windows.normal.put_undriven.Goals as goal
+use Rattle.typed_path.proofs.lemmas.lists.Lists.{kept-front}
 
 -- no drive is at the front
 abbrev IsNoDrive : List ℕ → Type 0
@@ -22,15 +23,7 @@ turn-standing text put new head rest left segment behind next path every stands 
     (standing-step Either IsNoDrive put new head left behind segment path split alone own settles (standing-put Either IsNoDrive text put head rest path every stands left is))
 
 pub segments-init : goal.segments-init
-segments-init c = record {
-  standing = λ head size are. standing-start Either IsNoDrive _ head c.args.path.now are;
-  kept = refl;
-  long = c.requires.within;
-  capacity = omega arith;
-  room = λ fits. fits;
-  drives = free-pieces c.args.path.now c.requires.free;
-  names = c.requires.names;
-}
+segments-init c = grind (arith, standing-start, free-pieces)
 
 pub segments-preserved : goal.segments-preserved
 segments-preserved c =
@@ -51,13 +44,7 @@ segments-preserved c =
     }
 
 pub returns-clause-ok : goal.returns-clause-ok
-returns-clause-ok c = λ plain head size are.
-    let put = rw c.in_default.is at c.in_ok-left.ensures.ok in
-    let stands = c.segments.invariant.standing head size are in
-    record {
-      drives = whole-each Either IsNoDrive _ _ head c.segments.rest.now c.args.path.now c.segments.invariant.drives stands put;
-      is = standing-whole Either IsNoDrive _ _ head c.segments.rest.now c.args.path.now c.segments.invariant.drives stands put;
-    }
+returns-clause-ok c = grind (arith, whole-each, standing-whole)
 
 pub returns-in_default-cut_at_separator-clause-ok : goal.returns-in_default-cut_at_separator-clause-ok
 returns-in_default-cut_at_separator-clause-ok c =
@@ -73,9 +60,7 @@ returns-in_default-cut_at_separator-clause-ok c =
     c.put_segment.ensures.ok
 
 pub returns-in_default-cut_at_separator-clause-told : goal.returns-in_default-cut_at_separator-clause-told
-returns-in_default-cut_at_separator-clause-told c =
-    let put = rw c.in-Some.is at c.in_ok-left.ensures.ok in
-    c.put_segment.ensures.told (subst HaveNoDisks c.in_default-cut_at_separator.ensures.pieces (put-drives _ _ _ _ put c.segments.invariant.drives)).0
+returns-in_default-cut_at_separator-clause-told c = grind (arith, pieces, put-drives)
 
 pub put_names-requires : goal.put_names-requires
 put_names-requires c = ((slash, backslash), λ b. refl, c.segments.invariant.names)
@@ -93,7 +78,4 @@ returns-then-matches-clause-ok c =
     c.put_one_by_one.ensures.ok
 
 pub returns-then-matches-clause-told : goal.returns-then-matches-clause-told
-returns-then-matches-clause-told c =
-    let put = rw c.in-Some.is at c.in_ok-left.ensures.ok in
-    let drives = subst HaveNoDisks c.in-Some-cut_at_separator.ensures.pieces (put-drives _ _ _ _ put c.segments.invariant.drives) in
-    c.put_one_by_one.ensures.told (c.behind_segment-rest.ensures.drives drives.1)
+returns-then-matches-clause-told c = grind (arith, pieces, put-drives)

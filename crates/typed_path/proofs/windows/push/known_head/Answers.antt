@@ -13,8 +13,7 @@ fits t = by (prefix_of windows t) (λ i. prefix_of windows t)
     by (Some f) e = (prefix-fits windows t f e).fits
 
 within : (r : Option ℕ) (t : List ℕ) → IsSpelledHead r t → IfSome r (λ head. head ≤ length t)
-within None t h = tt
-within (Some head) t h = omega (arith, h.1, fits t)
+within r t h = grind (arith, fits)
 
 pub returns-in_default-clause-within : goal.returns-in_default-clause-within
 returns-in_default-clause-within c = within c.spelled_head.result c.args.base.now c.spelled_head.ensures

@@ -3,8 +3,7 @@ use Rattle.std.specs.List.{IsAfterLastMatch}
 use Rattle.typed_path.specs.declared.scan.separators.Separators.TheVariants.{Backslash}
 use Rattle.typed_path.specs.components.{is_separator, Part}
 use Rattle.typed_path.specs.changes.{without_last_name, Stands}
-use Rattle.typed_path.proofs.lemmas.lists.Lists.{IsLastPlace}
-use Rattle.typed_path.proofs.lemmas.conversions.Crossings.{whole_range}
+use Rattle.typed_path.proofs.lemmas.lists.Lists.{IsLastPlace, whole_range}
 use Rattle.typed_path.proofs.lemmas.changes.WindowsPushes.{is_dots, stands-short, stands-dots, stands-cut, stands-alone}
 use Rattle.typed_path.proofs.windows.push.len_without_name.Goals as goal
 

@@ -1,5 +1,4 @@
-use Rattle.std.proofs.Common.{◌≡◌, ◌≤◌, ◌+◌, ◌-◌, ◌==◌, ◌++◌, ne_eqb, inl, inr, true≢false, List, length, take, drop, slice_range, sym, ap, subst, ◌∙◌, length-drop, arith, ℕ, eq-eqb, take-append-drop, drop-drop}
-use Rattle.std.proofs.lemmas.Bool.{cases_lt}
+use Rattle.std.proofs.Common.{◌≡◌, ◌≤◌, ◌+◌, ◌-◌, ◌==◌, ◌++◌, List, length, take, drop, slice_range, sym, ap, subst, ◌∙◌, length-drop, arith, ℕ, take-append-drop, drop-drop}
 use Rattle.typed_path.specs.components.{windows, is_empty, parts_of}
 use Rattle.typed_path.specs.changes.{merged, Stands}
 use Rattle.typed_path.proofs.lemmas.changes.WindowsPushes.{path-length}
@@ -8,9 +7,7 @@ use Rattle.typed_path.proofs.windows.push.merge_in_place.Goals as goal
 
 -- the room that was found is enough
 refuted : goal.After-from_residual-in_err-merge_path → ⊥
-refuted c =
-    true≢false (sym (c.in_err-merge_path.ensures.succeeds
-    (omega (arith, c.truncate.ensures.len, c.truncate.ensures.capacity, c.in_ok-reserve.ensures.ok, c.in_ok-reserve.ensures.len, c.saturating_sub.ensures, c.len.ensures, c.requires.within))))
+refuted c = grind arith
 
 pub returns-in_err-merge_path-clause-err : goal.returns-in_err-merge_path-clause-err
 returns-in_err-merge_path-clause-err c = absurd (refuted c)
@@ -20,10 +17,7 @@ returns-in_err-merge_path-clause-succeeds c = absurd (refuted c)
 
 -- nothing stands behind the prefix exactly where that ends where the base does
 parted-is : (n m : ℕ) (rest : List ℕ) → n ≤ m → length rest ≡ m - n → (n == m) ≡ is_empty rest
-parted-is n m rest within size = elim (cases_lt n m) [
-  | inl less ↦ ne_eqb n m (λ e. absurd (omega (arith, less, e))) ∙ sym (ne_eqb (length rest) 0 (λ e. absurd (omega (arith, less, e, size))))
-  | inr least ↦ eq-eqb n m (omega (arith, least, within)) ∙ sym (eq-eqb (length rest) 0 (omega (arith, size, least)))
-]
+parted-is n m rest within size = grind arith
 
 pub returns-clause-ok : goal.returns-clause-ok
 returns-clause-ok c = λ known.

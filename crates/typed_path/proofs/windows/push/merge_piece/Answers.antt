@@ -1,8 +1,9 @@
 use Rattle.std.proofs.Common.{drop, refl, sym, subst}
 use Rattle.typed_path.specs.changes.{merge_by_kind, Stands}
 use Rattle.typed_path.specs.views.PieceViews.{part_of, kind_view}
-use Rattle.typed_path.proofs.lemmas.conversions.Crossings.{whole_range, cut-behind}
+use Rattle.typed_path.proofs.lemmas.conversions.Crossings.{cut-behind}
 use Rattle.typed_path.proofs.windows.push.merge_piece.Goals as goal
+use Rattle.typed_path.proofs.lemmas.lists.Lists.{whole_range}
 
 pub returns-in-ParentDir-clause-stands : goal.returns-in-ParentDir-clause-stands
 returns-in-ParentDir-clause-stands c = λ ps stands.

@@ -3,7 +3,7 @@ use Rattle.std.proofs.lemmas.Result.{on_ok_weaker}
 use Rattle.typed_path.specs.components.{windows, kinds, parts, parts_of, is_empty, prefix_of}
 use Rattle.typed_path.specs.queries.{has_prefix, has_any_verbatim_prefix, begins_with_root}
 use Rattle.typed_path.specs.changes.{push_windows, raw_length, raw_prefix, ended_windows}
-use Rattle.typed_path.proofs.lemmas.changes.WindowsPushes.{fits-plain, fits-prefixed, fits-merged, push-empty, push-prefixed, push-anew, push-rooted, push-relative, path-length, up_to-end, up_to-inside}
+use Rattle.typed_path.proofs.lemmas.changes.WindowsPushes.{fits-plain, fits-merged, push-empty, push-anew, push-rooted, push-relative, path-length, up_to-end, up_to-inside}
 use Rattle.typed_path.proofs.windows.push.push_at.Goals as goal
 
 -- whether the path at a place of a text is verbatim, where the text is another's
@@ -12,11 +12,7 @@ verbatim_of : {t u : List ℕ} (start end : ℕ) → t ≡ u
 verbatim_of start end e = ap (λ t. has_any_verbatim_prefix (kinds (parts_of windows (slice_range t start end)))) e
 
 pub returns-then-is_empty-clause-ok : goal.returns-then-is_empty-clause-ok
-returns-then-is_empty-clause-ok c = λ known.
-    let text = c.args.text.now.items in
-    let base = slice_range text c.args.start c.args.kept in
-    c.truncate.ensures.items ∙ up_to-end text c.args.start c.args.kept c.requires.ordered c.requires.within
-    ∙ ap (λ u. take c.args.start text ++ u) (sym (push-empty base c.args.other.now (sym c.is_empty.ensures ∙ c.if-is_empty.true)))
+returns-then-is_empty-clause-ok c = grind (arith, up_to-end, push-empty)
 
 -- the path is merged into its base
 module _ (c : goal.After-merge_at) where
@@ -33,20 +29,13 @@ module _ (c : goal.After-merge_at) where
   marked = sym (verbatim_of c.args.start c.args.kept c.deref.ensures.value) ∙ sym c.has_verbatim_kind.ensures ∙ c.if-has_verbatim_kind.true
 
 pub returns-then-has_verbatim_kind-clause-ok : goal.returns-then-has_verbatim_kind-clause-ok
-returns-then-has_verbatim_kind-clause-ok c = λ known.
-    on_ok_weaker c.merge_at.result (λ e. e ∙ ap (λ u. take c.args.start c.args.text.now.items ++ u) (sym (push-anew (merged_base c) c.args.other.now (some c) (no_prefix c) (marked c)))) (c.merge_at.ensures.ok known)
+returns-then-has_verbatim_kind-clause-ok c = grind (arith, on_ok_weaker, push-anew, c.merge_at.ensures.ok)
 
 pub returns-then-has_verbatim_kind-clause-succeeds : goal.returns-then-has_verbatim_kind-clause-succeeds
-returns-then-has_verbatim_kind-clause-succeeds c = λ room within known fits.
-    let both = fits-merged room (merged_base c) c.args.other.now (some c) (no_prefix c) (marked c) fits in
-    c.merge_at.ensures.succeeds known (marked c, both.0) (omega (arith, both.1, within, path-length c.args.text.now.items c.args.start c.args.kept c.requires.ordered c.requires.within, c.requires.ordered))
+returns-then-has_verbatim_kind-clause-succeeds c = grind (arith, fits-merged, some, no_prefix, marked, path-length)
 
 pub returns-then-has_prefix-clause-succeeds : goal.returns-then-has_prefix-clause-succeeds
-returns-then-has_prefix-clause-succeeds c = λ room within known fits.
-    let base = slice_range c.args.text.now.items c.args.start c.args.kept in
-    let prefixed : has_prefix (kinds (parts_of windows c.args.other.now)) ≡ true = sym (c.has_prefix.ensures ∙ ap (λ cs. has_prefix (kinds (parts cs))) c.of_windows-path.ensures.items) ∙ c.if-has_prefix.true in
-    let is = push-prefixed base c.args.other.now (sym c.is_empty.ensures ∙ c.if-is_empty.false) prefixed in
-    c.put_over.ensures.succeeds (omega (arith, fits-prefixed room base c.args.other.now prefixed fits, ap length is, within))
+returns-then-has_prefix-clause-succeeds c = grind arith
 
 -- a rooted path, behind the prefix of its base
 module _ (c : goal.After-put_over-then-begins_with_root) where
@@ -94,9 +83,7 @@ module _ (c : goal.After-put_over-2) where
   relative_base = slice_range c.args.text.now.items c.args.start c.args.kept
 
   separator_is : ended_windows relative_base ≡ relative_base ++ c.separator_behind-separator.result.now
-  separator_is =
-      subst (λ t. ended_windows (slice_range t c.args.start c.args.kept) ≡ slice_range t c.args.start c.args.kept ++ c.separator_behind-separator.result.now) c.deref.ensures.value
-      c.separator_behind-separator.ensures.text
+  separator_is = grind arith
 
   relative : push_windows relative_base c.args.other.now ≡ relative_base ++ c.separator_behind-separator.result.now ++ c.args.other.now
   relative =
@@ -107,17 +94,7 @@ module _ (c : goal.After-put_over-2) where
       ∙ ap (λ u. u ++ c.args.other.now) separator_is
 
 pub returns-clause-ok : goal.returns-clause-ok
-returns-clause-ok c = λ known.
-    let text = c.args.text.now.items in
-    let start = c.args.start in
-    let other = c.args.other.now in
-    let separator = c.separator_behind-separator.result.now in
-    on_ok_weaker c.put_over-2.result
-    (λ e. e ∙ ap (λ u. u ++ separator ++ other) (up_to-end text start c.args.kept c.requires.ordered c.requires.within)
-    ∙ ap (λ u. u ++ other) (append_assoc (take start text) (relative_base c) separator)
-    ∙ append_assoc (take start text) (relative_base c ++ separator) other
-    ∙ ap (λ u. take start text ++ u) (sym (relative c)))
-    c.put_over-2.ensures.ok
+returns-clause-ok c = grind (arith, on_ok_weaker, up_to-end, append_assoc, relative)
 
 pub returns-clause-succeeds : goal.returns-clause-succeeds
 returns-clause-succeeds c =

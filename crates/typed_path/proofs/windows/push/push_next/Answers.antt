@@ -1,9 +1,9 @@
 use Rattle.std.proofs.Common.{◌≡◌, ◌≤◌, ◌++◌, List, ℕ, true≢false, false, length, take, drop, slice_range, sym, ap, subst, ◌∙◌}
 use Rattle.typed_path.specs.components.{windows, parts_of, kinds}
 use Rattle.typed_path.specs.queries.{has_any_verbatim_prefix}
-use Rattle.typed_path.proofs.lemmas.conversions.Crossings.{whole_range}
 use Rattle.typed_path.proofs.lemmas.changes.WindowsPushes.{push-put_behind, fits-plain}
 use Rattle.typed_path.proofs.windows.push.push_next.Goals as goal
+use Rattle.typed_path.proofs.lemmas.lists.Lists.{whole_range}
 
 -- what is told of the end of a text that is another's
 unmarked : (old items : List ℕ) (start : ℕ) → items ≡ old → has_any_verbatim_prefix (kinds (parts_of windows (slice_range items start (length items)))) ≡ false

@@ -1,8 +1,8 @@
 use Rattle.std.proofs.Common.{◌≡◌, true≢false, length, drop, slice_range, refl, sym, ap, subst, ◌∙◌}
 use Rattle.typed_path.specs.components.{windows}
 use Rattle.typed_path.specs.changes.{FitsPush, IsKnown}
-use Rattle.typed_path.proofs.lemmas.conversions.Crossings.{whole_range}
 use Rattle.typed_path.proofs.windows.push.push_read.Goals as goal
+use Rattle.typed_path.proofs.lemmas.lists.Lists.{whole_range}
 
 pub returns-in_err-push_at-clause-succeeds : goal.returns-in_err-push_at-clause-succeeds
 returns-in_err-push_at-clause-succeeds c = λ room within known fits.

@@ -1,4 +1,4 @@
-use Rattle.std.proofs.Common.{◌≡◌, Bool, true, false, Option, Some, None, refl, sym, ap, subst, ◌∙◌, arith, not, is_some, option_map, IsTrue}
+use Rattle.std.proofs.Common.{◌≡◌, Bool, Option, None, sym, ap, subst, ◌∙◌, arith, not, is_some, option_map, IsTrue}
 use Rattle.typed_path.specs.components.{windows}
 use Rattle.typed_path.specs.changes.{push_windows, IsKnown}
 use Rattle.typed_path.specs.views.PieceViews.{found_of}
@@ -6,9 +6,7 @@ use Rattle.typed_path.proofs.lemmas.changes.MergedInPlace.{keeps-known}
 use Rattle.typed_path.proofs.windows.push.stays_known.Goals as goal
 
 none_is : {A : Type 0} (o : Option A) (b : Bool) → is_some o ≡ not b → IsTrue b → o ≡ None
-none_is None b e h = refl
-none_is (Some x) true e h = cc
-none_is (Some x) false e h = cc
+none_is o b e h = grind arith
 
 pub returns-in-Some : goal.returns-in-Some
 returns-in-Some c = λ is path size known.

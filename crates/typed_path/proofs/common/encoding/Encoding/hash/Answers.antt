@@ -1,4 +1,4 @@
-use Rattle.std.proofs.Common.{fold, sym, ap, arith, ◌∙◌, length, option_map}
+use Rattle.std.proofs.Common.{fold, ap, arith, ◌∙◌, length, option_map}
 use Rattle.typed_path.specs.views.BodyViews.{body_items}
 use Rattle.typed_path.specs.views.CursorViews.{items_left}
 use Rattle.typed_path.specs.views.PieceViews.{prefix_view, step_part}
@@ -30,6 +30,4 @@ steps-preserved g c =
     )
 
 pub returns : goal.returns
-returns g c =
-    c.write_usize.ensures
-    ∙ sym (c.steps.invariant.0 ∙ fed-end g.H.Hasher.write c.steps.len c.steps.state (body_items c.steps.body) c.in_default.ensures.taken)
+returns g c = grind (arith, fed-end)

@@ -3,9 +3,10 @@ use Rattle.typed_path.specs.components.{component}
 use Rattle.typed_path.specs.scan.{but_last, slice_after_back, body_from, is_clean, last_part, end_from}
 use Rattle.typed_path.specs.views.BodyViews.{body_items}
 use Rattle.typed_path.specs.views.PieceViews.{step_part}
-use Rattle.typed_path.proofs.lemmas.scan.Steps.{last_part-push, but_last-push, starts-body_from, slice_after_back-push, slice_range-earlier}
+use Rattle.typed_path.proofs.lemmas.scan.Steps.{last_part-push, but_last-push, starts-body_from, slice_after_back-push}
 use Rattle.typed_path.proofs.scan.cursor.Body.back.Goals as goal
 use Rattle.typed_path.proofs.scan.cursor.Body.back.Goals.{After-back_step-kept}
+use Rattle.typed_path.proofs.lemmas.lists.Lists.{slice_range-earlier}
 
 -- the slice before the step
 slice_before : (c : After-back_step-kept) → slice_range c.args.self.now.text.now c.args.self.now.from (c.args.self.now.from + c.back_step-kept.result.1)

@@ -3,9 +3,10 @@ use Rattle.typed_path.specs.declared.scan.cursor.Begin.TheVariants.{Inside}
 use Rattle.typed_path.specs.components.{later_body, component}
 use Rattle.typed_path.specs.scan.{slice_after_front, body_from}
 use Rattle.typed_path.specs.views.PieceViews.{step_part}
-use Rattle.typed_path.proofs.lemmas.components.Segments.{slice_after_front-first, slice_range-later}
+use Rattle.typed_path.proofs.lemmas.components.Segments.{slice_after_front-first}
 use Rattle.typed_path.proofs.scan.cursor.Body.front.Goals as goal
 use Rattle.typed_path.proofs.scan.cursor.Body.front.Goals.{After-front_step-taken}
+use Rattle.typed_path.proofs.lemmas.lists.Lists.{slice_range-later}
 
 -- the slice behind the step
 slice_behind : (c : After-front_step-taken) → slice_range c.args.self.now.text.now (c.args.self.now.from + c.front_step-taken.result.1) c.args.self.now.to

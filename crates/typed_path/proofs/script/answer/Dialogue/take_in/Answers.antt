@@ -1,4 +1,4 @@
-use Rattle.std.proofs.Common.{◌≡◌, arith, ℕ, List, [], ◌∷◌, ◌++◌, Bool, true, false, cond, append_assoc, sym, ap, subst, refl, ◌∙◌, Some, option_map, eqb-true}
+use Rattle.std.proofs.Common.{◌≡◌, arith, ℕ, List, [], ◌∷◌, ◌++◌, Bool, cond, append_assoc, sym, ap, subst, refl, ◌∙◌, Some, option_map, eqb-true}
 use Rattle.std.proofs.lemmas.List.{nil_from_length}
 use Rattle.typed_path.specs.script.{split_lines, reply, replies_to, complete_lines, open_line, AnswersFirst}
 use Rattle.typed_path.proofs.lemmas.script.Lines.{joined-open, complete_lines-joined, open_line-joined}
@@ -9,15 +9,12 @@ use Rattle.typed_path.proofs.script.answer.Dialogue.take_in.Goals.{then-not-is_e
 next_replies : (line rest piece behind replies whole : List ℕ) → split_lines line ≡ line ∷ [] → split_lines rest ≡ piece ∷ split_lines behind
     → replies ++ replies_to (complete_lines (line ++ rest)) ≡ whole
     → (replies ++ reply (line ++ piece)) ++ replies_to (complete_lines behind) ≡ whole
-next_replies line rest piece behind replies whole is_open cut h =
-    append_assoc replies (reply (line ++ piece)) (replies_to (complete_lines behind))
-    ∙ ap (λ ls. replies ++ replies_to ls) (sym (complete_lines-joined line is_open rest piece behind cut)) ∙ h
+next_replies line rest piece behind replies whole is_open cut h = grind (arith, append_assoc, complete_lines-joined)
 
 -- the line is open where the rest has no line feed, whether memory was found for it or not
 still_open : (line rest new : List ℕ) (found : Bool) → split_lines line ≡ line ∷ [] → split_lines rest ≡ rest ∷ [] → new ≡ cond found (line ++ rest) line
     → split_lines new ≡ new ∷ []
-still_open line rest new true is_open none e = subst (λ t. split_lines t ≡ t ∷ []) (sym e) (joined-open line is_open rest none)
-still_open line rest new false is_open none e = subst (λ t. split_lines t ≡ t ∷ []) (sym e) is_open
+still_open line rest new found is_open h e = grind (arith, joined-open)
 
 pub invariant_of-self : goal.invariant_of-self
 invariant_of-self c = record {

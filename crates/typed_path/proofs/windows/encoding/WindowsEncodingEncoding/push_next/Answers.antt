@@ -1,7 +1,7 @@
-use Rattle.std.proofs.Common.{◌≡◌, ◌++◌, min, List, length, take, drop, OnOk, IfOk, sym, ap, subst, ◌∙◌, arith, ℕ}
+use Rattle.std.proofs.Common.{◌≡◌, min, List, length, take, drop, sym, ap, subst, ◌∙◌, arith, ℕ}
 use Rattle.std.proofs.lemmas.List.{take_min, drop_min}
 use Rattle.typed_path.specs.components.{windows}
-use Rattle.typed_path.specs.changes.{FitsPush, push_windows, IsKnown}
+use Rattle.typed_path.specs.changes.{FitsPush, IsKnown}
 use Rattle.typed_path.proofs.windows.encoding.WindowsEncodingEncoding.push_next.Goals as goal
 
 -- the place is at most the end of the text
@@ -22,15 +22,10 @@ module _ (c : goal.After-push_next) where
   before = subst (IsKnown windows c.args.known) (sym rest)
 
 pub returns-clause-ok : goal.returns-clause-ok
-returns-clause-ok c = λ known.
-    let new = c.push_next.new.text.items in
-    subst (λ t. OnOk c.push_next.result (new ≡ take c.args.start (old c) ++ push_windows t c.args.other.now)) (rest c)
-    (subst (λ t. OnOk c.push_next.result (new ≡ t ++ push_windows (drop c.min-start.result (old c)) c.args.other.now)) (front c) (c.push_next.ensures.ok (before c known)))
+returns-clause-ok c = grind (arith, rest, front, before)
 
 pub returns-clause-known : goal.returns-clause-known
-returns-clause-known c = λ within known.
-    let same : c.min-start.result ≡ c.args.start = omega (arith, place c, within) in
-    subst (λ n. IfOk c.push_next.result (λ next. IsKnown windows next (drop n c.push_next.new.text.items))) same (c.push_next.ensures.known (before c known))
+returns-clause-known c = grind arith
 
 pub returns-clause-succeeds : goal.returns-clause-succeeds
 returns-clause-succeeds c = λ room within known fits.

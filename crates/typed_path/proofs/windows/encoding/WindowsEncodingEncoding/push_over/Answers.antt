@@ -1,4 +1,4 @@
-use Rattle.std.proofs.Common.{◌≡◌, ◌-◌, min, length, take, slice_range, sym, ap, subst, ◌∙◌, arith}
+use Rattle.std.proofs.Common.{◌≡◌, take, slice_range, subst, arith}
 use Rattle.std.proofs.lemmas.List.{take_min}
 use Rattle.std.specs.Vec.{vec_capacity}
 use Rattle.typed_path.specs.components.{windows}
@@ -7,9 +7,7 @@ use Rattle.typed_path.proofs.windows.encoding.WindowsEncodingEncoding.push_over.
 
 -- the bytes that are kept
 kept : (c : goal.After-push_at) → take c.args.kept c.args.path.now.items ≡ slice_range c.args.path.now.items 0 c.min-kept.result
-kept c =
-    let is : min c.args.kept (length c.args.path.now.items) ≡ c.min-kept.result - 0 = omega (arith, c.min-kept.ensures, c.len.ensures, c.args.path.now.ok) in
-    sym (take_min c.args.kept c.args.path.now.items) ∙ ap (λ n. take n c.args.path.now.items) is
+kept c = grind (arith, take_min)
 
 pub returns-clause-succeeds : goal.returns-clause-succeeds
 returns-clause-succeeds c = λ fits.
