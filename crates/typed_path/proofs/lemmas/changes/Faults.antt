@@ -191,10 +191,6 @@ IsHarmless k = (before : List Kind) → offence unix before k ≡ None
 abbrev IsHarmlessPart : Part → Type 0
 IsHarmlessPart p = IsHarmless p.kind
 
--- the name of such a piece
-harmless-name : (piece : List ℕ) → IsHarmlessPiece piece → IsHarmlessPart (name_part piece)
-harmless-name piece harmless before = ap (λ b. if not b && true then None else Some InvalidFilename) harmless.1
-
 -- the component of such a piece, by what the piece is
 module _ (piece : List ℕ) (harmless : IsHarmlessPiece piece) where
   later : (empty dotted twice : Bool) → is_dot_dot piece ≡ twice
@@ -234,14 +230,6 @@ harmless path e relative = grind (arith, common_steps, parts-body, none_refused,
 -- where a list leads
 abbrev pub place_of : List Part → List Kind
 place_of ps = with_implied_root (kinds (resolve ps))
-
--- no root is implied by a list without a prefix
-pub with_implied_root-headless : (ks : List Kind) → no_heads ks ≡ true → with_implied_root ks ≡ ks
-with_implied_root-headless ks headless = grind arith
-
--- a list begins with a root as it did before
-begins_with_root-append : (ks ls : List Kind) → no_heads ls ≡ true → begins_with_root (ks ++ ls) ≡ begins_with_root ks
-begins_with_root-append ks ls headless = grind arith
 
 -- names behind a list change no root in it
 with_implied_root-append : (ks ls : List Kind) → no_heads ls ≡ true → with_implied_root (ks ++ ls) ≡ with_implied_root ks ++ ls

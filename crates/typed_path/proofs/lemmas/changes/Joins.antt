@@ -41,10 +41,6 @@ body_parts-append s front b rest separates = filled front ∙ cut_apart
         let some = slice_split-some (is_separator s) front in
         rw (slice_split-append (is_separator s) front b rest separates, some.2) (first_parts-append s some.0 some.1 (pieces s rest))
 
--- a separator at the end of a text adds no component
-body_parts-separator : (s : Separators) (front : List ℕ) (b : ℕ) → is_separator s b ≡ true → body_parts s (front ++ b ∷ []) ≡ first_parts s (pieces s front)
-body_parts-separator s front b separates = body_parts-append s front b [] separates ∙ append-nil (first_parts s (pieces s front))
-
 -- what is put behind a text and a separator is read as later pieces
 pub body_parts-behind : (s : Separators) (b : ℕ) (base rest : List ℕ) → is_separator s b ≡ true → (length base == 0) ≡ false
     → body_parts s ((base ++ b ∷ []) ++ rest) ≡ body_parts s base ++ later_parts s (pieces s rest)
@@ -179,14 +175,6 @@ later-relative s k text later = refl
 -- a text that is not empty is read from its pieces
 body_parts-filled : (s : Separators) (text : List ℕ) → (length text == 0) ≡ false → body_parts s text ≡ first_parts s (pieces s text)
 body_parts-filled s text filled = grind arith
-
--- what is put behind a text that is not empty leaves it so
-append-filled : (front rest : List ℕ) → (length front == 0) ≡ false → (length (front ++ rest) == 0) ≡ false
-append-filled front rest filled = grind (arith, common_steps)
-
--- a component is written with some bytes
-written-filled : (s : Separators) (k : Kind) (text : List ℕ) → IsWritten s k text → (length text == 0) ≡ false
-written-filled s k text written = grind arith
 
 -- so is a list
 pub spelled-filled : (s : Separators) (p : Part) (ps : List Part) → IsWrittenPart s p → (length (spelled (p ∷ ps)) == 0) ≡ false

@@ -60,11 +60,6 @@ merged-room ps [] = omega arith
 merged-room ps (q ∷ qs) =
     omega (arith, merged-room (merge_by_kind ps q q.kind) qs, more-room ps q q.kind, sum_by-cons size q qs, sum_by-cons size q [])
 
--- a separator stands between two components at the most, and none beside a root
-joint-from_root : (k l : Kind) → begins_with_root (k ∷ []) ≡ true → joint k l ≡ []
-joint-from_root root l e = refl
-joint-from_root k l e = cc
-
 pub joint-size : (k l : Kind) → (length (joint k l) ≤ (if begins_with_root (k ∷ []) then 0 else 1)) × (length (joint k l) ≤ (if begins_with_root (l ∷ []) then 0 else 1))
 joint-size k l = grind arith
 

@@ -73,9 +73,6 @@ text-mergeable t h = subst AreMergeable (sym (parts_of-none t (no-prefix t h))) 
 abbrev size : Part → ℕ
 size p = length p.text + (if begins_with_root (p.kind ∷ []) then 0 else 1)
 
-named-size : (piece : List ℕ) → size (named_part piece) ≤ length piece + 1
-named-size piece = cond_both (is_dot_dot piece) parent_part (name_part piece) (λ p. size p ≤ length piece + 1) (λ e. omega (arith, ap length (dot_dot-is piece e))) (λ e. omega arith)
-
 module _ (s : Separators) where
   first-size : (piece : List ℕ) → size (first_part s piece) ≤ length piece + 1
   first-size piece = grind arith

@@ -53,10 +53,6 @@ takes-nothing : (d : Dialect) → Takes d [] 0
 takes-nothing unix = omega arith
 takes-nothing windows = record { fits = omega arith; again = λ m. cc; spare = λ e. cc }
 
-root-size : (d : Dialect) → length (root_of d) ≡ 1
-root-size unix = refl
-root-size windows = refl
-
 cost-one : (d : Dialect) (x : List ℕ) (n : ℕ) → Costs d x n → 1 ≤ n
 cost-one d x n h = grind arith
 

@@ -29,9 +29,6 @@ use Rattle.typed_path.proofs.lemmas.lists.Lists.{all-at}
 letter : (p : ℕ → Bool) (k b : ℕ) → (to_ascii_lowercase b == k) ≡ true → p k ≡ true → p (k - 32) ≡ true → p b ≡ true
 letter p k b e small capital = grind arith
 
-both : (p q : ℕ → Bool) (a b : ℕ) → p a ≡ true → q b ≡ true → (p a && q b) ≡ true
-both p q a b e f = ap (λ x. x && q b) e ∙ f
-
 -- the letters with which devices begin, and those that stand second, each small and as a capital
 abbrev pub first_letters : List ℕ
 first_letters = 97 ∷ 65 ∷ 99 ∷ 67 ∷ 108 ∷ 76 ∷ 110 ∷ 78 ∷ 112 ∷ 80 ∷ []
@@ -43,9 +40,6 @@ second_letters = 111 ∷ 79 ∷ 112 ∷ 80 ∷ 114 ∷ 82 ∷ 117 ∷ 85 ∷ []
 module _ (p q : ℕ → Bool) (ps : list_all p first_letters ≡ true) (qs : list_all q second_letters ≡ true) (p0 : p 0 ≡ false) (q0 : q 0 ≡ false) where
   f : (i : ℕ) → i < 10 → p (get_or first_letters i 0) ≡ true
   f = all-at p first_letters ps
-
-  g : (i : ℕ) → i < 8 → q (get_or second_letters i 0) ≡ true
-  g = all-at q second_letters qs
 
   letters_in : (k l a b : ℕ) (third : Bool) → p k ≡ true → p (k - 32) ≡ true → q l ≡ true → q (l - 32) ≡ true
       → ((to_ascii_lowercase a == k && to_ascii_lowercase b == l) && third) ≡ true → (p a && q b) ≡ true
@@ -267,14 +261,6 @@ body_plain : (text : List ℕ) → begins_with_separator text ≡ false → list
 body_plain text apart h = grind (arith, segment-byte, first_parts, first_plain)
 
 -- ---- no prefix
-
--- a `:` strays, and so no second byte is one
-no_colon : (b : ℕ) (bs : List ℕ) → list_any (is_stray Either) (b ∷ bs) ≡ false → (b == colon) ≡ false
-no_colon b bs e = grind arith
-
--- nor is the second byte of a text one
-undriven : (text : List ℕ) → list_any (is_stray Either) text ≡ false → has_second_colon text ≡ false
-undriven text allowed = grind arith
 
 -- so no prefix is read
 no_prefix : (text : List ℕ) → begins_with_separator text ≡ false → has_second_colon text ≡ false → prefix_of windows text ≡ None

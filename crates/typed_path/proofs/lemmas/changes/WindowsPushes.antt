@@ -196,9 +196,6 @@ module _ (room : ℕ) (base path : List ℕ) where
   pub fits-plain : spells_anew windows base ≡ false → FitsPush windows room base path → length (push windows base path) ≤ room
   fits-plain e = fits-by false (ap (λ b. not (is_empty path || has_prefix (kinds (parts_of windows path))) && b) e ∙ and-false (not (is_empty path || has_prefix (kinds (parts_of windows path)))))
 
-  pub fits-prefixed : has_prefix (kinds (parts_of windows path)) ≡ true → FitsPush windows room base path → length (push windows base path) ≤ room
-  fits-prefixed e = grind arith
-
   pub fits-merged : is_empty path ≡ false → has_prefix (kinds (parts_of windows path)) ≡ false → spells_anew windows base ≡ true → FitsPush windows room base path
       → (spelled (parts_of windows base) ≡ base) × (length base + length path < room)
   fits-merged e f g = fits-by true (λ i. not (e i || f i) && g i)

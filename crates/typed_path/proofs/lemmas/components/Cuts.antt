@@ -26,9 +26,6 @@ pub record TakesSegment (g : Segment) (cs : List Placed) : Type 0 where
   pub size : length part.text ≡ length g.text
   pub filled : (length g.text == 0) ≡ false
 
-filled_by : (g : Segment) (n : ℕ) → length g.text ≡ n → 0 < n → (length g.text == 0) ≡ false
-filled_by g n e some = ne_eqb (length g.text) 0 (λ h. omega arith)
-
 -- a later segment is no component, or one that takes the whole segment
 later_takes : (s : Separators) (g : Segment) → (later s g ≡ []) ⊎ TakesSegment g (later s g)
 later_takes s g = grind arith

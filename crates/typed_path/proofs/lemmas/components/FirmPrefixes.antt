@@ -98,14 +98,6 @@ apart-either s x (parted b bs h) = parted b bs (separates-either s b h)
 pub separator-fails : (test : ℕ → Bool) (s : Separators) (b : ℕ) → test slash ≡ false → test backslash ≡ false → is_separator s b ≡ true → test b ≡ false
 separator-fails test s b first second h = grind arith
 
--- a value where a test holds, with more behind it
-test-append : (b : Bool) (text rest x : List ℕ) → (if b then Some text else None) ≡ Some rest → (if b then Some (text ++ x) else None) ≡ Some (rest ++ x)
-test-append b text rest x e = grind arith
-
--- no value is no value with more behind it
-test-none : (b : Bool) (text now : List ℕ) → (if b then Some text else None) ≡ None → (if b then Some now else None) ≡ None
-test-none b text now e = grind arith
-
 -- what is read at the front of a text is read too where more stands behind it
 abbrev pub Extends : (List ℕ → Option (List ℕ)) → Type 0
 Extends read = (text rest x : List ℕ) → read text ≡ Some rest → read (text ++ x) ≡ Some (rest ++ x)
@@ -336,10 +328,6 @@ firm-stays text x f is firm other apart long =
     ap (λ b. prefix_by (if b then Backslash else Either) (take f.length text ++ x)) same ∙ firm-again (separators windows text) text x f read firm other apart long
 
 -- Windows texts that begin with a drive, with no two separators, or with three.
-
--- a text that does not begin with two separators has no mark
-no_mark : (sign a b : ℕ) (text : List ℕ) → (is_separator Either a && is_separator Either b) ≡ false → after_mark sign (a ∷ b ∷ text) ≡ None
-no_mark sign a b text apart = grind arith
 
 -- its prefix can only be a drive
 pub prefix-apart : (a b : ℕ) (text : List ℕ) → (is_separator Either a && is_separator Either b) ≡ false → prefix_of windows (a ∷ b ∷ text) ≡ disk_case (a ∷ b ∷ text)

@@ -89,10 +89,6 @@ drive-plain t letter is = grind arith
 pub drive-either : (t : List ℕ) (letter : ℕ) → drive t ≡ Some letter → separators windows t ≡ Either
 drive-either t letter is = ap (λ v. if v then Backslash else Either) (drive-plain t letter is)
 
--- a text with a prefix that is not verbatim is not read verbatim
-on-drive : (text : List ℕ) (f : Found) → Read (separators windows text) text f → is_disk f.prefix ≡ true → separators windows text ≡ Either
-on-drive text f h kind = grind arith
-
 pub either : (text : List ℕ) (f : Found) → prefix_of windows text ≡ Some f → is_verbatim_prefix f.prefix ≡ false → (is_disk f.prefix ≡ false → 4 < length text) → separators windows text ≡ Either
 either text f is plain long = grind (arith, common_steps, prefix-read, plain-kind)
 

@@ -226,10 +226,6 @@ plain-take text e plain = elim (cases_lt e 4) [
   | inr long ↦ verbatim-take text e long ∙ plain
 ]
 
--- the first of two cases that holds is long where both are
-or-long : (o p : Option Found) (f : Found) → ((g : Found) → o ≡ Some g → 4 ≤ g.length) → ((g : Found) → p ≡ Some g → 4 ≤ g.length) → option_or o p ≡ Some f → 4 ≤ f.length
-or-long o p f first rest e = grind arith
-
 -- a text that is read verbatim with more behind its mark has a verbatim name
 verbatim_case-some : (b : ℕ) (bs : List ℕ) → verbatim_case Backslash (backslash ∷ backslash ∷ question ∷ backslash ∷ b ∷ bs) ≡ Some (found (verbatim (name Backslash (b ∷ bs))) (4 + length (name Backslash (b ∷ bs))))
 verbatim_case-some b bs = cond-false (is_empty (b ∷ bs)) None (Some (found (verbatim (name Backslash (b ∷ bs))) (4 + length (name Backslash (b ∷ bs))))) (ne_eqb _ 0 (λ none. omega arith))
@@ -345,11 +341,6 @@ pub record IsGrown (p : Prefix) (t : List ℕ) (a b : ℕ) : Type 0 where
   pub more : b ≡ suc a
   pub no_drive : is_disk p ≡ false
   pub unended : IsUnended t
-
--- two sizes of one server and share
-shared-sizes : (k : ℕ) (server share t u : List ℕ) (a b : ℕ) → IsShared k server share t a ⊎ IsAlone k server share t a → IsShared k server share u b ⊎ IsAlone k server share u b → a ≤ length u
-    → (b ≡ a) ⊎ ((a ≡ length t) × (b ≡ suc a) × IsUnended t)
-shared-sizes k server share t u a b h h1 within = grind arith
 
 -- a prefix of one kind takes as much of one text as of another that is not shorter than it, or one separator more
 pub same-sizes : (p : Prefix) (t u : List ℕ) (a b : ℕ) → IsSize p t a → IsSize p u b → a ≤ length u → (b ≡ a) ⊎ IsGrown p t a b

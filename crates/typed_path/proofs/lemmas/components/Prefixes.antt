@@ -35,10 +35,6 @@ root_text-windows s w = grind arith
 pub dot-unseparated : (s : Separators) → is_separator s dot ≡ false
 dot-unseparated s = grind arith
 
--- what separates nothing in one text separates nothing in the other
-pub unseparated-either : (s : Separators) (b : ℕ) → is_separator Either b ≡ false → is_separator s b ≡ false
-unseparated-either s b h = grind arith
-
 -- How many bytes a prefix takes: more than none, and no more than the text has.
 
 -- a mark is four bytes

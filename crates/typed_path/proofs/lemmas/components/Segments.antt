@@ -321,10 +321,6 @@ abbrev pub AreRead : Separators → List Part → Type 0
 AreRead s [] = ⊤
 AreRead s (p ∷ ps) = IsWrittenPart s p × AllByRecursion (IsLaterPart s) ps
 
--- a piece that is neither empty nor `.` gives a parent or a name
-named_part-later : (s : Separators) (piece : List ℕ) → IsUnseparated (is_separator s) piece → (length piece == 0) ≡ false → is_dot piece ≡ false → IsLaterPart s (named_part piece)
-named_part-later s piece unseparated filled no_dot = grind arith
-
 -- a later piece gives later components
 later_part-later : (s : Separators) (piece : List ℕ) → IsUnseparated (is_separator s) piece → AllByRecursion (IsLaterPart s) (later_part s piece)
 later_part-later s piece unseparated = grind arith

@@ -36,10 +36,6 @@ clean-either s name clean = grind arith
 pub plain-clean : (s : Separators) (name : List ℕ) → IsPlain name → IsCleanName s name
 plain-clean s name plain = clean-either s name plain.clean
 
--- a byte that a name may have is another than each one that no name may have
-other-byte : (b c : ℕ) → is_disallowed windows c ≡ true → is_disallowed windows b ≡ false → (b == c) ≡ false
-other-byte b c never h = false_from_ne_true _ (λ e. both_ways (is_disallowed windows b) h (ap (is_disallowed windows) (eqb-true b c e) ∙ never))
-
 -- such bytes separate nothing
 pub allowed-unseparated : (bytes : List ℕ) → list_any (is_disallowed windows) bytes ≡ false → IsUnseparated (is_separator Either) bytes
 allowed-unseparated bytes h = grind (arith, common_steps)

@@ -86,10 +86,6 @@ cut-behind text new base read start kept same is e = ap (take kept) (sym is ∙ 
 pub put-whole : (start : ℕ) (old new path : List ℕ) → start ≤ length old → new ≡ take start old ++ path → (drop start new ≡ path) × (take start new ≡ take start old) × (start ≤ length new)
 put-whole start old new path within e = grind (arith, common_steps)
 
--- and one that is put behind all of it
-pub put-behind : (start : ℕ) (old new path : List ℕ) → length old ≡ start → new ≡ old ++ path → (drop start new ≡ path) × (take start new ≡ take start old) × (start ≤ length new)
-put-behind start old new path size e = put-whole start old new path (omega (arith, size)) (e ∙ ap (λ t. t ++ path) (sym (take_all start old (omega (arith, size)))))
-
 -- what is put behind a text is put behind the end of it
 pub put-ended : (start len : ℕ) (text separator other : List ℕ) → len ≡ length text → take len text ++ separator ++ other ≡ take start text ++ ((drop start text ++ separator) ++ other)
 put-ended start len text separator other size =

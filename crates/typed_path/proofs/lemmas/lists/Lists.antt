@@ -343,10 +343,6 @@ flat_map-flat f g (x ∷ xs) = flat_map-append f (g x) (flat_map g xs) ∙ ap (�
 pub before_first-cons : (p : ℕ → Bool) (b : ℕ) (bs : List ℕ) → p b ≡ false → before_first p (b ∷ bs) ≡ b ∷ before_first p bs
 before_first-cons p b bs h = before_first-byte p b bs ∙ ap (λ c. cond c [] (b ∷ before_first p bs)) h
 
--- what stands before the first match is nothing where the first element is one
-pub before_first-here : (p : ℕ → Bool) (b : ℕ) (bs : List ℕ) → p b ≡ true → before_first p (b ∷ bs) ≡ []
-before_first-here p b bs h = ap (λ c. take (cond (not c) (1 + position_or_len p bs) 0) (b ∷ bs)) h
-
 pub pieces-first : (p : ℕ → Bool) (xs : List ℕ) → (more : List (List ℕ)) × (slice_split p xs ≡ before_first p xs ∷ more)
 pieces-first p xs = elim (cases_lt (position_or_len p xs) (length xs)) [
   | inl h ↦ (_, slice_split_first p xs 0 h)

@@ -22,10 +22,6 @@ some_is e = cc
 pub unless-none : {A : Type 0} (b : Bool) (x : A) → (if b then None else Some x) ≡ None → b ≡ true
 unless-none b x e = grind arith
 
--- a value is not none
-pub not_none : {A : Type 0} (x : A) → Some x ≡ None → ⊥
-not_none x e = cc
-
 -- where neither of two cases holds the second does not
 pub or-none : {A : Type 0} (o p : Option A) → option_or o p ≡ None → p ≡ None
 or-none o p e = grind arith

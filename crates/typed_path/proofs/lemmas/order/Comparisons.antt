@@ -79,21 +79,6 @@ cmp-none rest wanted h empty = grind arith
 pub cmp-more : (rest wanted : List Placed) (p : Part) → None ≡ first_part wanted → Some p ≡ first_part rest → left_cmp rest wanted ≡ Greater
 cmp-more rest wanted p h h1 = grind arith
 
-pub cmp-fewer : (rest wanted : List Placed) (p : Part) → Some p ≡ first_part wanted → None ≡ first_part rest → left_cmp rest wanted ≡ Less
-cmp-fewer rest wanted p h h1 = grind arith
-
--- both have a first component
-cmp-step : (rest wanted : List Placed) (p q : Part) → Some p ≡ first_part wanted → Some q ≡ first_part rest
-    → left_cmp rest wanted ≡ ordering_then (kind_cmp q.kind p.kind) (left_cmp (drop 1 rest) (drop 1 wanted))
-cmp-step rest wanted p q h own = grind arith
-
--- one answer and then another are the first where that is not `Equal`, and else the second
-pub then-decided : (a b : Ordering) → is_ne a ≡ true → ordering_then a b ≡ a
-then-decided a b differ = grind arith
-
-pub then-tied : (a b : Ordering) → is_ne a ≡ false → ordering_then a b ≡ b
-then-tied a b alike = grind arith
-
 -- these differ
 pub cmp-differ : (rest wanted : List Placed) (p q : Part) (r : Ordering) → Some p ≡ first_part wanted → Some q ≡ first_part rest → r ≡ kind_cmp q.kind p.kind → is_ne r ≡ true → left_cmp rest wanted ≡ r
 cmp-differ rest wanted p q r h own is differ = grind arith
@@ -204,10 +189,6 @@ hash_alike d t u same = fed-path d t ∙ ap kinds_fed same ∙ sym (fed-path d u
 
 -- Two paths compared, and one fed to a hasher, with their prefixes first.
 
--- a list that begins with a prefix is that prefix and what stands behind it
-pub kinds-prefixed : (cs : List Placed) (p : Prefix) → Some p ≡ first_prefix (kinds (parts cs)) → kinds (parts cs) ≡ prefix p ∷ kinds (parts (behind_prefix cs))
-kinds-prefixed cs p e = grind arith
-
 -- nothing stands before any other list
 pub bare : (cs : List Placed) → None ≡ first_prefix (kinds (parts cs)) → behind_prefix cs ≡ cs
 bare cs e = grind arith
@@ -234,10 +215,6 @@ module _ (cs ds bs : List Placed) (p : Prefix) (r : Ordering) (first : Some p �
 
   pub bare-prefixed : ordering_reverse r ≡ left_cmp ds cs
   bare-prefixed = ap ordering_reverse prefixed-bare ∙ sym (kinds_cmp_total.antisymm (kinds (parts ds)) (kinds (parts cs)))
-
--- lists of which one alone begins with a prefix are not the same
-unlike : (cs ds : List Placed) → first_prefix (kinds (parts cs)) ≢ first_prefix (kinds (parts ds)) → left_same cs ds ≡ false
-unlike cs ds differ = grind (arith, kinds_cmp-is_eq)
 
 -- lists are the same where their prefixes are, and what stands behind these
 pub same-prefixes : (cs ds : List Placed) (o r : Option Prefix) → o ≡ first_prefix (kinds (parts cs)) → r ≡ first_prefix (kinds (parts ds))

@@ -61,10 +61,6 @@ begins s b bs e =
       front = name_in_front p;
     }
 
--- the order of two fronts
-fronts-greater : (a b : ℕ) (k l : Kind) (ks ls : List Kind) → b ≡ dot → nat_cmp a b ≡ Greater → IsFront a k → IsFront b l → kinds_cmp (k ∷ ks) (l ∷ ls) ≡ Greater
-fronts-greater a b k l ks ls dotted greater h other = grind arith
-
 -- the order of two texts by what is read of them
 read : (s : Separators) (t u : List ℕ) (ks ls : List Kind) → kinds (body_parts s t) ≡ ks → kinds (body_parts s u) ≡ ls → left_cmp (body s 0 t) (body s 0 u) ≡ kinds_cmp ks ls
 read s t u ks ls e f = grind (arith, parts-body)

@@ -291,10 +291,6 @@ tells-parted s t u k parting before b is tells =
 pub alike-before : (t u : List ℕ) (k n : ℕ) → PartAt t u k → n ≤ k → take n t ≡ take n u
 alike-before t u k n place low = alike-front n t u (omega (arith, place.high)) (omega (arith, place.high)) (λ i l. same-byte (get_or t i 0) (get_or u i 0) (place.before i (omega arith) (omega arith)))
 
--- behind such a place they differ first at the same byte
-pub parted-behind : (t u : List ℕ) (k n : ℕ) → PartAt t u k → n ≤ k → PartAt (drop n t) (drop n u) (k - n)
-parted-behind t u k n place low = grind (arith, length-drop, get_or-drop)
-
 -- the same as a slice takes what stands there
 pub parted-rest : (t u : List ℕ) (k n : ℕ) → PartAt t u k → n ≤ k → PartAt (take (length t - n) (drop n t)) (take (length u - n) (drop n u)) (k - n)
 parted-rest t u k n place low = grind (arith, common_steps)

@@ -103,10 +103,6 @@ module _ (s : Separators) (text : List ℕ) (rooted : Bool) (told : rooted ≡ b
   abbrev bare_text : List ℕ
   bare_text = behind_head (row_end s) [] rooted false (kept_segments (false || rooted) (kinds (parts (body s 0 text))))
 
-  -- a root and what is behind it
-  pub rooted-text : rooted ≡ true → bare_text ≡ cleaned (dialect_of s) (parts (body s 0 text))
-  rooted-text e = grind arith
-
   -- no root
   pub loose-text : rooted ≡ false → unheaded (dialect_of s) bare_text ≡ cleaned (dialect_of s) (parts (body s 0 text))
   loose-text e = grind arith

@@ -115,12 +115,6 @@ unmet-parents (suc n) = ap suc (unmet-parents n)
 pub none-names : (cs : List Placed) (n : ℕ) → None ≡ last_part cs → names_under n cs ≡ []
 none-names cs n none = rw (empty-last cs none) (names-parents n)
 
-none-behind : (cs ds : List Placed) → None ≡ last_part cs → ds ≡ but_last cs → ds ≡ []
-none-behind cs ds none left = left ∙ ap but_last (empty-last cs none)
-
-pub none-unmet : (cs ds : List Placed) (n : ℕ) → None ≡ last_part cs → ds ≡ but_last cs → unmet_under n ds ≡ unmet_under n cs
-none-unmet cs ds n none left = ap (unmet_under n) (none-behind cs ds none left ∙ sym (empty-last cs none))
-
 -- behind which no parents stand
 pub names-alone : (cs : List Placed) → names_under 0 cs ≡ kept_names (kinds (parts cs))
 names-alone cs = ap kept_names (append-nil (kinds (parts cs)))

@@ -39,18 +39,8 @@ not-standing ks ls e = ap (λ b. (same_heads ks ls && nat_le (rising ls) (rising
 pub names-down : (ks ls : List Kind) (m downs : ℕ) → m ≡ met_count ks ls → downs ≡ length (kept_names ks) - m → drop (length (kept_names ks) - downs) (kept_names ks) ≡ names_down ks ls
 names-down ks ls m downs is e = grind (arith, met-fits)
 
-pub reached-text : (d : Dialect) (ks ls : List Kind) (ups downs : ℕ) (text : List ℕ) → AreSteps ks ls ups downs → text ≡ steps_text d ups (drop (length (kept_names ks) - downs) (kept_names ks)) → Some text ≡ relative_by d ks ls
-reached-text d ks ls ups downs text steps is = grind arith
-
-pub unreached-text : (d : Dialect) (ks ls : List Kind) → is_reached ks ls ≡ false → None ≡ relative_by d ks ls
-unreached-text d ks ls e = ap (λ b. if b then Some (steps_text d (steps_up ks ls) (names_down ks ls)) else None) (sym e)
-
 pub reached-all : (ks ls : List Kind) → same_heads ks ls ≡ true → rising ls ≤ rising ks → can_stand (names_down ks ls) ≡ true → is_reached ks ls ≡ true
 reached-all ks ls heads rises stands = grind (arith, common_steps)
-
--- steps lead to a text
-pub steps-some : (d : Dialect) (ks ls : List Kind) (ups downs : ℕ) → AreSteps ks ls ups downs → relative_by d ks ls ≡ None → ⊥
-steps-some d ks ls ups downs steps h = grind arith
 
 -- names that are met, told by numbers and names that are those of two lists
 pub met-told : (ks ls : List Kind) (own other : ℕ) (xs ys : List (List ℕ)) → own ≡ rising ks → other ≡ rising ls → xs ≡ kept_names ks → ys ≡ kept_names ls
@@ -78,9 +68,6 @@ kept-size s (normal name ∷ ks) = grind (arith, row-size, kept-size s ks)
 names_size-append : (ps qs : List Part) → names_size (kinds (ps ++ qs)) ≡ names_size (kinds ps) + names_size (kinds qs)
 names_size-append [] qs = omega arith
 names_size-append (p ∷ ps) qs = omega (arith, names_size-append ps qs)
-
-size-named : (piece : List ℕ) → name_size (named_part piece).kind ≤ length piece + 1
-size-named piece = cond_both (is_dot_dot piece) parent_part (name_part piece) (λ p. name_size p.kind ≤ length piece + 1) (λ e. omega arith) (λ e. omega arith)
 
 size-later : (s : Separators) (piece : List ℕ) → names_size (kinds (later_part s piece)) ≤ length piece + 1
 size-later s piece = grind arith

@@ -70,10 +70,6 @@ module _ (all : ℕ) (xs ys xs' ys' : List (List ℕ)) (n known : ℕ) (a b : Li
   pub tells-other : bytes_eq a b ≡ false → Tells all xs' ys' (n - 1) (n - 1)
   tells-other alike = grind (arith, size, other, step)
 
--- nothing is left
-pub tells-end : (all : ℕ) (xs ys : List (List ℕ)) (n known : ℕ) → Tells all xs ys n known → ys ≡ [] → all ≡ known
-tells-end all xs ys n known h h1 = grind (arith, size, shared_count-fits)
-
 -- of two lists, the deeper one cut to the length of the other
 pub tells-start : (xs ys left others : List (List ℕ)) (names base_names n deeper base_deeper : ℕ) → length xs ≡ names → length ys ≡ base_names → deeper ≡ names - base_names → base_deeper ≡ base_names - names → n ≡ names - deeper
     → left ≡ take (length xs - deeper) xs → others ≡ take (length ys - base_deeper) ys → Tells (shared_count xs ys) left others n n

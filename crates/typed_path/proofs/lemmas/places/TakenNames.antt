@@ -98,10 +98,6 @@ module _ (s : Separators) where
       let e = ap (λ ns. length (rows_of s ns)) (drop-drop ((length whole - (n + 1)) - (length whole - count)) (length whole - count) whole ∙ ap (λ m. drop m whole) more ∙ is) in
       omega (arith, h, e, row-size name (drop (length whole - n) whole))
 
--- one parent more in front of parents
-pub dots-more : (s : Separators) (n : ℕ) (rest : List ℕ) → (dot ∷ dot ∷ row_end s ∷ []) ++ (rows_of s (dots n) ++ rest) ≡ rows_of s (dots (n + 1)) ++ rest
-dots-more s n rest = rw (add-one n) refl
-
 -- Rows without their last separator are the steps as they are written.
 
 -- the last byte is taken off, where there is one

@@ -115,20 +115,10 @@ push_all-rows front name (next ∷ names) clean each =
 abbrev IsHead : List ℕ → Type 0
 IsHead head = (head ≡ []) ⊎ (head ≡ slash ∷ [])
 
--- a head ends as it is
-ended_with-head : (head : List ℕ) → IsHead head → ended_with slash head ≡ head
-ended_with-head head h = grind arith
-
 -- the rows of a text without their last separator are its names pushed one by one
 pub pushed-rows : (head name : List ℕ) (names : List (List ℕ)) → IsHead head → IsCleanName Slash name → AllByRecursion (IsCleanName Slash) names
     → push_all unix head (name ∷ names) ++ slash ∷ [] ≡ head ++ rows (name ∷ names)
 pushed-rows head name names is clean each = grind (arith, push_all-rows, append_assoc)
-
-all-but_last : {X : Type 0} (P : X → Type 0) (xs : List X) → AllByRecursion P xs → AllByRecursion P (take (length xs - 1) xs)
-all-but_last {X} P xs each = by xs (ended xs) each
-  where
-    by : (ys : List X) → Ended ys → AllByRecursion P ys → AllByRecursion P (take (length ys - 1) ys)
-    by ys h1 h = grind (arith, take-ended, all-front)
 
 -- what holds of names, and of a segment that is one, holds once it is settled
 module _ (P : List ℕ → Type 0) where

@@ -35,16 +35,9 @@ heads-alike ks ls e =
     let both = and_parts (are_same_prefixes (first_prefix ks) (first_prefix ls)) _ e in
     ap₂ headed (same-prefix (first_prefix ks) (first_prefix ls) both.0) (same-test (is_anchored ks) (is_anchored ls) both.1)
 
--- a head tells the prefix and the root
-first-headed : (o : Option Prefix) (a : Bool) → first_prefix (headed o a) ≡ o
-first-headed o a = grind arith
-
 abbrev rooted_in : List Kind → Bool
 rooted_in (prefix p ∷ ks) = begins_with_root ks
 rooted_in ks = begins_with_root ks
-
-rooted-headed : (o : Option Prefix) (a : Bool) → rooted_in (headed o a) ≡ a
-rooted-headed o a = grind arith
 
 pub same_heads-all : (ks ls : List Kind) → first_prefix ks ≡ first_prefix ls → is_anchored ks ≡ is_anchored ls → same_heads ks ls ≡ true
 same_heads-all ks ls prefixes anchored = grind (arith, prefixes-same, test-same)
@@ -162,10 +155,6 @@ module _ (d : Dialect) (path base : List ℕ) where
             reads = subst (λ t. ReadsPlain d t false (steps_up ks ls) (names_down ks ls)) is (reads-plain d (steps_up ks ls) (names_down ks ls) (clean-down d path _ stands) false (λ f. cc));
           }
       by false reached e = cc
-
--- a list that is not anchored, as it is read behind no prefix, begins with no root
-free-unrooted : (ks : List Kind) → is_anchored ks ≡ false → begins_with_root ks ≡ false
-free-unrooted ks e = grind arith
 
 pub stays_relative : (d : Dialect) (path base r : List ℕ) → relative_text d path base ≡ Some r → IsRelative d r
 stays_relative d path base r e = grind (arith, read-relative, parts-plain)

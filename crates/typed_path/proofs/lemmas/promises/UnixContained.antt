@@ -138,10 +138,6 @@ pub push_unix-behind : (base path : List ℕ) → (length base == 0) ≡ false �
     → body_parts Slash (push_unix base path) ≡ body_parts Slash base ++ later_parts Slash (pieces Slash path)
 push_unix-behind base path filled relative = grind (arith, append-nil, body_parts, later_parts, pieces, slice_split-cons_yes, body_parts-ended)
 
--- read as later pieces, a relative text that is not read verbatim loses a current directory at its beginning
-later_parts-relative : (s : Separators) (some : List (List ℕ)) → is_verbatim s ≡ false → begins_with_root (kinds (first_parts s some)) ≡ false → later_parts s some ≡ without_leading_current (first_parts s some)
-later_parts-relative s some plain relative = grind arith
-
 -- an empty text is read as no pieces, both at the beginning and later
 pub body_parts-later : (s : Separators) (path : List ℕ) → is_verbatim s ≡ false → begins_with_root (kinds (body_parts s path)) ≡ false → later_parts s (pieces s path) ≡ without_leading_current (body_parts s path)
 body_parts-later s path plain relative = grind arith

@@ -79,9 +79,6 @@ fresh xs ys = letters (suc (first_length xs + first_length ys))
 fresh-first : (xs ys rest : List (List ℕ)) → xs ≡ fresh xs ys ∷ rest → ⊥
 fresh-first xs ys rest e = grind (arith, length-replicate)
 
-fresh-second : (xs ys rest : List (List ℕ)) → ys ≡ fresh xs ys ∷ rest → ⊥
-fresh-second xs ys rest e = grind (arith, length-replicate)
-
 -- A directory of one name, many times.
 
 module _ (x : List ℕ) (clean : IsCleanName Slash x) where

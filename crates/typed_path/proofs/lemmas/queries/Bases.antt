@@ -43,9 +43,6 @@ left-fronts d t k within = grind (arith, fronts-replicate, backs-replicate, step
 abbrev pub begins : List Placed → List Placed → Bool
 begins rest wanted = starts_with bytes_eq (texts (parts rest)) (texts (parts wanted))
 
-begins-short : (rest wanted : List Placed) (p : Part) → Some p ≡ first_part wanted → None ≡ first_part rest → begins rest wanted ≡ false
-begins-short rest wanted p h h1 = grind arith
-
 begins-step : (rest wanted : List Placed) (p q : Part) → Some p ≡ first_part wanted → Some q ≡ first_part rest → begins rest wanted ≡ (bytes_eq p.text q.text && begins (drop 1 rest) (drop 1 wanted))
 begins-step rest wanted p q h own = grind arith
 
@@ -123,10 +120,6 @@ module _ {X : Type 0} (eq : X → X → Bool) where
   -- the end of a list
   pub ends_with-push : (xs ns : List X) (x n : X) → ends_with eq (xs ++ x ∷ []) (ns ++ n ∷ []) ≡ (ends_with eq xs ns && eq n x)
   ends_with-push xs ns x n = grind (arith, length-append, pointwise, drop-append-le, pointwise-push)
-
-  -- every list ends with the empty one
-  pub ends_with-nothing : (xs : List X) → ends_with eq xs [] ≡ true
-  ends_with-nothing xs = ap (pointwise eq []) (drop_all (length xs - 0) xs (omega arith))
 
 texts-push : (cs : List Placed) (c : Placed) → texts (parts (cs ++ c ∷ [])) ≡ texts (parts cs) ++ c.part.text ∷ []
 texts-push cs c = ap texts (map-append (λ x. x.part) cs (c ∷ [])) ∙ map-append (λ x. x.text) (parts cs) (c.part ∷ [])

@@ -33,10 +33,6 @@ record IsWrittenFrom (a : ℕ) (cs : List Placed) : Type 0 where
   text : head.part.text ≡ byte ∷ bytes
   like : mark byte ≡ mark a
 
--- a first segment is written from its first byte on
-segment-written : (s : Separators) (a at : ℕ) (bs : List ℕ) (cs : List Placed) → IsWrittenFrom a (first s (record { text = a ∷ bs; start = at }) ++ cs)
-segment-written s a at bs cs = grind arith
-
 -- the components of what stands behind a prefix are
 module _ (s : Separators) (rooted : root_text s ≡ backslash ∷ []) (either : (b : ℕ) → is_separator s b ≡ true → is_separator Either b ≡ true) where
   body-written : (a at : ℕ) (bs : List ℕ) → IsWrittenFrom a (body s at (a ∷ bs))

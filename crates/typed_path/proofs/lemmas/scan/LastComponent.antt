@@ -193,23 +193,6 @@ is_clean-kept begin s text start place clean = elim (cases_lt 0 start) [
     empty_is_clean : (b : Begin) → is_clean b s [] ≡ true
     empty_is_clean b = grind arith
 
--- a segment gives a component of its width
-component-width : (s : Separators) (at : ℕ) (segment : List ℕ) → (p : Part) × (first s (record { text = segment; start = at }) ≡ component p at) × (length p.text ≡ width segment)
-component-width s at [] = (root_part (root_text s), refl, root_text-length s)
-component-width s at (a ∷ []) = by_test (a == dot)
-  where
-    by_test : (dotted : Bool) → (p : Part) × (cond dotted (component current_part at) (component (name_part (a ∷ [])) at) ≡ component p at) × (length p.text ≡ 1)
-    by_test true = (current_part, refl, refl)
-    by_test false = (name_part (a ∷ []), refl, refl)
-component-width s at (a ∷ b ∷ []) = by_test (a == dot && b == dot)
-  where
-    by_test : (twice : Bool) → (p : Part) × (cond twice (component parent_part at) (component (name_part (a ∷ b ∷ [])) at) ≡ component p at) × (length p.text ≡ 2)
-    by_test true = (parent_part, refl, refl)
-    by_test false = (name_part (a ∷ b ∷ []), refl, refl)
-component-width s at (a ∷ b ∷ c ∷ ds) =
-    let name = a ∷ b ∷ c ∷ ds in
-    (name_part name, ap (λ empty. cond empty (component (root_part (root_text s)) at) (component (name_part name) at)) (ne_eqb (length name) 0 (λ e. omega arith)), refl)
-
 -- the components end where the text does
 end_from-segment : {begin : Begin} {s : Separators} {at : ℕ} {text kept segment : List ℕ} → IsLast begin s at text kept segment → end_from at (body_from begin s at text) ≡ at + length text
 end_from-segment {begin} {s} {at} {text} {kept} {segment} h = grind (arith, common_steps)

@@ -161,10 +161,6 @@ both-none q n to front back room near first last none =
     let whole : to - n + n ≡ to = omega (arith, room) in
     subst (HoldsNowhere q 0) whole (block-passed q (to - n) n back last (0 + n) (omega (arith, near)) (block-passed q 0 n front first 0 (omega arith) (λ k low high. absurd (omega (arith, high))) (eqb-true front 0 each.0)) (eqb-true back 0 each.1))
 
--- what is told of n places from the first on, and of the last n, is told of all
-pub both-tell : (q : ℕ → Bool) (n last : ℕ) (front back : Bool) → last ≤ n → TellsWhether q 0 (0 + n) front → TellsWhether q last (last + n) back → TellsWhether q 0 (last + n) (front || back)
-both-tell q n last front back short h told = grind arith
-
 -- ---- one of a pair, and a test that agrees with it
 module _ (pair : ℕ × ℕ) (p : ℕ → Bool) (same : (b : ℕ) → p b ≡ is_one_of pair b) (text : List ℕ) where
   -- the first place within a range
@@ -195,10 +191,6 @@ module _ (pair : ℕ × ℕ) (p : ℕ → Bool) (same : (b : ℕ) → p b ≡ is
 pub any-nowhere : (p : ℕ → Bool) (text : List ℕ) → HoldsNowhere (λ k. p (slice_index text k)) 0 (length text) → list_any p text ≡ false
 any-nowhere p [] none = refl
 any-nowhere p (x ∷ xs) none = ap (λ b. b || list_any p xs) (none 0 (omega arith) (omega arith)) ∙ any-nowhere p xs (λ k low high. none (suc k) (omega arith) (omega arith))
-
--- one that holds at a place holds of a byte
-pub any-somewhere : (p : ℕ → Bool) (text : List ℕ) (from to : ℕ) → to ≤ length text → HoldsSomewhere (λ k. p (slice_index text k)) from to → list_any p text ≡ true
-any-somewhere p text from to within some = list_any_at p text some.0 0 (omega (arith, within, some.2)) some.3
 
 -- the place of the first tells whether there is one
 pub first-tells : (holds : ℕ → Bool) (from to place : ℕ) → IsFirstPlace holds from to place → TellsWhether holds from to (nat_lt place to)

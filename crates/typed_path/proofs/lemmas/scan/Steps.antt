@@ -168,9 +168,6 @@ module _ (text : List ℕ) (from to len : ℕ) (pending : len ≤ from) (ordered
   pub prefix-text : take len whole ≡ slice_range text (from - len) from
   prefix-text = take-take len (to - (from - len)) (drop (from - len) text) (omega arith) ∙ ap (λ n. take n (drop (from - len) text)) (omega arith)
 
-  pub prefix-length : length (take len whole) ≡ len
-  prefix-length = length-take-le len whole (omega (arith, whole-length))
-
   -- once the prefix is taken the body is left
   pub prefix_taken : (begin : Begin) (s : Separators) (p : Part) → is_clean begin s (slice_range text from to) ≡ true
       → slice_range text from to ≡ slice_after_front (component p (from - len) ++ body_from begin s from (slice_range text from to)) whole

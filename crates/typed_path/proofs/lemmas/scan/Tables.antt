@@ -65,9 +65,6 @@ looked-up table xs js twice fits e =
 abbrev pub holds : List ℕ → ℕ → Bool
 holds table b = eqb (get_or table (b % 16) 0) b
 
-same-under : (b : ℕ) → b < 256 → (holds FORBIDDEN b || holds ALSO_FORBIDDEN b) ≡ is_forbidden b
-same-under b low = grind (arith, common_steps)
-
 -- two tables hold them
 pub forbidden-held : (b : ℕ) → (holds FORBIDDEN b || holds ALSO_FORBIDDEN b) ≡ is_forbidden b
 forbidden-held b = grind (arith, common_steps)

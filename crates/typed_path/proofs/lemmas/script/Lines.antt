@@ -165,10 +165,6 @@ no_command line lacks = by (fields_of line) refl
         neither _ _ _ _ bad_line (first_is_other line (codes "convert") f d (b ∷ p ∷ []) (lacks Convert) e) (first_is_other line (codes "convert_checked") f d (b ∷ p ∷ []) (lacks ConvertChecked) e)))
     by (f ∷ d ∷ b ∷ p ∷ q ∷ fields) e = refl
 
--- a test that fails on both names of dialects names none
-no_dialect : (first second : Bool) → first ≡ false → second ≡ false → cond first (Some unix) (cond second (Some windows) None) ≡ None
-no_dialect first second e f = cc
-
 -- a command on a dialect is none that names no dialect
 names_a_dialect : (c : Command) → bytes_eq (command_name c) (codes "derive") ≡ false
 names_a_dialect c = grind arith

@@ -2,8 +2,5 @@ use Rattle.std.proofs.Common.{◌≡◌, ◌&&◌, Bool, false, arith}
 use Rattle.typed_path.proofs.scan.names.first_no_name_by_one.Goals as goal
 use Rattle.typed_path.proofs.scan.names.first_no_name_by_one.Goals.{then-is_one_of, else-is_one_of}
 
-neither : (x y : Bool) → x ≡ false → x && y ≡ false
-neither x y e = grind arith
-
 pub loop-at-preserved : goal.loop-at-preserved
 loop-at-preserved c = grind arith
