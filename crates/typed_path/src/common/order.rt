@@ -252,9 +252,7 @@ pub(crate) fn compare_parted(
 
 /// The same of two texts that do not part within names: by their first bytes, or where one begins with the other, and
 /// else behind the last separator that both begin with, as long as there is one; all others are read. It is told how
-/// many bytes the two begin with.
-///
-/// It stands apart so that the order of most texts is told in place.
+/// many bytes the two begin with, and stands apart so that the order of most texts is told in place.
 fn compare_from(text: &[u8], other: &[u8], shared: usize, separators: Separators) -> Ordering
     requires { PartAt text.now other.now shared }
     ensures { result ≡ left_cmp (body separators 0 text.now) (body separators 0 other.now) }

@@ -1,6 +1,4 @@
-//! Whether a path lies at another or below it, and what two paths begin with.
-//!
-//! Names are read from the back, where each parent is owed one: so one number and no memory is needed.
+//! Whether a path lies at another or below it, by its names from the back, and what two paths begin with.
 
 ghost use Rattle.std.specs.Prelude.{◌≡◌, ◌+◌, ◌++◌, ◌∷◌, ◌<◌, ◌≤◌, ◌^◌, ◌&&◌, ◌==◌, not, nat_le, [], length, MatchOption, ℕ, IfSome, if◌then◌else◌};
 ghost use Rattle.std.specs.List.{starts_with};

@@ -223,8 +223,6 @@ fn behind_blanks(text: &[u8], separators: Separators) -> &[u8]
 /// The order of two texts that are read from their beginnings, where the bytes tell: the texts are one,
 /// or part within names, and the names differ. None says nothing. It is told how many bytes the two begin
 /// with.
-///
-/// So most paths are put in order by one look at their bytes up to the first that differs.
 #[inline(always)]
 pub fn order_behind(
     text: &[u8],

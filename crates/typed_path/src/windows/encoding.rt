@@ -186,9 +186,7 @@ impl Encoding for WindowsEncoding {
 }
 
 /// Whether the first bytes of two paths tell that their first components are written otherwise. False says
-/// nothing.
-///
-/// A component begins with the byte that it stands at, but for a root, which is written `\` for either
+/// nothing. A component begins with the byte that it stands at, but for a root, which is written `\` for either
 /// separator. A name behind two separators belongs to a prefix.
 #[inline(always)]
 fn begin_apart(path: &[u8], other: &[u8]) -> bool
@@ -394,10 +392,9 @@ fn stays_before_parted(prefix: WindowsPrefix<'_>) -> bool
 
 /// What a path is judged by looks at its bytes. None says nothing.
 ///
-/// Most paths are of valid names and `.` alone, as one look tells. Where it finds a byte or a name that offends, that is
-/// what the path is refused for, where no two dots stand side by side up to its end; so no more of a long path is looked
-/// at than up to the end of the name in which the block of its first offence ends. In others two dots are looked for first
-/// in the whole path.
+/// Where the look finds a byte or a name that offends, that is what the path is refused for, where no two dots stand
+/// side by side up to its end; so no more of a long path is looked at than up to the end of the name in which the block
+/// of its first offence ends. In others two dots are looked for first in the whole path.
 fn judged_by_looks(path: &[u8]) -> Option<Result<(), CheckedPathError>>
     ensures { IfSome result (λ judged. error_of judged ≡ fault windows path.now) }
 {

@@ -25,11 +25,8 @@ use crate::windows::encoding::WindowsEncoding;
 use crate::windows::push::{is_separated, push_at, push_next};
 use std::alloc::AllocError;
 
-/// Puts the normal text of a path behind a text. Where memory is refused, all of it goes.
-///
-/// Most paths are written in one pass: each name is put behind the ones before it with a `\` behind
-/// it, and a `..` takes the last one off again. Where a push would not put a name so, each
-/// component that stays is pushed.
+/// Puts the normal text of a path behind a text: in rows, or else each component that stays is pushed. Where
+/// memory is refused, all of it goes.
 pub fn put_normal(text: &mut Vec<u8>, path: &[u8]) -> Result<(), AllocError>
     ensures ok { OnOk result (text.new.items ≡ text.old.items ++ normal_text windows path.now) }
     ensures err { OnErr result (text.new.items ≡ text.old.items) }

@@ -96,15 +96,9 @@ pub fn has_verbatim_kind(path: &[u8]) -> bool
     }
 }
 
-/// Pushes a path onto the one that stands behind the first bytes of a text, of which something may be
-/// known, and answers what is known of what stands there then. Where memory is refused, the text is as
-/// it was.
-///
-/// So paths are pushed one by one, and a verbatim one is not read anew for each.
-///
-/// Most paths that are pushed so are names, and most bases, of which nothing is known then, neither have a
-/// verbatim kind nor get one, as the first bytes of the two tell: such a path is put behind at once, and neither
-/// is read.
+/// What the encoding answers as `push_next`. Most paths that are pushed so are names, and most bases, of which
+/// nothing is known then, neither have a verbatim kind nor get one, as the first bytes of the two tell: such a
+/// path is put behind at once, and neither is read.
 #[inline]
 pub fn push_next(
     text: &mut Vec<u8>,
@@ -292,9 +286,6 @@ fn is_component(separators: Separators, piece: &[u8]) -> bool
 /// Merges a path without a prefix into the base of a verbatim kind that stands in a text from one
 /// place up to another, and cuts off what stands behind that. Where memory is refused, the text is as
 /// it was.
-///
-/// A base that is spelled as it stands is written in place: how many bytes its prefix takes may be
-/// known. Another one is written anew beside the text.
 pub fn merge_at(
     text: &mut Vec<u8>,
     start: usize,
