@@ -6,6 +6,9 @@
 # bench/run.sh [SWEEPS [WORD]]: how often all calls are timed, and what the labels of these have.
 # Where TYPED_PATH_CRATE names a folder with the source of the Rust crate, that is built and linked
 # in too, and more tables have the calls beside its own.
+#
+# Where BENCH_ORDER is a number, the functions are linked in an order that it picks: the same machine
+# code takes a third more or less of a few nanoseconds by where it stands.
 set -euo pipefail
 top=$(cd "$(dirname "$0")/.." && pwd)
 kit=$(cd "$(dirname "$(readlink -f "$(command -v rt)")")/.." && pwd)
@@ -14,6 +17,8 @@ trap 'rm -rf "$folder"' EXIT
 
 (cd "$top/crates/typed_path_bench" && rt lib > "$folder/proved")
 flags=(-C opt-level=3 -C target-cpu=x86-64-v2)
+order=()
+[ -z "${BENCH_ORDER:-}" ] || order=(-C "link-arg=-Wl,--shuffle-sections=*=$BENCH_ORDER")
 beside=(--check-cfg 'cfg(beside_crate)')
 if [ -n "${TYPED_PATH_CRATE:-}" ]; then
     # By the edition that its Cargo.toml names, or else 2021.
@@ -22,7 +27,7 @@ if [ -n "${TYPED_PATH_CRATE:-}" ]; then
         "${flags[@]}" --cap-lints allow --out-dir "$folder" "$TYPED_PATH_CRATE/src/lib.rs"
     beside+=(--cfg beside_crate --extern "typed_path=$folder/libtyped_path.rlib")
 fi
-rustc --edition 2024 "${flags[@]}" "${beside[@]}" -o "$folder/bench" "$top/bench/main.rs" \
+rustc --edition 2024 "${flags[@]}" "${beside[@]}" "${order[@]}" -o "$folder/bench" "$top/bench/main.rs" \
     -L "native=$top/crates/typed_path_bench/out" -l static=typed_path_bench \
     -L "native=$kit/c" -l static=libc_c
 

@@ -14,8 +14,8 @@ use Rattle.typed_path.specs.scan.{last_of}
 use Rattle.typed_path.specs.queries.{file_name_of, parent_of, is_disk}
 use Rattle.typed_path.specs.changes.{cut_at, with_added_extension}
 use Rattle.typed_path.specs.promises.{ExtendsName, is_verbatim_unc_name, prefix_kind}
-use Rattle.typed_path.proofs.lemmas.components.Prefixes.{Read, of_verbatim_unc, of_verbatim_disk, of_verbatim, of_device, of_unc, of_disk, prefix-read, drive-take, dot-unseparated}
-use Rattle.typed_path.proofs.lemmas.components.PrefixCuts.{prefix_by, plain-none, verbatim-take}
+use Rattle.typed_path.proofs.lemmas.components.Prefixes.{Read, of_verbatim_unc, of_verbatim_disk, of_verbatim, of_device, of_unc, of_disk, prefix-read, drive-take, dot-unseparated, prefix_by}
+use Rattle.typed_path.proofs.lemmas.components.PrefixCuts.{plain-none, verbatim-take}
 use Rattle.typed_path.proofs.lemmas.components.FirmPrefixes.{Apart, nothing, parted, share_made, prefix-apart, three_separators, drive-stays, drive-extends, verbatim_disk-stays}
 use Rattle.typed_path.proofs.lemmas.components.PartedPrefixes.{apart-behind, shares-prefix, drive-plain}
 use Rattle.typed_path.proofs.lemmas.lists.Lists.{IsUnseparated}

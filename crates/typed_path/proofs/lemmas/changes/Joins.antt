@@ -12,7 +12,7 @@ use Rattle.typed_path.specs.changes.{ended_with, is_disk_alone, ended_windows, w
 use Rattle.typed_path.specs.places.{overdraws, resolve}
 use Rattle.typed_path.specs.queries.{begins_with_root}
 use Rattle.typed_path.proofs.lemmas.lists.Lists.{slice_split-some, slice_split-append, AllByRecursion-append, IsUnseparated, slice_split-unseparated, but_last}
-use Rattle.typed_path.proofs.lemmas.components.Segments.{pieces, first_parts, first_parts-append, later_parts, body_parts, IsCleanName, later_part, first_part, IsWritten, IsWrittenPart, IsLater, IsLaterPart, AreRead, later_parts-later, dot-is, dot_dot-is}
+use Rattle.typed_path.proofs.lemmas.components.Segments.{pieces, first_parts, first_parts-append, later_parts, body_parts, IsCleanName, later_part, first_part, IsWritten, IsWrittenPart, IsLater, IsLaterPart, AreRead, later_parts-later, dot-is, dot_dot-is, later-relative}
 use Rattle.typed_path.proofs.lemmas.components.PrefixCuts.{IsUnended}
 use Rattle.typed_path.proofs.lemmas.places.Resolving.{IsKept, resolve-same, Alike, Alike-append, current-alike, no_heads}
 use Rattle.typed_path.proofs.lemmas.components.Prefixes.{OfWindows, backslash-separates}
@@ -166,11 +166,6 @@ pub joint-relative : (k l : Kind) → begins_with_root (k ∷ []) ≡ false → 
 joint-relative root l first second = cc
 joint-relative k root first second = cc
 joint-relative k l first second = refl
-
--- a later component is no root
-pub later-relative : (s : Separators) (k : Kind) (text : List ℕ) → IsLater s k text → begins_with_root (k ∷ []) ≡ false
-later-relative s root text later = absurd later
-later-relative s k text later = refl
 
 -- a text that is not empty is read from its pieces
 body_parts-filled : (s : Separators) (text : List ℕ) → (length text == 0) ≡ false → body_parts s text ≡ first_parts s (pieces s text)

@@ -8,14 +8,14 @@ use Rattle.std.proofs.lemmas.List.Sums.{sum_by-cons, sum_by-append}
 use Rattle.std.proofs.Math.Seq.{drop-append_seam, take-append_seam}
 use Rattle.typed_path.specs.declared.scan.separators.Separators.{Separators}
 use Rattle.typed_path.specs.declared.scan.separators.Separators.TheVariants.{Backslash, Either}
-use Rattle.typed_path.specs.components.{windows, backslash, separators, is_separator, begins_verbatim, Kind, prefix, root, current, parent, normal, Part, kinds, root_part, prefix_part, parent_part, name_part, is_name, Found, prefix_of, is_empty, is_dot_dot, parts_of}
+use Rattle.typed_path.specs.components.{windows, backslash, separators, is_separator, begins_verbatim, Kind, prefix, root, current, parent, normal, Part, kinds, root_part, prefix_part, is_name, Found, prefix_of, is_empty, parts_of}
 use Rattle.typed_path.specs.queries.{has_prefix, has_any_verbatim_prefix, begins_with_root}
 use Rattle.typed_path.specs.changes.{spelled, merged, raw_length, spells_anew, without_last_name, merge_by_kind, push_windows, IsStanding, IsReadFirst, AreReadBehind, IsMergeable, AreMergeable, Stands, IsSpelled, names_behind, room_of, IsKnown}
 use Rattle.typed_path.proofs.lemmas.lists.Lists.{AllByRecursion-weaker, width, width-slice_split}
-use Rattle.typed_path.proofs.lemmas.components.Prefixes.{OfWindows, separators-windows, prefix-fits, prefix-read}
-use Rattle.typed_path.proofs.lemmas.components.Segments.{pieces, first_part, later_part, first_parts, later_parts, body_parts, body_parts-read, AreRead, IsWritten, IsLater, IsLaterPart, IsWritten-later, named_part, each-written, IsWrittenPart, dot_dot-is}
+use Rattle.typed_path.proofs.lemmas.components.Prefixes.{OfWindows, separators-windows, prefix-fits, prefix-read, prefix_by}
+use Rattle.typed_path.proofs.lemmas.components.Segments.{pieces, first_part, later_part, first_parts, later_parts, body_parts, body_parts-read, AreRead, IsWritten, IsLater, IsLaterPart, IsWritten-later, each-written, IsWrittenPart}
 use Rattle.typed_path.proofs.lemmas.changes.SpelledTexts.{Behind, nothing, rooted, spelled-shaped, IsUnprefixed, merged-behind, spelled-standing, stands-spelled, IsShaped, spelled-prefixed, behind-spelled, verbatim-kept}
-use Rattle.typed_path.proofs.lemmas.components.PrefixCuts.{prefix_by, prefix-size, verbatim-size, verbatim-take, parts_of-none, parts_of-some, unprefixed}
+use Rattle.typed_path.proofs.lemmas.components.PrefixCuts.{prefix-size, verbatim-size, verbatim-take, parts_of-none, parts_of-some, unprefixed}
 use Rattle.typed_path.proofs.lemmas.changes.WindowsPushes.{push-anew}
 use Rattle.typed_path.proofs.lemmas.components.WindowsNames.{clean-either}
 

@@ -11,12 +11,11 @@ use Rattle.typed_path.specs.components.{windows, slash, backslash, question, sep
 use Rattle.typed_path.specs.queries.{begins_with_root, has_prefix, has_any_verbatim_prefix, is_verbatim_prefix}
 use Rattle.typed_path.specs.changes.{raw_prefix, raw_length, spelled, merged, merge_by_kind, IsMergeable, AreMergeable, prefix_alone, without_last_name, joint, room_of}
 use Rattle.typed_path.proofs.lemmas.lists.Lists.{AllByRecursion-weaker}
-use Rattle.typed_path.proofs.lemmas.components.Prefixes.{separators-windows, backslash-separates, root_text-windows, drive-size, after_mark-size, prefix-fits, prefix-read, Read, of_verbatim_unc, of_verbatim_disk, of_verbatim, of_device, of_unc, of_disk}
-use Rattle.typed_path.proofs.lemmas.components.PrefixCuts.{prefix_by, IsUnended, IsSize, prefix-size, verbatim-size, parts_of-some, verbatim-none, verbatim-some}
+use Rattle.typed_path.proofs.lemmas.components.Prefixes.{separators-windows, backslash-separates, root_text-windows, drive-size, after_mark-size, prefix-fits, prefix-read, Read, of_verbatim_unc, of_verbatim_disk, of_verbatim, of_device, of_unc, of_disk, prefix_by}
+use Rattle.typed_path.proofs.lemmas.components.PrefixCuts.{IsUnended, IsSize, prefix-size, verbatim-size, parts_of-some, verbatim-none, verbatim-some}
 use Rattle.typed_path.proofs.lemmas.components.FirmPrefixes.{Apart, parted as parted_text, drive-letter, drive-stays, after_four-tests, verbatim_disk-stays}
 use Rattle.typed_path.proofs.lemmas.components.PartedPrefixes.{apart-behind}
-use Rattle.typed_path.proofs.lemmas.components.Segments.{pieces, first_parts, later_parts, body_parts, body_parts-read, AreRead, IsWritten, IsWrittenPart, IsLaterPart, each-written}
-use Rattle.typed_path.proofs.lemmas.changes.Joins.{later-relative}
+use Rattle.typed_path.proofs.lemmas.components.Segments.{pieces, first_parts, later_parts, body_parts, body_parts-read, AreRead, IsWritten, IsWrittenPart, IsLaterPart, each-written, later-relative}
 use Rattle.typed_path.proofs.lemmas.changes.Lengths.{size, joint-size}
 use Rattle.typed_path.proofs.lemmas.changes.MergedInPlace.{room-body, text-mergeable}
 use Rattle.typed_path.proofs.lemmas.changes.WindowsPushes.{is_marked, verbatim-marked}

@@ -12,11 +12,11 @@ use Rattle.typed_path.specs.declared.scan.separators.Separators.{Separators}
 use Rattle.typed_path.specs.components.{windows, backslash, separators, question, Prefix, Kind, root, Part, kinds, root_part, prefix_part, prefix, current, parent, normal, is_name, verbatim_unc, Found, prefix_of, is_empty, found, after_mark, after_unc, name, second_name, names_length, verbatim_unc_case, parts_of}
 use Rattle.typed_path.specs.queries.{is_verbatim_prefix, begins_with_root, has_prefix}
 use Rattle.typed_path.specs.changes.{spelled, prefix_alone, without_last_name, merge_by_kind, merged, IsSpelled, is_row, names_behind, IsStanding, IsMergeable, AreMergeable, Stands, room_of}
-use Rattle.typed_path.proofs.lemmas.components.Prefixes.{OfWindows, separators-windows, backslash-separates, root_text-windows, after_mark-reads, after_unc-reads, both-read, Read, of_verbatim_unc, of_verbatim_disk, of_verbatim, IsBehindMark}
+use Rattle.typed_path.proofs.lemmas.components.Prefixes.{OfWindows, separators-windows, backslash-separates, root_text-windows, after_mark-reads, after_unc-reads, both-read, Read, of_verbatim_unc, of_verbatim_disk, of_verbatim, IsBehindMark, prefix_by}
 use Rattle.typed_path.proofs.lemmas.components.Segments.{pieces, later_parts, body_parts, body_parts-read, AreRead, IsWritten, IsLaterPart}
 use Rattle.typed_path.proofs.lemmas.changes.Joins.{later_parts-spelled, row-read, row-spelled, joint-relative, IsPiece, later-piece}
 use Rattle.typed_path.proofs.lemmas.promises.WindowsBases.{Rest, nothing as bare, from_root, from_other, spelled-behind}
-use Rattle.typed_path.proofs.lemmas.components.PrefixCuts.{prefix_by, name-length, parts_of-some, verbatim-none, verbatim-some}
+use Rattle.typed_path.proofs.lemmas.components.PrefixCuts.{name-length, parts_of-some, verbatim-none, verbatim-some}
 use Rattle.typed_path.proofs.lemmas.components.FirmPrefixes.{parted, name-recut, both-extend, mark-recut, share_made, mark-extends, unc-extends, firm-again}
 use Rattle.typed_path.proofs.lemmas.lists.Options.{some_is, unless-none}
 

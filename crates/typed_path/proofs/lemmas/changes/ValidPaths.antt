@@ -10,7 +10,7 @@ use Rattle.typed_path.specs.declared.errors.CheckedPathError.{CheckedPathError}
 use Rattle.typed_path.specs.declared.errors.CheckedPathError.TheVariants.{InvalidFilename}
 use Rattle.typed_path.specs.declared.scan.cursor.Begin.TheVariants.{Body}
 use Rattle.typed_path.specs.declared.scan.separators.Separators.TheVariants.{Either}
-use Rattle.typed_path.specs.components.{windows, dot, slash, backslash, colon, is_separator, is_dot, is_dot_dot, Kind, prefix, root, current, parent, normal, kinds, parts, body, later_body, parent_part, name_part, parts_of, prefix_of}
+use Rattle.typed_path.specs.components.{windows, dot, slash, backslash, is_separator, is_dot, is_dot_dot, Kind, prefix, root, current, parent, normal, kinds, parts, body, later_body, parent_part, name_part, parts_of, prefix_of}
 use Rattle.std.specs.Slice.Scan.{HoldsNowhere}
 use Rattle.typed_path.specs.scan.{stands_at, IsFirstOf}
 use Rattle.typed_path.specs.queries.{is_reserved, is_valid, is_valid_name}

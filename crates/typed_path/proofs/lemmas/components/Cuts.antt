@@ -1,5 +1,5 @@
 -- Where the components of a text begin and end, how many they are, and what is read before and behind such a place.
-use Rattle.std.proofs.Common.{◌≡◌, ℕ, zero, suc, ◌+◌, ◌<◌, ◌≤◌, ◌==◌, false, List, [], ◌∷◌, ◌++◌, ◌⊎◌, inl, inr, length, take, drop, flat_map, refl, sym, ap, ap₂, ◌∙◌, add-zero, ne_eqb, arith, ◌-◌, true, le_refl, min, length-take, Option, Some, None, zero-add, zero-le, length-take-le, length-drop, length-append}
+use Rattle.std.proofs.Common.{◌≡◌, ℕ, zero, suc, ◌+◌, ◌<◌, ◌≤◌, ◌==◌, false, List, [], ◌∷◌, ◌++◌, ◌⊎◌, inl, inr, length, take, drop, flat_map, refl, sym, ap, ap₂, ◌∙◌, add-zero, arith, ◌-◌, true, le_refl, min, length-take, Option, Some, None, zero-add, zero-le, length-take-le, length-drop, length-append}
 use Rattle.std.proofs.lemmas.Grind.{common_steps}
 use Rattle.std.specs.List.{slice_split}
 use Rattle.std.proofs.lemmas.Bool.{eqb-false}

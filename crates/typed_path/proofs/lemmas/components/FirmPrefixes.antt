@@ -13,10 +13,10 @@ use Rattle.typed_path.specs.declared.scan.separators.Separators.TheVariants.{Bac
 use Rattle.typed_path.specs.components.{is_separator, slash, backslash, colon, windows, separators, begins_verbatim, question, dot, is_empty, is_drive_letter, to_upper, drive, after_two, after_four, name, second_name, names_length, Found, found, after_mark, after_unc, verbatim_case, device_case, unc_case, disk_case, prefix_of, Prefix, verbatim, verbatim_unc, verbatim_disk, device_ns, unc, disk}
 use Rattle.typed_path.specs.queries.{is_disk}
 use Rattle.typed_path.specs.promises.{keeps_by_prefix}
-use Rattle.typed_path.proofs.lemmas.components.Prefixes.{ReadsMark, after_four-reads, name-fits, names-fit, prefix-fits, Read, of_verbatim_unc, of_verbatim_disk, of_verbatim, of_device, of_unc, of_disk, prefix-read, after_mark-reads, after_unc-reads, after_two-reads, both-read, drive-take, drive-none}
-use Rattle.typed_path.proofs.lemmas.components.PrefixCuts.{name-length, name-take, names-take, prefix_by, empty-take}
+use Rattle.typed_path.proofs.lemmas.components.Prefixes.{ReadsMark, after_four-reads, name-fits, names-fit, prefix-fits, Read, of_verbatim_unc, of_verbatim_disk, of_verbatim, of_device, of_unc, of_disk, prefix-read, after_mark-reads, after_unc-reads, after_two-reads, both-read, drive-take, drive-none, marks-differ, prefix_by, prefix_by-unmarked}
+use Rattle.typed_path.proofs.lemmas.components.PrefixCuts.{name-length, name-take, names-take, empty-take}
 use Rattle.typed_path.proofs.lemmas.components.Segments.{position-append}
-use Rattle.typed_path.proofs.lemmas.lists.Options.{and_then-some, unless-none, none_from}
+use Rattle.typed_path.proofs.lemmas.lists.Options.{and_then-some, unless-none, none_from, first-some, first-none}
 
 -- The names and marks of a text that is cut behind them, with something put apart behind it.
 
@@ -161,14 +161,6 @@ device_made rest = if is_empty (name Either rest) then None else Some (found (de
 abbrev disk_made : ℕ → Option Found
 disk_made letter = Some (found (verbatim_disk letter) 6)
 
--- the first of two cases that holds
-pub first-some : (o p : Option Found) (f : Found) → o ≡ Some f → option_or o p ≡ Some f
-first-some o p f is = ap (λ q. option_or q p) is
-
--- or the second
-pub first-none : (o p r : Option Found) → o ≡ None → p ≡ r → option_or o p ≡ r
-first-none o p r is e = ap (λ q. option_or q p) is ∙ e
-
 -- a mark is read where more stands behind it
 pub mark-extends : (sign : ℕ) → Extends (after_mark sign)
 mark-extends sign = after_four-extends (is_separator Either) (is_separator Either) (λ b. b == sign) (is_separator Either)
@@ -192,14 +184,6 @@ drive-letter a b text letter is = grind (arith, and_parts, eqb-true)
 -- a drive is not `UNC`
 drive-no_unc : (s : Separators) (text : List ℕ) (letter : ℕ) → drive text ≡ Some letter → after_unc s text ≡ None
 drive-no_unc s text letter is = grind (arith, eqb-true, drive-letter)
-
--- a mark has one sign
-pub marks-differ : (text rest : List ℕ) → after_mark dot text ≡ Some rest → after_mark question text ≡ None
-marks-differ text rest is = grind arith
-
--- a text without a question mark has no verbatim prefix
-pub unmarked : (s : Separators) (t : List ℕ) → after_mark question t ≡ None → prefix_by s t ≡ option_or (device_case t) (option_or (unc_case t) (disk_case t))
-unmarked s t h = grind arith
 
 -- a verbatim drive stays, whatever is put behind it
 pub verbatim_disk-stays : (s : Separators) (text x rest : List ℕ) (letter : ℕ) → after_mark question text ≡ Some rest → drive rest ≡ Some letter → prefix_by s (take 6 text ++ x) ≡ Some (found (verbatim_disk letter) 6)
@@ -257,7 +241,7 @@ module _ (s : Separators) (text x : List ℕ) (apart : Apart s x) where
       let now = take m rest ++ x in
       let mark = mark-again dot m text rest x is in
       let same : name Either now ≡ name Either rest = name-recut Either m rest x (apart-either s x apart) (le_refl m) in
-      unmarked s whole (marks-differ whole now mark)
+      prefix_by-unmarked s whole (marks-differ whole now mark)
       ∙ first-some (device_case whole) (option_or (unc_case whole) (disk_case whole)) _
       (ap (option_and_then device_made) mark
       ∙ cond-false (is_empty (name Either now)) None _ (ap is_empty same ∙ filled)
@@ -288,7 +272,7 @@ module _ (s : Separators) (text x : List ℕ) (apart : Apart s x) where
       let mark = mark-recut 2 after_two after_two-reads after_two-extends m text rest x is in
       let names = names-recut Either m rest x (apart-either s x apart) (le_refl m) less in
       let long : 4 ≤ 2 + m = omega (arith, names-inside Either rest less, filled-long (name Either rest) filled) in
-      unmarked s whole (after_four-none (is_separator Either) (is_separator Either) (λ b. b == question) (is_separator Either) (2 + m) text x long fits no_question)
+      prefix_by-unmarked s whole (after_four-none (is_separator Either) (is_separator Either) (λ b. b == question) (is_separator Either) (2 + m) text x long fits no_question)
       ∙ first-none (device_case whole) (option_or (unc_case whole) (disk_case whole)) _ (no_device-again (2 + m) long fits no_device)
       (first-some (unc_case whole) (disk_case whole) _
       (ap (option_and_then (share_made unc 2 Either)) mark
@@ -341,7 +325,7 @@ drive-stays text x letter is = grind (arith, common_steps)
 pub three_separators : (a b c : ℕ) (text : List ℕ) → is_separator Either a ≡ true → is_separator Either b ≡ true → is_separator Either c ≡ true → prefix_of windows (a ∷ b ∷ c ∷ text) ≡ None
 three_separators a b c text first second third =
     let whole = a ∷ b ∷ c ∷ text in
-    unmarked (separators windows whole) whole (no_sign question refl refl text)
+    prefix_by-unmarked (separators windows whole) whole (no_sign question refl refl text)
     ∙ first-none (device_case whole) (option_or (unc_case whole) (disk_case whole)) _
     (ap (option_and_then device_made) (no_sign dot refl refl text))
     (first-none (unc_case whole) (disk_case whole) _

@@ -12,9 +12,9 @@ use Rattle.typed_path.specs.queries.{is_disk, is_verbatim_prefix, begins_with_ro
 use Rattle.typed_path.specs.promises.{is_verbatim_unc_name}
 use Rattle.typed_path.specs.changes.{raw_length}
 use Rattle.typed_path.specs.places.{resolve, IsPartedEither, TakesRows, IsHeadOf}
-use Rattle.typed_path.proofs.lemmas.components.Prefixes.{names-fit, Read, of_verbatim_unc, of_verbatim_disk, of_verbatim, of_device, of_unc, of_disk, prefix-read, after_mark-reads}
-use Rattle.typed_path.proofs.lemmas.components.PrefixCuts.{name-length, IsUnended, name-unended, prefix_by, verbatim-take, plain-kind}
-use Rattle.typed_path.proofs.lemmas.components.FirmPrefixes.{Apart, nothing, parted, filled-long, second-inside, names-inside, names-size, names-long, is_firm, marks-differ, no_question, verbatim_unc-again, verbatim_disk-stays, verbatim-again, device-again, unc-again}
+use Rattle.typed_path.proofs.lemmas.components.Prefixes.{names-fit, Read, of_verbatim_unc, of_verbatim_disk, of_verbatim, of_device, of_unc, of_disk, prefix-read, after_mark-reads, marks-differ, prefix_by}
+use Rattle.typed_path.proofs.lemmas.components.PrefixCuts.{name-length, IsUnended, name-unended, verbatim-take, plain-kind}
+use Rattle.typed_path.proofs.lemmas.components.FirmPrefixes.{Apart, nothing, parted, filled-long, second-inside, names-inside, names-size, names-long, is_firm, no_question, verbatim_unc-again, verbatim_disk-stays, verbatim-again, device-again, unc-again}
 use Rattle.typed_path.proofs.lemmas.components.Segments.{first_parts, body_parts}
 
 -- Where a firm prefix ends that is neither a drive nor verbatim.

@@ -12,7 +12,7 @@ use Rattle.typed_path.specs.declared.scan.separators.Separators.{Separators}
 use Rattle.typed_path.specs.declared.scan.separators.Separators.TheVariants.{Either, Backslash}
 use Rattle.typed_path.specs.components.{is_separator, question, dot, windows, backslash, separators, begins_verbatim, is_empty, name, second_name, names_length, Found, found, drive, after_two, after_mark, after_unc, verbatim_unc_case, verbatim_disk_case, verbatim_case, device_case, unc_case, disk_case, prefix_of, Prefix, verbatim, verbatim_unc, verbatim_disk, device_ns, unc, disk, parts_of, kinds}
 use Rattle.typed_path.specs.queries.{is_disk, is_verbatim_prefix, begins_with_prefix, has_any_verbatim_prefix}
-use Rattle.typed_path.proofs.lemmas.components.Prefixes.{ReadsMark, IsFront, after_mark-reads, after_unc-reads, after_two-reads, both-read, drive-take, drive-none, OfWindows, separators-windows, backslash-separates, name-fits, Read, of_verbatim_unc, of_verbatim_disk, of_verbatim, of_device, of_unc, of_disk, prefix-read}
+use Rattle.typed_path.proofs.lemmas.components.Prefixes.{ReadsMark, IsFront, after_mark-reads, after_unc-reads, after_two-reads, both-read, drive-take, drive-none, OfWindows, separators-windows, backslash-separates, name-fits, Read, of_verbatim_unc, of_verbatim_disk, of_verbatim, of_device, of_unc, of_disk, prefix-read, prefix_by}
 use Rattle.typed_path.proofs.lemmas.components.Segments.{position-append, body_parts, parts_behind, parts-comps_behind}
 use Rattle.typed_path.proofs.lemmas.lists.Options.{and_then-some, unless-some, some_is, unless-none}
 use Rattle.typed_path.proofs.lemmas.lists.Lists.{prefix_len-take}
@@ -79,12 +79,6 @@ pub record IsBehind (s : Separators) (text : List ℕ) (e : ℕ) (f : Found) : T
 -- a case that reads a mark, and then names behind it
 abbrev marked_case : (List ℕ → Option (List ℕ)) → (List ℕ → Bool) → (List ℕ → Found) → List ℕ → Option Found
 marked_case read test make text = option_and_then (λ rest. if test rest then None else Some (make rest)) (read text)
-
--- the prefix of a text whose separators are given
-abbrev pub prefix_by : Separators → List ℕ → Option Found
-prefix_by s text =
-    option_or (verbatim_unc_case s text) (option_or (verbatim_disk_case text) (option_or (verbatim_case s text)
-    (option_or (device_case text) (option_or (unc_case text) (disk_case text)))))
 
 module _ (s : Separators) (text : List ℕ) (e : ℕ) where
   -- a case finds in the text that is cut what it found in the whole text

@@ -12,6 +12,7 @@ use Rattle.typed_path.specs.declared.scan.separators.Separators.{Separators}
 use Rattle.typed_path.specs.declared.scan.cursor.Begin.{Begin}
 use Rattle.typed_path.specs.declared.scan.cursor.Begin.TheVariants.{Body, Inside}
 use Rattle.typed_path.specs.components.{is_verbatim, root_text, is_separator, dot, Placed, current_part, parent_part, name_part, root_part, Part, Kind, prefix, root, current, parent, normal, parts, kinds, texts, prefix_part, Segment, component, later, first, is_dot, is_dot_dot, placed, segments, later_body, body_of, named, body, comps_behind, Found}
+use Rattle.typed_path.specs.queries.{begins_with_root}
 use Rattle.typed_path.specs.scan.{body_from, is_clean, counts, slice_after_front}
 use Rattle.typed_path.proofs.lemmas.lists.Lists.{slice_split-some, slice_split-append, choice, IsUnseparated, slice_split-unseparated, AllByRecursion-weaker, map-through, before_first-byte}
 
@@ -335,6 +336,11 @@ pub IsWritten-later : (s : Separators) (k : Kind) (text : List ℕ) → IsLater 
 IsWritten-later s root text later = absurd later
 IsWritten-later s current text later = later.1
 IsWritten-later s k text later = later
+
+-- a later component is no root
+pub later-relative : (s : Separators) (k : Kind) (text : List ℕ) → IsLater s k text → begins_with_root (k ∷ []) ≡ false
+later-relative s root text later = absurd later
+later-relative s k text later = refl
 
 -- later components are a list as it is read
 pub AreRead-later : (s : Separators) (ps : List Part) → AllByRecursion (IsLaterPart s) ps → AreRead s ps

@@ -1,8 +1,8 @@
--- Names that are read as names in each Windows text, alone and pushed one by one.
-use Rattle.std.proofs.Common.{◌≡◌, ℕ, ◌==◌, true, false, ◌&&◌, ◌||◌, List, [], ◌∷◌, map, Some, None, refl, sym, ap, subst, ◌∙◌, ◌++◌, append-nil, if◌then◌else◌, length, append_assoc, arith, Option, eqb-true, length-append}
+-- Names that are read as names in each Windows text, alone and pushed one by one; a list as it is read that stays.
+use Rattle.std.proofs.Common.{◌≡◌, ℕ, ◌==◌, true, false, ◌&&◌, ◌||◌, List, [], ◌∷◌, map, Some, None, refl, sym, ap, subst, ◌∙◌, ◌++◌, append-nil, if◌then◌else◌, length, append_assoc, arith, Option, length-append}
 use Rattle.std.proofs.lemmas.Grind.{common_steps}
 use Rattle.std.specs.List.{list_any, AllByRecursion}
-use Rattle.std.proofs.lemmas.Bool.{and_parts, or_parts, both_ways, cond-false, false_from_ne_true, not-true, eqb-false, cases_Bool, cond-true}
+use Rattle.std.proofs.lemmas.Bool.{and_parts, or_parts, cond-false, not-true, eqb-false, cases_Bool, cond-true}
 use Rattle.std.proofs.lemmas.List.Elements.{All-head}
 use Rattle.std.proofs.lemmas.List.{get_or-append_right, map-append, nil_from_length}
 use Rattle.std.proofs.Math.Seq.{drop-append_seam, take-append_seam}

@@ -1,5 +1,5 @@
--- What an option tells that is made by a test, of another option or of two.
-use Rattle.std.proofs.Common.{Option, Some, arith, option_and_then, Bool, None, false, true, refl, ◌≡◌, if◌then◌else◌}
+-- What an option tells that is made by a test, of another option, or as the first of two cases or the second.
+use Rattle.std.proofs.Common.{Option, Some, arith, option_and_then, Bool, None, false, true, refl, ◌≡◌, if◌then◌else◌, ap, ◌∙◌}
 use Rattle.std.specs.Option.{option_or}
 
 -- what a value behind an option tells
@@ -36,3 +36,11 @@ none_from {A = A} o never = by o refl
 -- the first of two cases does not hold where neither does
 pub none-first : {A : Type 0} (o p : Option A) → option_or o p ≡ None → o ≡ None
 none-first o p e = grind arith
+
+-- the first of two cases that holds
+pub first-some : {A : Type 0} (o p : Option A) (x : A) → o ≡ Some x → option_or o p ≡ Some x
+first-some o p x is = ap (λ q. option_or q p) is
+
+-- or the second
+pub first-none : {A : Type 0} (o p r : Option A) → o ≡ None → p ≡ r → option_or o p ≡ r
+first-none o p r is e = ap (λ q. option_or q p) is ∙ e

@@ -1,5 +1,5 @@
 -- Paths compared and fed to a hasher, component by component, with their prefixes first.
-use Rattle.std.proofs.Common.{◌≡◌, ℕ, List, [], ◌∷◌, ◌++◌, Bool, true, false, not, ◌&&◌, drop, Ordering, Less, Equal, Greater, is_eq, refl, sym, ap, ap₂, ◌∙◌, ◌↔◌, Option, Some, None, flat_map, ◌≢◌, ◌+◌, ◌≤◌, length, fold, sum_by, subst, arith, ◌<◌, length-drop, append-nil, option_map, is_some, if◌then◌else◌}
+use Rattle.std.proofs.Common.{◌≡◌, ℕ, List, [], ◌∷◌, ◌++◌, Bool, true, false, not, ◌&&◌, drop, Ordering, Less, Equal, Greater, is_eq, refl, sym, ap, ap₂, ◌∙◌, ◌↔◌, Option, Some, None, flat_map, ◌+◌, ◌≤◌, length, fold, sum_by, subst, arith, ◌<◌, length-drop, append-nil, option_map, is_some, if◌then◌else◌}
 use Rattle.std.proofs.lemmas.Grind.{common_steps}
 use Rattle.std.specs.Ordering.{is_ne, ordering_then, ordering_reverse}
 use Rattle.std.specs.Str.{bytes_eq}

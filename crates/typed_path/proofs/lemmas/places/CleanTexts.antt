@@ -1,13 +1,12 @@
 -- The clean text of a path, as it is written behind a text.
-use Rattle.std.proofs.Common.{◌≡◌, ℕ, suc, ◌+◌, ◌-◌, ◌<◌, ◌≤◌, ◌==◌, ◌||◌, ◌&&◌, not, Bool, true, false, List, [], ◌∷◌, ◌++◌, if◌then◌else◌, length, take, drop, refl, sym, ap, ap₂, ◌∙◌, append_assoc, append-nil, arith, subst, length-append, ne_eqb, Some, None}
+use Rattle.std.proofs.Common.{◌≡◌, ℕ, suc, ◌+◌, ◌-◌, ◌<◌, ◌≤◌, ◌==◌, ◌||◌, ◌&&◌, not, Bool, true, false, List, [], ◌∷◌, ◌++◌, if◌then◌else◌, length, take, drop, sym, ap, ◌∙◌, append_assoc, append-nil, arith, subst, length-append, ne_eqb, Some, None}
 use Rattle.std.proofs.lemmas.Grind.{common_steps}
 use Rattle.std.specs.List.{join_with_byte}
-use Rattle.std.specs.Str.{bytes_eq}
 use Rattle.std.proofs.lemmas.List.{take_at}
 use Rattle.std.proofs.Math.Bool.{or-true}
 use Rattle.typed_path.specs.declared.scan.separators.Separators.{Separators}
 use Rattle.typed_path.specs.declared.scan.separators.Separators.TheVariants.{Either}
-use Rattle.typed_path.specs.components.{Dialect, unix, windows, slash, separators, dialect_of, root_of, Part, parts, kinds, body, Found, prefix_of}
+use Rattle.typed_path.specs.components.{Dialect, windows, separators, dialect_of, Part, parts, kinds, body, Found, prefix_of}
 use Rattle.typed_path.specs.places.{row_end, rows_of, behind_head, cleaned, clean_text, kept_segments, own_separator, segment_kinds, unheaded}
 use Rattle.typed_path.specs.queries.{begins_with_root, is_disk}
 use Rattle.typed_path.proofs.lemmas.components.PrefixCuts.{plain-none, parts_of-some}
@@ -118,8 +117,3 @@ prefixed-text path f s rooted drives is own told drive = rw (told, drive, own) (
 -- a text of Windows without a prefix
 pub clean_text-none : (path : List ℕ) → prefix_of windows path ≡ None → cleaned windows (parts (body Either 0 path)) ≡ clean_text windows path
 clean_text-none path h = grind (arith, plain-none)
-
--- the root that a dialect writes tells which it is
-pub other-windows : (d : Dialect) (own other : List ℕ) → own ≡ root_of d → other ≡ slash ∷ [] → false ≡ bytes_eq own other → d ≡ windows
-other-windows unix own other e f differ = let same : false ≡ true = differ ∙ ap₂ bytes_eq e f in cc
-other-windows windows own other e f differ = refl

@@ -1,15 +1,15 @@
 -- Whether a path is reached from a base, by how many steps, and what room these take.
 -- A path that is reached from a base lies within it exactly where no step leads up.
-use Rattle.std.proofs.Common.{◌≡◌, ℕ, suc, ◌+◌, ◌-◌, ◌≤◌, ◌==◌, Bool, true, false, ◌&&◌, List, [], ◌∷◌, ◌++◌, if◌then◌else◌, length, drop, sym, ap, ◌∙◌, arith, nat_le, length-drop, Some, None, ◌||◌, refl, eq-eqb}
+use Rattle.std.proofs.Common.{◌≡◌, ℕ, suc, ◌+◌, ◌-◌, ◌≤◌, ◌==◌, Bool, true, false, ◌&&◌, List, [], ◌∷◌, ◌++◌, if◌then◌else◌, length, drop, sym, ap, ◌∙◌, arith, nat_le, length-drop, ◌||◌, refl, eq-eqb}
 use Rattle.std.proofs.lemmas.Grind.{common_steps}
-use Rattle.std.proofs.lemmas.Bool.{cond_both, and_parts, eqb-true, leb-true}
+use Rattle.std.proofs.lemmas.Bool.{and_parts, eqb-true, leb-true}
 use Rattle.std.proofs.lemmas.List.{length-map}
 use Rattle.std.proofs.Math.Bool.{and-false}
 use Rattle.typed_path.specs.declared.scan.separators.Separators.{Separators}
-use Rattle.typed_path.specs.components.{Dialect, is_separator, is_dot_dot, Kind, prefix, root, current, parent, normal, Part, Placed, parts, parent_part, name_part, kinds, parts_of}
-use Rattle.typed_path.specs.places.{AreSteps, can_stand, is_reached, kept_names, met_count, names_down, relative_by, rising, rows_of, same_heads, shared_count, steps_text, steps_up, unmet, AreNearSteps, holds_all, leads_within}
+use Rattle.typed_path.specs.components.{Dialect, is_separator, Kind, prefix, root, current, parent, normal, Part, Placed, parts, kinds, parts_of}
+use Rattle.typed_path.specs.places.{can_stand, is_reached, kept_names, met_count, names_down, rising, rows_of, same_heads, shared_count, steps_up, unmet, AreNearSteps, holds_all, leads_within}
 use Rattle.typed_path.proofs.lemmas.lists.Lists.{width, width-slice_split}
-use Rattle.typed_path.proofs.lemmas.components.Segments.{body_parts, first_part, first_parts, later_part, later_parts, named_part, parts_behind, parts-comps_behind, pieces}
+use Rattle.typed_path.proofs.lemmas.components.Segments.{body_parts, first_part, first_parts, later_part, later_parts, parts_behind, parts-comps_behind, pieces}
 use Rattle.typed_path.proofs.lemmas.places.SharedFromBack.{shared_count-fits}
 use Rattle.typed_path.proofs.lemmas.places.TakenNames.{rows-drop, row-size}
 use Rattle.std.specs.List.{starts_with}

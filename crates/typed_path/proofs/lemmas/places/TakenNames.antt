@@ -1,11 +1,11 @@
--- Names that are taken off the end of a list one after another: what is left and what was taken, whether these can stand, and the rows that they make from their ends.
-use Rattle.std.proofs.Common.{◌≡◌, ℕ, zero, suc, ◌+◌, ◌-◌, ◌<◌, ◌≤◌, ◌==◌, true, false, not, ◌&&◌, List, [], ◌∷◌, ◌++◌, length, take, drop, reverse, refl, sym, ap, ap₂, ◌∙◌, append_assoc, append-nil, arith, take-append-drop, length-append, add-one}
+-- Names that are taken off the end of a list one after another: what is left and what was taken, whether these can stand, and the rows and texts that they make from their ends.
+use Rattle.std.proofs.Common.{◌≡◌, ℕ, zero, suc, ◌+◌, ◌-◌, ◌<◌, ◌≤◌, ◌==◌, true, false, not, ◌&&◌, List, [], ◌∷◌, ◌++◌, length, take, drop, reverse, refl, sym, ap, ap₂, ◌∙◌, append_assoc, append-nil, arith, take-append-drop, length-append}
 use Rattle.std.specs.Prelude.{Option, MatchOption}
 use Rattle.std.specs.List.{list_any, join_with_byte}
 use Rattle.std.proofs.lemmas.List.{length-take-le, take_at, drop_at, drop_all, take_all, drop-drop, reverse-append, reverse-reverse, length-reverse}
 use Rattle.std.proofs.lemmas.Grind.{flat_map-append}
 use Rattle.typed_path.specs.declared.scan.separators.Separators.{Separators}
-use Rattle.typed_path.specs.components.{Dialect, unix, windows, slash, dot, dialect_of}
+use Rattle.typed_path.specs.components.{Dialect, unix, windows, slash, dialect_of}
 use Rattle.typed_path.specs.places.{bare_separators, can_stand, dots, row_end, rows_of, steps_text, unheaded}
 use Rattle.typed_path.proofs.lemmas.places.CleanTexts.{row_end-own, rows-joined}
 

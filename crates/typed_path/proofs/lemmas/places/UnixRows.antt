@@ -11,7 +11,7 @@ use Rattle.typed_path.specs.declared.scan.separators.Separators.TheVariants.{Sla
 use Rattle.typed_path.specs.components.{Dialect, unix, slash, is_separator, is_verbatim, root_text, Part, name_part, current_part, parent_part, root_part, kinds, texts, Kind, root as root_kind, current, parent, normal, is_dot, is_dot_dot, component, first}
 use Rattle.typed_path.specs.changes.{ended_with, push_all}
 use Rattle.typed_path.specs.places.{normal_text, resolve, row_end, rows_of, rows, IsNormal, settled, names_left, IsParted, AreRowsOf, names_left_of}
-use Rattle.typed_path.proofs.lemmas.lists.Lists.{IsUnseparated, slice_split-some, slice_split-unseparated, all-front, take-ended}
+use Rattle.typed_path.proofs.lemmas.lists.Lists.{IsUnseparated, slice_split-some, slice_split-unseparated, take-ended}
 use Rattle.typed_path.proofs.lemmas.components.Segments.{pieces, named_part, later_part, later_parts, first_parts, body_parts, IsCleanName}
 use Rattle.typed_path.proofs.lemmas.places.Resolving.{heads_first, Comes, comes-current, comes-parent, comes-parent_alone, comes-name, comes-head, comes-end}
 use Rattle.typed_path.proofs.lemmas.components.WrittenForms.{heads_first-parts_of}

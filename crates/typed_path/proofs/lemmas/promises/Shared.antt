@@ -13,9 +13,10 @@ use Rattle.typed_path.specs.queries.{is_disk, shared_count, end_of_first, shared
 use Rattle.typed_path.specs.promises.{is_verbatim_unc_name, IsLongest, ShareNothing}
 use Rattle.typed_path.specs.scan.{end_at}
 use Rattle.typed_path.proofs.lemmas.components.Cuts.{body-take}
-use Rattle.typed_path.proofs.lemmas.components.Prefixes.{Read, of_verbatim, of_disk, prefix-read, prefix-fits, after_mark-reads, drive-take, drive-size}
-use Rattle.typed_path.proofs.lemmas.components.PrefixCuts.{same-none, same-found, prefix_by}
-use Rattle.typed_path.proofs.lemmas.components.FirmPrefixes.{drive-stays, first-some}
+use Rattle.typed_path.proofs.lemmas.components.Prefixes.{Read, of_verbatim, of_disk, prefix-read, prefix-fits, after_mark-reads, drive-take, drive-size, prefix_by}
+use Rattle.typed_path.proofs.lemmas.components.PrefixCuts.{same-none, same-found}
+use Rattle.typed_path.proofs.lemmas.components.FirmPrefixes.{drive-stays}
+use Rattle.typed_path.proofs.lemmas.lists.Options.{first-some}
 use Rattle.typed_path.proofs.lemmas.components.PartedPrefixes.{raw-whole}
 use Rattle.typed_path.proofs.lemmas.queries.Shared.{texts-length, starts_other, starts_shared}
 use Rattle.typed_path.proofs.lemmas.queries.Parents.{nonempty-cut}

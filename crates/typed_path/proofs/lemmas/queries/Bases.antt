@@ -1,10 +1,10 @@
 -- The beginning and the end of a path compared with another, and a base taken off.
-use Rattle.std.proofs.Common.{◌≡◌, ℕ, zero, suc, ◌+◌, ◌<◌, ◌≤◌, List, [], ◌∷◌, Bool, true, false, ◌&&◌, cond, length, drop, replicate, refl, sym, ap, ◌∙◌, arith, ◌-◌, ◌++◌, take, append_assoc, length-take, Some, None, Option, drop-drop, length-drop, length-append}
+use Rattle.std.proofs.Common.{◌≡◌, ℕ, zero, suc, ◌+◌, ◌<◌, ◌≤◌, List, [], ◌∷◌, Bool, true, false, ◌&&◌, cond, length, drop, replicate, refl, sym, ap, ◌∙◌, arith, ◌++◌, take, append_assoc, length-take, Some, None, Option, drop-drop, length-drop, length-append}
 use Rattle.std.proofs.lemmas.Grind.{common_steps}
 use Rattle.std.specs.List.{starts_with, ends_with}
 use Rattle.std.specs.Str.{bytes_eq}
 use Rattle.std.proofs.Math.Seq.{take-append_seam}
-use Rattle.std.proofs.lemmas.List.{map-append, drop-append-le, take-append-le, drop_all, length-map}
+use Rattle.std.proofs.lemmas.List.{map-append, drop-append-le, take-append-le, length-map}
 use Rattle.std.proofs.lemmas.Option.{same_Some}
 use Rattle.std.proofs.Math.Bool.{and-false, and-true, and_assoc}
 use lib.Pointwise.{pointwise}

@@ -1,5 +1,5 @@
 -- The end of a text: what belongs to no component, the last component, and the text before it.
-use Rattle.std.proofs.Common.{◌≡◌, ℕ, ◌+◌, ◌-◌, ◌<◌, ◌≤◌, Bool, true, false, not, ◌&&◌, cond, ltb, List, [], ◌∷◌, ◌++◌, length, take, drop, refl, sym, ap, subst, ◌∙◌, append-nil, append_assoc, arith, inl, inr, ◌⊎◌, ◌==◌, ne_eqb, ltb-false, ltb-true, length-append, take_at, length-drop, take_all, slice_index}
+use Rattle.std.proofs.Common.{◌≡◌, ℕ, ◌+◌, ◌-◌, ◌<◌, ◌≤◌, true, false, not, cond, ltb, List, [], ◌∷◌, ◌++◌, length, take, drop, refl, sym, ap, subst, ◌∙◌, append-nil, append_assoc, arith, inl, inr, ◌⊎◌, ltb-false, ltb-true, length-append, take_at, length-drop, take_all, slice_index}
 use Rattle.std.proofs.lemmas.Grind.{common_steps}
 use Rattle.std.specs.List.{after_last, suffix_len, position_or_len}
 use Rattle.std.proofs.lemmas.Bool.{cases_lt, or_parts, not_from_true}
@@ -9,11 +9,10 @@ use Rattle.std.proofs.lemmas.List.Splits.{slice_split_none}
 use Rattle.std.proofs.lemmas.List.Sums.{position_or_len_is}
 use Rattle.typed_path.specs.declared.scan.separators.Separators.{Separators}
 use Rattle.typed_path.specs.declared.scan.cursor.Begin.{Begin}
-use Rattle.typed_path.specs.components.{is_separator, dot, root_text, Part, current_part, parent_part, name_part, root_part, Segment, later, later_body, component, first, parts}
+use Rattle.typed_path.specs.components.{is_separator, Segment, later, later_body, first, parts}
 use Rattle.typed_path.specs.scan.{body_from, is_clean, is_trimmed, counts, end_from}
 use Rattle.typed_path.proofs.lemmas.lists.Lists.{IsUnseparated, last_place, after_last-drop, behind_last-unseparated, cut_last, IsLastPlace, slice_split-append}
 use Rattle.typed_path.proofs.lemmas.components.Segments.{body_from-append, body_from-separator, is_clean-append, is_clean-separator, later_body-separator, later-first, body_from-empty, body_from-first, later_part, later_parts, parts-later_body}
-use Rattle.typed_path.proofs.lemmas.components.Cuts.{root_text-length}
 
 -- The bytes at the end of a text that belong to no component.
 

@@ -2,7 +2,7 @@
 use Rattle.std.proofs.Common.{◌≡◌, ℕ, suc, ◌+◌, ◌-◌, ◌*◌, ◌^◌, ◌/◌, ◌%◌, ◌≤◌, ◌<◌, List, Bool, true, false, not, ◌&&◌, ◌||◌, ◌==◌, w64, cond, length, slice_index, slice_range, take, drop, get_or, map, refl, sym, ap, ap₂, eqb, replicate, ◌∙◌, arith, bit_or, bit_and, ⊎_elim, pow_mono, [], ◌∷◌, nat_lt, subst, shr-shr, eqb-true, get_or-take, get_or-drop, length-take-le, length-drop, take_all}
 use Rattle.std.proofs.lemmas.Grind.{common_steps}
 use Rattle.std.specs.Int.{bit_at, trailing_zeros}
-use Rattle.std.specs.Slice.Scan.{HoldsNowhere, IsFirstPlace, IsLastPlace, HoldsSomewhere}
+use Rattle.std.specs.Slice.Scan.{HoldsNowhere, IsFirstPlace, IsLastPlace}
 use Rattle.std.specs.Simd.Lanes.{mask_l}
 use Rattle.std.proofs.Math.Nat.{two-pow-succ, div-eq_of_lt}
 use Rattle.std.proofs.lemmas.Bool.{cases_lt, eqb-false, and_parts, false_from_ne_true}
@@ -12,7 +12,6 @@ use Rattle.std.proofs.lemmas.Simd.{bit_mask_l, length-chunk, get_or-chunk, lengt
 use Rattle.std.specs.List.{position_or_len, list_any}
 use Rattle.std.proofs.lemmas.List.Sums.{position_or_len_is}
 use lib.Lanes.{zip2, chunk, top}
-use Rattle.std.proofs.lemmas.List.Folds.{list_any_at}
 use Rattle.typed_path.specs.scan.{IsMask, TellsWhether, is_one_of, stands_at, IsFirstOf}
 
 -- What masks say of places, and searches of a range put together from what was seen of it.

@@ -1,5 +1,5 @@
 -- Lines of an input that comes in pieces: their ends, their commands, their fields.
-use Rattle.std.proofs.Common.{◌≡◌, ℕ, List, [], ◌∷◌, ◌++◌, Bool, true, false, cond, append_assoc, eqb, refl, sym, ap, ◌∙◌, ◌≢◌, ◌==◌, subst, All, length, take, append-nil, arith, drop, take_all, codes, bytes_eq, Result, OnOk, Option, Some, None, IfOk, is_ok, take-append-drop}
+use Rattle.std.proofs.Common.{◌≡◌, ℕ, List, [], ◌∷◌, ◌++◌, Bool, true, false, cond, append_assoc, eqb, refl, sym, ap, ◌∙◌, ◌≢◌, ◌==◌, subst, All, length, take, append-nil, arith, drop, take_all, codes, bytes_eq, Result, OnOk, Option, Some, IfOk, is_ok, take-append-drop}
 use Rattle.std.proofs.lemmas.Grind.{common_steps}
 use Rattle.std.specs.List.{slice_split, onto_first, join_with_byte}
 use Rattle.std.proofs.lemmas.List.Splits.{slice_split-cons_no, join_with_byte-slice_split, slice_split_none}

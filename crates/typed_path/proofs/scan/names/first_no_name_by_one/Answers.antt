@@ -1,4 +1,4 @@
-use Rattle.std.proofs.Common.{◌≡◌, ◌&&◌, Bool, false, arith}
+use Rattle.std.proofs.Common.{arith}
 use Rattle.typed_path.proofs.scan.names.first_no_name_by_one.Goals as goal
 use Rattle.typed_path.proofs.scan.names.first_no_name_by_one.Goals.{then-is_one_of, else-is_one_of}
 
