@@ -5,7 +5,7 @@
 -- PrefixCuts: the names of a prefix, a Windows text that is cut behind its prefix, how many bytes a prefix takes of it, which texts begin with `\\?\`, as their prefixes tell; and what a text is read as with a prefix and without one, and whether its list begins with a verbatim one (`KeepsNames`, `IsSize`, `SamePrefix`, `IsBehind`, `Keeps`, `IsUnended`)
 -- FirmPrefixes: a prefix stays where its text is cut behind it and something put apart behind that (`Extends`, `HasNamesOf`, `Apart`)
 -- PartedPrefixes: a prefix with more of its text behind it: where it ends, and what stands right behind it; and texts of a drive, or of another prefix that is not verbatim, are not read verbatim (`FirmEnd`, `RootBehind`, `IsPartedEither`)
--- WrittenForms: components are written as their kinds tell, and where prefixes and roots stand in a list (`WritesBody`)
+-- WrittenForms: components are written as their kinds tell, roots as their dialect writes them, and where prefixes and roots stand in a list (`WritesBody`)
 -- WindowsNames: names that are read as names in each Windows text, alone and pushed one by one; a list as it is read that stays (`IsPlain`, `Resolved`, `IsHead`)
 pub mod Segments
 pub mod Prefixes

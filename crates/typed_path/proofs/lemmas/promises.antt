@@ -1,8 +1,8 @@
 -- What is promised of paths.
--- UnixContained: the normal text of Unix, a relative path joined on Unix, and where a checked one leads (`AreNames`, `HasPrefixOf`)
+-- UnixContained: the normal text of Unix, which is its own, a relative path joined on Unix, and where a checked one leads (`HasPrefixOf`)
 -- WindowsBases: where a base of Windows leads with a faultless path behind it, and how a list is spelled behind a prefix (`Rest`)
 -- WindowsContained: a checked push on Windows stays within its base, and the bases that keep their prefix (`LiesWithin`, `Ending`)
--- Within: a path that is within a base lies below it, from each directory of which is known where paths lead behind it (`IsBelow`, `IsTold`, `Replaces`, `Leads`)
+-- Within: a path that is within a base lies below it, from each directory of which is known where paths lead behind it; and a checked join lies below its base (`IsBelow`, `IsTold`, `Replaces`, `Leads`)
 -- UnixWithin: on Unix a path is within a base exactly where it lies below it from every absolute directory, so the test for it is exact (`IsDeep`)
 -- WindowsWithin: the same on Windows, from each absolute directory that keeps its prefix and is not verbatim; and the kinds that are read of a path with a prefix, and of one without
 -- VerbatimWithin: and from each verbatim one that keeps its prefix (`LeadsBelow`, `Ends`)

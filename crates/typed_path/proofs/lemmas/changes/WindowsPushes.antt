@@ -14,8 +14,7 @@ use Rattle.typed_path.specs.components.{windows, backslash, question, separators
 use Rattle.typed_path.specs.queries.{has_prefix, has_any_verbatim_prefix, begins_with_root, is_verbatim_prefix}
 use Rattle.typed_path.specs.changes.{push, push_windows, merged, without_last_name, raw_prefix, spelled, spells_anew, ended_windows, is_disk_alone, merges, FitsBy, FitsPush, IsPutBehind, names_behind, IsStanding, Stands}
 use Rattle.typed_path.proofs.lemmas.components.Segments.{body_parts, body_parts-read, first_parts, later_parts}
-use Rattle.typed_path.proofs.lemmas.components.Prefixes.{Read, prefix-read}
-use Rattle.typed_path.proofs.lemmas.components.WindowsNames.{unseparated-none}
+use Rattle.typed_path.proofs.lemmas.components.Prefixes.{Read, prefix-read, prefix_of-unseparated}
 use Rattle.typed_path.proofs.lemmas.components.PrefixCuts.{parts_of-none, parts_of-some, verbatim-none, verbatim-some}
 use Rattle.typed_path.proofs.lemmas.promises.WindowsBases.{read-no_drive}
 use Rattle.typed_path.proofs.lemmas.lists.Lists.{AllByRecursion-append, IsLastPlace, place-none, place-behind}
@@ -165,7 +164,7 @@ push-relative base path h e f g = grind arith
 
 -- what begins with no separator of Windows and with no drive is put behind
 put_behind-first : (b : ℕ) (bs : List ℕ) → is_separator Either b ≡ false → drive (b ∷ bs) ≡ None → IsPutBehind (b ∷ bs)
-put_behind-first b bs plain no_drive = grind (arith, common_steps, filled, first_parts, parts_of-none, unseparated-none, slice_split-cons_no, later_parts)
+put_behind-first b bs plain no_drive = grind (arith, common_steps, filled, first_parts, parts_of-none, prefix_of-unseparated, slice_split-cons_no, later_parts)
 
 -- the same of a text by its first byte
 pub put_behind-told : (path : List ℕ) → 1 ≤ length path → is_separator Either (slice_index path 0) ≡ false → drive path ≡ None → IsPutBehind path

@@ -1,13 +1,12 @@
 -- The prefix of a Windows text: its separators and root, how many bytes it takes, its cases, their marks and what each was read from.
-use Rattle.std.proofs.Common.{◌≡◌, ℕ, ◌==◌, Bool, true, false, List, [], ◌∷◌, refl, ◌+◌, ◌<◌, ◌≤◌, if◌then◌else◌, length, Option, Some, None, option_and_then, ap, arith, length-take, length-drop, zero, suc, ◌⊎◌, inl, inr, take, drop, sym, ◌∙◌, add_assoc, subst, eqb-true, drop-drop, ap₂}
+use Rattle.std.proofs.Common.{◌≡◌, ℕ, ◌==◌, Bool, true, false, List, [], ◌∷◌, refl, ◌+◌, ◌<◌, ◌≤◌, if◌then◌else◌, length, Option, Some, None, option_and_then, ap, arith, length-take, length-drop, zero, suc, ◌⊎◌, inl, inr, take, drop, sym, ◌∙◌, add_assoc, subst, eqb-true, drop-drop}
 use Rattle.std.proofs.lemmas.Grind.{common_steps}
 use Rattle.std.proofs.lemmas.Bool.{cond_both}
 use Rattle.std.specs.Option.{option_or}
 use Rattle.std.specs.List.{position_or_len}
-use Rattle.std.specs.Str.{bytes_eq}
 use Rattle.typed_path.specs.declared.scan.separators.Separators.{Separators}
 use Rattle.typed_path.specs.declared.scan.separators.Separators.TheVariants.{Backslash, Either}
-use Rattle.typed_path.specs.components.{windows, dialect_of, separators, begins_verbatim, is_verbatim, slash, backslash, dot, is_separator, root_of, root_text, Dialect, unix, question, Found, is_empty, drive, after_two, after_four, after_mark, after_unc, name, second_name, names_length, verbatim_unc_case, verbatim_disk_case, verbatim_case, device_case, unc_case, disk_case, prefix_of, found, verbatim, verbatim_unc, verbatim_disk, device_ns, unc, disk, IsPartedDrive}
+use Rattle.typed_path.specs.components.{windows, dialect_of, separators, begins_verbatim, is_verbatim, backslash, dot, is_separator, root_text, Dialect, unix, question, Found, is_empty, drive, after_two, after_four, after_mark, after_unc, name, second_name, names_length, verbatim_unc_case, verbatim_disk_case, verbatim_case, device_case, unc_case, disk_case, prefix_of, found, verbatim, verbatim_unc, verbatim_disk, device_ns, unc, disk, IsPartedDrive}
 use Rattle.typed_path.proofs.lemmas.lists.Options.{and_then-some, unless-some, where-some, some_is}
 
 -- The separators of a Windows text.
@@ -31,11 +30,6 @@ backslash-separates s w = grind arith
 -- and it is how a root is written
 pub root_text-windows : (s : Separators) → OfWindows s → root_text s ≡ backslash ∷ []
 root_text-windows s w = grind arith
-
--- a dialect that writes another root than `/` is that of Windows
-pub root_of-other : (d : Dialect) (own other : List ℕ) → own ≡ root_of d → other ≡ slash ∷ [] → false ≡ bytes_eq own other → d ≡ windows
-root_of-other unix own other e f differ = let same : false ≡ true = differ ∙ ap₂ bytes_eq e f in cc
-root_of-other windows own other e f differ = refl
 
 -- a dot separates nothing
 pub dot-unseparated : (s : Separators) → is_separator s dot ≡ false
@@ -229,6 +223,10 @@ prefix_by s text =
 -- a text without a question mark has no verbatim prefix
 pub prefix_by-unmarked : (s : Separators) (t : List ℕ) → after_mark question t ≡ None → prefix_by s t ≡ option_or (device_case t) (option_or (unc_case t) (disk_case t))
 prefix_by-unmarked s t h = grind arith
+
+-- a text that begins with no separator and no drive has no prefix
+pub prefix_of-unseparated : (b : ℕ) (bs : List ℕ) → is_separator Either b ≡ false → drive (b ∷ bs) ≡ None → prefix_of windows (b ∷ bs) ≡ None
+prefix_of-unseparated b bs plain no_drive = grind arith
 
 -- What the prefix of a Windows text was read from.
 

@@ -13,7 +13,7 @@ use Rattle.typed_path.specs.queries.{is_disallowed, have_allowed_bytes, has_allo
 use Rattle.typed_path.specs.places.{stays, resolve}
 use Rattle.typed_path.specs.changes.{fault, ended_with, joint, spelled, is_disk_alone, ended_windows, merged, push_all, push_windows, raw_length}
 use Rattle.typed_path.proofs.lemmas.lists.Lists.{IsUnseparated, AllByRecursion-append}
-use Rattle.typed_path.proofs.lemmas.components.Prefixes.{OfWindows, root_text-windows}
+use Rattle.typed_path.proofs.lemmas.components.Prefixes.{OfWindows, root_text-windows, prefix_of-unseparated}
 use Rattle.typed_path.proofs.lemmas.components.Segments.{IsCleanName, IsWritten, IsLater, IsLaterPart, AreRead, IsWrittenPart, body_parts, parts_behind, parts-comps_behind}
 use Rattle.typed_path.proofs.lemmas.places.Resolving.{IsKept, resolve-each}
 use Rattle.typed_path.proofs.lemmas.components.FirmPrefixes.{Apart, nothing, drive-apart, prefix-apart}
@@ -103,16 +103,12 @@ allowed-resolve ps h = back (resolve ps) (resolve-each IsAllowedPart ps (allowed
 
 -- Texts of Windows that are a plain name, or begin with one or with a root.
 
--- a text that begins with no separator and no drive has no prefix
-pub unseparated-none : (b : ℕ) (bs : List ℕ) → is_separator Either b ≡ false → drive (b ∷ bs) ≡ None → prefix_of windows (b ∷ bs) ≡ None
-unseparated-none b bs plain no_drive = grind arith
-
 -- a plain name with something apart behind it has no prefix
 pub plain-no_prefix : (name x : List ℕ) → IsPlain name → Apart Either x → prefix_of windows (name ++ x) ≡ None
 plain-no_prefix [] x plain apart = let clean = plain.clean in let filled = clean.filled in cc
 plain-no_prefix (b ∷ bs) x plain apart =
     let clean = plain.clean in
-    unseparated-none b (bs ++ x) (All-head (λ c. is_separator Either c ≡ false) b bs clean.unseparated) (drive-apart Either (b ∷ bs) x apart plain.no_drive)
+    prefix_of-unseparated b (bs ++ x) (All-head (λ c. is_separator Either c ≡ false) b bs clean.unseparated) (drive-apart Either (b ∷ bs) x apart plain.no_drive)
 
 -- nor has a separator with such a text behind it
 pub rooted-none : (b : ℕ) (bs : List ℕ) → is_separator Either b ≡ false → prefix_of windows (backslash ∷ b ∷ bs) ≡ None

@@ -14,7 +14,7 @@ use Rattle.typed_path.specs.changes.{is_disk_alone, ended_with, push_windows, pu
 use Rattle.typed_path.specs.conversions.{crossed, crossed_all, converted_checked}
 use Rattle.typed_path.specs.promises.{lack_backslash, CrossesAsItIs, parents_and_names, on_unix, CrossesToUnix, CrossesBack}
 use Rattle.typed_path.proofs.lemmas.components.Segments.{pieces, later_parts, body_parts, body_parts-read, IsWritten, IsLater, IsLaterPart, AreRead, IsCleanName, IsWritten-later}
-use Rattle.typed_path.proofs.lemmas.components.WindowsNames.{IsPlain, unseparated-none, plain-no_prefix, rooted-none, plain-read, a_name, ended_with-append, ended-spelled, plain-clean, allowed-plain}
+use Rattle.typed_path.proofs.lemmas.components.WindowsNames.{IsPlain, plain-no_prefix, rooted-none, plain-read, a_name, ended_with-append, ended-spelled, plain-clean, allowed-plain}
 use Rattle.typed_path.proofs.lemmas.components.FirmPrefixes.{nothing, parted}
 use Rattle.typed_path.proofs.lemmas.changes.Joins.{later_parts-name, body_parts-name, body_parts-ended}
 use Rattle.typed_path.proofs.lemmas.components.PrefixCuts.{parts_of-none, parts_of-some, verbatim-none}
@@ -22,7 +22,7 @@ use Rattle.typed_path.proofs.lemmas.conversions.Crossings.{crossed-plain, valid-
 use Rattle.typed_path.proofs.lemmas.promises.WindowsBases.{read-no_drive}
 use Rattle.typed_path.proofs.lemmas.promises.WindowsStable.{push-first}
 use Rattle.typed_path.proofs.lemmas.promises.UnixContained.{parts_of-unix, push_unix-name, push_unix-behind}
-use Rattle.typed_path.proofs.lemmas.components.Prefixes.{OfWindows, separators-windows, Read, of_disk, prefix-read}
+use Rattle.typed_path.proofs.lemmas.components.Prefixes.{OfWindows, separators-windows, Read, of_disk, prefix-read, prefix_of-unseparated}
 
 -- What a path of Unix is read as once it is converted to Windows.
 
@@ -69,10 +69,10 @@ pub bare-root : IsBare (backslash ∷ [])
 bare-root = record { filled = refl; no_prefix = refl; stays = rooted-none }
 
 pub bare-current : IsBare (dot ∷ [])
-bare-current = record { filled = refl; no_prefix = refl; stays = λ b rest plain. unseparated-none dot (backslash ∷ b ∷ rest) refl refl }
+bare-current = record { filled = refl; no_prefix = refl; stays = λ b rest plain. prefix_of-unseparated dot (backslash ∷ b ∷ rest) refl refl }
 
 pub bare-parent : IsBare (dot ∷ dot ∷ [])
-bare-parent = record { filled = refl; no_prefix = refl; stays = λ b rest plain. unseparated-none dot (dot ∷ backslash ∷ b ∷ rest) refl refl }
+bare-parent = record { filled = refl; no_prefix = refl; stays = λ b rest plain. prefix_of-unseparated dot (dot ∷ backslash ∷ b ∷ rest) refl refl }
 
 pub bare-name : (name : List ℕ) → IsPlain name → IsBare name
 bare-name name plain =

@@ -14,11 +14,11 @@ use Rattle.typed_path.specs.places.{unmet, kept_names, is_anchored, rising, dots
 use Rattle.typed_path.proofs.lemmas.lists.Lists.{width, slice_split-some, slice_split-unseparated, IsUnseparated, first-piece}
 use Rattle.typed_path.proofs.lemmas.components.FirmPrefixes.{parted, drive-apart, drive-stays}
 use Rattle.typed_path.proofs.lemmas.components.Segments.{pieces, named_part, first_part, first_parts, later_parts, body_parts, body_parts-read, parts-body, parts_behind, parts-comps_behind, IsWritten, IsWrittenPart, each-written}
-use Rattle.typed_path.proofs.lemmas.components.WindowsNames.{unseparated-none}
 use Rattle.typed_path.proofs.lemmas.components.PrefixCuts.{parts_of-none}
 use Rattle.typed_path.proofs.lemmas.changes.Lengths.{size}
 use Rattle.typed_path.proofs.lemmas.changes.MergedInPlace.{room-body}
 use Rattle.typed_path.proofs.lemmas.places.CleanTexts.{cleaned-rooted, cleaned-bare, cleaned-prefixed}
+use Rattle.typed_path.proofs.lemmas.components.Prefixes.{prefix_of-unseparated}
 
 -- The room that components take by their kinds, each but a root with a separator.
 
@@ -106,7 +106,7 @@ named-none t (b ∷ bs) x segments none is filled unseparated =
     by (Some letter) e = let found = drive-stays (b ∷ bs) x letter e in cc
 
     behind : (segments : List (List ℕ)) → drive (b ∷ bs) ≡ None → prefix_of windows (join_with_byte backslash ((b ∷ bs) ∷ segments)) ≡ None
-    behind segments undriven = grind (arith, unseparated-none, plain, drive-apart, parted)
+    behind segments undriven = grind (arith, prefix_of-unseparated, plain, drive-apart, parted)
 
 -- nor is `..`
 dotted-none : (segments : List (List ℕ)) → prefix_of windows (join_with_byte backslash ((dot ∷ dot ∷ []) ∷ segments)) ≡ None

@@ -4,12 +4,18 @@ use Rattle.std.specs.Prelude.{◌⊎◌, bytes_eq}
 use Rattle.std.proofs.lemmas.List.{length-append, length-take-le}
 use Rattle.std.proofs.lemmas.Bool.{cases_lt}
 use Rattle.typed_path.specs.places.{IsLast, shared_count}
+use Rattle.typed_path.proofs.lemmas.lists.Lists.{same-bytes}
 
 -- no more than either has
 pub shared_count-fits : (xs ys : List (List ℕ)) → (shared_count xs ys ≤ length xs) × (shared_count xs ys ≤ length ys)
 shared_count-fits [] ys = grind arith
 shared_count-fits (x ∷ xs) [] = grind arith
 shared_count-fits (x ∷ xs) (y ∷ ys) = grind (arith, shared_count-fits xs ys)
+
+-- a list shares all its names with itself
+pub shared_count-own : (xs : List (List ℕ)) → shared_count xs xs ≡ length xs
+shared_count-own [] = refl
+shared_count-own (x ∷ xs) = ap (λ b. if b then suc (shared_count xs xs) else 0) (same-bytes x) ∙ ap suc (shared_count-own xs)
 
 -- what another name at the end of each does
 record More (before after n : ℕ) (same : Bool) : Type 0 where

@@ -1,19 +1,18 @@
--- The normal text of Unix, a relative path joined on Unix, and where a checked one leads.
-use Rattle.std.proofs.Common.{◌≡◌, ℕ, zero, suc, Bool, true, false, not, if◌then◌else◌, List, [], ◌∷◌, ◌++◌, map, refl, sym, ap, ◌∙◌, ◌==◌, length, append_assoc, append-nil, ne_eqb, arith, ◌-◌, ◌<◌, drop, bytes_eq, Some, None, ap₂, inl, inr}
+-- The normal text of Unix, which is its own, a relative path joined on Unix, and where a checked one leads.
+use Rattle.std.proofs.Common.{◌≡◌, ℕ, zero, suc, true, false, if◌then◌else◌, List, [], ◌∷◌, ◌++◌, map, refl, sym, ap, ◌∙◌, ◌==◌, length, append_assoc, append-nil, ne_eqb, arith, ◌-◌, ◌<◌, drop, bytes_eq, None, ap₂, inl, inr}
 use Rattle.std.proofs.lemmas.Grind.{common_steps}
 use Rattle.std.proofs.lemmas.List.{map-append, drop-map, drop_all, length-map}
 use Rattle.std.specs.List.{AllByRecursion}
 use Rattle.std.proofs.lemmas.List.Splits.{slice_split-cons_yes}
 use Rattle.std.proofs.lemmas.Bool.{cases_lt}
 use Rattle.std.proofs.lemmas.Slice.Eq.{starts_is, bytes_eq-Decides}
-use Rattle.typed_path.specs.declared.errors.CheckedPathError.TheVariants.{InvalidFilename}
 use Rattle.typed_path.specs.declared.scan.separators.Separators.{Separators}
 use Rattle.typed_path.specs.declared.scan.separators.Separators.TheVariants.{Slash}
-use Rattle.typed_path.specs.components.{Dialect, unix, slash, is_separator, is_verbatim, Kind, prefix, root, current, parent, normal, Part, kinds, texts, name_part, parts, parts_of, is_dot, is_dot_dot, comps}
-use Rattle.typed_path.specs.queries.{is_valid_name, begins_with_root, path_starts_with}
-use Rattle.typed_path.specs.changes.{fault, fault_at, ended_with, push_unix, push_all}
-use Rattle.typed_path.specs.places.{overdraws, resolve, place, stays, normal_text, with_implied_root}
-use Rattle.typed_path.specs.promises.{keeps_prefix, HasPrefixOf, LiesWithin, ReadsAsResolved, StaysNormal, IsCanonical, IsCanonicalForm, IsBelow, without_leading_current, JoinAppends, StripJoins}
+use Rattle.typed_path.specs.components.{unix, slash, is_separator, is_verbatim, Kind, prefix, root, current, parent, normal, Part, kinds, texts, name_part, parts, parts_of, is_dot, is_dot_dot, comps}
+use Rattle.typed_path.specs.queries.{begins_with_root, path_starts_with}
+use Rattle.typed_path.specs.changes.{fault, ended_with, push_unix, push_all}
+use Rattle.typed_path.specs.places.{resolve, place, stays, normal_text, with_implied_root}
+use Rattle.typed_path.specs.promises.{HasPrefixOf, LiesWithin, ReadsAsResolved, StaysNormal, IsCanonical, IsCanonicalForm, without_leading_current, JoinAppends, StripJoins}
 use Rattle.typed_path.specs.scan.{left, start_at}
 use Rattle.typed_path.proofs.lemmas.changes.Faults.{fault_behind-at, fault_at-closed, no_heads-relative}
 use Rattle.typed_path.proofs.lemmas.components.Segments.{body_parts, parts-body, body_parts-read, IsCleanName, IsLaterPart, IsWritten, AreRead, text_by_kind, texts-read, pieces, first_parts, later_parts, parts-later_body, IsWrittenPart, each-written}
@@ -22,45 +21,6 @@ use Rattle.typed_path.proofs.lemmas.places.Resolving.{IsKept, resolve-kept, reso
 use Rattle.typed_path.proofs.lemmas.lists.Lists.{map-through, AllByRecursion-weaker}
 use Rattle.typed_path.proofs.lemmas.scan.Readings.{left-taken, left-all, left-front}
 use Rattle.typed_path.proofs.lemmas.components.Cuts.{body-filled, tail}
-
--- A path that is not refused leads to names alone, so a checked join lies below its base.
-
--- a list of names alone
-record AreNames (ks : List Kind) : Type 0 where
-  names : List (List ℕ)
-  are : ks ≡ map normal names
-
--- one component more, of a list that is not refused
-resolved-more : (d : Dialect) (depth : ℕ) (k : Kind) (text : List ℕ) (ps : List Part) → fault_at d depth (k ∷ kinds ps) ≡ None
-    → ((n : ℕ) → fault_at d n (kinds ps) ≡ None → AreNames (kinds (resolve ps))) → AreNames (kinds (resolve (record { kind = k; text = text } ∷ ps)))
-resolved-more d depth (prefix p) text ps e rest = absurd (cc)
-resolved-more d depth root text ps e rest = absurd (cc)
-resolved-more d depth current text ps e rest = rest depth e
-resolved-more d zero parent text ps e rest = absurd (cc)
-resolved-more d (suc depth) parent text ps e rest = rest depth e
-resolved-more d depth (normal name) text ps e rest = named (not (overdraws zero (kinds ps))) (rest (suc depth) (valid (is_valid_name d name) e))
-  where
-    valid : (b : Bool) → (if b then fault_at d (suc depth) (kinds ps) else Some InvalidFilename) ≡ None → fault_at d (suc depth) (kinds ps) ≡ None
-    valid b h = grind arith
-
-    named : (b : Bool) → AreNames (kinds (resolve ps)) → AreNames (kinds ((if b then record { kind = normal name; text = text } ∷ [] else []) ++ resolve ps))
-    named true h = record { names = name ∷ h.names; are = ap (λ ks. normal name ∷ ks) h.are }
-    named false h = h
-
--- a list that is not refused resolves to names
-resolved-names : (d : Dialect) (depth : ℕ) (ps : List Part) → fault_at d depth (kinds ps) ≡ None → AreNames (kinds (resolve ps))
-resolved-names d depth [] e = record { names = []; are = refl }
-resolved-names d depth (p ∷ ps) e = resolved-more d depth p.kind p.text ps e (λ n h. resolved-names d n ps h)
-
--- a path that is not refused leads to names
-accepted-names : (d : Dialect) (path : List ℕ) → fault d path ≡ None → AreNames (kinds (resolve (parts_of d path)))
-accepted-names d path e = resolved-names d zero (parts_of d path) (sym (fault_behind-at d [] zero (kinds (parts_of d path)) refl) ∙ e)
-
--- what has the promises of a checked join lies below its base, where that keeps its prefix
-pub lies_below : (d : Dialect) (base path joined : List ℕ) → fault d path ≡ None → HasPrefixOf d base joined → LiesWithin d base path joined → keeps_prefix d base ≡ true → IsBelow d base joined
-lies_below d base path joined accepted stays contained kept =
-    let found = accepted-names d path accepted in
-    record { names = found.names; leads = contained (stays kept) ∙ ap (λ ks. place d base ++ ks) found.are }
 
 -- The normal text of a Unix path reads as what its list resolves to, is its own normal text, and is one text for each such list.
 

@@ -22,7 +22,7 @@ use Rattle.typed_path.proofs.lemmas.promises.CleanRead.{anchored-stays, names-up
 use Rattle.typed_path.proofs.lemmas.promises.UnixContained.{parts_of-unix, join_appends, push_unix-nothing}
 use Rattle.typed_path.proofs.lemmas.promises.Within.{bare-anchored, kinds_of}
 use Rattle.typed_path.proofs.lemmas.promises.UnixWithin.{first-none}
-use Rattle.typed_path.proofs.lemmas.queries.Shared.{count-own}
+use Rattle.typed_path.proofs.lemmas.places.SharedFromBack.{shared_count-own}
 
 -- a list of Unix is anchored where it begins with a root
 anchored-unix : (t : List ℕ) → is_anchored (kinds_of unix t) ≡ begins_with_root (kinds_of unix t)
@@ -179,7 +179,7 @@ module _ (path base : List ℕ) where
 
 module _ (ks ls : List Kind) (over : rising ks ≡ rising ls) (names : kept_names ks ≡ kept_names ls) where
   all-met : met_count ks ls ≡ length (kept_names ks)
-  all-met = grind (arith, eq-eqb, count-own)
+  all-met = grind (arith, eq-eqb, shared_count-own)
 
   none-up : steps_up ks ls ≡ 0
   none-up = omega (arith, all-met, over, ap length names)

@@ -12,10 +12,11 @@ use Rattle.typed_path.proofs.lemmas.promises.CleanRead.{anchored-stays, names-up
 use Rattle.typed_path.proofs.lemmas.promises.VerbatimWithin.{end, front-names, left_behind, relative-place}
 use Rattle.typed_path.proofs.lemmas.promises.WindowsBases.{verbatim-no_drive}
 use Rattle.typed_path.proofs.lemmas.components.PrefixCuts.{verbatim-some, verbatim-none}
-use Rattle.typed_path.proofs.lemmas.promises.WindowsRelative.{firm-kept, leads_plain, relative-alike}
+use Rattle.typed_path.proofs.lemmas.promises.WindowsRelative.{leads_plain, relative-alike}
 use Rattle.typed_path.proofs.lemmas.promises.WindowsWithin.{body_kinds, kinds-found, under}
 use Rattle.typed_path.proofs.lemmas.promises.Within.{kinds_of}
 use Rattle.typed_path.proofs.lemmas.lists.Lists.{take-behind}
+use Rattle.typed_path.proofs.lemmas.promises.WindowsContained.{firm-kept}
 
 -- A place behind a prefix and a root tells what a list begins with and which names are kept.
 

@@ -8,7 +8,7 @@ use Rattle.typed_path.specs.components.{windows, begins_verbatim, separators, sl
 use Rattle.typed_path.specs.queries.{is_verbatim_prefix, has_any_verbatim_prefix, is_disk}
 use Rattle.typed_path.specs.changes.{push_windows, spelled, merged, ended_windows, is_disk_alone, fault}
 use Rattle.typed_path.specs.places.{resolve, place}
-use Rattle.typed_path.specs.promises.{prefix_kind, LiesWithin, keeps_by_prefix, HasPrefixOf}
+use Rattle.typed_path.specs.promises.{prefix_kind, LiesWithin, keeps_by_prefix, HasPrefixOf, keeps_prefix}
 use Rattle.typed_path.proofs.lemmas.components.Segments.{body_parts, body_parts-read, AreRead, parts_behind, first_part, later_parts}
 use Rattle.typed_path.proofs.lemmas.components.PrefixCuts.{verbatim_text, name-filled, parts_of-none, parts_of-some, verbatim-some, verbatim-none}
 use Rattle.typed_path.proofs.lemmas.changes.Faults.{place_of, IsFaultless, faultless, push-faultless, no_heads-relative, body_parts-relative}
@@ -214,6 +214,10 @@ spelled-keeps base rest f added is firm other read spelt separated =
 -- where there is a prefix, the base itself does not count
 pub keeps_by_prefix-firm : (base : List ℕ) (p : Prefix) → keeps_by_prefix base (Some p) ≡ is_firm p
 keeps_by_prefix-firm base p = grind arith
+
+-- so a base that keeps its prefix has a firm one
+pub firm-kept : (base : List ℕ) (f : Found) → prefix_of windows base ≡ Some f → keeps_prefix windows base ≡ true → is_firm f.prefix ≡ true
+firm-kept base f is kept = sym (keeps_by_prefix-firm base f.prefix) ∙ ap (λ o. keeps_by_prefix base (option_map (λ g. g.prefix) o)) (sym is) ∙ kept
 
 module _ (base : List ℕ) (b : ℕ) (bs : List ℕ) (fine : IsFaultless (b ∷ bs)) where
   abbrev path : List ℕ

@@ -21,7 +21,7 @@ use Rattle.typed_path.proofs.lemmas.promises.CleanRead.{names-ups, unmet-ups, up
 use Rattle.typed_path.proofs.lemmas.promises.StepsBack.{free-rising, leads-back, same-route, IsRelativeRead, read-relative, stays_relative}
 use Rattle.typed_path.proofs.lemmas.promises.UnixContained.{body_parts-later}
 use Rattle.typed_path.proofs.lemmas.promises.WindowsBases.{read-no_drive, disk_alone-disk, disk_alone-filled}
-use Rattle.typed_path.proofs.lemmas.promises.WindowsContained.{firm-joined, keeps_by_prefix-firm, none-joined}
+use Rattle.typed_path.proofs.lemmas.promises.WindowsContained.{firm-joined, none-joined, firm-kept}
 use Rattle.typed_path.proofs.lemmas.promises.WindowsStable.{push-first}
 use Rattle.typed_path.proofs.lemmas.promises.WindowsWithin.{body_kinds, kinds-found, kinds-none, kinds-plain, push-bare}
 use Rattle.typed_path.proofs.lemmas.promises.Within.{bare-anchored, kinds_of}
@@ -198,9 +198,6 @@ relative-alike path base r h =
 
 joined-route : (path base r : List ℕ) → IsRelativeRead windows (kinds_of windows path) (kinds_of windows base) r → Joined base r → route windows (push_windows base r) ≡ route windows path
 joined-route path base r h j = grind (arith, kinds_of, alike-append, ups, relative-alike, same-route, leads-back)
-
-pub firm-kept : (base : List ℕ) (f : Found) → prefix_of windows base ≡ Some f → keeps_prefix windows base ≡ true → is_firm f.prefix ≡ true
-firm-kept base f is kept = sym (keeps_by_prefix-firm base f.prefix) ∙ ap (λ o. keeps_by_prefix base (option_map (λ g. g.prefix) o)) (sym is) ∙ kept
 
 pub leads_plain : (path base r : List ℕ) → keeps_prefix windows base ≡ true → has_any_verbatim_prefix (kinds_of windows base) ≡ false → relative_text windows path base ≡ Some r
     → route windows (push windows base r) ≡ route windows path

@@ -1,5 +1,5 @@
--- A path that is within a base lies below it, from each directory of which is known where paths lead behind it.
-use Rattle.std.proofs.Common.{◌≡◌, ℕ, ◌-◌, ◌==◌, ◌≤◌, Bool, true, false, not, ◌&&◌, ◌||◌, inl, inr, List, [], ◌++◌, map, if◌then◌else◌, length, take, drop, refl, sym, ap, ap₂, ◌∙◌, append_assoc, append-nil, take-append-drop, arith, nat_le, eq-eqb, Option, Some, None}
+-- A path that is within a base lies below it, from each directory of which is known where paths lead behind it; and a checked join lies below its base.
+use Rattle.std.proofs.Common.{◌≡◌, ℕ, ◌-◌, ◌==◌, ◌≤◌, Bool, true, false, not, ◌&&◌, ◌||◌, inl, inr, List, [], ◌++◌, map, if◌then◌else◌, length, take, drop, refl, sym, ap, ap₂, ◌∙◌, append_assoc, append-nil, take-append-drop, arith, nat_le, eq-eqb, Option, Some, None, zero, suc, ◌∷◌}
 use Rattle.std.proofs.lemmas.Grind.{common_steps}
 use Rattle.std.specs.Prelude.{is_some}
 use Rattle.std.specs.List.{starts_with}
@@ -8,13 +8,15 @@ use Rattle.std.specs.Cmp.{Equal-is}
 use Rattle.std.proofs.lemmas.Bool.{eqb-true, and_parts, or_cases, both_ways, leb-true, le-leb, not-true}
 use Rattle.std.proofs.lemmas.List.{map-append, take-take}
 use Rattle.std.proofs.lemmas.Slice.Eq.{starts_is, bytes_eq-Decides}
-use Rattle.typed_path.specs.components.{Dialect, Prefix, Kind, prefix, normal, kinds, parts_of}
-use Rattle.typed_path.specs.queries.{begins_with_root, first_prefix, has_prefix}
+use Rattle.typed_path.specs.components.{Dialect, Prefix, Kind, prefix, normal, kinds, parts_of, root, current, parent, Part}
+use Rattle.typed_path.specs.queries.{begins_with_root, first_prefix, has_prefix, is_valid_name}
 use Rattle.typed_path.specs.order.{are_same_prefixes, kind_cmp, exact_kinds}
-use Rattle.typed_path.specs.changes.{push}
-use Rattle.typed_path.specs.places.{place, unmet, kept_names, is_anchored, rising, headed, head_of, same_heads, leads_within, holds_all, is_within}
-use Rattle.typed_path.specs.promises.{IsBelow}
+use Rattle.typed_path.specs.changes.{push, fault, fault_at}
+use Rattle.typed_path.specs.places.{place, unmet, kept_names, is_anchored, rising, headed, head_of, same_heads, leads_within, holds_all, is_within, overdraws, resolve, stays}
+use Rattle.typed_path.specs.promises.{IsBelow, keeps_prefix, HasPrefixOf, LiesWithin}
 use Rattle.typed_path.proofs.lemmas.places.KeptNames.{place-kept}
+use Rattle.typed_path.specs.declared.errors.CheckedPathError.TheVariants.{InvalidFilename}
+use Rattle.typed_path.proofs.lemmas.changes.Faults.{fault_behind-at}
 
 abbrev pub kinds_of : Dialect → List ℕ → List Kind
 kinds_of d t = kinds (parts_of d t)
@@ -223,3 +225,42 @@ within-below d dir base t l replaces asked = by (first_prefix (kinds_of d t)) re
     by : (o : Option Prefix) → first_prefix (kinds_of d t) ≡ o → IsBelow d (push d dir base) (push d dir t)
     by None e = behind-below d base t dir l (told (kinds_of d t) (kinds_of d base) asked) e
     by (Some p) e = prefixed-below d dir base t replaces (has_prefix-first (kinds_of d t) ∙ ap is_some e) asked
+
+-- A path that is not refused leads to names alone, so a checked join lies below its base.
+
+-- a list of names alone
+record AreNames (ks : List Kind) : Type 0 where
+  names : List (List ℕ)
+  are : ks ≡ map normal names
+
+-- one component more, of a list that is not refused
+resolved-more : (d : Dialect) (depth : ℕ) (k : Kind) (text : List ℕ) (ps : List Part) → fault_at d depth (k ∷ kinds ps) ≡ None
+    → ((n : ℕ) → fault_at d n (kinds ps) ≡ None → AreNames (kinds (resolve ps))) → AreNames (kinds (resolve (record { kind = k; text = text } ∷ ps)))
+resolved-more d depth (prefix p) text ps e rest = absurd (cc)
+resolved-more d depth root text ps e rest = absurd (cc)
+resolved-more d depth current text ps e rest = rest depth e
+resolved-more d zero parent text ps e rest = absurd (cc)
+resolved-more d (suc depth) parent text ps e rest = rest depth e
+resolved-more d depth (normal name) text ps e rest = named (not (overdraws zero (kinds ps))) (rest (suc depth) (valid (is_valid_name d name) e))
+  where
+    valid : (b : Bool) → (if b then fault_at d (suc depth) (kinds ps) else Some InvalidFilename) ≡ None → fault_at d (suc depth) (kinds ps) ≡ None
+    valid b h = grind arith
+
+    named : (b : Bool) → AreNames (kinds (resolve ps)) → AreNames (kinds ((if b then record { kind = normal name; text = text } ∷ [] else []) ++ resolve ps))
+    named true h = record { names = name ∷ h.names; are = ap (λ ks. normal name ∷ ks) h.are }
+    named false h = h
+
+-- a list that is not refused resolves to names
+resolved-names : (d : Dialect) (depth : ℕ) (ps : List Part) → fault_at d depth (kinds ps) ≡ None → AreNames (kinds (resolve ps))
+resolved-names d depth [] e = record { names = []; are = refl }
+resolved-names d depth (p ∷ ps) e = resolved-more d depth p.kind p.text ps e (λ n h. resolved-names d n ps h)
+
+-- a path that is not refused leads to names
+accepted-names : (d : Dialect) (path : List ℕ) → fault d path ≡ None → AreNames (kinds (resolve (parts_of d path)))
+accepted-names d path e = resolved-names d zero (parts_of d path) (sym (fault_behind-at d [] zero (kinds (parts_of d path)) refl) ∙ e)
+
+-- what has the promises of a checked join lies below its base, where that keeps its prefix
+pub lies_below : (d : Dialect) (base path joined : List ℕ) → fault d path ≡ None → HasPrefixOf d base joined → LiesWithin d base path joined → keeps_prefix d base ≡ true → IsBelow d base joined
+lies_below d base path joined accepted stays contained kept =
+    let found = accepted-names d path accepted in
+    record { names = found.names; leads = contained (stays kept) ∙ ap (λ ks. place d base ++ ks) found.are }

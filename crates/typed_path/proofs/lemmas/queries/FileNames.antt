@@ -1,5 +1,5 @@
 -- A file name, its stem and its extension, and names with allowed bytes.
-use Rattle.std.proofs.Common.{◌≡◌, ℕ, ◌+◌, ◌-◌, ◌<◌, ◌≤◌, Bool, true, false, not, if◌then◌else◌, List, [], ◌∷◌, ◌++◌, length, reverse, drop, get_or, Some, None, All, ◌⊎◌, inl, inr, refl, sym, ap, ◌∙◌, append_assoc, arith, cond, take, Bor, subst, eqb-true, get_or-drop, length-drop, length-take, take-append-drop, Result, MatchResult, option_copied}
+use Rattle.std.proofs.Common.{◌≡◌, ℕ, ◌+◌, ◌-◌, ◌<◌, ◌≤◌, Bool, true, false, not, if◌then◌else◌, List, [], ◌∷◌, ◌++◌, length, reverse, drop, get_or, Some, None, All, ◌⊎◌, inl, inr, refl, sym, ap, ◌∙◌, append_assoc, arith, cond, take, subst, eqb-true, get_or-drop, length-drop, length-take, take-append-drop}
 use Rattle.std.proofs.lemmas.Grind.{common_steps}
 use Rattle.std.specs.Prelude.{position, nat_lt}
 use Rattle.std.specs.List.{list_any, before_first, after_first, position_or_len, before_last, after_last, suffix_len, slice_split, onto_first, AllByRecursion}
@@ -8,15 +8,12 @@ use Rattle.std.proofs.lemmas.List.{take_all, take_more, get_or-reverse, get_or_d
 use Rattle.std.proofs.lemmas.List.Folds.{Any-from_list_any, list_any_none, list_any_at}
 use Rattle.std.proofs.lemmas.List.Sums.{prefix_len_passes, prefix_len_stops, suffix_len_is, passes_at_first, split_at_first}
 use Rattle.memchr.specs.Find.{Nowhere, NoneAfter, Passes}
-use Rattle.std.specs.Str.{IsUtf8, is_utf8}
-use Rattle.std.specs.Result.{result_ok}
-use Rattle.std.proofs.lemmas.Str.{IsUtf8-from_is_utf8, is_utf8-from_IsUtf8}
 use Rattle.std.proofs.lemmas.List.Elements.{All-head, All-tail}
 use Rattle.typed_path.specs.declared.scan.separators.Separators.{Separators}
 use Rattle.typed_path.specs.declared.scan.cursor.Begin.{Begin}
 use Rattle.typed_path.specs.declared.scan.cursor.Begin.TheVariants.{Body, Inside}
 use Rattle.typed_path.specs.components.{dot, Dialect, dialect_of, is_separator, root_text, Part, Kind, kinds, parts, root_part, current_part, parent_part, name_part}
-use Rattle.typed_path.specs.queries.{is_a_dot, has_extension, first_stem_of, stem_of, extension_of, text_of_bytes, is_disallowed, kind_has_allowed_bytes}
+use Rattle.typed_path.specs.queries.{is_a_dot, has_extension, first_stem_of, stem_of, extension_of, is_disallowed, kind_has_allowed_bytes}
 use Rattle.typed_path.specs.scan.{body_from}
 use Rattle.typed_path.specs.changes.{SeparatesDisallowed}
 use Rattle.typed_path.proofs.lemmas.components.Segments.{pieces, later_part, later_parts, first_parts, body_parts, parts-body, parts-later_body}
@@ -138,30 +135,6 @@ module _ (name : List ℕ) where
 
     pub extension-behind : extension_of name ≡ Some (drop (at + 1) name)
     extension-behind = grind (arith, behind_last, some_extension)
-
--- Bytes that are a text, and bytes that are none.
-
-pub text_of_bytes-some : (t : List ℕ) → IsUtf8 t → text_of_bytes t ≡ Some t
-text_of_bytes-some t is = rw (is_utf8-from_IsUtf8 t is) refl
-
-pub text_of_bytes-none : (t : List ℕ) → ¬ (IsUtf8 t) → text_of_bytes t ≡ None
-text_of_bytes-none t isnt = by (is_utf8 t) refl
-  where
-    by : (b : Bool) → is_utf8 t ≡ b → (if b then Some t else None) ≡ None
-    by true e = absurd (isnt (IsUtf8-from_is_utf8 t e))
-    by false e = refl
-
--- a text found in bytes is all of them
-pub text_of_bytes-is : (t u : List ℕ) → text_of_bytes t ≡ Some u → IsUtf8 t × (t ≡ u)
-text_of_bytes-is t u = by (is_utf8 t) refl
-  where
-    by : (b : Bool) → is_utf8 t ≡ b → (if b then Some t else None) ≡ Some u → IsUtf8 t × (t ≡ u)
-    by true e h = (IsUtf8-from_is_utf8 t e, cc)
-    by false e h = cc
-
--- what reading bytes as a text gives
-pub text_of_bytes-read : {E : Type 0} (P : E → Type 0) (r : Result (Bor (List ℕ)) E) (t : List ℕ) → MatchResult r (λ s. (s.now ≡ t) × IsUtf8 t) (λ e. ¬ (IsUtf8 t) × P e) → option_copied (result_ok r) ≡ text_of_bytes t
-text_of_bytes-read P r t h = grind (arith, text_of_bytes-some, text_of_bytes-none)
 
 -- The names of a text in which each byte that no name may have is a separator.
 

@@ -14,7 +14,6 @@ use Rattle.typed_path.specs.queries.{shared_count, end_of_first, shared_end}
 use Rattle.typed_path.proofs.lemmas.components.Cuts.{comps-laid_out, ends-within, start-end}
 use Rattle.typed_path.proofs.lemmas.queries.Bases.{slice_after-more, left-fronts}
 use Rattle.typed_path.proofs.lemmas.scan.Readings.{left-all, left-front, left-taken}
-use Rattle.typed_path.proofs.lemmas.lists.Lists.{same-bytes}
 
 -- it is no longer than the text
 left-fits : (cs : List Placed) (t : List ℕ) (k : ℕ) → k ≤ length cs → length (left cs t k 0) ≤ length t
@@ -135,7 +134,3 @@ starts_shared (x ∷ xs) (y ∷ ys) (z ∷ zs) one other =
     let same : bytes_eq x y ≡ true = (bytes_eq-Decides x y).1 (sym first ∙ second) in
     ap (λ b. starts_with bytes_eq (take (if b then suc (shared_count xs ys) else 0) (x ∷ xs)) (z ∷ zs)) same
     ∙ ap₂ (λ a b. a && b) own.0 (starts_shared xs ys zs own.1 their.1)
-
-pub count-own : (xs : List (List ℕ)) → shared_count xs xs ≡ length xs
-count-own [] = refl
-count-own (x ∷ xs) = ap (λ b. if b then suc (shared_count xs xs) else 0) (same-bytes x) ∙ ap suc (count-own xs)

@@ -1,10 +1,10 @@
--- A text cut beside a byte of ASCII, and the segments, prefixes and components that are texts.
-use Rattle.std.proofs.Common.{◌≡◌, ℕ, ◌+◌, ◌-◌, ◌<◌, ◌==◌, Bool, true, false, List, [], ◌∷◌, ◌++◌, length, take, drop, get_or, slice_range, inl, inr, refl, sym, ap, subst, ◌∙◌, append_assoc, eqb-true, arith, cond, ◌&&◌, not, nat_lt, Option, Some, flat_map, None, take-append-drop, length-take-le, ltb-true, get_or-append-add, take_at, drop_at, length-append, take_all}
+-- Bytes that are a text and bytes that are none, a text cut beside a byte of ASCII, and the segments, prefixes and components that are texts.
+use Rattle.std.proofs.Common.{◌≡◌, ℕ, ◌+◌, ◌-◌, ◌<◌, ◌==◌, Bool, true, false, List, [], ◌∷◌, ◌++◌, length, take, drop, get_or, slice_range, inl, inr, refl, sym, ap, subst, ◌∙◌, append_assoc, eqb-true, arith, cond, ◌&&◌, not, nat_lt, Option, Some, flat_map, None, take-append-drop, length-take-le, ltb-true, get_or-append-add, take_at, drop_at, length-append, take_all, if◌then◌else◌, Bor, Result, MatchResult, option_copied}
 use Rattle.std.proofs.lemmas.Grind.{common_steps}
 use Rattle.std.specs.Str.{IsUtf8, IsCharBoundary, is_utf8}
 use Rattle.std.proofs.lemmas.Bool.{cases_lt, cond_both, and_parts, and_from, not-false}
 use Rattle.std.proofs.lemmas.List.{get_or_at, get_or_append_left, drop_all}
-use Rattle.std.proofs.lemmas.Str.{IsUtf8-nil, IsUtf8-take, IsUtf8-drop, IsUtf8-between, IsCharBoundary-before_ascii, IsCharBoundary-after_ascii, IsCharBoundary-end, is_utf8-from_IsUtf8, IsCharBoundary-from_take, IsCharBoundary-from_rest, IsUtf8-from_ascii, IsUtf8-append, IsCharBoundary-start}
+use Rattle.std.proofs.lemmas.Str.{IsUtf8-nil, IsUtf8-take, IsUtf8-drop, IsUtf8-between, IsCharBoundary-before_ascii, IsCharBoundary-after_ascii, IsCharBoundary-end, is_utf8-from_IsUtf8, IsCharBoundary-from_take, IsCharBoundary-from_rest, IsUtf8-from_ascii, IsUtf8-append, IsCharBoundary-start, IsUtf8-from_is_utf8}
 use Rattle.std.specs.Prelude.{⊤}
 use Rattle.std.specs.List.{slice_split, onto_first, AllByRecursion, position_or_len, after_first}
 use Rattle.std.proofs.lemmas.List.Sums.{prefix_len_stops, prefix_len-le-length}
@@ -13,13 +13,14 @@ use Rattle.typed_path.specs.declared.scan.separators.Separators.{Separators}
 use Rattle.typed_path.specs.declared.scan.separators.Separators.TheVariants.{Slash, Backslash, Either}
 use Rattle.typed_path.specs.components.{slash, backslash, is_separator, Dialect, unix, windows, separators, question, dot, colon, root_text, Segment, placed, segments, component, later, first, body, comps_behind, comps, Found, drive, after_two, after_four, after_mark, after_unc, name, second_name, names_length, is_drive_letter, prefix_of, Part, Placed, end_of, current_part, parent_part, name_part, root_part}
 use Rattle.typed_path.specs.texts.{is_text_prefix, is_text_part}
-use Rattle.typed_path.specs.queries.{name_of}
+use Rattle.typed_path.specs.queries.{name_of, text_of_bytes}
 use Rattle.typed_path.proofs.lemmas.lists.Lists.{slice_split-some, AllByRecursion-append}
 use Rattle.typed_path.proofs.lemmas.components.Prefixes.{after_mark-reads, after_unc-reads, after_two-reads, both-read, Read, IsBehindMark, of_verbatim_unc, of_verbatim_disk, of_verbatim, of_device, of_unc, of_disk, prefix-read, prefix-fits}
 use Rattle.typed_path.proofs.lemmas.components.PrefixCuts.{name-length, names-take}
 use Rattle.typed_path.proofs.lemmas.components.Segments.{Seen, empty, passed_dot, kept_dot, dot_dot, word, seen}
 use Rattle.typed_path.proofs.lemmas.components.Cuts.{empty_first}
 use Rattle.typed_path.proofs.lemmas.lists.Options.{and_then-some, where-some}
+use Rattle.std.specs.Result.{result_ok}
 
 -- A text cut beside a byte of ASCII.
 
@@ -344,3 +345,27 @@ comps-cut d t is = by (prefix_of d t) refl
           subst (λ n. AllByRecursion (IsCut t) (body s n (drop f.length t))) size
               (body-cut s t (take f.length t) (drop f.length t) is (sym (take-append-drop f.length t)) (subst (IsCharBoundary t) (sym size) found.end)),
         )
+
+-- Bytes that are a text, and bytes that are none.
+
+pub text_of_bytes-some : (t : List ℕ) → IsUtf8 t → text_of_bytes t ≡ Some t
+text_of_bytes-some t is = rw (is_utf8-from_IsUtf8 t is) refl
+
+pub text_of_bytes-none : (t : List ℕ) → ¬ (IsUtf8 t) → text_of_bytes t ≡ None
+text_of_bytes-none t isnt = by (is_utf8 t) refl
+  where
+    by : (b : Bool) → is_utf8 t ≡ b → (if b then Some t else None) ≡ None
+    by true e = absurd (isnt (IsUtf8-from_is_utf8 t e))
+    by false e = refl
+
+-- a text found in bytes is all of them
+pub text_of_bytes-is : (t u : List ℕ) → text_of_bytes t ≡ Some u → IsUtf8 t × (t ≡ u)
+text_of_bytes-is t u = by (is_utf8 t) refl
+  where
+    by : (b : Bool) → is_utf8 t ≡ b → (if b then Some t else None) ≡ Some u → IsUtf8 t × (t ≡ u)
+    by true e h = (IsUtf8-from_is_utf8 t e, cc)
+    by false e h = cc
+
+-- what reading bytes as a text gives
+pub text_of_bytes-read : {E : Type 0} (P : E → Type 0) (r : Result (Bor (List ℕ)) E) (t : List ℕ) → MatchResult r (λ s. (s.now ≡ t) × IsUtf8 t) (λ e. ¬ (IsUtf8 t) × P e) → option_copied (result_ok r) ≡ text_of_bytes t
+text_of_bytes-read P r t h = grind (arith, text_of_bytes-some, text_of_bytes-none)

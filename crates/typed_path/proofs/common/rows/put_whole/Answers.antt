@@ -2,8 +2,8 @@ use Rattle.std.proofs.Common.{◌∙◌, ◌++◌, sym, ap}
 use Rattle.std.proofs.lemmas.Result.{on_ok_weaker}
 use Rattle.typed_path.specs.places.{clean_text}
 use Rattle.typed_path.proofs.lemmas.places.CleanTexts.{clean_text-none}
-use Rattle.typed_path.proofs.lemmas.components.Prefixes.{root_of-other}
 use Rattle.typed_path.proofs.common.rows.put_whole.Goals as goal
+use Rattle.typed_path.proofs.lemmas.components.WrittenForms.{root_of-other}
 
 pub returns-in-None-clause-ok : goal.returns-in-None-clause-ok
 returns-in-None-clause-ok g c =

@@ -1,8 +1,8 @@
 use Rattle.std.proofs.Common.{sym}
 use Rattle.typed_path.specs.views.PathViews.{path_bytes}
 use Rattle.typed_path.specs.changes.{push}
-use Rattle.typed_path.proofs.lemmas.promises.UnixContained.{lies_below}
 use Rattle.typed_path.proofs.common.path.Path.join_checked.Goals as goal
+use Rattle.typed_path.proofs.lemmas.promises.Within.{lies_below}
 
 pub returns-clause-below : goal.returns-clause-below
 returns-clause-below g c =

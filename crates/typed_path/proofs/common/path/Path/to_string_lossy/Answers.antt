@@ -1,8 +1,8 @@
 use Rattle.std.proofs.Common.{sym, ◌∙◌}
 use Rattle.std.proofs.lemmas.Str.{utf8_lossy-IsUtf8}
 use Rattle.typed_path.specs.views.PathViews.{path_bytes}
-use Rattle.typed_path.proofs.lemmas.queries.FileNames.{text_of_bytes-some, text_of_bytes-is}
 use Rattle.typed_path.proofs.common.path.Path.to_string_lossy.Goals as goal
+use Rattle.typed_path.proofs.lemmas.texts.TextCuts.{text_of_bytes-some, text_of_bytes-is}
 
 pub returns-in_err-replaced-in-None-clause-succeeds : goal.returns-in_err-replaced-in-None-clause-succeeds
 returns-in_err-replaced-in-None-clause-succeeds g c = λ is. let e = c.in-None.ensures ∙ text_of_bytes-some (path_bytes c.args.self) is in cc
