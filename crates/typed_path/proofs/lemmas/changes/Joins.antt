@@ -15,7 +15,7 @@ use Rattle.typed_path.proofs.lemmas.lists.Lists.{slice_split-some, slice_split-a
 use Rattle.typed_path.proofs.lemmas.components.Segments.{pieces, first_parts, first_parts-append, later_parts, body_parts, IsCleanName, later_part, first_part, IsWritten, IsWrittenPart, IsLater, IsLaterPart, AreRead, later_parts-later, dot-is, dot_dot-is, later-relative}
 use Rattle.typed_path.proofs.lemmas.components.PrefixCuts.{IsUnended}
 use Rattle.typed_path.proofs.lemmas.places.Resolving.{IsKept, resolve-same, Alike, Alike-append, current-alike, no_heads}
-use Rattle.typed_path.proofs.lemmas.components.Prefixes.{OfWindows, backslash-separates}
+use Rattle.typed_path.proofs.lemmas.components.Prefixes.{OfWindows, backslash-separates, backslash-free}
 
 -- The components of a text with more put behind a separator at its end.
 
@@ -309,10 +309,6 @@ row-read s text w h =
 -- a later component is a component as it stands
 component-later : (s : Separators) (k : Kind) (text : List ℕ) → IsLater s k text → is_component s text ≡ true
 component-later s k text later = grind arith
-
--- what separates nothing holds no `\`
-pub backslash-free : (s : Separators) → OfWindows s → (text : List ℕ) → IsUnseparated (is_separator s) text → IsUnseparated (is_separator Backslash) text
-backslash-free s w text free = grind arith
 
 -- a later component holds no `/`, unless the text is read verbatim
 piece-slash_free : (p : Part) → IsLaterPart Either p → list_any (is_separator Slash) p.text ≡ false

@@ -16,10 +16,10 @@ use Rattle.typed_path.specs.changes.{AreNamesBefore, begins_no_name, begins_no_n
 use Rattle.typed_path.proofs.lemmas.lists.Lists.{IsUnseparated, slice_split-some, slice_split-unseparated}
 use Rattle.typed_path.proofs.lemmas.components.Segments.{pieces, first_part, later_part, first_parts, later_parts, parts-later_body}
 use Rattle.typed_path.proofs.lemmas.components.PrefixCuts.{parts_of-none}
-use Rattle.typed_path.proofs.lemmas.changes.Joins.{backslash-free}
 use Rattle.typed_path.proofs.lemmas.changes.WindowsPushes.{stands-more}
 use Rattle.typed_path.proofs.lemmas.changes.MergedInPlace.{no-prefix}
 use Rattle.typed_path.proofs.lemmas.components.FirmPrefixes.{filled-long}
+use Rattle.typed_path.proofs.lemmas.components.Prefixes.{backslash-free}
 
 -- ---- what the looks tell of the pieces
 module _ (pair : ℕ × ℕ) where

@@ -15,13 +15,13 @@ use Rattle.typed_path.specs.conversions.{same_dialect, crossed, crossed_all, con
 use Rattle.typed_path.proofs.lemmas.lists.Lists.{AllByRecursion-weaker}
 use Rattle.typed_path.proofs.lemmas.components.Prefixes.{separators-windows, root_text-windows, prefix-fits}
 use Rattle.typed_path.proofs.lemmas.components.PrefixCuts.{IsSize, prefix-size, parts_of-none, parts_of-some}
-use Rattle.typed_path.proofs.lemmas.components.Segments.{body_parts, body_parts-read, IsWritten, IsWrittenPart, each-written}
+use Rattle.typed_path.proofs.lemmas.components.Segments.{body_parts, body_parts-read, IsWritten, IsWrittenPart, each-written, parts_of-unix}
 use Rattle.typed_path.proofs.lemmas.changes.Joins.{Ending, parted, ending}
 use Rattle.typed_path.proofs.lemmas.changes.Lengths.{size, ended-length}
 use Rattle.typed_path.proofs.lemmas.changes.MergedInPlace.{room-body, room-text, no-prefix}
 use Rattle.typed_path.proofs.lemmas.changes.WindowsPushes.{push-prefixed, push-anew, push-rooted, push-relative}
 use Rattle.typed_path.proofs.lemmas.places.Resolving.{resolve-each}
-use Rattle.typed_path.proofs.lemmas.promises.UnixContained.{parts_of-unix, push_unix-nothing}
+use Rattle.typed_path.proofs.lemmas.promises.UnixContained.{push_unix-nothing}
 use Rattle.typed_path.proofs.lemmas.promises.WindowsStable.{push-first}
 use Rattle.typed_path.proofs.lemmas.changes.SpelledLengths.{merged-size, anew, IsMarked, has-marked, anew-most, anew-least, raw-undriven, root-undriven, joined-undriven, merged-undriven, IsDriven}
 

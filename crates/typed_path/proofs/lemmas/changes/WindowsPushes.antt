@@ -1,4 +1,4 @@
--- What a push of Windows asks of its base, which paths it puts behind that, and what stands behind a prefix that is written anew.
+-- What a push of Windows asks of its base and of its end, which paths it puts behind that, and what stands behind a prefix that is written anew.
 use Rattle.std.proofs.Common.{◌≡◌, ℕ, ◌+◌, ◌-◌, ◌<◌, ◌≤◌, ◌==◌, ◌||◌, Bool, true, false, if◌then◌else◌, List, [], ◌∷◌, ◌++◌, length, take, drop, slice_index, Option, Some, None, is_some, refl, sym, ap, subst, ◌∙◌, append-nil, arith, suc, not, append_assoc, length-append, option_and_then, ◌&&◌, slice_range, eq-eqb, eqb-true, length-drop, length-take-le, take-take}
 use Rattle.std.proofs.lemmas.Grind.{common_steps}
 use Rattle.std.specs.Option.{option_or}

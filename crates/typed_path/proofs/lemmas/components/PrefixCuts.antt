@@ -10,8 +10,8 @@ use Rattle.std.proofs.lemmas.Bool.Decides.{Decides-eqb}
 use Rattle.std.proofs.lemmas.Slice.Eq.{starts_is}
 use Rattle.typed_path.specs.declared.scan.separators.Separators.{Separators}
 use Rattle.typed_path.specs.declared.scan.separators.Separators.TheVariants.{Either, Backslash}
-use Rattle.typed_path.specs.components.{is_separator, question, dot, windows, backslash, separators, begins_verbatim, is_empty, name, second_name, names_length, Found, found, drive, after_two, after_mark, after_unc, verbatim_unc_case, verbatim_disk_case, verbatim_case, device_case, unc_case, disk_case, prefix_of, Prefix, verbatim, verbatim_unc, verbatim_disk, device_ns, unc, disk, parts_of, kinds}
-use Rattle.typed_path.specs.queries.{is_disk, is_verbatim_prefix, begins_with_prefix, has_any_verbatim_prefix}
+use Rattle.typed_path.specs.components.{is_separator, question, dot, windows, backslash, separators, begins_verbatim, is_empty, name, second_name, names_length, Found, found, drive, after_two, after_mark, after_unc, verbatim_unc_case, verbatim_disk_case, verbatim_case, device_case, unc_case, disk_case, prefix_of, Prefix, verbatim, verbatim_unc, verbatim_disk, device_ns, unc, disk, parts_of, kinds, parts, comps, comps_behind}
+use Rattle.typed_path.specs.queries.{is_disk, is_verbatim_prefix, begins_with_prefix, has_any_verbatim_prefix, first_prefix}
 use Rattle.typed_path.proofs.lemmas.components.Prefixes.{ReadsMark, IsFront, after_mark-reads, after_unc-reads, after_two-reads, both-read, drive-take, drive-none, OfWindows, separators-windows, backslash-separates, name-fits, Read, of_verbatim_unc, of_verbatim_disk, of_verbatim, of_device, of_unc, of_disk, prefix-read, prefix_by}
 use Rattle.typed_path.proofs.lemmas.components.Segments.{position-append, body_parts, parts_behind, parts-comps_behind}
 use Rattle.typed_path.proofs.lemmas.lists.Options.{and_then-some, unless-some, some_is, unless-none}
@@ -264,6 +264,17 @@ same-none text e is = same_from text e (plain-take text e (plain-none text is) �
 -- the components of a text without a prefix
 pub parts_of-none : (t : List ℕ) → prefix_of windows t ≡ None → parts_of windows t ≡ body_parts Either t
 parts_of-none t h = grind (arith, parts-comps_behind, parts_behind, body_parts, plain-none)
+
+-- the components of a text begin with its prefix
+pub first-found : (t : List ℕ) (f : Found) → prefix_of windows t ≡ Some f → Some f.prefix ≡ first_prefix (kinds (parts (comps windows t)))
+first-found t f own = sym (ap (λ r. first_prefix (kinds (parts (comps_behind (separators windows t) t r)))) own)
+
+-- a list without a prefix is that of a text without one
+pub prefix_of-none : (t : List ℕ) → first_prefix (kinds (parts_of windows t)) ≡ None → prefix_of windows t ≡ None
+prefix_of-none t bare = by (prefix_of windows t) refl
+  where
+    by : (o : Option Found) → prefix_of windows t ≡ o → o ≡ None
+    by o e = grind (arith, first-found)
 
 -- the components of a text with a prefix
 pub parts_of-some : (t : List ℕ) (f : Found) → prefix_of windows t ≡ Some f → parts_of windows t ≡ parts_behind (separators windows t) t (Some f)

@@ -8,6 +8,7 @@ use Rattle.typed_path.specs.declared.scan.separators.Separators.{Separators}
 use Rattle.typed_path.specs.declared.scan.separators.Separators.TheVariants.{Backslash, Either}
 use Rattle.typed_path.specs.components.{windows, dialect_of, separators, begins_verbatim, is_verbatim, backslash, dot, is_separator, root_text, Dialect, unix, question, Found, is_empty, drive, after_two, after_four, after_mark, after_unc, name, second_name, names_length, verbatim_unc_case, verbatim_disk_case, verbatim_case, device_case, unc_case, disk_case, prefix_of, found, verbatim, verbatim_unc, verbatim_disk, device_ns, unc, disk, IsPartedDrive}
 use Rattle.typed_path.proofs.lemmas.lists.Options.{and_then-some, unless-some, where-some, some_is}
+use Rattle.typed_path.proofs.lemmas.lists.Lists.{IsUnseparated}
 
 -- The separators of a Windows text.
 
@@ -30,6 +31,10 @@ backslash-separates s w = grind arith
 -- and it is how a root is written
 pub root_text-windows : (s : Separators) → OfWindows s → root_text s ≡ backslash ∷ []
 root_text-windows s w = grind arith
+
+-- what separates nothing holds no `\`
+pub backslash-free : (s : Separators) → OfWindows s → (text : List ℕ) → IsUnseparated (is_separator s) text → IsUnseparated (is_separator Backslash) text
+backslash-free s w text free = grind arith
 
 -- a dot separates nothing
 pub dot-unseparated : (s : Separators) → is_separator s dot ≡ false

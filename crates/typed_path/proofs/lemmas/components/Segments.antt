@@ -11,10 +11,11 @@ use Rattle.std.specs.Prelude.{⊤}
 use Rattle.typed_path.specs.declared.scan.separators.Separators.{Separators}
 use Rattle.typed_path.specs.declared.scan.cursor.Begin.{Begin}
 use Rattle.typed_path.specs.declared.scan.cursor.Begin.TheVariants.{Body, Inside}
-use Rattle.typed_path.specs.components.{is_verbatim, root_text, is_separator, dot, Placed, current_part, parent_part, name_part, root_part, Part, Kind, prefix, root, current, parent, normal, parts, kinds, texts, prefix_part, Segment, component, later, first, is_dot, is_dot_dot, placed, segments, later_body, body_of, named, body, comps_behind, Found}
+use Rattle.typed_path.specs.components.{is_verbatim, root_text, is_separator, dot, Placed, current_part, parent_part, name_part, root_part, Part, Kind, prefix, root, current, parent, normal, parts, kinds, texts, prefix_part, Segment, component, later, first, is_dot, is_dot_dot, placed, segments, later_body, body_of, named, body, comps_behind, Found, unix, parts_of}
 use Rattle.typed_path.specs.queries.{begins_with_root}
 use Rattle.typed_path.specs.scan.{body_from, is_clean, counts, slice_after_front}
 use Rattle.typed_path.proofs.lemmas.lists.Lists.{slice_split-some, slice_split-append, choice, IsUnseparated, slice_split-unseparated, AllByRecursion-weaker, map-through, before_first-byte}
+use Rattle.typed_path.specs.declared.scan.separators.Separators.TheVariants.{Slash}
 
 -- What a segment is, and what is made of it as a later one and as the first one.
 
@@ -283,6 +284,10 @@ parts-later_body s at text = parts-later_pieces s at (pieces s text)
 -- the components behind a prefix, read off the pieces
 pub parts-body : (s : Separators) (at : ℕ) (text : List ℕ) → parts (body s at text) ≡ body_parts s text
 parts-body s at text = grind (arith, parts-body_of)
+
+-- the components of a Unix text, read off its pieces
+pub parts_of-unix : (t : List ℕ) → parts_of unix t ≡ body_parts Slash t
+parts_of-unix t = parts-body Slash 0 t
 
 -- pieces behind the first one are later pieces
 pub first_parts-append : (s : Separators) (piece : List ℕ) (bs cs : List (List ℕ)) → first_parts s (piece ∷ bs ++ cs) ≡ first_parts s (piece ∷ bs) ++ later_parts s cs

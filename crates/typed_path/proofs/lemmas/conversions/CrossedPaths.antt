@@ -13,7 +13,7 @@ use Rattle.typed_path.specs.queries.{begins_with_root, has_prefix, have_allowed_
 use Rattle.typed_path.specs.changes.{is_disk_alone, ended_with, push_windows, push_all, push_unix}
 use Rattle.typed_path.specs.conversions.{crossed, crossed_all, converted_checked}
 use Rattle.typed_path.specs.promises.{lack_backslash, CrossesAsItIs, parents_and_names, on_unix, CrossesToUnix, CrossesBack}
-use Rattle.typed_path.proofs.lemmas.components.Segments.{pieces, later_parts, body_parts, body_parts-read, IsWritten, IsLater, IsLaterPart, AreRead, IsCleanName, IsWritten-later}
+use Rattle.typed_path.proofs.lemmas.components.Segments.{pieces, later_parts, body_parts, body_parts-read, IsWritten, IsLater, IsLaterPart, AreRead, IsCleanName, IsWritten-later, parts_of-unix}
 use Rattle.typed_path.proofs.lemmas.components.WindowsNames.{IsPlain, plain-no_prefix, rooted-none, plain-read, a_name, ended_with-append, ended-spelled, plain-clean, allowed-plain}
 use Rattle.typed_path.proofs.lemmas.components.FirmPrefixes.{nothing, parted}
 use Rattle.typed_path.proofs.lemmas.changes.Joins.{later_parts-name, body_parts-name, body_parts-ended}
@@ -21,7 +21,7 @@ use Rattle.typed_path.proofs.lemmas.components.PrefixCuts.{parts_of-none, parts_
 use Rattle.typed_path.proofs.lemmas.conversions.Crossings.{crossed-plain, valid-allowed, converted_checked-ok}
 use Rattle.typed_path.proofs.lemmas.promises.WindowsBases.{read-no_drive}
 use Rattle.typed_path.proofs.lemmas.promises.WindowsStable.{push-first}
-use Rattle.typed_path.proofs.lemmas.promises.UnixContained.{parts_of-unix, push_unix-name, push_unix-behind}
+use Rattle.typed_path.proofs.lemmas.promises.UnixContained.{push_unix-name, push_unix-behind}
 use Rattle.typed_path.proofs.lemmas.components.Prefixes.{OfWindows, separators-windows, Read, of_disk, prefix-read, prefix_of-unseparated}
 
 -- What a path of Unix is read as once it is converted to Windows.

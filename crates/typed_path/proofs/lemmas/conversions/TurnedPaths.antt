@@ -13,14 +13,14 @@ use Rattle.typed_path.specs.queries.{is_disk}
 use Rattle.typed_path.specs.conversions.{crossed, crossed_all, CrossesTurned}
 use Rattle.typed_path.specs.scan.{is_one_of, is_blank, has_blank_behind, turned}
 use Rattle.typed_path.proofs.lemmas.lists.Lists.{IsUnseparated, slice_split-some, slice_split-unseparated, AllByRecursion-weaker, take-ended, both-each}
-use Rattle.typed_path.proofs.lemmas.components.Segments.{pieces, named_part, first_part, later_parts, first_parts, body_parts, parts-body, dot-is, dot_dot-is}
+use Rattle.typed_path.proofs.lemmas.components.Segments.{pieces, named_part, first_part, later_parts, first_parts, body_parts, parts-body, dot-is, dot_dot-is, parts_of-unix}
 use Rattle.typed_path.proofs.lemmas.components.WindowsNames.{IsPlain, ended_with-append}
 use Rattle.typed_path.proofs.lemmas.changes.WindowsPushes.{fits-plain}
 use Rattle.typed_path.proofs.lemmas.conversions.CrossedPaths.{IsStep, a_parent, a_plain, IsBare, step-read, bare-next, push-step, bare-root, bare-current, bare-parent, bare-name}
 use Rattle.typed_path.proofs.lemmas.components.Prefixes.{OfWindows, Read, prefix-read}
 use Rattle.typed_path.proofs.lemmas.components.PrefixCuts.{parts_of-some, verbatim-none}
 use Rattle.typed_path.proofs.lemmas.places.WindowsRows.{IsWithoutSlash, pieces-own, separates-own}
-use Rattle.typed_path.proofs.lemmas.promises.UnixContained.{parts_of-unix, push_unix-nothing}
+use Rattle.typed_path.proofs.lemmas.promises.UnixContained.{push_unix-nothing}
 use Rattle.typed_path.proofs.lemmas.promises.WindowsStable.{push-first}
 use Rattle.typed_path.proofs.lemmas.scan.Blanks.{split, pieces-filled, filled}
 

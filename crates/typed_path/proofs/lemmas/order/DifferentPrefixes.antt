@@ -10,10 +10,7 @@ use Rattle.typed_path.specs.queries.{first_prefix, behind_prefix}
 use Rattle.typed_path.specs.order.{kind_cmp, kinds_cmp, left_cmp, path_cmp}
 use Rattle.typed_path.proofs.lemmas.components.Segments.{body_from-first, parts-body}
 use Rattle.typed_path.proofs.lemmas.order.Comparisons.{bare, prefixes-alike, prefixes-differ}
-
--- the components of a text begin with its prefix
-pub first-found : (t : List ℕ) (f : Found) → prefix_of windows t ≡ Some f → Some f.prefix ≡ first_prefix (kinds (parts (comps windows t)))
-first-found t f own = sym (ap (λ r. first_prefix (kinds (parts (comps_behind (separators windows t) t r)))) own)
+use Rattle.typed_path.proofs.lemmas.components.PrefixCuts.{first-found}
 
 -- two texts with different prefixes are in the order of these
 pub prefixed-order : (t u : List ℕ) (f g : Found) (o : Ordering) → prefix_of windows t ≡ Some f → prefix_of windows u ≡ Some g

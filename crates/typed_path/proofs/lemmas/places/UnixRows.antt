@@ -12,10 +12,10 @@ use Rattle.typed_path.specs.components.{Dialect, unix, slash, is_separator, is_v
 use Rattle.typed_path.specs.changes.{ended_with, push_all}
 use Rattle.typed_path.specs.places.{normal_text, resolve, row_end, rows_of, rows, IsNormal, settled, names_left, IsParted, AreRowsOf, names_left_of}
 use Rattle.typed_path.proofs.lemmas.lists.Lists.{IsUnseparated, slice_split-some, slice_split-unseparated, take-ended}
-use Rattle.typed_path.proofs.lemmas.components.Segments.{pieces, named_part, later_part, later_parts, first_parts, body_parts, IsCleanName}
+use Rattle.typed_path.proofs.lemmas.components.Segments.{pieces, named_part, later_part, later_parts, first_parts, body_parts, IsCleanName, parts_of-unix}
 use Rattle.typed_path.proofs.lemmas.places.Resolving.{heads_first, Comes, comes-current, comes-parent, comes-parent_alone, comes-name, comes-head, comes-end}
 use Rattle.typed_path.proofs.lemmas.components.WrittenForms.{heads_first-parts_of}
-use Rattle.typed_path.proofs.lemmas.promises.UnixContained.{parts_of-unix, push_unix-name}
+use Rattle.typed_path.proofs.lemmas.promises.UnixContained.{push_unix-name}
 
 -- The normal text of Unix, written row by row.
 

@@ -9,11 +9,10 @@ use Rattle.typed_path.specs.components.{Dialect, unix, windows, backslash, dot, 
 use Rattle.typed_path.specs.queries.{first_prefix}
 use Rattle.typed_path.specs.places.{kept_names, is_anchored, rising, headed, clean_by, clean_text, dots, kept_segments, own_separator, route, unheaded}
 use Rattle.typed_path.specs.promises.{AreCleanAlike, IsCleanForm}
-use Rattle.typed_path.proofs.lemmas.components.Segments.{IsCleanName, IsWritten, AreRead, body_parts, body_parts-read, each-written}
+use Rattle.typed_path.proofs.lemmas.components.Segments.{IsCleanName, IsWritten, AreRead, body_parts, body_parts-read, each-written, parts_of-unix}
 use Rattle.typed_path.proofs.lemmas.components.FirmPrefixes.{prefix-apart}
 use Rattle.typed_path.proofs.lemmas.components.WindowsNames.{rooted-none}
 use Rattle.typed_path.proofs.lemmas.components.PrefixCuts.{parts_of-none}
-use Rattle.typed_path.proofs.lemmas.promises.UnixContained.{parts_of-unix}
 use Rattle.typed_path.proofs.lemmas.promises.CleanRead.{ups, Leads, leads-by, leads-lead, leads-as-lead, or_current, leads-or_current, anchored-stays, lead_of, LeadsAs, alike-lead, unmet-ups, names-ups, AreSegments, names-clean, read-segments, read-ups, read-root, read-dot}
 
 -- what separates in a text without a prefix

@@ -20,9 +20,8 @@ use Rattle.std.proofs.lemmas.Option.{same_Some}
 use Rattle.typed_path.specs.declared.scan.separators.Separators.{Separators}
 use Rattle.typed_path.specs.declared.scan.separators.Separators.TheVariants.{Slash, Backslash, Either}
 use Rattle.typed_path.specs.promises.{IsRelative}
-use Rattle.typed_path.proofs.lemmas.components.Segments.{IsCleanName, body_parts, body_parts-read, each-written, parts_behind, parts-comps_behind}
+use Rattle.typed_path.proofs.lemmas.components.Segments.{IsCleanName, body_parts, body_parts-read, each-written, parts_behind, parts-comps_behind, parts_of-unix}
 use Rattle.typed_path.proofs.lemmas.promises.CleanForms.{ReadsPlain, parts-plain, plain, reads-plain}
-use Rattle.typed_path.proofs.lemmas.promises.UnixContained.{parts_of-unix}
 
 -- Lists that begin alike.
 

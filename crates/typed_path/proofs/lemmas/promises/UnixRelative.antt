@@ -12,14 +12,14 @@ use Rattle.typed_path.specs.queries.{begins_with_root}
 use Rattle.typed_path.specs.changes.{push, push_unix}
 use Rattle.typed_path.specs.places.{can_stand, headed, is_anchored, is_reached, kept_names, met_count, names_down, relative_text, rising, route, same_heads, steps_text, steps_up, unmet}
 use Rattle.typed_path.specs.promises.{HasNone, HasNoneAtAll, HasNoneOnUnix, IsDotAlike, IsUnreached, apart, higher, unreadable, without_leading_current}
-use Rattle.typed_path.proofs.lemmas.components.Segments.{AreRead, IsCleanName, body_parts, body_parts-read}
+use Rattle.typed_path.proofs.lemmas.components.Segments.{AreRead, IsCleanName, body_parts, body_parts-read, parts_of-unix}
 use Rattle.typed_path.proofs.lemmas.places.KeptFromBack.{alike-append}
 use Rattle.typed_path.proofs.lemmas.places.KeptNames.{AlikeKept, unmet-append, without_leading_current-kept}
 use Rattle.typed_path.proofs.lemmas.places.Reached.{reached-all}
 use Rattle.typed_path.proofs.lemmas.promises.StepsBack.{alike-heads, free-rising, heads-alike, leads-back, reached-told, same-route, same_heads-all, body-clean, clean-drop, names-unix, read-relative, stays_relative}
 use Rattle.typed_path.proofs.lemmas.promises.CleanForms.{parts-plain, plain, route-plain, route-tells}
 use Rattle.typed_path.proofs.lemmas.promises.CleanRead.{anchored-stays, names-ups, unmet-ups, ups}
-use Rattle.typed_path.proofs.lemmas.promises.UnixContained.{parts_of-unix, join_appends, push_unix-nothing}
+use Rattle.typed_path.proofs.lemmas.promises.UnixContained.{join_appends, push_unix-nothing}
 use Rattle.typed_path.proofs.lemmas.promises.Within.{bare-anchored, kinds_of}
 use Rattle.typed_path.proofs.lemmas.promises.UnixWithin.{first-none}
 use Rattle.typed_path.proofs.lemmas.places.SharedFromBack.{shared_count-own}

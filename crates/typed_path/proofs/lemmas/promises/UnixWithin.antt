@@ -10,11 +10,11 @@ use Rattle.typed_path.specs.queries.{begins_with_root, first_prefix, is_absolute
 use Rattle.typed_path.specs.changes.{push, push_unix}
 use Rattle.typed_path.specs.places.{place, unmet, kept_names, is_anchored, is_within}
 use Rattle.typed_path.specs.promises.{IsBelow, LeadsBelow, IsWithinExactly, without_leading_current}
-use Rattle.typed_path.proofs.lemmas.components.Segments.{IsCleanName}
+use Rattle.typed_path.proofs.lemmas.components.Segments.{IsCleanName, parts_of-unix}
 use Rattle.typed_path.proofs.lemmas.changes.Joins.{body_parts-name}
 use Rattle.typed_path.proofs.lemmas.order.DifferentPrefixes.{body-bare}
 use Rattle.typed_path.proofs.lemmas.places.KeptNames.{kept_names-append, without_leading_current-kept, place-kept, names-same}
-use Rattle.typed_path.proofs.lemmas.promises.UnixContained.{parts_of-unix, join_appends, begins-append}
+use Rattle.typed_path.proofs.lemmas.promises.UnixContained.{join_appends, begins-append}
 use Rattle.typed_path.proofs.lemmas.promises.Within.{kinds_of, has_prefix-first, bare-anchored, bare-head, Leading, Replaces, within-below, within-true, root-true, parents-true}
 
 -- Where a path leads behind an absolute directory.

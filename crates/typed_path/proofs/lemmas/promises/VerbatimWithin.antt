@@ -14,7 +14,7 @@ use Rattle.typed_path.specs.promises.{LeadsBelow, keeps_by_prefix, keeps_prefix,
 use Rattle.typed_path.proofs.lemmas.lists.Lists.{AllByRecursion-append, AllByRecursion-weaker, all-front, take-nothing}
 use Rattle.typed_path.proofs.lemmas.components.Segments.{body_parts, body_parts-read, AreRead, IsWritten, IsWrittenPart, IsLaterPart, IsWritten-later, IsCleanName, each-written}
 use Rattle.typed_path.proofs.lemmas.components.Prefixes.{OfWindows, FoundFits, prefix-fits, prefix-read, separators-windows, backslash-separates, root_text-windows, Read, of_verbatim_unc, of_verbatim_disk, of_verbatim}
-use Rattle.typed_path.proofs.lemmas.components.PrefixCuts.{name-filled, parts_of-none, parts_of-some, verbatim-some, unprefixed}
+use Rattle.typed_path.proofs.lemmas.components.PrefixCuts.{name-filled, parts_of-none, parts_of-some, verbatim-some, unprefixed, prefix_of-none}
 use Rattle.typed_path.proofs.lemmas.components.FirmPrefixes.{is_firm, firm-long, firm-stays}
 use Rattle.typed_path.proofs.lemmas.changes.Faults.{place_of, faultless}
 use Rattle.typed_path.proofs.lemmas.changes.WindowsPushes.{without_last_name-name}
@@ -26,7 +26,7 @@ use Rattle.typed_path.proofs.lemmas.promises.WindowsBases.{Rest, AreRead-append,
 use Rattle.typed_path.proofs.lemmas.promises.WindowsContained.{rest-apart, keeps_by_prefix-firm}
 use Rattle.typed_path.proofs.lemmas.promises.Within.{kinds_of, Leading, within-below}
 use Rattle.typed_path.proofs.lemmas.promises.UnixWithin.{unix_below}
-use Rattle.typed_path.proofs.lemmas.promises.WindowsWithin.{body_kinds, kinds-none, prefix_of-none, push-bare, replaces, under, absolute-prefixed, bare-leading}
+use Rattle.typed_path.proofs.lemmas.promises.WindowsWithin.{body_kinds, kinds-none, push-bare, replaces, under, absolute-prefixed, bare-leading}
 use Rattle.typed_path.proofs.lemmas.components.WindowsNames.{clean-either}
 
 -- A list that takes another: names at its end meet the parents that are left over, and the names that are kept stand behind.

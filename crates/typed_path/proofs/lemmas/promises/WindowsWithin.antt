@@ -1,22 +1,21 @@
 -- On Windows a path that is within a base lies below it, from each absolute directory that keeps its prefix and is not verbatim.
-use Rattle.std.proofs.Common.{◌≡◌, ℕ, suc, ◌-◌, ◌≤◌, true, false, not, ◌||◌, inl, inr, List, [], ◌∷◌, ◌++◌, map, if◌then◌else◌, length, take, drop, refl, sym, ap, ap₂, ◌∙◌, append_assoc, append-nil, arith, ne_eqb, subst, Option, Some, None, length-append}
+use Rattle.std.proofs.Common.{◌≡◌, ℕ, suc, ◌-◌, ◌≤◌, true, false, not, ◌||◌, inl, inr, List, [], ◌∷◌, ◌++◌, map, if◌then◌else◌, length, take, drop, refl, sym, ap, ap₂, ◌∙◌, append_assoc, append-nil, arith, ne_eqb, subst, Some, None, length-append}
 use Rattle.std.proofs.Math.Seq.{drop-append_seam}
 use Rattle.std.proofs.lemmas.List.{map-append, drop-append-le, drop_all, length-take-le, take_all}
 use Rattle.std.proofs.lemmas.Bool.{both_ways, cases_lt, cases_Bool, cond-true, cond-false}
 use Rattle.typed_path.specs.declared.scan.separators.Separators.{Separators}
 use Rattle.typed_path.specs.declared.scan.separators.Separators.TheVariants.{Either}
 use Rattle.typed_path.specs.components.{windows, backslash, separators, Prefix, Kind, prefix, root, normal, kinds, Found, prefix_of, parts_of}
-use Rattle.typed_path.specs.queries.{begins_with_root, first_prefix, has_prefix, has_any_verbatim_prefix, is_absolute, is_disk, is_verbatim_prefix}
+use Rattle.typed_path.specs.queries.{begins_with_root, has_prefix, has_any_verbatim_prefix, is_absolute, is_disk, is_verbatim_prefix}
 use Rattle.typed_path.specs.changes.{push, push_windows, push_behind, raw_prefix, raw_length, ended_windows, is_disk_alone, spelled, merged}
 use Rattle.typed_path.specs.places.{place, unmet, kept_names, headed, head_of, is_within}
 use Rattle.typed_path.specs.promises.{IsBelow, without_leading_current}
 use Rattle.typed_path.proofs.lemmas.components.Segments.{body_parts}
 use Rattle.typed_path.proofs.lemmas.components.Prefixes.{FoundFits, drive-take, prefix-fits, prefix-read, Read, of_disk}
-use Rattle.typed_path.proofs.lemmas.components.PrefixCuts.{parts_of-none, parts_of-some, unprefixed}
+use Rattle.typed_path.proofs.lemmas.components.PrefixCuts.{parts_of-none, parts_of-some, unprefixed, prefix_of-none}
 use Rattle.typed_path.proofs.lemmas.components.FirmPrefixes.{Apart, parted as apart, is_firm, firm-long, firm-stays, drive-stays}
 use Rattle.typed_path.proofs.lemmas.components.PartedPrefixes.{firm-end, firm-more, either}
 use Rattle.typed_path.proofs.lemmas.changes.Joins.{Ending, ending, empty, ended, drive_alone, parted, body_parts-more, body_parts-behind}
-use Rattle.typed_path.proofs.lemmas.order.DifferentPrefixes.{first-found}
 use Rattle.typed_path.proofs.lemmas.places.KeptNames.{kept_names-append, without_leading_current-kept, place-kept}
 use Rattle.typed_path.proofs.lemmas.promises.UnixContained.{body_parts-later, begins-append, rooted-separated}
 use Rattle.typed_path.proofs.lemmas.promises.WindowsContained.{firm-joined}
@@ -32,13 +31,6 @@ kinds-found v f is = ap kinds (parts_of-some v f is)
 
 pub kinds-none : (t : List ℕ) → prefix_of windows t ≡ None → kinds_of windows t ≡ body_kinds Either t
 kinds-none t none = ap kinds (parts_of-none t none)
-
--- a list without a prefix is that of a text without one
-pub prefix_of-none : (t : List ℕ) → first_prefix (kinds_of windows t) ≡ None → prefix_of windows t ≡ None
-prefix_of-none t bare = by (prefix_of windows t) refl
-  where
-    by : (o : Option Found) → prefix_of windows t ≡ o → o ≡ None
-    by o e = grind (arith, first-found)
 
 -- a path with a prefix replaces
 pub replaces : (dir : List ℕ) → Replaces windows dir

@@ -7,9 +7,10 @@ use Rattle.typed_path.specs.views.BodyViews.{body_items}
 use Rattle.typed_path.specs.views.PieceViews.{found_of}
 use Rattle.typed_path.proofs.lemmas.components.Prefixes.{prefix-fits}
 use Rattle.typed_path.proofs.lemmas.order.Comparisons.{prefixed-bare, bare-prefixed}
-use Rattle.typed_path.proofs.lemmas.order.DifferentPrefixes.{first-found, bare-found, behind-bare}
+use Rattle.typed_path.proofs.lemmas.order.DifferentPrefixes.{bare-found, behind-bare}
 use Rattle.typed_path.proofs.lemmas.order.SharedNames.{one-order, parted-rest}
 use Rattle.typed_path.proofs.windows.encoding.order_behind_marked.Goals as goal
+use Rattle.typed_path.proofs.lemmas.components.PrefixCuts.{first-found}
 
 -- the other alone has a prefix
 pub returns-in_default : goal.returns-in_default

@@ -2,8 +2,9 @@ use Rattle.std.proofs.Common.{sym, subst, ◌∙◌}
 use Rattle.typed_path.specs.components.{windows, comps, disk, IsPartedDrive}
 use Rattle.typed_path.specs.views.BodyViews.{body_items}
 use Rattle.typed_path.proofs.lemmas.order.Comparisons.{prefixed-bare, bare-prefixed}
-use Rattle.typed_path.proofs.lemmas.order.DifferentPrefixes.{first-found, bare-found, behind-bare}
+use Rattle.typed_path.proofs.lemmas.order.DifferentPrefixes.{bare-found, behind-bare}
 use Rattle.typed_path.proofs.windows.encoding.order_by_prefixes.Goals as goal
+use Rattle.typed_path.proofs.lemmas.components.PrefixCuts.{first-found}
 
 pub returns-in-Some-None : goal.returns-in-Some-None
 returns-in-Some-None c =
