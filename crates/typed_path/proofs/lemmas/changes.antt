@@ -2,7 +2,7 @@
 -- Faults: a path judged component by component, what holds of one that is not refused, and the place of a list with more behind it (`IsHarmlessPart`, `IsHarmlessPiece`, `IsFaultless`)
 -- ValidPaths: paths of Windows of which looks at their bytes tell that they have no fault, or that a name is it: by the bytes that devices begin with, the search for devices behind separators, and two dots side by side
 -- MayBegins: marks of separators behind which a device may stand, and the search by them (`BeginsNone`, `TellsBegins`)
--- Joins: how a text put behind another is read, a list merged into another, and lists spelled and read again (`HasEnding`, `IsPiece`, `Ending`)
+-- Joins: what is put between a base of Windows and what comes behind it, a list merged into another, and lists spelled and read again (`HasEnding`, `IsPiece`, `Ending`)
 -- WindowsPushes: what a push of Windows asks of its base and of its end, which paths it puts behind that, and what stands behind a prefix that is written anew (`FitsPush`, `IsPutBehind`, `IsListEnded`)
 -- SpelledTexts: a text of Windows that is spelled as it is read, and what a push writes anew (`IsSpelled`, `IsUnprefixed`, `IsMerging`, `Behind`)
 -- NamePieces: texts of which looks at their bytes tell that all their pieces are names, how such a text is merged, and how it is written behind another with a `\` between them (`IsOpened`, `IsClosed`, `AreLed`)

@@ -1,5 +1,5 @@
 -- What a text is made of.
--- Segments: segments, what stands before the first separator, a body taken apart at a separator, the components read off its pieces, and the first component of a clean text (`Seen`, `AreRead`, `IsLater`, `IsWritten`, `IsCleanName`)
+-- Segments: segments, what stands before the first separator, a body taken apart at a separator, the components read off its pieces, also of a text with more put behind a separator at its end, and the first component of a clean text (`Seen`, `AreRead`, `IsLater`, `IsWritten`, `IsCleanName`)
 -- Prefixes: the prefix of a Windows text: its separators and root, how many bytes it takes, its cases, their marks and what each was read from (`FoundFits`, `ReadsMark`, `IsBehindMark`, `Read`, `IsFront`, `OfWindows`)
 -- Cuts: where the components of a text begin and end, how many they are, and what is read before and behind such a place (`TakesSegment`, `StartCut`)
 -- PrefixCuts: the names of a prefix, a Windows text that is cut behind its prefix, how many bytes a prefix takes of it, which texts begin with `\\?\`, as their prefixes tell; and what a text is read as with a prefix and without one, and whether its list begins with a verbatim one (`KeepsNames`, `IsSize`, `SamePrefix`, `IsBehind`, `Keeps`, `IsUnended`)

@@ -1,4 +1,4 @@
--- How a text put behind another is read, a list merged into another, and lists spelled and read again.
+-- What is put between a base of Windows and what comes behind it, a list merged into another, and lists spelled and read again.
 use Rattle.std.proofs.Common.{◌≡◌, ℕ, ◌-◌, ◌<◌, ◌==◌, true, false, List, [], ◌∷◌, ◌++◌, length, take, slice_index, refl, sym, ap, ◌∙◌, append_assoc, append-nil, subst, eqb-true, arith, ◌||◌, Bool, if◌then◌else◌, zero, suc, ap₂, not, ◌&&◌, cond}
 use Rattle.std.proofs.lemmas.Grind.{common_steps}
 use Rattle.std.proofs.lemmas.List.Splits.{slice_split_none}
@@ -12,48 +12,10 @@ use Rattle.typed_path.specs.changes.{ended_with, is_disk_alone, ended_windows, w
 use Rattle.typed_path.specs.places.{overdraws, resolve}
 use Rattle.typed_path.specs.queries.{begins_with_root}
 use Rattle.typed_path.proofs.lemmas.lists.Lists.{slice_split-some, slice_split-append, AllByRecursion-append, IsUnseparated, slice_split-unseparated, but_last}
-use Rattle.typed_path.proofs.lemmas.components.Segments.{pieces, first_parts, first_parts-append, later_parts, body_parts, IsCleanName, later_part, first_part, IsWritten, IsWrittenPart, IsLater, IsLaterPart, AreRead, later_parts-later, dot-is, dot_dot-is, later-relative}
+use Rattle.typed_path.proofs.lemmas.components.Segments.{pieces, first_parts, later_parts, body_parts, later_part, first_part, IsWritten, IsWrittenPart, IsLater, IsLaterPart, AreRead, later_parts-later, dot-is, dot_dot-is, later-relative}
 use Rattle.typed_path.proofs.lemmas.components.PrefixCuts.{IsUnended}
 use Rattle.typed_path.proofs.lemmas.places.Resolving.{IsKept, resolve-same, Alike, Alike-append, current-alike, no_heads}
 use Rattle.typed_path.proofs.lemmas.components.Prefixes.{OfWindows, backslash-separates, backslash-free}
-
--- The components of a text with more put behind a separator at its end.
-
--- a clean name behind a separator is one component
-pub later_parts-name : (s : Separators) (name : List ℕ) → IsCleanName s name → later_parts s (pieces s name) ≡ name_part name ∷ []
-later_parts-name s name clean = rw (slice_split_none (is_separator s) name clean.unseparated, clean.filled, clean.no_dot, clean.no_dot_dot)
-
--- a clean name alone is one component
-pub body_parts-name : (s : Separators) (name : List ℕ) → IsCleanName s name → body_parts s name ≡ name_part name ∷ []
-body_parts-name s [] clean = cc
-body_parts-name s (b ∷ bs) clean = rw (slice_split_none (is_separator s) (b ∷ bs) clean.unseparated, clean.filled, clean.no_dot, clean.no_dot_dot)
-
--- a separator within a text parts it: what stands behind it is read as later pieces
-pub body_parts-append : (s : Separators) (front : List ℕ) (b : ℕ) (rest : List ℕ) → is_separator s b ≡ true → body_parts s (front ++ b ∷ rest) ≡ first_parts s (pieces s front) ++ later_parts s (pieces s rest)
-body_parts-append s front b rest separates = filled front ∙ cut_apart
-  where
-    filled : (text : List ℕ) → body_parts s (text ++ b ∷ rest) ≡ first_parts s (pieces s (text ++ b ∷ rest))
-    filled [] = refl
-    filled (c ∷ cs) = refl
-
-    cut_apart : first_parts s (pieces s (front ++ b ∷ rest)) ≡ first_parts s (pieces s front) ++ later_parts s (pieces s rest)
-    cut_apart =
-        let some = slice_split-some (is_separator s) front in
-        rw (slice_split-append (is_separator s) front b rest separates, some.2) (first_parts-append s some.0 some.1 (pieces s rest))
-
--- what is put behind a text and a separator is read as later pieces
-pub body_parts-behind : (s : Separators) (b : ℕ) (base rest : List ℕ) → is_separator s b ≡ true → (length base == 0) ≡ false
-    → body_parts s ((base ++ b ∷ []) ++ rest) ≡ body_parts s base ++ later_parts s (pieces s rest)
-body_parts-behind s b base rest separates filled = grind (arith, append_assoc, body_parts-append)
-
--- what is put behind a text that ends with a separator is read as later pieces
-pub body_parts-more : (s : Separators) (b : ℕ) (front rest : List ℕ) → is_separator s b ≡ true → body_parts s ((front ++ b ∷ []) ++ rest) ≡ body_parts s (front ++ b ∷ []) ++ later_parts s (pieces s rest)
-body_parts-more s b front rest separates = grind (arith, append_assoc, body_parts-append)
-
--- what is put behind a text, once that ends with a separator, is read as later pieces
-pub body_parts-ended : (s : Separators) (b : ℕ) (base rest : List ℕ) → is_separator s b ≡ true → (length base == 0) ≡ false
-    → body_parts s (ended_with b base ++ rest) ≡ body_parts s base ++ later_parts s (pieces s rest)
-body_parts-ended s b base rest separates filled = grind (arith, common_steps, body_parts-behind, but_last, eqb-true, body_parts-more)
 
 -- A base of Windows with a separator put behind it, where it needs one.
 

@@ -1,4 +1,4 @@
--- Segments, a body taken apart at a separator, the components read off its pieces, and the first component of a clean text.
+-- Segments, a body taken apart at a separator, the components read off its pieces, also of a text with more put behind a separator at its end, and the first component of a clean text.
 use Rattle.std.proofs.Common.{◌≡◌, ℕ, ◌==◌, Bool, true, false, cond, List, [], ◌∷◌, length, refl, eqb-true, ◌+◌, ◌<◌, ◌≤◌, ◌++◌, not, ◌&&◌, ◌||◌, eqb, take, drop, get_or, sym, ap, ◌∙◌, arith, All, inl, inr, append-nil, append_assoc, if◌then◌else◌, map, Option, Some, None, flat_map, length-take-le}
 use Rattle.std.proofs.lemmas.Grind.{common_steps}
 use Rattle.std.specs.List.{slice_split, before_first, after_first, position_or_len, onto_first, AllByRecursion}
@@ -14,8 +14,9 @@ use Rattle.typed_path.specs.declared.scan.cursor.Begin.TheVariants.{Body, Inside
 use Rattle.typed_path.specs.components.{is_verbatim, root_text, is_separator, dot, Placed, current_part, parent_part, name_part, root_part, Part, Kind, prefix, root, current, parent, normal, parts, kinds, texts, prefix_part, Segment, component, later, first, is_dot, is_dot_dot, placed, segments, later_body, body_of, named, body, comps_behind, Found, unix, parts_of}
 use Rattle.typed_path.specs.queries.{begins_with_root}
 use Rattle.typed_path.specs.scan.{body_from, is_clean, counts, slice_after_front}
-use Rattle.typed_path.proofs.lemmas.lists.Lists.{slice_split-some, slice_split-append, choice, IsUnseparated, slice_split-unseparated, AllByRecursion-weaker, map-through, before_first-byte}
+use Rattle.typed_path.proofs.lemmas.lists.Lists.{slice_split-some, slice_split-append, choice, IsUnseparated, slice_split-unseparated, AllByRecursion-weaker, map-through, before_first-byte, but_last}
 use Rattle.typed_path.specs.declared.scan.separators.Separators.TheVariants.{Slash}
+use Rattle.typed_path.specs.changes.{ended_with}
 
 -- What a segment is, and what is made of it as a later one and as the first one.
 
@@ -394,3 +395,41 @@ parts_behind s text (Some f) = prefix_part f.prefix (take f.length text) ∷ bod
 -- the components of a text do not depend on where they stand
 pub parts-comps_behind : (s : Separators) (text : List ℕ) (o : Option Found) → parts (comps_behind s text o) ≡ parts_behind s text o
 parts-comps_behind s text o = grind (arith, parts-body)
+
+-- The components of a text with more put behind a separator at its end.
+
+-- a clean name behind a separator is one component
+pub later_parts-name : (s : Separators) (name : List ℕ) → IsCleanName s name → later_parts s (pieces s name) ≡ name_part name ∷ []
+later_parts-name s name clean = rw (slice_split_none (is_separator s) name clean.unseparated, clean.filled, clean.no_dot, clean.no_dot_dot)
+
+-- a clean name alone is one component
+pub body_parts-name : (s : Separators) (name : List ℕ) → IsCleanName s name → body_parts s name ≡ name_part name ∷ []
+body_parts-name s [] clean = cc
+body_parts-name s (b ∷ bs) clean = rw (slice_split_none (is_separator s) (b ∷ bs) clean.unseparated, clean.filled, clean.no_dot, clean.no_dot_dot)
+
+-- a separator within a text parts it: what stands behind it is read as later pieces
+pub body_parts-append : (s : Separators) (front : List ℕ) (b : ℕ) (rest : List ℕ) → is_separator s b ≡ true → body_parts s (front ++ b ∷ rest) ≡ first_parts s (pieces s front) ++ later_parts s (pieces s rest)
+body_parts-append s front b rest separates = filled front ∙ cut_apart
+  where
+    filled : (text : List ℕ) → body_parts s (text ++ b ∷ rest) ≡ first_parts s (pieces s (text ++ b ∷ rest))
+    filled [] = refl
+    filled (c ∷ cs) = refl
+
+    cut_apart : first_parts s (pieces s (front ++ b ∷ rest)) ≡ first_parts s (pieces s front) ++ later_parts s (pieces s rest)
+    cut_apart =
+        let some = slice_split-some (is_separator s) front in
+        rw (slice_split-append (is_separator s) front b rest separates, some.2) (first_parts-append s some.0 some.1 (pieces s rest))
+
+-- what is put behind a text and a separator is read as later pieces
+pub body_parts-behind : (s : Separators) (b : ℕ) (base rest : List ℕ) → is_separator s b ≡ true → (length base == 0) ≡ false
+    → body_parts s ((base ++ b ∷ []) ++ rest) ≡ body_parts s base ++ later_parts s (pieces s rest)
+body_parts-behind s b base rest separates filled = grind (arith, append_assoc, body_parts-append)
+
+-- what is put behind a text that ends with a separator is read as later pieces
+pub body_parts-more : (s : Separators) (b : ℕ) (front rest : List ℕ) → is_separator s b ≡ true → body_parts s ((front ++ b ∷ []) ++ rest) ≡ body_parts s (front ++ b ∷ []) ++ later_parts s (pieces s rest)
+body_parts-more s b front rest separates = grind (arith, append_assoc, body_parts-append)
+
+-- what is put behind a text, once that ends with a separator, is read as later pieces
+pub body_parts-ended : (s : Separators) (b : ℕ) (base rest : List ℕ) → is_separator s b ≡ true → (length base == 0) ≡ false
+    → body_parts s (ended_with b base ++ rest) ≡ body_parts s base ++ later_parts s (pieces s rest)
+body_parts-ended s b base rest separates filled = grind (arith, common_steps, body_parts-behind, but_last, eqb-true, body_parts-more)

@@ -14,10 +14,10 @@ use Rattle.typed_path.specs.places.{stays, resolve}
 use Rattle.typed_path.specs.changes.{fault, ended_with, joint, spelled, is_disk_alone, ended_windows, merged, push_all, push_windows, raw_length}
 use Rattle.typed_path.proofs.lemmas.lists.Lists.{IsUnseparated, AllByRecursion-append}
 use Rattle.typed_path.proofs.lemmas.components.Prefixes.{OfWindows, root_text-windows, prefix_of-unseparated}
-use Rattle.typed_path.proofs.lemmas.components.Segments.{IsCleanName, IsWritten, IsLater, IsLaterPart, AreRead, IsWrittenPart, body_parts, parts_behind, parts-comps_behind, parts_of-unix}
+use Rattle.typed_path.proofs.lemmas.components.Segments.{IsCleanName, IsWritten, IsLater, IsLaterPart, AreRead, IsWrittenPart, body_parts, parts_behind, parts-comps_behind, parts_of-unix, body_parts-name}
 use Rattle.typed_path.proofs.lemmas.places.Resolving.{IsKept, resolve-each}
 use Rattle.typed_path.proofs.lemmas.components.FirmPrefixes.{Apart, nothing, drive-apart, prefix-apart}
-use Rattle.typed_path.proofs.lemmas.changes.Joins.{body_parts-name, spelled-filled, body_parts-spelled}
+use Rattle.typed_path.proofs.lemmas.changes.Joins.{spelled-filled, body_parts-spelled}
 use Rattle.typed_path.proofs.lemmas.components.PrefixCuts.{parts_of-none}
 
 -- Names that are read as names in each Windows text: without separators of either kind, and no drives.

@@ -13,10 +13,9 @@ use Rattle.typed_path.specs.queries.{begins_with_root, has_prefix, have_allowed_
 use Rattle.typed_path.specs.changes.{is_disk_alone, ended_with, push_windows, push_all, push_unix}
 use Rattle.typed_path.specs.conversions.{crossed, crossed_all, converted_checked}
 use Rattle.typed_path.specs.promises.{lack_backslash, CrossesAsItIs, parents_and_names, on_unix, CrossesToUnix, CrossesBack}
-use Rattle.typed_path.proofs.lemmas.components.Segments.{pieces, later_parts, body_parts, body_parts-read, IsWritten, IsLater, IsLaterPart, AreRead, IsCleanName, IsWritten-later, parts_of-unix}
+use Rattle.typed_path.proofs.lemmas.components.Segments.{pieces, later_parts, body_parts, body_parts-read, IsWritten, IsLater, IsLaterPart, AreRead, IsCleanName, IsWritten-later, parts_of-unix, later_parts-name, body_parts-name, body_parts-ended}
 use Rattle.typed_path.proofs.lemmas.components.WindowsNames.{IsPlain, plain-no_prefix, rooted-none, plain-read, a_name, ended_with-append, ended-spelled, plain-clean, allowed-plain}
 use Rattle.typed_path.proofs.lemmas.components.FirmPrefixes.{nothing, parted}
-use Rattle.typed_path.proofs.lemmas.changes.Joins.{later_parts-name, body_parts-name, body_parts-ended}
 use Rattle.typed_path.proofs.lemmas.components.PrefixCuts.{parts_of-none, parts_of-some, verbatim-none}
 use Rattle.typed_path.proofs.lemmas.conversions.Crossings.{crossed-plain, valid-allowed, converted_checked-ok}
 use Rattle.typed_path.proofs.lemmas.promises.WindowsBases.{read-no_drive}

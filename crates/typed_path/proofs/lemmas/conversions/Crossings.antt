@@ -17,9 +17,8 @@ use Rattle.typed_path.specs.conversions.{crossed, crossing_fault, push_unless, p
 use Rattle.typed_path.specs.queries.{is_disallowed, kind_has_allowed_bytes, have_allowed_bytes, is_valid_kind, is_valid}
 use Rattle.typed_path.specs.promises.{lack_backslash, CrossesWhereAllowed}
 use Rattle.typed_path.proofs.lemmas.lists.Lists.{IsUnseparated, whole_range}
-use Rattle.typed_path.proofs.lemmas.components.Segments.{IsCleanName, IsWritten, IsWrittenPart, body_parts, body_parts-read, each-written, parts_of-unix}
+use Rattle.typed_path.proofs.lemmas.components.Segments.{IsCleanName, IsWritten, IsWrittenPart, body_parts, body_parts-read, each-written, parts_of-unix, body_parts-name}
 use Rattle.typed_path.proofs.lemmas.components.WindowsNames.{IsPlain, allowed-plain, plain-read}
-use Rattle.typed_path.proofs.lemmas.changes.Joins.{body_parts-name}
 use Rattle.typed_path.proofs.lemmas.changes.Faults.{faultless}
 
 -- Checked pushes of components in a row, some of them first.

@@ -15,8 +15,7 @@ use Rattle.typed_path.specs.places.{resolve, place, stays, normal_text, with_imp
 use Rattle.typed_path.specs.promises.{HasPrefixOf, LiesWithin, ReadsAsResolved, StaysNormal, IsCanonical, IsCanonicalForm, without_leading_current, JoinAppends, StripJoins}
 use Rattle.typed_path.specs.scan.{left, start_at}
 use Rattle.typed_path.proofs.lemmas.changes.Faults.{fault_behind-at, fault_at-closed, no_heads-relative}
-use Rattle.typed_path.proofs.lemmas.components.Segments.{body_parts, body_parts-read, IsCleanName, IsLaterPart, IsWritten, AreRead, text_by_kind, texts-read, pieces, first_parts, later_parts, parts-later_body, IsWrittenPart, each-written, parts_of-unix}
-use Rattle.typed_path.proofs.lemmas.changes.Joins.{later_parts-name, body_parts-name, body_parts-ended}
+use Rattle.typed_path.proofs.lemmas.components.Segments.{body_parts, body_parts-read, IsCleanName, IsLaterPart, IsWritten, AreRead, text_by_kind, texts-read, pieces, first_parts, later_parts, parts-later_body, IsWrittenPart, each-written, parts_of-unix, later_parts-name, body_parts-name, body_parts-ended}
 use Rattle.typed_path.proofs.lemmas.places.Resolving.{IsKept, resolve-kept, resolve-read, resolve-resolve, resolve-append, overdraws-without_leading_current, resolve-without_leading_current}
 use Rattle.typed_path.proofs.lemmas.lists.Lists.{map-through, AllByRecursion-weaker}
 use Rattle.typed_path.proofs.lemmas.scan.Readings.{left-taken, left-all, left-front}

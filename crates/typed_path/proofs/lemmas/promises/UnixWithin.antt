@@ -10,8 +10,7 @@ use Rattle.typed_path.specs.queries.{begins_with_root, first_prefix, is_absolute
 use Rattle.typed_path.specs.changes.{push, push_unix}
 use Rattle.typed_path.specs.places.{place, unmet, kept_names, is_anchored, is_within}
 use Rattle.typed_path.specs.promises.{IsBelow, LeadsBelow, IsWithinExactly, without_leading_current}
-use Rattle.typed_path.proofs.lemmas.components.Segments.{IsCleanName, parts_of-unix}
-use Rattle.typed_path.proofs.lemmas.changes.Joins.{body_parts-name}
+use Rattle.typed_path.proofs.lemmas.components.Segments.{IsCleanName, parts_of-unix, body_parts-name}
 use Rattle.typed_path.proofs.lemmas.order.DifferentPrefixes.{body-bare}
 use Rattle.typed_path.proofs.lemmas.places.KeptNames.{kept_names-append, without_leading_current-kept, place-kept, names-same}
 use Rattle.typed_path.proofs.lemmas.promises.UnixContained.{join_appends, begins-append}

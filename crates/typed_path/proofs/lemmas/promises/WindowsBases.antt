@@ -14,11 +14,11 @@ use Rattle.typed_path.specs.changes.{is_disk_alone, joint, spelled, merged}
 use Rattle.typed_path.specs.places.{resolve, with_implied_root}
 use Rattle.typed_path.proofs.lemmas.lists.Lists.{slice_split-some}
 use Rattle.typed_path.proofs.lemmas.components.Prefixes.{OfWindows, backslash-separates, prefix-fits, separators-windows, root_text-windows}
-use Rattle.typed_path.proofs.lemmas.components.Segments.{pieces, first_parts, later_parts, body_parts, body_parts-read, AreRead, IsWritten, parts_behind, each-written, IsWrittenPart, IsLater, IsLaterPart, AreRead-later, later-relative}
+use Rattle.typed_path.proofs.lemmas.components.Segments.{pieces, first_parts, later_parts, body_parts, body_parts-read, AreRead, IsWritten, parts_behind, each-written, IsWrittenPart, IsLater, IsLaterPart, AreRead-later, later-relative, body_parts-behind, body_parts-more}
 use Rattle.typed_path.proofs.lemmas.components.PrefixCuts.{IsSize, prefix-size, IsGrown, same-sizes, plain-kind, verbatim_text, verbatim-size, verbatim-take, parts_of-none, parts_of-some}
 use Rattle.typed_path.proofs.lemmas.places.Resolving.{no_heads, is_head, read-headless, IsKept, resolve-kept, resolve-read, resolve-resolve, overdraws-kept}
 use Rattle.typed_path.proofs.lemmas.changes.Faults.{place_of, place_of-append, place_of-rooted, IsFaultless, no_heads-relative, no_heads-resolve, body_parts-alike}
-use Rattle.typed_path.proofs.lemmas.changes.Joins.{body_parts-more, body_parts-behind, Ending, empty, ended, drive_alone, parted, merged-resolve, joint-relative, body_parts-spelled}
+use Rattle.typed_path.proofs.lemmas.changes.Joins.{Ending, empty, ended, drive_alone, parted, merged-resolve, joint-relative, body_parts-spelled}
 use Rattle.typed_path.proofs.lemmas.components.WindowsNames.{clean-either, disk_alone-more}
 
 -- Where a base of Windows leads with a faultless path behind it, under a prefix that is not verbatim and under none.

@@ -8,12 +8,12 @@ use Rattle.typed_path.specs.queries.{begins_with_root, first_prefix, has_any_ver
 use Rattle.typed_path.specs.changes.{push, push_windows, push_behind, raw_prefix, ended_windows, is_disk_alone, spelled, merged}
 use Rattle.typed_path.specs.places.{is_anchored, kept_names, names_down, relative_text, route, steps_up, unmet}
 use Rattle.typed_path.specs.promises.{keeps_by_prefix, keeps_prefix}
-use Rattle.typed_path.proofs.lemmas.components.Segments.{body_parts, body_parts-read, later_parts, pieces}
+use Rattle.typed_path.proofs.lemmas.components.Segments.{body_parts, body_parts-read, later_parts, pieces, body_parts-behind, body_parts-more}
 use Rattle.typed_path.proofs.lemmas.components.Prefixes.{FoundFits, prefix-fits, prefix-read, Read, of_disk}
 use Rattle.typed_path.proofs.lemmas.components.FirmPrefixes.{is_firm, firm-long, drive-stays}
 use Rattle.typed_path.proofs.lemmas.components.PartedPrefixes.{firm-more, either}
 use Rattle.typed_path.proofs.lemmas.changes.Faults.{body_parts-relative}
-use Rattle.typed_path.proofs.lemmas.changes.Joins.{Ending, ending, empty, ended, drive_alone, parted, body_parts-more, body_parts-behind}
+use Rattle.typed_path.proofs.lemmas.changes.Joins.{Ending, ending, empty, ended, drive_alone, parted}
 use Rattle.typed_path.proofs.lemmas.places.KeptFromBack.{alike-append}
 use Rattle.typed_path.proofs.lemmas.places.KeptNames.{AlikeKept, without_leading_current-kept}
 use Rattle.typed_path.proofs.lemmas.promises.CleanForms.{head-plain, parts-plain}

@@ -10,12 +10,12 @@ use Rattle.typed_path.specs.queries.{begins_with_root, has_prefix, has_any_verba
 use Rattle.typed_path.specs.changes.{push, push_windows, push_behind, raw_prefix, raw_length, ended_windows, is_disk_alone, spelled, merged}
 use Rattle.typed_path.specs.places.{place, unmet, kept_names, headed, head_of, is_within}
 use Rattle.typed_path.specs.promises.{IsBelow, without_leading_current}
-use Rattle.typed_path.proofs.lemmas.components.Segments.{body_parts}
+use Rattle.typed_path.proofs.lemmas.components.Segments.{body_parts, body_parts-behind, body_parts-more}
 use Rattle.typed_path.proofs.lemmas.components.Prefixes.{FoundFits, drive-take, prefix-fits, prefix-read, Read, of_disk}
 use Rattle.typed_path.proofs.lemmas.components.PrefixCuts.{parts_of-none, parts_of-some, unprefixed, prefix_of-none}
 use Rattle.typed_path.proofs.lemmas.components.FirmPrefixes.{Apart, parted as apart, is_firm, firm-long, firm-stays, drive-stays}
 use Rattle.typed_path.proofs.lemmas.components.PartedPrefixes.{firm-end, firm-more, either}
-use Rattle.typed_path.proofs.lemmas.changes.Joins.{Ending, ending, empty, ended, drive_alone, parted, body_parts-more, body_parts-behind}
+use Rattle.typed_path.proofs.lemmas.changes.Joins.{Ending, ending, empty, ended, drive_alone, parted}
 use Rattle.typed_path.proofs.lemmas.places.KeptNames.{kept_names-append, without_leading_current-kept, place-kept}
 use Rattle.typed_path.proofs.lemmas.promises.UnixContained.{body_parts-later, begins-append, rooted-separated}
 use Rattle.typed_path.proofs.lemmas.promises.WindowsContained.{firm-joined}
