@@ -6,9 +6,9 @@ use Rattle.typed_path.specs.conversions.{CrossesTurned}
 use Rattle.typed_path.specs.components.{unix, windows, body, parts_of, prefix_of, prefix_part, separators, Found}
 use Rattle.typed_path.specs.views.PieceViews.{found_of}
 use Rattle.typed_path.proofs.lemmas.components.Prefixes.{prefix-fits, separators-windows}
-use Rattle.typed_path.proofs.lemmas.components.Segments.{body_parts}
+use Rattle.typed_path.proofs.lemmas.components.Segments.{body_parts, body_parts-same}
 use Rattle.typed_path.proofs.lemmas.components.PrefixCuts.{parts_of-none, parts_of-some}
-use Rattle.typed_path.proofs.lemmas.conversions.TurnedPaths.{crosses-unix, crosses-rooted, crosses-root, crosses-prefix, body-same}
+use Rattle.typed_path.proofs.lemmas.conversions.TurnedPaths.{crosses-unix, crosses-rooted, crosses-root, crosses-prefix}
 use Rattle.typed_path.proofs.conversions.turned_for_unix.Goals as goal
 use Rattle.typed_path.proofs.conversions.turned_for_unix.Goals.{then-text-eq1, else-text-eq1}
 
@@ -16,7 +16,7 @@ pub returns-then-has_no_blank_behind : goal.returns-then-has_no_blank_behind
 returns-then-has_no_blank_behind c =
     let path = c.args.path.now in
     let text = c.before_last_separator-text.result.now in
-    let read = parts_of-none path (sym c.in_default.ensures) ∙ body-same Either path text c.before_last_separator-text.ensures.body in
+    let read = parts_of-none path (sym c.in_default.ensures) ∙ body_parts-same Either path text c.before_last_separator-text.ensures.body in
     crosses-unix path text read (c.has_no_blank_behind.ensures c.if-has_no_blank_behind.true)
 
 pub slice_bounds-behind-count : goal.slice_bounds-behind-count
@@ -28,7 +28,7 @@ slice_bounds-behind-start c = (prefix-fits windows c.args.path.now (found_of c.i
 -- what a path with a prefix is read as, by what stands behind that
 behind_read : (path behind text : List ℕ) (f : Found) (s : Separators) → s ≡ separators windows path → prefix_of windows path ≡ Some f → behind ≡ take (length path - f.length) (drop f.length path)
     → ((at : ℕ) → body s at behind ≡ body s at text) → parts_of windows path ≡ prefix_part f.prefix (take f.length path) ∷ body_parts (separators windows path) text
-behind_read path behind text f s own is e same = grind (arith, parts_of-some, body_parts, take_rest, body-same)
+behind_read path behind text f s own is e same = grind (arith, parts_of-some, body_parts, take_rest, body_parts-same)
 
 pub returns-then-is_empty : goal.returns-then-is_empty
 returns-then-is_empty c =

@@ -1,5 +1,5 @@
 -- Where the components of a text begin and end, how many they are, and what is read before and behind such a place.
-use Rattle.std.proofs.Common.{◌≡◌, ℕ, zero, suc, ◌+◌, ◌<◌, ◌≤◌, ◌==◌, false, List, [], ◌∷◌, ◌++◌, ◌⊎◌, inl, inr, length, take, drop, flat_map, refl, sym, ap, ap₂, ◌∙◌, add-zero, arith, ◌-◌, true, le_refl, min, length-take, Option, Some, None, zero-add, zero-le, length-take-le, length-drop, length-append}
+use Rattle.std.proofs.Common.{◌≡◌, ℕ, zero, suc, ◌+◌, ◌<◌, ◌≤◌, ◌==◌, false, List, [], ◌∷◌, ◌++◌, ◌⊎◌, inl, inr, length, take, drop, flat_map, refl, sym, ap, ap₂, ◌∙◌, add-zero, arith, ◌-◌, true, le_refl, min, length-take, Option, Some, None, zero-add, zero-le, length-take-le, length-drop, length-append, append_assoc}
 use Rattle.std.proofs.lemmas.Grind.{common_steps}
 use Rattle.std.specs.List.{slice_split}
 use Rattle.std.proofs.lemmas.Bool.{eqb-false}
@@ -9,7 +9,7 @@ use Rattle.typed_path.specs.declared.scan.cursor.Begin.{Begin}
 use Rattle.typed_path.specs.declared.scan.cursor.Begin.TheVariants.{Body, Inside}
 use Rattle.typed_path.specs.components.{root_text, is_separator, Dialect, separators, windows, Part, Placed, root_part, end_of, parts, Segment, placed, later, first, component, body_of, body, later_body, comps, comps_behind, parts_of, Found, prefix_of}
 use Rattle.typed_path.specs.scan.{start_at, end_at, AreInOrder, IsLaidOut, body_from}
-use Rattle.typed_path.proofs.lemmas.components.Segments.{pieces, later_part, later_parts, first_parts, parts-body, parts-later_body}
+use Rattle.typed_path.proofs.lemmas.components.Segments.{pieces, later_part, later_parts, first_parts, parts-body, parts-later_body, later_body-separator, body_from-append, body_from-separator}
 use Rattle.typed_path.proofs.lemmas.lists.Lists.{width, slice_split-some, width-slice_split, slice_split-take, slice_split-drop}
 use Rattle.typed_path.proofs.lemmas.components.Prefixes.{FoundFits, prefix-fits}
 
@@ -187,8 +187,8 @@ body-beginning : (s : Separators) (at b : ℕ) (bs : List ℕ) (start : Beginnin
 body-beginning s at b bs start = ap (λ pieces. body_of s (placed at pieces)) start.split ∙ ap (λ cs. cs ++ laid s (at + length start.piece + 1) start.pieces) start.is
 
 -- a text that is not empty has a component
-pub body-filled : (s : Separators) (at b : ℕ) (bs : List ℕ) → 0 < length (body s at (b ∷ bs))
-body-filled s at b bs = let size = ap length (body-beginning s at b bs (beginning s at b bs)) in omega arith
+pub body-filled : (s : Separators) (at : ℕ) (text : List ℕ) → 0 < length text → 0 < length (body s at text)
+body-filled s at text some = grind arith
 
 -- the first component begins where the text does
 pub body-starts : (s : Separators) (at b : ℕ) (bs : List ℕ) → start_at (body s at (b ∷ bs)) 0 ≡ at
@@ -381,3 +381,24 @@ filled-count s at text filled = grind arith
 
 pub behind-count : (text : List ℕ) (f : Found) → Some f ≡ prefix_of windows text → f.length < length text → 1 < length (parts_of windows text)
 behind-count text f found less = grind (arith, filled-count, length-drop)
+
+-- no component reaches over the border between two texts: the first ends with a separator
+pub body-ended : (s : Separators) (at : ℕ) (before us rest : List ℕ) (x : ℕ) → before ≡ us ++ x ∷ [] → is_separator s x ≡ true
+    → body s at (before ++ rest) ≡ body s at before ++ later_body s (at + length before) rest
+body-ended s at before us rest x e separates =
+    ap (λ t. body s at (t ++ rest)) e
+    ∙ ap (body s at) (append_assoc us (x ∷ []) rest)
+    ∙ body_from-append s at x separates Body us rest
+    ∙ ap (λ t. body s at t ++ later_body s (at + length us + 1) rest) (sym e)
+    ∙ ap (λ n. body s at before ++ later_body s n rest) (omega (arith, ap length e, length-append us (x ∷ [])))
+
+-- the second begins with one
+pub body-begun : (s : Separators) (at : ℕ) (before rest more : List ℕ) (x : ℕ) → 0 < length before → rest ≡ x ∷ more → is_separator s x ≡ true
+    → body s at (before ++ rest) ≡ body s at before ++ later_body s (at + length before) rest
+body-begun s at [] rest more x some e separates = absurd (omega arith)
+body-begun s at (u ∷ us) rest more x some e separates =
+    ap (λ r. body s at (u ∷ us ++ r)) e
+    ∙ body_from-append s at x separates Body (u ∷ us) more
+    ∙ ap (λ cs. cs ++ later_body s (at + length (u ∷ us) + 1) more) (body_from-separator s at x separates Body u us)
+    ∙ ap (λ cs. body s at (u ∷ us) ++ cs) (sym (later_body-separator s (at + length (u ∷ us)) x more separates))
+    ∙ ap (λ r. body s at (u ∷ us) ++ later_body s (at + length (u ∷ us)) r) (sym e)

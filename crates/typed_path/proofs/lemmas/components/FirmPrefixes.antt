@@ -335,3 +335,7 @@ three_separators a b c text first second third =
   where
     no_sign : (sign : ℕ) → (47 == sign) ≡ false → (92 == sign) ≡ false → (rest : List ℕ) → after_mark sign (a ∷ b ∷ c ∷ rest) ≡ None
     no_sign sign slash backslash rest = grind (arith, none_from, after_four-tests, both_ways, separator-fails)
+
+-- the first two bytes of a text with a drive are a drive
+pub drive-raw : (t : List ℕ) (letter : ℕ) → drive t ≡ Some letter → prefix_of windows (take 2 t) ≡ Some (found (disk letter) 2)
+drive-raw t letter is = ap (prefix_of windows) (sym (append-nil (take 2 t))) ∙ drive-stays (take 2 t) [] letter (drive-take 2 t (omega arith) ∙ is)

@@ -10,12 +10,13 @@ use Rattle.std.proofs.lemmas.Bool.Decides.{Decides-eqb}
 use Rattle.std.proofs.lemmas.Slice.Eq.{starts_is}
 use Rattle.typed_path.specs.declared.scan.separators.Separators.{Separators}
 use Rattle.typed_path.specs.declared.scan.separators.Separators.TheVariants.{Either, Backslash}
-use Rattle.typed_path.specs.components.{is_separator, question, dot, windows, backslash, separators, begins_verbatim, is_empty, name, second_name, names_length, Found, found, drive, after_two, after_mark, after_unc, verbatim_unc_case, verbatim_disk_case, verbatim_case, device_case, unc_case, disk_case, prefix_of, Prefix, verbatim, verbatim_unc, verbatim_disk, device_ns, unc, disk, parts_of, kinds, parts, comps, comps_behind}
+use Rattle.typed_path.specs.components.{is_separator, question, dot, windows, backslash, separators, begins_verbatim, is_empty, name, second_name, names_length, Found, found, drive, after_two, after_mark, after_unc, verbatim_unc_case, verbatim_disk_case, verbatim_case, device_case, unc_case, disk_case, prefix_of, Prefix, verbatim, verbatim_unc, verbatim_disk, device_ns, unc, disk, parts_of, kinds, parts, comps, comps_behind, prefix_part}
 use Rattle.typed_path.specs.queries.{is_disk, is_verbatim_prefix, begins_with_prefix, has_any_verbatim_prefix, first_prefix}
 use Rattle.typed_path.proofs.lemmas.components.Prefixes.{ReadsMark, IsFront, after_mark-reads, after_unc-reads, after_two-reads, both-read, drive-take, drive-none, OfWindows, separators-windows, backslash-separates, name-fits, Read, of_verbatim_unc, of_verbatim_disk, of_verbatim, of_device, of_unc, of_disk, prefix-read, prefix_by}
 use Rattle.typed_path.proofs.lemmas.components.Segments.{position-append, body_parts, parts_behind, parts-comps_behind}
 use Rattle.typed_path.proofs.lemmas.lists.Options.{and_then-some, unless-some, some_is, unless-none}
 use Rattle.typed_path.proofs.lemmas.lists.Lists.{prefix_len-take}
+use Rattle.std.proofs.lemmas.Grind.{common_steps}
 
 -- The names at the front of a text that is cut behind them.
 
@@ -366,3 +367,7 @@ plain-kind t f is kind long = false_from_ne_true _ (λ marked. by (drop 4 t) (ve
     by : (rest : List ℕ) → t ≡ backslash ∷ backslash ∷ question ∷ backslash ∷ rest → ⊥
     by [] e = omega (arith, ap length e)
     by (b ∷ bs) e = both_ways (is_verbatim_prefix f.prefix) kind (marked-kind b bs f (prefix-read (backslash ∷ backslash ∷ question ∷ backslash ∷ b ∷ bs) f (ap (prefix_of windows) (sym e) ∙ is)))
+
+-- a prefix and nothing else is read as that
+pub parts_of-alone : (raw : List ℕ) (g : Found) → prefix_of windows raw ≡ Some g → g.length ≡ length raw → parts_of windows raw ≡ prefix_part g.prefix raw ∷ []
+parts_of-alone raw g is whole = grind (arith, common_steps)

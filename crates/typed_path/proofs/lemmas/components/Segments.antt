@@ -290,6 +290,14 @@ parts-body s at text = grind (arith, parts-body_of)
 pub parts_of-unix : (t : List ℕ) → parts_of unix t ≡ body_parts Slash t
 parts_of-unix t = parts-body Slash 0 t
 
+-- a body that is read alike without the separator at its end
+pub body_parts-same : (s : Separators) (text other : List ℕ) → ((at : ℕ) → body s at text ≡ body s at other) → body_parts s text ≡ body_parts s other
+body_parts-same s text other same = sym (parts-body s 0 text) ∙ ap parts (same 0) ∙ parts-body s 0 other
+
+-- so is a path of Unix
+pub parts_of-same : (path text : List ℕ) → ((at : ℕ) → body Slash at path ≡ body Slash at text) → parts_of unix path ≡ body_parts Slash text
+parts_of-same path text same = parts_of-unix path ∙ body_parts-same Slash path text same
+
 -- pieces behind the first one are later pieces
 pub first_parts-append : (s : Separators) (piece : List ℕ) (bs cs : List (List ℕ)) → first_parts s (piece ∷ bs ++ cs) ≡ first_parts s (piece ∷ bs) ++ later_parts s cs
 first_parts-append s piece bs cs = ap (λ ps. first_part s piece ∷ ps) (flat_map-append (later_part s) bs cs)
@@ -351,6 +359,10 @@ later-relative s k text later = refl
 -- later components are a list as it is read
 pub AreRead-later : (s : Separators) (ps : List Part) → AllByRecursion (IsLaterPart s) ps → AreRead s ps
 AreRead-later s ps each = grind arith
+
+-- later components are put behind a list as it is read
+pub AreRead-append : (s : Separators) (ps qs : List Part) → AreRead s ps → AllByRecursion (IsLaterPart s) qs → AreRead s (ps ++ qs)
+AreRead-append s ps qs read later = grind (arith, common_steps)
 
 -- the first piece gives a component that is written as its kind tells
 first_part-written : (s : Separators) (piece : List ℕ) → IsUnseparated (is_separator s) piece → IsWrittenPart s (first_part s piece)

@@ -7,13 +7,13 @@ use Rattle.std.proofs.lemmas.Bool.{or_parts, false_from_ne_true, both_ways, eqb-
 use Rattle.std.proofs.lemmas.List.{length-map, drop_all}
 use Rattle.typed_path.specs.declared.scan.separators.Separators.{Separators}
 use Rattle.typed_path.specs.declared.scan.separators.Separators.TheVariants.{Slash, Either}
-use Rattle.typed_path.specs.components.{Dialect, unix, windows, slash, backslash, colon, is_separator, is_dot, is_dot_dot, root_of, Part, current_part, drive, is_drive_letter, parts_of, is_verbatim, body, parts, Found, prefix_of, prefix_part, separators}
+use Rattle.typed_path.specs.components.{Dialect, unix, windows, slash, backslash, colon, is_separator, is_dot, is_dot_dot, root_of, Part, current_part, drive, is_drive_letter, parts_of, is_verbatim, Found, prefix_of, prefix_part, separators}
 use Rattle.typed_path.specs.changes.{ended_with, push_all, push_unix, push_windows, spells_anew, FitsEach, begins_with_separator}
 use Rattle.typed_path.specs.queries.{is_disk}
 use Rattle.typed_path.specs.conversions.{crossed, crossed_all, CrossesTurned}
 use Rattle.typed_path.specs.scan.{is_one_of, is_blank, has_blank_behind, turned}
 use Rattle.typed_path.proofs.lemmas.lists.Lists.{IsUnseparated, slice_split-some, slice_split-unseparated, AllByRecursion-weaker, take-ended, both-each}
-use Rattle.typed_path.proofs.lemmas.components.Segments.{pieces, named_part, first_part, later_parts, first_parts, body_parts, parts-body, dot-is, dot_dot-is, parts_of-unix}
+use Rattle.typed_path.proofs.lemmas.components.Segments.{pieces, named_part, first_part, later_parts, first_parts, body_parts, dot-is, dot_dot-is}
 use Rattle.typed_path.proofs.lemmas.components.WindowsNames.{IsPlain, ended_with-append}
 use Rattle.typed_path.proofs.lemmas.changes.WindowsPushes.{fits-plain}
 use Rattle.typed_path.proofs.lemmas.conversions.CrossedPaths.{IsStep, a_parent, a_plain, IsBare, step-read, bare-next, push-step, bare-root, bare-current, bare-parent, bare-name}
@@ -343,11 +343,3 @@ crosses-prefix path f is whole = by (is_disk f.prefix) refl
     by false e =
         let listed : map (crossed unix) (parts_of windows path) ≡ (slash ∷ []) ∷ [] = ap (map (crossed unix)) read ∙ ap (λ d. (if not d then slash ∷ [] else path) ∷ []) e in
         record { is = ap (push_all unix []) listed; fits = λ room fits. fits-unix room [] (slash ∷ []) [] (subst (FitsEach unix room []) listed fits) }
-
--- a body that is read alike without the separator at its end
-pub body-same : (s : Separators) (text other : List ℕ) → ((at : ℕ) → body s at text ≡ body s at other) → body_parts s text ≡ body_parts s other
-body-same s text other same = sym (parts-body s 0 text) ∙ ap parts (same 0) ∙ parts-body s 0 other
-
--- so is a path of Unix
-pub read-unix : (path text : List ℕ) → ((at : ℕ) → body Slash at path ≡ body Slash at text) → parts_of unix path ≡ body_parts Slash text
-read-unix path text same = parts_of-unix path ∙ body-same Slash path text same

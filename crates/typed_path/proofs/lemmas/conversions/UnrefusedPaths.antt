@@ -10,7 +10,7 @@ use Rattle.typed_path.specs.changes.{push, push_all, fault, has_device, is_stray
 use Rattle.typed_path.specs.queries.{is_valid, is_valid_kind, is_disallowed, kind_has_allowed_bytes, is_reserved}
 use Rattle.typed_path.specs.conversions.{AllowsCrossing, crossed, IsUnrefused, crossing_fault, push_checked_each, push_unless}
 use Rattle.typed_path.specs.scan.{is_one_of}
-use Rattle.typed_path.proofs.lemmas.components.Segments.{pieces, named_part, later_parts, first_parts, body_parts, IsWritten, IsWrittenPart, each-written, body_parts-read, parts-body}
+use Rattle.typed_path.proofs.lemmas.components.Segments.{pieces, named_part, later_parts, first_parts, body_parts, IsWritten, IsWrittenPart, each-written, body_parts-read, parts-body, parts_of-same}
 use Rattle.typed_path.proofs.lemmas.components.WindowsNames.{fault_name}
 use Rattle.typed_path.proofs.lemmas.queries.ValidNames.{valid-found}
 use Rattle.typed_path.proofs.lemmas.queries.FileNames.{allowed-pieces, allowed-kinds, allowed-first_parts}
@@ -20,7 +20,7 @@ use Rattle.typed_path.proofs.lemmas.components.Prefixes.{OfWindows, Read, of_dis
 use Rattle.typed_path.proofs.lemmas.places.WindowsRows.{IsWithoutSlash, without_slash-behind}
 use Rattle.typed_path.proofs.lemmas.components.PrefixCuts.{parts_of-none, parts_of-some}
 use Rattle.typed_path.proofs.lemmas.changes.ValidPaths.{any-pieces}
-use Rattle.typed_path.proofs.lemmas.conversions.TurnedPaths.{pieces-slash, read-unix, letter_is}
+use Rattle.typed_path.proofs.lemmas.conversions.TurnedPaths.{pieces-slash, letter_is}
 use Rattle.typed_path.proofs.lemmas.lists.Lists.{free-behind}
 
 -- ---- checked pushes of what is not refused
@@ -100,7 +100,7 @@ checked-windows path text read free none =
 
 -- so none of its components is refused where looks at the whole path tell that
 pub unrefused-windows : (path : List ℕ) → list_any (is_forbidden_or (backslash, backslash)) path ≡ false → has_device path ≡ false → IsUnrefused unix windows path
-unrefused-windows path free none = checked-windows path path (read-unix path path (λ at. refl)) free (any-pieces path ∙ none)
+unrefused-windows path free none = checked-windows path path (parts_of-same path path (λ at. refl)) free (any-pieces path ∙ none)
 
 -- names that Unix allows are valid there
 valid-unix : (ks : List Kind) → AllByRecursion (λ k. kind_has_allowed_bytes unix k ≡ true) ks → is_valid unix ks ≡ true

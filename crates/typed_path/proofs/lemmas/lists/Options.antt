@@ -1,6 +1,6 @@
 -- What an option tells that is made by a test, of another option, or as the first of two cases or the second.
-use Rattle.std.proofs.Common.{Option, Some, arith, option_and_then, Bool, None, false, true, refl, ◌≡◌, if◌then◌else◌, ap, ◌∙◌}
-use Rattle.std.specs.Option.{option_or}
+use Rattle.std.proofs.Common.{Option, Some, arith, option_and_then, Bool, None, false, true, refl, ◌≡◌, if◌then◌else◌, ap, ◌∙◌, ℕ, ◌==◌, eqb-true}
+use Rattle.std.specs.Option.{option_or, option_eq}
 
 -- what a value behind an option tells
 pub and_then-some : {A B : Type 0} (g : A → Option B) (o : Option A) (y : B) → option_and_then g o ≡ Some y → (x : A) × (o ≡ Some x) × (g x ≡ Some y)
@@ -44,3 +44,10 @@ first-some o p x is = ap (λ q. option_or q p) is
 -- or the second
 pub first-none : {A : Type 0} (o p r : Option A) → o ≡ None → p ≡ r → option_or o p ≡ r
 first-none o p r is e = ap (λ q. option_or q p) is ∙ e
+
+-- numbers, or none, that are told to be equal are one
+pub option_eq-same : (d e : Option ℕ) → option_eq (λ x y. x == y) d e ≡ true → d ≡ e
+option_eq-same None None same = refl
+option_eq-same None (Some e) same = cc
+option_eq-same (Some d) None same = cc
+option_eq-same (Some d) (Some e) same = ap Some (eqb-true d e same)

@@ -1,7 +1,6 @@
 -- Two Windows texts of which one at least has a prefix, in the order of these or of what stands behind them.
-use Rattle.std.proofs.Common.{◌≡◌, ℕ, ◌==◌, List, ◌∷◌, [], ◌++◌, Bool, true, false, cond, drop, Ordering, refl, sym, ap, ap₂, ◌∙◌, eqb-true, Option, Some, None}
+use Rattle.std.proofs.Common.{◌≡◌, ℕ, List, ◌∷◌, [], ◌++◌, Bool, true, false, cond, drop, Ordering, refl, sym, ap, ap₂, ◌∙◌, Some, None}
 use Rattle.std.specs.List.{before_first}
-use Rattle.std.specs.Option.{option_eq}
 use Rattle.std.specs.Ordering.{is_ne}
 use Rattle.typed_path.specs.components.{windows, separators, kinds, parts, prefix, Found, prefix_of, comps, comps_behind, Placed, body, component, is_separator, is_empty, is_dot, is_dot_dot, root_text, root_part, current_part, parent_part, name_part}
 use Rattle.typed_path.specs.declared.scan.separators.Separators.{Separators}
@@ -51,10 +50,3 @@ bare-found u none = sym (ap (λ r. first_prefix (kinds (parts (comps_behind (sep
 -- of which none is a prefix
 pub behind-bare : (u : List ℕ) (cs : List Placed) → prefix_of windows u ≡ None → cs ≡ comps windows u → cs ≡ behind_prefix (comps windows u)
 behind-bare u cs none e = e ∙ sym (bare (comps windows u) (bare-found u none))
-
--- drives that are not told apart are one
-pub same-drive : (d e : Option ℕ) → option_eq (λ x y. x == y) d e ≡ true → d ≡ e
-same-drive None None same = refl
-same-drive None (Some e) same = cc
-same-drive (Some d) None same = cc
-same-drive (Some d) (Some e) same = ap Some (eqb-true d e same)

@@ -25,8 +25,9 @@ use Rattle.typed_path.proofs.lemmas.components.Segments.{body_from-first, parts-
 use Rattle.typed_path.proofs.lemmas.components.Prefixes.{prefix-fits}
 use Rattle.typed_path.specs.changes.{HaveOnePrefix, raw_length, is_name_piece}
 use Rattle.typed_path.specs.queries.{path_starts_with}
-use Rattle.typed_path.proofs.lemmas.queries.Bases.{begins, body-ended}
+use Rattle.typed_path.proofs.lemmas.queries.Bases.{begins}
 use Rattle.typed_path.proofs.lemmas.order.Comparisons.{cmp-behind}
+use Rattle.typed_path.proofs.lemmas.components.Cuts.{body-ended}
 
 -- a segment that is a name is read as one
 first-name : (s : Separators) (piece : List ℕ) (at : ℕ) → is_name_piece piece ≡ true → first s (record { text = piece; start = at }) ≡ component (name_part piece) at

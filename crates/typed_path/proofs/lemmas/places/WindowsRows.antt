@@ -17,10 +17,11 @@ use Rattle.typed_path.proofs.lemmas.components.Segments.{pieces, later_parts, bo
 use Rattle.typed_path.proofs.lemmas.components.WrittenForms.{heads_first-parts_of}
 use Rattle.typed_path.proofs.lemmas.components.WindowsNames.{IsPlain, IsHead, a_root, a_name, Settled, push_all-settled}
 use Rattle.typed_path.proofs.lemmas.components.PartedPrefixes.{raw-whole, drive-plain}
-use Rattle.typed_path.proofs.lemmas.components.PrefixCuts.{parts_of-none, parts_of-some}
+use Rattle.typed_path.proofs.lemmas.components.PrefixCuts.{parts_of-none, parts_of-some, parts_of-alone}
 use Rattle.typed_path.proofs.lemmas.places.Resolving.{Comes, comes-head}
 use Rattle.typed_path.proofs.lemmas.places.UnixRows.{comes-left, comes-unrooted, left-clean, rowed-alone, rowed-named}
-use Rattle.typed_path.proofs.lemmas.promises.WindowsStable.{settled-none, settled-drive, settled-parted, push-first, drive-raw, prefix-alone, push-root, push-drive}
+use Rattle.typed_path.proofs.lemmas.promises.WindowsStable.{settled-none, settled-drive, settled-parted, push-first, push-root, push-drive}
+use Rattle.typed_path.proofs.lemmas.components.FirmPrefixes.{drive-raw}
 
 -- names spelled, with a separator behind them, are their rows
 spelled-rows : (name : List ℕ) (names : List (List ℕ)) → spelled (name_part name ∷ map name_part names) ++ backslash ∷ [] ≡ rows_of Either (name ∷ names)
@@ -150,7 +151,7 @@ drive-head path root rest f is drives parted text rows = by f is (prefix-read pa
             let left : goal ≡ push_all windows raw names = comes-left Either (pieces Either (drop 2 path)) [] comes ∙ ap (λ t. push_all windows raw (names_left_of Either t)) (sym e) in
             normal-same rows.is (ap (λ r. raw ++ r) unrooted ∙ append-nil raw) refl
             (named-rows raw (Some (found (disk letter) 2)) Either (λ q head. settled-drive path letter q drive head)
-            (λ name own. push-drive raw letter name (prefix-alone raw (found (disk letter) 2) alone whole) own) goal names plain left)
+            (λ name own. push-drive raw letter name (parts_of-alone raw (found (disk letter) 2) alone whole) own) goal names plain left)
     by f is read kind parted rows = cc
 
 -- a text without `/` is cut alike by both sets

@@ -206,7 +206,7 @@ count t = length-map (parts_of unix t) (λ p. p.kind) ∙ length-map (comps unix
 -- what is left of a path behind a base, joined to that base
 left_joins : (t b : List ℕ) → path_starts_with unix t b ≡ true → kinds (parts_of unix (push_unix b (left (comps unix t) t (length (comps unix b)) 0))) ≡ kinds (parts_of unix t)
 left_joins t [] begins = ap (λ u. kinds (parts_of unix u)) (push_unix-nothing (left (comps unix t) t 0 0) ∙ left-all (comps unix t) t)
-left_joins t (b ∷ bs) begins = by (length (comps unix (b ∷ bs))) refl (body-filled Slash 0 b bs)
+left_joins t (b ∷ bs) begins = by (length (comps unix (b ∷ bs))) refl (body-filled Slash 0 (b ∷ bs) (omega arith))
   where
     by : (n : ℕ) → length (comps unix (b ∷ bs)) ≡ n → 0 < n → kinds (parts_of unix (push_unix (b ∷ bs) (left (comps unix t) t n 0))) ≡ kinds (parts_of unix t)
     by zero size some = absurd (omega arith)

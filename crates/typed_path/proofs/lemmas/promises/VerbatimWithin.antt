@@ -12,7 +12,7 @@ use Rattle.typed_path.specs.changes.{push, push_windows, push_behind, spelled, m
 use Rattle.typed_path.specs.places.{place, unmet, kept_names, headed}
 use Rattle.typed_path.specs.promises.{LeadsBelow, keeps_by_prefix, keeps_prefix, names_at_end}
 use Rattle.typed_path.proofs.lemmas.lists.Lists.{AllByRecursion-append, AllByRecursion-weaker, all-front, take-nothing}
-use Rattle.typed_path.proofs.lemmas.components.Segments.{body_parts, body_parts-read, AreRead, IsWritten, IsWrittenPart, IsLaterPart, IsWritten-later, IsCleanName, each-written}
+use Rattle.typed_path.proofs.lemmas.components.Segments.{body_parts, body_parts-read, AreRead, IsWritten, IsWrittenPart, IsLaterPart, IsWritten-later, IsCleanName, each-written, AreRead-append}
 use Rattle.typed_path.proofs.lemmas.components.Prefixes.{OfWindows, FoundFits, prefix-fits, prefix-read, separators-windows, backslash-separates, root_text-windows, Read, of_verbatim_unc, of_verbatim_disk, of_verbatim}
 use Rattle.typed_path.proofs.lemmas.components.PrefixCuts.{name-filled, parts_of-none, parts_of-some, verbatim-some, unprefixed, prefix_of-none}
 use Rattle.typed_path.proofs.lemmas.components.FirmPrefixes.{is_firm, firm-long, firm-stays}
@@ -22,7 +22,7 @@ use Rattle.typed_path.proofs.lemmas.places.KeptNames.{kept_names-append, place_o
 use Rattle.typed_path.proofs.lemmas.places.Resolving.{no_heads, is_head, read-headless, written-headless}
 use Rattle.typed_path.proofs.lemmas.places.UnixRows.{Ended, none as no_last, some as with_last, ended}
 use Rattle.typed_path.proofs.lemmas.promises.UnixContained.{separated-rooted}
-use Rattle.typed_path.proofs.lemmas.promises.WindowsBases.{Rest, AreRead-append, place-rest, spelled-behind, rest-separated, separators-spelled, verbatim-no_drive}
+use Rattle.typed_path.proofs.lemmas.promises.WindowsBases.{Rest, place-rest, spelled-behind, rest-separated, separators-spelled, verbatim-no_drive}
 use Rattle.typed_path.proofs.lemmas.promises.WindowsContained.{rest-apart, keeps_by_prefix-firm}
 use Rattle.typed_path.proofs.lemmas.promises.Within.{kinds_of, Leading, within-below}
 use Rattle.typed_path.proofs.lemmas.promises.UnixWithin.{unix_below}

@@ -14,7 +14,7 @@ use Rattle.typed_path.specs.changes.{is_disk_alone, joint, spelled, merged}
 use Rattle.typed_path.specs.places.{resolve, with_implied_root}
 use Rattle.typed_path.proofs.lemmas.lists.Lists.{slice_split-some}
 use Rattle.typed_path.proofs.lemmas.components.Prefixes.{OfWindows, backslash-separates, prefix-fits, separators-windows, root_text-windows}
-use Rattle.typed_path.proofs.lemmas.components.Segments.{pieces, first_parts, later_parts, body_parts, body_parts-read, AreRead, IsWritten, parts_behind, each-written, IsWrittenPart, IsLater, IsLaterPart, AreRead-later, later-relative, body_parts-behind, body_parts-more}
+use Rattle.typed_path.proofs.lemmas.components.Segments.{pieces, first_parts, later_parts, body_parts, body_parts-read, AreRead, IsWritten, parts_behind, each-written, IsWrittenPart, IsLater, IsLaterPart, AreRead-later, later-relative, body_parts-behind, body_parts-more, AreRead-append}
 use Rattle.typed_path.proofs.lemmas.components.PrefixCuts.{IsSize, prefix-size, IsGrown, same-sizes, plain-kind, verbatim_text, verbatim-size, verbatim-take, parts_of-none, parts_of-some}
 use Rattle.typed_path.proofs.lemmas.places.Resolving.{no_heads, is_head, read-headless, IsKept, resolve-kept, resolve-read, resolve-resolve, overdraws-kept}
 use Rattle.typed_path.proofs.lemmas.changes.Faults.{place_of, place_of-append, place_of-rooted, IsFaultless, no_heads-relative, no_heads-resolve, body_parts-alike}
@@ -196,10 +196,6 @@ module _ (path : List ℕ) (faultless : IsFaultless path) where
       by (inr one) = ap (λ p. behind p (drop g.length (base ++ (mid ++ path)))) same ∙ grown mid ending one
 
 -- Where a base of Windows leads with a faultless path behind it, under a verbatim prefix: its list is spelled anew.
-
--- later components are put behind a list as it is read
-pub AreRead-append : (s : Separators) (ps qs : List Part) → AreRead s ps → AllByRecursion (IsLaterPart s) qs → AreRead s (ps ++ qs)
-AreRead-append s ps qs read later = grind (arith, common_steps)
 
 -- a name of one Windows text is a name of another
 names-later : (s : Separators) (ps : List Part) → AllByRecursion (IsWrittenPart Either) ps → AllByRecursion IsKept ps → no_heads (kinds ps) ≡ true → AllByRecursion (IsLaterPart s) ps

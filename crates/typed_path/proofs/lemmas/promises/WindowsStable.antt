@@ -14,9 +14,9 @@ use Rattle.typed_path.specs.places.{normal_text, resolve}
 use Rattle.typed_path.specs.promises.{with_drive_root, IsStableForm, is_verbatim_unc_name, StaysStable, HasNormalForm}
 use Rattle.typed_path.proofs.lemmas.places.Resolving.{texts-names, resolve-kept, resolve-same, with_drive_root-kept, with_drive_root-place, resolve-read, with_drive_root-rooted}
 use Rattle.typed_path.proofs.lemmas.components.WindowsNames.{IsPlain, Settled, prefix_parts, text_of, settled-read, push_all-settled, plain-no_prefix, rooted-none, IsHead, a_root, a_name, Resolved, unrooted, rooted, resolved, allowed-resolve, push-plain}
-use Rattle.typed_path.proofs.lemmas.components.Prefixes.{OfWindows, separators-windows, backslash-separates, drive-size, drive-take, prefix-fits, Read, of_disk, prefix-read}
-use Rattle.typed_path.proofs.lemmas.components.PrefixCuts.{plain-none, parts_of-none, parts_of-some}
-use Rattle.typed_path.proofs.lemmas.components.FirmPrefixes.{Apart, nothing, parted, drive-stays}
+use Rattle.typed_path.proofs.lemmas.components.Prefixes.{OfWindows, separators-windows, backslash-separates, drive-size, prefix-fits, Read, of_disk, prefix-read}
+use Rattle.typed_path.proofs.lemmas.components.PrefixCuts.{plain-none, parts_of-none, parts_of-some, parts_of-alone}
+use Rattle.typed_path.proofs.lemmas.components.FirmPrefixes.{Apart, nothing, parted, drive-raw}
 use Rattle.typed_path.proofs.lemmas.components.PartedPrefixes.{parted-stays, root-behind, raw-whole}
 use Rattle.typed_path.proofs.lemmas.components.Segments.{body_parts, body_parts-read}
 use Rattle.typed_path.proofs.lemmas.promises.UnixContained.{canonical_form}
@@ -98,13 +98,9 @@ settled-parted t f is other no_unc more = grind (arith, separators-windows, leng
 
 -- The normal text of Windows is stable, where no name has a byte that no name may have and the prefix is not the verbatim one named `UNC`.
 
--- a prefix and nothing else is read as that
-pub prefix-alone : (raw : List ℕ) (g : Found) → prefix_of windows raw ≡ Some g → g.length ≡ length raw → parts_of windows raw ≡ prefix_part g.prefix raw ∷ []
-prefix-alone raw g is whole = grind (arith, common_steps)
-
 -- so it is read again
 alone-again : (raw : List ℕ) (g : Found) → prefix_of windows raw ≡ Some g → g.length ≡ length raw → IsReadAgain (prefix_part g.prefix raw ∷ [])
-alone-again raw g is whole = record { reads = ap (parts_of windows) (push-first raw) ∙ prefix-alone raw g is whole; same_text = refl }
+alone-again raw g is whole = record { reads = ap (parts_of windows) (push-first raw) ∙ parts_of-alone raw g is whole; same_text = refl }
 
 -- a root pushed onto a prefix and nothing else is put behind it
 pub push-root : (raw : List ℕ) (g : Found) → prefix_of windows raw ≡ Some g → g.length ≡ length raw → push_windows raw (backslash ∷ []) ≡ raw ++ backslash ∷ []
@@ -126,10 +122,6 @@ none-again _ (rooted names plain) = settled-again [] None Either (root_part (bac
 pub push-drive : (raw : List ℕ) (letter : ℕ) (name : List ℕ) → parts_of windows raw ≡ prefix_part (disk letter) raw ∷ [] → IsPlain name → push_windows raw name ≡ raw ++ name
 push-drive raw letter name read plain = grind (arith, push-plain)
 
--- the raw text of a drive is a drive
-pub drive-raw : (t : List ℕ) (letter : ℕ) → drive t ≡ Some letter → prefix_of windows (take 2 t) ≡ Some (found (disk letter) 2)
-drive-raw t letter is = ap (prefix_of windows) (sym (append-nil (take 2 t))) ∙ drive-stays (take 2 t) [] letter (drive-take 2 t (omega arith) ∙ is)
-
 -- under a drive
 drive-again : (t : List ℕ) (letter : ℕ) (ps : List Part) → drive t ≡ Some letter → Resolved ps → IsReadAgain (prefix_part (disk letter) (take 2 t) ∷ ps)
 drive-again t letter ps is resolved = by ps resolved
@@ -150,7 +142,7 @@ drive-again t letter ps is resolved = by ps resolved
     by _ (unrooted [] plain) = alone-again raw f alone whole
     by _ (unrooted (name ∷ names) plain) =
         settled-again raw (Some f) Either (name_part name) (settled-drive t letter (name_part name) is (a_name name plain.0)) names plain.1
-        (ap (λ u. push_windows u name) (push-first raw) ∙ push-drive raw letter name (prefix-alone raw f alone whole) plain.0) refl
+        (ap (λ u. push_windows u name) (push-first raw) ∙ push-drive raw letter name (parts_of-alone raw f alone whole) plain.0) refl
     by _ (rooted names plain) =
         settled-again raw (Some f) Either (root_part (backslash ∷ [])) (settled-drive t letter (root_part (backslash ∷ [])) is a_root) names plain
         (ap (λ u. push_windows u (backslash ∷ [])) (push-first raw) ∙ push-root raw f alone whole) refl
@@ -190,7 +182,7 @@ module _ (t : List ℕ) (f : Found) (is : prefix_of windows t ≡ Some f) (other
     push-named : (name : List ℕ) → IsPlain name → push_windows raw name ≡ raw ++ backslash ∷ name
     push-named name own =
         push-plain raw name own
-        ∙ ap (λ ps. if has_any_verbatim_prefix (kinds ps) then spelled (merged ps (name_part name ∷ [])) else ended_windows raw ++ name) (prefix-alone raw f drive-whole whole)
+        ∙ ap (λ ps. if has_any_verbatim_prefix (kinds ps) then spelled (merged ps (name_part name ∷ [])) else ended_windows raw ++ name) (parts_of-alone raw f drive-whole whole)
         ∙ cond-true (is_verbatim_prefix f.prefix) (raw ++ backslash ∷ [] ++ name) (ended_windows raw ++ name) (ap is_verbatim_prefix drives)
         ∙ append_assoc raw (backslash ∷ []) name
 

@@ -1,5 +1,5 @@
 -- The beginning and the end of a path compared with another, and a base taken off.
-use Rattle.std.proofs.Common.{◌≡◌, ℕ, zero, suc, ◌+◌, ◌<◌, ◌≤◌, List, [], ◌∷◌, Bool, true, false, ◌&&◌, cond, length, drop, replicate, refl, sym, ap, ◌∙◌, arith, ◌++◌, take, append_assoc, length-take, Some, None, Option, drop-drop, length-drop, length-append}
+use Rattle.std.proofs.Common.{◌≡◌, ℕ, zero, suc, ◌+◌, ◌<◌, ◌≤◌, List, [], ◌∷◌, Bool, true, false, ◌&&◌, cond, length, drop, replicate, refl, sym, ap, ◌∙◌, arith, ◌++◌, take, length-take, Some, None, Option, drop-drop, length-drop, length-append}
 use Rattle.std.proofs.lemmas.Grind.{common_steps}
 use Rattle.std.specs.List.{starts_with, ends_with}
 use Rattle.std.specs.Str.{bytes_eq}
@@ -10,15 +10,15 @@ use Rattle.std.proofs.Math.Bool.{and-false, and-true, and_assoc}
 use lib.Pointwise.{pointwise}
 use Rattle.std.proofs.lemmas.Slice.Eq.{starts_is, bytes_eq-Decides}
 use Rattle.typed_path.specs.declared.scan.separators.Separators.{Separators}
-use Rattle.typed_path.specs.declared.scan.cursor.Begin.TheVariants.{Body, Inside}
-use Rattle.typed_path.specs.components.{Dialect, windows, separators, is_separator, Part, Placed, parts, texts, prefix_part, comps, comps_behind, component, body, later_body, Found, prefix_of}
+use Rattle.typed_path.specs.declared.scan.cursor.Begin.TheVariants.{Inside}
+use Rattle.typed_path.specs.components.{Dialect, windows, separators, Part, Placed, parts, texts, prefix_part, comps, comps_behind, component, body, later_body, Found, prefix_of}
 use Rattle.typed_path.specs.scan.{first_part, last_part, is_clean, front, left, slice_after_front, but_last, start_at, slice_after, fronts, backs}
 use Rattle.typed_path.specs.queries.{path_starts_with, stripped}
 use Rattle.typed_path.specs.changes.{raw_length}
-use Rattle.typed_path.proofs.lemmas.components.Cuts.{comps-laid_out}
+use Rattle.typed_path.proofs.lemmas.components.Cuts.{comps-laid_out, body-filled}
 use Rattle.typed_path.proofs.lemmas.scan.Readings.{stepwise_slices, left-taken, left-front}
 use Rattle.typed_path.proofs.lemmas.scan.Steps.{last_pushed, last_part-push}
-use Rattle.typed_path.proofs.lemmas.components.Segments.{later_body-separator, body_from-starts, body_from-append, body_from-separator}
+use Rattle.typed_path.proofs.lemmas.components.Segments.{body_from-starts}
 use Rattle.typed_path.proofs.lemmas.components.Prefixes.{prefix-fits}
 
 -- A base taken off a path, component by component.
@@ -150,27 +150,6 @@ ends-step (c ∷ cs) (w ∷ ws) p q some own =
 
 -- A text that begins with the bytes of another, read as that one and what stands behind it.
 
--- no component reaches over the border between two texts: the first ends with a separator
-pub body-ended : (s : Separators) (at : ℕ) (before us rest : List ℕ) (x : ℕ) → before ≡ us ++ x ∷ [] → is_separator s x ≡ true
-    → body s at (before ++ rest) ≡ body s at before ++ later_body s (at + length before) rest
-body-ended s at before us rest x e separates =
-    ap (λ t. body s at (t ++ rest)) e
-    ∙ ap (body s at) (append_assoc us (x ∷ []) rest)
-    ∙ body_from-append s at x separates Body us rest
-    ∙ ap (λ t. body s at t ++ later_body s (at + length us + 1) rest) (sym e)
-    ∙ ap (λ n. body s at before ++ later_body s n rest) (omega (arith, ap length e, length-append us (x ∷ [])))
-
--- the second begins with one
-pub body-begun : (s : Separators) (at : ℕ) (before rest more : List ℕ) (x : ℕ) → 0 < length before → rest ≡ x ∷ more → is_separator s x ≡ true
-    → body s at (before ++ rest) ≡ body s at before ++ later_body s (at + length before) rest
-body-begun s at [] rest more x some e separates = absurd (omega arith)
-body-begun s at (u ∷ us) rest more x some e separates =
-    ap (λ r. body s at (u ∷ us ++ r)) e
-    ∙ body_from-append s at x separates Body (u ∷ us) more
-    ∙ ap (λ cs. cs ++ later_body s (at + length (u ∷ us) + 1) more) (body_from-separator s at x separates Body u us)
-    ∙ ap (λ cs. body s at (u ∷ us) ++ cs) (sym (later_body-separator s (at + length (u ∷ us)) x more separates))
-    ∙ ap (λ r. body s at (u ∷ us) ++ later_body s (at + length (u ∷ us)) r) (sym e)
-
 -- what stands before a place in a text that begins with another stands there in that, and what stands behind it
 -- begins with what does there
 module _ (n : ℕ) (text base : List ℕ) (begun : text ≡ base ++ drop (length base) text) (low : n ≤ length base) where
@@ -179,10 +158,6 @@ module _ (n : ℕ) (text base : List ℕ) (begun : text ≡ base ++ drop (length
 
   pub behind-begun : take (length (drop n base)) (drop n text) ≡ drop n base
   behind-begun = grind (arith, drop-append-le, take-append_seam)
-
--- a text that is not empty has a component
-pub filled : (s : Separators) (at : ℕ) (b : List ℕ) → 0 < length b → 0 < length (body s at b)
-filled s at b h = grind arith
 
 -- where the components of a text are some written as those of a base are, and then those behind a place, that is what is left of the text behind the base
 module _ (d : Dialect) (s : Separators) (t b : List ℕ) (n : ℕ) (cs : List Placed) (some : 0 < length cs) (alike : texts (parts cs) ≡ texts (parts (comps d b)))
@@ -231,7 +206,7 @@ pub stripped-behind_prefix : (t b : List ℕ) (n : ℕ) → (o p : Option Found)
 stripped-behind_prefix t b n None None e f same raw some items clean =
     let s = separators windows t in
     let zero : 0 + n ≡ n = omega arith in
-    stripped-split windows s t b n (body s 0 b) (filled s 0 b some)
+    stripped-split windows s t b n (body s 0 b) (body-filled s 0 b some)
     (ap (λ r. texts (parts (body r 0 b))) same ∙ ap (λ q. texts (parts (comps_behind (separators windows b) b q))) (sym f))
     (ap (comps_behind s t) e ∙ items 0 ∙ ap (λ m. body s 0 b ++ later_body s m (drop n t)) zero) clean
 stripped-behind_prefix t b n (Some f) (Some g) e h same raw some items clean =

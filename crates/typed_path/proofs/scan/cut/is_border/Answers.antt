@@ -1,6 +1,6 @@
 use Rattle.std.proofs.Common.{sym, ◌∙◌}
-use Rattle.typed_path.proofs.lemmas.queries.Bases.{body-ended, body-begun}
 use Rattle.typed_path.proofs.scan.cut.is_border.Goals as goal
+use Rattle.typed_path.proofs.lemmas.components.Cuts.{body-ended, body-begun}
 
 pub returns-then-contains : goal.returns-then-contains
 returns-then-contains c holds some at =

@@ -2,8 +2,9 @@ use Rattle.std.proofs.Common.{◌++◌, Some, drop, refl, ap, sym, ◌∙◌, ar
 use Rattle.std.proofs.lemmas.List.{take_rest}
 use Rattle.typed_path.specs.declared.scan.separators.Separators.TheVariants.{Slash}
 use Rattle.typed_path.specs.components.{body, later_body, unix}
-use Rattle.typed_path.proofs.lemmas.queries.Bases.{filled, stripped-split}
+use Rattle.typed_path.proofs.lemmas.queries.Bases.{stripped-split}
 use Rattle.typed_path.proofs.unix.encoding.UnixEncodingEncoding.behind.Goals as goal
+use Rattle.typed_path.proofs.lemmas.components.Cuts.{body-filled}
 
 pub returns : goal.returns
 returns c =
@@ -11,6 +12,6 @@ returns c =
     let base = body Slash 0 c.args.base.now in
     let end = c.in_ok-end.end in
     let told = c.in_ok-end.ensures in
-    stripped-split unix Slash path c.args.base.now end base (filled Slash 0 c.args.base.now told.some) refl
+    stripped-split unix Slash path c.args.base.now end base (body-filled Slash 0 c.args.base.now told.some) refl
     (told.items 0 ∙ ap (λ k. base ++ later_body Slash k (drop end path)) (omega arith)) told.clean
     ∙ ap Some (sym (take_rest path end))
