@@ -10,7 +10,7 @@
 -- Lengths: how long a path is that another is pushed onto, and what joins two components
 -- SpelledLengths: how long a text of Windows is that is spelled anew (`IsDriven`, `IsMarked`, `IsHeaded`)
 -- PushLengths: how long a path is onto which others are pushed one by one: the normal text of a path, a path in another dialect, and one made absolute (`Takes`, `IsTaken`, `Costs`)
--- Runs: lists of operations, one operation more (`FitsStep`, `FitsAll`)
+-- Runs: lists of operations, one operation more; and room that is enough stays so where it grows (`FitsStep`, `FitsAll`)
 -- AddedNames: a path with more behind its file name is read as before, but for that name (`IsNameAt`, `KeepsFront`)
 -- AddedFronts: a path that gets one extension more keeps its separators and its prefix, but for the verbatim one named `UNC`; so it has its parent, and a longer name (`KeepsFront`)
 pub mod Faults

@@ -6,7 +6,7 @@
 -- UnixWithin: on Unix a path is within a base exactly where it lies below it from every absolute directory, so the test for it is exact (`IsDeep`)
 -- WindowsWithin: the same on Windows, from each absolute directory that keeps its prefix and is not verbatim; and the kinds that are read of a path with a prefix, and of one without
 -- VerbatimWithin: and from each verbatim one that keeps its prefix (`LeadsBelow`, `Ends`)
--- StepsBack: the steps that lead from one list to another, put behind the first, lead where the second leads; and their path, read again (`IsRelativeRead`, `IsReached`)
+-- StepsBack: lists with the same heads, prefix and root; the steps that lead from one list to another, put behind the first, lead where the second leads; and their path, read again (`IsRelativeRead`, `IsReached`)
 -- UnixRelative: on Unix the path that leads from a base to another leads back, and there is none exactly where no relative path does (`IsFilled`, `IsUnreached`)
 -- WindowsRelative: on Windows it leads back behind a base that is not verbatim and keeps its prefix (`Joined`)
 -- VerbatimRelative: and behind a verbatim one that ends with enough names (`IsUnder`)

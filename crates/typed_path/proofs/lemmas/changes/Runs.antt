@@ -1,4 +1,4 @@
--- Lists of operations, one operation more.
+-- Lists of operations, one operation more; and room that is enough stays so where it grows.
 use Rattle.std.proofs.Common.{◌≡◌, ℕ, ◌+◌, ◌<◌, ◌≤◌, List, [], ◌∷◌, ◌++◌, map, length, take, drop, get_or, Bor, OnErr, refl, sym, ap, ◌∙◌, arith, Result}
 use Rattle.std.proofs.lemmas.List.{drop-map, drop_more, length-map}
 use Rattle.std.proofs.lemmas.List.Sums.{fold-append}

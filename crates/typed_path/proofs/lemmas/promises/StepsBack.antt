@@ -1,4 +1,4 @@
--- The steps that lead from one list to another, put behind the first, lead where the second leads.
+-- Lists with the same heads, prefix and root. The steps that lead from one list to another, put behind the first, lead where the second leads.
 -- The path that leads from a base to another, read again: parents and names, with neither a prefix nor a root.
 use Rattle.std.proofs.Common.{◌≡◌, ℕ, ◌+◌, ◌-◌, ◌≤◌, ◌==◌, Bool, true, false, not, List, [], ◌∷◌, ◌++◌, if◌then◌else◌, length, take, drop, refl, sym, ap, ap₂, ◌∙◌, arith, take-append-drop, is_eq, subst, Option, Some, None, All}
 use Rattle.std.proofs.lemmas.Grind.{common_steps}

@@ -8,14 +8,14 @@ use Rattle.std.proofs.lemmas.Bool.{cases_lt}
 use Rattle.std.proofs.lemmas.Slice.Eq.{starts_is, bytes_eq-Decides}
 use Rattle.typed_path.specs.declared.scan.separators.Separators.{Separators}
 use Rattle.typed_path.specs.declared.scan.separators.Separators.TheVariants.{Slash}
-use Rattle.typed_path.specs.components.{unix, slash, is_separator, is_verbatim, Kind, prefix, root, current, parent, normal, Part, kinds, texts, name_part, parts, parts_of, is_dot, is_dot_dot, comps}
+use Rattle.typed_path.specs.components.{unix, slash, is_verbatim, Kind, prefix, root, current, parent, normal, Part, kinds, texts, name_part, parts, parts_of, is_dot, is_dot_dot, comps}
 use Rattle.typed_path.specs.queries.{begins_with_root, path_starts_with}
 use Rattle.typed_path.specs.changes.{fault, ended_with, push_unix, push_all}
 use Rattle.typed_path.specs.places.{resolve, place, stays, normal_text, with_implied_root}
 use Rattle.typed_path.specs.promises.{HasPrefixOf, LiesWithin, ReadsAsResolved, StaysNormal, IsCanonical, IsCanonicalForm, without_leading_current, JoinAppends, StripJoins}
 use Rattle.typed_path.specs.scan.{left, start_at}
 use Rattle.typed_path.proofs.lemmas.changes.Faults.{fault_behind-at, fault_at-closed, no_heads-relative}
-use Rattle.typed_path.proofs.lemmas.components.Segments.{body_parts, body_parts-read, IsCleanName, IsLaterPart, IsWritten, AreRead, text_by_kind, texts-read, pieces, first_parts, later_parts, parts-later_body, IsWrittenPart, each-written, parts_of-unix, later_parts-name, body_parts-name, body_parts-ended}
+use Rattle.typed_path.proofs.lemmas.components.Segments.{body_parts, body_parts-read, IsCleanName, IsLaterPart, IsWritten, AreRead, text_by_kind, texts-read, pieces, later_parts, parts-later_body, IsWrittenPart, each-written, parts_of-unix, later_parts-name, body_parts-name, body_parts-ended}
 use Rattle.typed_path.proofs.lemmas.places.Resolving.{IsKept, resolve-kept, resolve-read, resolve-resolve, resolve-append, overdraws-without_leading_current, resolve-without_leading_current}
 use Rattle.typed_path.proofs.lemmas.lists.Lists.{map-through, AllByRecursion-weaker}
 use Rattle.typed_path.proofs.lemmas.scan.Readings.{left-taken, left-all, left-front}
@@ -172,18 +172,6 @@ kinds-begin t b begins =
 -- a text whose first piece is filled has no root
 filled-relative : (s : Separators) (text head : List ℕ) (others : List (List ℕ)) → pieces s text ≡ head ∷ others → (length head == 0) ≡ false → begins_with_root (kinds (body_parts s text)) ≡ false
 filled-relative s text head others split filled = grind arith
-
--- a text with a root begins with a separator
-pub rooted-separated : (s : Separators) (b : ℕ) (bs : List ℕ) → begins_with_root (kinds (body_parts s (b ∷ bs))) ≡ true → is_separator s b ≡ true
-rooted-separated s b bs rooted = grind arith
-
--- and one that begins with a separator has a root
-pub separated-rooted : (s : Separators) (b : ℕ) (bs : List ℕ) → is_separator s b ≡ true → begins_with_root (kinds (body_parts s (b ∷ bs))) ≡ true
-separated-rooted s b bs separates = ap (λ some. begins_with_root (kinds (first_parts s some))) (slice_split-cons_yes (is_separator s) b bs separates)
-
--- a list that begins with a root does so with more behind it
-pub begins-append : (ks ls : List Kind) → begins_with_root ks ≡ true → begins_with_root (ks ++ ls) ≡ true
-begins-append ks ls e = grind arith
 
 -- a base with more behind it: the kinds of the base, and those of the components from there on
 push_unix-tail : (t b : List ℕ) (k : ℕ) → (length b == 0) ≡ false → suc k < length (comps unix t)

@@ -13,8 +13,9 @@ use Rattle.typed_path.specs.promises.{IsBelow, LeadsBelow, IsWithinExactly, with
 use Rattle.typed_path.proofs.lemmas.components.Segments.{IsCleanName, parts_of-unix, body_parts-name}
 use Rattle.typed_path.proofs.lemmas.order.DifferentPrefixes.{body-bare}
 use Rattle.typed_path.proofs.lemmas.places.KeptNames.{kept_names-append, without_leading_current-kept, place-kept, names-same}
-use Rattle.typed_path.proofs.lemmas.promises.UnixContained.{join_appends, begins-append}
+use Rattle.typed_path.proofs.lemmas.promises.UnixContained.{join_appends}
 use Rattle.typed_path.proofs.lemmas.promises.Within.{kinds_of, has_prefix-first, bare-anchored, bare-head, Leading, Replaces, within-below, within-true, root-true, parents-true}
+use Rattle.typed_path.proofs.lemmas.components.WrittenForms.{begins-append}
 
 -- Where a path leads behind an absolute directory.
 

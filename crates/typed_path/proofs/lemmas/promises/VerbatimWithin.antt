@@ -21,13 +21,13 @@ use Rattle.typed_path.proofs.lemmas.changes.WindowsPushes.{without_last_name-nam
 use Rattle.typed_path.proofs.lemmas.places.KeptNames.{kept_names-append, place_of-kept, read-body}
 use Rattle.typed_path.proofs.lemmas.places.Resolving.{no_heads, is_head, read-headless, written-headless}
 use Rattle.typed_path.proofs.lemmas.places.UnixRows.{Ended, none as no_last, some as with_last, ended}
-use Rattle.typed_path.proofs.lemmas.promises.UnixContained.{separated-rooted}
 use Rattle.typed_path.proofs.lemmas.promises.WindowsBases.{Rest, place-rest, spelled-behind, rest-separated, separators-spelled, verbatim-no_drive}
 use Rattle.typed_path.proofs.lemmas.promises.WindowsContained.{rest-apart, keeps_by_prefix-firm}
 use Rattle.typed_path.proofs.lemmas.promises.Within.{kinds_of, Leading, within-below}
 use Rattle.typed_path.proofs.lemmas.promises.UnixWithin.{unix_below}
 use Rattle.typed_path.proofs.lemmas.promises.WindowsWithin.{body_kinds, kinds-none, push-bare, replaces, under, absolute-prefixed, bare-leading}
 use Rattle.typed_path.proofs.lemmas.components.WindowsNames.{clean-either}
+use Rattle.typed_path.proofs.lemmas.components.WrittenForms.{separated-rooted}
 
 -- A list that takes another: names at its end meet the parents that are left over, and the names that are kept stand behind.
 

@@ -17,9 +17,10 @@ use Rattle.typed_path.proofs.lemmas.components.FirmPrefixes.{Apart, parted as ap
 use Rattle.typed_path.proofs.lemmas.components.PartedPrefixes.{firm-end, firm-more, either}
 use Rattle.typed_path.proofs.lemmas.changes.Joins.{Ending, ending, empty, ended, drive_alone, parted}
 use Rattle.typed_path.proofs.lemmas.places.KeptNames.{kept_names-append, without_leading_current-kept, place-kept}
-use Rattle.typed_path.proofs.lemmas.promises.UnixContained.{body_parts-later, begins-append, rooted-separated}
+use Rattle.typed_path.proofs.lemmas.promises.UnixContained.{body_parts-later}
 use Rattle.typed_path.proofs.lemmas.promises.WindowsContained.{firm-joined}
 use Rattle.typed_path.proofs.lemmas.promises.Within.{kinds_of, Leading, Replaces, prefixed-below}
+use Rattle.typed_path.proofs.lemmas.components.WrittenForms.{begins-append, rooted-separated}
 
 -- What is read of a path with a prefix, and of one without.
 
