@@ -1,5 +1,5 @@
 -- What is promised of paths.
--- UnixContained: the normal text of Unix, which is its own, a relative path joined on Unix, and where a checked one leads (`HasPrefixOf`)
+-- UnixContained: the normal text of Unix, which is its own normal text, a relative path joined on Unix, and where a checked one leads (`HasPrefixOf`)
 -- WindowsBases: where a base of Windows leads with a faultless path behind it, and how a list is spelled behind a prefix (`Rest`)
 -- WindowsContained: a checked push on Windows stays within its base, and the bases that keep their prefix (`LiesWithin`, `Ending`)
 -- Within: a path that is within a base lies below it, from each directory of which is known where paths lead behind it; and a checked join lies below its base (`IsBelow`, `IsTold`, `Replaces`, `Leads`)

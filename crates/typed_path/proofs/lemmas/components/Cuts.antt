@@ -382,7 +382,9 @@ filled-count s at text filled = grind arith
 pub behind-count : (text : List ℕ) (f : Found) → Some f ≡ prefix_of windows text → f.length < length text → 1 < length (parts_of windows text)
 behind-count text f found less = grind (arith, filled-count, length-drop)
 
--- no component reaches over the border between two texts: the first ends with a separator
+-- Two texts put behind one another, where no component reaches over the border between them.
+
+-- the first ends with a separator
 pub body-ended : (s : Separators) (at : ℕ) (before us rest : List ℕ) (x : ℕ) → before ≡ us ++ x ∷ [] → is_separator s x ≡ true
     → body s at (before ++ rest) ≡ body s at before ++ later_body s (at + length before) rest
 body-ended s at before us rest x e separates =
@@ -392,7 +394,7 @@ body-ended s at before us rest x e separates =
     ∙ ap (λ t. body s at t ++ later_body s (at + length us + 1) rest) (sym e)
     ∙ ap (λ n. body s at before ++ later_body s n rest) (omega (arith, ap length e, length-append us (x ∷ [])))
 
--- the second begins with one
+-- or the second begins with one
 pub body-begun : (s : Separators) (at : ℕ) (before rest more : List ℕ) (x : ℕ) → 0 < length before → rest ≡ x ∷ more → is_separator s x ≡ true
     → body s at (before ++ rest) ≡ body s at before ++ later_body s (at + length before) rest
 body-begun s at [] rest more x some e separates = absurd (omega arith)

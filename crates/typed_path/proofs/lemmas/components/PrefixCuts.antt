@@ -281,6 +281,10 @@ prefix_of-none t bare = by (prefix_of windows t) refl
 pub parts_of-some : (t : List ℕ) (f : Found) → prefix_of windows t ≡ Some f → parts_of windows t ≡ parts_behind (separators windows t) t (Some f)
 parts_of-some t f some = parts-comps_behind (separators windows t) t (prefix_of windows t) ∙ ap (parts_behind (separators windows t) t) some
 
+-- a prefix and nothing else is read as that
+pub parts_of-alone : (raw : List ℕ) (g : Found) → prefix_of windows raw ≡ Some g → g.length ≡ length raw → parts_of windows raw ≡ prefix_part g.prefix raw ∷ []
+parts_of-alone raw g is whole = grind (arith, common_steps)
+
 -- How many bytes a Windows prefix takes of its text: its kind tells, but for one separator behind a server alone.
 
 -- the prefix tells whether a push spells its base anew
@@ -367,7 +371,3 @@ plain-kind t f is kind long = false_from_ne_true _ (λ marked. by (drop 4 t) (ve
     by : (rest : List ℕ) → t ≡ backslash ∷ backslash ∷ question ∷ backslash ∷ rest → ⊥
     by [] e = omega (arith, ap length e)
     by (b ∷ bs) e = both_ways (is_verbatim_prefix f.prefix) kind (marked-kind b bs f (prefix-read (backslash ∷ backslash ∷ question ∷ backslash ∷ b ∷ bs) f (ap (prefix_of windows) (sym e) ∙ is)))
-
--- a prefix and nothing else is read as that
-pub parts_of-alone : (raw : List ℕ) (g : Found) → prefix_of windows raw ≡ Some g → g.length ≡ length raw → parts_of windows raw ≡ prefix_part g.prefix raw ∷ []
-parts_of-alone raw g is whole = grind (arith, common_steps)

@@ -18,6 +18,18 @@ use Rattle.typed_path.specs.queries.{begins_with_root}
 
 -- Where prefixes and roots stand in a component list.
 
+-- a body with a root begins with a separator
+pub rooted-separated : (s : Separators) (b : ℕ) (bs : List ℕ) → begins_with_root (kinds (body_parts s (b ∷ bs))) ≡ true → is_separator s b ≡ true
+rooted-separated s b bs rooted = grind arith
+
+-- and one that begins with a separator has a root
+pub separated-rooted : (s : Separators) (b : ℕ) (bs : List ℕ) → is_separator s b ≡ true → begins_with_root (kinds (body_parts s (b ∷ bs))) ≡ true
+separated-rooted s b bs separates = ap (λ some. begins_with_root (kinds (first_parts s some))) (slice_split-cons_yes (is_separator s) b bs separates)
+
+-- a list that begins with a root does so with more behind it
+pub begins-append : (ks ls : List Kind) → begins_with_root ks ≡ true → begins_with_root (ks ++ ls) ≡ true
+begins-append ks ls e = grind arith
+
 -- a later segment is no prefix and no root
 no_heads-later : (s : Separators) (gs : List Segment) → no_heads (kinds (parts (flat_map (later s) gs))) ≡ true
 no_heads-later s [] = refl
@@ -153,15 +165,3 @@ written-parts_of windows text = behind (prefix_of windows text)
 pub root_of-other : (d : Dialect) (own other : List ℕ) → own ≡ root_of d → other ≡ slash ∷ [] → false ≡ bytes_eq own other → d ≡ windows
 root_of-other unix own other e f differ = let same : false ≡ true = differ ∙ ap₂ bytes_eq e f in cc
 root_of-other windows own other e f differ = refl
-
--- a body with a root begins with a separator
-pub rooted-separated : (s : Separators) (b : ℕ) (bs : List ℕ) → begins_with_root (kinds (body_parts s (b ∷ bs))) ≡ true → is_separator s b ≡ true
-rooted-separated s b bs rooted = grind arith
-
--- and one that begins with a separator has a root
-pub separated-rooted : (s : Separators) (b : ℕ) (bs : List ℕ) → is_separator s b ≡ true → begins_with_root (kinds (body_parts s (b ∷ bs))) ≡ true
-separated-rooted s b bs separates = ap (λ some. begins_with_root (kinds (first_parts s some))) (slice_split-cons_yes (is_separator s) b bs separates)
-
--- a list that begins with a root does so with more behind it
-pub begins-append : (ks ls : List Kind) → begins_with_root ks ≡ true → begins_with_root (ks ++ ls) ≡ true
-begins-append ks ls e = grind arith

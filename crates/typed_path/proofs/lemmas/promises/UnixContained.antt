@@ -1,4 +1,4 @@
--- The normal text of Unix, which is its own, a relative path joined on Unix, and where a checked one leads.
+-- The normal text of Unix, which is its own normal text, a relative path joined on Unix, and where a checked one leads.
 use Rattle.std.proofs.Common.{◌≡◌, ℕ, zero, suc, true, false, if◌then◌else◌, List, [], ◌∷◌, ◌++◌, map, refl, sym, ap, ◌∙◌, ◌==◌, length, append_assoc, append-nil, ne_eqb, arith, ◌-◌, ◌<◌, drop, bytes_eq, None, ap₂, inl, inr}
 use Rattle.std.proofs.lemmas.Grind.{common_steps}
 use Rattle.std.proofs.lemmas.List.{map-append, drop-map, drop_all, length-map}

@@ -98,7 +98,7 @@ settled-parted t f is other no_unc more = grind (arith, separators-windows, leng
 
 -- The normal text of Windows is stable, where no name has a byte that no name may have and the prefix is not the verbatim one named `UNC`.
 
--- so it is read again
+-- a prefix and nothing else is read again
 alone-again : (raw : List ℕ) (g : Found) → prefix_of windows raw ≡ Some g → g.length ≡ length raw → IsReadAgain (prefix_part g.prefix raw ∷ [])
 alone-again raw g is whole = record { reads = ap (parts_of windows) (push-first raw) ∙ parts_of-alone raw g is whole; same_text = refl }
 
