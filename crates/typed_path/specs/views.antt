@@ -9,6 +9,7 @@ pub mod ReversedViews
 pub mod UnixViews
 pub mod WindowsViews
 pub mod OwnedViews
+pub mod KeyViews
 pub mod RunViews
 pub mod TextViews
 pub mod ReadingViews

@@ -1,6 +1,6 @@
 //! The laws of paths, each as a function that does nothing and ensures the law.
 
-ghost use Rattle.std.specs.Prelude.{◌≡◌, ◌↔◌, ℕ, ◌+◌, ◌*◌, ◌<◌, ◌≤◌, List, [], ◌∷◌, ◌++◌, true, false, length, Some, None, IfSome, IfOk, pos};
+ghost use Rattle.std.specs.Prelude.{◌≡◌, ◌↔◌, ℕ, ◌+◌, ◌*◌, ◌^◌, ◌<◌, ◌≤◌, List, [], ◌∷◌, ◌++◌, true, false, length, Some, None, IfSome, IfOk, pos};
 ghost use Rattle.std.specs.List.{list_any, last_or};
 ghost use Rattle.std.specs.Cmp.{IsTotalOrder};
 ghost use Rattle.std.specs.declared.cmp.Ordering.{Ordering};
@@ -10,24 +10,25 @@ ghost use Rattle.std.specs.Str.{is_utf8};
 ghost use Rattle.typed_path.specs.components.{Dialect, unix, dot, slash, Kind, Placed, kinds, prefix, Found, prefix_of, comps, parts_of};
 ghost use Rattle.typed_path.specs.scan.{Side, reads, left, items_between, but_last, answers_after, items_after, slice_after, fronts, backs, IsWhole, IsLaidOut};
 ghost use Rattle.typed_path.specs.queries.{is_child_of, IsOneBelow, parent_of, prefix_in, is_a_dot, stem_of, extension_of, ancestors_of, common_ancestor_of};
-ghost use Rattle.typed_path.specs.changes.{push, with_extension, with_file_name};
+ghost use Rattle.typed_path.specs.changes.{fault, push, with_extension, with_file_name};
 ghost use Rattle.typed_path.specs.conversions.{converted, converted_checked, absolute_from};
-ghost use Rattle.typed_path.specs.places.{clean_text, normal_text, relative_text};
-ghost use Rattle.typed_path.specs.promises.{AreCleanAlike, HasCleanForm, LeadAlike, IsWithinExactly, LeadsBelow, JoinAppends, StripJoins, ReadsAsResolved, StaysNormal, IsCanonical, HashAlike, CrossesWhereAllowed, CrossesAsItIs, CrossesBack, CrossesToUnix, IsLongest, ShareNothing, ExtendsName, CleanLeadsAlike, HasNone, HasNoneAtAll, HasNoneOnUnix, IsDotAlike, LeadsBack, StaysRelative};
-ghost use Rattle.typed_path.specs.order.{IsSame, is_same, path_cmp, kind_cmp, bytes_cmp, text_unix_words, text_prefix_words, text_kind_words, text_windows_words, text_piece_words};
+ghost use Rattle.typed_path.specs.places.{clean_text, is_within, normal_text, relative_text};
+ghost use Rattle.typed_path.specs.promises.{AreCleanAlike, HasCleanForm, LeadAlike, IsWithinExactly, JoinsWithin, KeepsAgain, StaysWithin, LeadsBelow, JoinAppends, StripJoins, ReadsAsResolved, StaysNormal, IsCanonical, HashAlike, CrossesWhereAllowed, CrossesAsItIs, CrossesBack, CrossesToUnix, IsLongest, ShareNothing, ExtendsName, CleanLeadsAlike, HasNone, HasNoneAtAll, HasNoneOnUnix, IsDotAlike, LeadsBack, StaysRelative};
+ghost use Rattle.typed_path.specs.order.{key_words, IsKeyed, IsToldApart, IsSame, is_same, path_cmp, kind_cmp, bytes_cmp, text_unix_words, text_prefix_words, text_kind_words, text_windows_words, text_piece_words};
 ghost use Rattle.typed_path.specs.views.PieceViews.{kind_view, part_of};
 ghost use Rattle.typed_path.specs.views.UnixViews.{unix_part};
 ghost use Rattle.typed_path.specs.order.Words.{path_words, unix_words, kind_words, piece_words};
 ghost use Rattle.typed_path.specs.views.PathViews.{path_bytes, components_slice};
+ghost use Rattle.typed_path.specs.views.KeyViews.{keyed_path};
 ghost use Rattle.typed_path.specs.views.TextViews.{utf8_bytes};
 ghost use Rattle.typed_path.specs.views.ReadingViews.{reading_slice};
 ghost use Rattle.typed_path.specs.views.TextPieceViews.{text_prefix, text_kind, text_part};
 ghost use Rattle.typed_path.specs.views.TextComponentViews.{text_unix_part, text_prefix_part, text_windows_part};
-ghost use Rattle.typed_path.specs.typed.{typed_eq, typed_cmp, typed_words, reading_eq, reading_partial_cmp, kind_place};
+ghost use Rattle.typed_path.specs.typed.{typed_eq, typed_cmp, typed_key_words, typed_words, reading_eq, reading_partial_cmp, kind_place};
 
 mod windows;
 
-use crate::common::{Ancestors, Components, Encoding, Iter, Path, Reading};
+use crate::common::{Ancestors, Components, Encoding, Iter, Key, KeyPath, Path, PathBuf, Reading};
 use crate::constants::unix::{
     CURRENT_DIR, CURRENT_DIR_STR, DISALLOWED_FILENAME_BYTES, DISALLOWED_FILENAME_CHARS, PARENT_DIR,
     PARENT_DIR_STR, SEPARATOR, SEPARATOR_STR,
@@ -47,10 +48,10 @@ use crate::utf8::{
 use crate::windows::WindowsEncoding;
 use std::hash::Hash;
 pub use windows::{
-    normal_stays_stable, prefixed_within_leads_below, relative_leads_back_on_windows,
-    simplified_is_alike_behind, simplified_stays, windows_components_compare_by_kind,
-    windows_constants_are_these, windows_prefix_components_compare_by_kind,
-    windows_prefixes_compare_by_kind,
+    kept_prefix_is_not_named_unc, normal_stays_stable, prefixed_within_leads_below,
+    relative_leads_back_behind_clean, relative_leads_back_on_windows, simplified_is_alike_behind,
+    simplified_stays, windows_components_compare_by_kind, windows_constants_are_these,
+    windows_prefix_components_compare_by_kind, windows_prefixes_compare_by_kind,
 };
 
 /// A normal text of Unix reads as what the list of its path resolves to.
@@ -100,6 +101,14 @@ pub fn equal_paths_hash_alike(path: &[u8], other: &[u8])
     ensures { HashAlike d path.now other.now }
 {}
 
+/// Two keys feed a hasher the same words exactly if their paths are equal. Where the bytes that they feed begin
+/// alike, the paths are equal too, and so is what follows.
+pub fn keys_tell_paths_apart(path: &[u8], other: &[u8])
+    ghost d: { Dialect }
+    ensures words { IsKeyed d path.now other.now }
+    ensures bytes { IsToldApart d path.now other.now }
+{}
+
 /// Paths are equal, compare and hash by their components.
 pub fn paths_compare_by_components<'a, T: Encoding>(one: Path<'a, T>, other: Path<'a, T>)
     ensures equality { (⟦<Path<'a, T> as PartialEq>⟧.eq one.entry other.entry ≡ true)
@@ -108,6 +117,14 @@ pub fn paths_compare_by_components<'a, T: Encoding>(one: Path<'a, T>, other: Pat
         ≡ path_cmp T.dialect (path_bytes one.entry) (path_bytes other.entry) }
     ensures hash { ⟦<Path<'a, T> as Hash>⟧.hash_input one.entry
         ≡ path_words T.dialect (path_bytes one.entry) }
+{}
+
+/// The keys of paths, lent and owned, feed a hasher the words of the components.
+pub fn keys_hash_by_components<'a, T: Encoding>(lent: Key<Path<'a, T>>, owned: &Key<PathBuf<T>>)
+    ensures lent { ⟦<Key<Path<'a, T>> as Hash>⟧.hash_input lent.entry
+        ≡ key_words T.dialect (path_bytes (keyed_path lent.entry)) }
+    ensures owned { ⟦<Key<PathBuf<T>> as Hash>⟧.hash_input owned.now
+        ≡ key_words T.dialect (keyed_path owned.now).bytes }
 {}
 
 /// What an iterator has left is equal and in order as the path of its slice left, read anew.
@@ -308,6 +325,34 @@ pub fn strip_joins(path: &[u8], base: &[u8])
 #[tactic(auto, using(crate::proofs::lemmas::promises::UnixWithin::is_exact))]
 pub fn within_is_exact(path: &[u8], base: &[u8])
     ensures { IsWithinExactly base.now path.now }
+{}
+
+/// What a checked join accepts lies, joined to a base, within it exactly if it has the prefix of the base: on
+/// Unix always. A base that keeps its prefix holds it, and what is joined to that base keeps it too.
+#[tactic(auto, using(crate::proofs::lemmas::promises::JoinedWithin::joins_within, crate::proofs::lemmas::promises::JoinedWithin::stays_within, crate::proofs::lemmas::promises::JoinedWithin::keeps_again))]
+pub fn joined_is_within(base: &[u8], path: &[u8])
+    ghost d: { Dialect }
+    ensures exactly { JoinsWithin d base.now path.now }
+    ensures kept { fault d path.now ≡ None → StaysWithin d base.now (push d base.now path.now) }
+    ensures again { fault d path.now ≡ None → KeepsAgain d base.now (push d base.now path.now) }
+{}
+
+/// Each path is within itself, and a path that is within another is within each base of that one.
+#[tactic(auto, using(crate::proofs::lemmas::promises::JoinedWithin::within_itself, crate::proofs::lemmas::promises::JoinedWithin::within_both))]
+pub fn within_is_a_preorder(path: &[u8], middle: &[u8], base: &[u8])
+    ghost d: { Dialect }
+    ensures reflexive { is_within d path.now path.now ≡ true }
+    ensures transitive { is_within d path.now middle.now ≡ true
+        → is_within d middle.now base.now ≡ true → is_within d path.now base.now ≡ true }
+{}
+
+/// Of two paths that a checked join accepts, one joined behind the other, the answer is within the base, if
+/// that keeps its prefix.
+#[tactic(auto, using(crate::proofs::lemmas::promises::JoinedWithin::stays_within_twice))]
+pub fn joined_twice_is_within(base: &[u8], first: &[u8], second: &[u8])
+    ghost d: { Dialect }
+    ensures { fault d first.now ≡ None → fault d second.now ≡ None
+        → StaysWithin d base.now (push d (push d base.now first.now) second.now) }
 {}
 
 /// In each dialect, from every absolute directory that keeps its prefix, a path that is within a base lies
@@ -592,6 +637,13 @@ pub fn typed_values_compare_by_kind<U: Ord + Hash, W: Ord + Hash>(
         ≡ typed_cmp U.cmp W.cmp one.now other.now }
     ensures hash { ⟦<Typed<U, W> as Hash>⟧.hash_input one.now
         ≡ typed_words U.hash_input W.hash_input one.now }
+{}
+
+/// The key of a typed path feeds a hasher the number of its dialect, and then what the key of the path that it
+/// holds feeds.
+pub fn typed_keys_hash_by_kind<U: KeyPath, W: KeyPath>(key: &Key<Typed<U, W>>)
+    ensures { ⟦<Key<Typed<U, W>> as Hash>⟧.hash_input key.now
+        ≡ typed_key_words U.key_input W.key_input (keyed_path key.now) }
 {}
 
 /// Readings of two kinds are never equal, and in no order. Those of one kind compare as what they hold.

@@ -1,6 +1,8 @@
 -- What lies within what, by computation.
-use Rattle.std.proofs.Common.{◌≡◌, true, false, refl}
+use Rattle.std.proofs.Common.{◌≡◌, true, false, refl, codes}
 use Rattle.typed_path.specs.components.{unix, windows}
+use Rattle.typed_path.specs.changes.{push}
+use Rattle.typed_path.specs.places.{is_within}
 use Rattle.typed_path.proofs.examples.Words.{within}
 
 -- on Unix
@@ -115,3 +117,25 @@ drive_within_the_root_without_one = refl
 
 names_within_the_root_without_a_drive : within windows "..\\a" "\\" ≡ true
 names_within_the_root_without_a_drive = refl
+
+-- what a checked join accepts, joined to a base of Windows that does not keep its prefix, and to some that do
+joined_to_a_server : is_within windows (push windows (codes "\\\\s") (codes "a")) (codes "\\\\s") ≡ false
+joined_to_a_server = refl
+
+joined_to_a_slash : is_within windows (push windows (codes "/") (codes "a")) (codes "/") ≡ false
+joined_to_a_slash = refl
+
+joined_to_a_verbatim_unc_name : is_within windows (push windows (codes "\\\\?\\UNC") (codes "a")) (codes "\\\\?\\UNC") ≡ false
+joined_to_a_verbatim_unc_name = refl
+
+joined_to_a_drive_that_leads_up : is_within windows (push windows (codes "C:..") (codes "a/../b")) (codes "c:..") ≡ true
+joined_to_a_drive_that_leads_up = refl
+
+joined_to_a_root_without_a_drive : is_within windows (push windows (codes "\\") (codes "a")) (codes "\\") ≡ true
+joined_to_a_root_without_a_drive = refl
+
+joined_to_a_verbatim_name_that_is_a_parent : is_within windows (push windows (codes "\\\\?\\C:\\..\\b") (codes "a/..")) (codes "\\\\?\\C:\\..\\b") ≡ true
+joined_to_a_verbatim_name_that_is_a_parent = refl
+
+joined_to_a_drive_with_mixed_marks : is_within windows (push windows (codes "//?/C:/..") (codes "a")) (codes "//?/C:/..") ≡ true
+joined_to_a_drive_with_mixed_marks = refl

@@ -16,6 +16,7 @@
 -- WindowsClean: the clean text of a path of Windows with a prefix, read again (`IsCleanForm`)
 -- RouteBehind: paths that lead alike lie at one place, from each directory of which is known where paths lead behind it
 -- Shared: a path cut where a component ends is read as the components up to there; so what two paths share is the longest that begins both (`IsWhole`, `ShareNothing`, `IsLongest`)
+-- JoinedWithin: a checked join lies within its base, where that keeps its prefix; and what lies within what lies within a third (`StaysWithin`)
 pub mod UnixContained
 pub mod WindowsBases
 pub mod WindowsContained
@@ -33,3 +34,4 @@ pub mod UnixRelative
 pub mod WindowsRelative
 pub mod VerbatimRelative
 pub mod Shared
+pub mod JoinedWithin

@@ -7,7 +7,7 @@ use Rattle.typed_path.specs.components.Comps.{parts_of}
 use Rattle.typed_path.specs.queries.Queries.{begins_with_root, has_any_verbatim_prefix}
 use Rattle.typed_path.specs.changes.Push.{push}
 use Rattle.typed_path.specs.places.Routes.{head_of, kept_names, rising}
-use Rattle.typed_path.specs.places.Clean.{route}
+use Rattle.typed_path.specs.places.Clean.{clean_text, route}
 use Rattle.typed_path.specs.places.Relative.{names_down, relative_text, steps_up}
 use Rattle.typed_path.specs.promises.Promises.{keeps_prefix}
 
@@ -35,6 +35,10 @@ LeadsBackOnWindows path base =
     keeps_prefix windows base ≡ true
     → (has_any_verbatim_prefix (kinds (parts_of windows base)) ≡ true → steps_up (kinds (parts_of windows path)) (kinds (parts_of windows base)) ≤ names_at_end (kinds (parts_of windows base)))
     → LeadsBack windows path base
+
+-- each clean base ends so
+abbrev pub LeadsBackBehindClean : List ℕ → List ℕ → Type 0
+LeadsBackBehindClean path base = keeps_prefix windows base ≡ true → clean_text windows base ≡ base → LeadsBack windows path base
 
 -- on Unix `.` leads from a base to a path exactly where both have one route
 abbrev pub IsDotAlike : List ℕ → List ℕ → Type 0

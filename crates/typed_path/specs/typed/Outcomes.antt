@@ -14,7 +14,7 @@ use Rattle.typed_path.specs.places.Places.{normal_text}
 use Rattle.typed_path.specs.places.Relative.{relative_text}
 use Rattle.typed_path.specs.conversions.Convert.{converted_checked, absolute_from}
 use Rattle.typed_path.specs.promises.Promises.{HasPrefixOf, LiesWithin, HasNormalForm}
-use Rattle.typed_path.specs.promises.Below.{LiesBelow}
+use Rattle.typed_path.specs.promises.Below.{LiesBelow, StaysWithin}
 use Rattle.typed_path.specs.views.OwnedViews.{Owned}
 
 -- the text stands there, or the call was refused and the path is as it was; it has no less room
@@ -102,6 +102,7 @@ JoinsChecked d bytes base path done =
     × IfOk done (λ p. HasPrefixOf d base (bytes p))
     × IfOk done (λ p. LiesWithin d base path (bytes p))
     × IfOk done (λ p. LiesBelow d base (bytes p))
+    × IfOk done (λ p. StaysWithin d base (bytes p))
 
 abbrev pub Normalizes : {P E : Type 0} → Dialect → (P → List ℕ) → List ℕ → Result P E → Type 0
 Normalizes d bytes path done =

@@ -6,7 +6,7 @@ ghost use Rattle.typed_path.specs.components.{kinds, comps, parts_of, separators
 ghost use Rattle.typed_path.specs.queries.{is_absolute, has_root, is_valid, parent_of, file_name_of, file_stem_of, stripped, path_starts_with, path_ends_with, ancestors_of, stripped_to, extension, file_prefix_of, has_trailing_separator, common_ancestor_of};
 ghost use Rattle.typed_path.specs.scan.{last_part};
 ghost use Rattle.typed_path.specs.changes.{without_file_name, stem_end, with_file_name, with_extension, refusal, fault, name_end, with_added_extension, dotted};
-ghost use Rattle.typed_path.specs.promises.{HasNormalForm, HasPrefixOf, LiesWithin, LiesBelow, keeps_prefix};
+ghost use Rattle.typed_path.specs.promises.{HasNormalForm, HasPrefixOf, LiesWithin, LiesBelow, StaysWithin, keeps_prefix};
 ghost use Rattle.typed_path.specs.views.PathViews.{path_bytes, components_items, components_slice, ancestors_left};
 ghost use Rattle.typed_path.specs.views.PieceViews.{part_of};
 
@@ -89,10 +89,11 @@ impl<'a, T: Encoding> Path<'a, T> {
         T::valid_names(self.bytes)
     }
 
-    /// Whether every path that a checked join makes of this one has its prefix, or none if it has none.
+    /// True only if every path that a checked join makes of this one has its prefix, or none if it has none.
     ///
     /// Every path of Unix keeps it so. On Windows `C:\a`, `\\s\h` and `a` do. `\\s`, a server without a
     /// share, does not, nor do `\\?\UNC`, `/`, `\\` and `/\`: what is put behind these becomes a part of a prefix.
+    /// It is false too of some that keep theirs, as `//a/` and `\\s\\x`.
     ///
     /// So a base that is known only when the program runs is asked once: if it keeps its prefix, each path
     /// that [`Path::join_checked`] makes of it lies below it.
@@ -346,7 +347,7 @@ impl<'a, T: Encoding> Path<'a, T> {
     /// stands before a name that would be read as a prefix on Windows, as in `.\C:`. Names are compared byte by
     /// byte. Links are not followed.
     ///
-    /// There is none, and no memory is asked for, where the two do not begin with the same prefix or none and
+    /// There is none, and the call is not refused, where the two do not begin with the same prefix or none and
     /// with a root, written or implied, or none; where more `..` of the base find no name to take away than
     /// of this path, as from `..` to `a`; and where a name that is left holds a `/`, as may one of a verbatim
     /// path of Windows.
@@ -424,7 +425,8 @@ impl<'a, T: Encoding> Path<'a, T> {
     ///
     /// The answer lies within this path, where it has the prefix of this one: on Unix `/etc` with
     /// `abc/../def` is `/etc/abc/../def`. Where this path keeps its prefix, the place of the answer is
-    /// that of this path, and then some names. A path that is refused costs no memory.
+    /// that of this path, and then some names, and it is within this path, as [`Path::is_within`] tells. A
+    /// path with a fault is refused for that, however little memory there is.
     ///
     /// # Errors
     ///
@@ -439,6 +441,8 @@ impl<'a, T: Encoding> Path<'a, T> {
         ensures contained { IfOk result
             (λ p. LiesWithin T.dialect (path_bytes self.entry) (path_bytes path.entry) p.bytes) }
         ensures below { IfOk result (λ p. LiesBelow T.dialect (path_bytes self.entry) p.bytes) }
+        ensures within { IfOk result
+            (λ p. StaysWithin T.dialect (path_bytes self.entry) p.bytes) }
     {
         T::check(path.as_bytes())?;
         Ok(self.join(alloc, path)?)

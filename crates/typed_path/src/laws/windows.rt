@@ -1,10 +1,10 @@
 //! The laws of Windows: of normal texts, and of single values.
 
-ghost use Rattle.std.specs.Prelude.{◌≡◌, ◌↔◌, true, IfSome, [], ◌∷◌, ◌++◌, codes, map};
+ghost use Rattle.std.specs.Prelude.{◌≡◌, ◌↔◌, true, false, IfSome, [], ◌∷◌, ◌++◌, codes, map};
 ghost use Rattle.typed_path.specs.components.{dot, slash, backslash, windows, prefix, kinds, parts_of};
 ghost use Rattle.typed_path.specs.changes.{push};
 ghost use Rattle.typed_path.specs.places.{is_within};
-ghost use Rattle.typed_path.specs.promises.{IsBelow, StaysStable, IsAlikeBehind, LeadsBackOnWindows};
+ghost use Rattle.typed_path.specs.promises.{IsBelow, StaysStable, IsAlikeBehind, LeadsBackBehindClean, LeadsBackOnWindows, is_verbatim_unc_name, keeps_prefix, prefix_kind};
 ghost use Rattle.typed_path.specs.queries.{has_prefix, prefix_in, reserved_names, simplified_text};
 ghost use Rattle.typed_path.specs.order.{kind_cmp};
 ghost use Rattle.typed_path.specs.order.Words.{prefix_words, windows_words};
@@ -41,6 +41,18 @@ pub fn prefixed_within_leads_below(directory: &[u8], path: &[u8], base: &[u8])
 /// verbatim ends with as many names as parents lead up.
 pub fn relative_leads_back_on_windows(path: &[u8], base: &[u8])
     ensures { LeadsBackOnWindows path.now base.now }
+{}
+
+/// A path that leads from a base to another leads back behind a clean base that keeps its prefix, verbatim or not.
+pub fn relative_leads_back_behind_clean(path: &[u8], base: &[u8])
+    ensures { LeadsBackBehindClean path.now base.now }
+{}
+
+/// A base that keeps its prefix is not the verbatim one named `UNC`, of which other laws speak.
+#[tactic(auto, using(crate::proofs::lemmas::promises::WindowsContained::kept_no_unc))]
+pub fn kept_prefix_is_not_named_unc(base: &[u8])
+    ensures { keeps_prefix windows base.now ≡ true
+        → is_verbatim_unc_name (prefix_kind windows base.now) ≡ false }
 {}
 
 /// A simplified path has the components of the path, but that the verbatim drive may have become the drive:

@@ -1,13 +1,15 @@
 //! A value of Unix or one of Windows, the bodies that answer by the value that is held, and the dialect
 //! that a path looks like.
 
-ghost use Rattle.std.specs.Prelude.{◌≡◌};
+ghost use Rattle.std.specs.Prelude.{◌≡◌, refl};
 ghost use Rattle.typed_path.specs.components.{unix, windows};
 ghost use Rattle.typed_path.specs.conversions.{same_dialect};
-ghost use Rattle.typed_path.specs.typed.{typed_dialect, of_held, kind_dialect, derived_dialect};
+ghost use Rattle.typed_path.specs.typed.{typed_dialect, of_held, kind_dialect, derived_dialect, typed_key_words, typed_keys_alike};
 
+use crate::common::KeyPath;
 use crate::scan::find_prefix;
 use std::fmt;
+use std::hash::Hasher;
 
 /// A value of Unix or one of Windows, as it was chosen when the program ran.
 ///
@@ -154,6 +156,32 @@ impl PathType {
             PathType::Windows
         } else {
             PathType::Unix
+        }
+    }
+}
+
+impl<U: KeyPath, W: KeyPath> KeyPath for Typed<U, W> {
+    ghost key_input = { typed_key_words U.key_input W.key_input };
+
+    ghost keys_respect_eq = { typed_keys_alike
+        (record {
+          of_unix = λ x y. refl;
+          of_windows = λ x y. refl;
+          unix_first = λ x y. refl;
+          windows_first = λ x y. refl;
+        })
+        U.keys_respect_eq W.keys_respect_eq };
+
+    fn hash_key<H: Hasher>(&self, state: &mut H) {
+        match self {
+            Typed::Unix(path) => {
+                state.write_u8(0);
+                path.hash_key(state);
+            }
+            Typed::Windows(path) => {
+                state.write_u8(1);
+                path.hash_key(state);
+            }
         }
     }
 }

@@ -8,14 +8,15 @@ ghost use Rattle.typed_path.specs.typed.Outcomes.{JoinsChecked, LeadsFrom, Norma
 ghost use Rattle.typed_path.specs.texts.{is_text_option, IsTextError, are_texts};
 ghost use Rattle.typed_path.specs.components.{kinds, comps, parts_of, unix, windows};
 ghost use Rattle.typed_path.specs.queries.{is_absolute, has_root, is_valid, parent_of, file_name_of, file_stem_of, stripped, path_starts_with, path_ends_with, ancestors_of, stripped_to, extension, file_prefix_of, has_trailing_separator, common_ancestor_of};
-ghost use Rattle.typed_path.specs.order.{is_same, path_cmp};
+ghost use Rattle.typed_path.specs.order.{is_same, key_words, kinds_key_words, path_cmp, same-kinds};
+ghost use Rattle.std.proofs.Common.{ap};
 ghost use Rattle.typed_path.specs.places.{clean_text, is_within};
 ghost use Rattle.typed_path.specs.promises.{keeps_prefix};
 ghost use Rattle.typed_path.specs.changes.{with_file_name, with_extension, with_added_extension};
 ghost use Rattle.typed_path.specs.conversions.{platform, same_dialect, converted};
 ghost use Rattle.std.specs.Iterator.{YieldsFirstBy, item_count};
 
-use crate::common::{Ancestors, Path};
+use crate::common::{Ancestors, KeyPath, Path};
 use crate::errors::{AbsolutizeError, PathError, StripPrefixError};
 use crate::utf8::encoding::{Utf8Encoding, text_of, text_of_option};
 use crate::utf8::path_buf::{Utf8PathBuf, owned};
@@ -26,6 +27,7 @@ use crate::utf8::unix::{
 use crate::utf8::windows::{Utf8WindowsEncoding, Utf8WindowsPathBuf};
 use std::alloc::{AllocError, Global};
 use std::cmp::Ordering;
+use std::hash::Hasher;
 use std::iter::FusedIterator;
 use std::str::Utf8Error;
 use std::{fmt, str};
@@ -37,6 +39,17 @@ use std::{fmt, str};
 pub struct Utf8Path<'a, T: Utf8Encoding> {
     path: Path<'a, T::Bytes>,
     ghost is_text: { is_utf8 (path_bytes path) ≡ true },
+}
+
+impl<'a, T: Utf8Encoding> KeyPath for Utf8Path<'a, T> {
+    ghost key_input = { λ p. key_words T.Bytes.dialect (path_bytes p.path) };
+
+    ghost keys_respect_eq = { λ p q same. ap kinds_key_words
+        (same-kinds T.Bytes.dialect (path_bytes p.path) (path_bytes q.path) same) };
+
+    fn hash_key<H: Hasher>(&self, state: &mut H) {
+        self.path.hash_key(state);
+    }
 }
 
 impl<'a, T: Utf8Encoding> Clone for Utf8Path<'a, T> {
@@ -165,7 +178,7 @@ impl<'a, T: Utf8Encoding> Utf8Path<'a, T> {
         self.path.is_valid()
     }
 
-    /// Whether every path that a checked join makes of this one has its prefix, or none if it has none.
+    /// True only if every path that a checked join makes of this one has its prefix, or none if it has none.
     pub fn keeps_prefix(self) -> bool
         ensures { result ≡ keeps_prefix T.Bytes.dialect (utf8_bytes self.entry) }
     {
@@ -349,8 +362,8 @@ impl<'a, T: Utf8Encoding> Utf8Path<'a, T> {
 
     /// The path with another pushed onto it, unless that has a component that offends.
     ///
-    /// The answer lies within this path, where it has the prefix of this one. A path that is refused
-    /// costs no memory.
+    /// The answer lies within this path, where it has the prefix of this one. A path with a fault
+    /// is refused for that, however little memory there is.
     ///
     /// # Errors
     ///

@@ -9,12 +9,12 @@ ghost use Rattle.typed_path.specs.promises.{HasPrefixOf, LiesWithin};
 ghost use Rattle.typed_path.specs.queries.{parent_of, file_name_of};
 ghost use Rattle.std.specs.Cmp.{eq_by_cmp_equiv, on_total, partial_equiv_from_equiv, partial_order_from_total};
 ghost use Rattle.std.specs.Ordering.{on, as_partial_cmp};
-ghost use Rattle.typed_path.specs.order.{is_same, path_cmp, path_cmp_total, same-kinds};
+ghost use Rattle.typed_path.specs.order.{is_same, key_words, kinds_key_words, path_cmp, path_cmp_total, same-kinds};
 ghost use Rattle.std.proofs.Common.{ap};
 ghost use Rattle.typed_path.specs.components.{kinds, parts_of};
 ghost use Rattle.typed_path.specs.order.Words.{kinds_words};
 
-use crate::common::PathBuf;
+use crate::common::{KeyPath, PathBuf};
 use crate::errors::PathError;
 use crate::utf8::encoding::{Utf8Encoding, string_of};
 use crate::utf8::path::Utf8Path;
@@ -473,5 +473,16 @@ impl<T: Utf8Encoding> Hash for Utf8PathBuf<T> {
 
     fn hash<H: Hasher>(&self, state: &mut H) {
         self.inner.hash(state);
+    }
+}
+
+impl<T: Utf8Encoding> KeyPath for Utf8PathBuf<T> {
+    ghost key_input = { λ p. key_words T.Bytes.dialect p.bytes };
+
+    ghost keys_respect_eq = { λ p q same. ap kinds_key_words
+        (same-kinds T.Bytes.dialect p.bytes q.bytes same) };
+
+    fn hash_key<H: Hasher>(&self, state: &mut H) {
+        self.inner.hash_key(state);
     }
 }

@@ -68,7 +68,7 @@ overdraws-met zero (parent ∷ ks) e = absurd (omega (arith, e))
 overdraws-met (suc n) (parent ∷ ks) e = overdraws-met n ks (omega (arith, e))
 overdraws-met n (normal name ∷ ks) e = overdraws-met (suc n) ks (omega (arith, e))
 
-overdraws-unmet : (n : ℕ) (ks : List Kind) → n < unmet ks → overdraws n ks ≡ true
+pub overdraws-unmet : (n : ℕ) (ks : List Kind) → n < unmet ks → overdraws n ks ≡ true
 overdraws-unmet n [] e = absurd (omega (arith, e))
 overdraws-unmet n (prefix p ∷ ks) e = overdraws-unmet n ks e
 overdraws-unmet n (root ∷ ks) e = overdraws-unmet n ks e

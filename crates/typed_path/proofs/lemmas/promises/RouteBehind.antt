@@ -16,7 +16,7 @@ use Rattle.typed_path.proofs.lemmas.promises.WindowsWithin.{replaces}
 
 -- What a route tells.
 
-record Tells (ks : List Kind) (o : Option Prefix) (rooted : Bool) (n : ℕ) (left : List (List ℕ)) : Type 0 where
+pub record Tells (ks : List Kind) (o : Option Prefix) (rooted : Bool) (n : ℕ) (left : List (List ℕ)) : Type 0 where
   pub prefix : first_prefix ks ≡ o
   pub anchored : has_physical_root ks ≡ rooted
   pub over : unmet ks ≡ n
@@ -27,7 +27,7 @@ tells-ups (suc n) names = (refl, refl, refl)
 tells-ups zero [] = (refl, refl, refl)
 tells-ups zero (name ∷ names) = (refl, refl, refl)
 
-tells : (o : Option Prefix) (anchored : Bool) (n : ℕ) (names : List (List ℕ)) → Tells (headed o anchored ++ ups n names) o anchored n names
+pub tells : (o : Option Prefix) (anchored : Bool) (n : ℕ) (names : List (List ℕ)) → Tells (headed o anchored ++ ups n names) o anchored n names
 tells None false n names = let h = tells-ups n names in record { prefix = h.0; anchored = h.2; over = unmet-ups n names; names = names-ups n names }
 tells None true n names = record { prefix = refl; anchored = refl; over = unmet-ups n names; names = names-ups n names }
 tells (Some p) false n names = let h = tells-ups n names in record { prefix = refl; anchored = h.1; over = unmet-ups n names; names = names-ups n names }

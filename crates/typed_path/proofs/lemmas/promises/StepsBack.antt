@@ -25,7 +25,7 @@ use Rattle.typed_path.proofs.lemmas.promises.CleanForms.{ReadsPlain, parts-plain
 
 -- Lists that begin alike.
 
-prefixes-same : (o : Option Prefix) → are_same_prefixes o o ≡ true
+pub prefixes-same : (o : Option Prefix) → are_same_prefixes o o ≡ true
 prefixes-same None = refl
 prefixes-same (Some p) = ap is_eq (tied_itself kind_cmp_total (prefix p))
 

@@ -41,11 +41,11 @@ anchored-more : (ps : List Part) (ks : List Kind) → IsFilled ps → AreRead Sl
 anchored-more ps ks h read = grind arith
 
 -- what a relative text joined to a base is read as
-record Joined (base r : List ℕ) : Type 0 where
-  anchored : is_anchored (kinds_of unix (push_unix base r)) ≡ is_anchored (kinds_of unix base)
-  alike : AlikeKept (kinds_of unix (push_unix base r)) (kinds_of unix base ++ kinds_of unix r)
+pub record Joined (base r : List ℕ) : Type 0 where
+  pub anchored : is_anchored (kinds_of unix (push_unix base r)) ≡ is_anchored (kinds_of unix base)
+  pub alike : AlikeKept (kinds_of unix (push_unix base r)) (kinds_of unix base ++ kinds_of unix r)
 
-joined : (base r : List ℕ) → begins_with_root (kinds_of unix r) ≡ false → Joined base r
+pub joined : (base r : List ℕ) → begins_with_root (kinds_of unix r) ≡ false → Joined base r
 joined [] r relative =
     let e = push_unix-nothing r in
     let free : is_anchored (kinds_of unix r) ≡ false = anchored-unix r ∙ relative in

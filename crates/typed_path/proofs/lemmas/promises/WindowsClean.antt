@@ -11,7 +11,7 @@ use Rattle.typed_path.specs.components.{Dialect, unix, windows, backslash, separ
 use Rattle.typed_path.specs.queries.{is_disk, begins_with_root}
 use Rattle.typed_path.specs.places.{resolve, stays, unmet, kept_names, is_anchored, rising, route, cleaned, clean_text, dots}
 use Rattle.typed_path.specs.promises.{HasCleanForm, IsCleanForm, is_verbatim_unc_name, prefix_kind}
-use Rattle.typed_path.proofs.lemmas.components.Prefixes.{separators-windows, backslash-separates, drive-take, drive-size, Read, of_disk, prefix-read}
+use Rattle.typed_path.proofs.lemmas.components.Prefixes.{separators-windows, backslash-separates, drive-take, drive-size, prefix-fits, Read, of_disk, prefix-read}
 use Rattle.typed_path.proofs.lemmas.components.FirmPrefixes.{Apart, nothing, parted, drive-stays, drive-extends}
 use Rattle.typed_path.proofs.lemmas.components.PartedPrefixes.{parted-stays, root-behind, drive-plain}
 use Rattle.typed_path.proofs.lemmas.components.Segments.{IsCleanName, IsLaterPart, AreRead, body_parts, body_parts-read, each-written}
@@ -123,6 +123,17 @@ module _ (t : List ℕ) (f : Found) (is : prefix_of windows t ≡ Some f) where
       prefixed-form t f.prefix front back read (body_parts (separators windows t) text)
       (ap (parts_of windows) (clean-prefixed t f.prefix front back read) ∙ again) behind-read
       (ap (prefix_of windows) (clean-prefixed t f.prefix front back read) ∙ stays ∙ sym is)
+
+-- where the text is its own clean text, a root or none, parents and names are read behind the prefix
+pub clean-behind : (t : List ℕ) (f : Found) (is : prefix_of windows t ≡ Some f) → clean_text windows t ≡ t
+    → (b : Bool) × (kinds (body_parts (separators windows t) (drop f.length t)) ≡ lead b (rising (own t f is)) (kept_names (own t f is)))
+clean-behind t f is same =
+    let raw = take f.length t in
+    let text = behind_text (is_rooted t f is) (joined t f is) in
+    let whole : raw ++ text ≡ t = sym (clean-prefixed t f.prefix raw (back t f is) (parts_of-some t f is)) ∙ same in
+    let size : length raw ≡ f.length = omega (arith, length-take f.length t, (prefix-fits windows t f is).fits) in
+    let behind : text ≡ drop f.length t = sym (drop_at raw text f.length size) ∙ ap (drop f.length) whole in
+    (is_rooted t f is, ap (λ u. kinds (body_parts (separators windows t) u)) (sym behind) ∙ behind-read t f is)
 
 -- under a drive
 drive-form : (t : List ℕ) (letter : ℕ) → prefix_of windows t ≡ Some (found (disk letter) 2) → drive t ≡ Some letter → IsCleanForm windows t (clean_text windows t)

@@ -8,7 +8,7 @@ use Rattle.typed_path.specs.components.{windows, begins_verbatim, separators, sl
 use Rattle.typed_path.specs.queries.{is_verbatim_prefix, has_any_verbatim_prefix, is_disk}
 use Rattle.typed_path.specs.changes.{push_windows, spelled, merged, ended_windows, is_disk_alone, fault}
 use Rattle.typed_path.specs.places.{resolve, place}
-use Rattle.typed_path.specs.promises.{prefix_kind, LiesWithin, keeps_by_prefix, HasPrefixOf, keeps_prefix}
+use Rattle.typed_path.specs.promises.{prefix_kind, is_verbatim_unc_name, LiesWithin, keeps_by_prefix, HasPrefixOf, keeps_prefix}
 use Rattle.typed_path.proofs.lemmas.components.Segments.{body_parts, body_parts-read, AreRead, parts_behind, first_part, later_parts}
 use Rattle.typed_path.proofs.lemmas.components.PrefixCuts.{verbatim_text, name-filled, parts_of-none, parts_of-some, verbatim-some, verbatim-none}
 use Rattle.typed_path.proofs.lemmas.changes.Faults.{place_of, IsFaultless, faultless, push-faultless, no_heads-relative, body_parts-relative}
@@ -277,3 +277,11 @@ keeps base (b ∷ bs) accepted kept = by (prefix_of windows base) refl kept
 
     by : (o : Option Found) → prefix_of windows base ≡ o → keeps_by_prefix base (option_map (λ f. f.prefix) o) ≡ true → prefix_kind windows (push_windows base (b ∷ bs)) ≡ option_map (λ f. f.prefix) o
     by o is kept = grind (arith, none-kept, fine, keeps_by_prefix-firm, cases_Bool, verbatim-kept, plain-kept)
+
+-- and none of them has the verbatim prefix that is named `UNC`
+pub kept_no_unc : (base : List ℕ) → keeps_prefix windows base ≡ true → is_verbatim_unc_name (prefix_kind windows base) ≡ false
+kept_no_unc base kept = by (prefix_kind windows base) kept
+  where
+    by : (o : Option Prefix) → keeps_by_prefix base o ≡ true → is_verbatim_unc_name o ≡ false
+    by None e = refl
+    by (Some p) e = grind arith

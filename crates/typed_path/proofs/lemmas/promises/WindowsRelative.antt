@@ -184,6 +184,19 @@ module _ (base : List ℕ) (b : ℕ) (path : List ℕ) (none : prefix_of windows
           none_behind (c ∷ cs) g = grind (arith, both_ways, disk_alone-filled, body_kinds, kinds-found)
       by _ (parted other some unended) = put (drop f.length base)
 
+-- behind each base that is not verbatim and keeps its prefix
+joined-both : (c : ℕ) (cs : List ℕ) (b : ℕ) (bs : List ℕ) (o : Option Found) → prefix_of windows (c ∷ cs) ≡ o → keeps_prefix windows (c ∷ cs) ≡ true → has_any_verbatim_prefix (kinds_of windows (c ∷ cs)) ≡ false → prefix_of windows (b ∷ bs) ≡ None
+    → begins_with_root (body_kinds Either (b ∷ bs)) ≡ false → Joined (c ∷ cs) (b ∷ bs)
+joined-both c cs b bs None is kept plain none relative =
+    joined-none (c ∷ cs) b bs none relative plain is (ap (λ o. keeps_by_prefix (c ∷ cs) (option_map (λ g. g.prefix) o)) (sym is) ∙ kept) (omega arith)
+joined-both c cs b bs (Some f) is kept plain none relative =
+    joined-some (c ∷ cs) b bs none relative plain f is (firm-kept (c ∷ cs) f is kept) (sym (verbatim-some (c ∷ cs) f is) ∙ plain)
+
+pub joined-plain : (base r : List ℕ) → keeps_prefix windows base ≡ true → has_any_verbatim_prefix (kinds_of windows base) ≡ false → prefix_of windows r ≡ None → begins_with_root (body_kinds Either r) ≡ false → Joined base r
+joined-plain base [] kept plain none relative = joined-nothing base
+joined-plain [] (b ∷ bs) kept plain none relative = joined-first (b ∷ bs) none relative
+joined-plain (c ∷ cs) (b ∷ bs) kept plain none relative = joined-both c cs b bs (prefix_of windows (c ∷ cs)) refl kept plain none relative
+
 -- The law.
 
 -- what a relative text is read as, in the words of the whole text
@@ -205,16 +218,4 @@ leads_plain path base r kept plain e =
     let h = read-relative windows path base r e in
     let none = h.reads.none in
     let relative = ap begins_with_root (sym (kinds-none r none)) ∙ (stays_relative windows path base r e).root in
-    joined-route path base r h (by base r kept plain none relative)
-  where
-    some : (c : ℕ) (cs : List ℕ) (b : ℕ) (bs : List ℕ) (o : Option Found) → prefix_of windows (c ∷ cs) ≡ o → keeps_prefix windows (c ∷ cs) ≡ true → has_any_verbatim_prefix (kinds_of windows (c ∷ cs)) ≡ false → prefix_of windows (b ∷ bs) ≡ None
-        → begins_with_root (body_kinds Either (b ∷ bs)) ≡ false → Joined (c ∷ cs) (b ∷ bs)
-    some c cs b bs None is kept plain none relative =
-        joined-none (c ∷ cs) b bs none relative plain is (ap (λ o. keeps_by_prefix (c ∷ cs) (option_map (λ g. g.prefix) o)) (sym is) ∙ kept) (omega arith)
-    some c cs b bs (Some f) is kept plain none relative =
-        joined-some (c ∷ cs) b bs none relative plain f is (firm-kept (c ∷ cs) f is kept) (sym (verbatim-some (c ∷ cs) f is) ∙ plain)
-
-    by : (base r : List ℕ) → keeps_prefix windows base ≡ true → has_any_verbatim_prefix (kinds_of windows base) ≡ false → prefix_of windows r ≡ None → begins_with_root (body_kinds Either r) ≡ false → Joined base r
-    by base [] kept plain none relative = joined-nothing base
-    by [] (b ∷ bs) kept plain none relative = joined-first (b ∷ bs) none relative
-    by (c ∷ cs) (b ∷ bs) kept plain none relative = some c cs b bs (prefix_of windows (c ∷ cs)) refl kept plain none relative
+    joined-route path base r h (joined-plain base r kept plain none relative)

@@ -41,9 +41,9 @@ pub data Leads (ks ls : List Kind) : Type 0 where
   under_root : is_anchored ls ≡ true → has_prefix ls ≡ false → kept_names ls ≡ [] → Leads ks ls
   under_parents : is_anchored ks ≡ false → is_anchored ls ≡ false → unmet ks ≤ unmet ls → kept_names ls ≡ [] → Leads ks ls
 
-record IsTold (ks ls : List Kind) : Type 0 where
-  prefixes : first_prefix ks ≡ first_prefix ls
-  leads : Leads ks ls
+pub record IsTold (ks ls : List Kind) : Type 0 where
+  pub prefixes : first_prefix ks ≡ first_prefix ls
+  pub leads : Leads ks ls
 
 pub same-prefix : (o r : Option Prefix) → are_same_prefixes o r ≡ true → o ≡ r
 same-prefix None None e = refl
@@ -64,7 +64,7 @@ nothing names e = grind (arith, common_steps)
 unmet-rising : (ks ls : List Kind) → is_anchored ks ≡ is_anchored ls → rising ks ≡ rising ls → is_anchored ls ≡ false → unmet ks ≡ unmet ls
 unmet-rising ks ls same level e = grind arith
 
-told : (ks ls : List Kind) → (leads_within ks ls || holds_all ks ls) ≡ true → IsTold ks ls
+pub told : (ks ls : List Kind) → (leads_within ks ls || holds_all ks ls) ≡ true → IsTold ks ls
 told ks ls asked = elim (or_cases (leads_within ks ls) (holds_all ks ls) asked) [
   | inl inside ↦
       let outer = and_parts (same_heads ks ls && (rising ks == rising ls)) _ inside in
@@ -110,7 +110,7 @@ module _ (ks ls : List Kind) (bare : first_prefix ks ≡ None) (bare_base : firs
   parents-true loose loose_base less = held false loose_base (ap₂ (λ b c. not b && c) loose (le-leb (unmet ks) (unmet ls) less))
 
 -- names behind a head, and more
-more-behind : (hs : List Kind) (names more : List (List ℕ)) → hs ++ map normal (names ++ more) ≡ (hs ++ map normal names) ++ map normal more
+pub more-behind : (hs : List Kind) (names more : List (List ℕ)) → hs ++ map normal (names ++ more) ≡ (hs ++ map normal names) ++ map normal more
 more-behind hs names more = ap (λ ks. hs ++ ks) (map-append normal names more) ∙ sym (append_assoc hs (map normal names) (map normal more))
 
 -- Where paths lead behind a directory.
@@ -259,8 +259,12 @@ resolved-names d depth (p ∷ ps) e = resolved-more d depth p.kind p.text ps e (
 accepted-names : (d : Dialect) (path : List ℕ) → fault d path ≡ None → AreNames (kinds (resolve (parts_of d path)))
 accepted-names d path e = resolved-names d zero (parts_of d path) (sym (fault_behind-at d [] zero (kinds (parts_of d path)) refl) ∙ e)
 
+-- a path that is not refused, where what it is joined to holds it, lies below that
+pub accepted_below : (d : Dialect) (base path joined : List ℕ) → fault d path ≡ None → place d joined ≡ place d base ++ kinds (resolve (parts_of d path)) → IsBelow d base joined
+accepted_below d base path joined accepted lies =
+    let found = accepted-names d path accepted in
+    record { names = found.names; leads = lies ∙ ap (λ ks. place d base ++ ks) found.are }
+
 -- what has the promises of a checked join lies below its base, where that keeps its prefix
 pub lies_below : (d : Dialect) (base path joined : List ℕ) → fault d path ≡ None → HasPrefixOf d base joined → LiesWithin d base path joined → keeps_prefix d base ≡ true → IsBelow d base joined
-lies_below d base path joined accepted stays contained kept =
-    let found = accepted-names d path accepted in
-    record { names = found.names; leads = contained (stays kept) ∙ ap (λ ks. place d base ++ ks) found.are }
+lies_below d base path joined accepted stays contained kept = accepted_below d base path joined accepted (contained (stays kept))

@@ -110,7 +110,7 @@ impl<'a> Utf8TypedPath<'a> {
         each!(self, path => path.has_root())
     }
 
-    /// Whether every path that a checked join makes of this one has its prefix, or none if it has none.
+    /// True only if every path that a checked join makes of this one has its prefix, or none if it has none.
     pub fn keeps_prefix(self) -> bool
         ensures { result ≡ keeps_prefix (typed_dialect self.entry) (typed_text self.entry) }
     {
@@ -302,8 +302,8 @@ impl<'a> Utf8TypedPath<'a> {
 
     /// The path with another of its kind pushed onto it, unless that has a component that offends.
     ///
-    /// The answer lies within this path, where it has the prefix of this one. A path that is refused
-    /// costs no memory.
+    /// The answer lies within this path, where it has the prefix of this one. A path with a fault
+    /// is refused for that, however little memory there is.
     ///
     /// # Errors
     ///
