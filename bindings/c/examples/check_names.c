@@ -34,8 +34,8 @@ int main(int count, char **words) {
     const char *folder = words[2];
     size_t folder_len = strlen(folder), size = TYPED_PATH_JOIN_BOUND(folder_len, sizeof name), len;
     char *target = malloc(size);
-    typed_path_keeps_prefix(dialect, folder, folder_len, &keeps);
-    if (!target || !keeps) {
+    uint32_t asked = typed_path_keeps_prefix(dialect, folder, folder_len, &keeps);
+    if (!target || asked != TYPED_PATH_DONE || !keeps) {
         fprintf(stderr, "%s: %s\n", folder, target ? "it does not keep its prefix" : "out of memory");
         free(target);
         return 2;

@@ -3,7 +3,9 @@
    A text is a pointer and a number of bytes. It is any bytes, needs no NUL at its end, and may be NULL
    with 0. A dialect is TYPED_PATH_UNIX or TYPED_PATH_WINDOWS. The calls that return `uint32_t`, but for
    typed_path_derive and typed_path_version, return a status, and each comment says which. Every call of
-   these returns TYPED_PATH_BAD_DIALECT for a number that names no dialect.
+   these returns TYPED_PATH_BAD_DIALECT for a number that names no dialect. Look at the status before
+   anything else: a call that refuses leaves what an earlier one put. Compilers warn where it is dropped
+   (TYPED_PATH_MUST_USE).
 
    A call that *puts* an answer is handed a buffer `out` of `out_size` bytes, and `len`:
    - TYPED_PATH_DONE: the answer stands at the beginning of the buffer, its length is in `*len`, and a
@@ -18,7 +20,10 @@
 
    The caller owes that each pointer is good for its number of bytes or items, that no pointer but that of
    a text or an array of 0 is NULL, that no other thread writes to what is handed in, and that what a call
-   writes (`out`, `len` ..) overlaps nothing else that it is handed. So no path is changed in place. */
+   writes (`out`, `len` ..) overlaps nothing else that it is handed. So no path is changed in place.
+
+   The library is built for x86-64-v2, which a processor is that has SSE4.2 and POPCNT. An older one ends
+   the program by an illegal instruction. */
 #ifndef TYPED_PATH_H
 #define TYPED_PATH_H
 
@@ -39,13 +44,24 @@ extern "C" {
 #define TYPED_PATH_VERSION \
     (TYPED_PATH_VERSION_MAJOR * 10000 + TYPED_PATH_VERSION_MINOR * 100 + TYPED_PATH_VERSION_PATCH)
 
+/* Stands before each call that returns a status. */
+#if defined(__cplusplus) && __cplusplus >= 201703L
+#define TYPED_PATH_MUST_USE [[nodiscard]]
+#elif !defined(__cplusplus) && defined(__STDC_VERSION__) && __STDC_VERSION__ > 201710L
+#define TYPED_PATH_MUST_USE [[nodiscard]]
+#elif defined(__GNUC__)
+#define TYPED_PATH_MUST_USE __attribute__((warn_unused_result))
+#else
+#define TYPED_PATH_MUST_USE
+#endif
+
 /* The dialects. */
 #define TYPED_PATH_UNIX 0
 #define TYPED_PATH_WINDOWS 1
 
 /* The statuses. Those from 1 to 4 name what the first component that offends is refused for. */
 #define TYPED_PATH_DONE 0
-#define TYPED_PATH_INVALID_FILENAME 1      /* a name that is not allowed: a byte, or on Windows a device */
+#define TYPED_PATH_INVALID_FILENAME 1      /* a name that is not allowed (typed_path_is_valid) */
 #define TYPED_PATH_PATH_TRAVERSAL_ATTACK 2 /* a `..` that no name before it makes up for */
 #define TYPED_PATH_UNEXPECTED_PREFIX 3     /* a prefix; never on Unix */
 #define TYPED_PATH_UNEXPECTED_ROOT 4       /* a root */
@@ -103,62 +119,68 @@ uint32_t typed_path_derive(const char *path, size_t path_len);
 
 /* Paths that are made. Each call puts an answer, with the statuses from above and those that are named. */
 
-/* The path with another pushed onto it; an absolute one replaces it. TYPED_PATH_JOIN_BOUND. */
-uint32_t typed_path_join(
+/* The path with another pushed onto it. An absolute one replaces it. On Windows one with a prefix does so
+   too, as `D:x`, and one with a root replaces all but the prefix, as `\x`. TYPED_PATH_JOIN_BOUND. */
+TYPED_PATH_MUST_USE uint32_t typed_path_join(
     uint32_t dialect, const char *path, size_t path_len, const char *other, size_t other_len,
     char *out, size_t out_size, size_t *len);
 
 /* The same where the other path has no component that offends: what is put lies within `path`, for a
    path that keeps its prefix (typed_path_keeps_prefix). Else the status, from 1 to 4, names what the first
-   one is refused for; it is told before memory is asked for. TYPED_PATH_JOIN_BOUND. */
-uint32_t typed_path_join_checked(
+   one is refused for; it is told even where memory is refused. The empty path, `.` and `a/..` are accepted:
+   what is put is then `path` itself, or leads there. TYPED_PATH_JOIN_BOUND. */
+TYPED_PATH_MUST_USE uint32_t typed_path_join_checked(
     uint32_t dialect, const char *path, size_t path_len, const char *other, size_t other_len,
     char *out, size_t out_size, size_t *len);
 
-/* The path with another file name, or with the name pushed behind it where it has none.
-   TYPED_PATH_JOIN_BOUND. */
-uint32_t typed_path_with_file_name(
+/* The path with another file name, or with the name pushed behind it where it has none. The name is pushed as
+   it is: `..` leads up, and an absolute path replaces all. TYPED_PATH_JOIN_BOUND. */
+TYPED_PATH_MUST_USE uint32_t typed_path_with_file_name(
     uint32_t dialect, const char *path, size_t path_len, const char *name, size_t name_len,
     char *out, size_t out_size, size_t *len);
 
 /* The path with another extension, or with none where that is empty; a copy where there is no file name.
-   TYPED_PATH_EXTENSION_BOUND. */
-uint32_t typed_path_with_extension(
+   The extension is put as it is, with the separators in it: of `/srv/a.txt` and `x/../../../etc/passwd` it
+   makes `/srv/a.x/../../../etc/passwd`. TYPED_PATH_EXTENSION_BOUND. */
+TYPED_PATH_MUST_USE uint32_t typed_path_with_extension(
     uint32_t dialect, const char *path, size_t path_len, const char *extension, size_t extension_len,
     char *out, size_t out_size, size_t *len);
 
 /* The path without `.`, and without `..` and the names that these take away; a `..` that finds no name
-   vanishes. TYPED_PATH_NORMALIZE_BOUND. */
-uint32_t typed_path_normalize(
+   vanishes. On Windows a name such as `D:x` may become the prefix: `C:\out\D:x` lies within `C:\out`, and its
+   normal path is `D:x`, on another drive. typed_path_clean keeps the drive. TYPED_PATH_NORMALIZE_BOUND. */
+TYPED_PATH_MUST_USE uint32_t typed_path_normalize(
     uint32_t dialect, const char *path, size_t path_len, char *out, size_t out_size, size_t *len);
 
 /* The path without `.`, doubled separators, and names that a `..` takes away. A relative path keeps the `..`
-   that it needs, and nothing is `.`. TYPED_PATH_CLEAN_BOUND. */
-uint32_t typed_path_clean(
+   that it needs, and nothing is `.`. On Windows the drive stays. TYPED_PATH_CLEAN_BOUND. */
+TYPED_PATH_MUST_USE uint32_t typed_path_clean(
     uint32_t dialect, const char *path, size_t path_len, char *out, size_t out_size, size_t *len);
 
 /* The path that leads from the base to a path, by `..` and names; `.` where both lead alike. TYPED_PATH_NONE
-   where there is none: one begins with another prefix, or alone with a root, or the base leads higher; it is
-   told before memory is asked for. TYPED_PATH_RELATIVE_BOUND. */
-uint32_t typed_path_relative_to(
+   where there is none: one begins with another prefix, or alone with a root; the base leads higher; or a name
+   that is to be written holds a `/`, as one behind `\\?\` on Windows may. None is told even where memory is
+   refused. TYPED_PATH_RELATIVE_BOUND. */
+TYPED_PATH_MUST_USE uint32_t typed_path_relative_to(
     uint32_t dialect, const char *path, size_t path_len, const char *base, size_t base_len,
     char *out, size_t out_size, size_t *len);
 
 /* The path as it is written in the dialect `other`; a copy where that is its own.
    TYPED_PATH_CONVERT_BOUND. */
-uint32_t typed_path_convert(
+TYPED_PATH_MUST_USE uint32_t typed_path_convert(
     uint32_t dialect, const char *path, size_t path_len, uint32_t other,
     char *out, size_t out_size, size_t *len);
 
 /* The same by checked pushes, its own dialect too. The status, from 1 to 4, names what the first component
    that offends there is refused for. TYPED_PATH_CONVERT_BOUND. */
-uint32_t typed_path_convert_checked(
+TYPED_PATH_MUST_USE uint32_t typed_path_convert_checked(
     uint32_t dialect, const char *path, size_t path_len, uint32_t other,
     char *out, size_t out_size, size_t *len);
 
 /* The normal path, read from a directory of Unix where it is not absolute. TYPED_PATH_AMBIGUOUS where it
-   is not absolute behind the directory either. TYPED_PATH_JOIN_BOUND. */
-uint32_t typed_path_absolutize(
+   is not absolute behind the directory either. That is asked before the path is made normal, so on Windows
+   what is put may be on another drive, and not absolute: of `C:\a\D:` it is `D:`. TYPED_PATH_JOIN_BOUND. */
+TYPED_PATH_MUST_USE uint32_t typed_path_absolutize(
     uint32_t dialect, const char *path, size_t path_len, const char *directory, size_t directory_len,
     char *out, size_t out_size, size_t *len);
 
@@ -173,7 +195,7 @@ uint32_t typed_path_absolutize(
    - TYPED_PATH_BAD_ENDS: the next end lies before the one before it, or behind the names.
    - TYPED_PATH_BAD_DIALECT: for none.
    The bytes behind the answers and the items behind `*done` are as they were. TYPED_PATH_BATCH_BOUND. */
-uint32_t typed_path_join_checked_batch(
+TYPED_PATH_MUST_USE uint32_t typed_path_join_checked_batch(
     uint32_t dialect, const char *base, size_t base_len, const char *names, size_t names_len,
     const size_t *ends, size_t ends_count, char *out, size_t out_size,
     size_t *out_ends, size_t out_ends_count, uint32_t *statuses, size_t statuses_count, size_t *done);
@@ -182,74 +204,97 @@ uint32_t typed_path_join_checked_batch(
    dialect, `*span` is as it was. */
 
 /* The path without its last component. None of an empty path, a root, or a prefix but a drive. */
-uint32_t typed_path_parent(uint32_t dialect, const char *path, size_t path_len, typed_path_span *span);
+TYPED_PATH_MUST_USE uint32_t typed_path_parent(
+    uint32_t dialect, const char *path, size_t path_len, typed_path_span *span);
 
 /* The last component, if it is a name. */
-uint32_t typed_path_file_name(uint32_t dialect, const char *path, size_t path_len, typed_path_span *span);
+TYPED_PATH_MUST_USE uint32_t typed_path_file_name(
+    uint32_t dialect, const char *path, size_t path_len, typed_path_span *span);
 
 /* The file name up to its last dot; a dot at the front is part of it. */
-uint32_t typed_path_file_stem(uint32_t dialect, const char *path, size_t path_len, typed_path_span *span);
+TYPED_PATH_MUST_USE uint32_t typed_path_file_stem(
+    uint32_t dialect, const char *path, size_t path_len, typed_path_span *span);
 
 /* What stands behind that dot. */
-uint32_t typed_path_extension(uint32_t dialect, const char *path, size_t path_len, typed_path_span *span);
+TYPED_PATH_MUST_USE uint32_t typed_path_extension(
+    uint32_t dialect, const char *path, size_t path_len, typed_path_span *span);
 
 /* What is left behind the base. None where the path does not begin with its components. */
-uint32_t typed_path_strip_prefix(
+TYPED_PATH_MUST_USE uint32_t typed_path_strip_prefix(
     uint32_t dialect, const char *path, size_t path_len, const char *base, size_t base_len,
     typed_path_span *span);
 
 /* Puts the components of a path into an array, as many as fit, and into `*count` how many there are.
    TYPED_PATH_TOO_SMALL where that is more than `out_count`. Of a bad dialect both are as they were.
    TYPED_PATH_COMPONENTS_BOUND. */
-uint32_t typed_path_components(
+TYPED_PATH_MUST_USE uint32_t typed_path_components(
     uint32_t dialect, const char *path, size_t path_len,
     typed_path_component *out, size_t out_count, size_t *count);
 
 /* One component, counted from 0. TYPED_PATH_NONE where there are no more than `index`; then, and for a bad
    dialect, `*component` is as it was. It is found by reading from the front. */
-uint32_t typed_path_component_at(
+TYPED_PATH_MUST_USE uint32_t typed_path_component_at(
     uint32_t dialect, const char *path, size_t path_len, size_t index, typed_path_component *component);
 
 /* Questions. The status is TYPED_PATH_DONE, or TYPED_PATH_BAD_DIALECT, and then the answer is false. */
 
 /* Whether a path leads to one place from every directory; on Windows `C:\a` does, `C:a` and `\a` do not. */
-uint32_t typed_path_is_absolute(uint32_t dialect, const char *path, size_t path_len, bool *answer);
+TYPED_PATH_MUST_USE uint32_t typed_path_is_absolute(
+    uint32_t dialect, const char *path, size_t path_len, bool *answer);
 
 /* Whether it begins with a root, written or implied by a prefix. */
-uint32_t typed_path_has_root(uint32_t dialect, const char *path, size_t path_len, bool *answer);
+TYPED_PATH_MUST_USE uint32_t typed_path_has_root(
+    uint32_t dialect, const char *path, size_t path_len, bool *answer);
 
-/* Whether each name of it is allowed: on Unix no NUL, on Windows no disallowed byte and no device. */
-uint32_t typed_path_is_valid(uint32_t dialect, const char *path, size_t path_len, bool *answer);
+/* Whether each name of it is allowed. On Unix one with a NUL is not. On Windows one with a NUL or one of
+   `\/:?*"<>|` is not, nor a device: CON, PRN, AUX, NUL, COM0 to COM9 and LPT0 to LPT9, in any case, alone or
+   with a dot behind. Versions of Windows take more names for devices, and these are allowed: with spaces
+   behind, as `nul ` and `con .txt`; `CONIN$` and `conout$.txt`; with a superscript digit, as "COM\xC2\xB9"
+   and "lpt\xC2\xB2.x". */
+TYPED_PATH_MUST_USE uint32_t typed_path_is_valid(
+    uint32_t dialect, const char *path, size_t path_len, bool *answer);
 
 /* Whether it begins with the components of the base, as they are written. No check of containment. */
-uint32_t typed_path_starts_with(
+TYPED_PATH_MUST_USE uint32_t typed_path_starts_with(
     uint32_t dialect, const char *path, size_t path_len, const char *base, size_t base_len, bool *answer);
 
 /* Whether it ends with the components of another, as they are written. */
-uint32_t typed_path_ends_with(
+TYPED_PATH_MUST_USE uint32_t typed_path_ends_with(
     uint32_t dialect, const char *path, size_t path_len, const char *end, size_t end_len, bool *answer);
 
-/* Whether it lies at the base or below it, from whatever directory both are read. */
-uint32_t typed_path_is_within(
+/* Whether it lies at the base or below it, from whatever directory both are read. It judges names that no
+   file has, so ask typed_path_is_valid too: "/srv/..\0/a" lies within `/srv`, and as a string of C it ends at
+   the NUL, as `/srv/..`; on Windows `C:\srv\con` lies within `C:\srv`. */
+TYPED_PATH_MUST_USE uint32_t typed_path_is_within(
     uint32_t dialect, const char *path, size_t path_len, const char *base, size_t base_len, bool *answer);
 
-/* Whether every accepted join onto it has its prefix: true on Unix; on Windows of `C:\a`, `\\s\h` and `a`,
-   and not of `\\s` and `/`. */
-uint32_t typed_path_keeps_prefix(uint32_t dialect, const char *path, size_t path_len, bool *answer);
+/* True only if every accepted join onto it has its prefix: on Unix of each path; on Windows of `C:\a`,
+   `\\s\h` and `a`. It is false of `\\s` and `/`, which may lose it, and of some that keep it, as `//a/`,
+   `\\s\\x` and `\\?\UNC\s\`. */
+TYPED_PATH_MUST_USE uint32_t typed_path_keeps_prefix(
+    uint32_t dialect, const char *path, size_t path_len, bool *answer);
 
 /* Whether two paths have one list of components: separators, doubled or not, dots that vanish and the case
    of a drive do not count; the case of names does. */
-uint32_t typed_path_equal(
+TYPED_PATH_MUST_USE uint32_t typed_path_equal(
     uint32_t dialect, const char *path, size_t path_len, const char *other, size_t other_len, bool *answer);
 
 /* The order of two paths by their components: -1, 0 or 1. Of a bad dialect `*order` is as it was. */
-uint32_t typed_path_compare(
+TYPED_PATH_MUST_USE uint32_t typed_path_compare(
     uint32_t dialect, const char *path, size_t path_len, const char *other, size_t other_len,
     int32_t *order);
 
-/* A hash, by SipHash 1-3 with keys of zero, that is one of equal paths. Of a bad dialect `*hash` is as it
-   was. */
-uint32_t typed_path_hash(uint32_t dialect, const char *path, size_t path_len, uint64_t *hash);
+/* A hash that is one of equal paths: SipHash 1-3, under a key of zeros, of each component's kind, the number
+   of its bytes, and these. Paths that differ have one by chance alone. But who knows the key can look for
+   such paths, so for names that strangers choose take typed_path_hash_keyed. Of a bad dialect `*hash` is as
+   it was. */
+TYPED_PATH_MUST_USE uint32_t typed_path_hash(
+    uint32_t dialect, const char *path, size_t path_len, uint64_t *hash);
+
+/* The same under a key of 128 bits, `key0` the first 64. Draw one at random, as for a map or a process, and
+   show neither it nor the hashes. */
+TYPED_PATH_MUST_USE uint32_t typed_path_hash_keyed(
+    uint32_t dialect, uint64_t key0, uint64_t key1, const char *path, size_t path_len, uint64_t *hash);
 
 #ifdef __cplusplus
 }

@@ -118,7 +118,9 @@ static bool is_kept(const Row *bad, Text one, Text two) {
             && span.length == 2;
     if (strcmp(call->name, "compare") == 0)
         return told_by(bad, one, two, &order, list, out, &len) == TYPED_PATH_BAD_DIALECT && order == 3
-            && typed_path_hash(bad->dialect, one.bytes, one.length, &hash) == TYPED_PATH_BAD_DIALECT && hash == 4;
+            && typed_path_hash(bad->dialect, one.bytes, one.length, &hash) == TYPED_PATH_BAD_DIALECT
+            && typed_path_hash_keyed(bad->dialect, 1, 2, one.bytes, one.length, &hash) == TYPED_PATH_BAD_DIALECT
+            && hash == 4;
     if (strcmp(call->name, "components") == 0)
         return typed_path_components(bad->dialect, one.bytes, one.length, &component, 1, &count) == TYPED_PATH_BAD_DIALECT
             && typed_path_component_at(bad->dialect, one.bytes, one.length, 0, &component) == TYPED_PATH_BAD_DIALECT
@@ -315,6 +317,47 @@ static void part_batch(void) {
     }
 }
 
+/* One word, with a separator behind each letter whose bit is set, but for the last: paths that differ, though
+   their names behind each other are one text. */
+#define CUTS 12
+
+static Text cut(char *to, size_t number) {
+    size_t length = 0;
+    for (size_t at = 0; at <= CUTS; at++) {
+        to[length++] = (char)('a' + at);
+        if (number >> at & 1)
+            to[length++] = '/';
+    }
+    return (Text){to, length};
+}
+
+static int by_number(const void *one, const void *two) {
+    uint64_t a = *(const uint64_t *)one, b = *(const uint64_t *)two;
+    return (a > b) - (a < b);
+}
+
+/* No two of these have one hash, nor has one of them the same under two keys. */
+static void part_hashes(void) {
+    static const uint64_t KEYS[][2] = {{0, 0}, {1, 0}, {0, 1}, {0x0123456789abcdefu, UINT64_MAX}};
+    enum { COUNT = sizeof KEYS / sizeof *KEYS, PATHS = 1 << CUTS };
+    static uint64_t hashes[COUNT * PATHS];
+    char path[2 * CUTS + 1];
+    for (uint32_t dialect = 0; dialect < 2; dialect++) {
+        for (size_t number = 0; number < PATHS; number++) {
+            Text text = cut(path, number);
+            uint64_t bare = 0, *each = hashes + COUNT * number;
+            for (size_t at = 0; at < COUNT; at++)
+                look(typed_path_hash_keyed(dialect, KEYS[at][0], KEYS[at][1], text.bytes, text.length, &each[at])
+                     == TYPED_PATH_DONE, "status", "hash_keyed", text, NOTHING);
+            look(typed_path_hash(dialect, text.bytes, text.length, &bare) == TYPED_PATH_DONE && bare == each[0],
+                 "hash under a key of zeros", "hash", text, NOTHING);
+        }
+        qsort(hashes, COUNT * PATHS, sizeof *hashes, by_number);
+        for (size_t at = 1; at < COUNT * PATHS; at++)
+            look(hashes[at - 1] != hashes[at], "hash of two paths, or under two keys", "hash_keyed", NOTHING, NOTHING);
+    }
+}
+
 /* Where malloc and realloc are the linker's to wrap, requests are counted, and refused by their number. */
 static size_t requests, refuse_at, refuse_from, held;
 
@@ -392,11 +435,14 @@ static void part_refused(void) {
             continue;
         }
         bool batch = row.call->put_of == typed_path_join_checked;
+        bool free_of = batch || row.call->put_of == typed_path_relative_to;
         size_t bound = bound_of(row.call, row.path, row.other), total;
         for (int way = 0; way < (batch ? 4 : 2); way++) {
             requests = 0;
             look_refused(&row, row.answer.bytes, row.status ? 0 : row.answer.length, bound, way > 1);
             total = requests;
+            look(total == 0 || row.status == TYPED_PATH_DONE || !free_of, "memory for what is refused",
+                 row.call->name, row.path, row.other);
             for (size_t number = 1; number <= total; number++) {
                 refuse_at = way % 2 ? 0 : number;
                 refuse_from = way % 2 ? number : 0;
@@ -498,8 +544,8 @@ int main(int count, char **words) {
         const char *name;
         void (*run)(void);
     } PARTS[] = {
-        {"rows", part_rows}, {"random", part_random}, {"batch", part_batch}, {"refused", part_refused},
-        {"long", part_long}, {"threads", part_threads},
+        {"rows", part_rows}, {"random", part_random}, {"batch", part_batch}, {"hashes", part_hashes},
+        {"refused", part_refused}, {"long", part_long}, {"threads", part_threads},
     };
     if (count != 3)
         return 2;

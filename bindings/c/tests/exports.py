@@ -1,6 +1,7 @@
 #!/usr/bin/env python3
 """Compares the calls that the header declares with those that the sources of the crate export: their names,
-and the names and types of their parameters and results.
+and the names and types of their parameters and results. A call with a dialect returns a status, so it has to
+bear the mark that it must be looked at, and no other call may.
 
 exports.py HEADER SOURCES: prints a line for each difference, and then how many calls agree.
 """
@@ -13,7 +14,7 @@ import sys
 # what that is named behind the slice.
 PLAIN = {
     "u32": "uint32_t", "&mut usize": "size_t *", "&mut bool": "bool *", "&mut i32": "int32_t *",
-    "&mut u64": "uint64_t *", "usize": "size_t", "&mut Span": "typed_path_span *",
+    "&mut u64": "uint64_t *", "u64": "uint64_t", "usize": "size_t", "&mut Span": "typed_path_span *",
     "&mut Component": "typed_path_component *",
 }
 SLICES = {
@@ -21,15 +22,17 @@ SLICES = {
     "&mut [usize]": ("size_t *", "count"), "&mut [u32]": ("uint32_t *", "count"),
     "&mut [Component]": ("typed_path_component *", "count"),
 }
+MARK = "TYPED_PATH_MUST_USE "
 # These have the same fields on either side.
 STRUCTS = {"typed_path_span": "Span", "typed_path_component": "Component"}
 
 
 def declared(header):
-    """The calls of the header: the result and the parameters of each, by its name."""
+    """The calls of the header: the result with its mark and the parameters of each, by its name."""
     text = re.sub(r"/\*.*?\*/", "", header, flags=re.DOTALL)
     calls = {}
-    for result, name, parameters in re.findall(r"^(\w+) (typed_path_\w+)\(([^)]*)\);", text, re.MULTILINE):
+    call = rf"^((?:{MARK})?\w+) (typed_path_\w+)\(([^)]*)\);"
+    for result, name, parameters in re.findall(call, text, re.MULTILINE):
         words = [] if parameters == "void" else [" ".join(it.split()) for it in parameters.split(",")]
         parts = [re.fullmatch(r"(.*?)(\w+)", it) for it in words]
         calls[name] = result, [(it[2], it[1].strip()) for it in parts]
@@ -51,7 +54,8 @@ def exported(sources):
                 wanted += [(word, pointer), (f"{word}_{behind}", "size_t")]
             elif kind != "Global":
                 wanted.append((word, PLAIN.get(kind, kind)))
-        calls[name] = PLAIN.get(result, result), wanted
+        mark = MARK if wanted[:1] == [("dialect", "uint32_t")] else ""
+        calls[name] = mark + PLAIN.get(result, result), wanted
     return calls
 
 

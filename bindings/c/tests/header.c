@@ -14,6 +14,7 @@ int main(void) {
     typed_path_span span = {0, 0};
     typed_path_component first = {0, 0, 0};
     bool answer = false;
+    uint64_t hashes[2] = {0, 0};
     if (typed_path_version() != TYPED_PATH_VERSION || !is_put("/srv", "a/b", "/srv/a/b"))
         return 1;
     if (typed_path_file_name(TYPED_PATH_UNIX, "/a/b", 4, &span) != TYPED_PATH_DONE || span.start != 3)
@@ -23,5 +24,9 @@ int main(void) {
         return 3;
     if (typed_path_is_within(TYPED_PATH_UNIX, "a/../b", 6, "a", 1, &answer) != TYPED_PATH_DONE || answer)
         return 4;
+    if (typed_path_hash(TYPED_PATH_UNIX, "a", 1, &hashes[0]) != TYPED_PATH_DONE
+        || typed_path_hash_keyed(TYPED_PATH_UNIX, 1, 2, "a", 1, &hashes[1]) != TYPED_PATH_DONE
+        || hashes[0] == hashes[1])
+        return 6;
     return typed_path_join(TYPED_PATH_UNIX, NULL, 0, NULL, 0, NULL, 0, &span.length) == TYPED_PATH_DONE ? 0 : 5;
 }

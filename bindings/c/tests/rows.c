@@ -168,14 +168,24 @@ static uint32_t listed(const Row *row, Text path, typed_path_component *list, ch
     return status;
 }
 
+/* The hash of a path, and that under a key. */
+static uint32_t hashed(uint32_t dialect, Text path, uint64_t hashes[2]) {
+    uint32_t status = typed_path_hash(dialect, path.bytes, path.length, &hashes[0]);
+    uint32_t other = typed_path_hash_keyed(dialect, 5, 6, path.bytes, path.length, &hashes[1]);
+    return status == other ? status : 94;
+}
+
 static uint32_t compared(const Row *row, Text path, Text other, void *told, char *out, size_t *len) {
     int32_t *order = told;
-    uint64_t one = 1, two = 2;
+    uint64_t one[2] = {1, 2}, two[2] = {3, 4};
     uint32_t status = typed_path_compare(row->dialect, path.bytes, path.length, other.bytes, other.length, order);
     *len = (size_t)sprintf(out, "%d", (int)*order);
-    typed_path_hash(row->dialect, path.bytes, path.length, &one);
-    typed_path_hash(row->dialect, other.bytes, other.length, &two);
-    return one == two || *order != 0 ? status : 97;
+    if (hashed(row->dialect, path, one) != status || hashed(row->dialect, other, two) != status)
+        return 97;
+    for (int at = 0; status == TYPED_PATH_DONE && at < 2; at++)
+        if ((one[at] == two[at]) != (*order == 0))
+            return 95;
+    return status;
 }
 
 uint32_t told_by(

@@ -1,16 +1,27 @@
 -- One name more of a batch, and that its bound has room for it.
-use Rattle.std.proofs.Common.{◌≡◌, ℕ, suc, ◌+◌, ◌*◌, ◌-◌, ◌<◌, ◌≤◌, ◌⊎◌, inl, inr, ⊎_elim, List, [], ◌∷◌, ◌++◌, length, map, take, drop, set, slice_range, slice_index, slice_index_or, Option, Some, None, length-take, refl, sym, ap, ap₂, subst, ◌∙◌, arith, append_assoc, append-nil}
+use Rattle.std.proofs.Common.{◌≡◌, true, ℕ, suc, ◌+◌, ◌*◌, ◌-◌, ◌<◌, ◌≤◌, ◌⊎◌, inl, inr, ⊎_elim, List, [], ◌∷◌, ◌++◌, length, map, take, drop, set, slice_range, slice_index, slice_index_or, Option, Some, None, length-take, refl, sym, ap, ap₂, subst, ◌∙◌, arith, append_assoc, append-nil}
 use Rattle.std.proofs.lemmas.List.{drop-drop, drop_at, take_at, length-append, length-map, map-append, length-take-le, length-drop}
 use Rattle.std.proofs.Math.Logic.{⊎_map}
+use Rattle.std.proofs.lemmas.Bool.{and_parts}
 use Rattle.std.proofs.lemmas.Grind.{take_at_read}
+use Rattle.std.proofs.lemmas.Str.{IsUtf8-append, IsUtf8-from_is_utf8, IsUtf8-nil, is_utf8-from_IsUtf8}
 use Rattle.std.proofs.lemmas.Nat.{mul-le}
 use Rattle.std.proofs.Math.Nat.{suc-mul}
-use Rattle.typed_path.specs.components.{Dialect}
+use Rattle.std.specs.List.{AllByRecursion}
+use Rattle.std.specs.Str.{is_utf8}
+use Rattle.typed_path.specs.components.{Dialect, unix, windows}
 use Rattle.typed_path.specs.declared.errors.CheckedPathError.{CheckedPathError}
-use Rattle.typed_path.specs.changes.{fault}
+use Rattle.typed_path.specs.changes.{fault, push}
+use Rattle.typed_path.specs.promises.{HasPrefixOf, LiesWithin}
+use Rattle.typed_path.specs.texts.{are_texts}
 use Rattle.typed_path.proofs.lemmas.changes.Lengths.{push_length}
+use Rattle.typed_path.proofs.lemmas.promises.UnixContained as on_unix
+use Rattle.typed_path.proofs.lemmas.promises.WindowsContained as on_windows
+use Rattle.typed_path.proofs.lemmas.promises.Within.{lies_below}
+use Rattle.typed_path.proofs.lemmas.promises.JoinedWithin.{stays_within}
+use Rattle.typed_path.proofs.lemmas.texts.TextChanges.{push-text}
 use Rattle.typed_path_c.specs.Answers.{done, bad_ends, too_small, out_of_memory, Suffices}
-use Rattle.typed_path_c.specs.Batch.{names_from, last_from, AreEnds, name_answer, name_status, answers, answer_ends, answer_unless, ArePut, IsBatch, IsFull}
+use Rattle.typed_path_c.specs.Batch.{names_from, last_from, next_name, AreEnds, name_answer, name_status, answers, answer_ends, answer_unless, ArePut, IsBatch, IsContained, IsFull, IsNextEnd}
 use Rattle.typed_path_c.specs.Parts.{over}
 use Rattle.typed_path_c.proofs.Spans.{over_item, over_length}
 
@@ -33,6 +44,40 @@ module _ (names : List ℕ) where
 last-more : (start : ℕ) (ends : List ℕ) (end : ℕ) → last_from start (ends ++ end ∷ []) ≡ end
 last-more start [] end = refl
 last-more start (e ∷ ends) end = last-more e ends end
+
+-- What is put for a name that is not refused lies within the base.
+
+has-prefix : (d : Dialect) (base name : List ℕ) → fault d name ≡ None → HasPrefixOf d base (push d base name)
+has-prefix unix base name accepted = on_unix.keeps base name accepted
+has-prefix windows base name accepted = on_windows.keeps base name accepted
+
+lies-within : (d : Dialect) (base name : List ℕ) → fault d name ≡ None → LiesWithin d base name (push d base name)
+lies-within unix base name accepted = on_unix.contained base name accepted
+lies-within windows base name accepted = on_windows.contained base name accepted
+
+contained-each : (d : Dialect) (base : List ℕ) (names : List (List ℕ)) → AllByRecursion (IsContained d base) names
+contained-each d base [] = tt
+contained-each d base (name ∷ names) = (
+  (λ accepted.
+      let stays = has-prefix d base name accepted in
+      let within = lies-within d base name accepted in
+      (stays, within, lies_below d base name (push d base name) accepted stays within, stays_within d base name accepted)),
+  contained-each d base names,
+)
+
+-- Of texts it is a text.
+
+answer-text : (d : Dialect) (base name : List ℕ) (refused : Option CheckedPathError) → is_utf8 base ≡ true → is_utf8 name ≡ true → is_utf8 (answer_unless d base name refused) ≡ true
+answer-text d base name None is other = push-text d base is name other
+answer-text d base name (Some e) is other = is_utf8-from_IsUtf8 [] IsUtf8-nil
+
+answers-text : (d : Dialect) (base : List ℕ) (names : List (List ℕ)) → is_utf8 base ≡ true → are_texts names ≡ true → is_utf8 (answers d base names) ≡ true
+answers-text d base [] is others = is_utf8-from_IsUtf8 [] IsUtf8-nil
+answers-text d base (name ∷ names) is others =
+    let both = and_parts (is_utf8 name) (are_texts names) others in
+    is_utf8-from_IsUtf8 (answers d base (name ∷ names)) (IsUtf8-append (name_answer d base name) (answers d base names)
+    (IsUtf8-from_is_utf8 (name_answer d base name) (answer-text d base name (fault d name) is both.0))
+    (IsUtf8-from_is_utf8 (answers d base names) (answers-text d base names is both.1)))
 
 module _ (d : Dialect) (base : List ℕ) where
   answers-more : (names : List (List ℕ)) (name : List ℕ) → answers d base (names ++ name ∷ []) ≡ answers d base names ++ name_answer d base name
@@ -181,12 +226,13 @@ module _ (d : Dialect) (base : List ℕ) where
 
     -- the bound has room for the next name
     never-full : (status : ℕ)
-        → (status ≡ too_small → (n < length ends) × IsFull d base (names_from names 0 (take n ends)) old ends_old statuses_old (slice_range names (last_from 0 (take n ends)) (slice_index ends n)))
+        → (status ≡ too_small → IsNextEnd names ends n × IsFull d base (names_from names 0 (take n ends)) old ends_old statuses_old (next_name names ends n))
         → length ends ≤ length ends_old → length ends ≤ length statuses_old → Suffices (length names + length ends * (length base + 3)) old status
     never-full status full has_ends has_statuses room small =
-        let (more, why) = full small in
+        let (next_end, why) = full small in
+        let more = next_end.0 in
         let last = last_from 0 (take n ends) in
-        let next = slice_range names last (slice_index ends n) in
+        let next = next_name names ends n in
         ⊎_elim (λ h. omega (arith, h, counted, more, has_ends)) (⊎_elim (λ h. omega (arith, h, counted, more, has_statuses)) (λ h. omega (
           arith,
           h,
@@ -204,34 +250,56 @@ module _ (d : Dialect) (base : List ℕ) where
 
     -- how it ended
     ended : (status : ℕ) → (status ≡ done → n ≡ length ends) → (status ≡ bad_ends → (n < length ends) × ((slice_index ends n < last_from 0 (take n ends)) ⊎ (length names < slice_index ends n)))
-        → (status ≡ too_small → (n < length ends) × IsFull d base (names_from names 0 (take n ends)) old ends_old statuses_old (slice_range names (last_from 0 (take n ends)) (slice_index ends n)))
+        → (status ≡ too_small → IsNextEnd names ends n × IsFull d base (names_from names 0 (take n ends)) old ends_old statuses_old (next_name names ends n))
+        → (status ≡ out_of_memory → IsNextEnd names ends n × (n < length ends_old) × (n < length statuses_old) × (fault d (next_name names ends n) ≡ None))
         → (status ≡ done) ⊎ (status ≡ bad_ends) ⊎ (status ≡ too_small) ⊎ (status ≡ out_of_memory) → IsBatch d base names ends old new ends_old ends_new statuses_old statuses_new n status
-    ended status all ill full known = record { some = runs.some; in_order = runs.in_order; put = runs.put; all = all; ill = ill; full = full; fits = never-full status full; known = known }
+    ended status all ill full memory known = record {
+      some = runs.some;
+      in_order = runs.in_order;
+      put = runs.put;
+      contained = contained-each d base (names_from names 0 (take n ends));
+      text = λ is others. answers-text d base (names_from names 0 (take n ends)) is others;
+      all = all;
+      ill = ill;
+      full = full;
+      memory = memory;
+      fits = never-full status full;
+      known = known;
+    }
 
     -- a batch that was done for all
     pub ended-all : length ends ≤ n → IsBatch d base names ends old new ends_old ends_new statuses_old statuses_new n done
-    ended-all all = ended done (λ e. omega (arith, all, runs.some)) (λ e. absurd (omega (arith, e))) (λ e. absurd (omega (arith, e))) (inl refl)
+    ended-all all = ended done (λ e. omega (arith, all, runs.some)) (λ e. absurd (omega (arith, e))) (λ e. absurd (omega (arith, e))) (λ e. absurd (omega (arith, e))) (inl refl)
 
     -- one whose next end is wrong
     pub ended-ill : n < length ends → (slice_index_or ends n 0 < start) ⊎ ((start ≤ slice_index_or ends n 0) × (length names < slice_index_or ends n 0))
         → IsBatch d base names ends old new ends_old ends_new statuses_old statuses_new n bad_ends
     ended-ill more either = ended bad_ends (λ e. absurd (omega (arith, e)))
-        (λ e. (more, ⊎_map (λ less. subst (λ s. slice_index_or ends n 0 < s) runs.starts less) (λ both. both.1) either)) (λ e. absurd (omega (arith, e))) (inr (inl refl))
+        (λ e. (more, ⊎_map (λ less. subst (λ s. slice_index_or ends n 0 < s) runs.starts less) (λ both. both.1) either)) (λ e. absurd (omega (arith, e))) (λ e. absurd (omega (arith, e))) (inr (inl refl))
 
-    -- one whose next name has no room
-    pub ended-full : n < length ends → (length ends_new ≤ n) ⊎ ((n < length ends_new) × (length statuses_new ≤ n))
-        → IsBatch d base names ends old new ends_old ends_new statuses_old statuses_new n too_small
-    ended-full more either = ended too_small (λ e. absurd (omega (arith, e))) (λ e. absurd (omega (arith, e)))
-        (λ e. (more, ⊎_elim (λ h. inl (omega (arith, h, long-ends, counted))) (λ h. inr (inl (omega (arith, h.1, long-statuses, counted)))) either)) (inr (inr (inl refl)))
+    -- one whose next end is right
+    module _ (more : n < length ends) (ahead : start ≤ slice_index_or ends n 0) (inside : slice_index_or ends n 0 ≤ length names) where
+      next-end : IsNextEnd names ends n
+      next-end = (more, subst (λ s. s ≤ slice_index_or ends n 0) runs.starts ahead, inside)
 
-    -- one whose next name was not joined
-    pub ended-err : (later : List ℕ) (status : ℕ) → later ≡ new → n < length ends
-        → (status ≡ out_of_memory) ⊎ ((status ≡ too_small) × (length new < at + length (name_answer d base (slice_range names start (slice_index_or ends n 0)))))
-        → IsBatch d base names ends old later ends_old ends_new statuses_old statuses_new n status
-    ended-err later status same more why =
-        let name = ap (λ s. length (name_answer d base (slice_range names s (slice_index ends n)))) runs.starts in
-        subst (λ t. IsBatch d base names ends old t ends_old ends_new statuses_old statuses_new n status) (sym same) (ended status
-        (λ e. absurd (⊎_elim (λ w. omega (arith, w, e)) (λ w. omega (arith, w.0, e)) why))
-        (λ e. absurd (⊎_elim (λ w. omega (arith, w, e)) (λ w. omega (arith, w.0, e)) why))
-        (λ e. (more, ⊎_elim (λ w. absurd (omega (arith, w, e))) (λ w. inr (inr (omega (arith, w.1, runs.ends_at, long-new, name)))) why))
-        (⊎_elim (λ w. inr (inr (inr w))) (λ w. inr (inr (inl w.0))) why))
+      -- and whose next name has no room
+      pub ended-full : (length ends_new ≤ n) ⊎ ((n < length ends_new) × (length statuses_new ≤ n))
+          → IsBatch d base names ends old new ends_old ends_new statuses_old statuses_new n too_small
+      ended-full either = ended too_small (λ e. absurd (omega (arith, e))) (λ e. absurd (omega (arith, e)))
+          (λ e. (next-end, ⊎_elim (λ h. inl (omega (arith, h, long-ends, counted))) (λ h. inr (inl (omega (arith, h.1, long-statuses, counted)))) either))
+          (λ e. absurd (omega (arith, e))) (inr (inr (inl refl)))
+
+      -- or was not joined
+      pub ended-err : (later : List ℕ) (status : ℕ) → later ≡ new → n < length ends_new → n < length statuses_new
+          → ((status ≡ out_of_memory) × (fault d (slice_range names start (slice_index_or ends n 0)) ≡ None))
+          ⊎ ((status ≡ too_small) × (length new < at + length (name_answer d base (slice_range names start (slice_index_or ends n 0)))))
+          → IsBatch d base names ends old later ends_old ends_new statuses_old statuses_new n status
+      ended-err later status same has_end has_status why =
+          let answer = ap (λ s. length (name_answer d base (slice_range names s (slice_index ends n)))) runs.starts in
+          let faultless = ap (λ s. fault d (slice_range names s (slice_index ends n))) runs.starts in
+          subst (λ t. IsBatch d base names ends old t ends_old ends_new statuses_old statuses_new n status) (sym same) (ended status
+          (λ e. absurd (⊎_elim (λ w. omega (arith, w.0, e)) (λ w. omega (arith, w.0, e)) why))
+          (λ e. absurd (⊎_elim (λ w. omega (arith, w.0, e)) (λ w. omega (arith, w.0, e)) why))
+          (λ e. (next-end, ⊎_elim (λ w. absurd (omega (arith, w.0, e))) (λ w. inr (inr (omega (arith, w.1, runs.ends_at, long-new, answer)))) why))
+          (λ e. (next-end, omega (arith, has_end, long-ends), omega (arith, has_status, long-statuses), ⊎_elim (λ w. sym faultless ∙ w.1) (λ w. absurd (omega (arith, w.0, e))) why))
+          (⊎_elim (λ w. inr (inr (inr w.0))) (λ w. inr (inr (inl w.0))) why))

@@ -3,8 +3,8 @@ use Rattle.std.specs.Prelude.{◌≡◌, ◌≤◌, ◌<◌, ℕ, zero, suc, Lis
 use Rattle.std.specs.declared.cmp.Ordering.{Ordering}
 use Rattle.std.specs.declared.cmp.Ordering.TheVariants.{Less, Equal, Greater}
 use Rattle.std.specs.Hash.DefaultHasher as sip
-use Rattle.typed_path.specs.order.Words.{kinds_words}
-use Rattle.typed_path.specs.components.{Dialect, unix, windows, kinds, parts_of}
+use Rattle.typed_path.specs.order.{key_words}
+use Rattle.typed_path.specs.components.{Dialect, unix, windows}
 use Rattle.typed_path.specs.declared.errors.CheckedPathError.{CheckedPathError}
 use Rattle.typed_path.specs.declared.errors.CheckedPathError.TheVariants.{InvalidFilename, PathTraversalAttack, UnexpectedPrefix, UnexpectedRoot}
 use Rattle.typed_path.specs.declared.errors.PathError.{PathError}
@@ -16,7 +16,7 @@ use Rattle.typed_path.specs.declared.errors.AbsolutizeError.TheVariants.{Ambiguo
 use Rattle.typed_path.specs.changes.{push, fault}
 use Rattle.typed_path.specs.conversions.Convert.{converted, converted_checked, absolute_from}
 use Rattle.typed_path.specs.places.{relative_text}
-use Rattle.typed_path.specs.promises.{HasPrefixOf, LiesWithin, LiesBelow}
+use Rattle.typed_path.specs.promises.{HasPrefixOf, LiesWithin, LiesBelow, StaysWithin}
 
 -- the dialect that a number names
 abbrev pub dialect_named : ℕ → Option Dialect
@@ -95,10 +95,10 @@ Joins number base path old told new len status =
     MatchOption (dialect_named number) ((status ≡ bad_dialect) × IsKept old told new len)
     (λ d. IsChecked (fault d path) (push d base path) old told new len status)
 
--- what was put lies within the base, and has its prefix
+-- what was put has the prefix of the base, and lies within it
 abbrev pub LiesIn : ℕ → List ℕ → List ℕ → ℕ → List ℕ → ℕ → Type 0
 LiesIn number base path status new len = (d : Dialect) → dialect_named number ≡ Some d → status ≡ done
-    → HasPrefixOf d base (take len new) × LiesWithin d base path (take len new) × LiesBelow d base (take len new)
+    → HasPrefixOf d base (take len new) × LiesWithin d base path (take len new) × LiesBelow d base (take len new) × StaysWithin d base (take len new)
 
 -- a path in another dialect
 abbrev pub Converts : ℕ → ℕ → List ℕ → List ℕ → ℕ → List ℕ → ℕ → ℕ → Type 0
@@ -154,14 +154,14 @@ Orders number asked old new status =
     MatchOption (dialect_named number) ((status ≡ bad_dialect) × (new ≡ old))
     (λ d. (status ≡ done) × (new ≡ order_number (asked d)))
 
--- the hash of a path: what it feeds, by SipHash 1-3 with keys of zero
-abbrev pub hash_of : Dialect → List ℕ → ℕ
-hash_of d t = sip.finish (fold sip.write sip.initial (kinds_words (kinds (parts_of d t))))
+-- the hash of a path under two keys: the words of its key, by SipHash 1-3
+abbrev pub hash_of : Dialect → ℕ → ℕ → List ℕ → ℕ
+hash_of d key0 key1 t = sip.finish (fold sip.write (sip.with_keys key0 key1) (key_words d t))
 
-abbrev pub Hashes : ℕ → List ℕ → ℕ → ℕ → ℕ → Type 0
-Hashes number path old new status =
+abbrev pub Hashes : ℕ → ℕ → ℕ → List ℕ → ℕ → ℕ → ℕ → Type 0
+Hashes number key0 key1 path old new status =
     MatchOption (dialect_named number) ((status ≡ bad_dialect) × (new ≡ old))
-    (λ d. (status ≡ done) × (new ≡ hash_of d path))
+    (λ d. (status ≡ done) × (new ≡ hash_of d key0 key1 path))
 
 -- where a call did it, what it put is the path that was made
 abbrev pub StandsAsMade : {P E : Type 0} → (P → List ℕ) → Result P E → ℕ → List ℕ → Type 0

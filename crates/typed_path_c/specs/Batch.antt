@@ -1,9 +1,12 @@
 -- Checked joins of many names onto one base.
-use Rattle.std.specs.Prelude.{◌≡◌, ◌≤◌, ◌<◌, ◌+◌, ◌*◌, ◌⊎◌, ℕ, List, [], ◌∷◌, ◌++◌, length, map, take, drop, slice_range, slice_index, Option, Some, None, ⊤, MatchOption}
-use Rattle.std.specs.List.{flat_map}
+use Rattle.std.specs.Prelude.{◌≡◌, ◌≤◌, ◌<◌, ◌+◌, ◌*◌, ◌⊎◌, ℕ, true, List, [], ◌∷◌, ◌++◌, length, map, take, drop, slice_range, slice_index, Option, Some, None, ⊤, MatchOption}
+use Rattle.std.specs.List.{flat_map, AllByRecursion}
+use Rattle.std.specs.Str.{is_utf8}
 use Rattle.typed_path.specs.components.Dialects.{Dialect}
 use Rattle.typed_path.specs.declared.errors.CheckedPathError.{CheckedPathError}
 use Rattle.typed_path.specs.changes.{push, fault}
+use Rattle.typed_path.specs.promises.{HasPrefixOf, LiesWithin, LiesBelow, StaysWithin}
+use Rattle.typed_path.specs.texts.{are_texts}
 use Rattle.typed_path_c.specs.Answers.{dialect_named, fault_status, done, out_of_memory, too_small, bad_dialect, bad_ends, Suffices}
 use Rattle.typed_path_c.specs.Parts.{over}
 
@@ -54,21 +57,35 @@ pub record ArePut (d : Dialect) (base : List ℕ) (names : List (List ℕ)) (old
   pub has_ends : length names ≤ length ends_old
   pub has_statuses : length names ≤ length statuses_old
 
+-- the next name, and that its end is in order
+abbrev pub next_name : List ℕ → List ℕ → ℕ → List ℕ
+next_name names ends n = slice_range names (last_from 0 (take n ends)) (slice_index ends n)
+
+abbrev pub IsNextEnd : List ℕ → List ℕ → ℕ → Type 0
+IsNextEnd names ends n = (n < length ends) × (last_from 0 (take n ends) ≤ slice_index ends n) × (slice_index ends n ≤ length names)
+
 -- the next name is not answered since there is no room for its end, its status or its answer
 abbrev pub IsFull : Dialect → List ℕ → List (List ℕ) → List ℕ → List ℕ → List ℕ → List ℕ → Type 0
 IsFull d base names old ends statuses next =
     (length ends ≤ length names) ⊎ (length statuses ≤ length names)
     ⊎ (length old < length (answers d base names) + length (name_answer d base next))
 
+-- what is put for a name that is not refused has the prefix of the base and lies within it
+abbrev pub IsContained : Dialect → List ℕ → List ℕ → Type 0
+IsContained d base name = fault d name ≡ None
+    → HasPrefixOf d base (push d base name) × LiesWithin d base name (push d base name) × LiesBelow d base (push d base name) × StaysWithin d base (push d base name)
+
 -- a batch was done for so many names, and its status says why for no more; where ends and statuses have room, a buffer of the bound is never too small
 pub record IsBatch (d : Dialect) (base names ends old new ends_old ends_new statuses_old statuses_new : List ℕ) (n status : ℕ) : Type 0 where
   pub some : n ≤ length ends
   pub in_order : AreEnds names 0 (take n ends)
   pub put : ArePut d base (names_from names 0 (take n ends)) old new ends_old ends_new statuses_old statuses_new
+  pub contained : AllByRecursion (IsContained d base) (names_from names 0 (take n ends))
+  pub text : is_utf8 base ≡ true → are_texts (names_from names 0 (take n ends)) ≡ true → is_utf8 (answers d base (names_from names 0 (take n ends))) ≡ true
   pub all : status ≡ done → n ≡ length ends
   pub ill : status ≡ bad_ends → (n < length ends) × ((slice_index ends n < last_from 0 (take n ends)) ⊎ (length names < slice_index ends n))
-  pub full : status ≡ too_small → (n < length ends)
-      × IsFull d base (names_from names 0 (take n ends)) old ends_old statuses_old (slice_range names (last_from 0 (take n ends)) (slice_index ends n))
+  pub full : status ≡ too_small → IsNextEnd names ends n × IsFull d base (names_from names 0 (take n ends)) old ends_old statuses_old (next_name names ends n)
+  pub memory : status ≡ out_of_memory → IsNextEnd names ends n × (n < length ends_old) × (n < length statuses_old) × (fault d (next_name names ends n) ≡ None)
   pub fits : length ends ≤ length ends_old → length ends ≤ length statuses_old → Suffices (length names + length ends * (length base + 3)) old status
   pub known : (status ≡ done) ⊎ (status ≡ bad_ends) ⊎ (status ≡ too_small) ⊎ (status ≡ out_of_memory)
 

@@ -7,11 +7,10 @@ ghost use Rattle.typed_path.specs.places.{is_within};
 ghost use Rattle.typed_path.specs.promises.{keeps_prefix};
 ghost use Rattle.typed_path.specs.queries.{is_absolute, has_root, is_valid, path_starts_with, path_ends_with};
 ghost use Rattle.typed_path.specs.typed.{derived_dialect};
-ghost use Rattle.typed_path_c.specs.Answers.{dialect_named, done, bad_dialect, order_number, hash_of, Tells, Orders, Hashes};
+ghost use Rattle.typed_path_c.specs.Answers.{dialect_named, done, bad_dialect, order_number, Tells, Orders};
 
 use crate::status::{BAD_DIALECT, DONE, of_encoding, of_path, path_in};
 use std::cmp::Ordering;
-use std::hash::{DefaultHasher, Hash, Hasher};
 use typed_path::{Encoding, Path, PathType};
 
 /// Tells an answer.
@@ -75,7 +74,7 @@ fn is_valid<T: Encoding>(path: &[u8]) -> bool
     Path::<T>::new(path).is_valid()
 }
 
-/// Whether every checked join onto it has its prefix.
+/// True only if every checked join onto it has its prefix.
 #[unsafe(no_mangle)]
 pub extern "C" fn typed_path_keeps_prefix(dialect: u32, path: &[u8], answer: &mut bool) -> u32
     ensures { Tells dialect (λ d. keeps_prefix d path.now) answer.new result }
@@ -166,22 +165,4 @@ fn compared<T: Encoding>(path: &[u8], other: &[u8]) -> i32
         Ordering::Equal => 0,
         Ordering::Greater => 1,
     }
-}
-
-/// The hash of a path, which is one for equal paths.
-#[unsafe(no_mangle)]
-pub extern "C" fn typed_path_hash(dialect: u32, path: &[u8], hash: &mut u64) -> u32
-    ensures { Hashes dialect path.now hash.old hash.new result }
-{
-    *hash = of_encoding!(dialect, hash_of(path), return BAD_DIALECT);
-    DONE
-}
-
-/// The hash of a path of one encoding.
-fn hash_of<T: Encoding>(path: &[u8]) -> u64
-    ensures { result ≡ hash_of T.dialect path.now }
-{
-    let mut state = DefaultHasher::default();
-    Path::<T>::new(path).hash(&mut state);
-    state.finish()
 }

@@ -1,6 +1,7 @@
 //! Checked joins of many names onto one base.
 
-ghost use Rattle.std.specs.Prelude.{◌≡◌, ◌≤◌, ◌<◌, ◌+◌, ◌++◌, ◌⊎◌, take, drop, length, IfOk, IfErr};
+ghost use Rattle.std.specs.Prelude.{◌≡◌, ◌≤◌, ◌<◌, ◌+◌, ◌++◌, ◌⊎◌, take, drop, length, IfOk, IfErr, None};
+ghost use Rattle.typed_path.specs.changes.{fault};
 ghost use Rattle.typed_path.specs.typed.{typed_dialect};
 ghost use Rattle.typed_path.specs.views.TypedViews.{typed_bytes};
 ghost use Rattle.typed_path_c.specs.Answers.{out_of_memory, too_small};
@@ -96,7 +97,9 @@ fn join_one(
         ++ name_answer (typed_dialect base.entry) (typed_bytes base.entry) name.now
         ++ drop j.end out.old) }
     ensures kept { IfErr result (λ _. out.new ≡ out.old) }
-    ensures why { IfErr result (λ why. (why ≡ out_of_memory) ⊎ ((why ≡ too_small) × (length out.old
+    ensures why { IfErr result (λ why.
+        ((why ≡ out_of_memory) × (fault (typed_dialect base.entry) name.now ≡ None))
+        ⊎ ((why ≡ too_small) × (length out.old
         < at + length (name_answer (typed_dialect base.entry) (typed_bytes base.entry) name.now)))) }
 {
     match base.join_checked(alloc, name) {

@@ -9,6 +9,7 @@ ghost use Rattle.std.specs.Prelude.{◌≡◌};
 
 mod asked;
 mod batch;
+mod hash;
 mod made;
 mod parts;
 mod status;

@@ -42,6 +42,10 @@ struct Last<'a> {
 }
 
 /// The last component.
+///
+/// It stands in place: handed back, what has room for a prefix is copied piece by piece, and each copy waits for the one
+/// before it, which takes longer than the reading.
+#[inline(always)]
 #[tactic(auto, using(crate::proofs::Spans::last_none, crate::proofs::Spans::last_some))]
 fn last_of<T: Encoding>(path: &[u8]) -> Option<Last<'_>>
     ensures { option_map last_view result ≡ last_of (comps T.dialect path.now) }

@@ -29,11 +29,12 @@ pub returns-then-end-start : goal.returns-then-end-start
 returns-then-end-start c = ended-ill _ _ _ _ _ _ _ _ _ _ _ _ _ c.names.invariant c.names-test.true c.then-end-start.either
 
 pub returns-then-out_ends-done : goal.returns-then-out_ends-done
-returns-then-out_ends-done c = ended-full _ _ _ _ _ _ _ _ _ _ _ _ _ c.names.invariant c.names-test.true
+returns-then-out_ends-done c = ended-full _ _ _ _ _ _ _ _ _ _ _ _ _ c.names.invariant c.names-test.true (omega (arith, c.if-end-start.false)) (omega (arith, c.if-names-end.false))
     (elim c.then-out_ends-done.branch [
       | then-out_ends-done-via-then-out_ends-done w ↦ inl w.if-out_ends-done.true
       | then-out_ends-done-via-else-out_ends-done+then-statuses-done w ↦ inr (omega (arith, w.if-out_ends-done.false), w.if-statuses-done.true)
     ])
 
 pub returns-in-Err : goal.returns-in-Err
-returns-in-Err c = ended-err _ _ _ _ _ _ _ _ _ _ _ _ _ c.names.invariant c.join_one.new.out c.in-Err.status c.in-Err.ensures.kept c.names-test.true c.in-Err.ensures.why
+returns-in-Err c = ended-err _ _ _ _ _ _ _ _ _ _ _ _ _ c.names.invariant c.names-test.true (omega (arith, c.if-end-start.false)) (omega (arith, c.if-names-end.false))
+    c.join_one.new.out c.in-Err.status c.in-Err.ensures.kept (omega (arith, c.if-out_ends-done.false)) (omega (arith, c.if-statuses-done.false)) c.in-Err.ensures.why

@@ -1,0 +1,12 @@
+use Rattle.std.proofs.Common.{◌%◌}
+use Rattle.std.proofs.lemmas.Bool.{eq-eqb, ne_eqb}
+use Rattle.std.specs.Hash.DefaultHasher.{write_byte, wrapping_add}
+use Rattle.typed_path_c.proofs.hash.SipHasher.write_byte.Goals as goal
+
+pub returns-then-self-eq0 : goal.returns-then-self-eq0
+unfolding write_byte
+returns-then-self-eq0 c = simp (c.write_word.ensures, eq-eqb (wrapping_add c.args.self.now.length 1 % 8) 0 c.if-self-eq0.true)
+
+pub returns-else-self-eq0 : goal.returns-else-self-eq0
+unfolding write_byte
+returns-else-self-eq0 c = simp (ne_eqb (wrapping_add c.args.self.now.length 1 % 8) 0 c.if-self-eq0.false)
