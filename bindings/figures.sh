@@ -103,7 +103,7 @@ for sort, ours, theirs in (
     ("names", "b.join_checked(it)", "m.join(b, it)"), ("names", "b.join_checked(it)", "checked(m, b, it)"),
     ("all", "b.join_checked_batch(it).targets", "[checked(m, b, name) for name in it]"),
     ("dotted", "it.normalize()", "m.normpath(it)"), ("dotted", "it.clean()", "m.normpath(it)"),
-    ("paths", "it.is_within(b)", "m.commonpath((b, it)) == b"), ("paths", "it.relative_to(b)", "m.relpath(it, b)"),
+    ("paths", "it.is_within(b)", "m.commonpath((b, it)) == b"), ("paths", "it.relative_to(b, walk_up=True)", "m.relpath(it, b)"),
 ):
     timers, said = [], []
     for ask in (ours, theirs):

@@ -40,8 +40,8 @@ end() {
     exit
 }
 
-# The header and what includes it, in each language that a compiler knows.
-strict=(-Wall -Wextra -Wpedantic -Werror)
+# The header and what includes it, in each language that a compiler knows. A status that is dropped is told of.
+strict=(-Wall -Wextra -Wpedantic -Werror) include=$here/c/include
 each_language() {
     local compiler language standard standards
     for compiler in cc clang c++ clang++; do
@@ -50,7 +50,7 @@ each_language() {
         if is_there $compiler; then
             for standard in "${standards[@]}"; do
                 if echo | "$compiler" -x $language -std=$standard -c - -o "$room/none" 2> "$room/said"; then
-                    part "the header in $standard by $compiler" "$1" $compiler $language $standard
+                    part "the header in $standard by $compiler" is_served "$1" $compiler $language $standard
                 else
                     left_out "the header in $standard by $compiler" "$standard"
                 fi
@@ -60,9 +60,20 @@ each_language() {
         fi
     done
 }
+is_served() {
+    "$@" || return 1
+    ! "$2" -x "$3" "-std=$4" "${strict[@]}" "-I$include" -c - -o "$room/none" > "$room/told" 2>&1 << 'END' || return 1
+#include <typed_path.h>
+void drop(bool *answer);
+void drop(bool *answer) {
+    typed_path_is_valid(TYPED_PATH_UNIX, "a", 1, answer);
+}
+END
+    grep unused-result "$room/told"
+}
 agree() {
     if is_there python3; then
-        part "header and crate agree" "$tests/exports.py" "$1" "$here/../crates/typed_path_c/src"
+        part "header and crate agree" "$tests/exports.py" "$include/typed_path.h" "$here/../crates/typed_path_c/src"
     else
         left_out "whether header and crate agree" python3
     fi
@@ -71,13 +82,13 @@ agree() {
 if [[ "$*" == declared ]]; then
     is_there cc || { echo "test.sh: there is no cc" && failed=1 && end; }
     reads() {
-        "$1" -x "$2" "-std=$3" "${strict[@]}" "-I$here/c/include" -fsyntax-only "$tests/header.c"
+        "$1" -x "$2" "-std=$3" "${strict[@]}" "-I$include" -c "$tests/header.c" -o "$room/none"
     }
     compiles() {
-        cc -std=c11 -D_GNU_SOURCE "${strict[@]}" "-I$here/c/include" -fsyntax-only "$@"
+        (cd "$room" && cc -std=c11 -D_GNU_SOURCE "${strict[@]}" "-I$include" -c "$@")
     }
     each_language reads
-    agree "$here/c/include/typed_path.h"
+    agree
     part "the tests and an example of C are read" compiles "$tests"/{boundary,rows}.c "$here/c/examples/check_names.c"
     end
 fi
@@ -92,10 +103,10 @@ else
     part "the crate is proved and laid out" "$here/c/build.sh" "$dir"
     [[ $failed -eq 0 ]] || end
 fi
-archive=$dir/lib/libtyped_path.a shared=$(echo "$dir"/lib/libtyped_path.so.*)
+include=$dir/include archive=$dir/lib/libtyped_path.a shared=$(echo "$dir"/lib/libtyped_path.so.*)
 export LD_LIBRARY_PATH=$dir/lib TYPED_PATH_LIBRARY=$shared PYTHONPATH=$here/python/src
 export PKG_CONFIG_PATH=$dir/lib/pkgconfig
-strict+=("-I$dir/include")
+strict+=("-I$include")
 in_language() {
     "$1" -x "$2" "-std=$3" "${strict[@]}" "$tests/header.c" -x none "$archive" -o "$room/header" && "$room/header"
 }
@@ -103,7 +114,7 @@ each_language in_language
 
 # Names: what the header declares, the crate exports and the library shows.
 declared() {
-    sed -n 's/^uint32_t \(typed_path_[a-z_]*\)(.*/\1/p' "$dir/include/typed_path.h" | sort
+    sed -n 's/^\(TYPED_PATH_MUST_USE \)\?uint32_t \(typed_path_[a-z_]*\)(.*/\2/p' "$include/typed_path.h" | sort
 }
 shows_declared() {
     diff <(declared) <(nm -D --defined-only "$shared" | sed 's/.* //' | sort)
@@ -114,7 +125,7 @@ needs_four() {
 }
 part "the shared object shows what the header declares" shows_declared
 part "the archive needs free, malloc, memmove, realloc" needs_four
-agree "$dir/include/typed_path.h"
+agree
 if is_there pkg-config; then
     by_pkg_config() {
         # shellcheck disable=SC2046
@@ -133,7 +144,7 @@ looked() {
     "$room/$1" "$here/rows.tsv" "$2"
 }
 part "compiled" compiled "$room/plain" -O1
-for each in rows random batch long threads; do
+for each in rows random batch hashes long threads; do
     part "boundary, $each" looked plain $each
 done
 wrap=-Wl,--wrap=malloc,--wrap=realloc,--wrap=free
@@ -142,7 +153,7 @@ part "boundary, each request for memory refused" looked refusing refused
 sanitize=(-fsanitize=address,undefined -fno-sanitize-recover=all)
 if echo 'int main(void) { return 0; }' | cc -x c "${sanitize[@]}" - -o "$room/none" 2> "$room/said" && "$room/none"; then
     part "compiled, sanitized" compiled "$room/sanitized" -O1 "${sanitize[@]}"
-    for each in rows random batch long threads; do
+    for each in rows random batch hashes long threads; do
         part "boundary, sanitized, $each" looked sanitized $each
     done
 else
@@ -193,7 +204,7 @@ is_installed() {
 import typed_path
 assert typed_path.__file__.startswith("'"$room"'/installed/")
 assert str(typed_path.UnixPath("a") / "b") == "a/b"
-')
+') && grep -qx 'Build: 1_x86_64_v2' "$room"/installed/typed_path-*.dist-info/WHEEL
 }
 if is_there python3; then
     for each in rows documented beside archives; do

@@ -1,7 +1,8 @@
 """Builds the wheel: the package, with the shared object in it that bindings/c/build.sh laid out.
 
 TYPED_PATH_LIBRARY names that file, as DIR/lib/libtyped_path.so.0. It is one for Linux on x86-64, so the wheel is
-for no other machine. Nothing but Python is needed.
+for no other machine. No tag says which processors it is for, so the build number does: those of x86-64-v2. Nothing
+but Python is needed.
 """
 
 import base64
@@ -11,7 +12,7 @@ import pathlib
 import zipfile
 
 HERE = pathlib.Path(__file__).parent
-NAME, VERSION, TAG = "typed_path", "0.1.0", "py3-none-linux_x86_64"
+NAME, VERSION, BUILD, TAG = "typed_path", "0.1.0", "1_x86_64_v2", "py3-none-linux_x86_64"
 METADATA = f"""Metadata-Version: 2.1
 Name: typed-path
 Version: {VERSION}
@@ -21,7 +22,7 @@ License: MIT OR Apache-2.0
 Description-Content-Type: text/markdown
 
 """
-WHEEL = f"Wheel-Version: 1.0\nGenerator: wheel_of\nRoot-Is-Purelib: false\nTag: {TAG}\n"
+WHEEL = f"Wheel-Version: 1.0\nGenerator: wheel_of\nRoot-Is-Purelib: false\nTag: {TAG}\nBuild: {BUILD}\n"
 
 
 def files():
@@ -40,7 +41,7 @@ def files():
 
 
 def build_wheel(wheel_directory, config_settings=None, metadata_directory=None):
-    name, record = f"{NAME}-{VERSION}-{TAG}.whl", f"{NAME}-{VERSION}.dist-info/RECORD"
+    name, record = f"{NAME}-{VERSION}-{BUILD}-{TAG}.whl", f"{NAME}-{VERSION}.dist-info/RECORD"
     lines = []
     with zipfile.ZipFile(pathlib.Path(wheel_directory) / name, "w", zipfile.ZIP_DEFLATED) as wheel:
         for path, content in files():

@@ -2,8 +2,8 @@
 """Extracts the files and folders of a tar archive into a new folder, or refuses the archive and writes nothing.
 
 A member is refused if its name leads out of the folder, is absolute or not allowed, and if it is neither a file
-nor a folder: no link is made, so no name leads through one. With --windows names are refused that can't be
-written there, too.
+nor a folder: no link is made, so no name leads through one. With --windows a name is refused, too, that
+`WindowsPath.is_valid` refuses; versions of Windows take others for devices, as `nul ` and `COM¹`.
 
 extract_tar.py [--windows] ARCHIVE FOLDER: the status is 0, 1 if the archive is refused, 2 if something failed.
 """
@@ -42,7 +42,7 @@ def extract(archive, folder):
 
 def main(words):
     parser = argparse.ArgumentParser(description=__doc__.partition("\n")[0])
-    parser.add_argument("--windows", action="store_true", help="refuse what Windows can't write, too")
+    parser.add_argument("--windows", action="store_true", help="refuse names that WindowsPath refuses, too")
     parser.add_argument("archive")
     parser.add_argument("folder")
     options = parser.parse_args(words)

@@ -1,13 +1,17 @@
 """The rows of known answers, and what no row says."""
 
 import copy
+import itertools
 import os
 import pathlib
 import pickle
 import re
+import shutil
 import subprocess
 import sys
+import tempfile
 import threading
+import timeit
 import unittest
 
 import typed_path
@@ -22,6 +26,11 @@ REFUSALS = {
 }
 # What a call returns where there is no such part.
 NONE = {"file_name": "", "file_stem": "", "extension": None}
+# What the library takes for another name or extension, and Python refuses.
+NO_NAMES = [
+    ("with_file_name", b"a/b", b""), ("with_file_name", b"a/b", b"/x"), ("with_file_name", b"a/b", b".."),
+    ("with_extension", b"/srv/a.txt", b"x/../../../etc/passwd"), ("with_extension", b"...", b""),
+]
 
 
 def text_of(field):
@@ -48,6 +57,8 @@ def called(call, path, other):
         return str(getattr(path, call)()).lower().encode()
     if call in ("starts_with", "ends_with", "is_within"):
         return str(getattr(path, call)(other)).lower().encode()
+    if call == "relative_to":
+        return bytes(path.relative_to(other, walk_up=True))
     return bytes(getattr(path, call)(other))
 
 
@@ -63,16 +74,70 @@ class Rows(unittest.TestCase):
                     self.assertIs(type(derive(raw)), CLASSES[answer[1:]])
                     continue
                 path = CLASSES[dialect](raw)
-                if answer in REFUSALS:
+                if (call, raw, text_of(other)) in NO_NAMES:
+                    self.assertRaises(ValueError, called, call, path, text_of(other))
+                elif answer in REFUSALS:
                     self.assertRaises(REFUSALS[answer], called, call, path, text_of(other))
                 elif answer.startswith("="):
                     self.assertEqual(called(call, path, text_of(other)), text_of(answer[1:]))
                 elif call in ("strip_prefix", "relative_to"):
-                    self.assertRaises(ValueError, getattr(path, call), text_of(other))
+                    self.assertRaises(ValueError, called, call, path, text_of(other))
                 elif call == "parent":
                     self.assertIs(path.parent, path)
                 else:
                     self.assertEqual(called(call, path, text_of(other)), NONE[call])
+
+    def test_relative_paths_lie_below(self):
+        """Without `walk_up` a row is answered exactly where its path lies within the base."""
+        rows = [it.split("\t") for it in ROWS.read_text().splitlines() if it.startswith("relative_to\t")]
+        taken = 0
+        for _, dialect, path, base, answer in rows:
+            path, base = CLASSES[dialect](text_of(path)), text_of(base)
+            with self.subTest(path=path, base=base):
+                if answer.startswith("=") and path.is_within(base):
+                    self.assertEqual(bytes(path.relative_to(base)), text_of(answer[1:]))
+                    self.assertNotIn("..", path.relative_to(base).parts)
+                    taken += 1
+                else:
+                    self.assertRaises(typed_path.NoRelativePath, path.relative_to, base)
+                self.assertEqual(path.is_relative_to(base), answer.startswith("=") and path.is_within(base))
+        self.assertGreater(taken, 30)
+
+
+def key_of(seed):
+    """The key that PYTHONHASHSEED makes, as two numbers."""
+    if seed == 0:
+        return 0, 0
+    drawn = []
+    for _ in range(16):
+        seed = (seed * 214013 + 2531011) % 2**32
+        drawn.append(seed >> 16 & 255)
+    return int.from_bytes(drawn[:8], "little"), int.from_bytes(drawn[8:], "little")
+
+
+def told(name):
+    """How many bytes a name has, and these."""
+    return (bytes([10 + len(name)]) if len(name) < 245 else b"\xff" + len(name).to_bytes(8, "little")) + name
+
+
+def fed(path):
+    """What a path feeds its hash, all behind each other: each component, and then a byte that none begins with."""
+    words = b""
+    for kind, text in path.components:
+        text = os.fsencode(text)
+        if kind in ("root", "current", "parent"):
+            words += bytes([7 + ("root", "current", "parent").index(kind)])
+        elif kind == "normal":
+            words += told(text)
+        else:
+            kinds = ("Verbatim", "VerbatimUNC", "VerbatimDisk", "DeviceNS", "UNC", "Disk")
+            words += bytes([1 + kinds.index(kind)])
+            names = [it for it in re.split(rb"[\\/]", text) if it not in (b"", b"?", b".")]
+            if kind.endswith("Disk"):
+                words += names[-1][:1].upper()
+            else:
+                words += b"".join(map(told, names[1:] if kind == "VerbatimUNC" else names))
+    return words + b"\0"
 
 
 class Paths(unittest.TestCase):
@@ -84,6 +149,22 @@ class Paths(unittest.TestCase):
         self.assertRaises(UnicodeEncodeError, UnixPath, "\ud800")
         self.assertRaises(TypeError, UnixPath, 1)
         self.assertEqual(eval(repr(WindowsPath("C:\\é'"))), WindowsPath("C:\\é'"))
+
+    def test_names_and_extensions(self):
+        for kind, names in (
+            (UnixPath, ["", ".", "..", "/", "a/", "/a", "a/b", "../a", "./a"]),
+            (WindowsPath, ["", ".", "..", "/", "\\", "a/", "a\\b", "\\a", "C:", "C:a", "\\\\s\\h", "\\\\?\\a", "..\\a"]),
+        ):
+            for name in names:
+                for path in ("", "a", "a/b", "/srv/a.txt"):
+                    self.assertRaises(ValueError, kind(path).with_file_name, name)
+                    if "/" in name or "\\" in name:
+                        self.assertRaises(ValueError, kind(path).with_extension, name)
+        for name in ("a", "...", ".a", "a.", " ", b"\xff", "日", "\0"):
+            self.assertEqual(UnixPath("x/y").with_file_name(name), UnixPath("x").join(name))
+        for path in ("a/...", "a/..x"):
+            self.assertRaises(ValueError, UnixPath(path).with_extension, "")
+            self.assertEqual(UnixPath(path).with_extension("y").parent, UnixPath("a"))
 
     def test_dialects_are_apart(self):
         self.assertNotEqual(UnixPath("a"), WindowsPath("a"))
@@ -101,16 +182,37 @@ class Paths(unittest.TestCase):
 
     @unittest.skipUnless(sys.hash_info.algorithm == "siphash13", "this Python hashes otherwise")
     def test_hash_is_siphash(self):
-        # With this seed Python hashes bytes by SipHash 1-3 with keys of zero, too. A path without a prefix feeds
-        # its names, and then their length.
-        paths = ["", "a", "a//b/.", "/usr/share/doc", "日/本", "x" * 100]
-        fed = [b"".join(it.text.encode() for it in UnixPath(path).components if it.kind != "root") for path in paths]
+        """Python hashes bytes by SipHash 1-3 too, under a key that its seed makes: of 0 the zeros."""
+        unix = ["", "/", "a", "a//b/.", "./a/..", "/usr/share/doc", "日/本", "x" * 244, "x" * 245, "x" * 1000]
+        windows = [*unix, "C:", "c:\\a", "\\\\?\\C:\\a", "\\\\s\\h\\a", "\\\\?\\UNC\\s\\h", "\\\\.\\COM1", "\\\\?\\a"]
+        paths = [(_library.UNIX, it) for it in unix] + [(_library.WINDOWS, it) for it in windows]
+        words = [fed(CLASSES[("unix", "windows")[dialect]](path)).hex() for dialect, path in paths]
         program = "import sys; print(*(hash(bytes.fromhex(it)) % 2**64 for it in sys.argv[1:]))"
-        words = [(it + len(it).to_bytes(8, "little")).hex() for it in fed]
-        env = {**os.environ, "PYTHONHASHSEED": "0"}
-        said = subprocess.check_output([sys.executable, "-c", program, *words], env=env)
-        for dialect in (_library.UNIX, _library.WINDOWS):
-            self.assertEqual([_library.hashed(dialect, path.encode()) for path in paths], list(map(int, said.split())))
+        for seed in (0, 1, 20261129):
+            env = {**os.environ, "PYTHONHASHSEED": str(seed)}
+            said = subprocess.check_output([sys.executable, "-c", program, *words], env=env)
+            got = [_library.hashed(dialect, path.encode(), key_of(seed)) for dialect, path in paths]
+            self.assertEqual(got, list(map(int, said.split())))
+
+    def test_hash_of_paths_that_are_chosen(self):
+        """One word cut at any of its letters: a dictionary of such paths is as fast as one of any others."""
+        letters = "abcdefghijklm"
+        chosen = ["".join(map("".join, zip(letters, cuts))) for cuts in itertools.product(("/", ""), repeat=12)]
+        chosen = [f"{it}{letters[-1]}" for it in chosen]
+        honest = [f"{at:04}/{it.replace('/', 'x')}" for at, it in enumerate(chosen)]
+        for kind in CLASSES.values():
+            kinds = [[kind(it) for it in texts] for texts in (chosen, honest)]
+            for paths in kinds:
+                self.assertEqual(len(set(map(hash, paths))), 4096)
+                self.assertEqual(len(dict.fromkeys(paths)), 4096)
+            timers = [timeit.Timer(lambda paths=paths: dict.fromkeys(paths)) for paths in kinds]
+            least = [min(times) for times in zip(*([timer.timeit(1) for timer in timers] for _ in range(20)))]
+            self.assertLess(least[0], 2 * least[1])
+
+    def test_hash_differs_by_process(self):
+        program = "from typed_path import UnixPath, WindowsPath\nprint(hash(UnixPath('a')), hash(WindowsPath('a')))"
+        said = [subprocess.check_output([sys.executable, "-c", program]).split() for _ in range(2)]
+        self.assertEqual(len({*said[0], *said[1]}), 4)
 
     def test_copies(self):
         path = UnixPath(b"a/\xff")
@@ -154,6 +256,24 @@ class Batches(unittest.TestCase):
         self.assertRaises(TypeError, UnixPath("a").join_checked_batch, ["a", b"b"])
         self.assertRaises(TypeError, UnixPath("a").join_checked_batch, [UnixPath("a")])
 
+    def test_one_name_is_no_list(self):
+        for name in ("ab", b"ab", "", b"", bytearray(b"ab"), memoryview(b"ab"), UnixPath("a")):
+            self.assertRaises(TypeError, UnixPath("a").join_checked_batch, name)
+            self.assertRaises(TypeError, extract_names, UnixPath("a"), name)
+
+    def test_name_without_bytes(self):
+        """A surrogate that stands for no byte: that name is refused, and no other."""
+        names, base = ["a", "x\ud800", "\udcff", "..", "日"], UnixPath("/srv")
+        refusals = {1: typed_path.InvalidFilename, 3: typed_path.PathTraversalAttack}
+        self.assertEqual(base.join_checked_batch(names), (["/srv/a", None, "/srv/\udcff", None, "/srv/日"], refusals))
+        targets, refused = extract_names(base, names)
+        self.assertEqual([(name, bytes(it)) for name, it in targets], [
+            ("a", b"/srv/a"), ("\udcff", b"/srv/\xff"), ("日", b"/srv/\xe6\x97\xa5"),
+        ])
+        self.assertEqual(refused, [(names[at], why) for at, why in refusals.items()])
+        self.assertRaises(typed_path.InvalidFilename, base.join_checked, names[1])
+        self.assertRaises(UnicodeEncodeError, base.join, names[1])
+
     def test_extract_names(self):
         self.assertRaises(typed_path.BaseLosesPrefix, extract_names, WindowsPath("\\\\s"), ["a"])
         targets, refused = extract_names(UnixPath("out"), iter([b"a", b"../b"]))
@@ -175,6 +295,67 @@ class Batches(unittest.TestCase):
         for thread in threads:
             thread.join()
         self.assertEqual(wrong, [])
+
+
+# What holds whatever the locale is; the folder is empty at first.
+IN_A_LOCALE = r"""
+import os, sys
+from typed_path import InvalidFilename, PathTraversalAttack, UnixPath, WindowsPath, derive, extract_names
+wanted, letter = sys.argv[1:]
+assert sys.getfilesystemencoding() == wanted, sys.getfilesystemencoding()
+letter = bytes.fromhex(letter).decode("utf-8")
+raw = os.fsencode(letter)
+for text in (raw, raw + b"/x\xff", b"\xc3\xa9", b"caf\xe9", bytes(range(1, 128))):
+    path = UnixPath(text)
+    assert str(path) == os.fspath(path) == os.fsdecode(text)
+    assert bytes(UnixPath(str(path))) == text and eval(repr(path)) == path
+    assert os.fsencode(WindowsPath(text)) == text and eval(repr(WindowsPath(text))) == WindowsPath(text)
+assert bytes(UnixPath(letter)) == raw and UnixPath(letter).name == letter
+assert UnixPath("a").join_checked_batch([letter]).targets == ["a/" + letter]
+assert extract_names(UnixPath("a"), [letter]).targets[0] == (letter, UnixPath(b"a/" + raw))
+assert bytes(derive(letter)) == raw
+open(UnixPath(letter), "w").close()
+open(UnixPath(b"\xc3\xa9"), "w").close()
+assert set(os.listdir(b".")) == {raw, b"\xc3\xa9"}, os.listdir(b".")
+
+# A letter is no separator, whatever its bytes are.
+name = f"a{letter}b"
+assert str(WindowsPath(name)) == name and WindowsPath(name).parts == (name,) and WindowsPath(name) != WindowsPath("a")
+assert derive("\\" + name) == WindowsPath("\\" + name)
+for names in ([name + "\\..\\.."], [name + "\\..\\..", "x"]):
+    assert WindowsPath("C:\\out").join_checked_batch(names).refusals == {0: PathTraversalAttack}
+assert UnixPath("out").join_checked_batch(["\ud800", "b"]) == ([None, "out/b"], {0: InvalidFilename})
+"""
+
+
+class Locales(unittest.TestCase):
+    """Text stands for the bytes that names of files have in the locale."""
+
+    def in_a_locale(self, encoding, letter, **env):
+        with tempfile.TemporaryDirectory() as room:
+            env = {**os.environ, "PYTHONUTF8": "0", "PYTHONCOERCECLOCALE": "0", **env}
+            words = [sys.executable, "-c", IN_A_LOCALE, encoding, letter.encode().hex()]
+            done = subprocess.run(words, cwd=room, env=env, stderr=subprocess.PIPE)
+        self.assertEqual((done.returncode, done.stderr.decode(errors="replace")), (0, ""))
+
+    def made(self, charmap, name, encoding, letter):
+        """In a locale that is made here."""
+        with tempfile.TemporaryDirectory() as room:
+            file = f"{name}.{charmap}"
+            words = ["localedef", "-i", name, "-f", charmap, f"{room}/{file}"]
+            if not shutil.which("localedef") or subprocess.run(words, capture_output=True).returncode > 1:
+                self.skipTest(f"there is no localedef, or no {charmap}")
+            self.in_a_locale(encoding, letter, LOCPATH=room, LC_ALL=file)
+
+    def test_utf_8(self):
+        self.in_a_locale("utf-8", "é", LC_ALL="C.UTF-8")
+
+    def test_iso_8859_1(self):
+        self.made("ISO-8859-1", "en_US", "iso8859-1", "é")
+
+    def test_big5(self):
+        self.assertTrue("功".encode("big5").endswith(b"\\"))
+        self.made("BIG5", "zh_TW", "big5", "功")
 
 
 if __name__ == "__main__":

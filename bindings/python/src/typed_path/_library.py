@@ -7,8 +7,9 @@ import itertools
 import os
 import pathlib
 from ctypes import POINTER, byref, c_bool, c_char, c_char_p, c_int32, c_size_t, c_uint32, c_uint64
-from typing import Callable, NamedTuple, Optional, Sequence
+from typing import Callable, NamedTuple, Optional, Sequence, TypeVar
 
+Text = TypeVar("Text", str, bytes)
 NAME = "libtyped_path.so.0"
 VERSION = 100
 UNIX, WINDOWS = 0, 1
@@ -28,7 +29,7 @@ class CheckedPathError(ValueError):
 
 
 class InvalidFilename(CheckedPathError):
-    """A name is not allowed: it has a disallowed byte or, on Windows, stands for a device."""
+    """A name is not allowed: it has a disallowed byte, on Windows stands for a device, or is a `str` without bytes."""
 
     message = "path contains invalid filename"
 
@@ -52,15 +53,15 @@ class UnexpectedRoot(CheckedPathError):
 
 
 class NoRelativePath(ValueError):
-    """No relative path leads from the base to the path."""
+    """No relative path leads from the base to the path, or only one that begins with `..`."""
 
 
 class Ambiguous(ValueError):
     """A path is absolute neither alone nor behind the directory."""
 
 
-DONE, OUT_OF_MEMORY, NONE, AMBIGUOUS = 0, 5, 8, 9
-REFUSALS = {1: InvalidFilename, 2: PathTraversalAttack, 3: UnexpectedPrefix, 4: UnexpectedRoot}
+DONE, INVALID_FILENAME, OUT_OF_MEMORY, NONE, AMBIGUOUS = 0, 1, 5, 8, 9
+REFUSALS = {INVALID_FILENAME: InvalidFilename, 2: PathTraversalAttack, 3: UnexpectedPrefix, 4: UnexpectedRoot}
 KINDS = (
     "root", "current", "parent", "normal", "Verbatim", "VerbatimUNC", "VerbatimDisk", "DeviceNS", "UNC", "Disk",
 )
@@ -115,7 +116,7 @@ _questions = {
 }
 _components = _call("components", c_uint32, *_TEXT, POINTER(Piece), c_size_t, POINTER(c_size_t))
 _compare = _call("compare", c_uint32, *_TEXT, *_TEXT, POINTER(c_int32))
-_hash = _call("hash", c_uint32, *_TEXT, POINTER(c_uint64))
+_hash = _call("hash_keyed", c_uint32, c_uint64, c_uint64, *_TEXT, POINTER(c_uint64))
 _batch = _call(
     "join_checked_batch", c_uint32, *_TEXT, *_TEXT, POINTER(c_size_t), c_size_t, POINTER(c_char), c_size_t,
     POINTER(c_size_t), c_size_t, POINTER(c_uint32), c_size_t, POINTER(c_size_t),
@@ -182,6 +183,11 @@ def components(dialect: int, path: bytes) -> list[tuple[str, bytes]]:
     return [(KINDS[it.kind], path[it.start:it.start + it.length]) for it in pieces[:count.value]]
 
 
+def is_name(dialect: int, text: bytes) -> bool:
+    """Whether a text is read as one name, and is that."""
+    return components(dialect, text) == [("normal", text)]
+
+
 def compare(dialect: int, path: bytes, other: bytes) -> int:
     """-1, 0 or 1."""
     order = c_int32()
@@ -191,10 +197,14 @@ def compare(dialect: int, path: bytes, other: bytes) -> int:
     return order.value
 
 
-def hashed(dialect: int, path: bytes) -> int:
+# Each process draws its own, so no one can choose paths that have one hash.
+KEY = tuple(int.from_bytes(os.urandom(8), "little") for _ in range(2))
+
+
+def hashed(dialect: int, path: bytes, key: tuple[int, ...] = KEY) -> int:
     """A number of 64 bits that is one of equal paths."""
     number = c_uint64()
-    status = _hash(dialect, path, len(path), byref(number))
+    status = _hash(dialect, *key, path, len(path), byref(number))
     if status != DONE:
         raise _failed(status, path)
     return number.value
@@ -206,6 +216,15 @@ class Joined(NamedTuple):
     statuses: list[int]
     ends: list[int]
     answers: bytes
+
+    def targets(self, answers: Text) -> list[Optional[Text]]:
+        """The answers of the names, cut from all of them; None where a name was refused."""
+        places = zip(self.statuses, [0, *self.ends], self.ends)
+        return [None if status else answers[start:end] for status, start, end in places]
+
+    def refusals(self) -> dict[int, type[CheckedPathError]]:
+        """Those of the names that were refused, by their places."""
+        return {at: REFUSALS[status] for at, status in enumerate(self.statuses) if status}
 
 
 def join_checked_batch(dialect: int, base: bytes, names: Sequence[bytes]) -> Joined:
