@@ -84,6 +84,11 @@ answer() {
     ended=$?
 }
 
+# Whether it said on standard error why it stopped, and that alone; or nothing, where no reason is given.
+says() {
+    { [[ -z $1 ]] || echo "typath: $1"; } | cmp - "$room/err"
+}
+
 # Refuses the program of lines each of its requests, or each from there on, over transfers of so many
 # bytes: the status is 2, or 0 where it went on, and all replies are whole.
 sweep_requests() {
@@ -91,8 +96,8 @@ sweep_requests() {
     answer "$program" "TRANSFER=$transfer" "$way=$at"
     while [[ $(< "$room/count") -ge $at ]]; do
         case $ended in
-            0) cmp "$room/out" replies ;;
-            2) is_whole || echo "request $at: half a reply, or a wrong one" ;;
+            0) cmp "$room/out" replies; says '' ;;
+            2) is_whole || echo "request $at: half a reply, or a wrong one"; says 'out of memory' ;;
             *) echo "request $at: status $ended" ;;
         esac >> "$room/wrong" 2>&1
         at=$((at + 1))
@@ -113,6 +118,7 @@ sweep_reads() {
     while [[ $ended -ne 0 ]]; do
         replies_to $(((at - 1) * transfer)) | cmp - "$room/out" >> "$room/wrong" 2>&1
         [[ $ended -eq 1 ]] || echo "read $at: status $ended" >> "$room/wrong"
+        says 'standard input: a read failed' >> "$room/wrong" 2>&1
         at=$((at + 1))
         answer "$program" "TRANSFER=$transfer" "FAIL_READ=$at"
     done
@@ -127,6 +133,7 @@ sweep_writes() {
     while [[ $ended -ne 0 ]]; do
         is_beginning || echo "write $at: no beginning of the replies" >> "$room/wrong"
         [[ $ended -eq 1 ]] || echo "write $at: status $ended" >> "$room/wrong"
+        says 'standard output: a write failed' >> "$room/wrong" 2>&1
         at=$((at + 1))
         answer "$program" "TRANSFER=$transfer" "FAIL_WRITE=$at"
     done
@@ -146,7 +153,8 @@ sweep_transfers() {
 }
 
 # Has the program of lines print a text, and refuses it each of its requests, or each from there on: it
-# prints the text, or nothing and its status is 2. By any other word that is what it does, too.
+# prints the text, or nothing and its status is 2. By any other word that is what it does, too. Where the
+# text is not written its status is 1.
 sweep_words() {
     local program=$1 word way at runs=0
     for word in help version else; do
@@ -157,13 +165,20 @@ sweep_words() {
                 env LD_PRELOAD="$all/refuse.so" REFUSE_COUNT="$room/count" "$way=$at" \
                     "$program" "--$word" < lines > "$room/out" 2> "$room/err"
                 case $?$word in
-                    0help | 0version) cmp "$room/out" "$word" ;;
-                    2*) [[ ! -s $room/out ]] || echo "--$word, request $at: it printed something" ;;
+                    0help | 0version) cmp "$room/out" "$word"; says '' ;;
+                    2else) [[ ! -s $room/out && -s $room/err ]] || echo "--else, request $at: another text" ;;
+                    2*) [[ ! -s $room/out ]] || echo "--$word, request $at: it printed something"; says 'out of memory' ;;
                     *) echo "--$word, request $at: another status" ;;
                 esac >> "$room/wrong" 2>&1
             done
         done
         [[ $word == else ]] || cmp "$room/out" "$word" >> "$room/wrong" 2>&1
+    done
+    for word in -h --help --version; do
+        runs=$((runs + 1))
+        env LD_PRELOAD="$all/fault.so" FAIL_WRITE=1 "$program" "$word" < lines > "$room/out" 2> "$room/err"
+        [[ $? -eq 1 && ! -s $room/out ]] || echo "$word, a write that fails: another status" >> "$room/wrong"
+        says 'standard output: a write failed' >> "$room/wrong" 2>&1
     done
     judge "${program##*/} --help, --version, --else" "$runs"
 }

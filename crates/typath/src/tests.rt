@@ -6,12 +6,16 @@ use std::test::Fail;
 #[test]
 fn words(rt: HostRuntime) -> Result<(), Fail> {
     let alloc = rt.alloc();
-    let rows: [(&[&str], Asked); 8] = [
+    let rows: [(&[&str], Asked); 12] = [
         (&[], Asked::Answers),
         (&["typath"], Asked::Answers),
         (&["--help"], Asked::Answers),
         (&["typath", "--help"], Asked::Help),
+        (&["typath", "-h"], Asked::Help),
         (&["typath", "--version"], Asked::Version),
+        (&["typath", "--"], Asked::Answers),
+        (&["typath", "-"], Asked::Nothing),
+        (&["typath", "--", "--help"], Asked::Nothing),
         (&["typath", "help"], Asked::Nothing),
         (&["typath", ""], Asked::Nothing),
         (&["typath", "--help", "--version"], Asked::Nothing),
@@ -27,8 +31,8 @@ fn words(rt: HostRuntime) -> Result<(), Fail> {
 }
 
 #[test]
-fn help_names_all_commands(rt: HostRuntime) {
-    for command in [
+fn help_names_all_commands_and_refusals(rt: HostRuntime) {
+    for name in [
         "components",
         "normalize",
         "join",
@@ -36,7 +40,12 @@ fn help_names_all_commands(rt: HostRuntime) {
         "convert",
         "convert_checked",
         "derive",
+        "BadLine",
+        "UnexpectedPrefix",
+        "UnexpectedRoot",
+        "PathTraversalAttack",
+        "InvalidFilename",
     ] {
-        assert!(rt; HELP.contains(command));
+        assert!(rt; HELP.contains(name));
     }
 }

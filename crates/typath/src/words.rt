@@ -1,8 +1,10 @@
-//! What the words behind the program's name ask for.
+//! What the words behind the program's name ask for, and what the program says.
 
 ghost use Rattle.std.specs.Prelude.{◌≡◌, map};
 ghost use Rattle.std.specs.String.{string_bytes};
 ghost use Rattle.typath.specs.Asked.{asked_by, asked_of};
+
+use typed_path::LineError;
 
 /// What `--help` prints.
 pub const HELP: &str = "\
@@ -17,14 +19,33 @@ The fields of a line are parted by one TAB, and a DIALECT is unix or windows.
   convert_checked  DIALECT DIALECT PATH  the same, refused where a name can't be written there
   derive           PATH                  which dialect a path looks like
 
-A reply is ok and its fields, or err and the reason.
+A reply is ok and its fields, or err and the reason:
+
+  BadLine              the line is none of these
+  UnexpectedPrefix     the path has a prefix
+  UnexpectedRoot       the path has a root
+  PathTraversalAttack  a .. of the path leads out
+  InvalidFilename      a name of the path is not allowed, or stands for a device
+
+The status is 0 at the end of the input, 1 where a read or a write failed, and 2 where memory was
+refused or the program was called with other words than --help or -h, --version and --.
 ";
 
 /// What `--version` prints.
 pub const VERSION: &str = "typath, a program over typed_path, which ports typed-path 0.13.0\n";
 
 /// What is printed where the words ask for nothing that there is.
-pub const USAGE: &str = "usage: typath [--help | --version], with lines on standard input\n";
+pub const USAGE: &str =
+    "usage: typath [-h | --help | --version | --], with lines on standard input\n";
+
+/// Why the program stopped, as it says behind its name.
+pub fn reason(stopped: LineError) -> &'static str {
+    match stopped {
+        LineError::Read => "standard input: a read failed",
+        LineError::Write => "standard output: a write failed",
+        LineError::OutOfMemory => "out of memory",
+    }
+}
 
 /// What the program is asked for.
 #[derive(Clone, Copy, Debug, PartialEq, Eq)]
@@ -43,16 +64,19 @@ pub enum Asked {
 fn by_word(word: &str) -> Asked
     ensures { result ≡ asked_by word.now }
 {
-    if word == "--help" {
+    if word == "--help" || word == "-h" {
         Asked::Help
     } else if word == "--version" {
         Asked::Version
+    } else if word == "--" {
+        Asked::Answers
     } else {
         Asked::Nothing
     }
 }
 
-/// What all words ask for, of which the first is the program's name: with no other one, replies.
+/// What all words ask for, of which the first is the program's name: with no other one, or with the end
+/// of all words alone, replies.
 pub fn asked_for(words: &[String]) -> Asked
     ensures { result ≡ asked_of (map string_bytes words.now) }
 {

@@ -44,7 +44,6 @@ macro_rules! free {
         let listed = number_of!($lent.iter()) == count;
         let climbed = number_of!($lent.ancestors()) == above_count;
         let derived = PathType::derive(base.as_bytes()) == kind;
-        let joined = $lent.join_checked($alloc, $parent).err() == Some(ESCAPES);
         let pushed = $path.push_checked($parent) == Err(ESCAPES) && $bytes == base.as_bytes();
         let reserved = $path.reserve(usize::MAX).is_err() && $bytes == base.as_bytes();
         let exactly = $path.reserve_exact(usize::MAX).is_err() && $bytes == base.as_bytes();
@@ -65,7 +64,6 @@ macro_rules! free {
             ("iter", Ended::done(listed, base)),
             ("ancestors", Ended::done(climbed, base)),
             ("derive", Ended::done(derived, base)),
-            ("join_checked of a parent", Ended::done(joined, base)),
             ("push_checked of a parent", Ended::done(pushed, base)),
             ("reserve of too much", Ended::done(reserved, base)),
             ("reserve_exact of too much", Ended::done(exactly, base)),
@@ -90,11 +88,13 @@ macro_rules! asked {
         let within = $lent.is_within($whole);
         let shared = $lent.common_ancestor($whole) == Some($lent);
         let apart = matches!($lent.relative_to($alloc, $parent), Ok(None));
+        let escaped = $lent.join_checked($alloc, $parent).err() == Some(ESCAPES);
         [
             ("keeps_prefix", Ended::done(kept, base)),
             ("is_within", Ended::done(within, base)),
             ("common_ancestor", Ended::done(shared, base)),
             ("relative_to what is apart", Ended::done(apart, base)),
+            ("join_checked of a parent", Ended::done(escaped, base)),
         ]
     }};
 }

@@ -94,15 +94,25 @@ const NORMAL: [Row; 2] = [
     ("foo/bar//baz/./asdf/quux/..", "", "foo/bar/baz/asdf"),
 ];
 
-const CLEAN: [Row; 3] = [
+const CLEAN: [Row; 4] = [
     ("a/..", "", "."),
     ("/../a//b/.", "", "/a/b"),
     ("a/../../b/./c", "", "../b/c"),
+    (
+        "./a name that asks for room/b/.",
+        "",
+        "a name that asks for room/b",
+    ),
 ];
 
-const RELATIVE: [Row; 3] = [
+const RELATIVE: [Row; 4] = [
     ("/a/b/c", "/a/d", "../b/c"),
     ("a", "a/.", "."),
+    (
+        "a/a name that asks for room",
+        "a/b",
+        "../a name that asks for room",
+    ),
     (
         "../../a name that asks for room",
         "b",
@@ -239,10 +249,15 @@ const WINDOWS_ADDED: [Row; 3] = [
 
 const WINDOWS_KEPT: [Row; 2] = [("C:", "", "C:"), (r"\\?\C:\x", "", r"\\?\C:\x")];
 
-const WINDOWS_CLEAN: [Row; 3] = [
+const WINDOWS_CLEAN: [Row; 4] = [
     (r"a\..\C:\b", "", r".\C:\b"),
     (r"\\?\C:a", "", r"\\?\C:\a"),
     (r"C:/a\..\..//b", "", r"C:\b"),
+    (
+        r"C:\.\a name that asks for room\.",
+        "",
+        r"C:\a name that asks for room",
+    ),
 ];
 
 const WINDOWS_NORMAL: [Row; 4] = [
@@ -252,7 +267,15 @@ const WINDOWS_NORMAL: [Row; 4] = [
     ("//?/x/a/../b", "", r"//?/x\b"),
 ];
 
-const WINDOWS_RELATIVE: [Row; 2] = [("C:/a/b", r"c:\a\d", r"..\b"), (r"a\C:", "a", r".\C:")];
+const WINDOWS_RELATIVE: [Row; 3] = [
+    ("C:/a/b", r"c:\a\d", r"..\b"),
+    (r"a\C:", "a", r".\C:"),
+    (
+        r"C:\a\a name that asks for room",
+        r"C:\a\b",
+        r"..\a name that asks for room",
+    ),
+];
 
 const WINDOWS_ABSOLUTE: [Row; 2] = [
     (r"C:\a\..\b", "/home/u", r"C:\b"),

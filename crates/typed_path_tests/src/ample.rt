@@ -129,6 +129,119 @@ fn long_normal_texts(rt: HostRuntime) -> Result<(), Fail> {
     Ok(())
 }
 
+/// What a text begins with, what it has so many times behind it, and its end.
+type Text = (&'static [u8], &'static [u8], usize, &'static [u8]);
+
+/// Such a text.
+fn written(alloc: Global, (begin, text, times, end): Text) -> Result<Vec<u8>, AllocError> {
+    repeated(alloc, begin, text, times, end)
+}
+
+/// Whether a long path is made clean as a row says, in room for two bytes more than it has.
+fn cleans_long<T: Encoding>(alloc: Global, path: Text, wanted: Text) -> Result<bool, AllocError> {
+    let (path, wanted) = (written(alloc, path)?, written(alloc, wanted)?);
+    let clean = Path::<T>::new(path.as_slice()).clean(alloc)?;
+    Ok(clean.capacity() <= path.len() + 2 && clean.as_path().as_bytes() == wanted.as_slice())
+}
+
+#[test]
+fn long_clean_texts(rt: HostRuntime) -> Result<(), Fail> {
+    let unix: [(Text, Text); 2] = [
+        (
+            (b"/..", b"//name/.", 1_000, b"/a/.."),
+            (b"", b"/name", 1_000, b""),
+        ),
+        ((b"..", b"/..", 2_000, b"/."), (b"..", b"/..", 2_000, b"")),
+    ];
+    for (path, wanted) in unix {
+        assert!(rt;
+            cleans_long::<UnixEncoding>(rt.alloc(), path, wanted)?,
+            "{:?}",
+            path.1
+        );
+    }
+    let windows: [(Text, Text); 3] = [
+        (
+            (b"C:/..", br"/name\.", 1_000, b""),
+            (b"C:", br"\name", 1_000, b""),
+        ),
+        (
+            (br"\\?\C:", br"\a/b\c\..", 1_000, b""),
+            (br"\\?\C:", br"\a/b", 1_000, b""),
+        ),
+        (
+            (br"x\..\C:", br"\name", 1_000, b""),
+            (br".\C:", br"\name", 1_000, b""),
+        ),
+    ];
+    for (path, wanted) in windows {
+        assert!(rt;
+            cleans_long::<WindowsEncoding>(rt.alloc(), path, wanted)?,
+            "{:?}",
+            path.1
+        );
+    }
+    Ok(())
+}
+
+/// Whether a path leads from a base to another as a row says, in room for two bytes more than it or the other has.
+fn leads_long<T: Encoding>(
+    alloc: Global,
+    (base, path, wanted): (Text, Text, Text),
+) -> Result<bool, AllocError> {
+    let (base, path) = (written(alloc, base)?, written(alloc, path)?);
+    let wanted = written(alloc, wanted)?;
+    let found = Path::<T>::new(path.as_slice()).relative_to(alloc, Path::new(base.as_slice()))?;
+    let room = path.len().max(wanted.len()) + 2;
+    Ok(found.is_some_and(|found| {
+        found.capacity() <= room && found.as_path().as_bytes() == wanted.as_slice()
+    }))
+}
+
+#[test]
+fn long_relative_paths(rt: HostRuntime) -> Result<(), Fail> {
+    let unix: [(Text, Text, Text); 3] = [
+        (
+            (b"a/b", b"", 0, b""),
+            (b"a", b"/name", 2_000, b""),
+            (b"..", b"/name", 2_000, b""),
+        ),
+        (
+            (b"a", b"/name", 2_000, b""),
+            (b"b", b"", 0, b""),
+            (b"..", b"/..", 2_000, b"/b"),
+        ),
+        (
+            (b"/b/..", b"", 0, b""),
+            (b"/.", b"/name", 2_000, b""),
+            (b"", b"name/", 1_999, b"name"),
+        ),
+    ];
+    for row in unix {
+        assert!(rt; leads_long::<UnixEncoding>(rt.alloc(), row)?, "{:?}", row.2);
+    }
+    let windows: [(Text, Text, Text); 2] = [
+        (
+            (br"C:\a\b", b"", 0, b""),
+            (br"c:\a\x", b"/name", 2_000, b""),
+            (br"..\x", br"\name", 2_000, b""),
+        ),
+        (
+            (br"\\?\C:\", b"", 0, b""),
+            (br"\\?\C:\y\..", br"\name", 2_000, b""),
+            (b"", br"name\", 1_999, b"name"),
+        ),
+    ];
+    for row in windows {
+        assert!(rt;
+            leads_long::<WindowsEncoding>(rt.alloc(), row)?,
+            "{:?}",
+            row.2
+        );
+    }
+    Ok(())
+}
+
 #[test]
 fn long_conversions(rt: HostRuntime) -> Result<(), Fail> {
     let alloc = rt.alloc();

@@ -25,7 +25,7 @@ fn megabytes(rt: HostRuntime) -> Result<(), Fail> {
 fn is_grown<T: Encoding>(alloc: Global, name: &[u8]) -> Result<bool, AllocError> {
     let (empty, lent) = (Path::<T>::new(b""), Path::<T>::new(name));
     Ok(
-        grows!(alloc, PathBuf::<T>::new(alloc), empty, lent, lent, name, path => path.as_path().as_bytes()),
+        grows!(alloc, PathBuf::<T>::new(alloc), empty, lent, lent, empty, name, path => path.as_path().as_bytes()),
     )
 }
 

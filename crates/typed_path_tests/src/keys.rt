@@ -1,12 +1,13 @@
 //! Paths as keys of maps, what they feed to a hasher, and their order: rows of known answers.
 
 use crate::support::{Recorder, recorded};
+use std::alloc::{AllocError, Global};
 use std::cmp::Ordering;
 use std::collections::{BTreeMap, BTreeSet, HashMap, HashSet};
-use std::hash::Hasher;
+use std::hash::{DefaultHasher, Hash, Hasher};
 use std::test::Fail;
 use typed_path::{
-    Encoding, Path, PathBuf, Piece, PieceKind, UnixEncoding, UnixPath, WindowsComponents,
+    Encoding, Key, Path, PathBuf, Piece, PieceKind, UnixEncoding, UnixPath, WindowsComponents,
     WindowsEncoding, WindowsPath, WindowsPathBuf,
 };
 
@@ -166,5 +167,56 @@ fn lent_keys_of_sets(rt: HostRuntime) -> Result<(), Fail> {
     assert!(rt; sorted.insert(WindowsPath::new(b"C:/a"))?);
     assert!(rt; !sorted.insert(WindowsPath::new(br"c:\a\."))?);
     assert!(rt; sorted.contains(&WindowsPath::new(br"C:\a")));
+    Ok(())
+}
+
+/// What std's hasher makes of a value.
+fn hashed<K: Hash>(key: &K) -> u64 {
+    let mut state = DefaultHasher::new();
+    key.hash(&mut state);
+    state.finish()
+}
+
+/// Thirteen letters with separators between some of them, which the bits of a number choose.
+fn spelled(alloc: Global, mut bits: u32) -> Result<Vec<u8>, AllocError> {
+    let mut path = Vec::new(alloc);
+    for _ in 0..12 {
+        path.push(b'a')?;
+        if bits % 2 == 1 {
+            path.push(b'/')?;
+        }
+        bits /= 2;
+    }
+    path.push(b'a')?;
+    Ok(path)
+}
+
+#[test]
+fn names_that_collide(rt: HostRuntime) -> Result<(), Fail> {
+    let mut hashes = HashSet::new(rt.alloc());
+    for bits in 0..4_096 {
+        let path = spelled(rt.alloc(), bits)?;
+        let path = UnixPath::new(path.as_slice());
+        assert_eq!(rt; hashed(&path), hashed(&UnixPath::new(b"aaaaaaaaaaaaa")));
+        hashes.insert(hashed(&Key::new(path)))?;
+    }
+    assert_eq!(rt; hashes.len(), 4_096);
+    Ok(())
+}
+
+#[test]
+fn keys_by_their_paths(rt: HostRuntime) -> Result<(), Fail> {
+    let mut counts = HashMap::new(rt.alloc());
+    for path in [b"C:/a".as_slice(), br"c:\a\.", br"C:\a", br"C:\b"] {
+        let key = Key::new(WindowsPathBuf::from_bytes(rt.alloc(), path)?);
+        let count = counts.get(&key).copied().unwrap_or(0_u32);
+        counts.insert(key, count.wrapping_add(1))?;
+    }
+    assert_eq!(rt; counts.len(), 2);
+    let key = Key::new(WindowsPathBuf::from_bytes(rt.alloc(), br"c:/a")?);
+    assert_eq!(rt; counts.get(&key).copied(), Some(3));
+    assert_eq!(rt; key.path().as_path().as_bytes(), b"c:/a".as_slice());
+    assert!(rt; Key::new(WindowsPath::new(br"C:\a")) < Key::new(WindowsPath::new(br"C:\b")));
+    assert_eq!(rt; key.into_path().as_path().as_bytes(), b"c:/a".as_slice());
     Ok(())
 }

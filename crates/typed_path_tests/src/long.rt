@@ -88,10 +88,10 @@ macro_rules! each_name {
 }
 
 /// Whether each call that grows gives what it is to give of one long name: as a lent path, as what is pushed, and as
-/// what a name is given as. It is told an owned path and a lent one that are empty, too.
+/// what a name is given as. It is told an owned path and a lent one that are empty, too, and nothing as what is pushed.
 #[macro_export]
 macro_rules! grows {
-    ($alloc:expr, $owned:expr, $empty:expr, $lent:expr, $pushed:expr, $name:expr, $path:ident => $bytes:expr) => {{
+    ($alloc:expr, $owned:expr, $empty:expr, $lent:expr, $pushed:expr, $nothing:expr, $name:expr, $path:ident => $bytes:expr) => {{
         let len = $name.len();
         let twice = len.saturating_mul(2).saturating_add(1);
         let mut $path = $owned;
@@ -108,6 +108,13 @@ macro_rules! grows {
         let joined = $bytes.len() == twice && $lent.join_checked($alloc, $pushed).is_ok();
         $path = $lent.normalize($alloc)?;
         let settled = $bytes.len() == len;
+        $path = $lent.clean($alloc)?;
+        let cleaned = $bytes.len() == len;
+        let mut led = false;
+        if let Some(found) = $lent.relative_to($alloc, $nothing)? {
+            $path = found;
+            led = $bytes.len() == len;
+        }
         $path = $lent.to_path_buf($alloc)?;
         let made = $bytes.len() == len;
         let crossed = $lent.with_unix_encoding($alloc).is_ok()
@@ -115,7 +122,7 @@ macro_rules! grows {
             && $lent.with_unix_encoding_checked($alloc).is_ok()
             && $lent.with_windows_encoding_checked($alloc).is_ok();
         let owned = pushed && checked && renamed && reserved && extended && copied;
-        owned && named && joined && settled && made && crossed
+        owned && named && joined && settled && cleaned && led && made && crossed
     }};
 }
 

@@ -25,7 +25,7 @@ fn megabytes(rt: HostRuntime) -> Result<(), Fail> {
 fn is_grown<T: Utf8Encoding>(alloc: Global, name: &str) -> Result<bool, AllocError> {
     let (empty, lent) = (Utf8Path::<T>::new(""), Utf8Path::<T>::new(name));
     Ok(
-        grows!(alloc, Utf8PathBuf::<T>::new(alloc), empty, lent, lent, name, path => path.as_path().as_str()),
+        grows!(alloc, Utf8PathBuf::<T>::new(alloc), empty, lent, lent, empty, name, path => path.as_path().as_str()),
     )
 }
 

@@ -58,9 +58,9 @@ fn is_grown(alloc: Global, kind: PathType, name: &str) -> Result<bool, AllocErro
     let (empty, lent) = (TypedPath::new(b"", kind), TypedPath::new(bytes, kind));
     let (no_text, text) = (Utf8TypedPath::new("", kind), Utf8TypedPath::new(name, kind));
     let typed =
-        grows!(alloc, TypedPathBuf::new(alloc, kind), empty, lent, bytes, bytes, path => path.as_bytes());
+        grows!(alloc, TypedPathBuf::new(alloc, kind), empty, lent, bytes, b"", bytes, path => path.as_bytes());
     let of_text =
-        grows!(alloc, Utf8TypedPathBuf::new(alloc, kind), no_text, text, name, name, path => path.as_str());
+        grows!(alloc, Utf8TypedPathBuf::new(alloc, kind), no_text, text, name, "", name, path => path.as_str());
     Ok(typed && of_text && is_kept(alloc, kind, name) == Ok(true))
 }
 
