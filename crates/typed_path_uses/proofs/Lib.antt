@@ -1,11 +1,13 @@
 pub mod Crossings
 pub mod Entries
 pub mod Filed
+pub mod Found
 pub mod Moves
 pub mod Apart
 pub mod RulesLeft
 pub mod NextFits
 pub mod Names
+pub mod Held
 pub mod NoneKept
 pub mod LastRule
 pub mod Children

@@ -6,9 +6,10 @@ ghost use Rattle.typed_path.specs.changes.Push as push_spec;
 ghost use Rattle.typed_path.specs.components.{kinds, parts_of};
 ghost use Rattle.typed_path.specs.places.{is_within};
 ghost use Rattle.typed_path.specs.promises.{IsBelow};
+ghost use Rattle.typed_path.specs.queries.{is_valid};
 ghost use Rattle.typed_path.specs.views.PathViews.{path_bytes};
 ghost use Rattle.typed_path_uses.specs.Uses.{is_firm};
-ghost use Rattle.typed_path_uses.specs.declared.config.Unconfigured.TheVariants.{Directory, Outside, OutOfMemory};
+ghost use Rattle.typed_path_uses.specs.declared.config.Unconfigured.TheVariants.{Directory, Name, Outside, OutOfMemory};
 
 use std::alloc::{AllocError, Global};
 use thiserror::Error;
@@ -24,6 +25,9 @@ pub enum Unconfigured {
     /// The path does not lie within the folder.
     #[error("the path is not within the folder")]
     Outside,
+    /// A name of the path is not allowed.
+    #[error("a name of the path is not allowed")]
+    Name,
     /// Memory was refused.
     #[error("out of memory")]
     OutOfMemory,
@@ -38,7 +42,8 @@ impl From<AllocError> for Unconfigured {
 }
 
 /// Where a path of a configuration leads from a directory. It lies at the folder or below it, which is
-/// read from there too, whatever both hold.
+/// read from there too, whatever both hold. Each name of it is allowed: a NUL, at which a call of the system
+/// would end the path, is in none.
 pub fn configured<T: Encoding>(
     alloc: Global,
     directory: Path<'_, T>,
@@ -49,13 +54,19 @@ pub fn configured<T: Encoding>(
         (push_spec.push T.dialect (path_bytes directory.entry) (path_bytes folder.entry)) p.bytes) }
     ensures joined { IfOk result (λ p. p.bytes
         ≡ push_spec.push T.dialect (path_bytes directory.entry) (path_bytes path.entry)) }
+    ensures valid { IfOk result (λ _. is_valid T.dialect (kinds (parts_of T.dialect (path_bytes path.entry))) ≡ true) }
     ensures directory { is_firm T.dialect (path_bytes directory.entry) ≡ false
         → result ≡ Err Directory }
     ensures outside { is_firm T.dialect (path_bytes directory.entry) ≡ true
         → is_within T.dialect (path_bytes path.entry) (path_bytes folder.entry) ≡ false
         → result ≡ Err Outside }
+    ensures name { is_firm T.dialect (path_bytes directory.entry) ≡ true
+        → is_within T.dialect (path_bytes path.entry) (path_bytes folder.entry) ≡ true
+        → is_valid T.dialect (kinds (parts_of T.dialect (path_bytes path.entry))) ≡ false
+        → result ≡ Err Name }
     ensures memory { is_firm T.dialect (path_bytes directory.entry) ≡ true
         → is_within T.dialect (path_bytes path.entry) (path_bytes folder.entry) ≡ true
+        → is_valid T.dialect (kinds (parts_of T.dialect (path_bytes path.entry))) ≡ true
         → IfErr result (λ e. e ≡ OutOfMemory) }
 {
     if !(directory.is_absolute() && directory.keeps_prefix()) {
@@ -63,6 +74,9 @@ pub fn configured<T: Encoding>(
     }
     if !path.is_within(folder) {
         return Err(Unconfigured::Outside);
+    }
+    if !path.is_valid() {
+        return Err(Unconfigured::Name);
     }
     within_leads_below(directory.as_bytes(), path.as_bytes(), folder.as_bytes());
     Ok(directory.join(alloc, path)?)

@@ -6,8 +6,8 @@ ghost use Rattle.std.specs.List.{All};
 ghost use Rattle.typed_path.specs.changes.Push as push_spec;
 ghost use Rattle.typed_path.specs.changes.{refusal, fault};
 ghost use Rattle.typed_path.specs.views.PathViews.{path_bytes};
-ghost use Rattle.typed_path.specs.places.{place};
-ghost use Rattle.typed_path.specs.promises.{keeps_prefix, IsBelow, LiesBelow};
+ghost use Rattle.typed_path.specs.places.{is_within, place};
+ghost use Rattle.typed_path.specs.promises.{keeps_prefix, IsBelow, LiesBelow, StaysWithin};
 ghost use Rattle.typed_path_uses.specs.Uses.{place_within, places, places_within, joined_entries, faulty, first_fault, reason, reason_below};
 
 use std::alloc::{AllocError, Global};
@@ -65,6 +65,7 @@ pub fn target<T: Encoding>(
     ensures place { keeps_prefix T.dialect (path_bytes base.entry) ≡ true → IfOk result
         (λ p. place T.dialect p.bytes ≡ place_within T.dialect (path_bytes base.entry) name.now) }
     ensures below { IfOk result (λ p. LiesBelow T.dialect (path_bytes base.entry) p.bytes) }
+    ensures within { IfOk result (λ p. StaysWithin T.dialect (path_bytes base.entry) p.bytes) }
     ensures joined { IfOk result (λ p. p.bytes
         ≡ push_spec.push T.dialect (path_bytes base.entry) name.now) }
     ensures refused { refusal result ≡ fault T.dialect name.now }
@@ -80,6 +81,8 @@ pub fn target_below<T: Encoding>(
     name: &[u8],
 ) -> Result<PathBuf<T>, Untargeted>
     ensures below { IfOk result (λ p. IsBelow T.dialect (path_bytes base.entry) p.bytes) }
+    ensures within { IfOk result
+        (λ p. is_within T.dialect p.bytes (path_bytes base.entry) ≡ true) }
     ensures joined { IfOk result (λ p. p.bytes
         ≡ push_spec.push T.dialect (path_bytes base.entry) name.now) }
     ensures refused { reason result
@@ -101,6 +104,8 @@ pub fn targets<T: Encoding>(
     ensures places { keeps_prefix T.dialect (path_bytes base.entry) ≡ true → IfOk result
         (λ ps. places T.dialect (map (λ p. p.bytes) ps.items)
         ≡ places_within T.dialect (path_bytes base.entry) names.now) }
+    ensures joined { IfOk result (λ ps. map (λ p. p.bytes) ps.items
+        ≡ map (λ name. push_spec.push T.dialect (path_bytes base.entry) name.now) names.now) }
     ensures only { OnOk result (first_fault T.dialect names.now ≡ None) }
     ensures refused { (e : CheckedPathError) → refusal result ≡ Some e
         → first_fault T.dialect names.now ≡ Some e }

@@ -1,21 +1,25 @@
 //! A shipper of logs: each event names a file on Windows, and its log goes below the folder of its day on Unix.
 
-ghost use Rattle.std.specs.Prelude.{◌≡◌, IfOk, Some, Ok, Err};
+ghost use Rattle.std.specs.Prelude.{◌≡◌, true, IfOk, Some, Ok, Err};
 ghost use Rattle.typed_path.specs.changes.Push as push_spec;
 ghost use Rattle.typed_path.specs.changes.{refusal, fault};
 ghost use Rattle.typed_path.specs.components.{unix};
 ghost use Rattle.typed_path.specs.declared.errors.CheckedPathError.{CheckedPathError};
+ghost use Rattle.typed_path.specs.places.{is_within};
 ghost use Rattle.typed_path.specs.promises.{IsBelow};
 ghost use Rattle.typed_path.specs.views.PathViews.{path_bytes};
 ghost use Rattle.typed_path_uses.specs.Server.{behind_slash};
 ghost use Rattle.typed_path_uses.specs.Shipper as named;
 
 use std::alloc::Global;
+use typed_path::laws::within_is_a_preorder;
 use typed_path::{PathError, UnixPath, UnixPathBuf, WindowsPath};
 
 /// The folder of a day, below the root of all logs.
 pub fn day_folder(alloc: Global, root: UnixPath<'_>, day: &[u8]) -> Result<UnixPathBuf, PathError>
     ensures below { IfOk result (λ folder. IsBelow unix (path_bytes root.entry) folder.bytes) }
+    ensures within { IfOk result
+        (λ folder. is_within unix folder.bytes (path_bytes root.entry) ≡ true) }
     ensures joined { IfOk result
         (λ folder. folder.bytes ≡ push_spec.push unix (path_bytes root.entry) day.now) }
     ensures refused { refusal result ≡ fault unix day.now }
@@ -38,6 +42,8 @@ pub fn shipped(
     event: WindowsPath<'_>,
 ) -> Result<UnixPathBuf, PathError>
     ensures below { IfOk result (λ file. IsBelow unix (path_bytes folder.entry) file.bytes) }
+    ensures within { IfOk result
+        (λ file. is_within unix file.bytes (path_bytes folder.entry) ≡ true) }
     ensures ok { IfOk result (λ file.
         named.shipped (path_bytes folder.entry) (path_bytes event.entry) ≡ Ok file.bytes) }
     ensures refused { (e : CheckedPathError) → refusal result ≡ Some e
@@ -49,9 +55,31 @@ pub fn shipped(
     }
 }
 
+/// Where the log of an event of a day goes: within the root of all logs.
+pub fn day_log(
+    alloc: Global,
+    root: UnixPath<'_>,
+    day: &[u8],
+    event: WindowsPath<'_>,
+) -> Result<UnixPathBuf, PathError>
+    ensures within { IfOk result
+        (λ file. is_within unix file.bytes (path_bytes root.entry) ≡ true) }
+{
+    let folder = day_folder(alloc, root, day)?;
+    let file = shipped(alloc, folder.as_path(), event)?;
+    within_is_a_preorder(
+        file.as_path().as_bytes(),
+        folder.as_path().as_bytes(),
+        root.as_bytes(),
+    );
+    Ok(file)
+}
+
 /// A path of Unix, put below a folder without its root.
 fn logged(alloc: Global, folder: UnixPath<'_>, path: UnixPath<'_>) -> Result<UnixPathBuf, PathError>
     ensures below { IfOk result (λ file. IsBelow unix (path_bytes folder.entry) file.bytes) }
+    ensures within { IfOk result
+        (λ file. is_within unix file.bytes (path_bytes folder.entry) ≡ true) }
     ensures ok { IfOk result (λ file.
         named.logged (path_bytes folder.entry) (path_bytes path.entry) ≡ Ok file.bytes) }
     ensures refused { (e : CheckedPathError) → refusal result ≡ Some e

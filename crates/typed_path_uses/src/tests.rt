@@ -3,7 +3,7 @@
 use crate::{
     Rule, Tree, Unconfigured, Unserved, Untargeted, are_alike, configured, day_folder,
     entry_on_windows, is_ignored, note, noted, rewritten, rewritten_texts, served_below,
-    served_on_unix, served_on_windows, shipped, target_below, text_target_below,
+    served_on_unix, served_on_windows, shipped, target_below, targets, text_target_below,
     typed_target_below, unpacked, unpacked_below,
 };
 use std::alloc::{AllocError, Global};
@@ -159,6 +159,7 @@ fn bases_that_are_known_later(rt: HostRuntime) -> Result<(), Fail> {
             target.as_ref().map(|path| path.as_bytes()).map_err(|e| *e),
             wanted
         );
+        assert_eq!(rt; targets(rt.alloc(), path, &[b"a", b"b"])?.len(), 2);
         let unpacking = unpacked_below(rt.alloc(), path, &[b"a"]);
         assert_eq!(rt;
             unpacking
@@ -414,6 +415,7 @@ fn configured_paths(rt: HostRuntime) {
             Err(Unconfigured::Outside),
         ),
         (b"app", b"data", b"data/a", Err(Unconfigured::Directory)),
+        (b"/srv", b"/srv", b"/srv/..\0/a", Err(Unconfigured::Name)),
     ];
     const WINDOWS: &[Configured] = &[
         (br"C:\app", b"data", br"data\a", Ok(br"C:\app\data\a")),
@@ -427,6 +429,12 @@ fn configured_paths(rt: HostRuntime) {
         (br"C:\app", b"data", b"D:a", Err(Unconfigured::Outside)),
         (br"\app", b"data", br"data\a", Err(Unconfigured::Directory)),
         (
+            br"C:\srv",
+            br"C:\srv",
+            br"C:\srv\con",
+            Err(Unconfigured::Name),
+        ),
+        (
             br"\\server\",
             b"data",
             br"data\a",
@@ -438,6 +446,53 @@ fn configured_paths(rt: HostRuntime) {
         configured_rows::<WindowsEncoding>(rt.alloc(), WINDOWS),
         None
     );
+}
+
+#[test]
+fn texts_of_errors(rt: HostRuntime) -> Result<(), Fail> {
+    let alloc = rt.alloc();
+    let rows = [
+        (
+            Unserved::Traversal.to_string(alloc)?,
+            "the path leads out of the root",
+        ),
+        (Unserved::Absolute.to_string(alloc)?, "the path is absolute"),
+        (
+            Unserved::ZeroByte.to_string(alloc)?,
+            "a name holds the byte 00",
+        ),
+        (
+            Unserved::BadName.to_string(alloc)?,
+            "a name holds a byte that no name may have",
+        ),
+        (
+            Unserved::Device.to_string(alloc)?,
+            "a name stands for a device",
+        ),
+        (
+            Unserved::Root.to_string(alloc)?,
+            "the root does not keep its prefix",
+        ),
+        (Unserved::OutOfMemory.to_string(alloc)?, "out of memory"),
+        (
+            Untargeted::Base.to_string(alloc)?,
+            "the base does not keep its prefix",
+        ),
+        (Untargeted::OutOfMemory.to_string(alloc)?, "out of memory"),
+        (
+            Unconfigured::Directory.to_string(alloc)?,
+            "the directory is not absolute, or does not keep its prefix",
+        ),
+        (
+            Unconfigured::Outside.to_string(alloc)?,
+            "the path is not within the folder",
+        ),
+        (Unconfigured::OutOfMemory.to_string(alloc)?, "out of memory"),
+    ];
+    for (printed, wanted) in rows {
+        assert_eq!(rt; printed.as_str(), wanted);
+    }
+    Ok(())
 }
 
 #[test]

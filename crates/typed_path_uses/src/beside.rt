@@ -1,0 +1,91 @@
+//! Names beside others, what two files share, and paths as they are shown.
+
+ghost use Rattle.std.specs.Prelude.{◌≡◌, ◌++◌, ◌↔◌, ◌≤◌, ℕ, List, true, codes, length, Some, None, IfOk, IfSome, option_map};
+ghost use Rattle.typed_path.specs.changes.Push as push_spec;
+ghost use Rattle.typed_path.specs.changes.{with_file_name};
+ghost use Rattle.typed_path.specs.components.{kinds, parts_of, unix, windows};
+ghost use Rattle.typed_path.specs.places.{normal_text};
+ghost use Rattle.typed_path.specs.promises.{IsAlikeBehind, IsBelow, IsLongest, IsNamedBeside, ShareNothing};
+ghost use Rattle.typed_path.specs.queries.{file_name_of, is_absolute, simplified_text};
+ghost use Rattle.typed_path.specs.views.PathViews.{path_bytes};
+
+use std::alloc::{AllocError, Global};
+use typed_path::laws::{
+    added_extension_keeps_the_parent, common_ancestor_is_longest, joined_is_short,
+    normalized_is_short, prefixed_within_leads_below, renamed_is_short, simplified_is_alike_behind,
+    simplified_stays, within_is_exact,
+};
+use typed_path::{Encoding, Path, UnixPath, UnixPathBuf, WindowsComponents, WindowsPath};
+
+/// Where the copy of a file goes that is made before a change: beside it, with `.bak` behind its name.
+pub fn backup(alloc: Global, file: UnixPath<'_>) -> Result<UnixPathBuf, AllocError>
+    ensures beside { (name : List ℕ) → file_name_of unix (path_bytes file.entry) ≡ Some name
+        → IfOk result
+        (λ p. IsNamedBeside unix (path_bytes file.entry) p.bytes (name ++ codes ".bak")) }
+{
+    added_extension_keeps_the_parent(file.as_bytes(), b"bak");
+    file.with_added_extension(alloc, b"bak")
+}
+
+/// The longest path that two files begin with, if they share a component.
+pub fn shared_folder<'a, T: Encoding>(one: Path<'a, T>, other: Path<'_, T>) -> Option<Path<'a, T>>
+    ensures longest { IfSome result (λ p.
+        IsLongest T.dialect (path_bytes one.entry) (path_bytes other.entry) (path_bytes p)) }
+    ensures none { option_map path_bytes result ≡ None
+        → ShareNothing T.dialect (path_bytes one.entry) (path_bytes other.entry) }
+{
+    common_ancestor_is_longest(one.as_bytes(), other.as_bytes());
+    one.common_ancestor(other)
+}
+
+/// A path of Windows as it is shown to a user: without its `\\?\` where that adds nothing.
+pub fn shown(path: WindowsPath<'_>) -> WindowsPath<'_>
+    ensures alike { IsAlikeBehind (path_bytes path.entry) (path_bytes result) }
+    ensures again { simplified_text windows (path_bytes result) ≡ path_bytes result }
+{
+    simplified_is_alike_behind(path.as_bytes());
+    simplified_stays(path.as_bytes());
+    path.simplified()
+}
+
+/// Whether a path of Windows with a prefix lies at a folder or below it, whatever directory both are read from.
+pub fn is_mounted_in(
+    directory: WindowsPath<'_>,
+    folder: WindowsPath<'_>,
+    path: WindowsPath<'_>,
+) -> bool
+    ensures { result ≡ true → IsBelow windows
+        (push_spec.push windows (path_bytes directory.entry) (path_bytes folder.entry))
+        (push_spec.push windows (path_bytes directory.entry) (path_bytes path.entry)) }
+{
+    prefixed_within_leads_below(directory.as_bytes(), path.as_bytes(), folder.as_bytes());
+    WindowsComponents::new(path).has_prefix() && path.is_within(folder)
+}
+
+/// Whether a path of Unix lies at a folder or below it, from every absolute directory.
+pub fn always_lies_in(path: UnixPath<'_>, folder: UnixPath<'_>) -> bool
+    ensures { (result ≡ true) ↔ ((directory : List ℕ)
+        → is_absolute unix (kinds (parts_of unix directory)) ≡ true
+        → IsBelow unix (push_spec.push unix directory (path_bytes folder.entry))
+        (push_spec.push unix directory (path_bytes path.entry))) }
+{
+    within_is_exact(path.as_bytes(), folder.as_bytes());
+    path.is_within(folder)
+}
+
+/// Whether a path joined with a name, named by it, and made normal has at most so many bytes, as far as their
+/// lengths tell.
+pub fn surely_fits<T: Encoding>(path: Path<'_, T>, name: &[u8], limit: usize) -> bool
+    ensures joined { result ≡ true
+        → length (push_spec.push T.dialect (path_bytes path.entry) name.now) ≤ limit }
+    ensures named { result ≡ true
+        → length (with_file_name T.dialect (path_bytes path.entry) name.now) ≤ limit }
+    ensures normal { result ≡ true
+        → length (normal_text T.dialect (path_bytes path.entry)) ≤ limit }
+{
+    let bytes = path.as_bytes();
+    joined_is_short(bytes, name);
+    renamed_is_short(bytes, name);
+    normalized_is_short(bytes);
+    limit >= 3 && limit - 3 >= bytes.len() && limit - 3 - bytes.len() >= name.len()
+}

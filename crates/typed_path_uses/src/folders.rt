@@ -1,0 +1,42 @@
+//! Folders that are made one below the other.
+
+ghost use Rattle.std.specs.Prelude.{◌≡◌, true, IfOk};
+ghost use Rattle.typed_path.specs.promises.{StaysWithin};
+ghost use Rattle.typed_path.specs.views.PathViews.{path_bytes};
+
+use std::alloc::Global;
+use typed_path::laws::{joined_is_within, joined_twice_is_within};
+use typed_path::{Encoding, Path, PathBuf, PathError};
+
+/// A folder within a base, and a file within the folder, both named by strangers. The file lies within the
+/// base, if that keeps its prefix.
+pub fn filed_in<T: Encoding>(
+    alloc: Global,
+    base: Path<'_, T>,
+    folder: Path<'_, T>,
+    file: Path<'_, T>,
+) -> Result<PathBuf<T>, PathError>
+    ensures within { IfOk result (λ p. StaysWithin T.dialect (path_bytes base.entry) p.bytes) }
+{
+    let mut path = base.join_checked(alloc, folder)?;
+    path.push_checked(file)?;
+    joined_twice_is_within(base.as_bytes(), folder.as_bytes(), file.as_bytes());
+    Ok(path)
+}
+
+/// A path within a base, onto which names are pushed one by one: each is kept from leading out of what those
+/// before it made, so the whole lies within the base, if that keeps its prefix.
+pub fn nested<T: Encoding>(
+    alloc: Global,
+    base: Path<'_, T>,
+    names: &[&[u8]],
+) -> Result<PathBuf<T>, PathError>
+    ensures within { IfOk result (λ p. StaysWithin T.dialect (path_bytes base.entry) p.bytes) }
+{
+    let mut path = base.to_path_buf(alloc)?;
+    'names: for name in names {
+        joined_is_within(path.as_path().as_bytes(), name);
+        path.push_checked(Path::new(name))?;
+    }
+    Ok(path)
+}
