@@ -4,12 +4,15 @@
 Each block has one fate. A whole file of Rattle is compiled in a crate over the library, which the commands of
 the README have put there, and what that page says of it is asked of it. Another piece of Rattle or of a proof
 stands line for line in a file of the repository, or is compiled and run in a function; C is compiled with its
-header. Commands are run as they are pasted, in a copy of the checkout. A picture, and what takes long, is left out by name, with the reason. A
-block without a fate fails, and so does a fate without a block. `./pages.py PAGE..` tries these pages alone. It
-takes a minute, and proves nothing. The last line is `N passed, M failed`, and the exit status says the same.
+header. Commands are run as they are pasted, in a copy of the checkout. A picture, and what takes long, is left out
+by name, with the reason. A block without a fate fails, and so does a fate without a block. The tables of calls,
+with the columns `Of` and `It is` or `Here it is`, are asked row by row, here and in the language that they set
+them beside, if it is there. `./pages.py PAGE..` tries these pages alone. It takes a minute or two, and proves
+nothing. The last line is `N passed, M failed`, and the exit status says the same.
 """
 
 import concurrent.futures
+import json
 import os
 import pathlib
 import re
@@ -129,6 +132,199 @@ mod tests {
 }
 """
 
+# Where calls of another library are asked: a program that reads them as JSON, or one that is made of them.
+PYTHON = r"""
+import json, ntpath, os, pathlib, posixpath, sys
+
+def told(answer):
+    if isinstance(answer, bool):
+        return str(answer).lower()
+    if isinstance(answer, (str, pathlib.PurePath)):
+        return str(answer) or "*empty*"
+    return ", ".join(map(told, answer))
+
+def answer(dialect, call, texts):
+    module, path = {"Unix": (posixpath, pathlib.PurePosixPath), "Windows": (ntpath, pathlib.PureWindowsPath)}[dialect]
+    given = texts if "os.path" in call else map(path, texts)
+    try:
+        return told(eval(call, {"os": type("os", (), {"path": module}), **dict(zip("pq", given))}))
+    except ValueError as error:
+        return type(error).__name__
+
+for it in json.load(sys.stdin):
+    print(answer(*it))
+"""
+NODE = r"""
+const paths = require("path");
+for (const [dialect, call, [p, q]] of JSON.parse(require("fs").readFileSync(0))) {
+    const path = dialect === "Unix" ? paths.posix : paths.win32;
+    const answer = new Function("path", "p", "q", `return ${call};`)(path, p, q);
+    console.log(answer === "" ? "*empty*" : String(answer));
+}
+"""
+GO = r"""package main
+
+import ("fmt"; "path"; "path/filepath"; "strings")
+
+func told(answers ...any) {
+	text := fmt.Sprint(answers[0])
+	if len(answers) > 1 && answers[1] != nil {
+		text = "*an error*"
+	} else if text == "" {
+		text = "*empty*"
+	}
+	fmt.Println(text)
+}
+
+var _, _, _ = path.Clean, filepath.Clean, strings.HasPrefix
+
+func main() {
+%s}
+"""
+STD = r"""use std::fmt::Debug;
+use std::path::{Path, PathBuf};
+
+trait Told {
+    fn told(self) -> String;
+}
+
+impl Told for bool {
+    fn told(self) -> String {
+        self.to_string()
+    }
+}
+
+impl Told for &Path {
+    fn told(self) -> String {
+        if self.as_os_str().is_empty() { "*empty*".to_string() } else { self.display().to_string() }
+    }
+}
+
+impl Told for PathBuf {
+    fn told(self) -> String {
+        self.as_path().told()
+    }
+}
+
+impl<A: Told, E: Debug> Told for Result<A, E> {
+    fn told(self) -> String {
+        self.map_or_else(|error| format!("{error:?}"), Told::told)
+    }
+}
+
+fn main() {
+%s}
+"""
+
+# The program that asks the calls here.
+OURS = r"""#![tactic(auto)]
+
+use anyhow::Result;
+use std::alloc::{AllocError, Global};
+use std::fmt;
+use typed_path::*;
+
+trait Told: Sized {
+    fn told(self, alloc: Global) -> Result<String, AllocError>;
+}
+
+impl Told for bool {
+    fn told(self, alloc: Global) -> Result<String, AllocError> {
+        format!(in alloc; "{self}")
+    }
+}
+
+impl Told for () {
+    fn told(self, alloc: Global) -> Result<String, AllocError> {
+        format!(in alloc; "done")
+    }
+}
+
+impl<'a> Told for &'a [u8] {
+    fn told(self, alloc: Global) -> Result<String, AllocError> {
+        let path = UnixPath::new(self);
+        if self.is_empty() { format!(in alloc; "*empty*") } else { format!(in alloc; "{path}") }
+    }
+}
+
+impl<'a, T: Encoding> Told for Path<'a, T> {
+    fn told(self, alloc: Global) -> Result<String, AllocError> {
+        self.as_bytes().told(alloc)
+    }
+}
+
+impl<T: Encoding> Told for PathBuf<T> {
+    fn told(self, alloc: Global) -> Result<String, AllocError> {
+        self.as_path().told(alloc)
+    }
+}
+
+impl<'a> Told for WindowsPrefixComponent<'a> {
+    fn told(self, alloc: Global) -> Result<String, AllocError> {
+        self.as_bytes().told(alloc)
+    }
+}
+
+impl<A: Told> Told for Option<A> {
+    fn told(self, alloc: Global) -> Result<String, AllocError> {
+        match self {
+            Some(answer) => answer.told(alloc),
+            None => format!(in alloc; "*none*"),
+        }
+    }
+}
+
+impl<A: Told, E: fmt::Debug + Drop> Told for Result<A, E> {
+    fn told(self, alloc: Global) -> Result<String, AllocError> {
+        match self {
+            Ok(answer) => answer.told(alloc),
+            Err(error) => format!(in alloc; "{error:?}"),
+        }
+    }
+}
+
+fn listed<A: Told + Drop>(alloc: Global, items: impl Iterator<Item = A>) -> Result<String, AllocError> {
+    let mut text = String::new(alloc);
+    for item in items {
+        if !text.is_empty() {
+            text.push_str(", ")?;
+        }
+        text.push_str(item.told(alloc)?.as_str())?;
+    }
+    Ok(text)
+}
+
+%s
+fn main(rt: HostRuntime) -> Result<()> {
+    let alloc = rt.alloc();
+    for (of, call, p, q) in ROWS {
+        let told = match *of {
+            "Unix" => asked_Unix(alloc, *call, UnixPath::new(p), UnixPath::new(q))?,
+            _ => asked_Windows(alloc, *call, WindowsPath::new(p), WindowsPath::new(q))?,
+        };
+        println!(rt; "{told}")?;
+    }
+    Ok(())
+}
+"""
+
+# The calls here that take an allocator, with the form of what they are handed.
+GROWING = {
+    **dict.fromkeys(["clean", "normalize", "with_unix_encoding", "with_windows_encoding_checked"], ""),
+    **dict.fromkeys(["join", "join_checked", "relative_to"], "{0}"),
+    **dict.fromkeys(["with_file_name", "with_extension", "with_added_extension"], "{1}"),
+    "absolutize": "PlatformPath::new({1})",
+}
+
+# How each language is asked, and by which command: a program that reads the calls, or one that is made of them, with
+# how it is built, the file, its text, a path and a call.
+ASKED = {"Python": [sys.executable, "-c", PYTHON], "Node": ["node", "-e", NODE]}
+BUILT = {
+    "Go": (["go", "build"], "beside.go", GO, "{0} := {1}; ", "told({0})"),
+    "std": (["rustc", "--edition", "2021"], "beside.rs", STD, "let {0} = Path::new({1}); ", 'println!("{{}}", ({0}).told());'),
+}
+COMMANDS = {"Python": sys.executable, "Node": "node", "Go": "go", "std": "rustc"}
+
 # Stands for the program: keeps what it is asked, and answers by the replies that there are.
 STAND_IN = """#!/bin/sh
 cat > "$ASKED"
@@ -215,7 +411,7 @@ def wrong_c(block):
 def compiled(repository, crate, files):
     """Compiles a crate of these files and runs its tests: what there is to say of it."""
     source = repository / "crates" / crate / "src"
-    source.mkdir(parents=True)
+    source.mkdir(parents=True, exist_ok=True)
     for name, text in files.items():
         (source / f"{name}.rt").write_text(text)
     done = ran(["rt", "try", "--test"], source.parent)
@@ -298,11 +494,145 @@ def lay_out(room):
     ran(["sh", "-c", "git init -q && git add -A && git -c user.name=you -c user.email=you@example.org -c commit.gpgsign=false commit -q -m all"], copy)
     for folder in ["yours", "tree/a", "bin"]:
         (room / folder).mkdir(parents=True)
+    (room / "yours/crates.txt").touch()
     for name in ["con.txt", "b.txt"]:
         (room / "tree/a" / name).touch()
     (room / "tree/lines").write_text("normalize\tunix\ta\nnormalize\tmac\ta\n")
     (room / "bin/typath").write_text(STAND_IN)
     (room / "bin/typath").chmod(0o755)
+
+
+# Calls beside those of another library.
+
+
+def spans(cell):
+    """What a cell says: its pieces of code, and its words between stars."""
+    return [code or word for code, word in re.findall(r"`([^`]+)`|(\*[a-z ]+\*)", cell)]
+
+
+class Row:
+    """A row of a table of calls: those there and the one here, of paths of a dialect, with what each answers."""
+
+    def __init__(self, place, cells, above):
+        there, here, of, said, answer = cells if len(cells) == 5 else ["", *cells[1:3], "", cells[3]]
+        self.place = place
+        self.there = spans(there) or (above.there if above else [])
+        self.here = "".join(spans(here)) or above.here
+        self.dialect, self.paths = of.split()[0], ["" if it == "*empty*" else it for it in spans(of)]
+        self.said, self.answer = ", ".join(spans(said)), ", ".join(spans(said if answer == "the same" else answer))
+
+    def wrong(self, call, said, answer):
+        """What there is to say of what a call answers."""
+        of = ", ".join(self.paths)
+        return [] if said == answer else [f"{self.place}: {call} of {of} answers {answer}, and the page says {said}"]
+
+
+def tables_of(page):
+    """The tables of calls of a page: the place of each, the language that they are beside, if any, and the rows."""
+    rows = None
+    for line, text in enumerate([*(TOP / page).read_text().split("\n"), ""], 1):
+        cells = [cell.strip() for cell in text.split("|")[1:-1]]
+        if cells[2:3] == ["Of"] and cells[-1] in ["Here it is", "It is"]:
+            place, language, rows = f"{page}:{line}", cells[0] if len(cells) == 5 else "", []
+        elif rows is not None and cells and not text.startswith("|---"):
+            rows.append(Row(f"{page}:{line}", cells, rows[-1] if rows else None))
+        elif rows and not cells:
+            yield place, language, rows
+            rows = None
+
+
+def literal(text):
+    """A text as Go and Rust write it."""
+    return '"' + "".join(f"\\{it}" if it in '\\"' else it for it in text) + '"'
+
+
+def bytes_literal(text):
+    """A text as bytes of Rattle."""
+    escaped = (it if " " <= it <= "~" else "".join(f"\\x{byte:02x}" for byte in it.encode()) for it in literal(text))
+    return "b" + "".join(escaped)
+
+
+def in_rattle(here):
+    """A call as it is written here, with the allocator, and what makes a text of its answer."""
+
+    def with_allocator(found):
+        name, given = found[1], found[2]
+        if name not in GROWING:
+            return found[0]
+        given = GROWING[name].format(given, f"b{given}" if given.startswith('"') else f"{given}.as_bytes()")
+        return f".{name}(alloc{', ' if given else ''}{given}){'' if found.end() == len(here) else '?.as_path()'}"
+
+    call = re.sub(r"\.(\w+)\(([^()]*)\)", with_allocator, here)
+    return f"listed(alloc, {call})" if call.endswith((".iter()", ".ancestors()")) else f"({call}).told(alloc)"
+
+
+def ours(rows):
+    """The text of a program that prints what the calls of these rows answer here, a line each."""
+    calls = {dialect: sorted({row.here for row in rows if row.dialect == dialect}) for dialect in ["Unix", "Windows"]}
+    asked, table = "", ""
+    for dialect in calls:
+        paths = ", ".join(f"{name}: {dialect}Path<'_>" for name in "pq")
+        asked += f"fn asked_{dialect}(alloc: Global, call: usize, {paths}) -> Result<String, AllocError> {{\n    match call {{\n"
+        asked += "".join(f"        {at} => {in_rattle(call)},\n" for at, call in enumerate(calls[dialect]))
+        asked += "        _ => Ok(String::new(alloc)),\n    }\n}\n\n"
+    for row in rows:
+        texts = [it.replace("\\0", "\0") if row.dialect == "Unix" else it for it in [*row.paths, ""][:2]]
+        given = [calls[row.dialect].index(row.here), *map(bytes_literal, texts)]
+        table += f'    ("{row.dialect}", {", ".join(map(str, given))}),\n'
+    return OURS % f"{asked}const ROWS: &[(&str, usize, &[u8], &[u8])] = &[\n{table}];\n"
+
+
+def asked_here(room, rows):
+    """Asks the calls of these rows here."""
+    source = room / "typed_path/crates/beside/src"
+    source.mkdir(parents=True)
+    (source / "main.rt").write_text(ours(rows))
+    with open(room / "typed_path/crates.txt", "a") as crates:
+        crates.write("beside: anyhow typed_path\n")
+    return ran(["rt", "try"], source.parent)
+
+
+def asked_there(room, language, calls):
+    """Asks the calls of a language, each of a dialect and of its paths."""
+    if language in ASKED:
+        return ran(ASKED[language], "/", json.dumps(calls))
+    build, file, template, path, told = BUILT[language]
+    lines = ""
+    for _, call, paths in calls:
+        named = "".join(path.format(name, literal(text)) for name, text in zip("pq", paths))
+        lines += f"    {{ {named}{told.format(call)} }}\n"
+    (room / file).write_text(template % lines)
+    built = ran([*build, "-o", room / "beside", room / file], room, GO111MODULE="off", GOCACHE=str(room / "built"))
+    return ran([room / "beside"], "/") if built.returncode == 0 else built
+
+
+def answers(done, number):
+    """The answers, a line each, or what there is to say in their place."""
+    lines = re.sub(r"Checked\((\w+)\)", r"\1", done.stdout).splitlines()
+    return (lines, []) if len(lines) == number else ([], (done.stdout + done.stderr).splitlines()[-20:])
+
+
+def wrong_there(room, place, language, rows):
+    """What there is to say of the calls of a language: of Go and Rust only those of Unix can be run."""
+    if language not in COMMANDS:
+        return [f"there is no way to ask calls of {language}"]
+    if not shutil.which(COMMANDS[language]):
+        print(f"pages.py: {place}: left out: calls of {language}, as there is no `{COMMANDS[language]}`", flush=True)
+        return []
+    calls = [(row, call) for row in rows for call in row.there if language in ASKED or row.dialect == "Unix"]
+    done = asked_there(room, language, [(row.dialect, call, row.paths) for row, call in calls])
+    there, wrong = answers(done, len(calls))
+    return wrong + [it for (row, call), answer in zip(calls, there) for it in row.wrong(call, row.said, answer)]
+
+
+def try_tables(room, tables):
+    """Asks the calls of tables, here and there: what there is to say of each."""
+    all_rows = [row for _, _, rows in tables for row in rows]
+    here, wrong = answers(asked_here(room, all_rows), len(all_rows))
+    answer_of = dict(zip(all_rows, here))
+    for place, language, rows in tables:
+        wrong_here = [it for row in rows if here for it in row.wrong(row.here, row.answer, answer_of[row])]
+        yield place, [*wrong, *wrong_here, *(wrong_there(room, place, language, rows) if language else [])]
 
 
 # Links.
@@ -315,16 +645,23 @@ def anchors_of(page):
         yield re.sub(r"[^\w\- ]", "", heading.lower()).replace(" ", "-")
 
 
+def leads(file, anchor):
+    """Whether there is such a file, with such a heading if one is named."""
+    return file.exists() and (not anchor or anchor in anchors_of(file.resolve().relative_to(TOP)))
+
+
 def lost_links(page):
-    """The links of a page that lead nowhere."""
+    """The links of a page that lead nowhere, there or where the pages of `docs` are copied with the library."""
     text = FENCED.sub("", (TOP / page).read_text())
     for link in re.findall(r"\]\(([^)\s]+)\)", text):
         target, _, anchor = link.partition("#")
         if ":" in target:
             continue
         file = (TOP / page).parent / target if target else TOP / page
-        if not file.exists() or anchor and anchor not in anchors_of(file.resolve().relative_to(TOP)):
+        if not leads(file, anchor):
             yield f"the link {link} leads nowhere"
+        if page.startswith("docs/") and target.startswith("../") and not leads(TOP / "crates/typed_path" / target[3:], anchor):
+            yield f"the link {link} leads nowhere in a copy of the library's folder"
 
 
 def lost_paths(block):
@@ -391,7 +728,7 @@ def sorted_blocks(pages, count):
     return files, pieces, commands
 
 
-def try_blocks(room, files, pieces, commands, count):
+def try_blocks(room, files, pieces, commands, tables, count):
     """Tries what takes time, side by side, once the library is where a reader puts it."""
     lay_out(room)
     places = {place: [] for place in ["typed_path", "yours", "tree"]}
@@ -405,10 +742,13 @@ def try_blocks(room, files, pieces, commands, count):
             if blocks:
                 tried[pool.submit(call, room, blocks)] = [block.name for block in blocks]
         asked = pool.submit(lambda: list(try_typath(room, places["tree"])) if places["tree"] else [])
+        beside = pool.submit(lambda: list(try_tables(room, tables)) if tables else [])
         for done in concurrent.futures.as_completed(tried):
             count.add(tried[done], done.result())
         for block, wrong in asked.result():
             count.add([block.name], wrong)
+        for place, wrong in beside.result():
+            count.add([place], wrong)
 
 
 def main(pages):
@@ -419,7 +759,7 @@ def main(pages):
     if not any(block.page == README for block in files) and files:
         commands += [it for block in blocks_of(README) if block.text.startswith("git -C") for it in parts_of(block)]
     with tempfile.TemporaryDirectory() as room:
-        try_blocks(pathlib.Path(room), files, pieces, commands, count)
+        try_blocks(pathlib.Path(room), files, pieces, commands, [it for page in pages for it in tables_of(page)], count)
     if pages == all_pages():
         count.add(["docs/calls.svg"], ran([TOP / "bench/chart", "--check"], TOP).stderr.splitlines())
         for page, begin in sorted({*LEFT_OUT, *FOLDERS, *PRINTED, *FRAGMENTS} - met):
