@@ -233,9 +233,20 @@ fn turned<T: Encoding, U: Encoding>(path: &[u8]) -> Option<&[u8]>
         return turned_for_windows(path);
     }
     if have_one_label::<T, WindowsEncoding>() && have_one_label::<U, UnixEncoding>() {
+        if stands_behind_drive(path) {
+            return None;
+        }
         return turned_for_unix(path);
     }
     None
+}
+
+/// Whether a text begins with a drive of ASCII and no root behind it, so that what stands there is read. It only chooses
+/// between two ways to one answer.
+#[inline(always)]
+fn stands_behind_drive(path: &[u8]) -> bool {
+    matches!(path, [letter, b':', third, ..]
+        if letter.is_ascii_alphabetic() && !matches!(*third, b'/' | b'\\'))
 }
 
 /// How many bytes a path has at least that is looked at before it crosses.
@@ -254,6 +265,7 @@ fn turned_for_windows(path: &[u8]) -> Option<&[u8]>
 
 /// The same of a path of Windows on Unix, which has no prefix, or a root behind it: pushed onto what the
 /// prefix is written as, that replaces it. A prefix alone, but for a drive, is written as the root.
+#[inline(always)]
 fn turned_for_unix(path: &[u8]) -> Option<&[u8]>
     ensures { IfSome result (λ text. CrossesTurned windows unix path.now text.now) }
 {

@@ -62,6 +62,7 @@ AddsExtension d old extension done new =
     IsChanged done old (with_added_extension d old.bytes extension) new
     × IfOk done (λ renamed. renamed ≡ is_some (file_name_of d old.bytes))
     × (file_name_of d old.bytes ≡ None → new ≡ old)
+    × (extension ≡ [] → new ≡ old)
     × (length (with_added_extension d old.bytes extension) ≤ old.capacity → IsOk done)
 
 -- the empty path, with the room that there was
@@ -109,7 +110,7 @@ Normalizes d bytes path done =
     IfOk done (λ p. bytes p ≡ normal_text d path)
     × IfOk done (λ p. HasNormalForm d path (bytes p))
 
--- the path that leads from a base to a path, where there is one; that there is none costs no memory
+-- the path that leads from a base to a path, where there is one; where there is none, the call is not refused
 abbrev pub LeadsFrom : {P E : Type 0} → Dialect → (P → List ℕ) → List ℕ → List ℕ → Result (Option P) E → Type 0
 LeadsFrom d bytes base path done =
     IfOk done (λ found. option_map bytes found ≡ relative_text d path base)

@@ -202,13 +202,42 @@ impl<'a, T: Encoding, I> Ord for Reading<'a, T, I> {
     }
 }
 
-/// Whether two texts have the same components. Where their bytes are equal, neither is read.
+/// Whether two texts have the same components. Where their bytes are equal, neither is read, and where they seem to be
+/// alike, their order tells.
 #[inline]
 pub(crate) fn is_same<T: Encoding>(path: &[u8], other: &[u8]) -> bool
     ensures { result ≡ is_same T.dialect path.now other.now }
 {
-    path == other || have_same_components::<T>(path, other)
+    if path == other {
+        return true;
+    }
+    if seem_alike(path, other) {
+        return order_of_unequal::<T>(path, other).is_eq();
+    }
+    have_same_components::<T>(path, other)
 }
+
+/// Whether two short texts end with one byte of a name, are about as long, and have prefixes of one sort, as their second
+/// bytes and `\\?\` tell: so their last components may well be one, and their order is told sooner. It only chooses
+/// between two ways to one answer.
+#[inline(always)]
+fn seem_alike(path: &[u8], other: &[u8]) -> bool {
+    let ([.., last], [.., others]) = (path, other) else {
+        return false;
+    };
+    last == others
+        && !matches!(*last, b'/' | b'\\' | b'.')
+        && path.len() <= MOST_ORDERED
+        && other.len() <= MOST_ORDERED
+        && path.len() * 3 <= other.len() * 4
+        && other.len() * 3 <= path.len() * 4
+        && matches!(path, [_, b':', ..]) == matches!(other, [_, b':', ..])
+        && path.starts_with(br"\\?\") == other.starts_with(br"\\?\")
+}
+
+/// How many bytes two texts have at most whose order is asked first to tell whether they are the same: what longer ones
+/// share may be long, so their last components are asked.
+const MOST_ORDERED: usize = 128;
 
 /// The order of two texts, by their components. Where their bytes are equal, neither is read.
 #[inline]
@@ -218,6 +247,14 @@ pub(crate) fn compare<T: Encoding>(path: &[u8], other: &[u8]) -> Ordering
     if path == other {
         return Ordering::Equal;
     }
+    order_of_unequal::<T>(path, other)
+}
+
+/// The same of two texts whose bytes are not equal: it asks no comparison of all of them.
+#[inline(always)]
+fn order_of_unequal<T: Encoding>(path: &[u8], other: &[u8]) -> Ordering
+    ensures { result ≡ path_cmp T.dialect path.now other.now }
+{
     match T::order_behind_prefix(path, other) {
         Some(order) => order,
         None => compare_components::<T>(path, other),

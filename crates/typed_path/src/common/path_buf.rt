@@ -230,6 +230,7 @@ impl<T: Encoding> PathBuf<T> {
             (λ renamed. renamed ≡ is_some (file_name_of T.dialect self.old.bytes)) }
         ensures err { OnErr result (self.new.bytes ≡ self.old.bytes) }
         ensures unchanged { file_name_of T.dialect self.old.bytes ≡ None → self.new ≡ self.old }
+        ensures empty { extension.now ≡ [] → self.new ≡ self.old }
         ensures capacity { self.old.capacity ≤ self.new.capacity }
         ensures succeeds { length (with_added_extension T.dialect self.old.bytes extension.now)
             ≤ self.old.capacity → IsOk result }

@@ -316,3 +316,16 @@ pub fn before_last_separator(text: &[u8], separators: Separators) -> &[u8]
 pub fn begins_with_long_name(text: &[u8]) -> bool {
     64 < text.len() && marks_at::<64>(text, 0, (b'/', b'\\')) == 0
 }
+
+/// Whether no separator stands in the first 32 bytes of a text, or in all of it where it has 16 to 31: no names stand
+/// side by side there. It only chooses between two ways to one answer.
+#[inline(always)]
+pub fn has_long_front(text: &[u8], separators: Separators) -> bool {
+    let pair = separators.pair();
+    if text.len() < 32 {
+        return 16 <= text.len()
+            && marks_at::<16>(text, 0, pair) == 0
+            && marks_at::<16>(text, text.len() - 16, pair) == 0;
+    }
+    marks_at::<32>(text, 0, pair) == 0
+}

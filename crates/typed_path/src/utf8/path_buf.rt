@@ -236,6 +236,7 @@ impl<T: Utf8Encoding> Utf8PathBuf<T> {
         ensures err { OnErr result (self.new.bytes ≡ self.old.bytes) }
         ensures unchanged { file_name_of T.Bytes.dialect self.old.bytes ≡ None
             → self.new ≡ self.old }
+        ensures empty { extension.now ≡ [] → self.new ≡ self.old }
         ensures capacity { self.old.capacity ≤ self.new.capacity }
         ensures succeeds { length (with_added_extension T.Bytes.dialect self.old.bytes extension.now)
             ≤ self.old.capacity → IsOk result }

@@ -11,10 +11,12 @@ returns-clause-ok c =
     let before = c.args.text.now.items in
     let root = c.split_root.result.0.now in
     let rest = c.split_root.result.1.now in
+    let left = c.behind_parents-left.result.now in
     let head = before ++ root in
     let begun = c.in_ok-extend_from_slice.ensures.items in
     let size : length head ≡ c.len-len.result = omega (arith, c.len-len.ensures, c.extend_from_slice.new.self.ok, ap length begun) in
-    let text = c.in_ok-put_kept_by_slashes.ensures.ok ∙ ap₂ (λ t names. t ++ rows names) begun (sym (settled-kept (pieces Slash rest) [])) in
+    let names = sym (settled-kept (pieces Slash left) []) ∙ sym c.behind_parents-left.ensures.same in
+    let text = c.in_ok-put_left.ensures.ok ∙ ap₂ (λ t names. t ++ rows names) begun names in
     parted-end c.args.path.now before root rest _ _ c.split_root.ensures text
     (λ more. c.drop_separator.ensures.named (omega (arith, size, more)))
     (λ fits. c.drop_separator.ensures.alone (omega (arith, size, fits)))
