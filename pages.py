@@ -33,7 +33,7 @@ LEFT_OUT = {
     (README, "cp -a ../typed_path/crates/typed_path/out"): "takes a built checkout, and 6 GB",
     (README, "./gate.sh quick"): "takes minutes, and runs this",
     (README, "./gate.sh  "): "takes more than an hour, and runs this",
-    (README, "(cd crates/typath && rt run < stdin)"): "takes half an hour",
+    (README, "(cd crates/typath && rt run < stdin)"): "takes 15 to 20 minutes",
     ("crates/typed_path/README.md", "typed_path: "): "what a command of the README writes",
     ("docs/ARCHITECTURE.md", "  a block of 32"): "a picture",
     ("docs/PERF.md", "git clone . ../old"): OLDER,

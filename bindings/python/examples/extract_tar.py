@@ -2,8 +2,8 @@
 """Extracts the files and folders of a tar archive into a new folder, or refuses the archive and writes nothing.
 
 A member is refused if its name leads out of the folder, is absolute or not allowed, and if it is neither a file
-nor a folder: no link is made, so no name leads through one. With --windows a name is refused, too, that
-`WindowsPath.is_valid` refuses; versions of Windows take others for devices, as `nul ` and `COM¹`.
+nor a folder: no link is made, so no name leads through one. With --windows a name is refused, too, that a
+checked join of `WindowsPath` refuses; versions of Windows take others for devices, as `nul ` and `COM¹`.
 
 extract_tar.py [--windows] ARCHIVE FOLDER: the status is 0, 1 if the archive is refused, 2 if something failed.
 """

@@ -1,12 +1,13 @@
-//! Names beside others, what two files share, and paths as they are shown.
+//! Names beside others, what two files share, whether a path lies in a folder, paths as they are shown, and how
+//! long they grow.
 
-ghost use Rattle.std.specs.Prelude.{◌≡◌, ◌++◌, ◌↔◌, ◌≤◌, ℕ, List, true, codes, length, Some, None, IfOk, IfSome, option_map};
+ghost use Rattle.std.specs.Prelude.{◌≡◌, ◌++◌, ◌+◌, ◌↔◌, ◌≤◌, ◌&&◌, ℕ, List, true, codes, length, Some, None, IfOk, IfSome, option_map};
 ghost use Rattle.typed_path.specs.changes.Push as push_spec;
 ghost use Rattle.typed_path.specs.changes.{with_file_name};
 ghost use Rattle.typed_path.specs.components.{kinds, parts_of, unix, windows};
-ghost use Rattle.typed_path.specs.places.{normal_text};
+ghost use Rattle.typed_path.specs.places.{is_within, normal_text};
 ghost use Rattle.typed_path.specs.promises.{IsAlikeBehind, IsBelow, IsLongest, IsNamedBeside, ShareNothing};
-ghost use Rattle.typed_path.specs.queries.{file_name_of, is_absolute, simplified_text};
+ghost use Rattle.typed_path.specs.queries.{file_name_of, has_prefix, is_absolute, simplified_text};
 ghost use Rattle.typed_path.specs.views.PathViews.{path_bytes};
 
 use std::alloc::{AllocError, Global};
@@ -17,7 +18,8 @@ use typed_path::laws::{
 };
 use typed_path::{Encoding, Path, UnixPath, UnixPathBuf, WindowsComponents, WindowsPath};
 
-/// Where the copy of a file goes that is made before a change: beside it, with `.bak` behind its name.
+/// Where the copy of a file goes that is made before a change: beside it, with `.bak` behind its name. A path
+/// without a file name stays as it is.
 pub fn backup(alloc: Global, file: UnixPath<'_>) -> Result<UnixPathBuf, AllocError>
     ensures beside { (name : List ℕ) → file_name_of unix (path_bytes file.entry) ≡ Some name
         → IfOk result
@@ -54,7 +56,9 @@ pub fn is_mounted_in(
     folder: WindowsPath<'_>,
     path: WindowsPath<'_>,
 ) -> bool
-    ensures { result ≡ true → IsBelow windows
+    ensures asked { result ≡ (has_prefix (kinds (parts_of windows (path_bytes path.entry)))
+        && is_within windows (path_bytes path.entry) (path_bytes folder.entry)) }
+    ensures below { result ≡ true → IsBelow windows
         (push_spec.push windows (path_bytes directory.entry) (path_bytes folder.entry))
         (push_spec.push windows (path_bytes directory.entry) (path_bytes path.entry)) }
 {
@@ -76,6 +80,8 @@ pub fn always_lies_in(path: UnixPath<'_>, folder: UnixPath<'_>) -> bool
 /// Whether a path joined with a name, named by it, and made normal has at most so many bytes, as far as their
 /// lengths tell.
 pub fn surely_fits<T: Encoding>(path: Path<'_, T>, name: &[u8], limit: usize) -> bool
+    ensures asked { (result ≡ true)
+        ↔ (length (path_bytes path.entry) + length name.now + 3 ≤ limit) }
     ensures joined { result ≡ true
         → length (push_spec.push T.dialect (path_bytes path.entry) name.now) ≤ limit }
     ensures named { result ≡ true

@@ -3,7 +3,7 @@
 ghost use Rattle.std.specs.Prelude.{◌≡◌, ◌≢◌, ◌↔◌, ◌+◌, ◌*◌, ◌≤◌, ℕ, List, [], ◌∷◌, true, false, length, Some, None, IfOk, IfSome, option_map};
 ghost use Rattle.typed_path.specs.changes.Push as push_spec;
 ghost use Rattle.typed_path.specs.components.{dot, kinds, parts_of, unix, windows};
-ghost use Rattle.typed_path.specs.places.{clean_text, is_anchored, rising, route};
+ghost use Rattle.typed_path.specs.places.{clean_text, relative_text, route};
 ghost use Rattle.typed_path.specs.promises.{IsRelative, IsUnreached, keeps_prefix};
 ghost use Rattle.typed_path.specs.queries.{begins_with_root, has_any_verbatim_prefix};
 ghost use Rattle.typed_path.specs.views.PathViews.{path_bytes};
@@ -45,12 +45,14 @@ pub fn link(
     page.relative_to(alloc, folder)
 }
 
-/// Whether a folder has no link to a page, since one of both alone begins at the root.
+/// Whether a folder has no link to a page. It has none where one of both alone begins at the root.
 pub fn has_no_link(
     alloc: Global,
     folder: UnixPath<'_>,
     page: UnixPath<'_>,
 ) -> Result<bool, AllocError>
+    ensures asked { IfOk result (λ none. (none ≡ true)
+        ↔ (relative_text unix (path_bytes page.entry) (path_bytes folder.entry) ≡ None)) }
     ensures rooted { IfOk result (λ none. begins_with_root (kinds (parts_of unix (path_bytes page.entry)))
         ≢ begins_with_root (kinds (parts_of unix (path_bytes folder.entry))) → none ≡ true) }
 {

@@ -342,9 +342,10 @@ class TypedPath:
         >>> UnixPath("/a/./b/c").strip_prefix("/a")
         UnixPath('b/c')
         """
-        part = _library.part("strip_prefix", self._dialect, self._bytes, self._read(base))
+        raw = self._read(base)
+        part = _library.part("strip_prefix", self._dialect, self._bytes, raw)
         if part is None:
-            raise ValueError(f"{str(self)!r} does not begin with {str(base)!r}")
+            raise ValueError(f"{str(self)!r} does not begin with {self._decoded(raw)!r}")
         return self._of(part)
 
     def join(self: P, *others: Text) -> P:

@@ -21,7 +21,8 @@ class CheckedPathError(ValueError):
     message = "path was refused"
 
     def __init__(self, path: object) -> None:
-        super().__init__(f"{self.message}: {str(path)!r}")
+        shown = path if isinstance(path, (str, bytes)) else str(path)
+        super().__init__(f"{self.message}: {shown!r}")
         self.path = path
 
     def __reduce__(self):

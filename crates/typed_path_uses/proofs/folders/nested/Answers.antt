@@ -9,4 +9,5 @@ names-init g c = base-held g.T.Encoding.dialect (path_bytes c.args.base) _ c.in_
 pub names-preserved : goal.names-preserved
 names-preserved g c =
     let step = c.in_ok-push_checked.ensures in
-    pushed-held g.T.Encoding.dialect (path_bytes c.args.base) c.names.path.bytes (path_bytes c.new.result) c.push_checked.new.self.bytes (sym step.refused) step.ok c.names.invariant
+    let law = c.joined_is_within.ensures in
+    pushed-held g.T.Encoding.dialect (path_bytes c.args.base) c.names.path.bytes (path_bytes c.new.result) c.push_checked.new.self.bytes (law.kept (sym step.refused)) (law.again (sym step.refused)) step.ok c.names.invariant
