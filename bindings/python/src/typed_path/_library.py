@@ -10,7 +10,7 @@ from ctypes import POINTER, byref, c_bool, c_char, c_char_p, c_int32, c_size_t, 
 from typing import Callable, NamedTuple, Optional, Sequence, TypeVar
 
 Text = TypeVar("Text", str, bytes)
-NAME = "libtyped_path.so.0"
+NAME = "libtyped_path.so.0.1"
 VERSION = 100
 UNIX, WINDOWS = 0, 1
 
