@@ -8,12 +8,12 @@ here=$(cd "$(dirname "$0")" && pwd)
 # shellcheck source=common.sh
 . "$here/common.sh"
 [[ $# -ge 2 && $1 ]] || misused "it takes the folder to lay out in, and archives"
+for archive in "${@:2}"; do
+    [[ -f $archive ]] || misused "there is no archive $archive"
+done
 mkdir -p -- "$1"
 dir=$(cd -- "$1" && pwd)
 shift
-for archive in "$@"; do
-    [[ -f $archive ]] || misused "there is no archive $archive"
-done
 mkdir -p "$dir/include" "$dir/lib/pkgconfig" "$dir/lib/cmake/typed_path"
 cp "$here/include/typed_path.h" "$dir/include/"
 number=$(number_of "$here/include/typed_path.h")
