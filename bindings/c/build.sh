@@ -15,10 +15,12 @@ done
 mkdir -p -- "${1:-$here/out}"
 dir=$(cd -- "${1:-$here/out}" && pwd)
 crates=$(cd "$here/../../crates" && pwd)
-kit=$(cd "$(dirname "$(readlink -f "$(command -v rt)")")/.." && pwd)
+# What a Global asks the C library for memory by lies in the kit, whose folder bin has rt.
+memory=$(dirname "$(readlink -f "$(command -v rt)")")/../c/liblibc_c.a
+[[ -f $memory ]] || misused "the kit of $(command -v rt) has no c/liblibc_c.a"
 
 (cd "$crates/typed_path_c" && rt lib)
-"$here/layout.sh" "$dir" "$crates/typed_path_c/out/libtyped_path_c.a" "$kit/c/liblibc_c.a"
+"$here/layout.sh" "$dir" "$crates/typed_path_c/out/libtyped_path_c.a" "$memory"
 (cd "$crates/typath" && rt run < stdin)
 mkdir -p "$dir/bin"
 cp "$crates/typath/out/typath" "$dir/bin/"

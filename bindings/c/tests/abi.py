@@ -2,10 +2,12 @@
 """What a program that was built relies on: the calls with their types, the constants, the bounds, and the layout of
 each struct. A file lists it with the number that it stands under, abi.txt.
 
-abi.py check HEADER LIST  says where the header has something else than the list, and which number that takes
-abi.py note HEADER LIST   writes the list anew, if the header has the number that the change takes
-abi.py since OLD LIST     says which number the changes since an older list take, if the list has another
-abi.py one HEADER TOP     says where the crate or the package of Python has another number than the header
+abi.py check [HEADER LIST]  says where the header has something else than the list, and which number that takes
+abi.py note [HEADER LIST]   writes the list anew, if the header has the number that the change takes
+abi.py since OLD [LIST]     says which number the changes since an older list take, if the list has a lesser one
+abi.py one [HEADER TOP]     says where the crate or the package of Python has another number than the header
+
+What is not named is what lies beside this file.
 
 The number has three parts. What was there and is gone or differs raises the first part, or while that is 0 the
 second; what is only new raises the part behind. Values and layouts are those of the compiler, `cc`.
@@ -19,6 +21,8 @@ import tempfile
 
 from exports import MARK, declared
 
+HERE = pathlib.Path(__file__).resolve().parent.parent
+HEADER, LIST, TOP = HERE / "include/typed_path.h", HERE / "abi.txt", HERE.parent.parent
 HEAD = """\
 # What a program that was built relies on, under its number. tests/abi.py compares it with the header, and writes it.
 """
@@ -44,7 +48,10 @@ def shared_object(number):
 def structs_of(header):
     """The types and names of the fields of each struct."""
     for fields, name in re.findall(r"^typedef struct \w+ \{(.*?)\} (\w+);", header, re.MULTILINE | re.DOTALL):
-        yield name, re.findall(r"^\s*(\w+) (\w+);", fields, re.MULTILINE)
+        found = re.findall(r"^\s*(\w+) (\w+);", fields, re.MULTILINE)
+        if len(found) != fields.count(";"):
+            sys.exit(f"{name}: a field is not one type of one word, and its name")
+        yield name, found
 
 
 def asked(header, questions):
@@ -62,6 +69,8 @@ def listed(file):
     header = pathlib.Path(file).read_text()
     questions, bounds, calls = [], [], []
     whole_lines = re.sub(r"/\*.*?\*/", "", header, flags=re.DOTALL).replace("\\\n", " ")
+    if len(re.findall(r"\btyped_path_\w+\(", whole_lines)) != len(declared(header)):
+        sys.exit("a call of the header is not declared as the others are")
     for name, behind in re.findall(r"^#define (TYPED_PATH_\w+)(.*)", whole_lines, re.MULTILINE):
         if behind.startswith("("):
             bounds.append(f"bound {name}{' '.join(behind.split())}")
@@ -117,12 +126,12 @@ def too_small(old, new):
     return [*said, f"the number is {new[0]}, and it has to be {'.'.join(map(str, least))} or more"]
 
 
-def check(header, file):
+def check(header=HEADER, file=LIST):
     text = pathlib.Path(header).read_text()
     old, new = noted(file), (number_of(text), listed(header))
     said = too_small(old, new)
     if not said and pathlib.Path(file).read_text() != written(new):
-        said = [*changes(old, new)[0], f"{file} is not that of the header: write it by abi.py note"]
+        said = [*changes(old, new)[0], f"{file} is not that of the header: tests/abi.py note writes it"]
     return said
 
 
@@ -131,7 +140,7 @@ def written(state):
     return f"{HEAD}number {number}\nshared object {shared_object(number)}\n" + "".join(f"{it}\n" for it in lines)
 
 
-def note(header, file):
+def note(header=HEADER, file=LIST):
     new = number_of(pathlib.Path(header).read_text()), listed(header)
     said = too_small(noted(file), new) if pathlib.Path(file).exists() else []
     if not said:
@@ -139,7 +148,11 @@ def note(header, file):
     return said
 
 
-def one(header, top):
+def since(old, file=LIST):
+    return too_small(noted(old), noted(file))
+
+
+def one(header=HEADER, top=TOP):
     """The number stands in the crate and in the package of Python too."""
     number = number_of(pathlib.Path(header).read_text())
     first, second, third = parts_of(number)
@@ -157,10 +170,14 @@ def one(header, top):
             yield f"{file} does not have the number {number} of the header, as: {wanted}"
 
 
-def main(word, *files):
-    said = list({"check": check, "note": note, "one": one, "since": lambda old, new: too_small(noted(old), noted(new))}[word](*files))
+def main(word="", *files):
+    asks = {"check": check, "note": note, "since": since, "one": one}
+    if word not in asks:
+        print(f"abi.py: it takes {', '.join(asks)}, and was given: {word}", file=sys.stderr)
+        return 2
+    said = list(asks[word](*files))
     print(*said, sep="\n")
-    return bool(said)
+    return 1 if said else 0
 
 
 if __name__ == "__main__":
