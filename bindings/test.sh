@@ -1,10 +1,10 @@
 #!/usr/bin/env bash
-# Tests the calls for C at their boundary, and the package of Python, over what bindings/c/build.sh lays out.
-# It says what it leaves out where a compiler, valgrind, python3 or a package of it is missing, and ends in
-# `N passed, M failed`, where each part counts once.
+# Tests the calls for C at their boundary, how they are installed and found, and the package of Python, over what
+# bindings/c/build.sh lays out. It says what it leaves out where a compiler, valgrind, pkg-config, cmake, man, mandoc,
+# python3 or a package of it is missing, and ends in `N passed, M failed`, where each part counts once.
 #
 # bindings/test.sh [DIR]: DIR has what build.sh laid out; without it, it is built.
-# bindings/test.sh declared: what needs no archive alone, which is what the gate runs.
+# bindings/test.sh declared: what needs no archive alone, with a stub in its place, which is what the gate runs.
 set -uo pipefail
 here=$(cd "$(dirname "$0")" && pwd)
 tests=$here/c/tests room=$(mktemp -d)
@@ -81,7 +81,7 @@ agree() {
         part "header and crate agree" "$tests/exports.py" "$header" "$here/../crates/typed_path_c/src"
         part "the ABI is the one that is listed" "$tests/abi.py" check "$header" "$list"
         part "a change of the ABI takes another number" is_told_of_changes
-        part "header, crate and package have one number" "$tests/abi.py" one "$header" "$here/.."
+        part "header, crate, package and pages have one number" "$tests/abi.py" one "$header" "$here/.."
         if earlier_list > "$room/earlier.txt" 2> "$room/said"; then
             part "the list has the number that its last change takes" "$tests/abi.py" since "$room/earlier.txt" "$list"
         else
@@ -93,10 +93,10 @@ agree() {
         left_out "whether header, crate, list and manual agree" python3
     fi
     for page in typed_path.3 typath.1; do
-        if is_there man; then
+        if is_there_man; then
             part "$page is set by man" is_set "$here/c/man/$page"
         else
-            left_out "whether man sets $page" man
+            left_out "whether man sets $page" "man-db with groff"
         fi
         if is_there mandoc; then
             part "$page is set by mandoc" mandoc -T lint -W warning "$here/c/man/$page"
@@ -107,8 +107,13 @@ agree() {
 }
 # Without a warning.
 is_set() {
-    MANROFFOPT=-ww man --warnings -l "$1" > "$room/page" 2> "$room/warnings" && [[ -s $room/page && ! -s $room/warnings ]] ||
-        { cat "$room/warnings" && return 1; }
+    if ! MANROFFOPT=-ww man --warnings -l "$1" > "$room/page" 2> "$room/warnings" || [[ ! -s $room/page || -s $room/warnings ]]; then
+        cat "$room/warnings"
+        return 1
+    fi
+}
+is_there_man() {
+    man --version 2> "$room/said" | grep -q '^man [0-9]' && is_there groff
 }
 # The last state of the list that was another one.
 earlier_list() {
@@ -121,18 +126,22 @@ earlier_list() {
 }
 # Each edit of a header that has a number is refused, and the least number that it takes is told and then taken.
 is_told_of_changes() {
-    local edit number least
+    local edit number least noted=
     while IFS=$'\t' read -r number least edit; do
         numbered "$number" "$here/c/include/typed_path.h" > "$room/was.h"
-        rm -f "$room/list"
-        "$tests/abi.py" note "$room/was.h" "$room/list" || return 1
+        if [[ $number != "$noted" ]]; then
+            rm -f "$room/list"
+            "$tests/abi.py" note "$room/was.h" "$room/list" || return 1
+            noted=$number
+        fi
         sed -e "$edit" "$room/was.h" > "$room/is.h"
-        ! cmp -s "$room/was.h" "$room/is.h" && ! "$tests/abi.py" note "$room/is.h" "$room/list" > "$room/told" &&
-            ! "$tests/abi.py" check "$room/is.h" "$room/list" > "$room/told" &&
-            grep -qF "the number is $number, and it has to be $least or more" "$room/told" &&
-            numbered "$least" "$room/is.h" > "$room/raised.h" && cp "$room/list" "$room/before" &&
-            "$tests/abi.py" note "$room/raised.h" "$room/list" && "$tests/abi.py" check "$room/raised.h" "$room/list" &&
-            "$tests/abi.py" since "$room/before" "$room/list" || { echo "$number: $edit" && cat "$room/told" && return 1; }
+        numbered "$least" "$room/is.h" > "$room/raised.h"
+        cp "$room/list" "$room/raised"
+        if cmp -s "$room/was.h" "$room/is.h" || "$tests/abi.py" check "$room/is.h" "$room/list" > "$room/told" ||
+            ! grep -qF "the number is $number, and it has to be $least or more" "$room/told" ||
+            ! "$tests/abi.py" note "$room/raised.h" "$room/raised" || ! "$tests/abi.py" since "$room/list" "$room/raised"; then
+            echo "$number: $edit" && cat "$room/told" && return 1
+        fi
     done << 'END'
 0.1.0	0.2.0	s/\(_NONE\) 8/\1 12/
 0.1.0	0.2.0	s/size_t length;/uint32_t length;/

@@ -38,7 +38,7 @@ installed=$root$prefix/$LISTED
 [[ $libdir == /* ]] || libdir=$prefix/$libdir
 libdir=$(realpath -ms -- "$libdir")
 libdir=${libdir%/}
-[[ $libdir != *$'\n'* ]] || misused "LIBDIR has a line feed in it"
+[[ $prefix$libdir != *[$'\t\n']* ]] || misused "PREFIX or LIBDIR has a tab or a line feed in it"
 [[ -d $from ]] || misused "there is no $from: run build.sh, or name by --from what it laid out in"
 from=$(cd -- "$from" && pwd)
 room=$(mktemp -d) half=

@@ -5,7 +5,7 @@ each struct. A file lists it with the number that it stands under, abi.txt.
 abi.py check [HEADER LIST]  says where the header has something else than the list, and which number that takes
 abi.py note [HEADER LIST]   writes the list anew, if the header has the number that the change takes
 abi.py since OLD [LIST]     says which number the changes since an older list take, if the list has a lesser one
-abi.py one [HEADER TOP]     says where the crate or the package of Python has another number than the header
+abi.py one [HEADER TOP]     says where the crate, the package of Python or a page has another number than the header
 
 What is not named is what lies beside this file.
 
@@ -153,7 +153,7 @@ def since(old, file=LIST):
 
 
 def one(header=HEADER, top=TOP):
-    """The number stands in the crate and in the package of Python too."""
+    """The number stands in the crate, in the package of Python and on pages too."""
     number = number_of(pathlib.Path(header).read_text())
     first, second, third = parts_of(number)
     single, name = first * 10000 + second * 100 + third, re.escape(shared_object(number))
@@ -165,6 +165,8 @@ def one(header=HEADER, top=TOP):
         ("bindings/python/wheel_of.py", rf'"{re.escape(number)}"'),
         ("bindings/python/wheel_of.py", rf"/{name}\""),
         ("bindings/python/pyproject.toml", rf'^version = "{re.escape(number)}"$'),
+        ("CHANGELOG.md", rf"\bnow {re.escape(number)}\b"),
+        ("docs/C.md", rf"`lib/{name}`"),
     ):
         if not re.search(wanted, (pathlib.Path(top) / file).read_text(), re.MULTILINE):
             yield f"{file} does not have the number {number} of the header, as: {wanted}"

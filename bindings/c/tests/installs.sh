@@ -1,6 +1,6 @@
 # shellcheck shell=bash
 # shellcheck disable=SC2154
-# How the library is installed, found and taken away. test.sh sources it: `part`, `left_out`, `here` and `room` are its.
+# How the library is installed, found and taken away. test.sh sources it, and what is not set here is its own.
 #
 # installs DIR SOURCE: DIR has what was laid out, and SOURCE is a program of C over it, which ends with 0.
 installs() {
@@ -36,10 +36,10 @@ installs() {
     else
         left_out "cmake" cmake
     fi
-    if is_there man; then
+    if is_there_man; then
         part "found by man" by_man
     else
-        left_out "whether man finds the pages" man
+        left_out "whether man finds the pages" "man-db with groff"
     fi
 }
 
@@ -66,6 +66,7 @@ words_are_refused() {
     ends 2 "$of_c/build.sh" "$none" "$none" && ends 2 "$of_c/build.sh" "" && ends 2 "$of_c/layout.sh" "$none" "$none.a" &&
         ends 2 "$of_c/install.sh" --from "$laid" "$none" "$none" && ends 2 "$of_c/install.sh" --other "$none" &&
         ends 2 "$of_c/install.sh" --libdir && ends 2 "$of_c/install.sh" --libdir= "$none" &&
+        ends 2 "$of_c/install.sh" --from "$laid" --libdir "a"$'\t'"b" "$none" &&
         ends 2 "$of_c/install.sh" --from "$none" "$none" && ends 2 "$of_c/install.sh" --from "$room" "$none" &&
         ends 2 env DESTDIR="$none" "$of_c/install.sh" --from "$laid" relative &&
         ends 2 "$of_c/uninstall.sh" "$none" "$none" && ends 2 "$of_c/uninstall.sh" --other &&
