@@ -49,7 +49,9 @@ modes=() sources=() targets=()
 put() {
     modes+=("$1") sources+=("$2") targets+=("$3")
 }
-shared=$(readlink -- "$from/lib/libtyped_path.so") || misused "there is no shared object in $from: run build.sh"
+[[ -f $from/include/typed_path.h ]] || misused "there is no $from/include/typed_path.h: run build.sh"
+number=$(number_of "$from/include/typed_path.h")
+shared=libtyped_path.so.$(kept_of "$number")
 manual=$prefix/share/man documents=$prefix/share/doc/typed_path
 put 644 "$from/include/typed_path.h" "$prefix/include/typed_path.h"
 put 644 "$from/lib/libtyped_path.a" "$libdir/libtyped_path.a"
@@ -115,7 +117,7 @@ if [[ $libdir/ == "$prefix"/* ]]; then
     below=$root$libdir/
     [[ $below/$up -ef $root$prefix/ && $below/pkgconfig/.. -ef $below && $below/cmake/typed_path/../.. -ef $below ]] || up=
 fi
-write_found "$room" "$(number_of "$from/include/typed_path.h")" "$up" "$libdir" "$prefix"
+write_found "$room" "$number" "$up" "$libdir" "$prefix"
 
 # The list of what is put. Until all is put it has what was put before too.
 list() {
