@@ -5,6 +5,7 @@ import itertools
 import os
 import pathlib
 import pickle
+import random
 import re
 import shutil
 import subprocess
@@ -234,6 +235,198 @@ class Paths(unittest.TestCase):
     def test_parents(self):
         self.assertEqual(list(map(str, UnixPath("/a/b/.").parents)), ["/a", "/"])
         self.assertEqual(list(map(str, WindowsPath("C:a\\b").parents)), ["C:a", "C:", ""])
+
+
+class Tagged(UnixPath):
+    """It has an attribute, and a slot."""
+
+    __slots__ = ("__secret", "__dict__")
+
+    def __init__(self, path, tag):
+        super().__init__(path)
+        self.tag, self.__secret = tag, f"secret {tag}"
+
+    def secret(self):
+        return self.__secret
+
+
+class Slotted(WindowsPath):
+    __slots__ = "tag"
+
+
+class Handing(UnixPath):
+    """It hands its attribute on."""
+
+    tag = None
+
+    def with_segments(self, *segments):
+        made = super().with_segments(*segments)
+        made.tag = self.tag
+        return made
+
+
+class Subclasses(unittest.TestCase):
+    def made_of(self, path, other):
+        """What each call that makes a path makes of one, which lies in `/a` or `C:\\a`, and of a name."""
+        made = [
+            path / other, path.join(other, other), path.joinpath(other), path.join_checked(other), path.parent,
+            *path.parents, path.with_file_name(other), path.with_name(other), path.with_stem(other),
+            path.with_extension(other), path.with_suffix(f".{other}"), path.normalize(), path.clean(),
+            path.strip_prefix(path.parent), path.relative_to(path.parent), path.absolutize("/"),
+            path.to_unix() if isinstance(path, UnixPath) else path.to_windows(), path.with_segments(other),
+            *(target for _, target in extract_names(path, [other]).targets), other / path, copy.copy(path),
+            copy.deepcopy(path), pickle.loads(pickle.dumps(path)),
+        ]
+        self.assertGreater(len(made), 20)
+        return made
+
+    def test_class_is_kept(self):
+        slotted = Slotted("C:\\a\\b.c")
+        for path in (Tagged("/a/b.c", 1), slotted, Handing("/a/b.c")):
+            self.assertEqual({type(it) for it in self.made_of(path, "x")}, {type(path)})
+            plain = (UnixPath if isinstance(path, UnixPath) else WindowsPath)(path)
+            self.assertEqual(self.made_of(path, "x"), self.made_of(plain, "x"))
+            self.assertEqual((path, hash(path)), (plain, hash(plain)))
+            self.assertIs(type(plain / path), type(plain))
+        self.assertIs(type(Tagged("a", 1).to_windows()), WindowsPath)
+
+    def test_attributes_are_kept(self):
+        slotted = Slotted("a")
+        for path in (Tagged(b"a/\xff", ["list"]), slotted):
+            path.tag = ["list"]
+            for protocol in range(pickle.HIGHEST_PROTOCOL + 1):
+                again = pickle.loads(pickle.dumps(path, protocol))
+                self.assertEqual((type(again), bytes(again), again.tag), (type(path), bytes(path), ["list"]))
+            self.assertIs(copy.copy(path).tag, path.tag)
+            self.assertIsNot(copy.deepcopy(path).tag, path.tag)
+        self.assertEqual(pickle.loads(pickle.dumps(Tagged("a", 1))).secret(), "secret 1")
+        self.assertFalse(hasattr(pickle.loads(pickle.dumps(Slotted("a"))), "tag"))
+
+    def test_attributes_are_handed_on(self):
+        path = Handing("/a/b.c")
+        path.tag = "kept"
+        self.assertEqual({it.tag for it in self.made_of(path, "x")}, {"kept"})
+
+    def test_pickles_of_older_states_are_read(self):
+        """They name the class and have its bytes, by which it is called."""
+        pickled = b"\x80\x04\x8c\ntyped_path\x94\x8c\x08UnixPath\x94\x93\x94C\x03a/b\x94\x85\x94R\x94."
+        self.assertEqual(pickle.loads(pickled), UnixPath("a/b"))
+
+    def test_class_of_annotations(self):
+        self.assertIs(UnixPath[str], UnixPath)
+        self.assertIs(Tagged[bytes], Tagged)
+
+
+class NothingChanges(unittest.TestCase):
+    def test_paths(self):
+        for path in (UnixPath("a/b"), WindowsPath("a/b"), Tagged("a/b", 1), Slotted("a/b")):
+            number, joined = hash(path), path
+            path.__init__("c", "d")
+            typed_path.TypedPath.__init__(path, "c")
+            with self.assertRaises(AttributeError):
+                path._bytes = b"c"
+            with self.assertRaises(AttributeError):
+                del path._bytes
+            for name in ("name", "parent", "parts", "drive"):
+                self.assertRaises(AttributeError, setattr, path, name, "c")
+                self.assertRaises(AttributeError, delattr, path, name)
+            joined /= "c"
+            self.assertEqual((bytes(path), hash(path), joined.name), (b"a/b", number, "c"))
+
+    def test_repr(self):
+        texts = ["", "a", "/a//b/.", "'", '"', "\\", "\n", "日", "\udcff", "a\0", b"\xff", b"\xe6\x97", b"caf\xe9"]
+        for kind in (UnixPath, WindowsPath, Slotted):
+            for text in texts:
+                path = kind(text)
+                again = eval(repr(path))
+                self.assertEqual((type(again), bytes(again)), (kind, bytes(path)))
+
+
+class Errors(unittest.TestCase):
+    def test_tree(self):
+        named = [getattr(typed_path, name) for name in typed_path.__all__]
+        errors = [it for it in named if isinstance(it, type) and issubclass(it, Exception)]
+        self.assertEqual(len(errors), 13)
+        for error in errors:
+            self.assertTrue(issubclass(error, typed_path.TypedPathError) and issubclass(error, ValueError))
+            self.assertEqual(error.__module__, "typed_path")
+            self.assertIs(type(pickle.loads(pickle.dumps(error("a")))), error)
+
+    def raised(self, call, *words):
+        with self.assertRaises(typed_path.TypedPathError) as raised:
+            call(*words)
+        return pickle.loads(pickle.dumps(raised.exception))
+
+    def test_what_they_hold(self):
+        a, slash = UnixPath("a"), UnixPath("/")
+        for error, kind, path, base in (
+            (self.raised(a.relative_to, "/b"), typed_path.NoRelativePath, a, "/b"),
+            (self.raised(UnixPath("/a").relative_to, b"/b"), typed_path.NoRelativePath, UnixPath("/a"), b"/b"),
+            (self.raised(a.strip_prefix, "b"), typed_path.StripPrefixError, a, "b"),
+            (self.raised(a.absolutize, "b"), typed_path.Ambiguous, a, None),
+            (self.raised(a.with_file_name, "../b"), typed_path.NotAName, "../b", None),
+            (self.raised(a.with_name, b".."), typed_path.NotAName, b"..", None),
+            (self.raised(slash.with_name, "b"), typed_path.NoName, slash, None),
+            (self.raised(slash.with_suffix, ".b"), typed_path.NoName, slash, None),
+            (self.raised(a.with_suffix, "b"), typed_path.NotAnExtension, "b", None),
+            (self.raised(a.with_extension, "/b"), typed_path.NotAnExtension, "/b", None),
+            (self.raised(a.match, ""), typed_path.TypedPathError, "", None),
+            (self.raised(WindowsPath("/a").with_name, "b"), typed_path.BaseLosesPrefix, WindowsPath("/"), None),
+            (self.raised(extract_names, WindowsPath("/"), "b"), typed_path.BaseLosesPrefix, WindowsPath("/"), None),
+            (self.raised(a.join_checked, "\ud800"), typed_path.InvalidFilename, "\ud800", None),
+        ):
+            self.assertEqual((type(error), error.path, error.base), (kind, path, base))
+        self.assertEqual((error.name, error.place), (None, None))
+
+    def test_which_component_offends(self):
+        for path, other, error, name, place in (
+            (UnixPath("/srv"), "a/../../b", typed_path.PathTraversalAttack, "..", 2),
+            (UnixPath("/srv"), b"a/b/c\0\xff/d", typed_path.InvalidFilename, "c\0\udcff", 2),
+            (UnixPath("/srv"), "//a", typed_path.UnexpectedRoot, "/", 0),
+            (WindowsPath("x"), "a/./C:", typed_path.InvalidFilename, "C:", 1),
+            (WindowsPath("x"), "c:a", typed_path.UnexpectedPrefix, "c:", 0),
+            (WindowsPath("x"), pathlib.PurePosixPath("a/b/con.x/.."), typed_path.InvalidFilename, "con.x", 2),
+        ):
+            refusal = self.raised(path.join_checked, other)
+            self.assertEqual((type(refusal), refusal.path, refusal.name, refusal.place), (error, other, name, place))
+        for path, name, place in ((UnixPath("/a/aux.h/b"), "aux.h", 2), (UnixPath("a:/b"), "a:", 0)):
+            refusal = self.raised(path.to_windows_checked)
+            self.assertEqual((refusal.path, refusal.name, refusal.place), (path, name, place))
+        refusal = self.raised(UnixPath("a").join_checked, "a/" * 100_000 + "../" * 100_001)
+        self.assertEqual((refusal.name, refusal.place), ("..", 200_000))
+
+    def test_it_is_the_first(self):
+        """By the rule of the specification, read off the components."""
+        chosen, taken = random.Random(20261130), 0
+        for kind, pieces in (
+            (UnixPath, ["a", "b", "..", "/", "/../", "\0", "日", "."]),
+            (WindowsPath, ["a", "..", "/", "\\", "\\..\\", "C:", "con", ".", "?", "日"]),
+        ):
+            for _ in range(3000):
+                text = "".join(chosen.choices(pieces, k=chosen.randrange(9)))
+                try:
+                    kind("out").join_checked(text)
+                except typed_path.CheckedPathError as refusal:
+                    wanted = first_offence(kind(text))
+                    self.assertEqual((refusal.place, refusal.name), (wanted, kind(text).components[wanted].text), text)
+                    taken += 1
+        self.assertGreater(taken, 2000)
+
+
+def first_offence(path):
+    """The place of the first component that a checked join refuses."""
+    names = parents = 0
+    for place, (kind, text) in enumerate(path.components):
+        if kind == "parent":
+            parents += 1
+            if parents > names:
+                return place
+        elif kind == "normal":
+            names += 1
+            if not type(path)(f"a/{text}").is_valid():
+                return place
+        elif kind != "current":
+            return place
 
 
 class Batches(unittest.TestCase):

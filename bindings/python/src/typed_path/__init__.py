@@ -217,8 +217,8 @@ class TypedPath:
         """What is pickled: the class, the bytes, and the attributes that a subclass has besides."""
         cls: type = type(self)
         slots = {name: getattr(self, name) for name in _slots(cls) if hasattr(self, name)}
-        state = getattr(self, "__dict__", None) or None, slots or None
-        return _again, (cls, self._bytes), state if any(state) else None
+        attributes = getattr(self, "__dict__", None) or None
+        return _again, (cls, self._bytes), (attributes, slots) if slots else attributes
 
     @classmethod
     def __class_getitem__(cls: type[P], kind: object) -> type[P]:
