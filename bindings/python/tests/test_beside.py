@@ -9,7 +9,7 @@ import random
 import sys
 import unittest
 
-from typed_path import NoRelativePath, UnixPath, WindowsPath
+from typed_path import BaseLosesPrefix, NoRelativePath, UnixPath, WindowsPath
 
 ROUNDS = 5_000
 UNIX = ["a", "b", "c.d", ".e", "..", ".", "/", "//", "/..", "/./", "f.g.h", "i.", "日", " ", "con"]
@@ -310,19 +310,38 @@ class Page(unittest.TestCase):
             self.refuses(UnixPath("a/b").with_file_name, name)
         self.refuses(WindowsPath("a").with_file_name, "D:x")
         self.assertEqual(str(UnixPath("a.b").with_extension("x")), "a.x")
+        self.assertEqual(UnixPath("/").with_extension("x"), UnixPath("/"))
+        self.assertEqual(str(UnixPath("a.b").with_suffix(".x")), "a.x")
+        self.refuses(UnixPath("a.b").with_suffix, "x")
+        self.refuses(UnixPath("").with_suffix, ".x")
         self.assertEqual(str(UnixPath("a/..").with_file_name("x")), "a/../x")
+        for text in ("", "a/.."):
+            self.refuses(UnixPath(text).with_name, "x")
+        for name in ("..", "./a", "a/."):
+            self.refuses(UnixPath("a/b").with_name, name)
+        self.refuses(UnixPath("a/..x").with_suffix, "")
         self.assertEqual((str(UnixPath("../a").normalize()), str(UnixPath("../a").clean())), ("a", "../a"))
         path = WindowsPath("C:\\out\\D:x")
         self.assertEqual((str(path.normalize()), path.clean()), ("D:x", path))
         self.assertEqual(str(WindowsPath("C:\\a\\D:").absolutize("/")), "D:")
         self.assertEqual([str(it) for it in (UnixPath("a").parent, UnixPath(".").normalize())], ["", ""])
         self.assertEqual([str(UnixPath(it).clean()) for it in ("", ".")], [".", "."])
+        self.assertEqual(str(WindowsPath("C:").parent), "")
         self.assertEqual(UnixPath("./a").parts, (".", "a"))
         self.assertEqual(UnixPath("//a"), UnixPath("/a"))
         self.assertEqual((UnixPath("a/..").name, UnixPath("a.").suffix, str(UnixPath("a") / "")), ("", ".", "a"))
+        self.assertEqual((UnixPath("a.").stem, str(UnixPath("a.").with_suffix(".x"))), ("a", "a.x"))
+        self.assertEqual(UnixPath("..a.b").suffixes, [".a", ".b"])
         self.assertEqual(str(WindowsPath("C:\\a") / "C:b"), "C:b")
         self.assertEqual((str(WindowsPath("/") / "a"), str(WindowsPath("a/") / "b")), ("/\\a", "a/\\b"))
+        self.assertRaises(BaseLosesPrefix, WindowsPath("/x").with_name, "a")
         self.assertEqual(WindowsPath("a/\\b"), WindowsPath("a\\b"))
+        self.assertEqual((str(UnixPath("a//b/.")), UnixPath("a//b/.").as_posix()), ("a//b/.", "a//b/."))
+        self.assertFalse(WindowsPath("C:\\a").match("\\a") or UnixPath("/a").match("*/a"))
+        self.assertFalse(WindowsPath("A").match("a") or WindowsPath("A").full_match("a"))
+        self.assertEqual(UnixPath(b"a") / b"b", UnixPath("a/b"))
+        self.assertFalse(any(hasattr(UnixPath, it) for it in ("as_uri", "exists", "is_reserved", "resolve", "stat")))
+        self.assertRaises(TypeError, UnixPath("a").relative_to, "a", "b")
         self.assertNotEqual(WindowsPath("a"), WindowsPath("A"))
         for name in ("nul ", "con .txt", "CONIN$", "conout$.txt", "COM¹", "lpt².x"):
             self.assertTrue(WindowsPath(name).is_valid(), name)
@@ -347,13 +366,21 @@ class Page(unittest.TestCase):
         self.assertEqual(str(P("a.b").with_suffix(".x")), "a.x")
         self.refuses(P("a.b").with_suffix, "x")
         self.refuses(P("").with_name, "x")
+        self.refuses(P("").with_suffix, ".x")
+        self.assertEqual([str(P("a/b").with_name(it)) for it in ("./a", "a/.")], ["a/./a", "a/a/."])
+        self.assertEqual((P("a/..").with_name("x"), str(P("a/..x").with_suffix(""))), (P("a/x"), "a/."))
         self.assertEqual(posixpath.normpath("../a"), "../a")
         self.assertEqual(ntpath.normpath("C:\\out\\D:x"), "C:\\out\\D:x")
         self.assertEqual((str(P("a").parent), posixpath.normpath("")), (".", "."))
+        self.assertEqual(str(W("C:").parent), "C:")
         self.assertEqual((P("./a").parts, P("//a").parts), (("a",), ("//", "a")))
         self.assertEqual((P("a/..").name, P("a.").suffix, posixpath.join("a", "")), ("..", "", "a/"))
+        self.assertEqual((P("a.").stem, str(P("a.").with_suffix(".x")), P("..a.b").suffixes), ("a.", "a..x", [".b"]))
         self.assertEqual(ntpath.join("C:\\a", "C:b"), "C:\\a\\b")
         self.assertEqual((ntpath.join("/", "a"), ntpath.join("a/", "b")), ("/a", "a/b"))
+        self.assertEqual((str(W("/x").with_name("a")), str(P("a//b/.")), P("a//b/.").as_posix()), ("\\a", "a/b", "a/b"))
+        self.assertTrue(W("C:\\a").match("\\a") and P("/a").match("*/a") and W("A").match("a"))
+        self.assertRaises(TypeError, P, b"a")
         self.assertEqual(W("a"), W("A"))
         for name in ("nul ", "con .txt", "CONIN$", "conout$.txt", "COM¹", "lpt².x"):
             self.assertTrue(W(name).is_reserved(), name)
