@@ -257,12 +257,12 @@ class Slotted(WindowsPath):
 class Handing(UnixPath):
     """It hands its attribute on."""
 
-    tag = None
+    def __init__(self, *segments, tag):
+        super().__init__(*segments)
+        self.tag = tag
 
     def with_segments(self, *segments):
-        made = super().with_segments(*segments)
-        made.tag = self.tag
-        return made
+        return type(self)(*segments, tag=self.tag)
 
 
 class Subclasses(unittest.TestCase):
@@ -282,7 +282,7 @@ class Subclasses(unittest.TestCase):
 
     def test_class_is_kept(self):
         slotted = Slotted("C:\\a\\b.c")
-        for path in (Tagged("/a/b.c", 1), slotted, Handing("/a/b.c")):
+        for path in (Tagged("/a/b.c", 1), slotted, Handing("/a", "b.c", tag=1)):
             self.assertEqual({type(it) for it in self.made_of(path, "x")}, {type(path)})
             plain = (UnixPath if isinstance(path, UnixPath) else WindowsPath)(path)
             self.assertEqual(self.made_of(path, "x"), self.made_of(plain, "x"))
@@ -303,8 +303,7 @@ class Subclasses(unittest.TestCase):
         self.assertFalse(hasattr(pickle.loads(pickle.dumps(Slotted("a"))), "tag"))
 
     def test_attributes_are_handed_on(self):
-        path = Handing("/a/b.c")
-        path.tag = "kept"
+        path = Handing("/a/b.c", tag="kept")
         self.assertEqual({it.tag for it in self.made_of(path, "x")}, {"kept"})
 
     def test_pickles_of_older_states_are_read(self):

@@ -2,7 +2,7 @@ r"""Paths of Unix and of Windows, read and written alike on every machine, by th
 
 A path is bytes. It is made of a `str`, of `bytes`, or of what `os.fspath` takes; `str` and `bytes` of it lead back. A
 `str` stands for the bytes that `os.fsencode` makes of it, and `os.fsdecode` leads back, so a file that is opened has
-the name that was judged, and nothing is lost.
+the name that was judged, and nothing is lost. The words of `pathlib.PurePath` are here, each for what it is there.
 
 >>> UnixPath("/etc") / "x"
 UnixPath('/etc/x')
@@ -149,17 +149,15 @@ class TypedPath:
 
     def with_segments(self: P, *segments: Text) -> P:
         """A path of the class of this one, of these joined. Whatever a call makes of this path is made by it, so a
-        subclass that has attributes hands them on here, as in Python's own since 3.12.
+        subclass that has attributes hands them on here, as in `pathlib` since 3.12.
 
         >>> class Noted(UnixPath):
-        ...     note = ""
+        ...     def __init__(self, *segments, note):
+        ...         super().__init__(*segments)
+        ...         self.note = note
         ...     def with_segments(self, *segments):
-        ...         made = super().with_segments(*segments)
-        ...         made.note = self.note
-        ...         return made
-        >>> path = Noted("a")
-        >>> path.note = "mine"
-        >>> (path / "b").note
+        ...         return type(self)(*segments, note=self.note)
+        >>> (Noted("a", note="mine") / "b").note
         'mine'
         """
         path = object.__new__(type(self))
@@ -222,7 +220,7 @@ class TypedPath:
 
     @classmethod
     def __class_getitem__(cls: type[P], kind: object) -> type[P]:
-        """The class itself, as `os.PathLike[str]` is of an annotation."""
+        """The class itself, so that `UnixPath[str]` may be written."""
         return cls
 
     def __eq__(self, other: object) -> bool:
@@ -408,7 +406,7 @@ class TypedPath:
         return str(self).replace(self._separator, "/")
 
     def _split(self) -> tuple[TypedPath, tuple[str, ...]]:
-        """The path of the anchor, and the parts behind it."""
+        """The path that the anchor is, and the parts behind it."""
         anchor = self.anchor
         return self._of(self._encoded(anchor)), self.parts[1:] if anchor else self.parts
 
