@@ -339,6 +339,7 @@ class Page(unittest.TestCase):
         self.assertEqual((str(UnixPath("a//b/.")), UnixPath("a//b/.").as_posix()), ("a//b/.", "a//b/."))
         self.assertFalse(WindowsPath("C:\\a").match("\\a") or UnixPath("/a").match("*/a"))
         self.assertFalse(WindowsPath("A").match("a") or WindowsPath("A").full_match("a"))
+        self.assertTrue(UnixPath("a").full_match("a/**") and UnixPath("/x").full_match("**/x"))
         self.assertEqual(UnixPath(b"a") / b"b", UnixPath("a/b"))
         self.assertFalse(any(hasattr(UnixPath, it) for it in ("as_uri", "exists", "is_reserved", "resolve", "stat")))
         self.assertRaises(TypeError, UnixPath("a").relative_to, "a", "b")

@@ -2,7 +2,8 @@ r"""Paths of Unix and of Windows, read and written alike on every machine, by th
 
 A path is bytes. It is made of a `str`, of `bytes`, or of what `os.fspath` takes; `str` and `bytes` of it lead back. A
 `str` stands for the bytes that `os.fsencode` makes of it, and `os.fsdecode` leads back, so a file that is opened has
-the name that was judged, and nothing is lost. The words of `pathlib.PurePath` are here, each for what it is there.
+the name that was judged, and nothing is lost. The words of `pathlib.PurePath` are here; the page of the package says
+where they differ.
 
 >>> UnixPath("/etc") / "x"
 UnixPath('/etc/x')
@@ -184,7 +185,7 @@ class TypedPath:
         return _library.asked(name, self._dialect, self._bytes, *map(self._read, others))
 
     def _converted(self, cls: type[P], name: str) -> P:
-        made = _library.made(name, self._dialect, self._bytes, cls._dialect, judged=self)
+        made = _library.made(name, self._dialect, self._bytes, cls._dialect, told=self)
         return self._like(made) if isinstance(self, cls) else cls._of(made)
 
     def __str__(self) -> str:
@@ -545,7 +546,7 @@ class TypedPath:
             raw = self._read(other)
         except UnicodeEncodeError:
             raise InvalidFilename(other) from None
-        return self._like(_library.made("join_checked", self._dialect, self._bytes, raw, judged=other))
+        return self._like(_library.made("join_checked", self._dialect, self._bytes, raw, told=other))
 
     def _joined(self, names: list[Union[str, bytes]]) -> _library.Joined:
         """Checked joins of names that are all `str`, or all `bytes`."""
@@ -708,7 +709,7 @@ class TypedPath:
         typed_path.NoRelativePath: no relative path leads to 'a'
         """
         raw = self._read(base)
-        found = _library.made("relative_to", self._dialect, self._bytes, raw, judged=self, base=base)
+        found = _library.made("relative_to", self._dialect, self._bytes, raw, told=self, base=base)
         if not walk_up and found.split(self._separator.encode(), 1)[0] == b"..":
             raise NoRelativePath(f"{str(self)!r} does not lie below {self._decoded(raw)!r}", self, base)
         return self._like(found)
@@ -739,7 +740,7 @@ class TypedPath:
         WindowsPath('D:')
         """
         at = os.getcwdb() if directory is None else UnixPath._read(directory)
-        return self._like(_library.made("absolutize", self._dialect, self._bytes, at, judged=self))
+        return self._like(_library.made("absolutize", self._dialect, self._bytes, at, told=self))
 
     def to_unix(self) -> UnixPath:
         r"""The path as it is written on Unix; it may lose its prefix.

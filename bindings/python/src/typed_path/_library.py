@@ -213,19 +213,19 @@ def _words(other: object) -> tuple[object, ...]:
 
 
 def made(
-    name: str, dialect: int, path: bytes, other: Union[bytes, int, None] = None, judged: object = None,
+    name: str, dialect: int, path: bytes, other: Union[bytes, int, None] = None, told: object = None,
     base: object = None,
 ) -> bytes:
-    """What a call puts. No answer has four bytes more than the path and twice the other text. `judged` is what a
-    refusal is told of, and `base` what that was to lie below."""
+    """What a call puts. No answer has four bytes more than the path and twice the other text. `told` is what a refusal
+    tells of, and `base` what that was to lie below."""
     words = _words(other)
     size = len(path) + (2 * len(other) if isinstance(other, bytes) else 0) + 4
     out: Any = ctypes.create_string_buffer(size)
     length = c_size_t()
     status = _puts[name](dialect, path, len(path), *words, out, size, byref(length))
     if status != DONE:
-        text = Judged(dialect, other, None) if isinstance(other, bytes) else Judged(dialect, path, other)
-        raise _failed(status, judged, text, base)
+        judged = Judged(dialect, other, None) if isinstance(other, bytes) else Judged(dialect, path, other)
+        raise _failed(status, told, judged, base)
     answer: bytes = out[:length.value]
     return answer
 
