@@ -325,6 +325,8 @@ class NothingChanges(unittest.TestCase):
             with self.assertRaises(AttributeError):
                 path._bytes = b"c"
             with self.assertRaises(AttributeError):
+                path.__class__ = UnixPath if isinstance(path, WindowsPath) else WindowsPath
+            with self.assertRaises(AttributeError):
                 del path._bytes
             for name in ("name", "parent", "parts", "drive"):
                 self.assertRaises(AttributeError, setattr, path, name, "c")

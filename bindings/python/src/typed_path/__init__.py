@@ -123,7 +123,7 @@ class TypedPath:
             super().__delattr__(name)
 
     def _refuse_change(self, name: str) -> None:
-        if name == "_bytes":
+        if name in ("_bytes", "__class__"):
             raise AttributeError(f"{self!r} never changes")
 
     @classmethod
