@@ -254,6 +254,18 @@ class Slotted(WindowsPath):
     __slots__ = "tag"
 
 
+class Counted(UnixPath):
+    """It says itself what is pickled."""
+
+    count = 0
+
+    def __getstate__(self):
+        return self.count
+
+    def __setstate__(self, count):
+        self.count = count + 1
+
+
 class Handing(UnixPath):
     """It hands its attribute on."""
 
@@ -301,6 +313,9 @@ class Subclasses(unittest.TestCase):
             self.assertIsNot(copy.deepcopy(path).tag, path.tag)
         self.assertEqual(pickle.loads(pickle.dumps(Tagged("a", 1))).secret(), "secret 1")
         self.assertFalse(hasattr(pickle.loads(pickle.dumps(Slotted("a"))), "tag"))
+        counted = Counted("a")
+        counted.count = 1
+        self.assertEqual((bytes(copy.copy(counted)), copy.copy(counted).count), (b"a", 2))
 
     def test_attributes_are_handed_on(self):
         path = Handing("/a/b.c", tag="kept")

@@ -213,11 +213,14 @@ class TypedPath:
         return f"{type(self).__name__}({shown!r})"
 
     def __reduce__(self) -> tuple[object, ...]:
-        """What is pickled: the class, the bytes, and the attributes that a subclass has besides."""
+        return _again, (type(self), self._bytes), self.__getstate__()
+
+    def __getstate__(self) -> object:
+        """What is pickled with the bytes: the attributes that a subclass has besides."""
         cls: type = type(self)
         slots = {name: getattr(self, name) for name in _slots(cls) if hasattr(self, name)}
         attributes = getattr(self, "__dict__", None) or None
-        return _again, (cls, self._bytes), (attributes, slots) if slots else attributes
+        return (attributes, slots) if slots else attributes
 
     @classmethod
     def __class_getitem__(cls: type[P], kind: object) -> type[P]:
