@@ -11,3 +11,4 @@ pub mod Held
 pub mod NoneKept
 pub mod LastRule
 pub mod Children
+pub mod OneMore

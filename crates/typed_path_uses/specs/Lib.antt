@@ -3,3 +3,4 @@ pub mod Server
 pub mod Shipper
 pub mod Ignore
 pub mod Tree
+pub mod Counts

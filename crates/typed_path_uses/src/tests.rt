@@ -2,19 +2,20 @@
 
 use crate::{
     Rule, Tree, Unconfigured, Unserved, Untargeted, always_lies_in, are_alike, backup, configured,
-    day_folder, day_log, entry_on_windows, filed_in, has_no_link, is_ignored, is_mounted_in,
-    lead_alike, link, link_on_windows, nested, note, noted, read_from, rewritten, rewritten_texts,
-    served_below, served_on_unix, served_on_windows, shared_folder, shipped, shown, surely_fits,
-    target_below, targets, text_target_below, tidy_folder, typed_target_below, unpacked,
-    unpacked_below, without_detours,
+    counted, day_folder, day_log, entry_on_windows, filed_in, has_no_link, is_ignored,
+    is_mounted_in, lead_alike, link, link_on_windows, nested, note, noted, read_from, rewritten,
+    rewritten_texts, served_below, served_on_unix, served_on_windows, shared_folder, shipped,
+    shown, surely_fits, target_below, targets, text_target_below, tidy_folder, typed_target_below,
+    unpacked, unpacked_below, without_detours,
 };
 use std::alloc::{AllocError, Global};
 use std::collections::BTreeMap;
+use std::hash::RandomState;
 use std::test::Fail;
 use typed_path::{
-    CheckedPathError, Encoding, Path, PathError, TypedPath, UnixEncoding, UnixPath, UnixPathBuf,
-    Utf8UnixEncoding, Utf8WindowsEncoding, Utf8WindowsPath, WindowsEncoding, WindowsPath,
-    WindowsPathBuf,
+    CheckedPathError, Encoding, Key, Path, PathError, TypedPath, UnixEncoding, UnixPath,
+    UnixPathBuf, Utf8UnixEncoding, Utf8WindowsEncoding, Utf8WindowsPath, WindowsEncoding,
+    WindowsPath, WindowsPathBuf,
 };
 
 #[test]
@@ -603,6 +604,26 @@ fn folders_links_and_places(rt: HostRuntime) -> Result<(), Fail> {
     ];
     for (answer, wanted) in told {
         assert_eq!(rt; answer, wanted);
+    }
+    Ok(())
+}
+
+#[test]
+fn counted_names(rt: HostRuntime) -> Result<(), Fail> {
+    let alloc = rt.alloc();
+    let names: [&[u8]; 5] = [b"a/bc", b"ab/c", b"a//bc/.", b"/a/bc", b"abc"];
+    let rows: [(&[u8], Option<usize>); 5] = [
+        (b"./a", None),
+        (b"a/bc", Some(2)),
+        (b"ab//c", Some(1)),
+        (b"/a/./bc", Some(1)),
+        (b"abc", Some(1)),
+    ];
+    let counts = counted::<UnixEncoding, RandomState>(alloc, RandomState::new(&rt)?, &names)?;
+    assert_eq!(rt; counts.len(), 4);
+    for (name, wanted) in rows {
+        let key = Key::new(UnixPathBuf::from_bytes(alloc, name)?);
+        assert_eq!(rt; counts.get(&key).copied(), wanted);
     }
     Ok(())
 }
