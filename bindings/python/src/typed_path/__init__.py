@@ -100,7 +100,6 @@ class TypedPath:
     _dialect: ClassVar[int]
     _separator: ClassVar[str]
     _encoding: ClassVar[str]
-    _folder: ClassVar[bytes]  # behind it every name is read as itself
     _bytes: bytes
 
     def __init__(self, path: Text = "", *others: Text) -> None:
@@ -309,17 +308,13 @@ class TypedPath:
 
     @property
     def suffixes(self) -> list[str]:
-        """The suffix of the name, before it that of its stem, and so on.
+        """The suffix of the name, before it that of its stem, and so on: each dot begins one but the first byte.
 
         >>> UnixPath("b.tar.gz").suffixes, UnixPath(".bashrc").suffixes
         (['.tar', '.gz'], [])
         """
-        found: list[str] = []
-        path = self._bytes
-        while (extension := _library.part("extension", self._dialect, path)) is not None:
-            found.append(f".{self._decoded(extension)}")
-            path = self._folder + (_library.part("file_stem", self._dialect, path) or b"")
-        return found[::-1]
+        others = self.name[1:].split(".")[1:]
+        return [f".{other}" for other in others]
 
     @property
     def drive(self) -> str:
@@ -783,7 +778,7 @@ class UnixPath(TypedPath):
     """A path of Unix."""
 
     __slots__ = ()
-    _dialect, _separator, _folder = _library.UNIX, "/", b"/"
+    _dialect, _separator = _library.UNIX, "/"
     _encoding = _library.ENCODINGS[_library.UNIX]
 
 
@@ -791,7 +786,7 @@ class WindowsPath(TypedPath):
     r"""A path of Windows. Where a letter of the names of files may hold a `\`, as in Big5, its text is UTF-8."""
 
     __slots__ = ()
-    _dialect, _separator, _folder = _library.WINDOWS, "\\", b"\\\\?\\C:\\"
+    _dialect, _separator = _library.WINDOWS, "\\"
     _encoding = _library.ENCODINGS[_library.WINDOWS]
 
 
