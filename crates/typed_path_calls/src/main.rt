@@ -23,7 +23,6 @@ fn answer<T: Encoding, U: Encoding>(
         b"collect" => counted::collect::<T>(alloc, path),
         b"ancestors" => counted::ancestors::<T>(path),
         b"hash" => counted::hash::<T>(path),
-        b"key_hash" => counted::key_hash::<T>(path),
         b"parent" => counted::parent::<T>(path),
         b"file_name" => counted::file_name::<T>(path),
         b"file_stem" => counted::file_stem::<T>(path),

@@ -287,6 +287,7 @@ const PARTED: usize = 6;
 
 /// The order of two paths of which the prefixes differ, or one at least begins with two separators. None says
 /// nothing.
+#[inline(always)]
 fn order_by_prefixes(path: &[u8], other: &[u8]) -> Option<Ordering>
     ensures { IfSome result (λ order. path_cmp windows path.now other.now ≡ order) }
 {
