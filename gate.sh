@@ -71,7 +71,6 @@ if wait $! && [[ ! -s $room/wrong ]]; then
     part bindings/test.sh declared
     part ./pages.py
     part bench/count
-    part bench/calls
 else
     cat "$room/wrong"
     failed=1

@@ -33,16 +33,16 @@ LEFT_OUT = {
     (README, "cp -a ../typed_path/crates/typed_path/out"): "takes a built checkout, and 6 GB",
     (README, "./gate.sh quick"): "takes minutes, and runs this",
     (README, "./gate.sh  "): "takes more than an hour, and runs this",
-    (README, "(cd crates/typath && rt run < stdin)"): "takes 15 to 20 minutes",
+    (README, "(cd crates/typath && rt run < stdin)"): "takes half an hour",
     ("crates/typed_path/README.md", "typed_path: "): "what a command of the README writes",
     ("docs/ARCHITECTURE.md", "  a block of 32"): "a picture",
     ("docs/PERF.md", "git clone . ../old"): OLDER,
     ("docs/PERF.md", "git archive HEAD crates.txt"): OLDER,
     ("docs/PERF.md", "(cd ../old"): OLDER,
     ("docs/PERF.md", "bench/run ../old"): OLDER,
-    ("docs/C.md", "bindings/c/build.sh"): "proves the calls for C, as bindings/test.sh does",
-    ("docs/C.md", "bindings/c/install.sh"): "takes what that lays out, as bindings/test.sh does",
-    ("docs/C.md", "cc app.c"): "takes what that installs, as bindings/test.sh does",
+    ("docs/C.md", "bindings/c/build.sh DIR"): "proves the calls for C, as bindings/test.sh does",
+    ("docs/C.md", "export PKG_CONFIG_PATH"): "takes what that lays out",
+    ("docs/C.md", "cc app.c"): "takes what that lays out",
     ("bindings/python/README.md", ">>>"): "run by bindings/test.sh",
     ("bindings/python/README.md", "TYPED_PATH_LIBRARY="): "takes what bindings/c/build.sh lays out, and pip",
     ("docs/PERFORMANCE.md", "parallel "): "takes the proved program, and the package parallel",
@@ -66,7 +66,7 @@ PRINTED = {
 # Files in which a piece may stand.
 STORED = [
     "crates.txt", "crates/*/src/**/*.rt", "crates/typed_path*/specs/**/*.antt", "crates/typed_path*/proofs/**/*.antt",
-    "crates/typed_path/mutants/*.edit", "bindings/c/tests/app/CMakeLists.txt",
+    "crates/typed_path/mutants/*.edit",
 ]
 
 # Any other piece, with what stands before it in its function.

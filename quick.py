@@ -1,5 +1,5 @@
 #!/usr/bin/env python3
-"""Runs what `./gate.sh quick` runs, with no proof: the tests of each crate that has some, and the
+"""Runs what `./gate.sh quick` runs, with no proof: the tests of each crate that has some, and both
 programs over their stored input, side by side over the processors, by `rt try`, pages.py, and what
 bindings/test.sh looks at with no archive.
 

@@ -151,7 +151,7 @@ cases(
 )
 
 # Readings.
-READ = "walk walk_back peekable collect ancestors hash key_hash parent file_name file_stem extension"
+READ = "walk walk_back peekable collect ancestors hash parent file_name file_stem extension"
 cases("unix", READ, b"/usr/share/doc/python3/examples/a.py", b"a", filled(b"a/", 60), filled(b"usr//lib//", 60), filled(b"../", 60), b"n" * 1000)
 cases(
     "windows", READ,

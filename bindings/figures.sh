@@ -7,7 +7,7 @@ set -euo pipefail
 [[ $# -ge 1 ]] || { echo "figures.sh: it takes the folder that build.sh laid out" >&2 && exit 2; }
 here=$(cd "$(dirname "$0")" && pwd) dir=$(cd "$1" && pwd) room=$(mktemp -d)
 trap 'rm -rf "$room"' EXIT
-export PYTHONPATH=$here/python/src TYPED_PATH_LIBRARY=$dir/lib/libtyped_path.so PYTHONDONTWRITEBYTECODE=1
+export PYTHONPATH=$here/python/src TYPED_PATH_LIBRARY=$dir/lib/libtyped_path.so.0 PYTHONDONTWRITEBYTECODE=1
 
 g++ -std=c++17 -O2 "-I$dir/include" -o "$room/calls" -x c++ - -x none "$dir/lib/libtyped_path.a" << 'END'
 #include <chrono>

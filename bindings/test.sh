@@ -1,19 +1,16 @@
 #!/usr/bin/env bash
-# Tests the calls for C at their boundary, how they are installed and found, and the package of Python, over what
-# bindings/c/build.sh lays out. It says what it leaves out where a compiler, valgrind, pkg-config, cmake, man, mandoc,
-# python3 or a package of it is missing, and ends in `N passed, M failed`, where each part counts once.
+# Tests the calls for C at their boundary, and the package of Python, over what bindings/c/build.sh lays out.
+# It says what it leaves out where a compiler, valgrind, python3 or a package of it is missing, and ends in
+# `N passed, M failed`, where each part counts once.
 #
 # bindings/test.sh [DIR]: DIR has what build.sh laid out; without it, it is built.
-# bindings/test.sh declared: what needs no archive alone, with a stub in its place, which is what the gate runs.
+# bindings/test.sh declared: what needs no archive alone, which is what the gate runs.
 set -uo pipefail
 here=$(cd "$(dirname "$0")" && pwd)
 tests=$here/c/tests room=$(mktemp -d)
 trap 'rm -rf "$room"' EXIT
 export LC_ALL=C.UTF-8 PYTHONDONTWRITEBYTECODE=1
 passed=0 failed=0
-
-# shellcheck source=c/tests/installs.sh
-. "$tests/installs.sh"
 
 # Counts a part, and shows what it said where it failed.
 part() {
@@ -74,92 +71,12 @@ void drop(bool *answer) {
 END
     grep unused-result "$room/told"
 }
-# What stands in several places: the header, the crate, the list of what a built program relies on, and the manual.
 agree() {
-    local header=$include/typed_path.h list=$here/c/abi.txt page
     if is_there python3; then
-        part "header and crate agree" "$tests/exports.py" "$header" "$here/../crates/typed_path_c/src"
-        part "the ABI is the one that is listed" "$tests/abi.py" check "$header" "$list"
-        part "a change of the ABI takes another number" is_told_of_changes
-        part "header, crate, package and pages have one number" "$tests/abi.py" one "$header" "$here/.."
-        if earlier_list > "$room/earlier.txt" 2> "$room/said"; then
-            part "the list has the number that its last change takes" "$tests/abi.py" since "$room/earlier.txt" "$list"
-        else
-            left_out "whether the number was raised with the list" "earlier state of the list in git"
-        fi
-        part "the manual says what header and program say" "$tests/manual.py" \
-            "$header" "$here/c/man/typed_path.3" "$here/../refusals/help" "$here/c/man/typath.1"
+        part "header and crate agree" "$tests/exports.py" "$include/typed_path.h" "$here/../crates/typed_path_c/src"
     else
-        left_out "whether header, crate, list and manual agree" python3
+        left_out "whether header and crate agree" python3
     fi
-    for page in typed_path.3 typath.1; do
-        if is_there_man; then
-            part "$page is set by man" is_set "$here/c/man/$page"
-        else
-            left_out "whether man sets $page" "man-db with groff"
-        fi
-        if is_there mandoc; then
-            part "$page is set by mandoc" mandoc -T lint -W warning "$here/c/man/$page"
-        else
-            left_out "whether mandoc sets $page" mandoc
-        fi
-    done
-}
-# Without a warning.
-is_set() {
-    if ! MANROFFOPT=-ww man --warnings -l "$1" > "$room/page" 2> "$room/warnings" || [[ ! -s $room/page || -s $room/warnings ]]; then
-        cat "$room/warnings"
-        return 1
-    fi
-}
-is_there_man() {
-    man --version 2> "$room/said" | grep -q '^man [0-9]' && is_there groff
-}
-# The last state of the list that was another one.
-earlier_list() {
-    local commit
-    for commit in $(git -C "$here" log --format=%H -- c/abi.txt); do
-        git -C "$here" show "$commit:./c/abi.txt" | cmp -s - "$here/c/abi.txt" ||
-            { git -C "$here" show "$commit:./c/abi.txt" && return; }
-    done
-    return 1
-}
-# Each edit of a header that has a number is refused, and the least number that it takes is told and then taken.
-is_told_of_changes() {
-    local edit number least noted=
-    while IFS=$'\t' read -r number least edit; do
-        numbered "$number" "$here/c/include/typed_path.h" > "$room/was.h"
-        if [[ $number != "$noted" ]]; then
-            rm -f "$room/list"
-            "$tests/abi.py" note "$room/was.h" "$room/list" || return 1
-            noted=$number
-        fi
-        sed -e "$edit" "$room/was.h" > "$room/is.h"
-        numbered "$least" "$room/is.h" > "$room/raised.h"
-        cp "$room/list" "$room/raised"
-        if cmp -s "$room/was.h" "$room/is.h" || "$tests/abi.py" check "$room/is.h" "$room/list" > "$room/told" ||
-            ! grep -qF "the number is $number, and it has to be $least or more" "$room/told" ||
-            ! "$tests/abi.py" note "$room/raised.h" "$room/raised" || ! "$tests/abi.py" since "$room/list" "$room/raised"; then
-            echo "$number: $edit" && cat "$room/told" && return 1
-        fi
-    done << 'END'
-0.1.0	0.2.0	s/\(_NONE\) 8/\1 12/
-0.1.0	0.2.0	s/size_t length;/uint32_t length;/
-0.1.0	0.2.0	s/    uint32_t kind;/    uint32_t kind, more;/; s/kind, more;/kind;\n    uint32_t more;/
-0.1.0	0.2.0	s/(path_len) + 2)$/(path_len) + 3)/
-0.1.0	0.2.0	s/\(typed_path_derive(const char \*path\), size_t path_len/\1/
-0.1.0	0.2.0	/typed_path_version(void);/d
-0.1.0	0.1.1	s/^uint32_t typed_path_version(void);/&\nuint32_t typed_path_newer(void);/
-0.1.7	0.1.8	s/^#define TYPED_PATH_BAD_ENDS 10 .*/&\n#define TYPED_PATH_NEWER 11/
-1.4.2	2.0.0	s/uint64_t key0, uint64_t key1/uint64_t key/
-1.4.2	1.5.0	s/^uint32_t typed_path_version(void);/&\nuint32_t typed_path_newer(void);/
-END
-}
-# A header with another number.
-numbered() {
-    local major minor patch
-    IFS=. read -r major minor patch <<< "$1"
-    sed "s/\(_VERSION_MAJOR\) [0-9]*$/\1 $major/; s/\(_VERSION_MINOR\) [0-9]*$/\1 $minor/; s/\(_VERSION_PATCH\) [0-9]*$/\1 $patch/" "$2"
 }
 
 if [[ "$*" == declared ]]; then
@@ -173,12 +90,6 @@ if [[ "$*" == declared ]]; then
     each_language reads
     agree
     part "the tests and an example of C are read" compiles "$tests"/{boundary,rows}.c "$here/c/examples/check_names.c"
-    for needed in ld objcopy ar readelf; do
-        is_there $needed || { left_out "how the library is installed" $needed && end; }
-    done
-    part "a stub is laid out" "$tests/stub.sh" "$room/a stub"
-    printf '#include <typed_path.h>\nint main(void) { return typed_path_version() != TYPED_PATH_VERSION; }\n' > "$room/asked.c"
-    installs "$room/a stub" "$room/asked.c"
     end
 fi
 
@@ -192,8 +103,9 @@ else
     part "the crate is proved and laid out" "$here/c/build.sh" "$dir"
     [[ $failed -eq 0 ]] || end
 fi
-include=$dir/include archive=$dir/lib/libtyped_path.a shared=$dir/lib/libtyped_path.so
+include=$dir/include archive=$dir/lib/libtyped_path.a shared=$(echo "$dir"/lib/libtyped_path.so.*)
 export LD_LIBRARY_PATH=$dir/lib TYPED_PATH_LIBRARY=$shared PYTHONPATH=$here/python/src
+export PKG_CONFIG_PATH=$dir/lib/pkgconfig
 strict+=("-I$include")
 in_language() {
     "$1" -x "$2" "-std=$3" "${strict[@]}" "$tests/header.c" -x none "$archive" -o "$room/header" && "$room/header"
@@ -201,11 +113,11 @@ in_language() {
 each_language in_language
 
 # Names: what the header declares, the crate exports and the library shows.
-declares() {
+declared() {
     sed -n 's/^\(TYPED_PATH_MUST_USE \)\?uint32_t \(typed_path_[a-z_]*\)(.*/\2/p' "$include/typed_path.h" | sort
 }
 shows_declared() {
-    diff <(declares) <(nm -D --defined-only "$shared" | sed 's/.* //' | sort)
+    diff <(declared) <(nm -D --defined-only "$shared" | sed 's/.* //' | sort)
 }
 needs_four() {
     nm -u "$archive" | sed -n 's/^ *U //p' | grep -v '^_GLOBAL_OFFSET_TABLE_$' | sort -u > "$room/needed"
@@ -214,7 +126,15 @@ needs_four() {
 part "the shared object shows what the header declares" shows_declared
 part "the archive needs free, malloc, memmove, realloc" needs_four
 agree
-installs "$dir" "$tests/header.c"
+if is_there pkg-config; then
+    by_pkg_config() {
+        # shellcheck disable=SC2046
+        cc "$tests/header.c" $(pkg-config --cflags --libs typed_path) -o "$room/header" && "$room/header"
+    }
+    part "a program is linked by pkg-config" by_pkg_config
+else
+    left_out "linking by pkg-config" pkg-config
+fi
 
 # The boundary.
 compiled() {

@@ -1,26 +1,19 @@
 #!/usr/bin/env bash
-# Proves the calls for C and the program, builds them, and lays out in a folder what a program links with:
-#   include/typed_path.h   lib/libtyped_path.a   lib/libtyped_path.so   bin/typath
-#   lib/pkgconfig/typed_path.pc   lib/cmake/typed_path/typed_path-config.cmake
+# Proves the calls for C, builds them, and lays out in a folder what a program links with:
+#   include/typed_path.h   lib/libtyped_path.a   lib/libtyped_path.so   lib/pkgconfig/typed_path.pc
 #
-# bindings/c/build.sh [DIR]: without it, in bindings/c/out, from where install.sh takes it.
+# bindings/c/build.sh DIR
 set -euo pipefail
 here=$(cd "$(dirname "$0")" && pwd)
-# shellcheck source=common.sh
-. "$here/common.sh"
-[[ $# -le 1 && ${1-.} && ${1-.} != -* ]] || misused "it takes the folder to lay out in, if any"
+if [[ $# -ne 1 ]]; then
+    echo "build.sh: it takes the folder to lay out in" >&2
+    exit 2
+fi
 for needed in rt cc ld objcopy; do
-    command -v "$needed" > /dev/null || misused "there is no $needed"
+    command -v "$needed" > /dev/null || { echo "build.sh: there is no $needed" >&2 && exit 2; }
 done
-mkdir -p -- "${1:-$here/out}"
-dir=$(cd -- "${1:-$here/out}" && pwd)
-crates=$(cd "$here/../../crates" && pwd)
-# What a Global asks the C library for memory by lies in the kit, whose folder bin has rt.
-memory=$(dirname "$(readlink -f "$(command -v rt)")")/../c/liblibc_c.a
-[[ -f $memory ]] || misused "the kit of $(command -v rt) has no c/liblibc_c.a"
+crate=$here/../../crates/typed_path_c
+kit=$(cd "$(dirname "$(readlink -f "$(command -v rt)")")/.." && pwd)
 
-(cd "$crates/typed_path_c" && rt lib)
-"$here/layout.sh" "$dir" "$crates/typed_path_c/out/libtyped_path_c.a" "$memory"
-(cd "$crates/typath" && rt run < stdin)
-mkdir -p "$dir/bin"
-cp "$crates/typath/out/typath" "$dir/bin/"
+(cd "$crate" && rt lib)
+exec "$here/layout.sh" "$1" "$crate/out/libtyped_path_c.a" "$kit/c/liblibc_c.a"

@@ -1,6 +1,6 @@
 """Builds the wheel: the package, with the shared object in it that bindings/c/build.sh laid out.
 
-TYPED_PATH_LIBRARY names that file, as DIR/lib/libtyped_path.so. It is one for Linux on x86-64, so the wheel is
+TYPED_PATH_LIBRARY names that file, as DIR/lib/libtyped_path.so.0. It is one for Linux on x86-64, so the wheel is
 for no other machine. No tag says which processors it is for, so the build number does: those of x86-64-v2. Nothing
 but Python is needed.
 """
@@ -29,11 +29,11 @@ def files():
     """What stands in the wheel, by its name there."""
     library = os.environ.get("TYPED_PATH_LIBRARY")
     if not library:
-        raise SystemExit("TYPED_PATH_LIBRARY has to name the shared object, DIR/lib/libtyped_path.so of build.sh")
+        raise SystemExit("TYPED_PATH_LIBRARY has to name the shared object, DIR/lib/libtyped_path.so.0 of build.sh")
     for file in sorted((HERE / "src" / NAME).glob("*")):
         if file.is_file():
             yield f"{NAME}/{file.name}", file.read_bytes()
-    yield f"{NAME}/libtyped_path.so.0.1", pathlib.Path(library).read_bytes()
+    yield f"{NAME}/libtyped_path.so.0", pathlib.Path(library).read_bytes()
     for licence in ("LICENSE-MIT", "LICENSE-APACHE"):
         yield f"{NAME}-{VERSION}.dist-info/{licence}", (HERE.parents[1] / licence).read_bytes()
     yield f"{NAME}-{VERSION}.dist-info/METADATA", (METADATA + (HERE / "README.md").read_text()).encode()

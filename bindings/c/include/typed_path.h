@@ -284,10 +284,10 @@ TYPED_PATH_MUST_USE uint32_t typed_path_compare(
     uint32_t dialect, const char *path, size_t path_len, const char *other, size_t other_len,
     int32_t *order);
 
-/* A hash that is one of equal paths: SipHash 1-3, under a key of zeros, of each component: of a name by the
-   number of its bytes and these, of any other by a number of its kind, with the names or the letter of a
-   prefix. Paths that are not equal have one by chance alone. But who knows the key can look for such paths, so
-   for names that strangers choose take typed_path_hash_keyed. Of a bad dialect `*hash` is as it was. */
+/* A hash that is one of equal paths: SipHash 1-3, under a key of zeros, of each component's kind, the number
+   of its bytes, and these. Paths that differ have one by chance alone. But who knows the key can look for
+   such paths, so for names that strangers choose take typed_path_hash_keyed. Of a bad dialect `*hash` is as
+   it was. */
 TYPED_PATH_MUST_USE uint32_t typed_path_hash(
     uint32_t dialect, const char *path, size_t path_len, uint64_t *hash);
 

@@ -2,28 +2,25 @@
 """Extracts the files and folders of a tar archive into a new folder, or refuses the archive and writes nothing.
 
 A member is refused if its name leads out of the folder, is absolute or not allowed, and if it is neither a file
-nor a folder: no link is made, so no name leads through one. With --windows a name is refused, too, that a
-checked join of `WindowsPath` refuses; versions of Windows take others for devices, as `nul ` and `COM¹`.
+nor a folder: no link is made, so no name leads through one. With --windows a name is refused, too, that
+`WindowsPath.is_valid` refuses; versions of Windows take others for devices, as `nul ` and `COM¹`.
 
 extract_tar.py [--windows] ARCHIVE FOLDER: the status is 0, 1 if the archive is refused, 2 if something failed.
 """
-
-from __future__ import annotations
 
 import argparse
 import os
 import shutil
 import sys
 import tarfile
-from typing import Iterator, Sequence
 
 from typed_path import UnixPath, WindowsPath, extract_names
 
 
-def refusals(members: Sequence[tarfile.TarInfo], windows: bool) -> Iterator[tuple[str, str]]:
+def refusals(members, windows):
     """Each member that is refused, and for what."""
     names = [member.name for member in members]
-    for base in [UnixPath("folder"), WindowsPath("folder")][:2 if windows else 1]:
+    for base in (UnixPath("folder"), WindowsPath("folder"))[:2 if windows else 1]:
         for name, refusal in extract_names(base, names).refused:
             yield name, refusal.__name__
     for member in members:
@@ -31,19 +28,19 @@ def refusals(members: Sequence[tarfile.TarInfo], windows: bool) -> Iterator[tupl
             yield member.name, "neither a file nor a folder"
 
 
-def extract(archive: tarfile.TarFile, folder: str) -> None:
+def extract(archive, folder):
     """Writes the members, none of which is refused."""
     os.mkdir(folder)
     for member in archive.getmembers():
         # No parent is left over in a name that was taken, so nothing is lost here.
         target = UnixPath(folder) / UnixPath(member.name).normalize()
         os.makedirs(target if member.isdir() else target.parent, exist_ok=True)
-        if source := archive.extractfile(member):  # a folder has none
-            with source, open(target, "xb") as copy:
+        if member.isfile():
+            with archive.extractfile(member) as source, open(target, "xb") as copy:
                 shutil.copyfileobj(source, copy)
 
 
-def main(words: Sequence[str]) -> int:
+def main(words):
     parser = argparse.ArgumentParser(description=__doc__.partition("\n")[0])
     parser.add_argument("--windows", action="store_true", help="refuse names that WindowsPath refuses, too")
     parser.add_argument("archive")

@@ -9,22 +9,17 @@ the files of names and write to the folder under the names that are given here. 
 The status is 0 when all is done, 1 for an error that is named, 2 for wrong words, 3 if a partition failed.
 """
 
-from __future__ import annotations
-
 import argparse
 import collections
-import importlib
 import itertools
 import json
 import os
 import pathlib
 import sys
 import uuid
-from typing import Iterable, Iterator, Sequence, Tuple, Union
 
-from typed_path import BaseLosesPrefix, TypedPath, UnixPath, WindowsPath
+from typed_path import BaseLosesPrefix, UnixPath, WindowsPath
 
-Words = Tuple[str, TypedPath, bytes, str, int, int]  # those of `answer`
 REFUSALS = ("InvalidFilename", "PathTraversalAttack", "UnexpectedPrefix", "UnexpectedRoot")
 
 
@@ -40,7 +35,7 @@ class NoDask(Exception):
     """The package distributed is not there."""
 
 
-def cuts(files: Iterable[str], size: int, end: bytes) -> Iterator[tuple[str, int, int]]:
+def cuts(files, size, end):
     """Cuts the files behind the first name that ends a partition's size or more behind its start."""
     for file in files:
         total, start = os.path.getsize(file), 0
@@ -57,7 +52,7 @@ def cuts(files: Iterable[str], size: int, end: bytes) -> Iterator[tuple[str, int
                 start = stop
 
 
-def put(path: Union[str, pathlib.Path], content: bytes) -> None:
+def put(path, content):
     """Writes a file beside its name, and renames it."""
     beside = f"{path}.{uuid.uuid4().hex}.tmp"
     with open(beside, "wb") as file:
@@ -65,7 +60,7 @@ def put(path: Union[str, pathlib.Path], content: bytes) -> None:
     os.replace(beside, path)
 
 
-def answer(part: str, base: TypedPath, end: bytes, path: str, start: int, stop: int) -> dict[str, int]:
+def answer(part, base, end, path, start, stop):
     """Writes what became of the names in some bytes of a file, and counts it."""
     with open(path, "rb") as file:
         file.seek(start)
@@ -82,7 +77,7 @@ def answer(part: str, base: TypedPath, end: bytes, path: str, start: int, stop: 
     return counts
 
 
-def planned(options: argparse.Namespace) -> list[Words]:
+def planned(options):
     """What `answer` is called with for each partition, once the words are found right and the folder theirs."""
     base = (WindowsPath if options.windows else UnixPath)(os.fsencode(options.base))
     if not base.keeps_prefix():
@@ -97,30 +92,28 @@ def planned(options: argparse.Namespace) -> list[Words]:
     if noted.exists() and json.loads(noted.read_text()) != words:
         raise OtherWords(f"{noted} has other words: take another folder")
     put(noted, json.dumps(words).encode())
-    files, end = [os.path.abspath(it) for it in options.files], b"\0" if options.nul else b"\n"
+    files, end = map(os.path.abspath, options.files), b"\0" if options.nul else b"\n"
     return [(f"{folder}/part-{at:06}", base, end, *cut) for at, cut in enumerate(cuts(files, options.size, end))]
 
 
-def answers(plan: Sequence[Words], options: argparse.Namespace) -> Iterator[dict[str, int]]:
+def answers(plan, options):
     """The counts of each partition of the plan, as it is done."""
     if options.here:
         yield from (answer(*words) for words in plan)
         return
     try:
-        distributed = importlib.import_module("distributed")
+        from distributed import Client, as_completed
     except ImportError as error:
         raise NoDask(f"{error}: it is Debian's python3-distributed; or take --here") from error
     local = {"n_workers": options.workers, "threads_per_worker": 1, "dashboard_address": None}
-    with distributed.Client(options.scheduler) if options.scheduler else distributed.Client(**local) as client:
-        asked = client.map(answer, *zip(*plan), pure=False, retries=3)
-        for _, counts in distributed.as_completed(asked, with_results=True):
+    with Client(options.scheduler) if options.scheduler else Client(**local) as client:
+        for _, counts in as_completed(client.map(answer, *zip(*plan), pure=False, retries=3), with_results=True):
             yield counts
 
 
-def run(options: argparse.Namespace) -> collections.Counter[str]:
+def run(options):
     """Does what is missing, shows how far it is, and returns the sum of all counts."""
-    total: collections.Counter[str] = collections.Counter()
-    plan, done = planned(options), 0
+    plan, total, done = planned(options), collections.Counter(), 0
     noted = [pathlib.Path(f"{words[0]}.counts") for words in plan]
     there = [json.loads(file.read_text()) for file in noted if file.exists()]
     missing = [words for words, file in zip(plan, noted) if not file.exists()]
@@ -134,7 +127,7 @@ def run(options: argparse.Namespace) -> collections.Counter[str]:
     return total
 
 
-def main(words: Sequence[str]) -> int:
+def main(words):
     parser = argparse.ArgumentParser(description=__doc__, formatter_class=argparse.RawDescriptionHelpFormatter)
     parser.add_argument("files", nargs="+", metavar="FILE", help="a file of names")
     parser.add_argument("--base", required=True, help="what the names are joined to")

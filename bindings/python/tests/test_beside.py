@@ -1,7 +1,6 @@
 """Random paths beside `posixpath`, `ntpath` and `pathlib`, where both mean the same. Each condition below is a
 difference that the README explains, and the rows of its table stand last."""
 
-import collections
 import ntpath
 import pathlib
 import posixpath
@@ -9,7 +8,7 @@ import random
 import sys
 import unittest
 
-from typed_path import BaseLosesPrefix, NoRelativePath, UnixPath, WindowsPath
+from typed_path import NoRelativePath, UnixPath, WindowsPath
 
 ROUNDS = 5_000
 UNIX = ["a", "b", "c.d", ".e", "..", ".", "/", "//", "/..", "/./", "f.g.h", "i.", "日", " ", "con"]
@@ -41,14 +40,6 @@ def is_like_pathlib(text):
     return not text.startswith("//") and "." not in UnixPath(text).parts
 
 
-def answered(call, *words):
-    """What a call returns, or the error that it raises for a value."""
-    try:
-        return call(*words)
-    except ValueError:
-        return ValueError
-
-
 def filter_pairs(holds, texts):
     return ((text, other) for text, other in texts if holds(text) and holds(other))
 
@@ -71,21 +62,25 @@ def look_at_below(test, ours, theirs, texts):
             test.assertEqual(names, path.relative_to(base, walk_up=True), (text, base))
             taken += 1
         if ".." not in path.parts + ours(base).parts and path.has_root() == ours(base).has_root():
-            wanted = answered(theirs(text).relative_to, base)
-            test.assertEqual(names is not None, wanted is not ValueError, (text, base))
-            if names is not None:
-                test.assertEqual(str(names), str(wanted), (text, base))
+            wanted = theirs(text).is_relative_to(base)
+            test.assertEqual(names is not None, wanted, (text, base))
+            if wanted:
+                test.assertEqual(str(names), str(theirs(text).relative_to(base)), (text, base))
     test.assertGreater(taken, 100)
 
 
 def look_at_names(test, ours, theirs, texts):
-    """A name that pathlib refuses is refused, and of others `..` and one with a separator or a drive, which it may
-    overlook; and so is an extension with a separator."""
+    """A name that pathlib refuses is refused, and of others `..` and one with a separator, which it may overlook; and
+    so is an extension with a separator."""
     refused = 0
     for path, name in texts:
         separated = any(it in name for it in (ours._separator, "/"))
-        wanted = answered(theirs("a").with_name, name) is not ValueError
-        if not wanted or name == ".." or separated or ours(name).drive:
+        try:
+            theirs("a").with_name(name)
+            wanted = name != ".." and not separated
+        except ValueError:
+            wanted = False
+        if not wanted:
             test.assertRaises(ValueError, ours(path).with_file_name, name)
             refused += 1
         elif ours(path).keeps_prefix() and ours(path).parent.keeps_prefix():
@@ -93,64 +88,6 @@ def look_at_names(test, ours, theirs, texts):
         if separated:
             test.assertRaises(ValueError, ours(path).with_extension, name)
     test.assertGreater(refused, 1000)
-
-
-def look_at_parts(test, ours, theirs, texts):
-    """Anchors, parents and the other writing of a path are pathlib's, and so are its suffixes, unless there is a `..`
-    or a dot at either end of the name."""
-    for text in texts:
-        path, like = ours(text), theirs(text)
-        test.assertEqual((path.drive, path.root, path.anchor), (like.drive, like.root, like.anchor), text)
-        test.assertEqual(path.anchor, path.parts[0] if path.anchor else "", text)
-        test.assertEqual((theirs(path.as_posix()), ours(path.as_posix())), (like, path), text)
-        parents = [theirs(str(it)) for it in path.parents]
-        test.assertEqual(parents[:-1] if path.drive and not path.root else parents, list(like.parents), text)
-        test.assertTrue(all(type(it) is ours for it in path.parents))
-        if not is_dotted(like.name):
-            test.assertEqual(path.suffixes, like.suffixes, text)
-
-
-def is_dotted(name):
-    return name.startswith("..") or name.endswith(".")
-
-
-def look_at_new_names(test, ours, theirs, texts):
-    """Another name, stem or suffix is put in its place or refused as pathlib does it, for a path and a name that do not
-    begin with two dots, nor end in one, and a parent that keeps its prefix. Python 3.13 refuses an empty stem."""
-    counts = collections.Counter()
-    for text, name in texts:
-        path, like = ours(text), theirs(text)
-        if is_dotted(like.name) or is_dotted(name) or ours(name).drive or not path.parent.keeps_prefix():
-            continue
-        words = ("with_name", name), ("with_stem", name), ("with_suffix", name), ("with_suffix", f".{name}")
-        for call, word in words:
-            if hasattr(like, call) and not any(it in name for it in "\\/") and (name or call != "with_stem"):
-                got, wanted = answered(getattr(path, call), word), answered(getattr(like, call), word)
-                test.assertEqual(got if got is ValueError else theirs(str(got)), wanted, (text, call, word))
-                counts[call, got is ValueError] += 1
-    test.assertTrue(len(counts) > 3 and min(counts.values()) > 10, counts)
-
-
-def look_at_patterns(test, ours, theirs, texts):
-    """A pattern is matched as by pathlib, but for its anchor, which has to be an equal one. `full_match` goes by all
-    parts; in Python 3.13 a `**` at the end stands for one at least."""
-    counts = collections.Counter()
-    chosen = random.Random(20261130)
-    for text, pattern in texts:
-        pattern = "".join(chosen.choice(("*", "?", "[a-c]", "**", it, it)) if it in "abefé日" else it for it in pattern)
-        path, anchor, wanted = ours(text), ours(pattern).anchor, ours(pattern).parts
-        alike = ours(anchor) == ours(path.anchor)
-        if not wanted:
-            test.assertRaises(ValueError, path.match, pattern)
-        elif "**" not in pattern and (alike or not anchor and len(path.parts) > len(wanted)):
-            test.assertEqual(path.match(pattern), theirs(text).match(pattern), (text, pattern))
-            counts[path.match(pattern)] += 1
-        if "**" not in wanted:
-            whole = alike and len(path.parts) == len(wanted) and (not wanted or path.match(pattern))
-            test.assertEqual(path.full_match(pattern), whole, (text, pattern))
-        elif alike and hasattr(theirs, "full_match") and wanted[-1] != "**":
-            test.assertEqual(path.full_match(pattern), theirs(text).full_match(pattern), (text, pattern))
-    test.assertGreater(min(counts[True], counts[False]), 20)
 
 
 class Unix(unittest.TestCase):
@@ -216,15 +153,6 @@ class Unix(unittest.TestCase):
     def test_other_names(self):
         look_at_names(self, UnixPath, pathlib.PurePosixPath, pairs(UNIX))
 
-    def test_parts(self):
-        look_at_parts(self, UnixPath, pathlib.PurePosixPath, filter(is_like_pathlib, texts(UNIX)))
-
-    def test_new_names(self):
-        look_at_new_names(self, UnixPath, pathlib.PurePosixPath, filter_pairs(is_like_pathlib, pairs(UNIX)))
-
-    def test_patterns(self):
-        look_at_patterns(self, UnixPath, pathlib.PurePosixPath, filter_pairs(is_like_pathlib, pairs(UNIX)))
-
     def test_what_is_accepted_lies_within(self):
         for base, path in pairs(UNIX, ("", "/", "/srv/")):
             batch = UnixPath(base).join_checked_batch([path])
@@ -263,18 +191,6 @@ class Windows(unittest.TestCase):
     def test_other_names(self):
         look_at_names(self, WindowsPath, pathlib.PureWindowsPath, pairs(WINDOWS, self.FRONTS))
 
-    def test_parts(self):
-        found = (it for it in texts(WINDOWS, self.FRONTS) if "." not in WindowsPath(it).parts)
-        look_at_parts(self, WindowsPath, pathlib.PureWindowsPath, found)
-
-    def test_new_names(self):
-        found = pairs(WINDOWS, self.FRONTS)
-        look_at_new_names(self, WindowsPath, pathlib.PureWindowsPath, filter_pairs(is_plain_on_windows, found))
-
-    def test_patterns(self):
-        found = pairs(WINDOWS, self.FRONTS)
-        look_at_patterns(self, WindowsPath, pathlib.PureWindowsPath, filter_pairs(is_plain_on_windows, found))
-
     def test_devices(self):
         for name in ("con", "NUL.txt", "com1", "a/LPT9.x"):
             self.assertFalse(WindowsPath(name).is_valid())
@@ -310,39 +226,19 @@ class Page(unittest.TestCase):
             self.refuses(UnixPath("a/b").with_file_name, name)
         self.refuses(WindowsPath("a").with_file_name, "D:x")
         self.assertEqual(str(UnixPath("a.b").with_extension("x")), "a.x")
-        self.assertEqual(UnixPath("/").with_extension("x"), UnixPath("/"))
-        self.assertEqual(str(UnixPath("a.b").with_suffix(".x")), "a.x")
-        self.refuses(UnixPath("a.b").with_suffix, "x")
-        self.refuses(UnixPath("").with_suffix, ".x")
         self.assertEqual(str(UnixPath("a/..").with_file_name("x")), "a/../x")
-        for text in ("", "a/.."):
-            self.refuses(UnixPath(text).with_name, "x")
-        for name in ("..", "./a", "a/."):
-            self.refuses(UnixPath("a/b").with_name, name)
-        self.refuses(UnixPath("a/..x").with_suffix, "")
         self.assertEqual((str(UnixPath("../a").normalize()), str(UnixPath("../a").clean())), ("a", "../a"))
         path = WindowsPath("C:\\out\\D:x")
         self.assertEqual((str(path.normalize()), path.clean()), ("D:x", path))
         self.assertEqual(str(WindowsPath("C:\\a\\D:").absolutize("/")), "D:")
         self.assertEqual([str(it) for it in (UnixPath("a").parent, UnixPath(".").normalize())], ["", ""])
         self.assertEqual([str(UnixPath(it).clean()) for it in ("", ".")], [".", "."])
-        self.assertEqual(str(WindowsPath("C:").parent), "")
         self.assertEqual(UnixPath("./a").parts, (".", "a"))
         self.assertEqual(UnixPath("//a"), UnixPath("/a"))
         self.assertEqual((UnixPath("a/..").name, UnixPath("a.").suffix, str(UnixPath("a") / "")), ("", ".", "a"))
-        self.assertEqual((UnixPath("a.").stem, str(UnixPath("a.").with_suffix(".x"))), ("a", "a.x"))
-        self.assertEqual(UnixPath("..a.b").suffixes, [".a", ".b"])
         self.assertEqual(str(WindowsPath("C:\\a") / "C:b"), "C:b")
         self.assertEqual((str(WindowsPath("/") / "a"), str(WindowsPath("a/") / "b")), ("/\\a", "a/\\b"))
-        self.assertRaises(BaseLosesPrefix, WindowsPath("/x").with_name, "a")
         self.assertEqual(WindowsPath("a/\\b"), WindowsPath("a\\b"))
-        self.assertEqual((str(UnixPath("a//b/.")), UnixPath("a//b/.").as_posix()), ("a//b/.", "a//b/."))
-        self.assertFalse(WindowsPath("C:\\a").match("\\a") or UnixPath("/a").match("*/a"))
-        self.assertFalse(WindowsPath("A").match("a") or WindowsPath("A").full_match("a"))
-        self.assertTrue(UnixPath("a").full_match("a/**") and UnixPath("/x").full_match("**/x"))
-        self.assertEqual(UnixPath(b"a") / b"b", UnixPath("a/b"))
-        self.assertFalse(any(hasattr(UnixPath, it) for it in ("as_uri", "exists", "is_reserved", "resolve", "stat")))
-        self.assertRaises(TypeError, UnixPath("a").relative_to, "a", "b")
         self.assertNotEqual(WindowsPath("a"), WindowsPath("A"))
         for name in ("nul ", "con .txt", "CONIN$", "conout$.txt", "COM¹", "lpt².x"):
             self.assertTrue(WindowsPath(name).is_valid(), name)
@@ -367,21 +263,13 @@ class Page(unittest.TestCase):
         self.assertEqual(str(P("a.b").with_suffix(".x")), "a.x")
         self.refuses(P("a.b").with_suffix, "x")
         self.refuses(P("").with_name, "x")
-        self.refuses(P("").with_suffix, ".x")
-        self.assertEqual([str(P("a/b").with_name(it)) for it in ("./a", "a/.")], ["a/./a", "a/a/."])
-        self.assertEqual((P("a/..").with_name("x"), str(P("a/..x").with_suffix(""))), (P("a/x"), "a/."))
         self.assertEqual(posixpath.normpath("../a"), "../a")
         self.assertEqual(ntpath.normpath("C:\\out\\D:x"), "C:\\out\\D:x")
         self.assertEqual((str(P("a").parent), posixpath.normpath("")), (".", "."))
-        self.assertEqual(str(W("C:").parent), "C:")
         self.assertEqual((P("./a").parts, P("//a").parts), (("a",), ("//", "a")))
         self.assertEqual((P("a/..").name, P("a.").suffix, posixpath.join("a", "")), ("..", "", "a/"))
-        self.assertEqual((P("a.").stem, str(P("a.").with_suffix(".x")), P("..a.b").suffixes), ("a.", "a..x", [".b"]))
         self.assertEqual(ntpath.join("C:\\a", "C:b"), "C:\\a\\b")
         self.assertEqual((ntpath.join("/", "a"), ntpath.join("a/", "b")), ("/a", "a/b"))
-        self.assertEqual((str(W("/x").with_name("a")), str(P("a//b/.")), P("a//b/.").as_posix()), ("\\a", "a/b", "a/b"))
-        self.assertTrue(W("C:\\a").match("\\a") and P("/a").match("*/a") and W("A").match("a"))
-        self.assertRaises(TypeError, P, b"a")
         self.assertEqual(W("a"), W("A"))
         for name in ("nul ", "con .txt", "CONIN$", "conout$.txt", "COM¹", "lpt².x"):
             self.assertTrue(W(name).is_reserved(), name)

@@ -1,6 +1,6 @@
 //! The laws of paths, each as a function that does nothing and ensures the law.
 
-ghost use Rattle.std.specs.Prelude.{◌≡◌, ◌↔◌, ℕ, ◌+◌, ◌*◌, ◌<◌, ◌≤◌, List, [], ◌∷◌, ◌++◌, true, false, length, Some, None, IfSome, IfOk, pos};
+ghost use Rattle.std.specs.Prelude.{◌≡◌, ◌↔◌, ℕ, ◌+◌, ◌*◌, ◌^◌, ◌<◌, ◌≤◌, List, [], ◌∷◌, ◌++◌, true, false, length, Some, None, IfSome, IfOk, pos};
 ghost use Rattle.std.specs.List.{list_any, last_or};
 ghost use Rattle.std.specs.Cmp.{IsTotalOrder};
 ghost use Rattle.std.specs.declared.cmp.Ordering.{Ordering};
@@ -101,8 +101,8 @@ pub fn equal_paths_hash_alike(path: &[u8], other: &[u8])
     ensures { HashAlike d path.now other.now }
 {}
 
-/// Two keys feed a hasher the same words exactly if their paths are equal. Where the bytes that they feed come to the
-/// same with any bytes behind each, the paths are equal too, and so is what stands behind.
+/// Two keys feed a hasher the same words exactly if their paths are equal. Where the bytes that they feed begin
+/// alike, the paths are equal too, and so is what follows.
 pub fn keys_tell_paths_apart(path: &[u8], other: &[u8])
     ghost d: { Dialect }
     ensures words { IsKeyed d path.now other.now }

@@ -16,8 +16,8 @@ pub use cut::{
 };
 pub use lanes::{first_between, first_difference, has_no_nul_or_dot_pair};
 pub use names::{
-    before_last_separator, begins_with_long_name, has_long_front, has_no_blank_behind,
-    has_only_names, leading_names, leading_short_names,
+    before_last_separator, begins_with_long_name, has_no_blank_behind, has_only_names,
+    is_one_long_name, leading_names, leading_short_names,
 };
 pub use prefix::{
     Found, WindowsPrefix, after_mark, begins_with_two, byte_behind_two, drive, find_prefix,

@@ -5,8 +5,8 @@
 
 use std::alloc::Global;
 use std::cmp::Ordering;
-use std::hash::{DefaultHasher, Hash, Hasher};
-use typed_path::{Encoding, Key, Path, PathBuf, Piece, PlatformPath, WindowsPath};
+use std::hash::{DefaultHasher, Hasher};
+use typed_path::{Encoding, Path, PathBuf, Piece, PlatformPath, WindowsPath};
 
 /// The length of a path that was made.
 #[inline(always)]
@@ -83,14 +83,6 @@ pub fn ancestors<T: Encoding>(path: &[u8]) -> usize {
 pub fn hash<T: Encoding>(path: &[u8]) -> usize {
     let mut state = DefaultHasher::default();
     T::hash(path, &mut state);
-    usize::from(state.finish() != 0)
-}
-
-/// The same of the key of the path.
-#[inline(never)]
-pub fn key_hash<T: Encoding>(path: &[u8]) -> usize {
-    let mut state = DefaultHasher::default();
-    Key::new(Path::<T>::new(path)).hash(&mut state);
     usize::from(state.finish() != 0)
 }
 

@@ -29,10 +29,7 @@ fn megabytes(rt: HostRuntime) -> Result<(), Fail> {
 fn is_read_as_text(alloc: Global, kind: PathType, long: &Long) -> Result<bool, AllocError> {
     let (bytes, normal, count) = long_texts(alloc, long)?;
     let text = Utf8TypedPath::new(str::from_utf8(bytes.as_slice()).unwrap_or(""), kind);
-    Ok(
-        text.normalize(alloc)?.as_str().as_bytes() == normal.as_slice()
-            && meets_behind!(text, count),
-    )
+    Ok(text.normalize(alloc)?.as_str().as_bytes() == normal.as_slice() && meets_behind!(text, count))
 }
 
 #[test]
@@ -66,35 +63,21 @@ fn is_kept(alloc: Global, kind: PathType, name: &str) -> Result<bool, ValueError
     Ok(true)
 }
 
-/// Whether each call of a path that grows gives what it is to give of one name.
+/// Whether each call that grows gives what it is to give of one name, and JSON values keep it.
 fn is_grown(alloc: Global, kind: PathType, name: &str) -> Result<bool, AllocError> {
     let bytes = name.as_bytes();
     let (empty, lent) = (TypedPath::new(b"", kind), TypedPath::new(bytes, kind));
-    Ok(
-        grows!(alloc, TypedPathBuf::new(alloc, kind), empty, lent, bytes, b"", bytes, path => path.as_bytes()),
-    )
-}
-
-/// The same of a path of text.
-fn is_grown_as_text(alloc: Global, kind: PathType, name: &str) -> Result<bool, AllocError> {
-    let (empty, lent) = (Utf8TypedPath::new("", kind), Utf8TypedPath::new(name, kind));
-    Ok(
-        grows!(alloc, Utf8TypedPathBuf::new(alloc, kind), empty, lent, name, "", name, path => path.as_str()),
-    )
-}
-
-/// Whether both do, and JSON values keep the name.
-fn is_grown_and_kept(alloc: Global, kind: PathType, name: &str) -> Result<bool, AllocError> {
-    Ok(
-        is_grown(alloc, kind, name)?
-            && is_grown_as_text(alloc, kind, name)?
-            && is_kept(alloc, kind, name) == Ok(true),
-    )
+    let (no_text, text) = (Utf8TypedPath::new("", kind), Utf8TypedPath::new(name, kind));
+    let typed =
+        grows!(alloc, TypedPathBuf::new(alloc, kind), empty, lent, bytes, b"", bytes, path => path.as_bytes());
+    let of_text =
+        grows!(alloc, Utf8TypedPathBuf::new(alloc, kind), no_text, text, name, "", name, path => path.as_str());
+    Ok(typed && of_text && is_kept(alloc, kind, name) == Ok(true))
 }
 
 #[test]
 fn names_of_many_lengths(rt: HostRuntime) -> Result<(), Fail> {
     let alloc = rt.alloc();
-    each_name!(rt, name => is_grown_and_kept(alloc, PathType::Unix, name)?, is_grown_and_kept(alloc, PathType::Windows, name)?);
+    each_name!(rt, name => is_grown(alloc, PathType::Unix, name)?, is_grown(alloc, PathType::Windows, name)?);
     Ok(())
 }

@@ -11,4 +11,3 @@ pub mod Held
 pub mod NoneKept
 pub mod LastRule
 pub mod Children
-pub mod OneMore

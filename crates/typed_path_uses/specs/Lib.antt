@@ -3,4 +3,3 @@ pub mod Server
 pub mod Shipper
 pub mod Ignore
 pub mod Tree
-pub mod Counts

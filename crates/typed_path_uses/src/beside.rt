@@ -1,5 +1,4 @@
-//! Names beside others, what two files share, whether a path lies in a folder, paths as they are shown, and how
-//! long they grow.
+//! Names beside others, what two files share, and paths as they are shown.
 
 ghost use Rattle.std.specs.Prelude.{◌≡◌, ◌++◌, ◌+◌, ◌↔◌, ◌≤◌, ◌&&◌, ℕ, List, true, codes, length, Some, None, IfOk, IfSome, option_map};
 ghost use Rattle.typed_path.specs.changes.Push as push_spec;
@@ -18,8 +17,7 @@ use typed_path::laws::{
 };
 use typed_path::{Encoding, Path, UnixPath, UnixPathBuf, WindowsComponents, WindowsPath};
 
-/// Where the copy of a file goes that is made before a change: beside it, with `.bak` behind its name. A path
-/// without a file name stays as it is.
+/// Where the copy of a file goes that is made before a change: beside it, with `.bak` behind its name.
 pub fn backup(alloc: Global, file: UnixPath<'_>) -> Result<UnixPathBuf, AllocError>
     ensures beside { (name : List ℕ) → file_name_of unix (path_bytes file.entry) ≡ Some name
         → IfOk result

@@ -1,6 +1,6 @@
 //! Folders that are made one below the other.
 
-ghost use Rattle.std.specs.Prelude.{IfOk};
+ghost use Rattle.std.specs.Prelude.{◌≡◌, true, IfOk};
 ghost use Rattle.typed_path.specs.promises.{StaysWithin};
 ghost use Rattle.typed_path.specs.views.PathViews.{path_bytes};
 
@@ -10,10 +10,6 @@ use typed_path::{Encoding, Path, PathBuf, PathError};
 
 /// A folder within a base, and a file within the folder, both named by strangers. The file lies within the
 /// base, if that keeps its prefix.
-///
-/// # Errors
-///
-/// `Checked` for the first name with a fault, `OutOfMemory` where memory is refused.
 pub fn filed_in<T: Encoding>(
     alloc: Global,
     base: Path<'_, T>,
@@ -30,10 +26,6 @@ pub fn filed_in<T: Encoding>(
 
 /// A path within a base, onto which names are pushed one by one: each is kept from leading out of what those
 /// before it made, so the whole lies within the base, if that keeps its prefix.
-///
-/// # Errors
-///
-/// `Checked` for the first name with a fault, `OutOfMemory` where memory is refused.
 pub fn nested<T: Encoding>(
     alloc: Global,
     base: Path<'_, T>,

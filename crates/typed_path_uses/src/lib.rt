@@ -3,7 +3,6 @@
 
 mod beside;
 mod config;
-mod counts;
 mod extractor;
 mod folders;
 mod ignore;
@@ -21,7 +20,6 @@ mod walk;
 
 pub use beside::{always_lies_in, backup, is_mounted_in, shared_folder, shown, surely_fits};
 pub use config::{Unconfigured, configured};
-pub use counts::counted;
 pub use extractor::{
     Refused, Unpacking, Untargeted, target, target_below, targets, unpacked, unpacked_below,
 };

@@ -3,7 +3,7 @@
 ghost use Rattle.std.specs.Prelude.{◌≡◌, ◌≢◌, ◌↔◌, ◌+◌, ◌*◌, ◌≤◌, ℕ, List, [], ◌∷◌, true, false, length, Some, None, IfOk, IfSome, option_map};
 ghost use Rattle.typed_path.specs.changes.Push as push_spec;
 ghost use Rattle.typed_path.specs.components.{dot, kinds, parts_of, unix, windows};
-ghost use Rattle.typed_path.specs.places.{clean_text, relative_text, route};
+ghost use Rattle.typed_path.specs.places.{clean_text, is_anchored, relative_text, rising, route};
 ghost use Rattle.typed_path.specs.promises.{IsRelative, IsUnreached, keeps_prefix};
 ghost use Rattle.typed_path.specs.queries.{begins_with_root, has_any_verbatim_prefix};
 ghost use Rattle.typed_path.specs.views.PathViews.{path_bytes};

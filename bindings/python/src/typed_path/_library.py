@@ -6,60 +6,26 @@ import ctypes
 import itertools
 import os
 import pathlib
-import sys
 from ctypes import POINTER, byref, c_bool, c_char, c_char_p, c_int32, c_size_t, c_uint32, c_uint64
-from typing import Any, Callable, NamedTuple, Optional, Sequence, TypeVar, Union
+from typing import Callable, NamedTuple, Optional, Sequence, TypeVar
 
 Text = TypeVar("Text", str, bytes)
-NAME = "libtyped_path.so.0.1"
+NAME = "libtyped_path.so.0"
 VERSION = 100
 UNIX, WINDOWS = 0, 1
 
-# What os.fsencode and os.fsdecode take.
-ENCODING, ERRORS = sys.getfilesystemencoding(), sys.getfilesystemencodeerrors()
 
-
-def keeps_backslashes(encoding: str) -> bool:
-    r"""Whether a `\` behind any other byte is one in text too. In Big5 and its like it may be half of a letter."""
-    return all(bytes((byte, 92)).decode(encoding, ERRORS).endswith("\\") for byte in range(128, 256))
-
-
-# What the text of a path of each dialect is read by.
-ENCODINGS = (ENCODING, ENCODING if keeps_backslashes(ENCODING) else "utf-8")
-
-
-class TypedPathError(ValueError):
-    """What a call of this package refuses, but for a `str` that no bytes stand for. `path` is what it was refused
-    for, as it was handed in, and `base` what that was to lie below or begin with, or None."""
-
-    def __init__(self, message: object = "", path: object = None, base: object = None) -> None:
-        super().__init__(message)
-        self.path, self.base = path, base
-
-
-class CheckedPathError(TypedPathError):
+class CheckedPathError(ValueError):
     """A path was refused for its first component that offends. `path` is the path."""
 
     message = "path was refused"
 
-    def __init__(self, path: object, judged: Optional[Judged] = None) -> None:
-        shown = path if isinstance(path, (str, bytes)) else str(path)
-        super().__init__(f"{self.message}: {shown!r}", path)
-        self._judged = judged
+    def __init__(self, path: object) -> None:
+        super().__init__(f"{self.message}: {str(path)!r}")
+        self.path = path
 
-    def __reduce__(self) -> tuple[object, ...]:
-        return type(self), (self.path,), self.__dict__
-
-    @property
-    def place(self) -> Optional[int]:
-        """How many components stand before the one that offends. None where no call has judged the path, as a `str`
-        that no bytes stand for."""
-        return None if self._judged is None else self._judged.place()
-
-    @property
-    def name(self) -> Optional[str]:
-        """The component that offends, or None, as `place`."""
-        return None if self._judged is None else self._judged.name()
+    def __reduce__(self):
+        return type(self), (self.path,)
 
 
 class InvalidFilename(CheckedPathError):
@@ -86,11 +52,11 @@ class UnexpectedRoot(CheckedPathError):
     message = "path contains unexpected root"
 
 
-class NoRelativePath(TypedPathError):
+class NoRelativePath(ValueError):
     """No relative path leads from the base to the path, or only one that begins with `..`."""
 
 
-class Ambiguous(TypedPathError):
+class Ambiguous(ValueError):
     """A path is absolute neither alone nor behind the directory."""
 
 
@@ -99,7 +65,6 @@ REFUSALS = {INVALID_FILENAME: InvalidFilename, 2: PathTraversalAttack, 3: Unexpe
 KINDS = (
     "root", "current", "parent", "normal", "Verbatim", "VerbatimUNC", "VerbatimDisk", "DeviceNS", "UNC", "Disk",
 )
-PREFIXES = KINDS[4:]
 
 
 class Span(ctypes.Structure):
@@ -126,9 +91,8 @@ _PUT = (POINTER(c_char), c_size_t, POINTER(c_size_t))
 
 
 def _call(name: str, *kinds: object) -> Callable[..., int]:
-    found: Any = getattr(_library, f"typed_path_{name}")
-    found.argtypes, found.restype = kinds, c_uint32
-    call: Callable[..., int] = found
+    call = getattr(_library, f"typed_path_{name}")
+    call.argtypes, call.restype = kinds, c_uint32
     return call
 
 
@@ -151,7 +115,6 @@ _questions = {
        for name in ("starts_with", "ends_with", "is_within", "equal")},
 }
 _components = _call("components", c_uint32, *_TEXT, POINTER(Piece), c_size_t, POINTER(c_size_t))
-_component_at = _call("component_at", c_uint32, *_TEXT, c_size_t, POINTER(Piece))
 _compare = _call("compare", c_uint32, *_TEXT, *_TEXT, POINTER(c_int32))
 _hash = _call("hash_keyed", c_uint32, c_uint64, c_uint64, *_TEXT, POINTER(c_uint64))
 _batch = _call(
@@ -160,74 +123,35 @@ _batch = _call(
 )
 
 
-class Judged(NamedTuple):
-    """What a checked call has judged: a text of a dialect, as one of another where it converts."""
-
-    dialect: int
-    text: bytes
-    other: Optional[int]
-
-    def is_refused(self, end: int) -> bool:
-        """Whether the text up to there is refused."""
-        text = self.text[:end]
-        try:
-            if self.other is None:
-                made("join_checked", self.dialect, b"", text)
-            else:
-                made("convert_checked", self.dialect, text, self.other)
-        except CheckedPathError:
-            return True
-        return False
-
-    def place(self) -> int:
-        """The place of the component that offends. It ends the shortest beginning that is refused."""
-        ends = [it.start + it.length for it in _pieces(self.dialect, self.text)]
-        low, high = 0, len(ends) - 1
-        while low < high:
-            middle = (low + high) // 2
-            low, high = (low, middle) if self.is_refused(ends[middle]) else (middle + 1, high)
-        return low
-
-    def name(self) -> str:
-        """The text of that component."""
-        return component_at(self.dialect, self.text, self.place())[1].decode(ENCODINGS[self.dialect], ERRORS)
-
-
-def _failed(status: int, path: object, judged: Optional[Judged] = None, base: object = None) -> Exception:
+def _failed(status: int, path: object) -> Exception:
     if status in REFUSALS:
-        return REFUSALS[status](path, judged)
+        return REFUSALS[status](path)
     if status == OUT_OF_MEMORY:
         return MemoryError()
     if status == NONE:
-        return NoRelativePath(f"no relative path leads to {str(path)!r}", path, base)
+        return NoRelativePath(f"no relative path leads to {str(path)!r}")
     if status == AMBIGUOUS:
-        return Ambiguous(f"path is ambiguous: {str(path)!r}", path)
+        return Ambiguous(f"path is ambiguous: {str(path)!r}")
     return RuntimeError(f"status {status} of {path!r}")
 
 
-def _words(other: object) -> tuple[object, ...]:
+def _words(other: object) -> tuple:
     """What stands for another text, or for the number of a dialect, if there is one."""
     if other is None:
         return ()
     return (other, len(other)) if isinstance(other, bytes) else (other,)
 
 
-def made(
-    name: str, dialect: int, path: bytes, other: Union[bytes, int, None] = None, told: object = None,
-    base: object = None,
-) -> bytes:
-    """What a call puts. No answer has four bytes more than the path and twice the other text. `told` is what a refusal
-    tells of, and `base` what that was to lie below."""
+def made(name: str, dialect: int, path: bytes, other: object = None, judged: object = None) -> bytes:
+    """What a call puts. No answer has four bytes more than the path and twice the other text. `judged` is what a
+    refusal is told of."""
     words = _words(other)
-    size = len(path) + (2 * len(other) if isinstance(other, bytes) else 0) + 4
-    out: Any = ctypes.create_string_buffer(size)
-    length = c_size_t()
+    size = len(path) + (2 * words[1] if len(words) == 2 else 0) + 4
+    out, length = ctypes.create_string_buffer(size), c_size_t()
     status = _puts[name](dialect, path, len(path), *words, out, size, byref(length))
     if status != DONE:
-        judged = Judged(dialect, other, None) if isinstance(other, bytes) else Judged(dialect, path, other)
-        raise _failed(status, told, judged, base)
-    answer: bytes = out[:length.value]
-    return answer
+        raise _failed(status, judged)
+    return out[:length.value]
 
 
 def part(name: str, dialect: int, path: bytes, other: Optional[bytes] = None) -> Optional[bytes]:
@@ -250,28 +174,13 @@ def asked(name: str, dialect: int, path: bytes, other: Optional[bytes] = None) -
     return answer.value
 
 
-def _pieces(dialect: int, path: bytes) -> Sequence[Piece]:
+def components(dialect: int, path: bytes) -> list[tuple[str, bytes]]:
+    """The kind and the bytes of each component."""
     pieces, count = (Piece * len(path))(), c_size_t()
     status = _components(dialect, path, len(path), pieces, len(path), byref(count))
     if status != DONE:
         raise _failed(status, path)
-    return pieces[:count.value]
-
-
-def components(dialect: int, path: bytes) -> list[tuple[str, bytes]]:
-    """The kind and the bytes of each component."""
-    return [(KINDS[it.kind], path[it.start:it.start + it.length]) for it in _pieces(dialect, path)]
-
-
-def component_at(dialect: int, path: bytes, place: int) -> tuple[str, bytes]:
-    """The kind and the bytes of one of them; both are empty where there is none."""
-    piece = Piece()
-    status = _component_at(dialect, path, len(path), place, byref(piece))
-    if status == NONE:
-        return "", b""
-    if status != DONE:
-        raise _failed(status, path)
-    return KINDS[piece.kind], path[piece.start:piece.start + piece.length]
+    return [(KINDS[it.kind], path[it.start:it.start + it.length]) for it in pieces[:count.value]]
 
 
 def is_name(dialect: int, text: bytes) -> bool:
@@ -323,8 +232,7 @@ def join_checked_batch(dialect: int, base: bytes, names: Sequence[bytes]) -> Joi
     count, all_names = len(names), b"".join(names)
     size = len(all_names) + count * (len(base) + 3)
     ends = (c_size_t * count)(*itertools.accumulate(map(len, names)))
-    out: Any = ctypes.create_string_buffer(size + 1)
-    done = c_size_t()
+    out, done = ctypes.create_string_buffer(size + 1), c_size_t()
     out_ends, statuses = (c_size_t * count)(), (c_uint32 * count)()
     status = _batch(
         dialect, base, len(base), all_names, len(all_names), ends, count, out, size, out_ends, count, statuses, count,

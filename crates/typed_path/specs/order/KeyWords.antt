@@ -47,6 +47,6 @@ key_words_before (Some p) = prefix_key_words p
 abbrev pub IsKeyed : Dialect → List ℕ → List ℕ → Type 0
 IsKeyed d t u = (key_words d t ≡ key_words d u) ↔ IsSame d t u
 
--- even if a hasher joins all words: where the bytes that two paths feed come to the same with any bytes behind each, the paths are equal, and so is what stands behind
+-- even if a hasher joins all words: where the bytes that two paths feed begin alike, the paths are equal, and what follows is too
 abbrev pub IsToldApart : Dialect → List ℕ → List ℕ → Type 0
 IsToldApart d t u = (x y : List ℕ) → concat (key_words d t) ++ x ≡ concat (key_words d u) ++ y → IsSame d t u × (x ≡ y)

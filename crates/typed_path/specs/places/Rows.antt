@@ -53,6 +53,10 @@ names_left_of s text = fold settled [] (slice_split (is_separator s) text)
 abbrev pub names_left : List ℕ → List (List ℕ)
 names_left text = names_left_of Slash text
 
+-- a text behind the root is its own normal text: it is empty, or it is the one name that is left of it
+abbrev pub StandsAlone : List ℕ → Type 0
+StandsAlone text = (text ≡ []) ⊎ (names_left text ≡ text ∷ [])
+
 -- a text of rows, without its last separator where it has names, is the normal text
 pub record IsNormal (goal head text : List ℕ) : Type 0 where
   pub named : length head < length text → goal ≡ take (length text - 1) text

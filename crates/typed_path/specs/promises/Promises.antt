@@ -27,7 +27,7 @@ keeps_by_prefix base (Some (device_ns name)) = true
 keeps_by_prefix base (Some (unc server share)) = not (is_empty share)
 keeps_by_prefix base (Some (disk letter)) = true
 
--- bases whose prefix every accepted path keeps; not all of them, as `//a/`
+-- the bases whose prefix every accepted path keeps
 abbrev pub keeps_prefix : Dialect → List ℕ → Bool
 keeps_prefix unix base = true
 keeps_prefix windows base = keeps_by_prefix base (prefix_kind windows base)

@@ -110,7 +110,7 @@ Normalizes d bytes path done =
     IfOk done (λ p. bytes p ≡ normal_text d path)
     × IfOk done (λ p. HasNormalForm d path (bytes p))
 
--- the path that leads from a base to a path, where there is one; where there is none, the call is not refused
+-- the path that leads from a base to a path, where there is one; that there is none costs no memory
 abbrev pub LeadsFrom : {P E : Type 0} → Dialect → (P → List ℕ) → List ℕ → List ℕ → Result (Option P) E → Type 0
 LeadsFrom d bytes base path done =
     IfOk done (λ found. option_map bytes found ≡ relative_text d path base)

@@ -17,9 +17,8 @@ use std::hash::{Hash, Hasher};
 pub trait KeyPath: Eq {
     ghost key_input: { Self → List (List ℕ) };
 
-    /// Feeds a hasher the words of the path's key: of a name the number of its bytes and these; of any other
-    /// component a byte for its kind, and behind that of a prefix its names in the same way, or the letter of its
-    /// drive; and last a byte with which no component begins.
+    /// Feeds a hasher the words of the path's key: of each component its kind, the number of its bytes and
+    /// these, and last a byte with which no component begins.
     fn hash_key<H: Hasher>(&self, state: &mut H)
         ensures { state.new ≡ fold H.write state.old (key_input self.now) };
 

@@ -211,23 +211,22 @@ pub(crate) fn is_same<T: Encoding>(path: &[u8], other: &[u8]) -> bool
     if path == other {
         return true;
     }
-    if seem_alike::<T>(path, other) {
+    if seem_alike(path, other) {
         return order_of_unequal::<T>(path, other).is_eq();
     }
     have_same_components::<T>(path, other)
 }
 
-/// Whether two short texts end with bytes of names, are about as long, and have prefixes of one sort, as their second
-/// bytes and `\\?\` tell: so their order is told sooner than their last components are. Where `/` alone separates these
-/// are told as soon, unless they end alike. It only chooses between two ways to one answer.
+/// Whether two short texts end with one byte of a name, are much as long, and have prefixes of one sort, as their second
+/// bytes and `\\?\` tell: so their last components may well be one, and their order is told sooner. It only chooses
+/// between two ways to one answer.
 #[inline(always)]
-fn seem_alike<T: Encoding>(path: &[u8], other: &[u8]) -> bool {
+fn seem_alike(path: &[u8], other: &[u8]) -> bool {
     let ([.., last], [.., others]) = (path, other) else {
         return false;
     };
-    (last == others || T::root_text() != b"/".as_slice())
+    last == others
         && !matches!(*last, b'/' | b'\\' | b'.')
-        && !matches!(*others, b'/' | b'\\' | b'.')
         && path.len() <= MOST_ORDERED
         && other.len() <= MOST_ORDERED
         && path.len() * 3 <= other.len() * 4

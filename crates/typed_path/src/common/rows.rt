@@ -308,20 +308,6 @@ fn put_each_by_slashes(
     settle_each!(text, floor, path, Separators::Slash, anchored)
 }
 
-/// The same as [`put_kept_by_slashes`], segment by segment from the first.
-#[inline(always)]
-pub fn put_each_segment(text: &mut Vec<u8>, path: &[u8], anchored: bool) -> Result<(), AllocError>
-    ensures ok { OnOk result (text.new.items ≡ text.old.items ++ rows_of Separators.Slash
-        (kept_segments anchored (segment_kinds Separators.Slash path.now))) }
-    ensures kept { take (length text.old.items) text.new.items ≡ text.old.items }
-    ensures room { OnOk result (vec_len text.new ≤ vec_len text.old + length path.now + 1) }
-    ensures capacity { vec_capacity text.old ≤ vec_capacity text.new }
-    ensures succeeds { vec_len text.old + length path.now < vec_capacity text.old → IsOk result }
-{
-    let len = text.len();
-    put_each_by_slashes(text, len, path, anchored)
-}
-
 /// Puts the names that a path is told to begin with behind a text, each with a separator behind it, and answers
 /// what is left; none where all of it was put.
 #[inline(always)]

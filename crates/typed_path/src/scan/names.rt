@@ -1,13 +1,13 @@
 //! How much at the front of a text is names, and whether a segment behind a separator is empty or `.`, by
 //! blocks.
 
-ghost use Rattle.std.specs.Prelude.{◌≡◌, ◌≤◌, ◌<◌, ◌+◌, ◌-◌, ◌==◌, ℕ, true, false, IsTrue, length, slice_index, Bool};
+ghost use Rattle.std.specs.Prelude.{◌≡◌, ◌≤◌, ◌<◌, ◌+◌, ◌-◌, ◌==◌, ℕ, true, false, IsTrue, length, slice_index, Bool, [], ◌∷◌};
 ghost use Rattle.std.specs.Int.{bit_at};
 ghost use Rattle.std.specs.List.{list_all, slice_split, list_any};
 ghost use Rattle.std.specs.Slice.Scan.{HoldsNowhere, IsFirstPlace};
 ghost use Rattle.typed_path.specs.changes.{begins_no_name, begins_no_name_at, is_name_piece, TellsNames};
 ghost use Rattle.typed_path.specs.scan.{IsMask, is_one_of, stands_at, begins_blank, has_blank_behind, MarksNoBlank};
-ghost use Rattle.typed_path.specs.components.{body, later_body, parts};
+ghost use Rattle.typed_path.specs.components.{body, later_body, parts, is_separator};
 
 use crate::scan::lanes::{first_marked, is_one_of, lowest, marks_at, marks_of};
 use crate::scan::separators::Separators;
@@ -317,15 +317,22 @@ pub fn begins_with_long_name(text: &[u8]) -> bool {
     64 < text.len() && marks_at::<64>(text, 0, (b'/', b'\\')) == 0
 }
 
-/// Whether no separator stands in the first 32 bytes of a text, or in all of it where it has 16 to 31: no names stand
-/// side by side there. It only chooses between two ways to one answer.
+/// Whether a text is one name of sixteen bytes and more, as looks at its bytes tell. False says nothing.
 #[inline(always)]
-pub fn has_long_front(text: &[u8], separators: Separators) -> bool {
-    let pair = separators.pair();
-    if text.len() < 32 {
-        return 16 <= text.len()
-            && marks_at::<16>(text, 0, pair) == 0
-            && marks_at::<16>(text, text.len() - 16, pair) == 0;
+pub fn is_one_long_name(text: &[u8], separators: Separators) -> bool
+    ensures alone { IsTrue result
+        → slice_split (is_separator separators) text.now ≡ text.now ∷ [] }
+    ensures long { IsTrue result → 16 ≤ length text.now }
+{
+    if text.len() < 16
+        || marks_at::<16>(text, 0, separators.pair()) != 0
+        || marks_at::<16>(text, text.len() - 16, separators.pair()) != 0
+    {
+        return false;
     }
-    marks_at::<32>(text, 0, pair) == 0
+    let end = separators.first_in(text);
+    if end < text.len() {
+        return false;
+    }
+    true
 }

@@ -285,7 +285,7 @@ pub fn parted_drive(text: &[u8]) -> Option<(Option<u8>, &[u8])>
     }
 }
 
-/// True only if every path that a checked join makes of a base of Windows has its prefix, or none if it has none.
+/// Whether every path that a checked join makes of a base of Windows has its prefix, or none if it has none.
 pub fn keeps_prefix(base: &[u8]) -> bool
     ensures { result ≡ keeps_prefix windows base.now }
 {

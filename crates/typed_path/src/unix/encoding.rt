@@ -1,19 +1,18 @@
 //! The encoding of Unix paths: how one is pushed, judged and brought into its normal text.
 
-ghost use Rattle.std.specs.Prelude.{false, ◌≡◌, ◌≤◌, ◌+◌, ◌++◌, ℕ, take, slice_range, length, IfSome, IsNone, IsOk, OnOk, OnErr, ◌<◌, ◌-◌, [], codes, Some, true};
+ghost use Rattle.std.specs.Prelude.{false, ◌≡◌, ◌≤◌, ◌+◌, ◌++◌, ℕ, take, slice_range, length, IfSome, IsNone, IsOk, OnOk, OnErr, ◌<◌, ◌-◌, [], codes, Some, IsTrue};
 ghost use Rattle.std.specs.Vec.{vec_capacity, vec_len};
 ghost use Rattle.typed_path.specs.components.{unix, slash};
 ghost use Rattle.typed_path.specs.changes.{push_unix, ended_with, FitsPush};
-ghost use Rattle.typed_path.specs.places.{normal_text, IsParted, kept_segments, names_left, rows_of, segment_kinds};
+ghost use Rattle.typed_path.specs.places.{normal_text, IsParted, names_left, StandsAlone};
 
 use crate::common::{
-    Encoding, compare_texts, cut_back, drop_separator, put_each_segment, put_kept_by_slashes,
-    put_over,
+    Encoding, compare_texts, cut_back, drop_separator, put_kept_by_slashes, put_over,
 };
 use crate::errors::CheckedPathError;
 use crate::scan::{
-    Cursor, Piece, Separators, are_apart, base_end, end_behind, first_difference, has_long_front,
-    has_no_nul_or_dot_pair, has_valid_names, have_other_fronts,
+    Cursor, Piece, Separators, are_apart, base_end, end_behind, first_difference,
+    has_no_nul_or_dot_pair, has_valid_names, have_other_fronts, is_one_long_name,
 };
 use std::alloc::AllocError;
 use std::cmp::Ordering;
@@ -217,8 +216,12 @@ fn put_rows(text: &mut Vec<u8>, path: &[u8]) -> Result<(), AllocError>
     let (root, rest) = split_root(path);
     text.extend_from_slice(root)?;
     let left = behind_parents(rest);
+    if stands_alone(left) {
+        text.extend_from_slice(left)?;
+        return Ok(());
+    }
     let len = text.len();
-    put_left(text, left)?;
+    put_kept_by_slashes(text, left, true)?;
     drop_separator(text, len);
     Ok(())
 }
@@ -249,22 +252,14 @@ fn behind_parents(text: &[u8]) -> &[u8]
     }
 }
 
-/// Puts the names that are left of a text behind the root, each with a separator behind it. Where a long name is in
-/// front, no names are looked for side by side.
+/// Whether a text behind the root is its own normal text, as looks at its bytes tell: it is empty, or one long name. False
+/// says nothing. In rows such a name would be passed more than once.
 #[inline(always)]
-fn put_left(text: &mut Vec<u8>, path: &[u8]) -> Result<(), AllocError>
-    ensures ok { OnOk result (text.new.items ≡ text.old.items
-        ++ rows_of Separators.Slash (kept_segments true (segment_kinds Separators.Slash path.now))) }
-    ensures kept { take (length text.old.items) text.new.items ≡ text.old.items }
-    ensures room { OnOk result (vec_len text.new ≤ vec_len text.old + length path.now + 1) }
-    ensures capacity { vec_capacity text.old ≤ vec_capacity text.new }
-    ensures succeeds { vec_len text.old + length path.now < vec_capacity text.old → IsOk result }
+fn stands_alone(text: &[u8]) -> bool
+    ensures { IsTrue result → StandsAlone text.now }
 {
-    if path.is_empty() {
-        return Ok(());
+    if text.is_empty() {
+        return true;
     }
-    if has_long_front(path, Separators::Slash) {
-        return put_each_segment(text, path, true);
-    }
-    put_kept_by_slashes(text, path, true)
+    is_one_long_name(text, Separators::Slash)
 }

@@ -287,6 +287,7 @@ const PARTED: usize = 6;
 
 /// The order of two paths of which the prefixes differ, or one at least begins with two separators. None says
 /// nothing.
+#[inline(always)]
 fn order_by_prefixes(path: &[u8], other: &[u8]) -> Option<Ordering>
     ensures { IfSome result (λ order. path_cmp windows path.now other.now ≡ order) }
 {
@@ -398,10 +399,7 @@ fn stays_before_parted(prefix: WindowsPrefix<'_>) -> bool
 fn judged_by_looks(path: &[u8]) -> Option<Result<(), CheckedPathError>>
     ensures { IfSome result (λ judged. error_of judged ≡ fault windows path.now) }
 {
-    if has_second_colon(path)
-        || begins_with_separator(path)
-        || matches!(path, [b'.', b'.', ..] | [.., b'.', b'.'])
-    {
+    if has_second_colon(path) || begins_with_separator(path) || matches!(path, [b'.', b'.', ..]) {
         return None;
     }
     match look_at_path(path) {

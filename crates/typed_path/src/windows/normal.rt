@@ -18,7 +18,7 @@ use crate::common::{
 };
 use crate::scan::{
     Cursor, Found, Piece, PieceKind, Separators, StepKind, WindowsPrefix, cut_at_separator, drive,
-    find_prefix, has_long_front, is_free_of, leading_short_names, step_of,
+    find_prefix, is_free_of, leading_short_names, step_of,
 };
 use crate::windows::WindowsPath;
 use crate::windows::encoding::WindowsEncoding;
@@ -174,10 +174,7 @@ fn put_segments(text: &mut Vec<u8>, len: usize, path: &[u8]) -> Result<bool, All
     ensures told { HaveNoDisks (slice_split (is_separator Separators.Either) path.now)
         → IfOk result (λ plain. IsTrue plain) }
 {
-    if ONE_BLOCK_AND_TWO <= path.len()
-        && !has_long_front(path, Separators::Either)
-        && has_room(text, path)
-    {
+    if ONE_BLOCK_AND_TWO <= path.len() && has_room(text, path) {
         let names = leading_short_names(path, (b'/', b'\\'));
         if !matches!(names, Some(0)) && is_free_of((b':', b':'), path) {
             return put_undriven(text, len, path, names);

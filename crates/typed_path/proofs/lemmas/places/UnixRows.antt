@@ -10,7 +10,7 @@ use Rattle.typed_path.specs.declared.scan.separators.Separators.{Separators}
 use Rattle.typed_path.specs.declared.scan.separators.Separators.TheVariants.{Slash}
 use Rattle.typed_path.specs.components.{Dialect, unix, slash, is_separator, is_verbatim, root_text, Part, name_part, current_part, parent_part, root_part, kinds, texts, Kind, root as root_kind, current, parent, normal, is_dot, is_dot_dot, component, first}
 use Rattle.typed_path.specs.changes.{ended_with, push_all}
-use Rattle.typed_path.specs.places.{normal_text, resolve, row_end, rows_of, rows, IsNormal, settled, names_left, IsParted, AreRowsOf, names_left_of}
+use Rattle.typed_path.specs.places.{normal_text, resolve, row_end, rows_of, rows, IsNormal, settled, names_left, IsParted, AreRowsOf, names_left_of, StandsAlone}
 use Rattle.typed_path.proofs.lemmas.lists.Lists.{IsUnseparated, slice_split-some, slice_split-unseparated, take-ended}
 use Rattle.typed_path.proofs.lemmas.components.Segments.{pieces, named_part, later_part, later_parts, first_parts, body_parts, IsCleanName, parts_of-unix}
 use Rattle.typed_path.proofs.lemmas.places.Resolving.{heads_first, Comes, comes-current, comes-parent, comes-parent_alone, comes-name, comes-head, comes-end}
@@ -305,3 +305,27 @@ pub parted-end : (path before head rest text new : List ℕ) → IsParted path h
 parted-end path before head rest text new parted e named alone =
     let own = head ++ rows (names_left rest) in
     normal-end (normal_text unix path) before head own text new (parted-normal path head rest own parted refl) (e ∙ append_assoc before head (rows (names_left rest))) named alone
+
+-- a name of many bytes is what is left of itself
+pub name-left : (text : List ℕ) → pieces Slash text ≡ text ∷ [] → 16 ≤ length text → names_left text ≡ text ∷ []
+name-left [] alone long = absurd (omega arith)
+name-left (a ∷ []) alone long = absurd (omega arith)
+name-left (a ∷ b ∷ []) alone long = absurd (omega arith)
+name-left (a ∷ b ∷ c ∷ text) alone long = ap (fold settled []) alone
+
+-- rows of what stands alone are it and a separator, or nothing
+rows-alone : (head left text : List ℕ) → StandsAlone left → text ≡ head ++ rows (names_left left)
+    → (length head < length text → head ++ left ≡ take (length text - 1) text) × (length text ≤ length head → head ++ left ≡ text)
+rows-alone head left text (inl empty) e = grind (arith, common_steps)
+rows-alone head left text (inr named) e =
+    let whole : text ≡ (head ++ left) ++ slash ∷ [] = e ∙ ap (λ names. head ++ rows names) named ∙ ap (λ t. head ++ t) (append-nil (left ++ slash ∷ [])) ∙ sym (append_assoc head left (slash ∷ [])) in
+    (λ more. sym (ap (λ t. take (length t - 1) t) whole ∙ take-ended (head ++ left) slash)) ,
+    (λ fits. absurd (omega (arith, ap length whole, length-append (head ++ left) (slash ∷ []), length-append head left)))
+
+-- what stands alone behind the root is the normal text there
+pub alone-end : (path before head rest left : List ℕ) → IsParted path head rest → names_left rest ≡ names_left left → StandsAlone left
+    → (before ++ head) ++ left ≡ before ++ normal_text unix path
+alone-end path before head rest left parted same alone =
+    let text = (before ++ head) ++ rows (names_left rest) in
+    let ends = rows-alone (before ++ head) left text alone (ap (λ names. (before ++ head) ++ rows names) same) in
+    parted-end path before head rest text ((before ++ head) ++ left) parted refl ends.0 ends.1

@@ -1,4 +1,4 @@
-use Rattle.std.proofs.Common.{◌≡◌, ◌↔◌, None, sym}
+use Rattle.std.proofs.Common.{◌≡◌, ◌↔◌, ℕ, List, None, sym}
 use Rattle.std.proofs.lemmas.Bool.{both_ways}
 use Rattle.typed_path.specs.changes.{push}
 use Rattle.typed_path.specs.components.{windows}

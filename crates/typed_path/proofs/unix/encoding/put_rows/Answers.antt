@@ -2,9 +2,19 @@ use Rattle.std.proofs.Common.{◌≡◌, ◌++◌, ◌∙◌, [], length, ap, ap
 use Rattle.typed_path.specs.declared.scan.separators.Separators.TheVariants.{Slash}
 use Rattle.typed_path.specs.places.{rows}
 use Rattle.typed_path.proofs.lemmas.components.Segments.{pieces}
-use Rattle.typed_path.proofs.lemmas.places.UnixRows.{parted-end}
+use Rattle.typed_path.proofs.lemmas.places.UnixRows.{alone-end, parted-end}
 use Rattle.typed_path.proofs.lemmas.places.CleanRows.{settled-kept}
 use Rattle.typed_path.proofs.unix.encoding.put_rows.Goals as goal
+
+pub returns-then-stands_alone-clause-ok : goal.returns-then-stands_alone-clause-ok
+returns-then-stands_alone-clause-ok c =
+    let before = c.args.text.now.items in
+    let root = c.split_root.result.0.now in
+    let rest = c.split_root.result.1.now in
+    let left = c.behind_parents-left.result.now in
+    c.in_ok-extend_from_slice-2.ensures.items
+    ∙ ap (λ t. t ++ left) c.in_ok-extend_from_slice.ensures.items
+    ∙ alone-end c.args.path.now before root rest left c.split_root.ensures c.behind_parents-left.ensures.same (c.stands_alone.ensures c.if-stands_alone.true)
 
 pub returns-clause-ok : goal.returns-clause-ok
 returns-clause-ok c =
@@ -16,7 +26,7 @@ returns-clause-ok c =
     let begun = c.in_ok-extend_from_slice.ensures.items in
     let size : length head ≡ c.len-len.result = omega (arith, c.len-len.ensures, c.extend_from_slice.new.self.ok, ap length begun) in
     let names = sym (settled-kept (pieces Slash left) []) ∙ sym c.behind_parents-left.ensures.same in
-    let text = c.in_ok-put_left.ensures.ok ∙ ap₂ (λ t names. t ++ rows names) begun names in
+    let text = c.in_ok-put_kept_by_slashes.ensures.ok ∙ ap₂ (λ t names. t ++ rows names) begun names in
     parted-end c.args.path.now before root rest _ _ c.split_root.ensures text
     (λ more. c.drop_separator.ensures.named (omega (arith, size, more)))
     (λ fits. c.drop_separator.ensures.alone (omega (arith, size, fits)))
