@@ -311,16 +311,26 @@ pub name-left : (text : List ℕ) → pieces Slash text ≡ text ∷ [] → 16 �
 name-left [] alone long = absurd (omega arith)
 name-left (a ∷ []) alone long = absurd (omega arith)
 name-left (a ∷ b ∷ []) alone long = absurd (omega arith)
-name-left (a ∷ b ∷ c ∷ text) alone long = ap (fold settled []) alone
+name-left (a ∷ b ∷ c ∷ text) alone long = ap (fold settled []) alone ∙ by (length name == 0) (ne_eqb (length name) 0 (λ e. cc))
+  where
+    name : List ℕ
+    name = a ∷ b ∷ c ∷ text
+
+    by : (empty : Bool) → empty ≡ false → cond (empty || false) [] (name ∷ []) ≡ name ∷ []
+    by true e = cc
+    by false e = refl
 
 -- rows of what stands alone are it and a separator, or nothing
 rows-alone : (head left text : List ℕ) → StandsAlone left → text ≡ head ++ rows (names_left left)
     → (length head < length text → head ++ left ≡ take (length text - 1) text) × (length text ≤ length head → head ++ left ≡ text)
-rows-alone head left text (inl empty) e = grind (arith, common_steps)
+rows-alone head left text (inl empty) e =
+    let whole : text ≡ head ++ [] = e ∙ ap (λ l. head ++ rows (names_left l)) empty in
+    ((λ more. absurd (omega (arith, ap length (whole ∙ append-nil head)))), (λ fits. ap (λ l. head ++ l) empty ∙ sym whole))
 rows-alone head left text (inr named) e =
-    let whole : text ≡ (head ++ left) ++ slash ∷ [] = e ∙ ap (λ names. head ++ rows names) named ∙ ap (λ t. head ++ t) (append-nil (left ++ slash ∷ [])) ∙ sym (append_assoc head left (slash ∷ [])) in
-    (λ more. sym (ap (λ t. take (length t - 1) t) whole ∙ take-ended (head ++ left) slash)) ,
-    (λ fits. absurd (omega (arith, ap length whole, length-append (head ++ left) (slash ∷ []), length-append head left)))
+    let whole : text ≡ (head ++ left) ++ slash ∷ [] = e ∙ ap (λ names. head ++ rows names) named ∙ ap (λ t. head ++ t) (append-nil (left ++ slash ∷ [])) ∙ sym (append_assoc head left (slash ∷ [])) in (
+      (λ more. sym (ap (λ t. take (length t - 1) t) whole ∙ take-ended (head ++ left) slash)),
+      (λ fits. absurd (omega (arith, ap length whole, length-append (head ++ left) (slash ∷ []), length-append head left))),
+    )
 
 -- what stands alone behind the root is the normal text there
 pub alone-end : (path before head rest left : List ℕ) → IsParted path head rest → names_left rest ≡ names_left left → StandsAlone left
