@@ -10,6 +10,7 @@ pub mod UnixViews
 pub mod WindowsViews
 pub mod OwnedViews
 pub mod KeyViews
+pub mod OffenceViews
 pub mod RunViews
 pub mod TextViews
 pub mod ReadingViews

@@ -71,6 +71,86 @@ impl<T: Drop> From<AllocFailed<T>> for PathError {
     }
 }
 
+/// Why a path is no portable one: why some system does not take a component of it as it is written.
+#[derive(Clone, Copy, Debug, PartialEq, Eq, Hash, Error)]
+pub enum PortableError {
+    /// A prefix.
+    #[error("path contains a prefix")]
+    Prefix,
+    /// A name with a byte that no name of Windows may have, or with a control byte.
+    #[error("path contains a forbidden byte")]
+    Forbidden,
+    /// A name that some version of Windows may take for a device.
+    #[error("path contains a name that may be a device")]
+    Device,
+    /// A name that ends in a dot or a space.
+    #[error("path contains a name that ends in a dot or a space")]
+    Ending,
+    /// A name of more than 255 bytes.
+    #[error("path contains a name that is too long")]
+    TooLong,
+    /// A name that is not UTF-8.
+    #[error("path contains a name that is not UTF-8")]
+    NotText,
+}
+
+/// Why a portable join was not done.
+#[derive(Clone, Copy, Debug, PartialEq, Eq, Hash, Error)]
+pub enum JoinError {
+    /// The path that was to be joined is not portable.
+    #[error(transparent)]
+    Portable(PortableError),
+    /// It is, and is refused as a checked join refuses it.
+    #[error(transparent)]
+    Checked(CheckedPathError),
+    /// Memory was refused.
+    #[error("out of memory")]
+    OutOfMemory,
+}
+
+impl From<PortableError> for JoinError {
+    ghost use Rattle.typed_path.specs.declared.errors.JoinError.TheVariants.{Portable};
+
+    ghost from_gives = { λ refusal e. e ≡ Portable refusal };
+
+    fn from(refusal: PortableError) -> JoinError {
+        JoinError::Portable(refusal)
+    }
+}
+
+impl From<PathError> for JoinError {
+    ghost use Rattle.typed_path.specs.changes.Joined.{join_error};
+
+    ghost from_gives = { λ refused e. e ≡ join_error refused };
+
+    fn from(refused: PathError) -> JoinError {
+        match refused {
+            PathError::Checked(fault) => JoinError::Checked(fault),
+            PathError::OutOfMemory => JoinError::OutOfMemory,
+        }
+    }
+}
+
+impl From<AllocError> for JoinError {
+    ghost use Rattle.typed_path.specs.declared.errors.JoinError.TheVariants.{OutOfMemory};
+
+    ghost from_gives = { λ _ e. e ≡ OutOfMemory };
+
+    fn from(_refused: AllocError) -> JoinError {
+        JoinError::OutOfMemory
+    }
+}
+
+impl<T: Drop> From<AllocFailed<T>> for JoinError {
+    ghost use Rattle.typed_path.specs.declared.errors.JoinError.TheVariants.{OutOfMemory};
+
+    ghost from_gives = { λ _ e. e ≡ OutOfMemory };
+
+    fn from(_refused: AllocFailed<T>) -> JoinError {
+        JoinError::OutOfMemory
+    }
+}
+
 /// Why a path was not made absolute.
 #[derive(Clone, Copy, Debug, PartialEq, Eq, Hash, Error)]
 pub enum AbsolutizeError {

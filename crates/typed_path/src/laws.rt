@@ -26,6 +26,7 @@ ghost use Rattle.typed_path.specs.views.TextPieceViews.{text_prefix, text_kind, 
 ghost use Rattle.typed_path.specs.views.TextComponentViews.{text_unix_part, text_prefix_part, text_windows_part};
 ghost use Rattle.typed_path.specs.typed.{typed_eq, typed_cmp, typed_key_words, typed_words, reading_eq, reading_partial_cmp, kind_place};
 
+mod portable;
 mod windows;
 
 use crate::common::{Ancestors, Components, Encoding, Iter, Key, KeyPath, Path, PathBuf, Reading};
@@ -46,6 +47,10 @@ use crate::utf8::{
     Utf8WindowsPrefix, Utf8WindowsPrefixComponent,
 };
 use crate::windows::WindowsEncoding;
+pub use portable::{
+    portable_crosses, portable_is_valid_in_both, portable_names_are_these, portable_reads_alike,
+    portable_reads_alike_on_unix, reserved_names_may_be_devices, unportable_tells_why,
+};
 use std::hash::Hash;
 pub use windows::{
     kept_prefix_is_not_named_unc, normal_stays_stable, prefixed_within_leads_below,

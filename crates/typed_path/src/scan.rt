@@ -2,6 +2,7 @@
 
 mod cursor;
 mod cut;
+mod devices;
 mod lanes;
 mod names;
 mod prefix;
@@ -14,7 +15,8 @@ pub use cut::{
     have_other_fronts, order_behind, order_of_beginning, order_of_fronts, rests_behind_shared,
     shared_front, text_behind, texts_behind,
 };
-pub use lanes::{first_between, first_difference, has_no_nul_or_dot_pair};
+pub use devices::{is_taken_for_device, may_be_device};
+pub use lanes::{first_between, first_difference, has_control, has_no_nul_or_dot_pair};
 pub use names::{
     before_last_separator, begins_with_long_name, has_long_front, has_no_blank_behind,
     has_only_names, leading_names, leading_short_names,

@@ -21,6 +21,8 @@ mod owned;
 #[cfg(test)]
 mod paths;
 #[cfg(test)]
+mod portable;
+#[cfg(test)]
 mod prefixes;
 #[cfg(test)]
 mod relative;

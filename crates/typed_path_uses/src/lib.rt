@@ -2,6 +2,7 @@
 #![tactic(auto)]
 
 mod beside;
+mod both;
 mod config;
 mod counts;
 mod extractor;
@@ -20,6 +21,7 @@ mod typed;
 mod walk;
 
 pub use beside::{always_lies_in, backup, is_mounted_in, shared_folder, shown, surely_fits};
+pub use both::{target_on_both, targets_on_both};
 pub use config::{Unconfigured, configured};
 pub use counts::counted;
 pub use extractor::{

@@ -5,17 +5,17 @@ use crate::{
     counted, day_folder, day_log, entry_on_windows, filed_in, has_no_link, is_ignored,
     is_mounted_in, lead_alike, link, link_on_windows, nested, note, noted, read_from, rewritten,
     rewritten_texts, served_below, served_on_unix, served_on_windows, shared_folder, shipped,
-    shown, surely_fits, target_below, targets, text_target_below, tidy_folder, typed_target_below,
-    unpacked, unpacked_below, without_detours,
+    shown, surely_fits, target_below, target_on_both, targets, targets_on_both, text_target_below,
+    tidy_folder, typed_target_below, unpacked, unpacked_below, without_detours,
 };
 use std::alloc::{AllocError, Global};
 use std::collections::BTreeMap;
 use std::hash::RandomState;
 use std::test::Fail;
 use typed_path::{
-    CheckedPathError, Encoding, Key, Path, PathError, TypedPath, UnixEncoding, UnixPath,
-    UnixPathBuf, Utf8UnixEncoding, Utf8WindowsEncoding, Utf8WindowsPath, WindowsEncoding,
-    WindowsPath, WindowsPathBuf,
+    CheckedPathError, Encoding, JoinError, Key, Path, PathError, PortableError, TypedPath,
+    UnixEncoding, UnixPath, UnixPathBuf, Utf8UnixEncoding, Utf8WindowsEncoding, Utf8WindowsPath,
+    WindowsEncoding, WindowsPath, WindowsPathBuf,
 };
 
 #[test]
@@ -535,6 +535,39 @@ fn shipped_logs(rt: HostRuntime) -> Result<(), Fail> {
         assert!(rt; matches!(&refused, Err(PathError::Checked(UnexpectedRoot))));
     }
     Ok(())
+}
+
+#[test]
+fn entries_on_both(rt: HostRuntime) {
+    const MADE: &[(&[u8], &[u8], &[u8])] = &[
+        (b"a/b.txt", b"/out/a/b.txt", br"C:\out\a/b.txt"),
+        (b"a/../b", b"/out/a/../b", br"C:\out\a/../b"),
+        (b"", b"/out", br"C:\out"),
+    ];
+    for &(name, on_unix, on_windows) in MADE {
+        let unix = target_on_both(rt.alloc(), UnixPath::new(b"/out"), name);
+        assert!(rt; unix.is_ok_and(|path| path.as_path().as_bytes() == on_unix));
+        let windows = target_on_both(rt.alloc(), WindowsPath::new(br"C:\out"), name);
+        assert!(rt; windows.is_ok_and(|path| path.as_path().as_bytes() == on_windows));
+    }
+    const REFUSED: &[(&[u8], JoinError)] = &[
+        (b"a/nul .txt", JoinError::Portable(PortableError::Device)),
+        (br"a\b", JoinError::Portable(PortableError::Forbidden)),
+        (b"x./y", JoinError::Portable(PortableError::Ending)),
+        (b"/a", JoinError::Checked(CheckedPathError::UnexpectedRoot)),
+        (
+            b"a/../..",
+            JoinError::Checked(CheckedPathError::PathTraversalAttack),
+        ),
+    ];
+    for &(name, wanted) in REFUSED {
+        let unix = target_on_both(rt.alloc(), UnixPath::new(b"/out"), name);
+        assert!(rt; unix.err() == Some(wanted));
+        let windows = target_on_both(rt.alloc(), WindowsPath::new(br"C:\out"), name);
+        assert!(rt; windows.err() == Some(wanted));
+    }
+    let all = targets_on_both(rt.alloc(), UnixPath::new(b"/out"), &[b"a", b"b/c"]);
+    assert!(rt; all.is_ok_and(|targets| targets.len() == 2));
 }
 
 #[test]

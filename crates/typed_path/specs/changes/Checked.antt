@@ -91,6 +91,11 @@ abbrev pub begins_like_device : List ℕ → Bool
 begins_like_device (a ∷ b ∷ bytes) = is_in 86026 a && is_in 2457600 b
 begins_like_device bytes = false
 
+-- the first three are: one of `acnlp`, one of `opru`, and one of `lmntx`
+abbrev pub begins_as_device : List ℕ → Bool
+begins_as_device (a ∷ b ∷ c ∷ bytes) = is_in 86026 a && (is_in 2457600 b && is_in 17854464 c)
+begins_as_device bytes = false
+
 -- a stem ends before a byte: a dot or a separator
 abbrev pub ends_stem : ℕ → Bool
 ends_stem b = b == dot || is_separator Either b

@@ -2,6 +2,7 @@
 use Rattle.std.specs.Prelude.{◌≡◌, ◌≤◌, ◌+◌, ℕ, List, [], length, max, min, is_some, Bool, None, IsSome, Option, option_map, Result, IfOk, OnOk, OnErr, IsOk, Ok, Err, Some}
 use Rattle.typed_path.specs.declared.errors.PathError.{PathError}
 use Rattle.typed_path.specs.declared.errors.CheckedPathError.{CheckedPathError}
+use Rattle.typed_path.specs.declared.errors.JoinError.{JoinError}
 use Rattle.typed_path.specs.declared.errors.AbsolutizeError.{AbsolutizeError}
 use Rattle.typed_path.specs.declared.errors.AbsolutizeError.TheVariants.{Ambiguous}
 use Rattle.typed_path.specs.components.Dialects.{Dialect}
@@ -10,6 +11,7 @@ use Rattle.typed_path.specs.changes.Push.{push, FitsPush}
 use Rattle.typed_path.specs.changes.Fault.{fault}
 use Rattle.typed_path.specs.changes.Changes.{popped, without_file_name, with_file_name, with_extension, with_added_extension}
 use Rattle.typed_path.specs.changes.Checked.{refusal}
+use Rattle.typed_path.specs.changes.Joined.{join_fault, join_refusal}
 use Rattle.typed_path.specs.places.Places.{normal_text}
 use Rattle.typed_path.specs.places.Relative.{relative_text}
 use Rattle.typed_path.specs.conversions.Convert.{converted_checked, absolute_from}
@@ -99,6 +101,16 @@ ShrinksTo old least done new =
 abbrev pub JoinsChecked : {P : Type 0} → Dialect → (P → List ℕ) → List ℕ → List ℕ → Result P PathError → Type 0
 JoinsChecked d bytes base path done =
     (refusal done ≡ fault d path)
+    × IfOk done (λ p. bytes p ≡ push d base path)
+    × IfOk done (λ p. HasPrefixOf d base (bytes p))
+    × IfOk done (λ p. LiesWithin d base path (bytes p))
+    × IfOk done (λ p. LiesBelow d base (bytes p))
+    × IfOk done (λ p. StaysWithin d base (bytes p))
+
+-- the same of a portable path, which is refused for either fault
+abbrev pub JoinsPortable : {P : Type 0} → Dialect → (P → List ℕ) → List ℕ → List ℕ → Result P JoinError → Type 0
+JoinsPortable d bytes base path done =
+    (join_refusal done ≡ join_fault d path)
     × IfOk done (λ p. bytes p ≡ push d base path)
     × IfOk done (λ p. HasPrefixOf d base (bytes p))
     × IfOk done (λ p. LiesWithin d base path (bytes p))

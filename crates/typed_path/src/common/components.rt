@@ -8,12 +8,15 @@ ghost use Rattle.typed_path.specs.views.CursorViews.{items_left, slice_left};
 ghost use Rattle.typed_path.specs.views.PieceViews.{part_of};
 ghost use Rattle.typed_path.specs.views.Shown.{Shown, whole, text_alone};
 ghost use Rattle.typed_path.specs.scan.{last_of, but_last, slice_after_front, slice_after_back, first_part, last_part, LeavesFront, LeavesBack};
-ghost use Rattle.typed_path.specs.queries.{is_absolute, has_root, ancestors_of, readings_behind, is_root as is_root_kind, is_valid_kind};
+ghost use Rattle.typed_path.specs.queries.{is_absolute, has_root, ancestors_of, kind_fault, kind_may_be_device, readings_behind, is_root as is_root_kind, is_valid_kind};
+ghost use Rattle.typed_path.specs.changes.{error_of};
 ghost use Rattle.std.specs.Iterator.{YieldsFirstBy, item_count, YieldsLastBy};
 ghost use Rattle.typed_path.specs.conversions.{crossed};
 
 use crate::common::encoding::Encoding;
 use crate::common::path::Path;
+use crate::common::portable::{piece_fault, piece_may_be_device, refused_as};
+use crate::errors::PortableError;
 use crate::scan::{Cursor, Piece, PieceKind};
 use std::alloc::AllocError;
 use std::fmt;
@@ -446,6 +449,14 @@ pub trait Component<'a>: Copy + fmt::Debug + Ord + Hash {
     fn is_valid(&self) -> bool
         ensures { result ≡ is_valid_kind dialect (part self.now).kind };
 
+    /// Whether the component is a name that some version of Windows may take for a device.
+    fn may_be_device(&self) -> bool
+        ensures { result ≡ kind_may_be_device (part self.now).kind };
+
+    /// Asks whether every system takes the component as it is written, as `check_portable` of a path has it.
+    fn check_portable(&self) -> Result<(), PortableError>
+        ensures { error_of result ≡ kind_fault (part self.now).kind };
+
     /// How many bytes the text has.
     fn len(&self) -> usize
         ensures { result ≡ length (part self.now).text };
@@ -491,5 +502,19 @@ impl<'a> Piece<'a> {
             PieceKind::Normal => T::valid(self.text),
             _ => true,
         }
+    }
+
+    /// Whether the component is a name that some version of Windows may take for a device.
+    pub fn may_be_device(self) -> bool
+        ensures { result ≡ kind_may_be_device (part_of self.entry).kind }
+    {
+        piece_may_be_device(self)
+    }
+
+    /// Asks whether every system takes the component as it is written, as `check_portable` of a path has it.
+    pub fn check_portable(self) -> Result<(), PortableError>
+        ensures { error_of result ≡ kind_fault (part_of self.entry).kind }
+    {
+        refused_as(piece_fault(self))
     }
 }

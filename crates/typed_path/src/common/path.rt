@@ -3,21 +3,23 @@
 ghost use Rattle.std.specs.Prelude.{◌≡◌, IfOk, not, ◌≤◌, length, option_map, option_copied, IfSome, [], IsOk, take, ◌++◌, None};
 ghost use Rattle.typed_path.specs.places.{clean_text, is_within, normal_text, relative_text};
 ghost use Rattle.typed_path.specs.components.{kinds, comps, parts_of, separators};
-ghost use Rattle.typed_path.specs.queries.{is_absolute, has_root, is_valid, parent_of, file_name_of, file_stem_of, stripped, path_starts_with, path_ends_with, ancestors_of, stripped_to, extension, file_prefix_of, has_trailing_separator, common_ancestor_of};
+ghost use Rattle.typed_path.specs.queries.{is_absolute, has_root, is_portable, is_valid, may_be_device, parent_of, portable_fault, file_name_of, file_stem_of, stripped, path_starts_with, path_ends_with, ancestors_of, stripped_to, extension, file_prefix_of, has_trailing_separator, common_ancestor_of, unportable};
 ghost use Rattle.typed_path.specs.scan.{last_part};
-ghost use Rattle.typed_path.specs.changes.{without_file_name, stem_end, with_file_name, with_extension, refusal, fault, name_end, with_added_extension, dotted};
+ghost use Rattle.typed_path.specs.changes.{without_file_name, stem_end, with_file_name, with_extension, refusal, fault, name_end, with_added_extension, dotted, error_of, join_fault, join_refusal};
 ghost use Rattle.typed_path.specs.promises.{HasNormalForm, HasPrefixOf, LiesWithin, LiesBelow, StaysWithin, keeps_prefix};
 ghost use Rattle.typed_path.specs.views.PathViews.{path_bytes, components_items, components_slice, ancestors_left};
 ghost use Rattle.typed_path.specs.views.PieceViews.{part_of};
+ghost use Rattle.typed_path.specs.views.OffenceViews.{offence_of};
 
 use crate::common::components::{Ancestors, Components, Iter, Reading};
 use crate::common::encoding::Encoding;
 use crate::common::path_buf::PathBuf;
+use crate::common::portable::{first_unportable, have_device, looks_portable, refused_for};
 use crate::common::relative::relative_to;
 use crate::common::rows::put_clean;
 use crate::common::within::{is_within, shared_end};
 use crate::common::writing::{dotted_len, first_stem, put_extension, split_name};
-use crate::errors::{PathError, StripPrefixError};
+use crate::errors::{JoinError, PathError, PortableError, StripPrefixError};
 use crate::scan::{Piece, Separators, keeps_prefix};
 use std::alloc::{AllocError, Global};
 use std::marker::PhantomData;
@@ -87,6 +89,55 @@ impl<'a, T: Encoding> Path<'a, T> {
         ensures { result ≡ is_valid T.dialect (kinds (parts_of T.dialect (path_bytes self.entry))) }
     {
         T::valid_names(self.bytes)
+    }
+
+    /// Whether some version of Windows may take a name of the path for a device.
+    ///
+    /// `nul .txt`, `con:a` and `COM¹` may be taken for one, and `nul_` and `a.con` not. A name is read up to its
+    /// first `:`, then up to its first dot, without the spaces at its end, in either case.
+    ///
+    /// A path of Unix has its own names: `a\nul` is one that is not told. Where it is not known on which system a
+    /// path is used, ask both readings.
+    pub fn may_be_device(self) -> bool
+        ensures { result ≡ may_be_device T.dialect (path_bytes self.entry) }
+    {
+        have_device(self.components())
+    }
+
+    /// Whether every system takes each component of the path as it is written, as [`Path::check_portable`] asks.
+    ///
+    /// `a/b.txt` is portable, and `nul`, `a:b` and `a/b.` are not.
+    pub fn is_portable(self) -> bool
+        ensures { result ≡ is_portable T.dialect (path_bytes self.entry) }
+    {
+        self.check_portable().is_ok()
+    }
+
+    /// Asks whether every system takes each component of the path as it is written. Roots, `.` and `..` are let
+    /// through, and each name has to be text of at most 255 bytes, without a byte that no name of Windows may
+    /// have and without a control byte, that may be no device and ends in neither a dot nor a space.
+    ///
+    /// # Errors
+    ///
+    /// What the first component that offends does: `Prefix`, `Forbidden`, `Device`, `Ending`, `TooLong` or
+    /// `NotText`, the first of these that is true of it. On Windows `C:\nul` is refused with `Prefix`.
+    pub fn check_portable(self) -> Result<(), PortableError>
+        ensures { error_of result ≡ portable_fault T.dialect (path_bytes self.entry) }
+    {
+        if looks_portable::<T>(self.bytes) {
+            return Ok(());
+        }
+        refused_for(self.unportable())
+    }
+
+    /// The first component for which [`Path::check_portable`] refuses the path, as it is written, and why.
+    ///
+    /// Of `a/nul .txt/b` it is `nul .txt` with `Device`.
+    pub fn unportable(self) -> Option<(&'a [u8], PortableError)>
+        ensures { option_map offence_of result
+            ≡ unportable T.dialect (path_bytes self.entry) }
+    {
+        first_unportable(self.components())
     }
 
     /// True only if every path that a checked join makes of this one has its prefix, or none if it has none.
@@ -446,6 +497,31 @@ impl<'a, T: Encoding> Path<'a, T> {
     {
         T::check(path.as_bytes())?;
         Ok(self.join(alloc, path)?)
+    }
+
+    /// The path with a portable one pushed onto it, unless that has a component that offends.
+    ///
+    /// What [`Path::join_checked`] promises of its answer is true of this one too, and every system takes the
+    /// names that were pushed as they are written. A path with a fault is refused for that, however little memory
+    /// there is.
+    ///
+    /// # Errors
+    ///
+    /// `Portable` where the pushed path is not portable, with what [`Path::check_portable`] refuses it for. Else
+    /// those of [`Path::join_checked`], of which a prefix and a name that is not allowed are none any more.
+    pub fn join_portable(self, alloc: Global, path: Path<'_, T>) -> Result<PathBuf<T>, JoinError>
+        ensures refused { join_refusal result ≡ join_fault T.dialect (path_bytes path.entry) }
+        ensures joined { IfOk result (λ p. p.bytes
+            ≡ push_spec.push T.dialect (path_bytes self.entry) (path_bytes path.entry)) }
+        ensures prefix { IfOk result (λ p. HasPrefixOf T.dialect (path_bytes self.entry) p.bytes) }
+        ensures contained { IfOk result
+            (λ p. LiesWithin T.dialect (path_bytes self.entry) (path_bytes path.entry) p.bytes) }
+        ensures below { IfOk result (λ p. LiesBelow T.dialect (path_bytes self.entry) p.bytes) }
+        ensures within { IfOk result
+            (λ p. StaysWithin T.dialect (path_bytes self.entry) p.bytes) }
+    {
+        path.check_portable()?;
+        Ok(self.join_checked(alloc, path)?)
     }
 
     /// A copy with another file name, or with the name pushed where there is none.

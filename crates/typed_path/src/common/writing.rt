@@ -44,7 +44,7 @@ pub fn first_stem(name: &[u8]) -> &[u8]
 
 /// What stands before the first dot of a text, or the whole where it has none.
 #[tactic(auto, using(crate::proofs::lemmas::queries::FileNames::before_dot_some, crate::proofs::lemmas::queries::FileNames::before_dot_none))]
-pub fn before_dot(text: &[u8]) -> &[u8]
+fn before_dot(text: &[u8]) -> &[u8]
     ensures { result.now ≡ before_first is_a_dot text.now }
 {
     match first_dot(text) {

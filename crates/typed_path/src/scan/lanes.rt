@@ -1,13 +1,14 @@
 //! Bytes found by blocks of 64, of 32, of 16, of 8 and of 4. What is looked for is a pair, which is one
 //! byte twice where no other is: so one and two are looked for in the same way. Of the bytes that no
-//! name of Windows may have, it is only told whether a text has one, and of NUL and two dots side by side
-//! likewise. Of two texts the first place is found at which they differ.
+//! name of Windows may have, it is only told whether a text has one, and of control bytes, of NUL and of two
+//! dots side by side likewise. Of two texts the first place is found at which they differ.
 
-ghost use Rattle.std.specs.Prelude.{◌≡◌, ◌≢◌, ◌≤◌, ◌<◌, ◌+◌, ◌-◌, ◌%◌, ◌^◌, ◌==◌, ℕ, Bool, true, false, length, map, take, drop, slice_index};
+ghost use Rattle.std.specs.Prelude.{◌≡◌, ◌≢◌, ◌≤◌, ◌<◌, ◌+◌, ◌-◌, ◌%◌, ◌^◌, ◌==◌, ℕ, Bool, true, false, length, map, take, drop, slice_index, nat_lt};
 ghost use Rattle.std.specs.Int.{bit_at};
 ghost use Rattle.std.specs.List.{list_any};
 ghost use Rattle.std.specs.Slice.Scan.{HoldsNowhere, IsFirstPlace};
 ghost use Rattle.typed_path.specs.changes.{is_forbidden, is_forbidden_or, forbidden_at, is_letter_of, is_nul_or_dot_pair, nul_or_dot_pair_at, has_no_nul_or_dot_pair};
+ghost use Rattle.typed_path.specs.queries.{control_at, is_control};
 ghost use Rattle.typed_path.specs.scan.{IsMask, TellsWhether, is_one_of, stands_at, differs_at, IsFirstOf, IsBehindLastOf, PartAt};
 
 use std::simd::prelude::*;
@@ -538,6 +539,99 @@ pub fn has_forbidden(text: &[u8], pair: (u8, u8)) -> bool
         return has_forbidden_in_two::<4>(text, pair);
     }
     has_forbidden_by_one(text, pair)
+}
+
+/// Which bytes of a block are less than the given one.
+#[inline(always)]
+fn marks_below<const N: usize>(text: &[u8], at: usize, byte: u8) -> u64
+    requires lanes { (0 < N) × (N ≤ 64) }
+    requires in_range { at + N ≤ length text.now }
+    ensures { IsMask (λ k. nat_lt (slice_index text.now (at + k)) byte) N result }
+{
+    Simd::<u8, N>::from_slice(&text[at..])
+        .simd_lt(Simd::splat(byte))
+        .to_bitmask()
+}
+
+/// Which bytes of a block are control bytes.
+#[inline(always)]
+fn controls_at<const N: usize>(text: &[u8], at: usize) -> u64
+    requires lanes { (0 < N) × (N ≤ 64) }
+    requires in_range { at + N ≤ length text.now }
+    ensures { IsMask (λ k. control_at text.now (at + k)) N result }
+{
+    marks_below::<N>(text, at, b' ') | marks_of::<N>(text, at, DELETE)
+}
+
+/// The control byte that stands behind all others of ASCII.
+const DELETE: u8 = 127;
+
+/// Whether a block has such a byte.
+#[inline(always)]
+fn has_control_in_block<const N: usize>(text: &[u8], at: usize) -> bool
+    requires lanes { (0 < N) × (N ≤ 64) }
+    requires in_range { at + N ≤ length text.now }
+    ensures { TellsWhether (control_at text.now) at (at + N) result }
+{
+    controls_at::<N>(text, at) != 0
+}
+
+/// Whether such a byte stands in a text of N bytes to 2 N, by its first and its last block.
+#[inline(always)]
+fn has_control_in_two<const N: usize>(text: &[u8]) -> bool
+    requires lanes { (0 < N) × (N ≤ 64) }
+    requires size { (N ≤ length text.now) × (length text.now ≤ N + N) }
+    ensures { result ≡ list_any is_control text.now }
+{
+    has_control_in_block::<N>(text, 0) || has_control_in_block::<N>(text, text.len() - N)
+}
+
+/// Whether such a byte stands in a text, byte by byte.
+#[inline(always)]
+fn has_control_by_one(text: &[u8]) -> bool
+    ensures { result ≡ list_any is_control text.now }
+{
+    let mut found = false;
+    'bytes: for byte in text {
+        found |= is_control(*byte);
+    }
+    found
+}
+
+/// Whether the byte is a control byte.
+#[inline(always)]
+fn is_control(byte: u8) -> bool
+    ensures { result ≡ is_control byte }
+{
+    (byte < b' ') | (byte == DELETE)
+}
+
+/// Whether a text has a control byte of ASCII.
+#[inline(always)]
+pub fn has_control(text: &[u8]) -> bool
+    ensures { result ≡ list_any is_control text.now }
+{
+    let len = text.len();
+    let mut at = 0;
+    while 32 <= len - at {
+        if has_control_in_block::<32>(text, at) {
+            return true;
+        }
+        at += 32;
+    }
+    if 32 <= len {
+        return has_control_in_block::<32>(text, len - 32);
+    }
+    if 16 <= len {
+        return has_control_in_two::<16>(text);
+    }
+    if 8 <= len {
+        return has_control_in_two::<8>(text);
+    }
+    if 4 <= len {
+        return has_control_in_two::<4>(text);
+    }
+    has_control_by_one(text)
 }
 
 /// Which bytes of a block are NUL, or a dot with another behind it. The byte behind the block is looked

@@ -7,7 +7,7 @@ ghost use Rattle.std.specs.List.{position_or_len, list_any, before_first, IsAfte
 ghost use Rattle.std.specs.Char.{to_ascii_lowercase};
 ghost use Rattle.typed_path.specs.scan.{TellsWhether, is_one_of};
 ghost use Rattle.typed_path.specs.components.{windows, backslash, separators, is_separator, is_verbatim, root_text, dialect_of, body, kinds, parts};
-ghost use Rattle.typed_path.specs.queries.{has_allowed_bytes, is_reserved, is_valid_name, is_valid};
+ghost use Rattle.typed_path.specs.queries.{has_allowed_bytes, is_reserved, is_valid_name, is_valid, strays_on_windows};
 ghost use Rattle.std.specs.Slice.Scan.{HoldsNowhere};
 ghost use Rattle.typed_path.specs.changes.{AreMayBegins, BeginsNone, TellsBegins, SeparatesDisallowed, is_stray, is_bare_device, is_numbered_device, is_device, is_forbidden_or, has_stray_of, stray_of_at, dot_pair_at, has_dot_pair, begins_like_device, begins_with_device, is_in, ends_stem, may_end_stem, has_device, has_device_behind};
 
@@ -143,6 +143,17 @@ impl Separators {
             Separators::Slash => memchr(b'\0', bytes).is_some(),
             Separators::Backslash => has_forbidden(bytes, (b'/', b'/')),
             // No byte that separates strays, so none is asked for beside the forbidden ones.
+            Separators::Either => has_forbidden(bytes, (b':', b':')),
+        }
+    }
+
+    /// Whether a text has a byte that no name of Windows may have and that is no separator.
+    pub fn strays_on_windows(self, bytes: &[u8]) -> bool
+        ensures { result ≡ list_any (strays_on_windows self) bytes.now }
+    {
+        match self {
+            Separators::Slash => has_forbidden(bytes, (b'\\', b'\\')),
+            Separators::Backslash => has_forbidden(bytes, (b'/', b'/')),
             Separators::Either => has_forbidden(bytes, (b':', b':')),
         }
     }
@@ -539,7 +550,7 @@ fn begins_like_device(text: &[u8]) -> bool
 
 /// Whether the low five bits of a byte name a bit of a set. Letters of either case name the same.
 #[inline(always)]
-fn is_in(set: u32, byte: u8) -> bool
+pub fn is_in(set: u32, byte: u8) -> bool
     ensures { result ≡ is_in set byte }
 {
     (set >> (byte % 32)) % 2 == 1

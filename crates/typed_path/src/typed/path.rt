@@ -2,10 +2,11 @@
 
 ghost use Rattle.std.specs.Prelude.{◌≡◌, [], IfOk, IsOk, Ok, not, IfSome, option_map, option_copied};
 ghost use Rattle.typed_path.specs.typed.{kind_dialect, derived_dialect, typed_dialect};
-ghost use Rattle.typed_path.specs.typed.Outcomes.{JoinsChecked, LeadsFrom, Normalizes, ConvertsChecked, Absolutizes};
+ghost use Rattle.typed_path.specs.typed.Outcomes.{JoinsChecked, JoinsPortable, LeadsFrom, Normalizes, ConvertsChecked, Absolutizes};
 ghost use Rattle.typed_path.specs.views.TypedViews.{typed_bytes, owned_bytes, typed_items, typed_slice, typed_iter_items, typed_iter_slice, typed_ancestors_left, typed_displayed, reading_dialect};
 ghost use Rattle.typed_path.specs.components.{unix, windows, kinds, comps, parts_of};
-ghost use Rattle.typed_path.specs.changes.{with_file_name, with_extension, with_added_extension};
+ghost use Rattle.typed_path.specs.views.OffenceViews.{offence_of};
+ghost use Rattle.typed_path.specs.changes.{error_of, with_file_name, with_extension, with_added_extension};
 ghost use Rattle.typed_path.specs.conversions.{converted};
 ghost use Rattle.typed_path.specs.places.{clean_text, is_within};
 ghost use Rattle.typed_path.specs.promises.{keeps_prefix};
@@ -14,10 +15,10 @@ ghost use Rattle.typed_path.specs.changes.Push as push_spec;
 ghost use Rattle.std.specs.Str.{IsUtf8};
 ghost use Rattle.std.specs.Str.Lossy.{utf8_lossy};
 ghost use Rattle.std.specs.Cow.{cow_str_bytes, IsBorrowedStr};
-ghost use Rattle.typed_path.specs.queries.{is_absolute, has_root, parent_of, file_name_of, file_stem_of, stripped, path_starts_with, path_ends_with, ancestors_of, stripped_to, text_of_bytes, extension, file_prefix_of, has_trailing_separator, simplified_text, common_ancestor_of};
+ghost use Rattle.typed_path.specs.queries.{is_absolute, has_root, is_portable, may_be_device, portable_fault, unportable, parent_of, file_name_of, file_stem_of, stripped, path_starts_with, path_ends_with, ancestors_of, stripped_to, text_of_bytes, extension, file_prefix_of, has_trailing_separator, simplified_text, common_ancestor_of};
 
 use crate::common::{Ancestors, Display, Iter, Path};
-use crate::errors::{AbsolutizeError, PathError, StripPrefixError};
+use crate::errors::{AbsolutizeError, JoinError, PathError, PortableError, StripPrefixError};
 use crate::platform::PlatformPath;
 use crate::typed::path_buf::TypedPathBuf;
 use crate::typed::reading::TypedComponents;
@@ -134,6 +135,40 @@ impl<'a> TypedPath<'a> {
             (kinds (parts_of (typed_dialect self.entry) (typed_bytes self.entry))) }
     {
         each!(self, path => path.has_root())
+    }
+
+    /// Whether some version of Windows may take a name of the path for a device.
+    pub fn may_be_device(self) -> bool
+        ensures { result ≡ may_be_device (typed_dialect self.entry) (typed_bytes self.entry) }
+    {
+        each!(self, path => path.may_be_device())
+    }
+
+    /// Whether every system takes each component of the path as it is written.
+    pub fn is_portable(self) -> bool
+        ensures { result ≡ is_portable (typed_dialect self.entry) (typed_bytes self.entry) }
+    {
+        each!(self, path => path.is_portable())
+    }
+
+    /// Asks whether every system takes each component of the path as it is written, as [`Path::check_portable`]
+    /// has it.
+    ///
+    /// # Errors
+    ///
+    /// What the first component that offends does.
+    pub fn check_portable(self) -> Result<(), PortableError>
+        ensures { error_of result ≡ portable_fault (typed_dialect self.entry) (typed_bytes self.entry) }
+    {
+        each!(self, path => path.check_portable())
+    }
+
+    /// The first component for which [`TypedPath::check_portable`] refuses the path, as it is written, and why.
+    pub fn unportable(self) -> Option<(&'a [u8], PortableError)>
+        ensures { option_map offence_of result
+            ≡ unportable (typed_dialect self.entry) (typed_bytes self.entry) }
+    {
+        each!(self, path => path.unportable())
     }
 
     /// True only if every path that a checked join makes of this one has its prefix, or none if it has none.
@@ -328,6 +363,19 @@ impl<'a> TypedPath<'a> {
             (typed_bytes self.entry) path.now result }
     {
         typed_result!(self, base => base.join_checked(alloc, Path::new(path)))
+    }
+
+    /// The path with a portable one of its kind pushed onto it, unless that has a component that offends.
+    ///
+    /// # Errors
+    ///
+    /// Those of [`Path::join_portable`].
+    pub fn join_portable(self, alloc: Global, path: &[u8]) -> Result<TypedPathBuf, JoinError>
+        ensures dialect { IfOk result (λ p. typed_dialect p ≡ typed_dialect self.entry) }
+        ensures joined { JoinsPortable (typed_dialect self.entry) owned_bytes
+            (typed_bytes self.entry) path.now result }
+    {
+        typed_result!(self, base => base.join_portable(alloc, Path::new(path)))
     }
 
     /// A copy with another file name, or with the name pushed where there is none.

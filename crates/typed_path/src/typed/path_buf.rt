@@ -7,10 +7,11 @@ ghost use Rattle.std.specs.Str.Lossy.{utf8_lossy};
 ghost use Rattle.std.specs.Cow.{cow_str_bytes, IsBorrowedStr};
 ghost use Rattle.typed_path.specs.components.{unix, windows, kinds, comps, parts_of};
 ghost use Rattle.typed_path.specs.typed.{kind_dialect, derived_dialect, typed_dialect, KeepsDialect, held_unix, held_windows};
-ghost use Rattle.typed_path.specs.typed.Outcomes.{Pushes, PushesChecked, Pops, SetsFileName, SetsExtension, Clears, Reserves, ReservesExactly, ShrinksTo, JoinsChecked, Normalizes, ConvertsChecked, Absolutizes, AddsExtension, LeadsFrom};
+ghost use Rattle.typed_path.specs.typed.Outcomes.{Pushes, PushesChecked, Pops, SetsFileName, SetsExtension, Clears, Reserves, ReservesExactly, ShrinksTo, JoinsChecked, JoinsPortable, Normalizes, ConvertsChecked, Absolutizes, AddsExtension, LeadsFrom};
 ghost use Rattle.typed_path.specs.views.TypedViews.{typed_bytes, typed_owned, owned_bytes, typed_items, typed_slice, typed_iter_items, typed_iter_slice, typed_ancestors_left, reading_dialect};
-ghost use Rattle.typed_path.specs.queries.{is_absolute, has_root, parent_of, file_name_of, file_stem_of, extension, stripped, path_starts_with, path_ends_with, ancestors_of, stripped_to, text_of_bytes, file_prefix_of, has_trailing_separator, simplified_text, common_ancestor_of};
-ghost use Rattle.typed_path.specs.changes.{with_file_name, with_extension, with_added_extension};
+ghost use Rattle.typed_path.specs.queries.{is_absolute, has_root, is_portable, may_be_device, portable_fault, unportable, parent_of, file_name_of, file_stem_of, extension, stripped, path_starts_with, path_ends_with, ancestors_of, stripped_to, text_of_bytes, file_prefix_of, has_trailing_separator, simplified_text, common_ancestor_of};
+ghost use Rattle.typed_path.specs.views.OffenceViews.{offence_of};
+ghost use Rattle.typed_path.specs.changes.{error_of, with_file_name, with_extension, with_added_extension};
 ghost use Rattle.typed_path.specs.conversions.{converted, same_dialect};
 ghost use Rattle.typed_path.specs.places.{clean_text, is_within};
 ghost use Rattle.typed_path.specs.promises.{keeps_prefix};
@@ -19,7 +20,7 @@ ghost use Rattle.typed_path.specs.changes.Push as push_spec;
 ghost use Rattle.std.specs.String.{string_bytes, string_capacity};
 
 use crate::common::{Path, PathBuf};
-use crate::errors::{AbsolutizeError, PathError, StripPrefixError};
+use crate::errors::{AbsolutizeError, JoinError, PathError, PortableError, StripPrefixError};
 use crate::platform::PlatformPath;
 use crate::typed::path::{TypedAncestors, TypedIter, TypedPath};
 use crate::typed::reading::TypedComponents;
@@ -282,6 +283,35 @@ impl TypedPathBuf {
         self.to_path().has_root()
     }
 
+    /// As [`TypedPath::may_be_device`].
+    pub fn may_be_device(&self) -> bool
+        ensures { result ≡ may_be_device (typed_dialect self.now) (owned_bytes self.now) }
+    {
+        self.to_path().may_be_device()
+    }
+
+    /// As [`TypedPath::is_portable`].
+    pub fn is_portable(&self) -> bool
+        ensures { result ≡ is_portable (typed_dialect self.now) (owned_bytes self.now) }
+    {
+        self.to_path().is_portable()
+    }
+
+    /// As [`TypedPath::check_portable`].
+    pub fn check_portable(&self) -> Result<(), PortableError>
+        ensures { error_of result ≡ portable_fault (typed_dialect self.now) (owned_bytes self.now) }
+    {
+        self.to_path().check_portable()
+    }
+
+    /// As [`TypedPath::unportable`].
+    pub fn unportable(&self) -> Option<(&[u8], PortableError)>
+        ensures { option_map offence_of result
+            ≡ unportable (typed_dialect self.now) (owned_bytes self.now) }
+    {
+        self.to_path().unportable()
+    }
+
     /// As [`TypedPath::keeps_prefix`].
     pub fn keeps_prefix(&self) -> bool
         ensures { result ≡ keeps_prefix (typed_dialect self.now) (owned_bytes self.now) }
@@ -443,6 +473,15 @@ impl TypedPathBuf {
             path.now result }
     {
         self.to_path().join_checked(alloc, path)
+    }
+
+    /// As [`TypedPath::join_portable`].
+    pub fn join_portable(&self, alloc: Global, path: &[u8]) -> Result<TypedPathBuf, JoinError>
+        ensures dialect { IfOk result (λ p. typed_dialect p ≡ typed_dialect self.now) }
+        ensures joined { JoinsPortable (typed_dialect self.now) owned_bytes (owned_bytes self.now)
+            path.now result }
+    {
+        self.to_path().join_portable(alloc, path)
     }
 
     /// As [`TypedPath::with_file_name`].

@@ -6,10 +6,10 @@ ghost use Rattle.typed_path.specs.views.UnixViews.{unix_part, IsUnixReading};
 ghost use Rattle.typed_path.specs.views.PathViews.{path_bytes};
 ghost use Rattle.typed_path.specs.views.Shown.{whole};
 
-use crate::common::{Component, Encoding, Path, ReadAs, Reading, Values};
+use crate::common::{Component, Encoding, Path, ReadAs, Reading, Values, check_name};
 use crate::constants::unix::{CURRENT_DIR, PARENT_DIR};
-use crate::errors::ParseError;
-use crate::scan::{Piece, PieceKind};
+use crate::errors::{ParseError, PortableError};
+use crate::scan::{Piece, PieceKind, may_be_device};
 use crate::unix::encoding::UnixEncoding;
 
 /// A component of a Unix path.
@@ -70,6 +70,20 @@ impl<'a> Component<'a> for UnixComponent<'a> {
         match self {
             UnixComponent::Normal(name) => UnixEncoding::valid(name),
             _ => true,
+        }
+    }
+
+    fn may_be_device(&self) -> bool {
+        match self {
+            UnixComponent::Normal(name) => may_be_device(name),
+            _ => false,
+        }
+    }
+
+    fn check_portable(&self) -> Result<(), PortableError> {
+        match self {
+            UnixComponent::Normal(name) => check_name(name),
+            _ => Ok(()),
         }
     }
 

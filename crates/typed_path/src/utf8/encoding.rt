@@ -6,15 +6,15 @@ ghost use Rattle.std.specs.Prelude.{◌≡◌, ◌≤◌, Bool, fold, None, IsSo
 ghost use Rattle.std.specs.String.{string_bytes, string_capacity, string_vec};
 ghost use Rattle.std.specs.Str.{is_utf8};
 ghost use Rattle.typed_path.specs.components.{label_of, Dialect, root_of, dot, Part, root as root_kind, parent as parent_kind, current as current_kind, is_name, is_parent, is_current};
-ghost use Rattle.typed_path.specs.changes.{refusal, FitsPush, fault};
+ghost use Rattle.typed_path.specs.changes.{error_of, refusal, FitsPush, fault};
 ghost use Rattle.typed_path.specs.order.Words.{path_words};
 ghost use Rattle.typed_path.specs.promises.{HasPrefixOf, LiesWithin};
-ghost use Rattle.typed_path.specs.queries.{is_root as is_root_kind, is_valid_kind};
+ghost use Rattle.typed_path.specs.queries.{is_root as is_root_kind, is_valid_kind, kind_fault, kind_may_be_device};
 ghost use Rattle.typed_path.specs.texts.{is_text_option};
 ghost use Rattle.typed_path.specs.changes.Push as push_spec;
 
 use crate::common::Encoding;
-use crate::errors::PathError;
+use crate::errors::{PathError, PortableError};
 use std::alloc::AllocError;
 use std::hash::{Hash, Hasher};
 use std::{fmt, mem, str};
@@ -112,6 +112,14 @@ pub trait Utf8Component<'a>: Copy + fmt::Debug + Ord + Hash {
     /// none of Windows.
     fn is_valid(&self) -> bool
         ensures { result ≡ is_valid_kind dialect (part self.now).kind };
+
+    /// Whether the component is a name that some version of Windows may take for a device.
+    fn may_be_device(&self) -> bool
+        ensures { result ≡ kind_may_be_device (part self.now).kind };
+
+    /// Asks whether every system takes the component as it is written, as `check_portable` of a path has it.
+    fn check_portable(&self) -> Result<(), PortableError>
+        ensures { error_of result ≡ kind_fault (part self.now).kind };
 
     /// How many bytes the text has.
     fn len(&self) -> usize

@@ -4,20 +4,21 @@
 ghost use Rattle.std.specs.Prelude.{◌≡◌, true, ⊤, not, option_map, is_ok, IfOk, IfErr, option_copied, [], IsOk, Ok, Err, Some, None};
 ghost use Rattle.std.specs.Str.{is_utf8};
 ghost use Rattle.typed_path.specs.views.PathViews.{path_bytes, ancestors_left};
-ghost use Rattle.typed_path.specs.typed.Outcomes.{JoinsChecked, LeadsFrom, Normalizes, ConvertsChecked, Absolutizes};
+ghost use Rattle.typed_path.specs.views.OffenceViews.{offence_of};
+ghost use Rattle.typed_path.specs.typed.Outcomes.{JoinsChecked, JoinsPortable, LeadsFrom, Normalizes, ConvertsChecked, Absolutizes};
 ghost use Rattle.typed_path.specs.texts.{is_text_option, IsTextError, are_texts};
 ghost use Rattle.typed_path.specs.components.{kinds, comps, parts_of, unix, windows};
-ghost use Rattle.typed_path.specs.queries.{is_absolute, has_root, is_valid, parent_of, file_name_of, file_stem_of, stripped, path_starts_with, path_ends_with, ancestors_of, stripped_to, extension, file_prefix_of, has_trailing_separator, common_ancestor_of};
+ghost use Rattle.typed_path.specs.queries.{is_absolute, has_root, is_portable, is_valid, may_be_device, parent_of, portable_fault, unportable, file_name_of, file_stem_of, stripped, path_starts_with, path_ends_with, ancestors_of, stripped_to, extension, file_prefix_of, has_trailing_separator, common_ancestor_of};
 ghost use Rattle.typed_path.specs.order.{is_same, key_words, kinds_key_words, path_cmp, same-kinds};
 ghost use Rattle.std.proofs.Common.{ap};
 ghost use Rattle.typed_path.specs.places.{clean_text, is_within};
 ghost use Rattle.typed_path.specs.promises.{keeps_prefix};
-ghost use Rattle.typed_path.specs.changes.{with_file_name, with_extension, with_added_extension};
+ghost use Rattle.typed_path.specs.changes.{error_of, with_file_name, with_extension, with_added_extension};
 ghost use Rattle.typed_path.specs.conversions.{platform, same_dialect, converted};
 ghost use Rattle.std.specs.Iterator.{YieldsFirstBy, item_count};
 
 use crate::common::{Ancestors, KeyPath, Path};
-use crate::errors::{AbsolutizeError, PathError, StripPrefixError};
+use crate::errors::{AbsolutizeError, JoinError, PathError, PortableError, StripPrefixError};
 use crate::utf8::encoding::{Utf8Encoding, text_of, text_of_option};
 use crate::utf8::path_buf::{Utf8PathBuf, owned};
 use crate::utf8::reading::{Utf8Piece, Utf8Reading};
@@ -176,6 +177,43 @@ impl<'a, T: Utf8Encoding> Utf8Path<'a, T> {
             (kinds (parts_of T.Bytes.dialect (utf8_bytes self.entry))) }
     {
         self.path.is_valid()
+    }
+
+    /// Whether some version of Windows may take a name of the path for a device.
+    pub fn may_be_device(self) -> bool
+        ensures { result ≡ may_be_device T.Bytes.dialect (utf8_bytes self.entry) }
+    {
+        self.path.may_be_device()
+    }
+
+    /// Whether every system takes each component of the path as it is written.
+    pub fn is_portable(self) -> bool
+        ensures { result ≡ is_portable T.Bytes.dialect (utf8_bytes self.entry) }
+    {
+        self.path.is_portable()
+    }
+
+    /// Asks whether every system takes each component of the path as it is written, as [`Path::check_portable`]
+    /// has it.
+    ///
+    /// # Errors
+    ///
+    /// What the first component that offends does.
+    pub fn check_portable(self) -> Result<(), PortableError>
+        ensures { error_of result ≡ portable_fault T.Bytes.dialect (utf8_bytes self.entry) }
+    {
+        self.path.check_portable()
+    }
+
+    /// The first component for which [`Utf8Path::check_portable`] refuses the path, as it is written, and why.
+    pub fn unportable(self) -> Option<(&'a str, PortableError)>
+        ensures { option_map offence_of result
+            ≡ unportable T.Bytes.dialect (utf8_bytes self.entry) }
+    {
+        match self.as_bytes_path().unportable() {
+            Some((text, fault)) => Some((text_of(text), fault)),
+            None => None,
+        }
     }
 
     /// True only if every path that a checked join makes of this one has its prefix, or none if it has none.
@@ -379,6 +417,25 @@ impl<'a, T: Utf8Encoding> Utf8Path<'a, T> {
         owned!(
             self.as_bytes_path()
                 .join_checked(alloc, path.as_bytes_path())
+        )
+    }
+
+    /// The path with a portable one pushed onto it, unless that has a component that offends.
+    ///
+    /// # Errors
+    ///
+    /// Those of [`Path::join_portable`](crate::Path::join_portable).
+    pub fn join_portable(
+        self,
+        alloc: Global,
+        path: Utf8Path<'_, T>,
+    ) -> Result<Utf8PathBuf<T>, JoinError>
+        ensures { JoinsPortable T.Bytes.dialect (λ p. p.bytes) (utf8_bytes self.entry)
+            (utf8_bytes path.entry) result }
+    {
+        owned!(
+            self.as_bytes_path()
+                .join_portable(alloc, path.as_bytes_path())
         )
     }
 

@@ -7,12 +7,14 @@ ghost use Rattle.typed_path.specs.texts.{IsTextReading, is_text_part};
 ghost use Rattle.typed_path.specs.views.PathViews.{components_items, components_slice, components_parts};
 ghost use Rattle.typed_path.specs.views.PieceViews.{part_of};
 ghost use Rattle.typed_path.specs.views.TextPieceViews.{text_part};
-ghost use Rattle.typed_path.specs.queries.{is_absolute, has_root, is_root, is_valid_kind};
+ghost use Rattle.typed_path.specs.queries.{is_absolute, has_root, is_root, is_valid_kind, kind_fault, kind_may_be_device};
+ghost use Rattle.typed_path.specs.changes.{error_of};
 ghost use Rattle.typed_path.specs.scan.{but_last, slice_after_front, slice_after_back, first_part, last_part, LeavesFront, LeavesBack};
 ghost use Rattle.std.specs.Iterator.{YieldsFirstBy, item_count, YieldsLastBy};
 
-use crate::common::{Components, Encoding, Reading, Reversed};
-use crate::scan::{Cursor, Piece, PieceKind};
+use crate::common::{Components, Encoding, Reading, Reversed, check_name};
+use crate::errors::PortableError;
+use crate::scan::{Cursor, Piece, PieceKind, may_be_device};
 use crate::utf8::encoding::{Utf8Encoding, text_of};
 use crate::utf8::path::Utf8Path;
 use crate::utf8::windows::Utf8WindowsPrefix;
@@ -296,6 +298,27 @@ impl<'a> Utf8Piece<'a> {
         match self.kind {
             Utf8PieceKind::Normal => T::Bytes::valid(self.text.as_bytes()),
             _ => true,
+        }
+    }
+
+    /// Whether the component is a name that some version of Windows may take for a device.
+    pub fn may_be_device(self) -> bool
+        ensures { result ≡ kind_may_be_device (text_part self.entry).kind }
+    {
+        match self.kind {
+            Utf8PieceKind::Normal => may_be_device(self.text.as_bytes()),
+            _ => false,
+        }
+    }
+
+    /// Asks whether every system takes the component as it is written, as `check_portable` of a path has it.
+    pub fn check_portable(self) -> Result<(), PortableError>
+        ensures { error_of result ≡ kind_fault (text_part self.entry).kind }
+    {
+        match self.kind {
+            Utf8PieceKind::Prefix(_) => Err(PortableError::Prefix),
+            Utf8PieceKind::Normal => check_name(self.text.as_bytes()),
+            _ => Ok(()),
         }
     }
 

@@ -9,11 +9,11 @@ ghost use Rattle.typed_path.specs.views.TextViews.{utf8_bytes};
 ghost use Rattle.typed_path.specs.views.UnixViews.{unix_part};
 ghost use Rattle.typed_path.specs.views.ReadingViews.{reading_slice};
 
-use crate::common::{Encoding, ReadAs, Values};
+use crate::common::{Encoding, ReadAs, Values, check_name};
 use crate::constants::unix::{CURRENT_DIR_STR, PARENT_DIR_STR, SEPARATOR_STR};
-use crate::errors::ParseError;
+use crate::errors::{ParseError, PortableError};
 use crate::platform::PlatformEncoding;
-use crate::scan::Piece;
+use crate::scan::{Piece, may_be_device};
 use crate::unix::{UnixComponent, UnixEncoding};
 use crate::utf8::encoding::{Utf8Component, Utf8Encoding, text_of};
 use crate::utf8::path::Utf8Path;
@@ -143,6 +143,20 @@ impl<'a> Utf8Component<'a> for Utf8UnixComponent<'a> {
         match self {
             Utf8UnixComponent::Normal(name) => UnixEncoding::valid(name.as_bytes()),
             _ => true,
+        }
+    }
+
+    fn may_be_device(&self) -> bool {
+        match self {
+            Utf8UnixComponent::Normal(name) => may_be_device(name.as_bytes()),
+            _ => false,
+        }
+    }
+
+    fn check_portable(&self) -> Result<(), PortableError> {
+        match self {
+            Utf8UnixComponent::Normal(name) => check_name(name.as_bytes()),
+            _ => Ok(()),
         }
     }
 

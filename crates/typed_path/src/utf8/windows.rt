@@ -13,10 +13,10 @@ ghost use Rattle.typed_path.specs.views.WindowsViews.{prefix_component_part, win
 ghost use Rattle.typed_path.specs.views.TextViews.{utf8_bytes};
 ghost use Rattle.typed_path.specs.views.ReadingViews.{reading_parts, reading_slice};
 
-use crate::common::{Encoding, ReadAs, Values};
+use crate::common::{Encoding, ReadAs, Values, check_name};
 use crate::constants::windows::{CURRENT_DIR_STR, PARENT_DIR_STR, SEPARATOR_STR};
-use crate::errors::ParseError;
-use crate::scan::{Piece, WindowsPrefix};
+use crate::errors::{ParseError, PortableError};
+use crate::scan::{Piece, WindowsPrefix, may_be_device};
 use crate::utf8::encoding::{Utf8Component, Utf8Encoding, text_of};
 use crate::utf8::path::Utf8Path;
 use crate::utf8::path_buf::Utf8PathBuf;
@@ -403,6 +403,21 @@ impl<'a> Utf8Component<'a> for Utf8WindowsComponent<'a> {
         match self {
             Utf8WindowsComponent::Normal(name) => WindowsEncoding::valid(name.as_bytes()),
             _ => true,
+        }
+    }
+
+    fn may_be_device(&self) -> bool {
+        match self {
+            Utf8WindowsComponent::Normal(name) => may_be_device(name.as_bytes()),
+            _ => false,
+        }
+    }
+
+    fn check_portable(&self) -> Result<(), PortableError> {
+        match self {
+            Utf8WindowsComponent::Prefix(_) => Err(PortableError::Prefix),
+            Utf8WindowsComponent::Normal(name) => check_name(name.as_bytes()),
+            _ => Ok(()),
         }
     }
 

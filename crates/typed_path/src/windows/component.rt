@@ -6,10 +6,10 @@ ghost use Rattle.typed_path.specs.components.{prefix, prefix_part, Part, kinds, 
 ghost use Rattle.typed_path.specs.texts.{has_text_names};
 ghost use Rattle.typed_path.specs.views.PieceViews.{prefix_view};
 
-use crate::common::{Component, Encoding, Path, ReadAs, Reading, Values};
+use crate::common::{Component, Encoding, Path, ReadAs, Reading, Values, check_name};
 use crate::constants::windows::{CURRENT_DIR, PARENT_DIR, SEPARATOR_STR};
-use crate::errors::ParseError;
-use crate::scan::{Piece, PieceKind, Separators, WindowsPrefix, find_prefix};
+use crate::errors::{ParseError, PortableError};
+use crate::scan::{Piece, PieceKind, Separators, WindowsPrefix, find_prefix, may_be_device};
 use crate::windows::encoding::WindowsEncoding;
 
 impl<'a> WindowsPrefix<'a> {
@@ -291,6 +291,21 @@ impl<'a> Component<'a> for WindowsComponent<'a> {
         match self {
             WindowsComponent::Normal(name) => Separators::Either.is_valid_name(name),
             _ => true,
+        }
+    }
+
+    fn may_be_device(&self) -> bool {
+        match self {
+            WindowsComponent::Normal(name) => may_be_device(name),
+            _ => false,
+        }
+    }
+
+    fn check_portable(&self) -> Result<(), PortableError> {
+        match self {
+            WindowsComponent::Prefix(_) => Err(PortableError::Prefix),
+            WindowsComponent::Normal(name) => check_name(name),
+            _ => Ok(()),
         }
     }
 

@@ -8,17 +8,16 @@ ghost use Rattle.typed_path.specs.scan.{is_one_of};
 ghost use Rattle.typed_path.specs.changes.{push_all, spells_anew, TellsNames};
 ghost use Rattle.typed_path.specs.places.{normal_text, names_left_of, rows_of, settled, AreRowsOf, ArePlainRows, IsRowHead, IsPartedEither, TakesRows, HaveNoDisks, HasPlainNames, IsHeadOf};
 ghost use Rattle.typed_path.specs.views.PieceViews.{found_of, part_of};
-ghost use Rattle.std.specs.Str.{str_eq_ignore_ascii_case};
-ghost use Rattle.typed_path.specs.queries.{is_exact, is_exact_name, is_further_device, is_simple, is_verbatim_drive, is_written_root, simplified_text, without_last_spaces};
+ghost use Rattle.typed_path.specs.queries.{is_exact, is_exact_name, is_simple, is_verbatim_drive, is_written_root, simplified_text};
 ghost use Rattle.typed_path.specs.views.PathViews.{path_bytes, components_parts};
 
 use crate::common::{
-    Components, Encoding, Path, append_first, before_dot, behind_segment, cut_back, drop_name,
-    drop_separator, has_room, put_names,
+    Components, Encoding, Path, append_first, behind_segment, cut_back, drop_name, drop_separator,
+    has_room, put_names,
 };
 use crate::scan::{
     Cursor, Found, Piece, PieceKind, Separators, StepKind, WindowsPrefix, cut_at_separator, drive,
-    find_prefix, has_long_front, is_free_of, leading_short_names, step_of,
+    find_prefix, has_long_front, is_free_of, is_taken_for_device, leading_short_names, step_of,
 };
 use crate::windows::WindowsPath;
 use crate::windows::encoding::WindowsEncoding;
@@ -413,39 +412,5 @@ fn is_exact_name(name: &[u8]) -> bool
     if !WindowsEncoding::valid(name) || name.ends_with(b".") || name.ends_with(b" ") {
         return false;
     }
-    // Windows forgets the spaces before the first dot.
-    let stem = without_last_spaces(before_dot(name));
-    !Separators::Backslash.is_reserved(stem) && !is_further_device(stem)
-}
-
-/// A text without the spaces at its end.
-fn without_last_spaces(text: &[u8]) -> &[u8]
-    ensures { result.now ≡ without_last_spaces text.now }
-{
-    let mut len = text.len();
-    'spaces: while 0 < len && text[len - 1] == b' ' {
-        len -= 1;
-    }
-    &text[..len]
-}
-
-/// Whether a text is, ASCII case aside, the name of a device that a valid name may be.
-fn is_further_device(text: &[u8]) -> bool
-    ensures { result ≡ is_further_device text.now }
-{
-    is_same(text, b"CONIN$")
-        || is_same(text, b"CONOUT$")
-        || is_same(text, b"COM\xC2\xB9")
-        || is_same(text, b"COM\xC2\xB2")
-        || is_same(text, b"COM\xC2\xB3")
-        || is_same(text, b"LPT\xC2\xB9")
-        || is_same(text, b"LPT\xC2\xB2")
-        || is_same(text, b"LPT\xC2\xB3")
-}
-
-/// Whether two texts are the same, ASCII case aside.
-fn is_same(text: &[u8], other: &[u8]) -> bool
-    ensures { result ≡ str_eq_ignore_ascii_case text.now other.now }
-{
-    text.eq_ignore_ascii_case(other)
+    !is_taken_for_device(name)
 }

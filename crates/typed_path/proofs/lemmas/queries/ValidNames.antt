@@ -31,7 +31,7 @@ abbrev is_like : List ℕ → Bool
 is_like text = like_device (str_to_ascii_lowercase text)
 
 -- what holds of each of some names in small letters holds of a text that is one of them, case aside
-one_of : (holds : List ℕ → Bool) (text : List ℕ) (names : List (List ℕ)) → AllByRecursion (λ name. holds (str_to_ascii_lowercase name) ≡ true) names
+pub one_of : (holds : List ℕ → Bool) (text : List ℕ) (names : List (List ℕ)) → AllByRecursion (λ name. holds (str_to_ascii_lowercase name) ≡ true) names
     → list_any (λ name. str_eq_ignore_ascii_case text name) names ≡ true → holds (str_to_ascii_lowercase text) ≡ true
 one_of holds text [] all e = cc
 one_of holds text (name ∷ names) all e = by (str_eq_ignore_ascii_case text name) refl (one_of holds text names all.1) e

@@ -4,18 +4,19 @@ ghost use Rattle.std.specs.Prelude.{◌≡◌, [], IfOk, IsOk, not, bytes_eq, Ok
 ghost use Rattle.std.specs.String.{string_bytes, string_capacity};
 ghost use Rattle.typed_path.specs.components.{unix, windows, kinds, comps, parts_of};
 ghost use Rattle.typed_path.specs.typed.{kind_dialect, derived_dialect, typed_dialect, KeepsDialect, held_unix, held_windows};
-ghost use Rattle.typed_path.specs.typed.Outcomes.{Pushes, PushesChecked, Pops, SetsFileName, SetsExtension, Clears, Reserves, ReservesExactly, ShrinksTo, JoinsChecked, Normalizes, ConvertsChecked, Absolutizes, AddsExtension, LeadsFrom};
+ghost use Rattle.typed_path.specs.typed.Outcomes.{Pushes, PushesChecked, Pops, SetsFileName, SetsExtension, Clears, Reserves, ReservesExactly, ShrinksTo, JoinsChecked, JoinsPortable, Normalizes, ConvertsChecked, Absolutizes, AddsExtension, LeadsFrom};
 ghost use Rattle.typed_path.specs.views.TypedViews.{typed_owned, owned_bytes, reading_dialect};
 ghost use Rattle.typed_path.specs.views.TypedTextViews.{typed_text, typed_text_items, typed_text_slice, typed_text_iter_items, typed_text_iter_slice, typed_text_ancestors_left};
-ghost use Rattle.typed_path.specs.queries.{is_absolute, has_root, parent_of, file_name_of, file_stem_of, extension, stripped, path_starts_with, path_ends_with, ancestors_of, stripped_to, file_prefix_of, has_trailing_separator, simplified_text, common_ancestor_of};
-ghost use Rattle.typed_path.specs.changes.{with_file_name, with_extension, with_added_extension};
+ghost use Rattle.typed_path.specs.queries.{is_absolute, has_root, is_portable, may_be_device, portable_fault, unportable, parent_of, file_name_of, file_stem_of, extension, stripped, path_starts_with, path_ends_with, ancestors_of, stripped_to, file_prefix_of, has_trailing_separator, simplified_text, common_ancestor_of};
+ghost use Rattle.typed_path.specs.views.OffenceViews.{offence_of};
+ghost use Rattle.typed_path.specs.changes.{error_of, with_file_name, with_extension, with_added_extension};
 ghost use Rattle.typed_path.specs.conversions.{converted, same_dialect};
 ghost use Rattle.typed_path.specs.places.{clean_text, is_within};
 ghost use Rattle.typed_path.specs.promises.{keeps_prefix};
 ghost use Rattle.typed_path.specs.views.TextViews.{utf8_bytes};
 ghost use Rattle.typed_path.specs.changes.Push as push_spec;
 
-use crate::errors::{AbsolutizeError, PathError, StripPrefixError};
+use crate::errors::{AbsolutizeError, JoinError, PathError, PortableError, StripPrefixError};
 use crate::typed::path_buf::TryAsRef;
 use crate::typed::utf8::path::{Utf8TypedAncestors, Utf8TypedIter, Utf8TypedPath};
 use crate::typed::utf8::reading::Utf8TypedComponents;
@@ -253,6 +254,35 @@ impl Utf8TypedPathBuf {
         self.to_path().has_root()
     }
 
+    /// As [`Utf8TypedPath::may_be_device`].
+    pub fn may_be_device(&self) -> bool
+        ensures { result ≡ may_be_device (typed_dialect self.now) (owned_bytes self.now) }
+    {
+        self.to_path().may_be_device()
+    }
+
+    /// As [`Utf8TypedPath::is_portable`].
+    pub fn is_portable(&self) -> bool
+        ensures { result ≡ is_portable (typed_dialect self.now) (owned_bytes self.now) }
+    {
+        self.to_path().is_portable()
+    }
+
+    /// As [`Utf8TypedPath::check_portable`].
+    pub fn check_portable(&self) -> Result<(), PortableError>
+        ensures { error_of result ≡ portable_fault (typed_dialect self.now) (owned_bytes self.now) }
+    {
+        self.to_path().check_portable()
+    }
+
+    /// As [`Utf8TypedPath::unportable`].
+    pub fn unportable(&self) -> Option<(&str, PortableError)>
+        ensures { option_map offence_of result
+            ≡ unportable (typed_dialect self.now) (owned_bytes self.now) }
+    {
+        self.to_path().unportable()
+    }
+
     /// As [`Utf8TypedPath::keeps_prefix`].
     pub fn keeps_prefix(&self) -> bool
         ensures { result ≡ keeps_prefix (typed_dialect self.now) (owned_bytes self.now) }
@@ -423,6 +453,15 @@ impl Utf8TypedPathBuf {
             path.now result }
     {
         self.to_path().join_checked(alloc, path)
+    }
+
+    /// As [`Utf8TypedPath::join_portable`].
+    pub fn join_portable(&self, alloc: Global, path: &str) -> Result<Utf8TypedPathBuf, JoinError>
+        ensures dialect { IfOk result (λ p. typed_dialect p ≡ typed_dialect self.now) }
+        ensures joined { JoinsPortable (typed_dialect self.now) owned_bytes (owned_bytes self.now)
+            path.now result }
+    {
+        self.to_path().join_portable(alloc, path)
     }
 
     /// As [`Utf8TypedPath::with_file_name`].

@@ -1,7 +1,7 @@
 use Rattle.std.proofs.Common.{◌≡◌, ◌≤◌, ◌-◌, length, take}
 use Rattle.std.specs.List.{suffix_len}
 use Rattle.typed_path.specs.queries.{is_a_space}
-use Rattle.typed_path.proofs.windows.normal.without_last_spaces.Given as goal
+use Rattle.typed_path.proofs.scan.devices.without_last_spaces.Given as goal
 
 abbrev pub decreases-spaces : goal.decreases-spaces
 decreases-spaces l = l.len

@@ -1,0 +1,187 @@
+//! Whether a path is one that every system takes as it is written, and whether a name of it may be a device.
+
+ghost use Rattle.std.specs.Prelude.{◌≡◌, ℕ, false, None, IsTrue, option_map};
+ghost use Rattle.std.specs.List.{list_any, slice_split};
+ghost use Rattle.std.specs.Str.{is_utf8};
+ghost use Rattle.typed_path.specs.components.{body, is_separator, kinds, parts};
+ghost use Rattle.typed_path.specs.changes.{error_of, has_second_colon};
+ghost use Rattle.typed_path.specs.queries.{ends_unkept, has_portable_bytes, kind_fault, kind_may_be_device, kinds_fault, may_offend, name_fault, offender, portable_fault};
+ghost use Rattle.typed_path.specs.views.PieceViews.{part_of};
+ghost use Rattle.typed_path.specs.views.OffenceViews.{offence_of};
+ghost use Rattle.typed_path.specs.views.PathViews.{components_parts};
+
+use crate::common::components::Components;
+use crate::common::encoding::Encoding;
+use crate::common::relative::bare_separators;
+use crate::errors::PortableError;
+use crate::scan::{
+    Piece, PieceKind, Separators, begins_with_two, cut_at_separator, has_control, is_dots,
+    may_be_device,
+};
+use std::str;
+
+/// How many bytes a name has at most on every system.
+const LONGEST_NAME: usize = 255;
+
+/// Whether one of the components that are left may be a device.
+#[tactic(auto, using(crate::proofs::lemmas::queries::Portable::none_device, crate::proofs::lemmas::queries::Portable::step_device, crate::proofs::lemmas::queries::Simplified::one_less))]
+pub fn have_device<T: Encoding>(mut rest: Components<'_, T>) -> bool
+    ensures { result ≡ list_any kind_may_be_device (kinds (components_parts rest.entry)) }
+{
+    'pieces: while let Some(piece) = rest.next() {
+        if piece_may_be_device(piece) {
+            return true;
+        }
+    }
+    false
+}
+
+/// Whether a component may be a device.
+pub fn piece_may_be_device(piece: Piece<'_>) -> bool
+    ensures { result ≡ kind_may_be_device (part_of piece.entry).kind }
+{
+    matches!(piece.kind, PieceKind::Normal) && may_be_device(piece.text)
+}
+
+/// The first of the components that are left that offends, as it is written, and why.
+pub fn first_unportable<'a, T: Encoding>(
+    mut rest: Components<'a, T>,
+) -> Option<(&'a [u8], PortableError)>
+    ensures { option_map offence_of result ≡ offender (components_parts rest.entry) }
+{
+    'pieces: while let Some(piece) = rest.next() {
+        if let Some(fault) = piece_fault(piece) {
+            return Some((piece.text, fault));
+        }
+    }
+    None
+}
+
+/// The refusal for a component that was found, if one was.
+pub fn refused_for(found: Option<(&[u8], PortableError)>) -> Result<(), PortableError>
+    ensures { error_of result ≡ option_map (λ o. o.1) (option_map offence_of found.entry) }
+{
+    match found {
+        Some((_, fault)) => Err(fault),
+        None => Ok(()),
+    }
+}
+
+/// The refusal for a fault, if there is one.
+pub fn refused_as(fault: Option<PortableError>) -> Result<(), PortableError>
+    ensures { error_of result ≡ fault }
+{
+    match fault {
+        Some(fault) => Err(fault),
+        None => Ok(()),
+    }
+}
+
+/// What a component offends by.
+pub fn piece_fault(piece: Piece<'_>) -> Option<PortableError>
+    ensures { result ≡ kind_fault (part_of piece.entry).kind }
+{
+    match piece.kind {
+        PieceKind::Prefix(_) => Some(PortableError::Prefix),
+        PieceKind::RootDir | PieceKind::CurDir | PieceKind::ParentDir => None,
+        PieceKind::Normal => name_fault(piece.text),
+    }
+}
+
+/// Asks whether every system takes a name as it is written.
+pub fn check_name(name: &[u8]) -> Result<(), PortableError>
+    ensures { error_of result ≡ name_fault name.now }
+{
+    refused_as(name_fault(name))
+}
+
+/// What a name offends by.
+fn name_fault(name: &[u8]) -> Option<PortableError>
+    ensures { result ≡ name_fault name.now }
+{
+    if !has_portable_bytes(name) {
+        Some(PortableError::Forbidden)
+    } else if may_be_device(name) {
+        Some(PortableError::Device)
+    } else if ends_unkept(name) {
+        Some(PortableError::Ending)
+    } else if LONGEST_NAME < name.len() {
+        Some(PortableError::TooLong)
+    } else if is_text(name) {
+        None
+    } else {
+        Some(PortableError::NotText)
+    }
+}
+
+/// Whether each byte of a name is one that a name of Windows may have, and no control byte.
+fn has_portable_bytes(name: &[u8]) -> bool
+    ensures { result ≡ has_portable_bytes name.now }
+{
+    Separators::Backslash.has_allowed_bytes(name) && !has_control(name)
+}
+
+/// Whether a name ends in a dot or a space, which Windows does not keep.
+fn ends_unkept(name: &[u8]) -> bool
+    ensures { result ≡ ends_unkept name.now }
+{
+    name.ends_with(b".") || name.ends_with(b" ")
+}
+
+/// Whether bytes are UTF-8.
+#[tactic(auto, using(crate::proofs::lemmas::texts::TextChanges::text_laws))]
+fn is_text(bytes: &[u8]) -> bool
+    ensures { result ≡ is_utf8 bytes.now }
+{
+    str::from_utf8(bytes).is_ok()
+}
+
+/// Whether the bytes of a path tell that each component is one that every system takes as it is written. False says
+/// nothing.
+///
+/// All bytes are looked at as a whole, by blocks, and only then the segments, for their ends.
+#[tactic(auto, using(crate::proofs::lemmas::queries::Portable::told_unix, crate::proofs::lemmas::queries::Portable::told_bare))]
+pub fn looks_portable<T: Encoding>(path: &[u8]) -> bool
+    ensures { IsTrue result → portable_fault T.dialect path.now ≡ None }
+{
+    match bare_separators::<T>() {
+        Separators::Slash => are_plain_names(path, Separators::Slash),
+        separators => !begins_with_two(path) && are_plain_names(path, separators),
+    }
+}
+
+/// Whether each name of a text without a prefix is portable, as its bytes tell. False says nothing.
+fn are_plain_names(text: &[u8], separators: Separators) -> bool
+    ensures names { (at : ℕ) → IsTrue result
+        → kinds_fault (kinds (parts (body separators at text.now))) ≡ None }
+    ensures free { IsTrue result → has_second_colon text.now ≡ false }
+{
+    if separators.strays_on_windows(text) || has_control(text) || !is_text(text) {
+        return false;
+    }
+    !has_offending_segment(text, separators)
+}
+
+/// Whether a segment of a text offends, whatever its bytes are.
+fn has_offending_segment(text: &[u8], separators: Separators) -> bool
+    ensures { result ≡ list_any may_offend (slice_split (is_separator separators) text.now) }
+{
+    let mut rest = text;
+    'segments: while let Some((segment, behind)) = cut_at_separator(separators, rest) {
+        if may_offend(segment) {
+            return true;
+        }
+        rest = behind;
+    }
+    may_offend(rest)
+}
+
+/// Whether a segment is too long for a name, ends in a dot or a space and is neither `.` nor `..`, or may be a device.
+#[inline(always)]
+fn may_offend(segment: &[u8]) -> bool
+    ensures { result ≡ may_offend segment.now }
+{
+    LONGEST_NAME < segment.len()
+        || (ends_unkept(segment) && !is_dots(segment))
+        || may_be_device(segment)
+}
