@@ -224,7 +224,7 @@ looked() {
     "$room/$1" "$here/rows.tsv" "$2"
 }
 part "compiled" compiled "$room/plain" -O1
-for each in rows random batch hashes long threads; do
+for each in rows random steps batch hashes long threads; do
     part "boundary, $each" looked plain $each
 done
 wrap=-Wl,--wrap=malloc,--wrap=realloc,--wrap=free
@@ -233,7 +233,7 @@ part "boundary, each request for memory refused" looked refusing refused
 sanitize=(-fsanitize=address,undefined -fno-sanitize-recover=all)
 if echo 'int main(void) { return 0; }' | cc -x c "${sanitize[@]}" - -o "$room/none" 2> "$room/said" && "$room/none"; then
     part "compiled, sanitized" compiled "$room/sanitized" -O1 "${sanitize[@]}"
-    for each in rows random batch hashes long threads; do
+    for each in rows random steps batch hashes long threads; do
         part "boundary, sanitized, $each" looked sanitized $each
     done
 else

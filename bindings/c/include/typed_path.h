@@ -71,6 +71,7 @@ extern "C" {
 #define TYPED_PATH_NONE 8                  /* there is no such part */
 #define TYPED_PATH_AMBIGUOUS 9             /* absolute neither alone nor behind the directory */
 #define TYPED_PATH_BAD_ENDS 10             /* an end lies before the one before it, or behind the names */
+#define TYPED_PATH_BAD_READING 11          /* no reading of the path may stand at these numbers */
 
 /* The kinds of components. One of TYPED_PATH_PREFIX_VERBATIM or more is a prefix, which only Windows has. */
 #define TYPED_PATH_ROOT 0
@@ -95,6 +96,7 @@ extern "C" {
 #define TYPED_PATH_CONVERT_BOUND(path_len) ((size_t)(path_len) + 2)
 #define TYPED_PATH_BATCH_BOUND(base_len, names_len, count) \
     ((size_t)(names_len) + (size_t)(count) * ((size_t)(base_len) + 3))
+#define TYPED_PATH_KEY_BOUND(path_len) (2 * (size_t)(path_len) + 2)
 /* And of the number of components. */
 #define TYPED_PATH_COMPONENTS_BOUND(path_len) ((size_t)(path_len))
 
@@ -110,6 +112,22 @@ typedef struct typed_path_component {
     size_t length;
     uint32_t kind;
 } typed_path_component;
+
+/* What is left of the reading of a path: what is left to be read begins with the byte `from` of the path and ends
+   before its byte `to`. `stage` is for the library. */
+typedef struct typed_path_reading {
+    size_t from;
+    size_t to;
+    uint32_t stage;
+} typed_path_reading;
+/* That of which nothing was taken, to begin with: typed_path_reading reading = TYPED_PATH_READING(path_len); */
+#define TYPED_PATH_READING(path_len) {0, (size_t)(path_len), 0}
+
+/* Where a path goes that is pushed onto another: behind so many bytes of that one, and this byte, 0 for none. */
+typedef struct typed_path_place {
+    size_t kept;
+    uint32_t separator;
+} typed_path_place;
 
 /* The version of the library, as TYPED_PATH_VERSION. */
 uint32_t typed_path_version(void);
@@ -236,6 +254,31 @@ TYPED_PATH_MUST_USE uint32_t typed_path_components(
 TYPED_PATH_MUST_USE uint32_t typed_path_component_at(
     uint32_t dialect, const char *path, size_t path_len, size_t index, typed_path_component *component);
 
+/* Takes the first component that is left of a reading, or the last. The path is handed in anew each time, and
+   nothing else is kept. TYPED_PATH_NONE where none is left; then `*component` is as it was. TYPED_PATH_BAD_READING
+   where no reading of this path may stand at the numbers, as where they were told of another path; then, and for a
+   bad dialect, they and `*component` are as they were. Numbers at which one may stand are taken for right: whatever
+   they are, what is told lies within the path, and each step takes a component less. */
+TYPED_PATH_MUST_USE uint32_t typed_path_next(
+    uint32_t dialect, const char *path, size_t path_len,
+    typed_path_reading *reading, typed_path_component *component);
+TYPED_PATH_MUST_USE uint32_t typed_path_next_back(
+    uint32_t dialect, const char *path, size_t path_len,
+    typed_path_reading *reading, typed_path_component *component);
+
+/* Where the names of the prefix stand: the server and the share; or a name or the letter of a drive alone, and then
+   `*second` is empty. TYPED_PATH_NONE where there is no prefix, as on Unix; then, and for a bad dialect, both are as
+   they were. */
+TYPED_PATH_MUST_USE uint32_t typed_path_prefix_names(
+    uint32_t dialect, const char *path, size_t path_len, typed_path_span *first, typed_path_span *second);
+
+/* Where another path goes that is pushed onto a path, as typed_path_join pushes it: the first `kept` bytes of the
+   path, `separator` if it is not 0, and the other path. TYPED_PATH_NONE where it is merged into a base of a verbatim
+   kind, as `\\?\C:\a`, and typed_path_join makes it; then, and for a bad dialect, `*place` is as it was. */
+TYPED_PATH_MUST_USE uint32_t typed_path_push_place(
+    uint32_t dialect, const char *path, size_t path_len, const char *other, size_t other_len,
+    typed_path_place *place);
+
 /* Questions. The status is TYPED_PATH_DONE, or TYPED_PATH_BAD_DIALECT, and then the answer is false. */
 
 /* Whether a path leads to one place from every directory; on Windows `C:\a` does, `C:a` and `\a` do not. */
@@ -253,6 +296,10 @@ TYPED_PATH_MUST_USE uint32_t typed_path_has_root(
    and "lpt\xC2\xB2.x". */
 TYPED_PATH_MUST_USE uint32_t typed_path_is_valid(
     uint32_t dialect, const char *path, size_t path_len, bool *answer);
+
+/* Whether a name is allowed, by the same rule. One with a separator is not; `.`, `..` and an empty one are. */
+TYPED_PATH_MUST_USE uint32_t typed_path_is_valid_name(
+    uint32_t dialect, const char *name, size_t name_len, bool *answer);
 
 /* Whether it begins with the components of the base, as they are written. No check of containment. */
 TYPED_PATH_MUST_USE uint32_t typed_path_starts_with(
@@ -283,6 +330,12 @@ TYPED_PATH_MUST_USE uint32_t typed_path_equal(
 TYPED_PATH_MUST_USE uint32_t typed_path_compare(
     uint32_t dialect, const char *path, size_t path_len, const char *other, size_t other_len,
     int32_t *order);
+
+/* The words of a path's key, for a hasher of the caller's own: of each component its kind, the number of its bytes,
+   and these. They are one text for equal paths and for no others, and no such text begins with another.
+   TYPED_PATH_TOO_SMALL where they do not fit: then only the length is told. TYPED_PATH_KEY_BOUND. */
+TYPED_PATH_MUST_USE uint32_t typed_path_key_words(
+    uint32_t dialect, const char *path, size_t path_len, char *out, size_t out_size, size_t *len);
 
 /* A hash that is one of equal paths: SipHash 1-3, under a key of zeros, of each component: of a name by the
    number of its bytes and these, of any other by a number of its kind, with the names or the letter of a

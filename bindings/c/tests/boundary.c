@@ -105,7 +105,9 @@ static void look_at_sizes(const Call *call, uint32_t dialect, Text path, Text ot
 static bool is_kept(const Row *bad, Text one, Text two) {
     const Call *call = bad->call;
     typed_path_component list[200], component = {5, 6, 7};
-    typed_path_span span = {1, 2};
+    typed_path_span span = {1, 2}, names[2] = {{1, 2}, {3, 4}};
+    typed_path_place place = {1, 2};
+    typed_path_reading reading = {0, one.length, 0};
     bool answer = true;
     int32_t order = 3;
     uint64_t hash = 4;
@@ -124,15 +126,34 @@ static bool is_kept(const Row *bad, Text one, Text two) {
     if (strcmp(call->name, "components") == 0)
         return typed_path_components(bad->dialect, one.bytes, one.length, &component, 1, &count) == TYPED_PATH_BAD_DIALECT
             && typed_path_component_at(bad->dialect, one.bytes, one.length, 0, &component) == TYPED_PATH_BAD_DIALECT
-            && count == 8 && component.start == 5 && component.length == 6 && component.kind == 7;
+            && typed_path_next(bad->dialect, one.bytes, one.length, &reading, &component) == TYPED_PATH_BAD_DIALECT
+            && typed_path_next_back(bad->dialect, one.bytes, one.length, &reading, &component) == TYPED_PATH_BAD_DIALECT
+            && count == 8 && component.start == 5 && component.length == 6 && component.kind == 7
+            && reading.from == 0 && reading.to == one.length && reading.stage == 0;
+    if (strcmp(call->name, "prefix_names") == 0)
+        return told_by(bad, one, two, names, list, out, &len) == TYPED_PATH_BAD_DIALECT && names[0].start == 1
+            && names[0].length == 2 && names[1].start == 3 && names[1].length == 4;
+    if (strcmp(call->name, "push_place") == 0)
+        return told_by(bad, one, two, &place, list, out, &len) == TYPED_PATH_BAD_DIALECT && place.kept == 1
+            && place.separator == 2;
     return true;
+}
+
+/* How many bytes a call tells its answer in. */
+static size_t size_told(const Call *call) {
+    if (call->ask || call->ask_of)
+        return sizeof(bool);
+    if (call->part || call->part_of)
+        return sizeof(typed_path_span);
+    if (strcmp(call->name, "prefix_names") == 0)
+        return 2 * sizeof(typed_path_span);
+    return strcmp(call->name, "push_place") == 0 ? sizeof(typed_path_place) : sizeof(int32_t);
 }
 
 /* What is not put: the same status and answer with all that it is handed between such pages. */
 static void look_at_told(const Row *row) {
     const Call *call = row->call;
-    size_t size = call->ask || call->ask_of ? sizeof(bool) : call->part || call->part_of ? sizeof(typed_path_span)
-        : sizeof(int32_t);
+    size_t size = size_told(call);
     char out[1000];
     for (int last = 0; last < 2; last++) {
         Text one = laid(texts[0], row->path, last), two = laid(texts[1], row->other, last);
@@ -227,6 +248,79 @@ static void part_random(void) {
             look_at_sizes(call, dialect, path, with, status, (Text){out, len});
         }
     }
+}
+
+/* Steps by turns take the components of a list from its ends, and leave the slice between them. */
+static void look_at_steps(uint32_t dialect, Text path) {
+    typed_path_component list[200], one = {0, 0, 99};
+    typed_path_reading left = TYPED_PATH_READING(path.length);
+    size_t count = 0, front = 0, back = 0;
+    look(typed_path_components(dialect, path.bytes, path.length, list, path.length, &count) == TYPED_PATH_DONE,
+         "status", "components", path, NOTHING);
+    for (;;) {
+        bool last = drawn(2);
+        uint32_t status = (last ? typed_path_next_back : typed_path_next)(dialect, path.bytes, path.length, &left, &one);
+        if (front + back == count) {
+            look(status == TYPED_PATH_NONE, "status where none is left", "next", path, NOTHING);
+            return;
+        }
+        const typed_path_component *wanted = &list[last ? count - 1 - back++ : front++];
+        look(status == TYPED_PATH_DONE && one.start == wanted->start && one.length == wanted->length
+             && one.kind == wanted->kind, "component", "next", path, NOTHING);
+        if (front + back == count)
+            look(left.from == left.to, "slice where none is left", "next", path, NOTHING);
+        else
+            look(left.from == (front ? list[front].start : 0)
+                 && left.to == (back ? list[count - 1 - back].start + list[count - 1 - back].length : path.length),
+                 "slice left", "next", path, NOTHING);
+    }
+}
+
+/* Of any numbers a step tells a component within the path, and takes it, or leaves all as it was. */
+static void look_at_any_numbers(uint32_t dialect, Text path) {
+    typed_path_reading left = {
+        drawn(4) ? drawn(path.length + 3) : SIZE_MAX - drawn(9), drawn(4) ? drawn(path.length + 3) : SIZE_MAX - drawn(9),
+        (uint32_t)(drawn(5) ? drawn(4) : state),
+    };
+    for (size_t steps = 0;; steps++) {
+        typed_path_reading before = left;
+        typed_path_component one = {777, 777, 777};
+        uint32_t status = (drawn(2) ? typed_path_next_back : typed_path_next)(
+            dialect, path.bytes, path.length, &left, &one);
+        if (status != TYPED_PATH_DONE) {
+            look(one.start == 777 && one.length == 777 && one.kind == 777, "component that is none", "next", path, NOTHING);
+            look(status == TYPED_PATH_NONE || (status == TYPED_PATH_BAD_READING && left.from == before.from
+                 && left.to == before.to && left.stage == before.stage), "numbers that are refused", "next", path, NOTHING);
+            return;
+        }
+        look(one.start <= path.length && one.length <= path.length - one.start && steps <= path.length,
+             "component of any numbers", "next", path, NOTHING);
+        if (steps > path.length)
+            return;
+    }
+}
+
+static void part_steps(void) {
+    char one[100], two[100], out[1000];
+    size_t refused = 0;
+    for (size_t round = 0; round < 100000; round++) {
+        Text path = random_text(one), other = random_text(two);
+        uint32_t dialect = (uint32_t)drawn(2);
+        look_at_steps(dialect, path);
+        look_at_any_numbers(dialect, path);
+        typed_path_place place = {0, 0};
+        for (size_t at = 0; at < CALL_COUNT; at++) {
+            Row row = {.call = &CALLS[at], .dialect = dialect, .path = path, .other = other};
+            if (strcmp(CALLS[at].name, "push_place") != 0)
+                continue;
+            size_t len;
+            uint32_t status = told_by(&row, path, other, &place, NULL, out, &len);
+            look(status == TYPED_PATH_DONE || (status == TYPED_PATH_NONE && dialect && other.length), "place of a push",
+                 "push_place", path, other);
+            refused += status == TYPED_PATH_NONE;
+        }
+    }
+    look(refused > 100, "no push was merged", "push_place", NOTHING, NOTHING);
 }
 
 /* A batch, by what it is handed and tells. */
@@ -427,7 +521,7 @@ static void part_refused(void) {
         Row row = rows[at];
         if (!puts_answer(row.call)) {
             typed_path_component list[200];
-            uint64_t told[2] = {0, 0};
+            uint64_t told[4] = {0};
             size_t len;
             requests = 0;
             told_by(&row, row.path, row.other, told, list, out, &len);
@@ -510,13 +604,13 @@ static void part_long(void) {
 /* All rows, again and again. */
 static void *each_row(void *wrong_rows) {
     typed_path_component list[200];
-    uint64_t told[2];
+    uint64_t told[4];
     char out[1000];
     for (size_t round = 0; round < 300; round++) {
         for (size_t at = 0; at < row_count; at++) {
             const Row *row = &rows[at];
             size_t len = 0;
-            told[0] = told[1] = 0;
+            memset(told, 0, sizeof told);
             uint32_t status = puts_answer(row->call)
                 ? put_by(row->call, row->dialect, row->path, row->other, out, sizeof out, &len)
                 : told_by(row, row->path, row->other, told, list, out, &len);
@@ -544,7 +638,7 @@ int main(int count, char **words) {
         const char *name;
         void (*run)(void);
     } PARTS[] = {
-        {"rows", part_rows}, {"random", part_random}, {"batch", part_batch}, {"hashes", part_hashes},
+        {"rows", part_rows}, {"random", part_random}, {"steps", part_steps}, {"batch", part_batch}, {"hashes", part_hashes},
         {"refused", part_refused}, {"long", part_long}, {"threads", part_threads},
     };
     if (count != 3)

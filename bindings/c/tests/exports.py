@@ -15,7 +15,8 @@ import sys
 PLAIN = {
     "u32": "uint32_t", "&mut usize": "size_t *", "&mut bool": "bool *", "&mut i32": "int32_t *",
     "&mut u64": "uint64_t *", "u64": "uint64_t", "usize": "size_t", "&mut Span": "typed_path_span *",
-    "&mut Component": "typed_path_component *",
+    "&mut Component": "typed_path_component *", "&mut Unread": "typed_path_reading *",
+    "&mut Place": "typed_path_place *",
 }
 SLICES = {
     "&[u8]": ("const char *", "len"), "&mut [u8]": ("char *", "size"), "&[usize]": ("const size_t *", "count"),
@@ -24,7 +25,12 @@ SLICES = {
 }
 MARK = "TYPED_PATH_MUST_USE "
 # These have the same fields on either side.
-STRUCTS = {"typed_path_span": "Span", "typed_path_component": "Component"}
+STRUCTS = {
+    "typed_path_span": "Span", "typed_path_component": "Component", "typed_path_reading": "Unread",
+    "typed_path_place": "Place",
+}
+# The struct that the library has.
+LIBRARY = "typed_path/src/scan/unread.rt"
 
 
 def declared(header):
@@ -66,7 +72,8 @@ def fields(text, pattern):
 
 def main(header, folder):
     header = pathlib.Path(header).read_text()
-    sources = "\n".join(it.read_text() for it in sorted(pathlib.Path(folder).glob("**/*.rt")))
+    files = [*sorted(pathlib.Path(folder).glob("**/*.rt")), pathlib.Path(folder).resolve().parents[1] / LIBRARY]
+    sources = "\n".join(it.read_text() for it in files)
     ours, theirs = declared(header), exported(sources)
     wrong = 0
     for name in sorted({**ours, **theirs}):

@@ -13,6 +13,8 @@ static int is_put(const char *base, const char *name, const char *wanted) {
 int main(void) {
     typed_path_span span = {0, 0};
     typed_path_component first = {0, 0, 0};
+    typed_path_reading reading = TYPED_PATH_READING(4);
+    typed_path_place place = {0, 0};
     bool answer = false;
     uint64_t hashes[2] = {0, 0};
     if (typed_path_version() != TYPED_PATH_VERSION || !is_put("/srv", "a/b", "/srv/a/b"))
@@ -24,6 +26,12 @@ int main(void) {
         return 3;
     if (typed_path_is_within(TYPED_PATH_UNIX, "a/../b", 6, "a", 1, &answer) != TYPED_PATH_DONE || answer)
         return 4;
+    if (typed_path_next_back(TYPED_PATH_WINDOWS, "c:\\a", 4, &reading, &first) != TYPED_PATH_DONE || first.start != 3
+        || typed_path_next(TYPED_PATH_WINDOWS, "c:\\a", 4, &reading, &first) != TYPED_PATH_DONE || reading.from != 2)
+        return 7;
+    if (typed_path_push_place(TYPED_PATH_UNIX, "a", 1, "b", 1, &place) != TYPED_PATH_DONE || place.kept != 1
+        || place.separator != '/')
+        return 8;
     if (typed_path_hash(TYPED_PATH_UNIX, "a", 1, &hashes[0]) != TYPED_PATH_DONE
         || typed_path_hash_keyed(TYPED_PATH_UNIX, 1, 2, "a", 1, &hashes[1]) != TYPED_PATH_DONE
         || hashes[0] == hashes[1])

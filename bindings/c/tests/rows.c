@@ -13,6 +13,7 @@ const Call CALLS[] = {
     {.name = "normalize", .put = typed_path_normalize},
     {.name = "clean", .put = typed_path_clean},
     {.name = "relative_to", .put_of = typed_path_relative_to},
+    {.name = "key_words", .put = typed_path_key_words},
     {.name = "convert", .put_in = typed_path_convert},
     {.name = "convert_checked", .put_in = typed_path_convert_checked},
     {.name = "absolutize", .put_of = typed_path_absolutize},
@@ -24,6 +25,7 @@ const Call CALLS[] = {
     {.name = "is_absolute", .ask = typed_path_is_absolute},
     {.name = "has_root", .ask = typed_path_has_root},
     {.name = "is_valid", .ask = typed_path_is_valid},
+    {.name = "is_valid_name", .ask = typed_path_is_valid_name},
     {.name = "keeps_prefix", .ask = typed_path_keeps_prefix},
     {.name = "starts_with", .ask_of = typed_path_starts_with},
     {.name = "ends_with", .ask_of = typed_path_ends_with},
@@ -32,6 +34,8 @@ const Call CALLS[] = {
     {.name = "derive"},
     {.name = "compare"},
     {.name = "components"},
+    {.name = "prefix_names"},
+    {.name = "push_place"},
 };
 const size_t CALL_COUNT = sizeof CALLS / sizeof *CALLS;
 
@@ -40,7 +44,7 @@ size_t row_count;
 
 static const char *const STATUSES[] = {
     "DONE", "INVALID_FILENAME", "PATH_TRAVERSAL_ATTACK", "UNEXPECTED_PREFIX", "UNEXPECTED_ROOT", "OUT_OF_MEMORY",
-    "TOO_SMALL", "BAD_DIALECT", "NONE", "AMBIGUOUS", "BAD_ENDS",
+    "TOO_SMALL", "BAD_DIALECT", "NONE", "AMBIGUOUS", "BAD_ENDS", "BAD_READING",
 };
 static const char *const KINDS[] = {
     "root", "current", "parent", "normal", "Verbatim", "VerbatimUNC", "VerbatimDisk", "DeviceNS", "UNC", "Disk",
@@ -97,7 +101,7 @@ static Row row_of(char *line) {
     bool done = fields[4][0] == '=';
     Row row = {
         .call = call_of(fields[0]), .dialect = dialect_of(fields[1]), .path = text_of(fields[2]),
-        .other = text_of(fields[3]), .status = done ? TYPED_PATH_DONE : found(fields[4], STATUSES, 11),
+        .other = text_of(fields[3]), .status = done ? TYPED_PATH_DONE : found(fields[4], STATUSES, sizeof STATUSES / sizeof *STATUSES),
         .answer = text_of(fields[4] + (done ? 1 : 0)),
     };
     if (row.call->put_in)
@@ -139,6 +143,8 @@ uint32_t put_by(const Call *call, uint32_t dialect, Text path, Text other, char 
 size_t bound_of(const Call *call, Text path, Text other) {
     if (call->put == typed_path_clean)
         return TYPED_PATH_CLEAN_BOUND(path.length);
+    if (call->put == typed_path_key_words)
+        return TYPED_PATH_KEY_BOUND(path.length);
     if (call->put)
         return TYPED_PATH_NORMALIZE_BOUND(path.length);
     if (call->put_in)
@@ -148,6 +154,22 @@ size_t bound_of(const Call *call, Text path, Text other) {
     if (call->put_of == typed_path_relative_to)
         return TYPED_PATH_RELATIVE_BOUND(path.length, other.length);
     return TYPED_PATH_JOIN_BOUND(path.length, other.length);
+}
+
+/* Whether steps from one end, or the other, take the components of a list. */
+static bool is_stepped(const Row *row, Text path, const typed_path_component *list, size_t count, bool last) {
+    typed_path_reading reading = TYPED_PATH_READING(path.length);
+    typed_path_component one = {0, 0, 99};
+    for (size_t at = 0; at <= count; at++) {
+        const typed_path_component *wanted = &list[last ? count - 1 - at : at];
+        uint32_t status = (last ? typed_path_next_back : typed_path_next)(
+            row->dialect, path.bytes, path.length, &reading, &one);
+        if (at == count)
+            return status == TYPED_PATH_NONE;
+        if (status || one.start != wanted->start || one.length != wanted->length || one.kind != wanted->kind)
+            return false;
+    }
+    return false;
 }
 
 static uint32_t listed(const Row *row, Text path, typed_path_component *list, char *out, size_t *len) {
@@ -165,6 +187,44 @@ static uint32_t listed(const Row *row, Text path, typed_path_component *list, ch
     }
     if (typed_path_component_at(row->dialect, path.bytes, path.length, count, list) != TYPED_PATH_NONE)
         return 99;
+    if (status == TYPED_PATH_DONE && !(is_stepped(row, path, list, count, false) && is_stepped(row, path, list, count, true)))
+        return 93;
+    return status;
+}
+
+/* The names of a prefix, with `|` between them. */
+static uint32_t named(const Row *row, Text path, typed_path_span names[2], char *out, size_t *len) {
+    uint32_t status = typed_path_prefix_names(row->dialect, path.bytes, path.length, &names[0], &names[1]);
+    for (size_t at = 0; status == TYPED_PATH_DONE && at < 2; at++) {
+        if (names[at].start > path.length || names[at].length > path.length - names[at].start)
+            return 92;
+        memcpy(out + *len, path.bytes + names[at].start, names[at].length);
+        *len += names[at].length;
+        if (at == 0)
+            out[(*len)++] = '|';
+    }
+    return status;
+}
+
+/* How many bytes of a path are kept, and the separator behind them; put so, the answer is that of a join. */
+static uint32_t placed(const Row *row, Text path, Text other, typed_path_place *place, char *out, size_t *len) {
+    char joined[1000];
+    size_t length = 0;
+    uint32_t status = typed_path_push_place(
+        row->dialect, path.bytes, path.length, other.bytes, other.length, place);
+    if (status != TYPED_PATH_DONE)
+        return status;
+    if (place->kept > path.length || place->separator > 255
+        || typed_path_join(row->dialect, path.bytes, path.length, other.bytes, other.length, joined, sizeof joined, &length))
+        return 91;
+    size_t between = place->kept + (place->separator != 0);
+    if (length != between + other.length || (place->kept && memcmp(joined, path.bytes, place->kept) != 0)
+        || (place->separator && joined[place->kept] != (char)place->separator)
+        || (other.length && memcmp(joined + between, other.bytes, other.length) != 0))
+        return 90;
+    *len = (size_t)sprintf(out, "%zu|", place->kept);
+    if (place->separator)
+        out[(*len)++] = (char)place->separator;
     return status;
 }
 
@@ -211,6 +271,10 @@ uint32_t told_by(
         *len = (size_t)sprintf(out, "%s", typed_path_derive(path.bytes, path.length) ? "windows" : "unix");
     } else if (strcmp(call->name, "compare") == 0) {
         status = compared(row, path, other, told, out, len);
+    } else if (strcmp(call->name, "prefix_names") == 0) {
+        status = named(row, path, told, out, len);
+    } else if (strcmp(call->name, "push_place") == 0) {
+        status = placed(row, path, other, told, out, len);
     } else {
         status = listed(row, path, list, out, len);
     }

@@ -27,6 +27,8 @@ REFUSALS = {
 }
 # What a call returns where there is no such part.
 NONE = {"file_name": "", "file_stem": "", "extension": None}
+# What the package has no call for.
+CALLS_OF_C = {"is_valid_name", "key_words", "prefix_names", "push_place"}
 # What the library takes for another name or extension, and Python refuses.
 NO_NAMES = [
     ("with_file_name", b"a/b", b""), ("with_file_name", b"a/b", b"/x"), ("with_file_name", b"a/b", b".."),
@@ -71,6 +73,8 @@ class Rows(unittest.TestCase):
             call, dialect, path, other, answer = line.split("\t")
             raw = text_of(path)
             with self.subTest(line):
+                if call in CALLS_OF_C:
+                    continue
                 if call == "derive":
                     self.assertIs(type(derive(raw)), CLASSES[answer[1:]])
                     continue

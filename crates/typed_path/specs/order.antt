@@ -2,6 +2,7 @@
 pub mod Same
 pub mod Words
 pub mod KeyWords
+pub mod KeyBytes
 pub mod TextWords
 pub mod Laws
 pub mod Keyed
@@ -9,3 +10,4 @@ pub use Rattle.typed_path.specs.order.Laws.{exact_kinds, exact_lists, kind_cmp_t
 pub use Rattle.typed_path.specs.order.Same.{IsSame, are_same_prefixes, bytes_cmp, is_same, kind_cmp, kinds_cmp, left_cmp, left_same, path_cmp}
 pub use Rattle.typed_path.specs.order.TextWords.{text_kind_words, text_piece_words, text_prefix_words, text_unix_words, text_windows_words}
 pub use Rattle.typed_path.specs.order.KeyWords.{IsKeyed, IsToldApart, key_words, key_words_before, kind_key_words, kinds_key_words, length_prefixed, length_words, prefix_key_words}
+pub use Rattle.typed_path.specs.order.KeyBytes.{IsPutFrom, key_bytes}

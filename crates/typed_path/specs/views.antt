@@ -3,6 +3,7 @@ pub mod PieceViews
 pub mod SpanViews
 pub mod BodyViews
 pub mod CursorViews
+pub mod UnreadViews
 pub mod PathViews
 pub mod Shown
 pub mod ReversedViews

@@ -10,6 +10,11 @@ use thiserror::Error;
 #[error("prefix not found")]
 pub struct StripPrefixError;
 
+/// No reading of the path may stand where three numbers say.
+#[derive(Clone, Copy, Debug, PartialEq, Eq, Hash, Error)]
+#[error("no reading of the path stands there")]
+pub struct ReadingError;
+
 /// Why a component or a prefix could not be read: one of four texts.
 pub type ParseError = &'static str;
 

@@ -8,6 +8,7 @@ mod names;
 mod prefix;
 mod separators;
 mod step;
+mod unread;
 
 pub use cursor::{Begin, Body, Cursor, Span};
 pub use cut::{
@@ -29,3 +30,4 @@ pub use separators::{
     Look, Separators, has_forbidden_or_device, has_valid_names, is_free_of, look_at_path,
 };
 pub use step::{Piece, PieceKind, Step, StepKind, is_dots, step_of};
+pub use unread::{PlacedPiece, Unread};

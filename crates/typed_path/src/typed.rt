@@ -1,5 +1,6 @@
 //! Paths whose dialect is chosen when the program runs.
 
+mod numbers;
 mod path;
 mod path_buf;
 mod reading;

@@ -1,3 +1,5 @@
 pub mod Batches
 pub mod Crossed
 pub mod Spans
+pub mod Stepped
+pub mod Placed

@@ -3,7 +3,7 @@ use Rattle.std.specs.Prelude.{◌≡◌, ◌≤◌, ◌<◌, ℕ, zero, suc, Lis
 use Rattle.std.specs.declared.cmp.Ordering.{Ordering}
 use Rattle.std.specs.declared.cmp.Ordering.TheVariants.{Less, Equal, Greater}
 use Rattle.std.specs.Hash.DefaultHasher as sip
-use Rattle.typed_path.specs.order.{key_words}
+use Rattle.typed_path.specs.order.{key_bytes, key_words}
 use Rattle.typed_path.specs.components.{Dialect, unix, windows}
 use Rattle.typed_path.specs.declared.errors.CheckedPathError.{CheckedPathError}
 use Rattle.typed_path.specs.declared.errors.CheckedPathError.TheVariants.{InvalidFilename, PathTraversalAttack, UnexpectedPrefix, UnexpectedRoot}
@@ -162,6 +162,12 @@ abbrev pub Hashes : ℕ → ℕ → ℕ → List ℕ → ℕ → ℕ → ℕ →
 Hashes number key0 key1 path old new status =
     MatchOption (dialect_named number) ((status ≡ bad_dialect) × (new ≡ old))
     (λ d. (status ≡ done) × (new ≡ hash_of d key0 key1 path))
+
+-- the words of its key are put behind each other
+abbrev pub Keys : ℕ → List ℕ → List ℕ → ℕ → List ℕ → ℕ → ℕ → Type 0
+Keys number path old told new len status =
+    MatchOption (dialect_named number) ((status ≡ bad_dialect) × IsKept old told new len)
+    (λ d. IsPut (key_bytes d path) old new len status)
 
 -- where a call did it, what it put is the path that was made
 abbrev pub StandsAsMade : {P E : Type 0} → (P → List ℕ) → Result P E → ℕ → List ℕ → Type 0

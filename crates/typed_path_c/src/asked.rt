@@ -5,7 +5,7 @@ ghost use Rattle.typed_path.specs.components.{kinds, parts_of};
 ghost use Rattle.typed_path.specs.order.{is_same, path_cmp};
 ghost use Rattle.typed_path.specs.places.{is_within};
 ghost use Rattle.typed_path.specs.promises.{keeps_prefix};
-ghost use Rattle.typed_path.specs.queries.{is_absolute, has_root, is_valid, path_starts_with, path_ends_with};
+ghost use Rattle.typed_path.specs.queries.{is_absolute, has_root, is_valid, is_valid_name, path_starts_with, path_ends_with};
 ghost use Rattle.typed_path.specs.typed.{derived_dialect};
 ghost use Rattle.typed_path_c.specs.Answers.{dialect_named, done, bad_dialect, order_number, Tells, Orders};
 
@@ -72,6 +72,22 @@ fn is_valid<T: Encoding>(path: &[u8]) -> bool
     ensures { result ≡ is_valid T.dialect (kinds (parts_of T.dialect path.now)) }
 {
     Path::<T>::new(path).is_valid()
+}
+
+/// Whether the dialect allows a name.
+#[unsafe(no_mangle)]
+pub extern "C" fn typed_path_is_valid_name(dialect: u32, name: &[u8], answer: &mut bool) -> u32
+    ensures { Tells dialect (λ d. is_valid_name d name.now) answer.new result }
+{
+    let asked = of_encoding!(dialect, is_valid_name(name), return tell_none(answer));
+    tell(asked, answer)
+}
+
+/// The same of one encoding.
+fn is_valid_name<T: Encoding>(name: &[u8]) -> bool
+    ensures { result ≡ is_valid_name T.dialect name.now }
+{
+    T::valid(name)
 }
 
 /// True only if every checked join onto it has its prefix.

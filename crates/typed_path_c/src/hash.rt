@@ -1,14 +1,48 @@
-//! The hash of a path, under keys of zero or of the caller: SipHash 1-3 over the words of the path's key. std
-//! has a hasher of this kind whose keys are zero, and one whose keys are random.
+//! The words of a path's key, and the hash of a path: SipHash 1-3 over these, under keys of zero or of the caller.
+//! std has a hasher of this kind whose keys are zero, and one whose keys are random.
 
-ghost use Rattle.std.specs.Prelude.{◌≡◌};
+ghost use Rattle.std.specs.Prelude.{◌≡◌, ◌+◌, ◌*◌, length};
 ghost use Rattle.std.specs.Hash.DefaultHasher as sip;
-ghost use Rattle.typed_path_c.specs.Answers.{hash_of, Hashes};
+ghost use Rattle.typed_path.specs.order.{key_bytes};
+ghost use Rattle.typed_path_c.specs.Answers.{hash_of, Hashes, IsPut, Keys, Suffices};
 ghost use Rattle.typed_path_c.specs.HasherViews.{sip_hasher_of, std_hasher_of};
 
-use crate::status::{BAD_DIALECT, DONE, of_encoding};
+use crate::status::{BAD_DIALECT, DONE, TOO_SMALL, of_encoding};
 use std::hash::{Hash, Hasher};
 use typed_path::{Encoding, Key, Path};
+
+/// Puts the words of a path's key behind each other.
+#[tactic(auto, using(crate::proofs::Crossed::never_small, typed_path::proofs::lemmas::order::KeyBytes::key_bytes_size))]
+#[unsafe(no_mangle)]
+pub extern "C" fn typed_path_key_words(
+    dialect: u32,
+    path: &[u8],
+    out: &mut [u8],
+    len: &mut usize,
+) -> u32
+    ensures words { Keys dialect path.now out.old len.old out.new len.new result }
+    ensures fits { Suffices (2 * length path.now + 1) out.old result }
+{
+    of_encoding!(dialect, put_key(path, out, len), BAD_DIALECT)
+}
+
+/// The same of a path of one encoding.
+#[tactic(auto, using(crate::proofs::Crossed::never_small, typed_path::proofs::lemmas::order::KeyBytes::key_bytes_size))]
+fn put_key<T: Encoding>(path: &[u8], out: &mut [u8], len: &mut usize) -> u32
+    ensures put { IsPut (key_bytes T.dialect path.now) out.old out.new len.new result }
+    ensures fits { Suffices (2 * length path.now + 1) out.old result }
+{
+    let needed = Path::<T>::new(path).put_key(out);
+    *len = needed;
+    if out.len() < needed {
+        return TOO_SMALL;
+    }
+    let (_, behind) = out.split_at_mut(needed);
+    if let [first, ..] = behind {
+        *first = 0;
+    }
+    DONE
+}
 
 /// The hash of a path, which is one for equal paths.
 #[unsafe(no_mangle)]

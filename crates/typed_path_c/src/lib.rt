@@ -12,7 +12,9 @@ mod batch;
 mod hash;
 mod made;
 mod parts;
+mod place;
 mod status;
+mod steps;
 
 /// The version of the library: a part of two digits each for major, minor and patch.
 #[unsafe(no_mangle)]

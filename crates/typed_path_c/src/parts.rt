@@ -8,6 +8,7 @@ ghost use Rattle.typed_path.specs.views.PieceViews.{part_of};
 ghost use Rattle.typed_path_c.specs.declared.parts.Component.{Component};
 ghost use Rattle.typed_path_c.specs.Answers.{done, none_there};
 ghost use Rattle.typed_path_c.specs.Parts.{last_view, parent_place, file_name_place, file_stem_place, extension_place, stripped_place, Lends, kind_number, over, told, ListsIn, Lists, LendsAt, IsBehind};
+ghost use Rattle.typed_path_c.specs.Places.{Names};
 
 use crate::status::{BAD_DIALECT, DONE, NONE, TOO_SMALL, of_encoding, path_in};
 use typed_path::{Components, Encoding, Path, Piece, PieceKind, WindowsPrefix};
@@ -174,6 +175,36 @@ pub extern "C" fn typed_path_strip_prefix(
     }
 }
 
+/// Tells where the names of the prefix of a path stand: the server and the share, or a name or the letter of a drive
+/// alone.
+#[unsafe(no_mangle)]
+pub extern "C" fn typed_path_prefix_names(
+    dialect: u32,
+    path: &[u8],
+    first: &mut Span,
+    second: &mut Span,
+) -> u32
+    ensures { Names dialect path.now first.old first.new second.old second.new result }
+{
+    let Some(path) = path_in(dialect, path) else {
+        return BAD_DIALECT;
+    };
+    match path.prefix_names() {
+        Some(names) => {
+            *first = Span {
+                start: names.first,
+                length: names.first_end - names.first,
+            };
+            *second = Span {
+                start: names.second,
+                length: names.second_end - names.second,
+            };
+            DONE
+        }
+        None => NONE,
+    }
+}
+
 /// A component of the caller's path: its place, and the number of its kind.
 #[repr(C)]
 #[derive(Clone, Copy)]
@@ -184,7 +215,7 @@ pub struct Component {
 }
 
 /// The number of a kind of component.
-fn kind_number(piece: Piece<'_>) -> u32
+pub fn kind_number(piece: Piece<'_>) -> u32
     ensures { result ≡ kind_number (part_of piece.entry).kind }
 {
     match piece.kind {

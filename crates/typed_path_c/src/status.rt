@@ -24,6 +24,8 @@ pub const NONE: u32 = 8;
 pub const AMBIGUOUS: u32 = 9;
 /// An end lies before the one before it, or behind the names.
 pub const BAD_ENDS: u32 = 10;
+/// No reading of the path may stand at the numbers.
+pub const BAD_READING: u32 = 11;
 
 /// The status that names what a path is refused for.
 pub fn status_of(fault: CheckedPathError) -> u32

@@ -3,8 +3,8 @@
 use std::alloc::{AllocError, Global};
 use std::test::Fail;
 use typed_path::{
-    Component, End, ParseError, Path, StripPrefixError, UnixComponent, UnixComponents,
-    UnixEncoding, UnixPath, read_ends,
+    Component, End, ParseError, Path, ReadingError, StripPrefixError, UnixComponent,
+    UnixComponents, UnixEncoding, UnixPath, read_ends,
 };
 
 /// A line for each end that is named: the text that it gives, or `none`, and the slice left then.
@@ -86,6 +86,10 @@ fn bases(rt: HostRuntime) -> Result<(), Fail> {
     assert_eq!(rt;
         StripPrefixError.to_string(rt.alloc())?.as_str(),
         "prefix not found"
+    );
+    assert_eq!(rt;
+        ReadingError.to_string(rt.alloc())?.as_str(),
+        "no reading of the path stands there"
     );
     Ok(())
 }

@@ -7,6 +7,7 @@
 -- PartedPrefixes: a prefix with more of its text behind it: where it ends, and what stands right behind it; and texts of a drive, or of another prefix that is not verbatim, are not read verbatim (`FirmEnd`, `RootBehind`, `IsPartedEither`)
 -- WrittenForms: components are written as their kinds tell, roots as their dialect writes them, and where prefixes and roots stand in a list (`WritesBody`)
 -- WindowsNames: names that are read as names in each Windows text, alone and pushed one by one; a list as it is read that stays (`IsPlain`, `Resolved`, `IsHead`)
+-- PrefixNames: where the names of a prefix stand in the path that begins with it (`AreNamesOf`)
 pub mod Segments
 pub mod Prefixes
 pub mod Cuts
@@ -15,3 +16,4 @@ pub mod FirmPrefixes
 pub mod PartedPrefixes
 pub mod WrittenForms
 pub mod WindowsNames
+pub mod PrefixNames

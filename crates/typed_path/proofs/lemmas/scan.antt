@@ -5,9 +5,11 @@
 -- Searches: what masks say of places, and searches of a range put together from what was seen of it (`IsMask`, `IsFirstPlace`, `TellsWhether`)
 -- Tables: tables that bytes are looked up in by their low bits
 -- Blanks: segments that count for nothing behind others: how marks tell that there is none, what that tells of the pieces of a text, what its first bytes tell of its first segment, and a search behind separators of its pieces (`MarksNoBlank`)
+-- Unread: readings that are kept as numbers: the one that stands at them, the numbers of one, and that what is left lies within the path (`IsReading`, `IsReadingOf`)
 pub mod LastComponent
 pub mod Readings
 pub mod Steps
 pub mod Searches
 pub mod Tables
 pub mod Blanks
+pub mod Unread

@@ -1,14 +1,15 @@
 //! A reading of a text from both ends.
 
-ghost use Rattle.std.specs.Prelude.{◌≡◌, ◌≤◌, ◌-◌, length, slice_range, true, [], take, drop, option_map, Some, None, IfSome, IfNone, IsTrue};
-ghost use Rattle.typed_path.specs.components.{prefix_part, body, comps, component, Placed, end_of, kinds, parts, windows, dialect_of, later_body};
+ghost use Rattle.std.specs.Prelude.{◌≡◌, ◌≤◌, ◌-◌, ℕ, List, length, slice_range, true, [], take, drop, option_map, is_some, Some, None, IfSome, IfNone, IsTrue};
+ghost use Rattle.typed_path.specs.components.{Dialect, prefix_part, body, comps, component, Placed, end_of, kinds, parts, windows, dialect_of, later_body};
 ghost use Rattle.typed_path.specs.views.PieceViews.{part_of, prefix_view, step_part};
-ghost use Rattle.typed_path.specs.scan.{pending, is_clean, but_last, last_of, slice_after_front, slice_after_back, first_part, last_part, end_from};
+ghost use Rattle.typed_path.specs.scan.{pending, is_clean, but_last, last_of, slice_after_front, slice_after_back, first_part, last_part, end_from, first_of, is_unread, unread_items, unread_slice};
 
 use crate::errors::CheckedPathError;
 use crate::scan::prefix::{Found, WindowsPrefix, find_prefix};
 use crate::scan::separators::Separators;
 use crate::scan::step::{Piece, PieceKind, Step, back_step, depth_behind, front_step, trim_blanks};
+use crate::scan::unread::{PlacedPiece, Unread, begins_clean};
 
 /// The place of a reading of a text: the range of its body that is left, and its prefix while that is
 /// still to be taken.
@@ -45,6 +46,7 @@ impl<'a> Cursor<'a> {
     ghost use Rattle.typed_path.specs.views.BodyViews.{body_items};
     ghost use Rattle.typed_path.specs.views.SpanViews.{span_bytes};
     ghost use Rattle.typed_path.specs.views.CursorViews.{slice_left, items_left, cursor_separators};
+    ghost use Rattle.typed_path.specs.views.UnreadViews.{IsReadingOf};
     ghost use Rattle.typed_path.specs.changes.{error_of, fault_behind};
 
     /// A reading of a whole text that has no prefix.
@@ -194,6 +196,7 @@ impl<'a> Cursor<'a> {
         ensures items { items_left self.new ≡ drop 1 (items_left self.old) }
         ensures slice { slice_left self.new
             ≡ slice_after_front (items_left self.old) (slice_left self.old) }
+        ensures same { (d : Dialect) (t : List ℕ) → IsReadingOf d t self.old → IsReadingOf d t self.new }
     {
         match self.prefix {
             Some(found) => Some(self.take_prefix(found)),
@@ -221,6 +224,7 @@ impl<'a> Cursor<'a> {
         ensures items { items_left self.new ≡ drop 1 (items_left self.old) }
         ensures slice { slice_left self.new
             ≡ slice_after_front (items_left self.old) (slice_left self.old) }
+        ensures same { (d : Dialect) (t : List ℕ) → IsReadingOf d t self.old → IsReadingOf d t self.new }
     {
         let piece = prefix_piece(self.text, self.from, found);
         self.prefix = None;
@@ -234,6 +238,7 @@ impl<'a> Cursor<'a> {
         ensures items { items_left self.new ≡ but_last (items_left self.old) }
         ensures slice { slice_left self.new
             ≡ slice_after_back (items_left self.old) (slice_left self.old) }
+        ensures same { (d : Dialect) (t : List ℕ) → IsReadingOf d t self.old → IsReadingOf d t self.new }
     {
         let mut body = rest!(self);
         if let Some(step) = body.back() {
@@ -265,6 +270,152 @@ impl<'a> Cursor<'a> {
         match self.prefix() {
             Some(WindowsPrefix::Disk(_)) | None => false,
             Some(_) => true,
+        }
+    }
+}
+
+impl<'a> Cursor<'a> {
+    ghost use Rattle.typed_path.specs.views.CursorViews.{slice_left, items_left};
+    ghost use Rattle.typed_path.specs.views.UnreadViews.{IsLookedUp, IsReadingOf, numbers_of, placed_of};
+
+    /// The reading of a text that stands at these numbers; none where none may stand there. The prefix of the text
+    /// is looked at where nothing was taken from the front.
+    #[inline(always)]
+    #[tactic(auto, using(crate::proofs::lemmas::scan::Unread::whole_fits))]
+    pub(crate) fn taken_up(
+        text: &'a [u8],
+        unread: Unread,
+        prefix: Option<Found<'a>>,
+        separators: Separators,
+    ) -> Option<Cursor<'a>>
+        ensures told { (d : Dialect) → IsLookedUp d text.now unread prefix.entry separators
+            → is_some result ≡ is_unread d text.now unread }
+        ensures items { (d : Dialect) → IsLookedUp d text.now unread prefix.entry separators
+            → IfSome result (λ c. items_left c ≡ unread_items d text.now unread) }
+        ensures slice { IfSome result (λ c. slice_left c ≡ unread_slice text.now unread) }
+        ensures same { (d : Dialect) → IsLookedUp d text.now unread prefix.entry separators
+            → IfSome result (IsReadingOf d text.now) }
+    {
+        if text.len() < unread.to {
+            return None;
+        }
+        match unread.stage {
+            0 => {
+                let from = pending(prefix);
+                if unread.from != 0 || unread.to < from {
+                    return None;
+                }
+                Some(Cursor {
+                    text,
+                    from,
+                    to: unread.to,
+                    prefix,
+                    begin: Begin::Body,
+                    separators,
+                })
+            }
+            1 => {
+                if unread.to < unread.from {
+                    return None;
+                }
+                Some(Cursor {
+                    text,
+                    from: unread.from,
+                    to: unread.to,
+                    prefix: None,
+                    begin: Begin::Body,
+                    separators,
+                })
+            }
+            2 => {
+                if unread.to < unread.from {
+                    return None;
+                }
+                if !begins_clean(&text[unread.from..unread.to], separators) {
+                    return None;
+                }
+                Some(Cursor {
+                    text,
+                    from: unread.from,
+                    to: unread.to,
+                    prefix: None,
+                    begin: Begin::Inside,
+                    separators,
+                })
+            }
+            _ => None,
+        }
+    }
+
+    /// The numbers at which the reading stands.
+    #[inline(always)]
+    pub(crate) fn numbers(&self) -> Unread
+        ensures { result ≡ numbers_of self.now }
+    {
+        if self.prefix.is_some() {
+            return Unread {
+                from: 0,
+                to: self.to,
+                stage: 0,
+            };
+        }
+        match self.begin {
+            Begin::Body => Unread {
+                from: self.from,
+                to: self.to,
+                stage: 1,
+            },
+            Begin::Inside => Unread {
+                from: self.from,
+                to: self.to,
+                stage: 2,
+            },
+        }
+    }
+
+    /// Where the first component that is left begins in the text.
+    #[inline(always)]
+    pub(crate) fn first_start(&self) -> usize
+        ensures { (first : Placed) → first_of (items_left self.now) ≡ Some first → result ≡ first.start }
+    {
+        match self.prefix {
+            Some(found) => self.from - found.length,
+            None => self.from,
+        }
+    }
+
+    /// Takes the first component that is left, with its place.
+    #[inline(always)]
+    pub(crate) fn front_placed(&mut self) -> Option<PlacedPiece<'a>>
+        ensures taken { option_map placed_of result ≡ first_of (items_left self.old) }
+        ensures items { items_left self.new ≡ drop 1 (items_left self.old) }
+        ensures slice { slice_left self.new
+            ≡ slice_after_front (items_left self.old) (slice_left self.old) }
+        ensures same { (d : Dialect) (t : List ℕ) → IsReadingOf d t self.old → IsReadingOf d t self.new }
+    {
+        let start = self.first_start();
+        match self.front() {
+            Some(piece) => Some(PlacedPiece { start, piece }),
+            None => None,
+        }
+    }
+
+    /// Takes the last component that is left, with its place.
+    #[inline(always)]
+    pub(crate) fn back_placed(&mut self) -> Option<PlacedPiece<'a>>
+        ensures taken { option_map placed_of result ≡ last_of (items_left self.old) }
+        ensures items { items_left self.new ≡ but_last (items_left self.old) }
+        ensures slice { slice_left self.new
+            ≡ slice_after_back (items_left self.old) (slice_left self.old) }
+        ensures same { (d : Dialect) (t : List ℕ) → IsReadingOf d t self.old → IsReadingOf d t self.new }
+    {
+        let end = self.last_end();
+        match self.back() {
+            Some(piece) => Some(PlacedPiece {
+                start: end.saturating_sub(piece.text.len()),
+                piece,
+            }),
+            None => None,
         }
     }
 }
@@ -437,6 +588,7 @@ impl<'a> Body<'a> {
         ensures named { IfSome result (λ step. step.kind ≡ StepKind.Normal
             → take (length step.text.now) (drop self.old.from self.old.text.now) ≡ step.text.now) }
         ensures separators { self.new.separators ≡ self.old.separators }
+        ensures text { self.new.text ≡ self.old.text }
     {
         let left = self.as_bytes();
         if left.is_empty() {
@@ -462,6 +614,8 @@ impl<'a> Body<'a> {
         ensures end { IfSome result
             (λ _. self.new.to ≡ end_from self.old.from (but_last (body_items self.old))) }
         ensures none { IfNone result (body_slice self.old ≡ []) }
+        ensures begin { self.new.begin ≡ self.old.begin }
+        ensures separators { self.new.separators ≡ self.old.separators }
     {
         let left = self.as_bytes();
         if left.is_empty() {

@@ -250,7 +250,7 @@ fn has_no_blank_by_one(text: &[u8], separators: Separators) -> bool
 
 /// Whether the first segment of a text is empty or `.`.
 #[inline(always)]
-fn begins_blank(text: &[u8], separators: Separators) -> bool
+pub fn begins_blank(text: &[u8], separators: Separators) -> bool
     ensures { result ≡ begins_blank separators text.now }
 {
     match text {

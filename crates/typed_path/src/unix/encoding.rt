@@ -3,12 +3,12 @@
 ghost use Rattle.std.specs.Prelude.{false, ◌≡◌, ◌≤◌, ◌+◌, ◌++◌, ℕ, take, slice_range, length, IfSome, IsNone, IsOk, OnOk, OnErr, ◌<◌, ◌-◌, [], codes, Some, true};
 ghost use Rattle.std.specs.Vec.{vec_capacity, vec_len};
 ghost use Rattle.typed_path.specs.components.{unix, slash};
-ghost use Rattle.typed_path.specs.changes.{push_unix, ended_with, FitsPush};
+ghost use Rattle.typed_path.specs.changes.{push_unix, ended_with, FitsPush, put_in_place, IsNoneOrSeparator};
 ghost use Rattle.typed_path.specs.places.{normal_text, IsParted, kept_segments, names_left, rows_of, segment_kinds};
 
 use crate::common::{
-    Encoding, compare_texts, cut_back, drop_separator, put_each_segment, put_kept_by_slashes,
-    put_over,
+    Encoding, PushPlace, compare_texts, cut_back, drop_separator, put_each_segment,
+    put_kept_by_slashes, put_over,
 };
 use crate::errors::CheckedPathError;
 use crate::scan::{
@@ -164,6 +164,26 @@ pub fn push_at(
     }
 }
 
+/// Where a path goes that is pushed onto a base.
+#[inline(always)]
+pub fn push_place(base: &[u8], other: &[u8]) -> PushPlace
+    ensures place { push_unix base.now other.now
+        ≡ put_in_place base.now result.kept result.separator.now other.now }
+    ensures within { result.kept ≤ length base.now }
+    ensures separator { IsNoneOrSeparator unix result.separator.now }
+{
+    match separator_between(base, other) {
+        Some(separator) => PushPlace {
+            kept: base.len(),
+            separator,
+        },
+        None => PushPlace {
+            kept: 0,
+            separator: b"",
+        },
+    }
+}
+
 /// What a push puts between a base and a path; none where the path replaces the base.
 #[inline(always)]
 fn separator_between(base: &[u8], other: &[u8]) -> Option<&'static [u8]>
@@ -171,6 +191,7 @@ fn separator_between(base: &[u8], other: &[u8]) -> Option<&'static [u8]>
         ≡ base.now ++ separator.now ++ other.now) }
     ensures replaced { IsNone result → push_unix base.now other.now ≡ other.now }
     ensures short { IfSome result (λ separator. length separator.now ≤ 1) }
+    ensures known { IfSome result (λ separator. IsNoneOrSeparator unix separator.now) }
 {
     match other {
         [] => Some(b""),
@@ -184,6 +205,7 @@ fn separator_between(base: &[u8], other: &[u8]) -> Option<&'static [u8]>
 fn separator_behind(base: &[u8]) -> &'static [u8]
     ensures text { ended_with slash base.now ≡ base.now ++ result.now }
     ensures short { length result.now ≤ 1 }
+    ensures known { IsNoneOrSeparator unix result.now }
 {
     match base {
         [] | [.., b'/'] => b"",

@@ -1,15 +1,15 @@
 //! A path of Windows pushed onto another.
 
-ghost use Rattle.std.specs.Prelude.{◌≡◌, ◌≤◌, ◌+◌, ◌++◌, ℕ, List, IsTrue, true, false, take, drop, slice_range, length, IfOk, IsOk, OnOk, OnErr, Some, ◌<◌, ◌∷◌, [], Bool, IfSome};
+ghost use Rattle.std.specs.Prelude.{◌≡◌, ◌≤◌, ◌+◌, ◌++◌, ℕ, List, IsTrue, true, false, take, drop, slice_range, length, IfOk, IsOk, OnOk, OnErr, Some, ◌<◌, ◌∷◌, [], Bool, IfSome, is_some, not};
 ghost use Rattle.std.specs.Vec.{vec_capacity, vec_len};
 ghost use Rattle.std.specs.List.{list_any, list_all, slice_split};
 ghost use Rattle.typed_path.specs.components.{windows, is_separator, parts_of, kinds, Part, parts, prefix_of, Found, is_empty, later_body};
-ghost use Rattle.typed_path.specs.changes.{push_windows, ended_windows, is_disk_alone, raw_length, FitsPush, without_last_name, merge_by_kind, merged, spelled, spells_anew, IsKnown, is_component, TellsSpelled, IsSpelledHead, IsStanding, IsMergeable, AreMergeable, AreReadBehind, Stands, IsSpelled, IsPutBehind, room_of, HoldsNames, names_of, jointed};
+ghost use Rattle.typed_path.specs.changes.{push_windows, put_in_place, IsNoneOrSeparator, merges, ended_windows, is_disk_alone, raw_length, FitsPush, without_last_name, merge_by_kind, merged, spelled, spells_anew, IsKnown, is_component, TellsSpelled, IsSpelledHead, IsStanding, IsMergeable, AreMergeable, AreReadBehind, Stands, IsSpelled, IsPutBehind, room_of, HoldsNames, names_of, jointed};
 ghost use Rattle.typed_path.specs.queries.{has_any_verbatim_prefix, is_verbatim_prefix, has_prefix};
 ghost use Rattle.typed_path.specs.views.CursorViews.{items_left};
 ghost use Rattle.typed_path.specs.views.PieceViews.{part_of};
 
-use crate::common::{put_over, turn_behind};
+use crate::common::{PushPlace, put_over, turn_behind};
 use crate::scan::{
     Cursor, Piece, PieceKind, Separators, after_mark, before_last_separator, begins_with_two,
     cut_at_separator, drive, find_prefix, has_only_names, is_dots,
@@ -56,10 +56,50 @@ pub fn push_at(
     put_over(text, kept, separator, other)
 }
 
+/// Where a path goes that is pushed onto a base; none where it is merged into one of a verbatim kind.
+pub fn push_place(base: &[u8], other: &[u8]) -> Option<PushPlace>
+    ensures place { IfSome result (λ place. push_windows base.now other.now
+        ≡ put_in_place base.now place.kept place.separator.now other.now) }
+    ensures within { IfSome result (λ place. place.kept ≤ length base.now) }
+    ensures separator { IfSome result (λ place. IsNoneOrSeparator windows place.separator.now) }
+    ensures none { is_some result ≡ not (merges windows base.now other.now) }
+{
+    if other.is_empty() {
+        return Some(PushPlace {
+            kept: base.len(),
+            separator: b"",
+        });
+    }
+    let path = Cursor::of_windows(other);
+    let replaces = path.has_prefix();
+    if replaces {
+        return Some(PushPlace {
+            kept: 0,
+            separator: b"",
+        });
+    }
+    let spells_anew = has_verbatim_kind(base);
+    if spells_anew {
+        return None;
+    }
+    let is_rooted = path.begins_with_root();
+    if is_rooted {
+        return Some(PushPlace {
+            kept: prefix_len(base),
+            separator: b"",
+        });
+    }
+    Some(PushPlace {
+        kept: base.len(),
+        separator: separator_behind(base),
+    })
+}
+
 /// What a base wants behind it before a relative path.
 pub fn separator_behind(base: &[u8]) -> &'static [u8]
     ensures text { ended_windows base.now ≡ base.now ++ result.now }
     ensures short { length result.now ≤ 1 }
+    ensures known { IsNoneOrSeparator windows result.now }
 {
     match base {
         [] | [.., b'\\'] => b"",

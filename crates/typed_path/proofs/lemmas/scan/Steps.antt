@@ -52,6 +52,11 @@ StartsAt at (c ∷ cs) = c.start ≡ at
 pub starts-body_from : (begin : Begin) (s : Separators) (at : ℕ) (text : List ℕ) → is_clean begin s text ≡ true → StartsAt at (body_from begin s at text)
 starts-body_from begin s at text clean = grind (arith, common_steps)
 
+-- so the first one does
+first-starts : (at : ℕ) (cs : List Placed) (c : Placed) → StartsAt at cs → first_of cs ≡ Some c → at ≡ c.start
+first-starts at [] c starts e = cc e
+first-starts at (x ∷ cs) c starts e = sym starts ∙ ap (λ p. p.start) (same_Some x c e)
+
 -- the slice left before the last component ends where the one before it does
 pub slice_after_back-push : (at k : ℕ) (slice : List ℕ) (cs : List Placed) (c : Placed) → StartsAt at cs → end_from at cs ≡ at + k → slice_after_back (cs ++ c ∷ []) slice ≡ take k slice
 slice_after_back-push at k slice cs c starts ends = grind (arith, common_steps)
@@ -275,6 +280,16 @@ items_left-bare c e = ap (λ q. prefix_left q (start_left q c.from) (slice_range
 
 slice_left-bare : (c : Cursor) → c.prefix ≡ None → slice_left c ≡ body_slice (body_of c)
 slice_left-bare c e = ap (λ q. slice_range c.text.now (start_left q c.from) c.to) e
+
+-- where the first component of a cursor begins
+pub first_left-starts : (c : Cursor) (first : Placed) → first_of (items_left c) ≡ Some first → start_left c.prefix c.from ≡ first.start
+first_left-starts c first h = by c.prefix refl
+  where
+    by : (o : Option Found) → c.prefix ≡ o → start_left c.prefix c.from ≡ first.start
+    by None e =
+        ap (λ q. start_left q c.from) e
+        ∙ first-starts c.from (body_items (body_of c)) first (starts-body_from c.begin c.separators c.from (body_slice (body_of c)) c.starts_clean) (sym (ap first_of (items_left-bare c e)) ∙ h)
+    by (Some f) e = ap (λ q. start_left q c.from) e ∙ ap (λ p. p.start) (same_Some (prefix_before f c.text.now c.from) first (sym (ap first_of (items_left-pending c f e)) ∙ h))
 
 -- the last component of the body was taken, whatever stands before it
 module _ (c : Cursor) (b : Body) (from : b.from ≡ c.from) (text : b.text ≡ c.text) (p : Part) (taken : Some p ≡ last_part (body_items (body_of c))) (items : body_items b ≡ but_last (body_items (body_of c))) where

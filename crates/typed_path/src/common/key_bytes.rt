@@ -1,0 +1,132 @@
+//! The words of a path's key as bytes in a buffer, for a hasher across a boundary.
+
+ghost use Rattle.std.specs.Prelude.{◌≡◌, ◌≤◌, ◌<◌, ◌+◌, ◌^◌, ◌∷◌, ◌++◌, length, drop, option_map};
+ghost use Rattle.std.specs.List.{concat};
+ghost use Rattle.typed_path.specs.order.{key_bytes, IsPutFrom, key_words_before, kind_key_words, length_prefixed, length_words};
+ghost use Rattle.typed_path.specs.views.PathViews.{path_bytes};
+ghost use Rattle.typed_path.specs.views.PieceViews.{prefix_view, step_part};
+
+use crate::common::encoding::Encoding;
+use crate::common::path::Path;
+use crate::scan::{Step, StepKind, WindowsPrefix};
+
+impl<'a, T: Encoding> Path<'a, T> {
+    /// Puts the words that the path's [`Key`](crate::Key) feeds a hasher, one behind the other, at the beginning of a
+    /// buffer, if they fit. It tells how many bytes they are: at most twice those of the path, and one.
+    ///
+    /// No path's bytes begin with those of another, so other values may be fed behind them.
+    pub fn put_key(self, out: &mut [u8]) -> usize
+        ensures length { result ≡ length (key_bytes T.dialect (path_bytes self.entry)) }
+        ensures put { length (key_bytes T.dialect (path_bytes self.entry)) ≤ length out.old → out.new
+            ≡ key_bytes T.dialect (path_bytes self.entry)
+            ++ drop (length (key_bytes T.dialect (path_bytes self.entry))) out.old }
+        ensures kept { length out.old < length (key_bytes T.dialect (path_bytes self.entry))
+            → out.new ≡ out.old }
+    {
+        let path = self.as_bytes();
+        let needed = put_words::<T>(path, &mut []);
+        if needed <= out.len() {
+            put_words::<T>(path, out);
+        }
+        needed
+    }
+}
+
+/// The same of the bytes of a path; where they do not fit, some of them may be put.
+fn put_words<T: Encoding>(path: &[u8], out: &mut [u8]) -> usize
+    ensures { IsPutFrom 0 (key_bytes T.dialect path.now) out.old out.new result }
+{
+    let cursor = T::cursor(path);
+    let mut at = put_prefix(out, 0, cursor.prefix());
+    let mut body = cursor.body();
+    'steps: while let Some(step) = body.front() {
+        at = put_step(out, at, step);
+    }
+    put_bytes(out, at, &[0])
+}
+
+/// Puts the number of the prefix's kind, and its names or its letter.
+fn put_prefix(out: &mut [u8], at: usize, prefix: Option<WindowsPrefix<'_>>) -> usize
+    requires { at + length (concat (key_words_before (option_map prefix_view prefix))) < 2 ^ 64 }
+    ensures { IsPutFrom at (concat (key_words_before (option_map prefix_view prefix.entry)))
+        out.old out.new result }
+{
+    match prefix {
+        None => at,
+        Some(WindowsPrefix::Verbatim(name)) => put_named(out, at, 1, name),
+        Some(WindowsPrefix::VerbatimUNC(server, share)) => {
+            put_both_named(out, at, 2, server, share)
+        }
+        Some(WindowsPrefix::VerbatimDisk(letter)) => put_bytes(out, at, &[3, letter]),
+        Some(WindowsPrefix::DeviceNS(name)) => put_named(out, at, 4, name),
+        Some(WindowsPrefix::UNC(server, share)) => put_both_named(out, at, 5, server, share),
+        Some(WindowsPrefix::Disk(letter)) => put_bytes(out, at, &[6, letter]),
+    }
+}
+
+/// Puts a component behind the prefix: the number of its kind, or its name.
+#[inline(always)]
+fn put_step(out: &mut [u8], at: usize, step: Step<'_>) -> usize
+    requires { at + length (concat (kind_key_words (step_part step).kind)) < 2 ^ 64 }
+    ensures { IsPutFrom at (concat (kind_key_words (step_part step.entry).kind)) out.old out.new result }
+{
+    match step.kind {
+        StepKind::RootDir => put_bytes(out, at, &[7]),
+        StepKind::CurDir => put_bytes(out, at, &[8]),
+        StepKind::ParentDir => put_bytes(out, at, &[9]),
+        StepKind::Normal => put_name(out, at, step.text),
+    }
+}
+
+/// Puts the number of a kind, and two names.
+fn put_both_named(out: &mut [u8], at: usize, kind: u8, server: &[u8], share: &[u8]) -> usize
+    requires { at + 1 + length (concat (length_prefixed server.now ++ length_prefixed share.now)) < 2 ^ 64 }
+    ensures { IsPutFrom at (kind ∷ concat (length_prefixed server.now ++ length_prefixed share.now))
+        out.old out.new result }
+{
+    let behind = put_named(out, at, kind, server);
+    put_name(out, behind, share)
+}
+
+/// Puts the number of a kind, and a name.
+fn put_named(out: &mut [u8], at: usize, kind: u8, name: &[u8]) -> usize
+    requires { at + 1 + length (concat (length_prefixed name.now)) < 2 ^ 64 }
+    ensures { IsPutFrom at (kind ∷ concat (length_prefixed name.now)) out.old out.new result }
+{
+    let behind = put_bytes(out, at, &[kind]);
+    put_name(out, behind, name)
+}
+
+/// Puts the number of a name's bytes, and these.
+fn put_name(out: &mut [u8], at: usize, name: &[u8]) -> usize
+    requires { at + length (concat (length_prefixed name.now)) < 2 ^ 64 }
+    ensures { IsPutFrom at (concat (length_prefixed name.now)) out.old out.new result }
+{
+    let behind = put_count(out, at, name.len());
+    put_bytes(out, behind, name)
+}
+
+/// Puts a number of bytes: up to 244 in one byte, which is no number of a kind; a larger one behind 255.
+fn put_count(out: &mut [u8], at: usize, count: usize) -> usize
+    requires { at + length (concat (length_words count)) < 2 ^ 64 }
+    ensures { IsPutFrom at (concat (length_words count)) out.old out.new result }
+{
+    if count < 245 {
+        return put_bytes(out, at, &[10 + count as u8]);
+    }
+    let behind = put_bytes(out, at, &[255]);
+    put_bytes(out, behind, &count.to_le_bytes())
+}
+
+/// Puts bytes into a buffer from a place on, if they fit, and tells where they end.
+#[inline(always)]
+fn put_bytes(out: &mut [u8], at: usize, bytes: &[u8]) -> usize
+    requires { at + length bytes.now < 2 ^ 64 }
+    ensures { IsPutFrom at bytes.now out.old out.new result }
+{
+    let end = at + bytes.len();
+    if end <= out.len() {
+        out[at..end].copy_from_slice(bytes);
+    }
+    end
+}

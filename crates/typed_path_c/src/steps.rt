@@ -1,0 +1,110 @@
+//! Steps of a reading that the caller keeps as three numbers.
+
+ghost use Rattle.std.specs.Prelude.{◌≡◌, ◌≤◌, ◌+◌, length, drop, option_map, MatchResult};
+ghost use Rattle.typed_path.specs.scan.{first_of, last_of, but_last};
+ghost use Rattle.typed_path.specs.typed.{typed_dialect};
+ghost use Rattle.typed_path.specs.views.TypedViews.{typed_bytes};
+ghost use Rattle.typed_path.specs.views.UnreadViews.{placed_of};
+ghost use Rattle.typed_path_c.specs.Answers.{done};
+ghost use Rattle.typed_path_c.specs.Steps.{bad_reading, Begins, Steps, StepsIn, StepsFront, StepsBack, Told};
+
+use crate::parts::{Component, kind_number};
+use crate::status::{BAD_DIALECT, BAD_READING, DONE, NONE, of_path, path_in};
+use typed_path::{PlacedPiece, ReadingError, TypedPath, Unread};
+
+/// Takes the first component that is left of a path.
+#[unsafe(no_mangle)]
+pub extern "C" fn typed_path_next(
+    dialect: u32,
+    path: &[u8],
+    reading: &mut Unread,
+    component: &mut Component,
+) -> u32
+    ensures begins { Begins path.now }
+    ensures step { Steps first_of (drop 1) dialect path.now reading.old reading.new component.old
+        component.new result }
+    ensures after { StepsFront dialect path.now reading.old reading.new component.old
+        component.new result }
+    ensures within { result ≡ done → component.new.start + component.new.length ≤ length path.now }
+{
+    next(dialect, path, reading, component)
+}
+
+/// The same, by what one step does.
+#[inline(always)]
+fn next(dialect: u32, path: &[u8], reading: &mut Unread, component: &mut Component) -> u32
+    ensures step { Steps first_of (drop 1) dialect path.now reading.old reading.new component.old
+        component.new result }
+    ensures within { result ≡ done → component.new.start + component.new.length ≤ length path.now }
+{
+    of_path!(dialect, path => take_first(path, reading, component), BAD_DIALECT)
+}
+
+/// The same of a path in its dialect.
+#[inline(always)]
+fn take_first(path: TypedPath<'_>, reading: &mut Unread, component: &mut Component) -> u32
+    ensures step { StepsIn first_of (drop 1) (typed_dialect path.entry) (typed_bytes path.entry)
+        reading.old reading.new component.old component.new result }
+    ensures within { result ≡ done
+        → component.new.start + component.new.length ≤ length (typed_bytes path.entry) }
+{
+    tell(path.step_front(reading), component)
+}
+
+/// Takes the last component that is left of a path.
+#[unsafe(no_mangle)]
+pub extern "C" fn typed_path_next_back(
+    dialect: u32,
+    path: &[u8],
+    reading: &mut Unread,
+    component: &mut Component,
+) -> u32
+    ensures step { Steps last_of but_last dialect path.now reading.old reading.new component.old
+        component.new result }
+    ensures after { StepsBack dialect path.now reading.old reading.new component.old
+        component.new result }
+    ensures within { result ≡ done → component.new.start + component.new.length ≤ length path.now }
+{
+    next_back(dialect, path, reading, component)
+}
+
+/// The same, by what one step does.
+#[inline(always)]
+fn next_back(dialect: u32, path: &[u8], reading: &mut Unread, component: &mut Component) -> u32
+    ensures step { Steps last_of but_last dialect path.now reading.old reading.new component.old
+        component.new result }
+    ensures within { result ≡ done → component.new.start + component.new.length ≤ length path.now }
+{
+    of_path!(dialect, path => take_last(path, reading, component), BAD_DIALECT)
+}
+
+/// The same of a path in its dialect.
+#[inline(always)]
+fn take_last(path: TypedPath<'_>, reading: &mut Unread, component: &mut Component) -> u32
+    ensures step { StepsIn last_of but_last (typed_dialect path.entry) (typed_bytes path.entry)
+        reading.old reading.new component.old component.new result }
+    ensures within { result ≡ done
+        → component.new.start + component.new.length ≤ length (typed_bytes path.entry) }
+{
+    tell(path.step_back(reading), component)
+}
+
+/// Tells a component that was taken, or that none was left, or that no reading stands at the numbers.
+#[inline(always)]
+fn tell(step: Result<Option<PlacedPiece<'_>>, ReadingError>, component: &mut Component) -> u32
+    ensures { MatchResult step.entry (λ taken. Told (option_map placed_of taken) component.old component.new result)
+        (λ _. (result ≡ bad_reading) × (component.new ≡ component.old)) }
+{
+    match step {
+        Ok(Some(taken)) => {
+            *component = Component {
+                start: taken.start,
+                length: taken.piece.text.len(),
+                kind: kind_number(taken.piece),
+            };
+            DONE
+        }
+        Ok(None) => NONE,
+        Err(_) => BAD_READING,
+    }
+}
