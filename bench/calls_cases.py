@@ -151,7 +151,7 @@ cases(
 )
 
 # Readings.
-READ = "walk walk_back peekable collect ancestors hash key_hash parent file_name file_stem extension"
+READ = "first last step_front step_back steps walk walk_back peekable collect ancestors hash key_hash map_hash map_key_hash put_key parent file_name file_stem extension"
 cases("unix", READ, b"/usr/share/doc/python3/examples/a.py", b"a", filled(b"a/", 60), filled(b"usr//lib//", 60), filled(b"../", 60), b"n" * 1000)
 cases(
     "windows", READ,
@@ -176,6 +176,19 @@ cases(
 cases("unix windows", "absolutize", (b"a/b", b"/home/u"), (b"../a//b", b"/home/u"), (b"/a/./b", b"/home/u"), (filled(b"../", 60), b"/home/u/src"))
 cases("unix", "join", (b"/srv/files", b"a/b"), (b"/srv/files/", b"a"), (b"a", b"/b"), (b"", b"a"))
 cases("windows", "join", (rb"C:\srv\files", rb"a\b"), (rb"C:\a", rb"\b"), (rb"\\?\C:\srv\files", rb"a\..\b"), (rb"\\srv\share", b"a/b"), (b"", rb"C:a"))
+
+cases("unix", "push_place", (b"/srv/files", b"a/b"), (b"/srv/files/", b"a"), (b"a", b"/b"), (b"", b"a"))
+cases("windows", "push_place", (rb"C:\srv\files", rb"a\b"), (rb"C:\a", rb"\b"), (rb"\\?\C:\srv\files", rb"a\..\b"), (rb"\\srv\share", b"a/b"), (b"", rb"C:a"))
+cases("windows", "prefix_names", b"a", rb"C:\a", rb"\\srv\share\a", rb"\\?\C:\a", rb"\\?\UNC\srv\share\a", rb"\\.\COM1")
+
+# Names that every system takes, and names that some do not.
+cases(
+    "unix windows", "is_valid is_portable check_portable may_be_device",
+    b"a", b"usr/share/doc/python3/examples/a.py", b"src/main.rs", b"a/../b", b"nul .txt", b"a/com1.log/b", b"notes.", b"a?b", b"a/b/c/d/e/f/g/h/i/j/k/l", "\u65e5/\u672c".encode(),
+    filled(b"name.rs/", 1000), filled(b"con-/", 1000), filled(b"abcdefg/", 1000, end=b"x "), UUID, b"n" * 200, b"n" * 300,
+)
+cases("unix", "join_portable", *((b"/srv/files", path) for path in (b"a/b", b"a/con/b", b"../a", filled(b"abcdefg/", 1000, end=b"x"))))
+cases("windows", "join_portable", *((rb"C:\b", path) for path in (b"a/b", b"a/con/b", b"../a", filled(b"abcdefg/", 1000, end=b"x"))))
 
 # Which bases keep their prefix, and which marks go.
 cases("windows", "keeps_prefix simplified", b"a", rb"C:\a", rb"\\srv", rb"\\srv\share", rb"\\?\C:\Users\u\AppData\Local", rb"\\?\UNC\srv\share\a", rb"\\?\C:\a\con .txt", rb"\\?\UNC", b"/")

@@ -62,7 +62,9 @@ exports!((path: *const u8, len: usize):
     bench_file_name bench_extension bench_to_path_buf bench_normalize bench_clean bench_first bench_hash bench_windows_hash
     bench_windows_walk
     bench_windows_walk_back bench_windows_first bench_windows_last bench_windows_parent
-    bench_windows_ancestors bench_is_valid bench_windows_is_valid bench_windows_keeps_prefix bench_windows_simplified
+    bench_windows_ancestors bench_is_portable bench_may_be_device bench_step_back bench_steps bench_key_hash bench_put_key
+    bench_windows_is_portable bench_windows_may_be_device bench_windows_step_back bench_windows_prefix_names
+    bench_is_valid bench_windows_is_valid bench_windows_keeps_prefix bench_windows_simplified
     bench_to_string_lossy bench_windows_file_name bench_windows_extension bench_windows_normalize bench_windows_clean
     bench_to_windows
     bench_to_windows_checked bench_windows_to_unix bench_windows_to_unix_checked);
@@ -70,7 +72,7 @@ exports!((path: *const u8, len: usize):
 exports!((path: *const u8, len: usize, other: *const u8, other_len: usize):
     bench_starts_with bench_common_ancestor bench_is_within bench_relative_to bench_strip_prefix bench_ends_with bench_join bench_join_checked
     bench_with_file_name bench_with_extension bench_with_added_extension bench_eq bench_cmp bench_windows_eq bench_windows_cmp bench_windows_join bench_windows_join_checked
-    bench_extend bench_windows_extend
+    bench_extend bench_windows_extend bench_push_place
     bench_windows_starts_with bench_windows_is_within bench_windows_relative_to bench_windows_strip_prefix
     bench_windows_with_extension bench_absolutize);
 
@@ -607,6 +609,7 @@ fn rows(corpus: &Corpus) -> Vec<Row<'_>> {
         walk.one("`for` over `components().rev()`", paths, bench_walk_back, |path| sum(path.components().rev())),
         walk.one("`next`", paths, bench_next, std_next),
         walk.one("`next_back`", paths, bench_next_back, std_next_back),
+        walk.one("`step_front`, all components", paths, bench_steps, std_next),
         walk.one("`for` over `iter()`", paths, bench_texts, |path| sum(path.iter())),
         walk.one("`zip` of two", paths, bench_zip, std_zip),
         walk.one("`peekable`", paths, bench_peekable, std_peekable),
@@ -617,6 +620,7 @@ fn rows(corpus: &Corpus) -> Vec<Row<'_>> {
         walk.one("`collect`", paths, bench_collect, |path| black_box(path.components().collect::<Vec<_>>()).len()),
         walk.one("`for` over `ancestors()`", paths, bench_ancestors, |path| sum(path.ancestors())),
         end.one("last component", paths, bench_last, |path| path.components().next_back().map_or(1, len)),
+        end.one("last component by `step_back`", paths, bench_step_back, |path| path.components().next_back().map_or(1, len)),
         end.one("`parent`", paths, bench_parent, |path| path.parent().map_or(1, len)),
         end.one("`file_name`", paths, bench_file_name, |path| path.file_name().map_or(1, len)),
         end.one("`extension`", paths, bench_extension, |path| path.extension().map_or(1, len)),
@@ -647,9 +651,12 @@ fn rows(corpus: &Corpus) -> Vec<Row<'_>> {
         whole.two("`cmp`, differs late", |at| (paths.at(at), corpus.ends_otherwise.at(at)), bench_cmp, Some(cmp)),
         whole.two("`cmp`, written otherwise", |at| (paths.at(at), corpus.doubled.at(at)), bench_cmp, Some(cmp)),
         whole.one("`hash`", paths, bench_hash, std_hash),
+        whole.one("`hash` of a `Key`, beside that of a path", paths, bench_key_hash, std_hash),
+        whole.one("`put_key`", paths, bench_put_key, std_put_key),
         whole.one("`to_path_buf`", paths, bench_to_path_buf, |path| made(path.to_path_buf())),
         whole.two("`join` onto a base", joined, bench_join, Some(|base, path| made(base.join(path)))),
         whole.two("`join_checked` onto a base", joined, bench_join_checked, None),
+        whole.two("`push_place` onto a base", joined, bench_push_place, Some(push_place)),
         whole.two(
             "`with_file_name`",
             |at| (paths.at(at), NAME),
@@ -677,6 +684,8 @@ fn rows(corpus: &Corpus) -> Vec<Row<'_>> {
         whole.one("`clean`, runs of separators", &corpus.runs, bench_clean, std_clean),
         whole.one("`clean`, runs of `./`", &corpus.dot_runs, bench_clean, std_clean),
         whole.one("`is_valid`, beside one search", paths, bench_is_valid, std_is_valid),
+        whole.one("`is_portable`", paths, bench_is_portable, |path| usize::from(is_portable(path))),
+        whole.one("`may_be_device`", paths, bench_may_be_device, |path| usize::from(has_device(path))),
         whole.one("`to_string_lossy`, no text", &corpus.broken, bench_to_string_lossy, |path| {
             black_box(path.to_string_lossy()).len()
         }),
@@ -780,6 +789,7 @@ fn windows_rows(corpus: &Corpus, at: usize) -> Vec<Row<'_>> {
         one("`for` over `components().rev()`", Reads::Components, bench_windows_walk_back, bench_walk_back),
         one("first component", Reads::End, bench_windows_first, bench_first),
         one("last component", Reads::End, bench_windows_last, bench_last),
+        one("last component by `step_back`", Reads::End, bench_windows_step_back, bench_step_back),
         one("`parent`", Reads::End, bench_windows_parent, bench_parent),
         one("`file_name`", Reads::End, bench_windows_file_name, bench_file_name),
         one("`extension`", Reads::End, bench_windows_extension, bench_extension),
@@ -800,6 +810,8 @@ fn windows_rows(corpus: &Corpus, at: usize) -> Vec<Row<'_>> {
             each(whole.calls(), move |at| usize::from(unsafe { bench_windows_is_valid(paths.at(at).as_ptr(), paths.at(at).len()) } < 2)),
             each(whole.calls(), move |at| usize::from(unsafe { bench_is_valid(other.at(at).as_ptr(), other.at(at).len()) } < 2)),
         ),
+        one("`is_portable`", Reads::Whole, bench_windows_is_portable, bench_is_portable),
+        one("`may_be_device`", Reads::Whole, bench_windows_may_be_device, bench_may_be_device),
         halved("`starts_with` of the first half", bench_windows_starts_with, bench_starts_with),
         halved("`is_within` of the first half", bench_windows_is_within, bench_is_within),
         // No `..` takes a prefix away, so only that there is an answer is compared.
@@ -809,6 +821,7 @@ fn windows_rows(corpus: &Corpus, at: usize) -> Vec<Row<'_>> {
             each(whole.calls(), move |at| usize::from(call(bench_relative_to, other.at(at), half(other.at(at))) != usize::MAX)),
         ),
         whole.alone("`keeps_prefix`", paths, bench_windows_keeps_prefix),
+        whole.alone("`prefix_names`", paths, bench_windows_prefix_names),
         whole.alone("`simplified`", paths, bench_windows_simplified),
         halved("`strip_prefix` of the first half", bench_windows_strip_prefix, bench_strip_prefix),
         whole.row(
@@ -845,6 +858,68 @@ fn std_hash(path: &Path) -> usize {
 /// By a search for the one byte that no name may have, since std has no such call.
 fn std_is_valid(path: &Path) -> usize {
     usize::from(!path.as_os_str().as_bytes().contains(&0))
+}
+
+/// The names of a path, as bytes.
+fn names(path: &Path) -> impl Iterator<Item = &[u8]> {
+    path.components().filter_map(|component| match component {
+        Component::Normal(name) => Some(name.as_bytes()),
+        _ => None,
+    })
+}
+
+/// Whether Windows may take a name for a device, in the plain way: what stands before a colon and a dot is looked for in
+/// a list.
+fn is_device(name: &[u8]) -> bool {
+    let stem = name.split(|byte| *byte == b':' || *byte == b'.').next().unwrap_or(b"").trim_ascii_end().to_ascii_uppercase();
+    match stem.strip_prefix(b"COM").or_else(|| stem.strip_prefix(b"LPT")) {
+        Some(number) => matches!(number, [b'0'..=b'9'] | [0xC2, 0xB2 | 0xB3 | 0xB9]),
+        None => [&b"CON"[..], b"PRN", b"AUX", b"NUL", b"CONIN$", b"CONOUT$"].contains(&&stem[..]),
+    }
+}
+
+fn has_device(path: &Path) -> bool {
+    names(path).any(is_device)
+}
+
+/// In the plain way, name by name.
+fn is_portable(path: &Path) -> bool {
+    names(path).all(|name| {
+        name.len() <= 255
+            && !name.iter().any(|byte| byte.is_ascii_control() || b"\\/:*?\"<>|".contains(byte))
+            && !matches!(name.last(), Some(b'.' | b' '))
+            && std::str::from_utf8(name).is_ok()
+            && !is_device(name)
+    })
+}
+
+/// A number for each component and the bytes of names, in the plain way: how many bytes they are.
+fn std_put_key(path: &Path) -> usize {
+    let mut room = [0u8; 512];
+    let mut at = 0;
+    let mut put = |byte: u8| {
+        if let Some(place) = room.get_mut(at) {
+            *place = byte;
+        }
+        at += 1;
+    };
+    for component in path.components() {
+        match component {
+            Component::Normal(name) => {
+                put(10 + name.len() as u8);
+                name.as_bytes().iter().for_each(|byte| put(*byte));
+            }
+            _ => put(7),
+        }
+    }
+    put(0);
+    black_box(&room);
+    at
+}
+
+/// Where another path goes that is pushed, in the plain way.
+fn push_place(base: &Path, other: &Path) -> usize {
+    if other.has_root() { 0 } else { len(base) + usize::from(!base.as_os_str().as_bytes().ends_with(b"/")) }
 }
 
 fn starts_with(path: &Path, base: &Path) -> usize {

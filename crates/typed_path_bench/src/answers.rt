@@ -1,6 +1,6 @@
 //! What a path answers: the length of the answer, or 1 where there is none.
 
-use typed_path::UnixPath;
+use typed_path::{TypedPath, UnixPath};
 
 /// The last component.
 #[unsafe(no_mangle)]
@@ -72,4 +72,33 @@ pub extern "C" fn bench_first(path: &[u8]) -> usize {
 #[unsafe(no_mangle)]
 pub extern "C" fn bench_is_valid(path: &[u8]) -> usize {
     usize::from(UnixPath::new(path).is_valid())
+}
+
+/// Whether every system takes the path as it is written.
+#[unsafe(no_mangle)]
+pub extern "C" fn bench_is_portable(path: &[u8]) -> usize {
+    usize::from(UnixPath::new(path).is_portable())
+}
+
+/// Whether some name of the path may be taken for a device.
+#[unsafe(no_mangle)]
+pub extern "C" fn bench_may_be_device(path: &[u8]) -> usize {
+    usize::from(UnixPath::new(path).may_be_device())
+}
+
+/// The last component, by a step of a reading that is three numbers.
+#[unsafe(no_mangle)]
+pub extern "C" fn bench_step_back(path: &[u8]) -> usize {
+    let path = TypedPath::Unix(UnixPath::new(path));
+    match path.step_back(&mut path.unread()) {
+        Ok(Some(taken)) => taken.piece.text.len(),
+        Ok(None) | Err(_) => 1,
+    }
+}
+
+/// How many bytes of the path are kept as another is pushed onto it, and how many stand between.
+#[unsafe(no_mangle)]
+pub extern "C" fn bench_push_place(path: &[u8], other: &[u8]) -> usize {
+    let place = TypedPath::Unix(UnixPath::new(path)).push_place(other);
+    place.map_or(1, |place| place.kept.wrapping_add(place.separator.len()))
 }

@@ -2,7 +2,7 @@
 
 use std::cmp::Ordering;
 use std::hash::{DefaultHasher, Hash, Hasher};
-use typed_path::{Encoding, Path, UnixEncoding, WindowsEncoding};
+use typed_path::{Encoding, Key, Path, UnixEncoding, UnixPath, WindowsEncoding};
 
 /// Whether two paths are equal.
 fn eq<T: Encoding>(path: &[u8], other: &[u8]) -> usize {
@@ -59,4 +59,19 @@ pub extern "C" fn bench_windows_cmp(path: &[u8], other: &[u8]) -> usize {
 #[unsafe(no_mangle)]
 pub extern "C" fn bench_windows_hash(path: &[u8]) -> usize {
     hash::<WindowsEncoding>(path)
+}
+
+/// The hash of a Unix path as a key.
+#[unsafe(no_mangle)]
+pub extern "C" fn bench_key_hash(path: &[u8]) -> usize {
+    let mut state = DefaultHasher::default();
+    Key::new(UnixPath::new(path)).hash(&mut state);
+    usize::from(state.finish() != 0)
+}
+
+/// How many bytes the key of a Unix path feeds, put into a buffer.
+#[unsafe(no_mangle)]
+pub extern "C" fn bench_put_key(path: &[u8]) -> usize {
+    let mut room = [0u8; 512];
+    UnixPath::new(path).put_key(&mut room)
 }

@@ -1,7 +1,7 @@
 //! Walks over the components of a path: the sum of the lengths of their texts.
 
 use std::alloc::Global;
-use typed_path::{Piece, UnixPath};
+use typed_path::{Piece, TypedPath, UnixPath};
 
 /// A walk by `for`.
 #[unsafe(no_mangle)]
@@ -41,6 +41,21 @@ pub extern "C" fn bench_next_back(path: &[u8]) -> usize {
     let mut components = UnixPath::new(path).components();
     'pieces: while let Some(piece) = components.next_back() {
         sum = sum.wrapping_add(piece.text.len());
+    }
+    sum
+}
+
+/// A walk by steps of a reading that is three numbers, as many as there are bytes at most.
+#[unsafe(no_mangle)]
+pub extern "C" fn bench_steps(path: &[u8]) -> usize {
+    let path = TypedPath::Unix(UnixPath::new(path));
+    let mut unread = path.unread();
+    let mut sum = 0usize;
+    for _step in 0..path.as_bytes().len() {
+        let Ok(Some(taken)) = path.step_front(&mut unread) else {
+            break;
+        };
+        sum = sum.wrapping_add(taken.piece.text.len());
     }
     sum
 }

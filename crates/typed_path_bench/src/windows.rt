@@ -2,7 +2,7 @@
 //! questions; and owned paths, which answer their length. Where memory is refused, the number is 0.
 
 use std::alloc::{AllocError, Global};
-use typed_path::{WindowsPath, WindowsPathBuf};
+use typed_path::{TypedPath, WindowsPath, WindowsPathBuf};
 
 /// A walk by `for`.
 #[unsafe(no_mangle)]
@@ -104,6 +104,35 @@ pub extern "C" fn bench_windows_strip_prefix(path: &[u8], base: &[u8]) -> usize 
 #[unsafe(no_mangle)]
 pub extern "C" fn bench_windows_is_valid(path: &[u8]) -> usize {
     usize::from(WindowsPath::new(path).is_valid())
+}
+
+/// Whether every system takes the path as it is written.
+#[unsafe(no_mangle)]
+pub extern "C" fn bench_windows_is_portable(path: &[u8]) -> usize {
+    usize::from(WindowsPath::new(path).is_portable())
+}
+
+/// Whether some name of the path may be taken for a device.
+#[unsafe(no_mangle)]
+pub extern "C" fn bench_windows_may_be_device(path: &[u8]) -> usize {
+    usize::from(WindowsPath::new(path).may_be_device())
+}
+
+/// The last component, by a step of a reading that is three numbers.
+#[unsafe(no_mangle)]
+pub extern "C" fn bench_windows_step_back(path: &[u8]) -> usize {
+    let path = TypedPath::Windows(WindowsPath::new(path));
+    match path.step_back(&mut path.unread()) {
+        Ok(Some(taken)) => taken.piece.text.len(),
+        Ok(None) | Err(_) => 1,
+    }
+}
+
+/// Where the names of the prefix end.
+#[unsafe(no_mangle)]
+pub extern "C" fn bench_windows_prefix_names(path: &[u8]) -> usize {
+    let names = TypedPath::Windows(WindowsPath::new(path)).prefix_names();
+    names.map_or(1, |names| names.first_end.wrapping_add(names.second_end))
 }
 
 /// The length of a path that was made.

@@ -5,8 +5,10 @@
 
 use std::alloc::Global;
 use std::cmp::Ordering;
-use std::hash::{DefaultHasher, Hash, Hasher};
-use typed_path::{Encoding, Key, Path, PathBuf, Piece, PlatformPath, WindowsPath};
+use std::hash::{Hash, Hasher};
+use typed_path::{
+    Encoding, Key, Path, PathBuf, Piece, PlacedPiece, PlatformPath, TypedPath, WindowsPath,
+};
 
 /// The length of a path that was made.
 #[inline(always)]
@@ -58,6 +60,61 @@ pub fn peekable<T: Encoding>(path: &[u8]) -> usize {
     sum
 }
 
+/// The length of a component that was taken, or 1 where there was none.
+#[inline(always)]
+fn length_of_piece(taken: Option<Piece<'_>>) -> usize {
+    match taken {
+        Some(piece) => piece.text.len(),
+        None => 1,
+    }
+}
+
+/// The first component.
+#[inline(never)]
+pub fn first<T: Encoding>(path: &[u8]) -> usize {
+    length_of_piece(Path::<T>::new(path).components().next())
+}
+
+/// The last component.
+#[inline(never)]
+pub fn last<T: Encoding>(path: &[u8]) -> usize {
+    length_of_piece(Path::<T>::new(path).components().next_back())
+}
+
+/// Where a component that was taken by a step begins, and its length.
+#[inline(always)]
+fn place_of<E: Drop>(step: Result<Option<PlacedPiece<'_>>, E>) -> usize {
+    match step {
+        Ok(Some(taken)) => taken.start.wrapping_add(taken.piece.text.len()),
+        Ok(None) | Err(_) => 1,
+    }
+}
+
+/// The first component, by a step of a reading that is three numbers.
+#[inline(never)]
+pub fn step_front(path: TypedPath<'_>) -> usize {
+    place_of(path.step_front(&mut path.unread()))
+}
+
+/// The last one, in the same way.
+#[inline(never)]
+pub fn step_back(path: TypedPath<'_>) -> usize {
+    place_of(path.step_back(&mut path.unread()))
+}
+
+/// The sum of the lengths of the components, by such steps from the first to the last.
+#[inline(never)]
+pub fn steps(path: TypedPath<'_>) -> usize {
+    let mut unread = path.unread();
+    let mut sum = 0usize;
+    for _step in 0..path.as_bytes().len() {
+        if let Ok(Some(taken)) = path.step_front(&mut unread) {
+            sum = sum.wrapping_add(taken.piece.text.len());
+        }
+    }
+    sum
+}
+
 /// How many components there are, by a vector of them.
 #[inline(never)]
 pub fn collect<T: Encoding>(alloc: Global, path: &[u8]) -> usize {
@@ -80,18 +137,43 @@ pub fn ancestors<T: Encoding>(path: &[u8]) -> usize {
 
 /// Whether the path has a hash, which every path has.
 #[inline(never)]
-pub fn hash<T: Encoding>(path: &[u8]) -> usize {
-    let mut state = DefaultHasher::default();
+pub fn hash<T: Encoding, H: Hasher + Default + Drop>(path: &[u8]) -> usize {
+    let mut state = H::default();
     T::hash(path, &mut state);
     usize::from(state.finish() != 0)
 }
 
 /// The same of the key of the path.
 #[inline(never)]
-pub fn key_hash<T: Encoding>(path: &[u8]) -> usize {
-    let mut state = DefaultHasher::default();
+pub fn key_hash<T: Encoding, H: Hasher + Default + Drop>(path: &[u8]) -> usize {
+    let mut state = H::default();
     Key::new(Path::<T>::new(path)).hash(&mut state);
     usize::from(state.finish() != 0)
+}
+
+/// How many bytes the key of the path feeds, put into a buffer.
+#[inline(never)]
+pub fn put_key<T: Encoding>(path: &[u8]) -> usize {
+    let mut room = [0u8; 256];
+    Path::<T>::new(path).put_key(&mut room)
+}
+
+/// How many bytes of the path are kept as another is pushed onto it, and how many stand between.
+#[inline(never)]
+pub fn push_place(path: TypedPath<'_>, other: &[u8]) -> usize {
+    match path.push_place(other) {
+        Some(place) => place.kept.wrapping_add(place.separator.len()),
+        None => 1,
+    }
+}
+
+/// Where the names of the prefix end.
+#[inline(never)]
+pub fn prefix_names(path: TypedPath<'_>) -> usize {
+    match path.prefix_names() {
+        Some(names) => names.first_end.wrapping_add(names.second_end),
+        None => 1,
+    }
 }
 
 /// The parent.
@@ -125,6 +207,24 @@ pub fn extension<T: Encoding>(path: &[u8]) -> usize {
 #[inline(never)]
 pub fn is_valid<T: Encoding>(path: &[u8]) -> usize {
     usize::from(Path::<T>::new(path).is_valid())
+}
+
+/// Whether every system takes the path as it is written.
+#[inline(never)]
+pub fn is_portable<T: Encoding>(path: &[u8]) -> usize {
+    usize::from(Path::<T>::new(path).is_portable())
+}
+
+/// The same, by the refusal.
+#[inline(never)]
+pub fn check_portable<T: Encoding>(path: &[u8]) -> usize {
+    usize::from(Path::<T>::new(path).check_portable().is_ok())
+}
+
+/// Whether some name of the path may be taken for a device.
+#[inline(never)]
+pub fn may_be_device<T: Encoding>(path: &[u8]) -> usize {
+    usize::from(Path::<T>::new(path).may_be_device())
 }
 
 /// Whether the path keeps its prefix as a base.
@@ -179,6 +279,12 @@ pub fn join<T: Encoding>(alloc: Global, path: &[u8], other: &[u8]) -> usize {
 #[inline(never)]
 pub fn join_checked<T: Encoding>(alloc: Global, path: &[u8], other: &[u8]) -> usize {
     length_of(Path::<T>::new(path).join_checked(alloc, Path::new(other)))
+}
+
+/// The same, unless the other is not portable.
+#[inline(never)]
+pub fn join_portable<T: Encoding>(alloc: Global, path: &[u8], other: &[u8]) -> usize {
+    length_of(Path::<T>::new(path).join_portable(alloc, Path::new(other)))
 }
 
 /// The path that leads from a base to the path.

@@ -6,8 +6,9 @@ mod counted;
 
 use anyhow::{Context, Result, bail};
 use std::alloc::Global;
+use std::hash::{DefaultHasher, FoldHasher};
 use std::io::Read;
-use typed_path::{Encoding, UnixEncoding, WindowsEncoding};
+use typed_path::{Encoding, TypedPath, UnixEncoding, UnixPath, WindowsEncoding, WindowsPath};
 
 /// What the call of a name answers on paths of one encoding, which cross to another. None where no call has the name.
 fn answer<T: Encoding, U: Encoding>(
@@ -17,18 +18,26 @@ fn answer<T: Encoding, U: Encoding>(
     other: &[u8],
 ) -> Option<usize> {
     Some(match name {
+        b"first" => counted::first::<T>(path),
+        b"last" => counted::last::<T>(path),
         b"walk" => counted::walk::<T>(path),
         b"walk_back" => counted::walk_back::<T>(path),
         b"peekable" => counted::peekable::<T>(path),
         b"collect" => counted::collect::<T>(alloc, path),
         b"ancestors" => counted::ancestors::<T>(path),
-        b"hash" => counted::hash::<T>(path),
-        b"key_hash" => counted::key_hash::<T>(path),
+        b"hash" => counted::hash::<T, DefaultHasher>(path),
+        b"key_hash" => counted::key_hash::<T, DefaultHasher>(path),
+        b"map_hash" => counted::hash::<T, FoldHasher>(path),
+        b"map_key_hash" => counted::key_hash::<T, FoldHasher>(path),
+        b"put_key" => counted::put_key::<T>(path),
         b"parent" => counted::parent::<T>(path),
         b"file_name" => counted::file_name::<T>(path),
         b"file_stem" => counted::file_stem::<T>(path),
         b"extension" => counted::extension::<T>(path),
         b"is_valid" => counted::is_valid::<T>(path),
+        b"is_portable" => counted::is_portable::<T>(path),
+        b"check_portable" => counted::check_portable::<T>(path),
+        b"may_be_device" => counted::may_be_device::<T>(path),
         b"keeps_prefix" => counted::keeps_prefix::<T>(path),
         b"simplified" => counted::simplified(path),
         b"normalize" => counted::normalize::<T>(alloc, path),
@@ -38,6 +47,7 @@ fn answer<T: Encoding, U: Encoding>(
         b"absolutize" => counted::absolutize::<T>(alloc, path, other),
         b"join" => counted::join::<T>(alloc, path, other),
         b"join_checked" => counted::join_checked::<T>(alloc, path, other),
+        b"join_portable" => counted::join_portable::<T>(alloc, path, other),
         b"relative_to" => counted::relative_to::<T>(alloc, path, other),
         b"is_within" => counted::is_within::<T>(path, other),
         b"common_ancestor" => counted::common_ancestor::<T>(path, other),
@@ -50,6 +60,18 @@ fn answer<T: Encoding, U: Encoding>(
     })
 }
 
+/// The same of the calls of a path of either dialect.
+fn answer_typed(name: &[u8], path: TypedPath<'_>, other: &[u8]) -> Option<usize> {
+    Some(match name {
+        b"step_front" => counted::step_front(path),
+        b"step_back" => counted::step_back(path),
+        b"steps" => counted::steps(path),
+        b"push_place" => counted::push_place(path, other),
+        b"prefix_names" => counted::prefix_names(path),
+        _ => return None,
+    })
+}
+
 /// What the call of a line answers.
 fn answer_line(alloc: Global, line: &[u8]) -> Result<usize> {
     let mut fields = line.split(|byte| *byte == b'\t');
@@ -58,8 +80,12 @@ fn answer_line(alloc: Global, line: &[u8]) -> Result<usize> {
     let path = fields.next().context("no path")?;
     let other = fields.next().unwrap_or(b"");
     match dialect {
-        b"unix" => answer::<UnixEncoding, WindowsEncoding>(alloc, name, path, other),
-        b"windows" => answer::<WindowsEncoding, UnixEncoding>(alloc, name, path, other),
+        b"unix" => answer_typed(name, TypedPath::Unix(UnixPath::new(path)), other).or_else(
+            || answer::<UnixEncoding, WindowsEncoding>(alloc, name, path, other),
+        ),
+        b"windows" => answer_typed(name, TypedPath::Windows(WindowsPath::new(path)), other).or_else(
+            || answer::<WindowsEncoding, UnixEncoding>(alloc, name, path, other),
+        ),
         _ => bail!("no dialect of this name"),
     }
     .context("no call of this name")
