@@ -184,7 +184,7 @@ cases("windows", "prefix_names", b"a", rb"C:\a", rb"\\srv\share\a", rb"\\?\C:\a"
 # Names that every system takes, and names that some do not.
 cases(
     "unix windows", "is_valid is_portable check_portable may_be_device",
-    b"a", b"usr/share/doc/python3/examples/a.py", b"src/main.rs", b"a/../b", b"nul .txt", b"a/com1.log/b", b"notes.", b"a?b", b"a/b/c/d/e/f/g/h/i/j/k/l", "\u65e5/\u672c".encode(),
+    b"b", b"usr/share/doc/python3/examples/a.py", b"src/lib.rs", b"a/../b", b"nul .txt", b"a/com1.log/b", b"notes.", b"a?b", b"a/b/c/d/e/f/g/h/i/j/k/l", "\u65e5/\u672c".encode(),
     filled(b"name.rs/", 1000), filled(b"con-/", 1000), filled(b"abcdefg/", 1000, end=b"x "), UUID, b"n" * 200, b"n" * 300,
 )
 cases("unix", "join_portable", *((b"/srv/files", path) for path in (b"a/b", b"a/con/b", b"../a", filled(b"abcdefg/", 1000, end=b"x"))))

@@ -108,9 +108,10 @@ pub fn steps(path: TypedPath<'_>) -> usize {
     let mut unread = path.unread();
     let mut sum = 0usize;
     for _step in 0..path.as_bytes().len() {
-        if let Ok(Some(taken)) = path.step_front(&mut unread) {
-            sum = sum.wrapping_add(taken.piece.text.len());
-        }
+        let Ok(Some(taken)) = path.step_front(&mut unread) else {
+            break;
+        };
+        sum = sum.wrapping_add(taken.piece.text.len());
     }
     sum
 }

@@ -153,8 +153,7 @@ impl Separators {
     {
         match self {
             Separators::Slash => has_forbidden(bytes, (b'\\', b'\\')),
-            Separators::Backslash => has_forbidden(bytes, (b'/', b'/')),
-            Separators::Either => has_forbidden(bytes, (b':', b':')),
+            Separators::Backslash | Separators::Either => self.has_stray(bytes),
         }
     }
 
