@@ -26,6 +26,7 @@ ghost use Rattle.typed_path.specs.views.TextPieceViews.{text_prefix, text_kind, 
 ghost use Rattle.typed_path.specs.views.TextComponentViews.{text_unix_part, text_prefix_part, text_windows_part};
 ghost use Rattle.typed_path.specs.typed.{typed_eq, typed_cmp, typed_key_words, typed_words, reading_eq, reading_partial_cmp, kind_place};
 
+mod lowered;
 mod portable;
 mod windows;
 
@@ -47,6 +48,7 @@ use crate::utf8::{
     Utf8WindowsPrefix, Utf8WindowsPrefixComponent,
 };
 use crate::windows::WindowsEncoding;
+pub use lowered::lowered_reads_alike;
 pub use portable::{
     portable_crosses, portable_is_valid_in_both, portable_names_are_these, portable_reads_alike,
     portable_reads_alike_on_unix, reserved_names_may_be_devices, unportable_tells_why,
