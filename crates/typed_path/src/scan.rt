@@ -17,7 +17,10 @@ pub use cut::{
     shared_front, text_behind, texts_behind,
 };
 pub use devices::{is_taken_for_device, may_be_device};
-pub use lanes::{first_between, first_difference, has_control, has_no_nul_or_dot_pair};
+pub use lanes::{
+    first_between, first_difference, first_difference_in_lower_case, has_control,
+    has_no_nul_or_dot_pair,
+};
 pub use names::{
     before_last_separator, begins_with_long_name, has_long_front, has_no_blank_behind,
     has_only_names, leading_names, leading_short_names,

@@ -6,6 +6,7 @@
 -- Tables: tables that bytes are looked up in by their low bits
 -- Blanks: segments that count for nothing behind others: how marks tell that there is none, what that tells of the pieces of a text, what its first bytes tell of its first segment, and a search behind separators of its pieces (`MarksNoBlank`)
 -- Unread: readings that are kept as numbers: the one that stands at them, the numbers of one, and that what is left lies within the path (`IsReading`, `IsReadingOf`)
+-- LowerCase: blocks of bytes in lower case, and where two texts differ in lower case
 pub mod LastComponent
 pub mod Readings
 pub mod Steps
@@ -13,3 +14,4 @@ pub mod Searches
 pub mod Tables
 pub mod Blanks
 pub mod Unread
+pub mod LowerCase

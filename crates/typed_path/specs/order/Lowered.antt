@@ -1,9 +1,12 @@
 -- Paths in lower case: by these, paths compare without regard to the case of ASCII letters.
-use Rattle.std.specs.Prelude.{ℕ, List, ◌++◌, map, take, drop, Option, Some, None}
-use Rattle.std.specs.Str.{str_to_ascii_lowercase}
+use Rattle.std.specs.Prelude.{ℕ, List, ◌++◌, map, take, drop, Bool, Option, Some, None}
+use Rattle.std.specs.declared.cmp.Ordering.{Ordering}
+use Rattle.std.specs.List.{starts_with}
+use Rattle.std.specs.Str.{bytes_eq, str_to_ascii_lowercase}
 use Rattle.typed_path.specs.components.Dialects.{Dialect}
-use Rattle.typed_path.specs.components.Parts.{Prefix, verbatim, verbatim_unc, verbatim_disk, device_ns, unc, disk, Kind, prefix, root, current, parent, normal, Part, Placed}
+use Rattle.typed_path.specs.components.Parts.{Prefix, verbatim, verbatim_unc, verbatim_disk, device_ns, unc, disk, Kind, prefix, root, current, parent, normal, Part, Placed, parts, texts}
 use Rattle.typed_path.specs.components.Prefixes.{Found, prefix_of}
+use Rattle.typed_path.specs.order.Same.{bytes_cmp, left_cmp}
 
 -- a prefix with its names in lower case; the letter of a drive is read in upper case, however it is written
 abbrev pub lowered_prefix : Prefix → Prefix
@@ -52,3 +55,15 @@ mark_before (Some f) = mark_length f.prefix
 -- a path in lower case
 abbrev pub lowered : Dialect → List ℕ → List ℕ
 lowered d text = lowered_behind (mark_before (prefix_of d text)) text
+
+-- the order of what two readings have left, in lower case
+abbrev pub lowered_cmp : List Placed → List Placed → Ordering
+lowered_cmp cs ds = left_cmp (map lowered_placed cs) (map lowered_placed ds)
+
+-- whether what one has left begins with what another has, in lower case and as it is written
+abbrev pub lowered_begins : List Placed → List Placed → Bool
+lowered_begins cs ds = starts_with bytes_eq (texts (parts (map lowered_placed cs))) (texts (parts (map lowered_placed ds)))
+
+-- the order of two names in lower case
+abbrev pub lowered_bytes_cmp : List ℕ → List ℕ → Ordering
+lowered_bytes_cmp a b = bytes_cmp (str_to_ascii_lowercase a) (str_to_ascii_lowercase b)

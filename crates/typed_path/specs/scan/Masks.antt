@@ -1,6 +1,7 @@
 -- What the bits of a mask say of the places of a text, and the first and the last place of one of two bytes within a range.
-use Rattle.std.specs.Prelude.{◌≡◌, ◌≤◌, ◌<◌, ◌==◌, ◌||◌, ℕ, Bool, not, List, length, min, slice_index, if◌then◌else◌, MatchBool}
+use Rattle.std.specs.Prelude.{◌≡◌, ◌≤◌, ◌<◌, ◌==◌, ◌||◌, ℕ, Bool, true, false, not, List, length, min, slice_index, if◌then◌else◌, MatchBool}
 use Rattle.std.specs.Int.{bit_at}
+use Rattle.std.specs.Str.{str_to_ascii_lowercase}
 use Rattle.std.specs.Slice.Scan.{HoldsNowhere, HoldsSomewhere, IsFirstPlace, IsLastPlace}
 
 -- of the first `n` bits of a mask, bit `k` is set exactly where `p k` is true; no other bit is set
@@ -19,6 +20,11 @@ stands_at pair text k = is_one_of pair (slice_index text k)
 -- whether two texts differ at a place
 abbrev pub differs_at : List ℕ → List ℕ → ℕ → Bool
 differs_at text other k = not (slice_index text k == slice_index other k)
+
+-- the same of the texts, or of these in lower case
+abbrev pub differs_in : Bool → List ℕ → List ℕ → ℕ → Bool
+differs_in false text other = differs_at text other
+differs_in true text other = differs_at (str_to_ascii_lowercase text) (str_to_ascii_lowercase other)
 
 -- the place where two texts part: the first at which they differ, or the length of the shorter one
 abbrev pub PartAt : List ℕ → List ℕ → ℕ → Type 0

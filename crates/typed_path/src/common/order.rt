@@ -27,6 +27,45 @@ use crate::scan::{
 use std::cmp::Ordering;
 use std::hash::{Hash, Hasher};
 
+/// The order of two readings by their prefixes, where these differ or one alone has one.
+macro_rules! order_by_prefixes {
+    ($own:expr, $others:expr, $compare:path) => {
+        match ($own.prefix(), $others.prefix()) {
+            (Some(prefix), Some(other)) => {
+                let order = $compare(prefix, other);
+                if order.is_ne() {
+                    return order;
+                }
+            }
+            (Some(_), None) => return order_of_prefixed($others.body()),
+            (None, Some(_)) => return order_of_prefixed($own.body()).reverse(),
+            (None, None) => {}
+        }
+    };
+}
+
+/// The order of what two readings have left, step by step.
+macro_rules! order_step_by_step {
+    ($rest:ident, $wanted:ident, $compare:path) => {{
+        'steps: while let Some(step) = $wanted.front() {
+            let Some(own) = $rest.front() else {
+                return Ordering::Less;
+            };
+            let order = $compare(own, step);
+            if order.is_ne() {
+                return order;
+            }
+        }
+        match $rest.front() {
+            Some(_) => Ordering::Greater,
+            None => Ordering::Equal,
+        }
+    }};
+}
+
+pub(super) use order_by_prefixes;
+pub(super) use order_step_by_step;
+
 impl<'a, T: Encoding> Path<'a, T> {
     /// Whether the path has the same components as the path of these bytes.
     ///
@@ -357,17 +396,7 @@ fn compare_components<T: Encoding>(path: &[u8], other: &[u8]) -> Ordering
 {
     let own = T::cursor(path);
     let others = T::cursor(other);
-    match (own.prefix(), others.prefix()) {
-        (Some(prefix), Some(other)) => {
-            let order = compare_prefixes(prefix, other);
-            if order.is_ne() {
-                return order;
-            }
-        }
-        (Some(_), None) => return order_of_prefixed(others.body()),
-        (None, Some(_)) => return order_of_prefixed(own.body()).reverse(),
-        (None, None) => {}
-    }
+    order_by_prefixes!(own, others, compare_prefixes);
     let (rest, wanted) = bodies_behind_shared(own.body(), others.body());
     compare_each(rest, wanted)
 }
@@ -377,19 +406,7 @@ fn compare_components<T: Encoding>(path: &[u8], other: &[u8]) -> Ordering
 pub(crate) fn compare_each(mut rest: Body<'_>, mut wanted: Body<'_>) -> Ordering
     ensures { result ≡ left_cmp (body_items rest.entry) (body_items wanted.entry) }
 {
-    'steps: while let Some(step) = wanted.front() {
-        let Some(own) = rest.front() else {
-            return Ordering::Less;
-        };
-        let order = compare_steps(own, step);
-        if order.is_ne() {
-            return order;
-        }
-    }
-    match rest.front() {
-        Some(_) => Ordering::Greater,
-        None => Ordering::Equal,
-    }
+    order_step_by_step!(rest, wanted, compare_steps)
 }
 
 /// Whether two readings end alike: with the same component, which is taken, or with none.
@@ -470,7 +487,7 @@ fn is_same_step(step: Step<'_>, other: Step<'_>) -> bool
 
 /// The rank of a kind among those that stand behind the prefix.
 #[inline(always)]
-fn kind_rank(kind: StepKind) -> u8
+pub(crate) fn kind_rank(kind: StepKind) -> u8
     ensures { result ≡ step_rank kind }
 {
     match kind {

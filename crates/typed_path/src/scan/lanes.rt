@@ -3,13 +3,15 @@
 //! name of Windows may have, it is only told whether a text has one, and of control bytes, of NUL and of two
 //! dots side by side likewise. Of two texts the first place is found at which they differ.
 
-ghost use Rattle.std.specs.Prelude.{◌≡◌, ◌≢◌, ◌≤◌, ◌<◌, ◌+◌, ◌-◌, ◌%◌, ◌^◌, ◌==◌, ℕ, Bool, true, false, length, map, take, drop, slice_index, nat_lt};
+ghost use Rattle.std.specs.Prelude.{◌≡◌, ◌≢◌, ◌≤◌, ◌<◌, ◌+◌, ◌-◌, ◌%◌, ◌^◌, ◌==◌, ℕ, Bool, true, false, length, map, take, drop, slice_index, nat_lt, min, if◌then◌else◌};
 ghost use Rattle.std.specs.Int.{bit_at};
+ghost use Rattle.std.specs.Char.{to_ascii_lowercase};
+ghost use Rattle.std.specs.Str.{str_to_ascii_lowercase};
 ghost use Rattle.std.specs.List.{list_any};
 ghost use Rattle.std.specs.Slice.Scan.{HoldsNowhere, IsFirstPlace};
 ghost use Rattle.typed_path.specs.changes.{is_forbidden, is_forbidden_or, forbidden_at, is_letter_of, is_nul_or_dot_pair, nul_or_dot_pair_at, has_no_nul_or_dot_pair};
 ghost use Rattle.typed_path.specs.queries.{control_at, is_control};
-ghost use Rattle.typed_path.specs.scan.{IsMask, TellsWhether, is_one_of, stands_at, differs_at, IsFirstOf, IsBehindLastOf, PartAt};
+ghost use Rattle.typed_path.specs.scan.{IsMask, TellsWhether, is_one_of, stands_at, differs_at, differs_in, IsFirstOf, IsBehindLastOf, PartAt};
 
 use std::simd::prelude::*;
 
@@ -250,15 +252,29 @@ pub fn last_between(text: &[u8], from: usize, to: usize, pair: (u8, u8)) -> usiz
     last_by_block::<8>(text, from, at - 16, pair)
 }
 
-/// Which bytes of a block differ from those of another text.
+/// The bytes of a block in lower case.
 #[inline(always)]
-fn differences_at<const N: usize>(text: &[u8], other: &[u8], at: usize) -> u64
+fn in_lower_case<const N: usize>(block: Simd<u8, N>) -> Simd<u8, N>
+    ensures { result ≡ str_to_ascii_lowercase block.entry }
+{
+    let capitals = block.simd_ge(Simd::splat(b'A')) & block.simd_le(Simd::splat(b'Z'));
+    capitals.select(block + Simd::splat(32), block)
+}
+
+/// Which bytes of a block differ from those of another text, as they are or in lower case.
+#[inline(always)]
+fn differences_at<const N: usize, const LOWER: bool>(text: &[u8], other: &[u8], at: usize) -> u64
     requires lanes { (0 < N) × (N ≤ 64) }
     requires in_text { at + N ≤ length text.now }
     requires in_other { at + N ≤ length other.now }
-    ensures mask { IsMask (λ k. differs_at text.now other.now (at + k)) N result }
+    ensures mask { IsMask (λ k. differs_in LOWER text.now other.now (at + k)) N result }
     ensures fits { result < 2 ^ 64 }
 {
+    if LOWER {
+        let own = in_lower_case::<N>(Simd::from_slice(&text[at..]));
+        let others = in_lower_case::<N>(Simd::from_slice(&other[at..]));
+        return own.simd_ne(others).to_bitmask();
+    }
     Simd::<u8, N>::from_slice(&text[at..])
         .simd_ne(Simd::from_slice(&other[at..]))
         .to_bitmask()
@@ -266,30 +282,30 @@ fn differences_at<const N: usize>(text: &[u8], other: &[u8], at: usize) -> u64
 
 /// Whether a block of a text differs from that of another.
 #[inline(always)]
-fn differs_in_block<const N: usize>(text: &[u8], other: &[u8], at: usize) -> bool
+fn differs_in_block<const N: usize, const LOWER: bool>(text: &[u8], other: &[u8], at: usize) -> bool
     requires lanes { (0 < N) × (N ≤ 64) }
     requires in_text { at + N ≤ length text.now }
     requires in_other { at + N ≤ length other.now }
-    ensures { TellsWhether (differs_at text.now other.now) at (at + N) result }
+    ensures { TellsWhether (differs_in LOWER text.now other.now) at (at + N) result }
 {
-    differences_at::<N>(text, other, at) != 0
+    differences_at::<N, LOWER>(text, other, at) != 0
 }
 
 /// The first place of a block at which two texts differ, or its end where they are alike there.
 #[inline(always)]
-fn first_difference_in_block<const N: usize>(text: &[u8], other: &[u8], at: usize) -> usize
+fn first_difference_in_block<const N: usize, const LOWER: bool>(text: &[u8], other: &[u8], at: usize) -> usize
     requires lanes { (0 < N) × (N ≤ 64) }
     requires in_text { at + N ≤ length text.now }
     requires in_other { at + N ≤ length other.now }
-    ensures { IsFirstPlace (differs_at text.now other.now) at (at + N) result }
+    ensures { IsFirstPlace (differs_in LOWER text.now other.now) at (at + N) result }
 {
-    first_marked::<N>(differences_at::<N>(text, other, at), at)
+    first_marked::<N>(differences_at::<N, LOWER>(text, other, at), at)
 }
 
 /// The first place at which two texts differ of whose first `to` bytes those before a place are alike,
 /// or `to`. The last N of these are compared.
 #[inline(always)]
-fn first_difference_in_last_block<const N: usize>(
+fn first_difference_in_last_block<const N: usize, const LOWER: bool>(
     text: &[u8],
     other: &[u8],
     from: usize,
@@ -299,37 +315,49 @@ fn first_difference_in_last_block<const N: usize>(
     requires room { (N ≤ to) × (to ≤ from + N) }
     requires in_text { to ≤ length text.now }
     requires in_other { to ≤ length other.now }
-    requires alike { HoldsNowhere (differs_at text.now other.now) 0 from }
-    ensures { IsFirstPlace (differs_at text.now other.now) 0 to result }
+    requires alike { HoldsNowhere (differs_in LOWER text.now other.now) 0 from }
+    ensures { IsFirstPlace (differs_in LOWER text.now other.now) 0 to result }
 {
-    first_difference_in_block::<N>(text, other, to - N)
+    first_difference_in_block::<N, LOWER>(text, other, to - N)
 }
 
 /// The same of texts of N bytes to 2 N, by two blocks.
 #[inline(always)]
-fn first_difference_in_two<const N: usize>(text: &[u8], other: &[u8], to: usize) -> usize
+fn first_difference_in_two<const N: usize, const LOWER: bool>(text: &[u8], other: &[u8], to: usize) -> usize
     requires lanes { (0 < N) × (N ≤ 64) }
     requires room { (N ≤ to) × (to ≤ N + N) }
     requires in_text { to ≤ length text.now }
     requires in_other { to ≤ length other.now }
-    ensures { IsFirstPlace (differs_at text.now other.now) 0 to result }
+    ensures { IsFirstPlace (differs_in LOWER text.now other.now) 0 to result }
 {
-    let found = first_difference_in_block::<N>(text, other, 0);
+    let found = first_difference_in_block::<N, LOWER>(text, other, 0);
     if found < N {
         return found;
     }
-    first_difference_in_last_block::<N>(text, other, N, to)
+    first_difference_in_last_block::<N, LOWER>(text, other, N, to)
+}
+
+/// Whether two bytes are alike.
+#[inline(always)]
+fn is_same_byte<const LOWER: bool>(byte: u8, other: u8) -> bool
+    ensures { result ≡ (if LOWER then to_ascii_lowercase byte == to_ascii_lowercase other else byte == other) }
+{
+    if LOWER {
+        byte.to_ascii_lowercase() == other.to_ascii_lowercase()
+    } else {
+        byte == other
+    }
 }
 
 /// The same, byte by byte.
 #[inline(always)]
-fn first_difference_by_one(text: &[u8], other: &[u8], to: usize) -> usize
+fn first_difference_by_one<const LOWER: bool>(text: &[u8], other: &[u8], to: usize) -> usize
     requires in_text { to ≤ length text.now }
     requires in_other { to ≤ length other.now }
-    ensures { IsFirstPlace (differs_at text.now other.now) 0 to result }
+    ensures { IsFirstPlace (differs_in LOWER text.now other.now) 0 to result }
 {
     let mut at = 0;
-    while at < to && text[at] == other[at] {
+    while at < to && is_same_byte::<LOWER>(text[at], other[at]) {
         at += 1;
     }
     at
@@ -340,34 +368,49 @@ fn first_difference_by_one(text: &[u8], other: &[u8], to: usize) -> usize
 ///
 /// While they are alike, and go on for two blocks of 64, one of them is compared at once.
 #[inline(always)]
-pub fn first_difference(text: &[u8], other: &[u8]) -> usize
-    ensures { PartAt text.now other.now result }
+fn first_place_of_difference<const LOWER: bool>(text: &[u8], other: &[u8]) -> usize
+    ensures { IsFirstPlace (differs_in LOWER text.now other.now) 0 (min (length text.now) (length other.now)) result }
 {
     let len = text.len().min(other.len());
     let mut at = 0;
-    'pairs: while 128 <= len - at && !differs_in_block::<64>(text, other, at) {
+    'pairs: while 128 <= len - at && !differs_in_block::<64, LOWER>(text, other, at) {
         at += 64;
     }
     'wholes: while 32 <= len - at {
-        let found = first_difference_in_block::<32>(text, other, at);
+        let found = first_difference_in_block::<32, LOWER>(text, other, at);
         if found < at + 32 {
             return found;
         }
         at += 32;
     }
     if 32 <= len {
-        return first_difference_in_last_block::<32>(text, other, at, len);
+        return first_difference_in_last_block::<32, LOWER>(text, other, at, len);
     }
     if 16 <= len {
-        return first_difference_in_two::<16>(text, other, len);
+        return first_difference_in_two::<16, LOWER>(text, other, len);
     }
     if 8 <= len {
-        return first_difference_in_two::<8>(text, other, len);
+        return first_difference_in_two::<8, LOWER>(text, other, len);
     }
     if 4 <= len {
-        return first_difference_in_two::<4>(text, other, len);
+        return first_difference_in_two::<4, LOWER>(text, other, len);
     }
-    first_difference_by_one(text, other, len)
+    first_difference_by_one::<LOWER>(text, other, len)
+}
+
+/// The first place at which two texts differ, or the length of the shorter one where they are alike up to there.
+#[inline(always)]
+pub fn first_difference(text: &[u8], other: &[u8]) -> usize
+    ensures { PartAt text.now other.now result }
+{
+    first_place_of_difference::<false>(text, other)
+}
+
+/// The same of two texts in lower case.
+pub fn first_difference_in_lower_case(text: &[u8], other: &[u8]) -> usize
+    ensures { PartAt (str_to_ascii_lowercase text.now) (str_to_ascii_lowercase other.now) result }
+{
+    first_place_of_difference::<true>(text, other)
 }
 
 /// Whether a text begins otherwise, by the first N bytes of a beginning and its last N, which together
@@ -380,7 +423,8 @@ pub fn begins_otherwise<const N: usize>(beginning: &[u8], text: &[u8]) -> bool
     ensures { TellsWhether (differs_at beginning.now text.now) 0 (length beginning.now) result }
 {
     let last = beginning.len() - N;
-    differs_in_block::<N>(beginning, text, 0) | differs_in_block::<N>(beginning, text, last)
+    differs_in_block::<N, false>(beginning, text, 0)
+        | differs_in_block::<N, false>(beginning, text, last)
 }
 
 /// Which bytes of a block are those that no name of Windows may have, and that separate in no text, or

@@ -1,0 +1,213 @@
+//! Paths in lower case, and paths compared as these are: without regard to the case of ASCII letters.
+
+ghost use Rattle.std.specs.Prelude.{◌≡◌, ◌≤◌, ℕ, length, get_or, IfOk, IsOk, []};
+ghost use Rattle.std.specs.Str.{bytes_eq};
+ghost use Rattle.typed_path.specs.components.{Part, prefix, prefix_of, comps};
+ghost use Rattle.typed_path.specs.queries.{path_starts_with};
+ghost use Rattle.typed_path.specs.order.{is_same, kind_cmp, lowered, lowered_begins, lowered_behind, lowered_bytes_cmp, lowered_cmp, lowered_kind, lowered_part, lowered_prefix, mark_before, mark_in, mark_length, path_cmp};
+ghost use Rattle.typed_path.specs.views.BodyViews.{body_items};
+ghost use Rattle.typed_path.specs.views.PieceViews.{kind_view, part_of, prefix_view, step_part};
+ghost use Rattle.typed_path.specs.views.PathViews.{path_bytes};
+
+use crate::common::encoding::Encoding;
+use crate::common::order::{
+    kind_rank, order_by_prefixes, order_of_prefixed, order_step_by_step,
+};
+use crate::common::path::Path;
+use crate::common::path_buf::PathBuf;
+use crate::scan::{Body, Piece, PieceKind, Step, StepKind, WindowsPrefix};
+use std::alloc::{AllocError, Global};
+use std::cmp::Ordering;
+
+impl<'a, T: Encoding> Path<'a, T> {
+    /// Whether the path has the same components as another, but for the case of ASCII letters: whether the two are
+    /// equal in lower case.
+    ///
+    /// `a/B` is so equal to `A//b`, and on Windows `\\Server\a` to `\\server\A`.
+    pub fn eq_ignore_ascii_case(self, other: Path<'_, T>) -> bool
+        ensures { result ≡ is_same T.dialect (lowered T.dialect (path_bytes self.entry))
+            (lowered T.dialect (path_bytes other.entry)) }
+    {
+        self.cmp_ignore_ascii_case(other).is_eq()
+    }
+
+    /// The order of the path and another in lower case, by their components.
+    ///
+    /// `B` is greater than `a`, and `_` is less than `A`, since it is less than `a`.
+    pub fn cmp_ignore_ascii_case(self, other: Path<'_, T>) -> Ordering
+        ensures { result ≡ path_cmp T.dialect (lowered T.dialect (path_bytes self.entry))
+            (lowered T.dialect (path_bytes other.entry)) }
+    {
+        compare_lowered::<T>(self.as_bytes(), other.as_bytes())
+    }
+
+    /// Whether the path begins with the components of another, as they are written, but for the case of ASCII
+    /// letters: whether it does in lower case.
+    ///
+    /// `Src/Lib` so begins with `src`, and on Windows `c:\a` with `C:`.
+    pub fn starts_with_ignore_ascii_case(self, base: Path<'_, T>) -> bool
+        ensures { result ≡ path_starts_with T.dialect (lowered T.dialect (path_bytes self.entry))
+            (lowered T.dialect (path_bytes base.entry)) }
+    {
+        let mut rest = self.components();
+        let mut wanted = base.components();
+        'pieces: while let Some(piece) = wanted.next() {
+            let Some(own) = rest.next() else {
+                return false;
+            };
+            if !is_written_alike(own, piece) {
+                return false;
+            }
+        }
+        true
+    }
+
+    /// The path in lower case: each letter of ASCII, but for the `UNC` of a prefix `\\?\UNC\`, which is read so in
+    /// capitals alone.
+    ///
+    /// That of `Src/É` is `src/É`, and on Windows that of `\\?\UNC\S\H` is `\\?\UNC\s\h`.
+    ///
+    /// The answer is read as the path is, each component in lower case. It is as long, and its own answer.
+    pub fn to_ascii_lowercase(self, alloc: Global) -> Result<PathBuf<T>, AllocError>
+        ensures { IfOk result (λ p. p.bytes ≡ lowered T.dialect (path_bytes self.entry)) }
+    {
+        let path = self.as_bytes();
+        let kept = match T::cursor(path).prefix() {
+            Some(prefix) => mark_len(prefix),
+            None => 0,
+        };
+        let (mark, rest) = path.split_at(kept);
+        let mut lowered = Vec::with_capacity(alloc, path.len())?;
+        lowered.extend_from_slice(mark)?;
+        for byte in rest {
+            lowered.push(byte.to_ascii_lowercase())?;
+        }
+        Ok(PathBuf::from_vec(lowered))
+    }
+}
+
+/// How many bytes of a prefix stay as they are written.
+#[inline(always)]
+fn mark_len(prefix: WindowsPrefix<'_>) -> usize
+    ensures { result ≡ mark_length (prefix_view prefix.entry) }
+{
+    match prefix {
+        WindowsPrefix::VerbatimUNC(_, _) => 8,
+        _ => 0,
+    }
+}
+
+/// The order of two paths in lower case, by their components.
+fn compare_lowered<T: Encoding>(path: &[u8], other: &[u8]) -> Ordering
+    ensures { result ≡ path_cmp T.dialect (lowered T.dialect path.now)
+        (lowered T.dialect other.now) }
+{
+    let own = T::cursor(path);
+    let others = T::cursor(other);
+    order_by_prefixes!(own, others, compare_lowered_prefixes);
+    compare_each_lowered(own.body(), others.body())
+}
+
+/// The order of what two readings have left, in lower case.
+fn compare_each_lowered(mut rest: Body<'_>, mut wanted: Body<'_>) -> Ordering
+    ensures { result ≡ lowered_cmp (body_items rest.entry) (body_items wanted.entry) }
+{
+    order_step_by_step!(rest, wanted, compare_lowered_steps)
+}
+
+/// The order of two prefixes in lower case.
+fn compare_lowered_prefixes(own: WindowsPrefix<'_>, other: WindowsPrefix<'_>) -> Ordering
+    ensures { result ≡ kind_cmp (prefix (lowered_prefix (prefix_view own.entry)))
+        (prefix (lowered_prefix (prefix_view other.entry))) }
+{
+    match (own, other) {
+        (WindowsPrefix::Verbatim(own), WindowsPrefix::Verbatim(other))
+        | (WindowsPrefix::DeviceNS(own), WindowsPrefix::DeviceNS(other)) => {
+            compare_lowered_names(own, other)
+        }
+        (WindowsPrefix::VerbatimUNC(own, share), WindowsPrefix::VerbatimUNC(other, others))
+        | (WindowsPrefix::UNC(own, share), WindowsPrefix::UNC(other, others)) => {
+            let order = compare_lowered_names(own, other);
+            if order.is_ne() {
+                return order;
+            }
+            compare_lowered_names(share, others)
+        }
+        _ => own.cmp(&other),
+    }
+}
+
+/// The order of two components in lower case.
+#[inline(always)]
+fn compare_lowered_steps(step: Step<'_>, other: Step<'_>) -> Ordering
+    ensures { result ≡ kind_cmp (lowered_kind (step_part step.entry).kind)
+        (lowered_kind (step_part other.entry).kind) }
+{
+    if let (StepKind::Normal, StepKind::Normal) = (step.kind, other.kind) {
+        return compare_lowered_names(step.text, other.text);
+    }
+    kind_rank(step.kind).cmp(&kind_rank(other.kind))
+}
+
+/// The order of two names in lower case.
+#[inline(always)]
+fn compare_lowered_names(name: &[u8], other: &[u8]) -> Ordering
+    ensures { result ≡ lowered_bytes_cmp name.now other.now }
+{
+    let mut at = 0;
+    while at < name.len() && at < other.len() {
+        let order = name[at]
+            .to_ascii_lowercase()
+            .cmp(&other[at].to_ascii_lowercase());
+        if order.is_ne() {
+            return order;
+        }
+        at += 1;
+    }
+    name.len().cmp(&other.len())
+}
+
+/// Whether two components are written alike in lower case.
+fn is_written_alike(own: Piece<'_>, other: Piece<'_>) -> bool
+    ensures { result ≡ bytes_eq (lowered_part (part_of other.entry)).text
+        (lowered_part (part_of own.entry)).text }
+{
+    let kept = kept_len(own.kind);
+    let others = kept_len(other.kind);
+    if kept == 0 && others == 0 {
+        return own.text.eq_ignore_ascii_case(other.text);
+    }
+    if own.text.len() != other.text.len() {
+        return false;
+    }
+    for at in 0..own.text.len() {
+        if lowered_byte(own.text, kept, at) != lowered_byte(other.text, others, at) {
+            return false;
+        }
+    }
+    true
+}
+
+/// How many bytes of a component stay as they are written.
+#[inline(always)]
+fn kept_len(kind: PieceKind<'_>) -> usize
+    ensures { (text : List ℕ) → result ≡ mark_in (kind_view kind.entry text) }
+{
+    match kind {
+        PieceKind::Prefix(prefix) => mark_len(prefix),
+        _ => 0,
+    }
+}
+
+/// A byte of a text in lower case, but for its first bytes.
+#[inline(always)]
+fn lowered_byte(text: &[u8], kept: usize, at: usize) -> u8
+    requires { at < length text.now }
+    ensures { result ≡ get_or (lowered_behind kept text.now) at 0 }
+{
+    if at < kept {
+        text[at]
+    } else {
+        text[at].to_ascii_lowercase()
+    }
+}
