@@ -1,5 +1,5 @@
 -- Paths in lower case: by these, paths compare without regard to the case of ASCII letters.
-use Rattle.std.specs.Prelude.{ℕ, List, ◌++◌, map, take, drop, Bool, Option, Some, None}
+use Rattle.std.specs.Prelude.{◌≡◌, ◌≤◌, ℕ, List, ◌++◌, length, map, take, drop, Bool, Option, Some, None}
 use Rattle.std.specs.declared.cmp.Ordering.{Ordering}
 use Rattle.std.specs.List.{starts_with}
 use Rattle.std.specs.Str.{bytes_eq, str_to_ascii_lowercase}
@@ -55,6 +55,11 @@ mark_before (Some f) = mark_length f.prefix
 -- a path in lower case
 abbrev pub lowered : Dialect → List ℕ → List ℕ
 lowered d text = lowered_behind (mark_before (prefix_of d text)) text
+
+-- so many bytes of a path stay as they are written, and no more than it has
+pub record IsLoweredBehind (d : Dialect) (text : List ℕ) (n : ℕ) : Type 0 where
+  pub lowered_is : lowered d text ≡ lowered_behind n text
+  pub within : n ≤ length text
 
 -- the order of what two readings have left, in lower case
 abbrev pub lowered_cmp : List Placed → List Placed → Ordering

@@ -1,10 +1,10 @@
 //! Paths in lower case, and paths compared as these are: without regard to the case of ASCII letters.
 
-ghost use Rattle.std.specs.Prelude.{◌≡◌, ◌≤◌, ℕ, length, get_or, IfOk, IsOk, []};
-ghost use Rattle.std.specs.Str.{bytes_eq};
+ghost use Rattle.std.specs.Prelude.{◌≡◌, ◌<◌, ◌≤◌, ℕ, List, length, get_or, IfOk, IsOk, []};
+ghost use Rattle.std.specs.Str.{bytes_eq, str_to_ascii_lowercase};
 ghost use Rattle.typed_path.specs.components.{Part, prefix, prefix_of, comps};
 ghost use Rattle.typed_path.specs.queries.{path_starts_with};
-ghost use Rattle.typed_path.specs.order.{is_same, kind_cmp, lowered, lowered_begins, lowered_behind, lowered_bytes_cmp, lowered_cmp, lowered_kind, lowered_part, lowered_prefix, mark_before, mark_in, mark_length, path_cmp};
+ghost use Rattle.typed_path.specs.order.{IsLoweredBehind, is_same, kind_cmp, lowered, lowered_begins, lowered_behind, lowered_bytes_cmp, lowered_cmp, lowered_kind, lowered_part, lowered_prefix, mark_before, mark_in, mark_length, path_cmp};
 ghost use Rattle.typed_path.specs.views.BodyViews.{body_items};
 ghost use Rattle.typed_path.specs.views.PieceViews.{kind_view, part_of, prefix_view, step_part};
 ghost use Rattle.typed_path.specs.views.PathViews.{path_bytes};
@@ -15,7 +15,9 @@ use crate::common::order::{
 };
 use crate::common::path::Path;
 use crate::common::path_buf::PathBuf;
-use crate::scan::{Body, Piece, PieceKind, Step, StepKind, WindowsPrefix};
+use crate::scan::{
+    Body, Piece, PieceKind, Step, StepKind, WindowsPrefix, first_difference_in_lower_case,
+};
 use std::alloc::{AllocError, Global};
 use std::cmp::Ordering;
 
@@ -72,17 +74,22 @@ impl<'a, T: Encoding> Path<'a, T> {
         ensures { IfOk result (λ p. p.bytes ≡ lowered T.dialect (path_bytes self.entry)) }
     {
         let path = self.as_bytes();
-        let kept = match T::cursor(path).prefix() {
-            Some(prefix) => mark_len(prefix),
-            None => 0,
-        };
-        let (mark, rest) = path.split_at(kept);
-        let mut lowered = Vec::with_capacity(alloc, path.len())?;
-        lowered.extend_from_slice(mark)?;
-        for byte in rest {
-            lowered.push(byte.to_ascii_lowercase())?;
-        }
+        let kept = kept_before::<T>(path);
+        let mut lowered = Vec::from_slice(alloc, path)?;
+        let (_, rest) = lowered.split_at_mut(kept);
+        rest.make_ascii_lowercase();
         Ok(PathBuf::from_vec(lowered))
+    }
+}
+
+/// How many bytes of a path stay as they are written: those of `\\?\UNC\` before a server.
+#[inline]
+fn kept_before<T: Encoding>(path: &[u8]) -> usize
+    ensures { IsLoweredBehind T.dialect path.now result }
+{
+    match T::cursor(path).prefix() {
+        Some(prefix) => mark_len(prefix),
+        None => 0,
     }
 }
 
@@ -154,15 +161,11 @@ fn compare_lowered_steps(step: Step<'_>, other: Step<'_>) -> Ordering
 fn compare_lowered_names(name: &[u8], other: &[u8]) -> Ordering
     ensures { result ≡ lowered_bytes_cmp name.now other.now }
 {
-    let mut at = 0;
-    while at < name.len() && at < other.len() {
-        let order = name[at]
+    let shared = first_difference_in_lower_case(name, other);
+    if shared < name.len() && shared < other.len() {
+        return name[shared]
             .to_ascii_lowercase()
-            .cmp(&other[at].to_ascii_lowercase());
-        if order.is_ne() {
-            return order;
-        }
-        at += 1;
+            .cmp(&other[shared].to_ascii_lowercase());
     }
     name.len().cmp(&other.len())
 }
@@ -175,7 +178,7 @@ fn is_written_alike(own: Piece<'_>, other: Piece<'_>) -> bool
     let kept = kept_len(own.kind);
     let others = kept_len(other.kind);
     if kept == 0 && others == 0 {
-        return own.text.eq_ignore_ascii_case(other.text);
+        return is_same_in_lower_case(own.text, other.text);
     }
     if own.text.len() != other.text.len() {
         return false;
@@ -186,6 +189,14 @@ fn is_written_alike(own: Piece<'_>, other: Piece<'_>) -> bool
         }
     }
     true
+}
+
+/// Whether two texts are one in lower case.
+#[inline(always)]
+fn is_same_in_lower_case(text: &[u8], other: &[u8]) -> bool
+    ensures { result ≡ bytes_eq (str_to_ascii_lowercase other.now) (str_to_ascii_lowercase text.now) }
+{
+    text.len() == other.len() && first_difference_in_lower_case(text, other) == text.len()
 }
 
 /// How many bytes of a component stay as they are written.

@@ -77,7 +77,7 @@ named-order : (cs ds : List Placed) (n m : List ℕ) (at : ℕ) (o : Ordering) �
 named-order cs ds n m at o e h = grind arith
 
 -- what two lists of bytes begin with alike does not tell
-bytes-shared : (mid xs ys : List ℕ) → bytes_cmp (mid ++ xs) (mid ++ ys) ≡ bytes_cmp xs ys
+pub bytes-shared : (mid xs ys : List ℕ) → bytes_cmp (mid ++ xs) (mid ++ ys) ≡ bytes_cmp xs ys
 bytes-shared [] xs ys = refl
 bytes-shared (m ∷ mid) xs ys = ap (λ o. ordering_then o (bytes_cmp (mid ++ xs) (mid ++ ys))) (tied_itself nat_cmp_total m) ∙ bytes-shared mid xs ys
 
