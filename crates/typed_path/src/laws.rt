@@ -48,7 +48,10 @@ use crate::utf8::{
     Utf8WindowsPrefix, Utf8WindowsPrefixComponent,
 };
 use crate::windows::WindowsEncoding;
-pub use lowered::lowered_reads_alike;
+pub use lowered::{
+    lowered_answers_alike, lowered_are_equal, lowered_reads_alike, lowered_stay_equal,
+    lowered_stays, lowered_stays_within,
+};
 pub use portable::{
     portable_crosses, portable_is_valid_in_both, portable_names_are_these, portable_reads_alike,
     portable_reads_alike_on_unix, reserved_names_may_be_devices, unportable_tells_why,

@@ -17,6 +17,7 @@
 -- RouteBehind: paths that lead alike lie at one place, from each directory of which is known where paths lead behind it
 -- Shared: a path cut where a component ends is read as the components up to there; so what two paths share is the longest that begins both (`IsWhole`, `ShareNothing`, `IsLongest`)
 -- JoinedWithin: a checked join lies within its base, where that keeps its prefix; and what lies within what lies within a third (`StaysWithin`)
+-- LoweredPaths: a path in lower case is its own, and answers, is refused and lies as the path does
 pub mod UnixContained
 pub mod WindowsBases
 pub mod WindowsContained
@@ -35,3 +36,4 @@ pub mod WindowsRelative
 pub mod VerbatimRelative
 pub mod Shared
 pub mod JoinedWithin
+pub mod LoweredPaths

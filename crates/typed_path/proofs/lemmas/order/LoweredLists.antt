@@ -15,11 +15,12 @@ use Rattle.typed_path.proofs.lemmas.components.Prefixes.{prefix-fits}
 use Rattle.typed_path.proofs.lemmas.components.PrefixCuts.{first-found, prefix_of-none}
 use Rattle.typed_path.proofs.lemmas.order.DifferentPrefixes.{bare-found, body-bare}
 use Rattle.typed_path.proofs.lemmas.order.SharedNames.{alike-before, bytes-shared}
-use Rattle.typed_path.proofs.lemmas.lists.Lists.{same-bytes}
+use Rattle.typed_path.proofs.lemmas.lists.Lists.{alike-front, same-bytes}
 use Rattle.typed_path.proofs.lemmas.lists.Options.{some_is}
 use Rattle.std.proofs.Math.Seq.{drop-cons}
 use Rattle.std.proofs.lemmas.Bool.{both_ways, eqb-false, false_from_ne_true, not-true}
 use Rattle.std.proofs.lemmas.Bool.Decides.{nat_tests}
+use Rattle.std.proofs.lemmas.List.{get_or-map, length-map}
 use Rattle.std.proofs.lemmas.Slice.Eq.{bytes_eq-Decides}
 
 -- The first component of a list, and those behind it, in lower case.
@@ -188,3 +189,28 @@ module _ (t u : List ℕ) (n : ℕ) (place : PartAt t u n) where
           let same : u ≡ t = (bytes_eq-Decides u t).0 eq in
           let inner : n < length t = omega (arith, place.high, eqb-false n (length t) e) in
           both_ways (get_or t n 0 == get_or u n 0) (not-true _ (place.hit (omega (arith, inner, long)))) (eq-eqb (get_or t n 0) (get_or u n 0) (ap (λ x. get_or x n 0) (sym same)))))
+
+-- The bytes of a text in lower case, but for its first ones.
+
+pub length-lowered : (n : ℕ) (text : List ℕ) → length (lowered_behind n text) ≡ length text
+length-lowered zero text = length-map text to_ascii_lowercase
+length-lowered (suc n) [] = refl
+length-lowered (suc n) (b ∷ bs) = ap suc (length-lowered n bs)
+
+pub byte-lowered : (n at : ℕ) (text : List ℕ) → n ≤ at → at < length text → get_or (lowered_behind n text) at 0 ≡ to_ascii_lowercase (get_or text at 0)
+byte-lowered zero at text behind inside = get_or-map to_ascii_lowercase text at 0 0 inside
+byte-lowered (suc n) at [] behind inside = absurd (omega arith)
+byte-lowered (suc n) zero (b ∷ bs) behind inside = absurd (omega arith)
+byte-lowered (suc n) (suc at) (b ∷ bs) behind inside = byte-lowered n at bs (omega arith) (omega arith)
+
+-- texts that differ in length, or at a place, are not one
+pub differ-length : (xs ys : List ℕ) → length xs ≢ length ys → bytes_eq ys xs ≡ false
+differ-length xs ys apart = false_from_ne_true (bytes_eq ys xs) (λ eq. apart (ap length (sym ((bytes_eq-Decides ys xs).0 eq))))
+
+pub differ-at : (xs ys : List ℕ) (k : ℕ) → get_or xs k 0 ≢ get_or ys k 0 → bytes_eq ys xs ≡ false
+differ-at xs ys k apart = false_from_ne_true (bytes_eq ys xs) (λ eq. apart (ap (λ x. get_or x k 0) (sym ((bytes_eq-Decides ys xs).0 eq))))
+
+pub alike-each : (xs ys : List ℕ) → length xs ≡ length ys → ((k : ℕ) → k < length xs → get_or xs k 0 ≡ get_or ys k 0) → bytes_eq ys xs ≡ true
+alike-each xs ys long each =
+    let same : xs ≡ ys = sym (take_all (length xs) xs (omega arith)) ∙ alike-front (length xs) xs ys (omega arith) (omega (arith, long)) each ∙ take_all (length xs) ys (omega (arith, long)) in
+    ap (bytes_eq ys) same ∙ same-bytes ys
