@@ -4,8 +4,10 @@
 -- TextsLeft: what is left of a text, and what it answers about itself, are texts: its components, its file name with stem and extension, its prefix and the paths above it (`IsTextPlaced`, `IsTextReading`)
 -- TextChanges: what changes a text leaves a text, and what the search is told of texts (`IsWritten`)
 -- TextClean: the clean text of a text is one, and the path that leads from a base to it
+-- TextLowered: a text in lower case is a text
 pub mod TextCuts
 pub mod TextNames
 pub mod TextsLeft
 pub mod TextChanges
 pub mod TextClean
+pub mod TextLowered

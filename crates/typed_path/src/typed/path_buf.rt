@@ -14,6 +14,8 @@ ghost use Rattle.typed_path.specs.views.OffenceViews.{offence_of};
 ghost use Rattle.typed_path.specs.changes.{error_of, with_file_name, with_extension, with_added_extension};
 ghost use Rattle.typed_path.specs.conversions.{converted, same_dialect};
 ghost use Rattle.typed_path.specs.places.{clean_text, is_within};
+ghost use Rattle.typed_path.specs.order.{lowered};
+ghost use Rattle.typed_path.specs.typed.Orders.{lowered_typed_cmp, lowered_typed_eq};
 ghost use Rattle.typed_path.specs.promises.{keeps_prefix};
 ghost use Rattle.typed_path.specs.views.PathViews.{path_bytes};
 ghost use Rattle.typed_path.specs.changes.Push as push_spec;
@@ -401,6 +403,31 @@ impl TypedPathBuf {
         self.to_path().starts_with(base)
     }
 
+    /// As [`TypedPath::starts_with_ignore_ascii_case`].
+    pub fn starts_with_ignore_ascii_case(&self, base: &[u8]) -> bool
+        ensures { result ≡ path_starts_with (typed_dialect self.now)
+            (lowered (typed_dialect self.now) (owned_bytes self.now))
+            (lowered (typed_dialect self.now) base.now) }
+    {
+        self.to_path().starts_with_ignore_ascii_case(base)
+    }
+
+    /// As [`TypedPath::eq_ignore_ascii_case`].
+    pub fn eq_ignore_ascii_case(&self, other: TypedPath<'_>) -> bool
+        ensures { result ≡ lowered_typed_eq (typed_dialect self.now) (owned_bytes self.now)
+            (typed_dialect other.entry) (typed_bytes other.entry) }
+    {
+        self.to_path().eq_ignore_ascii_case(other)
+    }
+
+    /// As [`TypedPath::cmp_ignore_ascii_case`].
+    pub fn cmp_ignore_ascii_case(&self, other: TypedPath<'_>) -> Ordering
+        ensures { result ≡ lowered_typed_cmp (typed_dialect self.now) (owned_bytes self.now)
+            (typed_dialect other.entry) (typed_bytes other.entry) }
+    {
+        self.to_path().cmp_ignore_ascii_case(other)
+    }
+
     /// As [`TypedPath::common_ancestor`].
     pub fn common_ancestor(&self, other: &[u8]) -> Option<TypedPath<'_>>
         ensures dialect { IfSome result (λ p. typed_dialect p ≡ typed_dialect self.now) }
@@ -527,6 +554,15 @@ impl TypedPathBuf {
             ≡ clean_text (typed_dialect self.now) (owned_bytes self.now)) }
     {
         self.to_path().clean(alloc)
+    }
+
+    /// As [`TypedPath::to_ascii_lowercase`].
+    pub fn to_ascii_lowercase(&self, alloc: Global) -> Result<TypedPathBuf, AllocError>
+        ensures dialect { IfOk result (λ p. typed_dialect p ≡ typed_dialect self.now) }
+        ensures bytes { IfOk result (λ p. owned_bytes p
+            ≡ lowered (typed_dialect self.now) (owned_bytes self.now)) }
+    {
+        self.to_path().to_ascii_lowercase(alloc)
     }
 
     /// As [`TypedPath::absolutize`].

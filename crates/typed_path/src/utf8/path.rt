@@ -9,7 +9,7 @@ ghost use Rattle.typed_path.specs.typed.Outcomes.{JoinsChecked, JoinsPortable, L
 ghost use Rattle.typed_path.specs.texts.{is_text_option, IsTextError, are_texts};
 ghost use Rattle.typed_path.specs.components.{kinds, comps, parts_of, unix, windows};
 ghost use Rattle.typed_path.specs.queries.{is_absolute, has_root, is_portable, is_valid, may_be_device, parent_of, portable_fault, unportable, file_name_of, file_stem_of, stripped, path_starts_with, path_ends_with, ancestors_of, stripped_to, extension, file_prefix_of, has_trailing_separator, common_ancestor_of};
-ghost use Rattle.typed_path.specs.order.{is_same, key_words, kinds_key_words, path_cmp, same-kinds};
+ghost use Rattle.typed_path.specs.order.{is_same, key_words, kinds_key_words, lowered, path_cmp, same-kinds};
 ghost use Rattle.std.proofs.Common.{ap};
 ghost use Rattle.typed_path.specs.places.{clean_text, is_within};
 ghost use Rattle.typed_path.specs.promises.{keeps_prefix};
@@ -319,6 +319,36 @@ impl<'a, T: Utf8Encoding> Utf8Path<'a, T> {
         self.as_bytes_path().starts_with(base.as_bytes_path())
     }
 
+    /// Whether the path begins with the components of another in lower case, as they are written.
+    pub fn starts_with_ignore_ascii_case(self, base: Utf8Path<'_, T>) -> bool
+        ensures { result ≡ path_starts_with T.Bytes.dialect
+            (lowered T.Bytes.dialect (utf8_bytes self.entry))
+            (lowered T.Bytes.dialect (utf8_bytes base.entry)) }
+    {
+        self.as_bytes_path()
+            .starts_with_ignore_ascii_case(base.as_bytes_path())
+    }
+
+    /// Whether the path has the same components as another in lower case.
+    pub fn eq_ignore_ascii_case(self, other: Utf8Path<'_, T>) -> bool
+        ensures { result ≡ is_same T.Bytes.dialect
+            (lowered T.Bytes.dialect (utf8_bytes self.entry))
+            (lowered T.Bytes.dialect (utf8_bytes other.entry)) }
+    {
+        self.as_bytes_path()
+            .eq_ignore_ascii_case(other.as_bytes_path())
+    }
+
+    /// The order of the path and another in lower case, by their components.
+    pub fn cmp_ignore_ascii_case(self, other: Utf8Path<'_, T>) -> Ordering
+        ensures { result ≡ path_cmp T.Bytes.dialect
+            (lowered T.Bytes.dialect (utf8_bytes self.entry))
+            (lowered T.Bytes.dialect (utf8_bytes other.entry)) }
+    {
+        self.as_bytes_path()
+            .cmp_ignore_ascii_case(other.as_bytes_path())
+    }
+
     /// The front of the path up to where the components end with which another begins too, as they are
     /// written; none where the two begin with none alike.
     pub fn common_ancestor(self, other: Utf8Path<'_, T>) -> Option<Utf8Path<'a, T>>
@@ -498,6 +528,14 @@ impl<'a, T: Utf8Encoding> Utf8Path<'a, T> {
         ensures { IfOk result (λ p. p.bytes ≡ clean_text T.Bytes.dialect (utf8_bytes self.entry)) }
     {
         owned!(self.as_bytes_path().clean(alloc))
+    }
+
+    /// The path in lower case, as [`Path::to_ascii_lowercase`](crate::Path::to_ascii_lowercase) writes it.
+    #[tactic(auto, using(crate::proofs::lemmas::texts::TextChanges::text_laws, crate::proofs::lemmas::texts::TextLowered::lowered_laws))]
+    pub fn to_ascii_lowercase(self, alloc: Global) -> Result<Utf8PathBuf<T>, AllocError>
+        ensures { IfOk result (λ p. p.bytes ≡ lowered T.Bytes.dialect (utf8_bytes self.entry)) }
+    {
+        owned!(self.as_bytes_path().to_ascii_lowercase(alloc))
     }
 
     /// The path in another encoding: its components pushed one by one onto the empty path, as

@@ -321,7 +321,7 @@ four-first (a ∷ b ∷ c ∷ []) = refl
 four-first (a ∷ b ∷ c ∷ d ∷ text) = refl
 
 -- a verbatim share is marked, and no other prefix is
-marked-share : (s : Separators) (text : List ℕ) (f : Found) → verbatim_unc_case s text ≡ Some f → (mark_length f.prefix ≡ 8) × (8 ≤ f.length)
+pub marked-share : (s : Separators) (text : List ℕ) (f : Found) → verbatim_unc_case s text ≡ Some f → (mark_length f.prefix ≡ 8) × (8 ≤ f.length)
 marked-share s text f is =
     let outer = and_then-some _ (option_and_then (after_unc s) (after_mark question text)) f is in
     let made = unless-some (is_empty (name s outer.0)) _ f outer.2 in
@@ -343,7 +343,7 @@ unmarked-or : (o p : Option Found) → mark_before o ≡ 0 → mark_before p ≡
 unmarked-or None p first others = others
 unmarked-or (Some f) p first others = first
 
-unmarked-plain : (s : Separators) (text : List ℕ) → verbatim_unc_case s text ≡ None → mark_before (prefix_by s text) ≡ 0
+pub unmarked-plain : (s : Separators) (text : List ℕ) → verbatim_unc_case s text ≡ None → mark_before (prefix_by s text) ≡ 0
 unmarked-plain s text none =
     unmarked-or (verbatim_unc_case s text) _ (ap mark_before none)
     (unmarked-or (verbatim_disk_case text) _ (unmarked-drive (λ letter. found (verbatim_disk letter) 6) (λ letter. refl) (option_and_then drive (after_mark question text)))
@@ -358,7 +358,7 @@ pub record LoweredPrefix (text : List ℕ) : Type 0 where
   pub prefix : prefix_of windows (lowered windows text) ≡ option_map lowered_found (prefix_of windows text)
   pub marked : (f : Found) → prefix_of windows text ≡ Some f → mark_length f.prefix ≤ f.length
 
-share-first : (s : Separators) (text : List ℕ) (f : Found) → verbatim_unc_case s text ≡ Some f → prefix_by s text ≡ Some f
+pub share-first : (s : Separators) (text : List ℕ) (f : Found) → verbatim_unc_case s text ≡ Some f → prefix_by s text ≡ Some f
 share-first s text f is =
     first-some (verbatim_unc_case s text) (option_or (verbatim_disk_case text) (option_or (verbatim_case s text) (option_or (device_case text) (option_or (unc_case text) (disk_case text))))) f is
 

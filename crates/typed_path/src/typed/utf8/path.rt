@@ -9,6 +9,8 @@ ghost use Rattle.typed_path.specs.views.OffenceViews.{offence_of};
 ghost use Rattle.typed_path.specs.changes.{error_of, with_file_name, with_extension, with_added_extension};
 ghost use Rattle.typed_path.specs.conversions.{converted};
 ghost use Rattle.typed_path.specs.places.{clean_text, is_within};
+ghost use Rattle.typed_path.specs.order.{lowered};
+ghost use Rattle.typed_path.specs.typed.Orders.{lowered_typed_cmp, lowered_typed_eq};
 ghost use Rattle.typed_path.specs.promises.{keeps_prefix};
 ghost use Rattle.typed_path.specs.views.TextViews.{utf8_bytes};
 ghost use Rattle.typed_path.specs.views.TypedViews.{owned_bytes, reading_dialect};
@@ -26,6 +28,7 @@ use crate::utf8::{
     Utf8WindowsEncoding, Utf8WindowsPath,
 };
 use std::alloc::{AllocError, Global};
+use std::cmp::Ordering;
 
 /// A path of text of Unix or of Windows: a text, with the dialect by which it is read.
 pub type Utf8TypedPath<'a> = Typed<Utf8UnixPath<'a>, Utf8WindowsPath<'a>>;
@@ -246,6 +249,37 @@ impl<'a> Utf8TypedPath<'a> {
         each!(self, path => path.starts_with(Utf8Path::new(base)))
     }
 
+    /// Whether the path begins with the components of another of its kind in lower case, as they are written.
+    pub fn starts_with_ignore_ascii_case(self, base: &str) -> bool
+        ensures { result ≡ path_starts_with (typed_dialect self.entry)
+            (lowered (typed_dialect self.entry) (typed_text self.entry))
+            (lowered (typed_dialect self.entry) base.now) }
+    {
+        each!(self, path => path.starts_with_ignore_ascii_case(Utf8Path::new(base)))
+    }
+
+    /// Whether the path is of the kind of another, and has the same components in lower case.
+    pub fn eq_ignore_ascii_case(self, other: Utf8TypedPath<'_>) -> bool
+        ensures { result ≡ lowered_typed_eq (typed_dialect self.entry) (typed_text self.entry)
+            (typed_dialect other.entry) (typed_text other.entry) }
+    {
+        self.cmp_ignore_ascii_case(other).is_eq()
+    }
+
+    /// The order of the path and another: of one kind, by their components in lower case; else a path of Unix is
+    /// less than one of Windows.
+    pub fn cmp_ignore_ascii_case(self, other: Utf8TypedPath<'_>) -> Ordering
+        ensures { result ≡ lowered_typed_cmp (typed_dialect self.entry) (typed_text self.entry)
+            (typed_dialect other.entry) (typed_text other.entry) }
+    {
+        match (self, other) {
+            (Typed::Unix(path), Typed::Unix(other)) => path.cmp_ignore_ascii_case(other),
+            (Typed::Windows(path), Typed::Windows(other)) => path.cmp_ignore_ascii_case(other),
+            (Typed::Unix(_), Typed::Windows(_)) => Ordering::Less,
+            (Typed::Windows(_), Typed::Unix(_)) => Ordering::Greater,
+        }
+    }
+
     /// The front of the path up to where the components end with which another of its kind begins too,
     /// as they are written; none where the two begin with none alike.
     pub fn common_ancestor(self, other: &str) -> Option<Utf8TypedPath<'a>>
@@ -419,6 +453,15 @@ impl<'a> Utf8TypedPath<'a> {
             ≡ clean_text (typed_dialect self.entry) (typed_text self.entry)) }
     {
         typed_result!(self, path => path.clean(alloc))
+    }
+
+    /// The path in lower case, as [`Path::to_ascii_lowercase`](crate::Path::to_ascii_lowercase) writes it.
+    pub fn to_ascii_lowercase(self, alloc: Global) -> Result<Utf8TypedPathBuf, AllocError>
+        ensures dialect { IfOk result (λ p. typed_dialect p ≡ typed_dialect self.entry) }
+        ensures bytes { IfOk result (λ p. owned_bytes p
+            ≡ lowered (typed_dialect self.entry) (typed_text self.entry)) }
+    {
+        typed_result!(self, path => path.to_ascii_lowercase(alloc))
     }
 
     /// The normal text of the path where it is absolute, and else of the directory in this path's

@@ -12,6 +12,8 @@ ghost use Rattle.typed_path.specs.views.OffenceViews.{offence_of};
 ghost use Rattle.typed_path.specs.changes.{error_of, with_file_name, with_extension, with_added_extension};
 ghost use Rattle.typed_path.specs.conversions.{converted, same_dialect};
 ghost use Rattle.typed_path.specs.places.{clean_text, is_within};
+ghost use Rattle.typed_path.specs.order.{lowered};
+ghost use Rattle.typed_path.specs.typed.Orders.{lowered_typed_cmp, lowered_typed_eq};
 ghost use Rattle.typed_path.specs.promises.{keeps_prefix};
 ghost use Rattle.typed_path.specs.views.TextViews.{utf8_bytes};
 ghost use Rattle.typed_path.specs.changes.Push as push_spec;
@@ -372,6 +374,31 @@ impl Utf8TypedPathBuf {
         self.to_path().starts_with(base)
     }
 
+    /// As [`Utf8TypedPath::starts_with_ignore_ascii_case`].
+    pub fn starts_with_ignore_ascii_case(&self, base: &str) -> bool
+        ensures { result ≡ path_starts_with (typed_dialect self.now)
+            (lowered (typed_dialect self.now) (owned_bytes self.now))
+            (lowered (typed_dialect self.now) base.now) }
+    {
+        self.to_path().starts_with_ignore_ascii_case(base)
+    }
+
+    /// As [`Utf8TypedPath::eq_ignore_ascii_case`].
+    pub fn eq_ignore_ascii_case(&self, other: Utf8TypedPath<'_>) -> bool
+        ensures { result ≡ lowered_typed_eq (typed_dialect self.now) (owned_bytes self.now)
+            (typed_dialect other.entry) (typed_text other.entry) }
+    {
+        self.to_path().eq_ignore_ascii_case(other)
+    }
+
+    /// As [`Utf8TypedPath::cmp_ignore_ascii_case`].
+    pub fn cmp_ignore_ascii_case(&self, other: Utf8TypedPath<'_>) -> Ordering
+        ensures { result ≡ lowered_typed_cmp (typed_dialect self.now) (owned_bytes self.now)
+            (typed_dialect other.entry) (typed_text other.entry) }
+    {
+        self.to_path().cmp_ignore_ascii_case(other)
+    }
+
     /// As [`Utf8TypedPath::common_ancestor`].
     pub fn common_ancestor(&self, other: &str) -> Option<Utf8TypedPath<'_>>
         ensures dialect { IfSome result (λ p. typed_dialect p ≡ typed_dialect self.now) }
@@ -507,6 +534,15 @@ impl Utf8TypedPathBuf {
             ≡ clean_text (typed_dialect self.now) (owned_bytes self.now)) }
     {
         self.to_path().clean(alloc)
+    }
+
+    /// As [`Utf8TypedPath::to_ascii_lowercase`].
+    pub fn to_ascii_lowercase(&self, alloc: Global) -> Result<Utf8TypedPathBuf, AllocError>
+        ensures dialect { IfOk result (λ p. typed_dialect p ≡ typed_dialect self.now) }
+        ensures bytes { IfOk result (λ p. owned_bytes p
+            ≡ lowered (typed_dialect self.now) (owned_bytes self.now)) }
+    {
+        self.to_path().to_ascii_lowercase(alloc)
     }
 
     /// As [`Utf8TypedPath::absolutize`].
