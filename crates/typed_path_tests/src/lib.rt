@@ -5,6 +5,8 @@
 #[cfg(test)]
 mod ample;
 #[cfg(test)]
+mod ascii_case;
+#[cfg(test)]
 mod clean;
 #[cfg(test)]
 mod conversions;

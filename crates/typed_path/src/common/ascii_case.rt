@@ -10,9 +10,7 @@ ghost use Rattle.typed_path.specs.views.PieceViews.{kind_view, part_of, prefix_v
 ghost use Rattle.typed_path.specs.views.PathViews.{path_bytes};
 
 use crate::common::encoding::Encoding;
-use crate::common::order::{
-    kind_rank, order_by_prefixes, order_of_prefixed, order_step_by_step,
-};
+use crate::common::order::{kind_rank, order_by_prefixes, order_of_prefixed, order_step_by_step};
 use crate::common::path::Path;
 use crate::common::path_buf::PathBuf;
 use crate::scan::{
@@ -104,11 +102,14 @@ fn mark_len(prefix: WindowsPrefix<'_>) -> usize
     }
 }
 
-/// The order of two paths in lower case, by their components.
+/// The order of two paths in lower case, by their components. Where their bytes are equal, neither is read.
 fn compare_lowered<T: Encoding>(path: &[u8], other: &[u8]) -> Ordering
     ensures { result ≡ path_cmp T.dialect (lowered T.dialect path.now)
         (lowered T.dialect other.now) }
 {
+    if path == other {
+        return Ordering::Equal;
+    }
     let own = T::cursor(path);
     let others = T::cursor(other);
     order_by_prefixes!(own, others, compare_lowered_prefixes);

@@ -293,7 +293,11 @@ fn differs_in_block<const N: usize, const LOWER: bool>(text: &[u8], other: &[u8]
 
 /// The first place of a block at which two texts differ, or its end where they are alike there.
 #[inline(always)]
-fn first_difference_in_block<const N: usize, const LOWER: bool>(text: &[u8], other: &[u8], at: usize) -> usize
+fn first_difference_in_block<const N: usize, const LOWER: bool>(
+    text: &[u8],
+    other: &[u8],
+    at: usize,
+) -> usize
     requires lanes { (0 < N) × (N ≤ 64) }
     requires in_text { at + N ≤ length text.now }
     requires in_other { at + N ≤ length other.now }
@@ -323,7 +327,11 @@ fn first_difference_in_last_block<const N: usize, const LOWER: bool>(
 
 /// The same of texts of N bytes to 2 N, by two blocks.
 #[inline(always)]
-fn first_difference_in_two<const N: usize, const LOWER: bool>(text: &[u8], other: &[u8], to: usize) -> usize
+fn first_difference_in_two<const N: usize, const LOWER: bool>(
+    text: &[u8],
+    other: &[u8],
+    to: usize,
+) -> usize
     requires lanes { (0 < N) × (N ≤ 64) }
     requires room { (N ≤ to) × (to ≤ N + N) }
     requires in_text { to ≤ length text.now }

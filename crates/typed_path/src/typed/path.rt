@@ -30,8 +30,8 @@ use crate::typed::variant::{
 use crate::unix::{UnixEncoding, UnixPath};
 use crate::windows::{WindowsEncoding, WindowsPath};
 use std::alloc::{AllocError, Global};
-use std::cmp::Ordering;
 use std::borrow::CowStr;
+use std::cmp::Ordering;
 
 /// A path of Unix or of Windows: a slice of bytes, with the dialect by which it is read.
 pub type TypedPath<'a> = Typed<UnixPath<'a>, WindowsPath<'a>>;

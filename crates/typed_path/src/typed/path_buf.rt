@@ -31,6 +31,7 @@ use crate::unix::{UnixPath, UnixPathBuf};
 use crate::windows::{WindowsPath, WindowsPathBuf};
 use std::alloc::{AllocError, Global};
 use std::borrow::CowStr;
+use std::cmp::Ordering;
 
 /// An owned path of Unix or of Windows, which grows.
 pub type TypedPathBuf = Typed<UnixPathBuf, WindowsPathBuf>;

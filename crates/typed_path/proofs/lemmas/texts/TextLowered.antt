@@ -1,11 +1,14 @@
 -- A text in lower case is a text.
-use Rattle.std.proofs.Common.{◌≡◌, ℕ, zero, suc, ◌+◌, ◌<◌, ◌≤◌, ◌==◌, ◌&&◌, Bool, true, false, List, [], ◌∷◌, ◌++◌, map, length, take, drop, arith, refl, sym, ap, ◌∙◌, subst, eqb-true, Option, Some, None, option_and_then}
+use Rattle.std.proofs.Common.{◌≡◌, ℕ, zero, suc, ◌+◌, ◌<◌, ◌≤◌, ◌==◌, ◌&&◌, Bool, true, false, List, [], ◌∷◌, ◌++◌, map, length, take, drop, arith, refl, sym, ap, ap₂, ◌∙◌, subst, eqb-true, get_or, inl, inr, append-nil, Option, Some, None, option_and_then}
 use Rattle.std.specs.Char.{to_ascii_lowercase}
 use Rattle.std.specs.List.{AllByRecursion}
 use Rattle.std.specs.Str.{IsUtf8, is_utf8, str_to_ascii_lowercase}
-use Rattle.std.proofs.lemmas.Bool.{and_parts}
+use Rattle.std.proofs.lemmas.Bool.{and_parts, cases_lt}
 use Rattle.std.proofs.lemmas.Str.{IsUtf8-append, IsUtf8-from_is_utf8, is_utf8-from_IsUtf8}
-use Rattle.std_alloc.proofs.string.Cased as cased
+use Rattle.std.proofs.lemmas.List.{map-append}
+use Rattle.std.proofs.lemmas.Str.{IsUtf8-encode, IsUtf8-nil, inside_one}
+use Rattle.std.proofs.lemmas.Str.Ascii.{encode_ascii, lowercase_ascii, lowercase_is}
+use lib.Utf8.{scalar, scalars, encode, encodes}
 use Rattle.typed_path.specs.declared.scan.separators.Separators.{Separators}
 use Rattle.typed_path.specs.declared.scan.separators.Separators.TheVariants.{Either}
 use Rattle.typed_path.specs.components.{Dialect, unix, windows, Found, after_mark, after_unc, is_separator, prefix_of, question, separators, verbatim_unc_case}
@@ -15,9 +18,38 @@ use Rattle.typed_path.proofs.lemmas.lists.Options.{and_then-some, where-some}
 use Rattle.typed_path.proofs.lemmas.order.Lowered.{share-first, unmarked-plain, marked-share}
 use Rattle.typed_path.proofs.lemmas.texts.TextCuts.{byte-utf8, separator-ascii, utf8-around}
 
+-- bytes that are no ASCII stay as they are
+high-stays : (bs : List ℕ) → ((k : ℕ) → k < length bs → 128 ≤ get_or bs k 0) → str_to_ascii_lowercase bs ≡ bs
+high-stays [] high = refl
+high-stays (b ∷ bs) high = ap₂ ◌∷◌ ((lowercase_is b).2 (omega (arith, high 0 (omega arith)))) (high-stays bs (λ k l. high (suc k) (omega arith)))
+
+-- a character in lower case is one
+letter-utf8 : (c : ℕ) → scalar c ≡ true → IsUtf8 (str_to_ascii_lowercase (encode c))
+letter-utf8 c is = elim (cases_lt c 128) [
+  | inl low ↦ subst (λ bs. IsUtf8 (str_to_ascii_lowercase bs)) (sym (encode_ascii c low)) (byte-utf8 (to_ascii_lowercase c) (lowercase_ascii c low))
+  | inr high ↦ subst IsUtf8 (sym (high-stays (encode c) (each high))) (IsUtf8-encode c is)
+]
+  where
+    each : 128 ≤ c → (k : ℕ) → k < length (encode c) → 128 ≤ get_or (encode c) k 0
+    each high k l = elim (cases_lt (get_or (encode c) k 0) 128) [
+      | inl small ↦ absurd (omega (arith, inside_one c [] (encode c) k (sym (append-nil (encode c))) l small))
+      | inr large ↦ large
+    ]
+
+letters-utf8 : (cs : List ℕ) → scalars cs ≡ true → IsUtf8 (str_to_ascii_lowercase (encodes cs))
+letters-utf8 [] is = IsUtf8-nil
+letters-utf8 (c ∷ cs) is =
+    let both = and_parts (scalar c) (scalars cs) is in
+    subst IsUtf8 (sym (map-append to_ascii_lowercase (encode c) (encodes cs)))
+    (IsUtf8-append (str_to_ascii_lowercase (encode c)) (str_to_ascii_lowercase (encodes cs)) (letter-utf8 c both.0) (letters-utf8 cs both.1))
+
+-- so a text in lower case is a text
+whole-utf8 : (text : List ℕ) → IsUtf8 text → IsUtf8 (str_to_ascii_lowercase text)
+whole-utf8 text is = subst (λ bs. IsUtf8 (str_to_ascii_lowercase bs)) is.1.1 (letters-utf8 is.0 is.1.0)
+
 -- so it is behind first bytes that are ASCII
 behind-utf8 : (n : ℕ) (text : List ℕ) → IsUtf8 text → AllByRecursion (λ b. b < 128) (take n text) → IsUtf8 (lowered_behind n text)
-behind-utf8 zero text is low = cased.lowered text is
+behind-utf8 zero text is low = whole-utf8 text is
 behind-utf8 (suc n) [] is low = is
 behind-utf8 (suc n) (b ∷ bs) is low = IsUtf8-append (b ∷ []) (lowered_behind n bs) (byte-utf8 b low.0) (behind-utf8 n bs (utf8-around [] bs b is low.0).1 low.1)
 
@@ -49,14 +81,14 @@ mark-low s (a ∷ b ∷ c ∷ d ∷ e ∷ f ∷ g ∷ h ∷ text) rest long is =
     )
 
 lowered-utf8 : (d : Dialect) (t : List ℕ) → IsUtf8 t → IsUtf8 (lowered d t)
-lowered-utf8 unix t is = cased.lowered t is
+lowered-utf8 unix t is = whole-utf8 t is
 lowered-utf8 windows t is = by (verbatim_unc_case s t) refl
   where
     s : Separators
     s = separators windows t
 
     by : (o : Option Found) → verbatim_unc_case s t ≡ o → IsUtf8 (lowered windows t)
-    by None none = subst (λ n. IsUtf8 (lowered_behind n t)) (sym (unmarked-plain s t none)) (cased.lowered t is)
+    by None none = subst (λ n. IsUtf8 (lowered_behind n t)) (sym (unmarked-plain s t none)) (whole-utf8 t is)
     by (Some f) some =
         let outer = and_then-some _ (option_and_then (after_unc s) (after_mark question t)) f some in
         let inner = and_then-some (after_unc s) (after_mark question t) outer.0 outer.1 in

@@ -28,6 +28,7 @@ use crate::utf8::{
     Utf8WindowsPathBuf,
 };
 use std::alloc::{AllocError, Global};
+use std::cmp::Ordering;
 
 /// An owned path of text of Unix or of Windows, which grows.
 pub type Utf8TypedPathBuf = Typed<Utf8UnixPathBuf, Utf8WindowsPathBuf>;

@@ -1,8 +1,10 @@
 use Rattle.std.proofs.Common.{◌≡◌, map, sym, ap, ap₂, ◌∙◌}
+use Rattle.std.proofs.lemmas.Cmp.{tied_itself}
+use Rattle.std.specs.Cmp.Lexicographic.{bytes_decides}
 use Rattle.std.specs.Ordering.{ordering_reverse}
 use Rattle.typed_path.specs.components.{Dialect, comps}
 use Rattle.typed_path.specs.queries.{behind_prefix}
-use Rattle.typed_path.specs.order.{left_cmp, lowered_cmp, lowered_placed, lowered_prefix}
+use Rattle.typed_path.specs.order.{left_cmp, lowered, lowered_cmp, path_cmp, path_cmp_total, lowered_placed, lowered_prefix}
 use Rattle.typed_path.specs.views.BodyViews.{body_items}
 use Rattle.typed_path.specs.views.CursorViews.{items_left}
 use Rattle.typed_path.specs.views.PieceViews.{prefix_view}
@@ -10,6 +12,12 @@ use Rattle.typed_path.proofs.lemmas.order.Comparisons.{prefixes-differ, prefixes
 use Rattle.typed_path.proofs.lemmas.order.LoweredLists.{path-lowered, prefix-some, prefix-none, behind-lowered, ordered-bare}
 use Rattle.typed_path.proofs.common.ascii_case.compare_lowered.Goals as goal
 use Rattle.typed_path.proofs.common.ascii_case.compare_lowered.Goals.{in-Some-Some+else-is_ne, in-None-None}
+
+pub returns-then-eq : goal.returns-then-eq
+returns-then-eq g c =
+    let d = g.T.Encoding.dialect in
+    let same : c.args.path.now ≡ c.args.other.now = (bytes_decides c.args.path.now c.args.other.now).0 (sym c.eq.ensures ∙ c.if-eq.true) in
+    sym (ap (λ t. path_cmp d (lowered d c.args.path.now) (lowered d t)) (sym same) ∙ tied_itself (path_cmp_total d) (lowered d c.args.path.now))
 
 pub returns-then-is_ne : goal.returns-then-is_ne
 returns-then-is_ne g c =
@@ -42,7 +50,7 @@ returns g c =
     let ds = items_left c.cursor-others.result in
     let behind : left_cmp (behind_prefix (map lowered_placed cs)) (behind_prefix (map lowered_placed ds)) ≡ lowered_cmp cs ds = elim c.match-prefix.branch [
       | in-Some-Some+else-is_ne w ↦ prefixes-alike (map lowered_placed cs) (map lowered_placed ds) (lowered_prefix (prefix_view w.in-Some-Some.prefix)) (lowered_prefix (prefix_view w.in-Some-Some.other)) w.compare_lowered_prefixes-order.result
-      (prefix-some cs _ w.in-Some-Some.ensures) (prefix-some ds _ w.in-Some-Some.ensures') w.compare_lowered_prefixes-order.ensures (sym w.is_ne.ensures ∙ w.if-is_ne.false)
+          (prefix-some cs _ w.in-Some-Some.ensures) (prefix-some ds _ w.in-Some-Some.ensures') w.compare_lowered_prefixes-order.ensures (sym w.is_ne.ensures ∙ w.if-is_ne.false)
       | in-None-None w ↦ prefixes-none (map lowered_placed cs) (map lowered_placed ds) (prefix-none cs w.in-None-None.ensures) (prefix-none ds w.in-None-None.ensures')
     ] in
     c.compare_each_lowered.ensures
