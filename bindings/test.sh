@@ -143,7 +143,7 @@ is_told_of_changes() {
             echo "$number: $edit" && cat "$room/told" && return 1
         fi
     done << 'END'
-0.1.0	0.2.0	s/\(_NONE\) 8/\1 12/
+0.1.0	0.2.0	s/\(_NONE\) 8/\1 18/
 0.1.0	0.2.0	s/size_t length;/uint32_t length;/
 0.1.0	0.2.0	s/    uint32_t kind;/    uint32_t kind, more;/; s/kind, more;/kind;\n    uint32_t more;/
 0.1.0	0.2.0	s/(path_len) + 2)$/(path_len) + 3)/
@@ -224,7 +224,7 @@ looked() {
     "$room/$1" "$here/rows.tsv" "$2"
 }
 part "compiled" compiled "$room/plain" -O1
-for each in rows random steps batch hashes long threads; do
+for each in rows random steps batch hashes texts long threads; do
     part "boundary, $each" looked plain $each
 done
 wrap=-Wl,--wrap=malloc,--wrap=realloc,--wrap=free
@@ -233,7 +233,7 @@ part "boundary, each request for memory refused" looked refusing refused
 sanitize=(-fsanitize=address,undefined -fno-sanitize-recover=all)
 if echo 'int main(void) { return 0; }' | cc -x c "${sanitize[@]}" - -o "$room/none" 2> "$room/said" && "$room/none"; then
     part "compiled, sanitized" compiled "$room/sanitized" -O1 "${sanitize[@]}"
-    for each in rows random steps batch hashes long threads; do
+    for each in rows random steps batch hashes texts long threads; do
         part "boundary, sanitized, $each" looked sanitized $each
     done
 else

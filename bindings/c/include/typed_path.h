@@ -2,8 +2,8 @@
 
    A text is a pointer and a number of bytes. It is any bytes, needs no NUL at its end, and may be NULL
    with 0. A dialect is TYPED_PATH_UNIX or TYPED_PATH_WINDOWS. The calls that return `uint32_t`, but for
-   typed_path_derive and typed_path_version, return a status, and each comment says which. Every call of
-   these returns TYPED_PATH_BAD_DIALECT for a number that names no dialect. Look at the status before
+   typed_path_derive and typed_path_version, return a status, and each comment says which. Every call with
+   a dialect returns TYPED_PATH_BAD_DIALECT for a number that names none. Look at the status before
    anything else: a call that refuses leaves what an earlier one put. Compilers warn where it is dropped
    (TYPED_PATH_MUST_USE).
 
@@ -14,9 +14,10 @@
      is as it was. A buffer of the bound that the comment names is large enough, and has room for the NUL.
      To ask for the length first costs the call twice.
    - Any other status: the buffer and `*len` are as they were.
-   Where the texts are UTF-8, so is the answer. Such calls allocate, by malloc, realloc and free, and free
-   all of it before they return; where memory is refused they return TYPED_PATH_OUT_OF_MEMORY. No other
-   call allocates, and none has a state: several threads may call at once.
+   Where the texts are UTF-8, so is the answer. Calls that make a path allocate, by malloc, realloc and
+   free, and free all of it before they return; where memory is refused they return
+   TYPED_PATH_OUT_OF_MEMORY. No other call allocates, and none has a state: several threads may call at
+   once.
 
    The caller owes that each pointer is good for its number of bytes or items, that no pointer but that of
    a text or an array of 0 is NULL, that no other thread writes to what is handed in, and that what a call
@@ -40,7 +41,7 @@ extern "C" {
 /* The version of this header: a part of two digits each for major, minor and patch. */
 #define TYPED_PATH_VERSION_MAJOR 0
 #define TYPED_PATH_VERSION_MINOR 1
-#define TYPED_PATH_VERSION_PATCH 0
+#define TYPED_PATH_VERSION_PATCH 1
 #define TYPED_PATH_VERSION \
     (TYPED_PATH_VERSION_MAJOR * 10000 + TYPED_PATH_VERSION_MINOR * 100 + TYPED_PATH_VERSION_PATCH)
 
@@ -59,7 +60,8 @@ extern "C" {
 #define TYPED_PATH_UNIX 0
 #define TYPED_PATH_WINDOWS 1
 
-/* The statuses. Those from 1 to 4 name what the first component that offends is refused for. */
+/* The statuses. Those from 1 to 4 name what the first component that offends is refused for by a checked call,
+   and those from 12 to 17 why it is not portable. */
 #define TYPED_PATH_DONE 0
 #define TYPED_PATH_INVALID_FILENAME 1      /* a name that is not allowed (typed_path_is_valid) */
 #define TYPED_PATH_PATH_TRAVERSAL_ATTACK 2 /* a `..` that no name before it makes up for */
@@ -72,6 +74,12 @@ extern "C" {
 #define TYPED_PATH_AMBIGUOUS 9             /* absolute neither alone nor behind the directory */
 #define TYPED_PATH_BAD_ENDS 10             /* an end lies before the one before it, or behind the names */
 #define TYPED_PATH_BAD_READING 11          /* no reading of the path may stand at these numbers */
+#define TYPED_PATH_HAS_PREFIX 12           /* a prefix; never on Unix */
+#define TYPED_PATH_FORBIDDEN 13            /* a byte that no name of Windows may have, or a control byte */
+#define TYPED_PATH_DEVICE 14               /* a name that may be a device (typed_path_may_be_device) */
+#define TYPED_PATH_ENDING 15               /* a name that ends in a dot or a space */
+#define TYPED_PATH_TOO_LONG 16             /* a name of more than 255 bytes */
+#define TYPED_PATH_NOT_TEXT 17             /* a name that is not UTF-8 */
 
 /* The kinds of components. One of TYPED_PATH_PREFIX_VERBATIM or more is a prefix, which only Windows has. */
 #define TYPED_PATH_ROOT 0
@@ -88,6 +96,7 @@ extern "C" {
 /* Bounds of answers, in bytes with the NUL; of the batch, which puts none, without. All are proved,
    where the number does not wrap; that of the batch, where ends and statuses have room for each name. */
 #define TYPED_PATH_JOIN_BOUND(path_len, other_len) ((size_t)(path_len) + (size_t)(other_len) + 4)
+#define TYPED_PATH_RESOLVE_BOUND(path_len, other_len) ((size_t)(path_len) + (size_t)(other_len) + 5)
 #define TYPED_PATH_EXTENSION_BOUND(path_len, extension_len) \
     ((size_t)(path_len) + (size_t)(extension_len) + 2)
 #define TYPED_PATH_NORMALIZE_BOUND(path_len) ((size_t)(path_len) + 2)
@@ -97,6 +106,7 @@ extern "C" {
 #define TYPED_PATH_BATCH_BOUND(base_len, names_len, count) \
     ((size_t)(names_len) + (size_t)(count) * ((size_t)(base_len) + 3))
 #define TYPED_PATH_KEY_BOUND(path_len) (2 * (size_t)(path_len) + 2)
+#define TYPED_PATH_TEXT_BOUND 64
 /* And of the number of components. */
 #define TYPED_PATH_COMPONENTS_BOUND(path_len) ((size_t)(path_len))
 
@@ -145,9 +155,23 @@ TYPED_PATH_MUST_USE uint32_t typed_path_join(
 
 /* The same where the other path has no component that offends: what is put lies within `path`, for a
    path that keeps its prefix (typed_path_keeps_prefix). Else the status, from 1 to 4, names what the first
-   one is refused for; it is told even where memory is refused. The empty path, `.` and `a/..` are accepted:
-   what is put is then `path` itself, or leads there. TYPED_PATH_JOIN_BOUND. */
+   one is refused for; it is told even where memory is refused. The empty path, `.` and `a/..` are accepted,
+   and name the base itself: what is put is then `path`, or leads there. TYPED_PATH_JOIN_BOUND. */
 TYPED_PATH_MUST_USE uint32_t typed_path_join_checked(
+    uint32_t dialect, const char *path, size_t path_len, const char *other, size_t other_len,
+    char *out, size_t out_size, size_t *len);
+
+/* The same where the other path is portable too (typed_path_check_portable). Else the status, from 12 to 17,
+   names why not; that is asked first, so TYPED_PATH_INVALID_FILENAME and TYPED_PATH_UNEXPECTED_PREFIX are not
+   told. The base need not be portable. TYPED_PATH_JOIN_BOUND. */
+TYPED_PATH_MUST_USE uint32_t typed_path_join_portable(
+    uint32_t dialect, const char *path, size_t path_len, const char *other, size_t other_len,
+    char *out, size_t out_size, size_t *len);
+
+/* The clean path (typed_path_clean) of a checked join, refused as that is, and within `path` as that is: of
+   `/srv` and `a/./../b` it is `/srv/b`, and of `/srv` and `.` it is `/srv`. It allocates for the join, and
+   then for the clean path. TYPED_PATH_RESOLVE_BOUND. */
+TYPED_PATH_MUST_USE uint32_t typed_path_resolve_checked(
     uint32_t dialect, const char *path, size_t path_len, const char *other, size_t other_len,
     char *out, size_t out_size, size_t *len);
 
@@ -161,6 +185,13 @@ TYPED_PATH_MUST_USE uint32_t typed_path_with_file_name(
    The extension is put as it is, with the separators in it: of `/srv/a.txt` and `x/../../../etc/passwd` it
    makes `/srv/a.x/../../../etc/passwd`. TYPED_PATH_EXTENSION_BOUND. */
 TYPED_PATH_MUST_USE uint32_t typed_path_with_extension(
+    uint32_t dialect, const char *path, size_t path_len, const char *extension, size_t extension_len,
+    char *out, size_t out_size, size_t *len);
+
+/* The path with one extension more behind its file name; a copy where there is no file name, and with an
+   empty extension. The extension is put as it is, as of typed_path_with_extension.
+   TYPED_PATH_EXTENSION_BOUND. */
+TYPED_PATH_MUST_USE uint32_t typed_path_with_added_extension(
     uint32_t dialect, const char *path, size_t path_len, const char *extension, size_t extension_len,
     char *out, size_t out_size, size_t *len);
 
@@ -218,6 +249,12 @@ TYPED_PATH_MUST_USE uint32_t typed_path_join_checked_batch(
     const size_t *ends, size_t ends_count, char *out, size_t out_size,
     size_t *out_ends, size_t out_ends_count, uint32_t *statuses, size_t statuses_count, size_t *done);
 
+/* The same by typed_path_join_portable, whose statuses the names have. TYPED_PATH_BATCH_BOUND. */
+TYPED_PATH_MUST_USE uint32_t typed_path_join_portable_batch(
+    uint32_t dialect, const char *base, size_t base_len, const char *names, size_t names_len,
+    const size_t *ends, size_t ends_count, char *out, size_t out_size,
+    size_t *out_ends, size_t out_ends_count, uint32_t *statuses, size_t statuses_count, size_t *done);
+
 /* Parts of a path, told by their places. TYPED_PATH_NONE where there is no such part; then, and for a bad
    dialect, `*span` is as it was. */
 
@@ -233,7 +270,11 @@ TYPED_PATH_MUST_USE uint32_t typed_path_file_name(
 TYPED_PATH_MUST_USE uint32_t typed_path_file_stem(
     uint32_t dialect, const char *path, size_t path_len, typed_path_span *span);
 
-/* What stands behind that dot. */
+/* The file name up to its first dot; a dot at the front is part of it. */
+TYPED_PATH_MUST_USE uint32_t typed_path_file_prefix(
+    uint32_t dialect, const char *path, size_t path_len, typed_path_span *span);
+
+/* What stands behind its last dot, where that is not its first byte. */
 TYPED_PATH_MUST_USE uint32_t typed_path_extension(
     uint32_t dialect, const char *path, size_t path_len, typed_path_span *span);
 
@@ -241,6 +282,17 @@ TYPED_PATH_MUST_USE uint32_t typed_path_extension(
 TYPED_PATH_MUST_USE uint32_t typed_path_strip_prefix(
     uint32_t dialect, const char *path, size_t path_len, const char *base, size_t base_len,
     typed_path_span *span);
+
+/* The front of a path up to where the components end with which the other begins too, as they are written. None
+   where the two begin with none alike. */
+TYPED_PATH_MUST_USE uint32_t typed_path_common_ancestor(
+    uint32_t dialect, const char *path, size_t path_len, const char *other, size_t other_len,
+    typed_path_span *span);
+
+/* The path of a verbatim drive of Windows without its `\\?\`, where that means the same to Windows; else, and on
+   Unix, the path itself. */
+TYPED_PATH_MUST_USE uint32_t typed_path_simplified(
+    uint32_t dialect, const char *path, size_t path_len, typed_path_span *span);
 
 /* Puts the components of a path into an array, as many as fit, and into `*count` how many there are.
    TYPED_PATH_TOO_SMALL where that is more than `out_count`. Of a bad dialect both are as they were.
@@ -279,6 +331,18 @@ TYPED_PATH_MUST_USE uint32_t typed_path_push_place(
     uint32_t dialect, const char *path, size_t path_len, const char *other, size_t other_len,
     typed_path_place *place);
 
+/* Paths that are judged. The status tells all. */
+
+/* What typed_path_join_checked refuses a path for, whatever it is joined to: TYPED_PATH_DONE, or from 1 to 4 what
+   the first component that offends is refused for. The empty path, `.` and `a/..` are accepted, and name the base
+   itself. */
+TYPED_PATH_MUST_USE uint32_t typed_path_check(uint32_t dialect, const char *path, size_t path_len);
+
+/* Why some system does not take each component of a path as it is written: TYPED_PATH_DONE, or from 12 to 17 what
+   the first component that offends does, the first of these that is true of it. Roots, `.` and `..` are let
+   through, so for a name that comes from outside take typed_path_join_portable. */
+TYPED_PATH_MUST_USE uint32_t typed_path_check_portable(uint32_t dialect, const char *path, size_t path_len);
+
 /* Questions. The status is TYPED_PATH_DONE, or TYPED_PATH_BAD_DIALECT, and then the answer is false. */
 
 /* Whether a path leads to one place from every directory; on Windows `C:\a` does, `C:a` and `\a` do not. */
@@ -300,6 +364,17 @@ TYPED_PATH_MUST_USE uint32_t typed_path_is_valid(
 /* Whether a name is allowed, by the same rule. One with a separator is not; `.`, `..` and an empty one are. */
 TYPED_PATH_MUST_USE uint32_t typed_path_is_valid_name(
     uint32_t dialect, const char *name, size_t name_len, bool *answer);
+
+/* Whether every system takes each component of a path as it is written (typed_path_check_portable). */
+TYPED_PATH_MUST_USE uint32_t typed_path_is_portable(
+    uint32_t dialect, const char *path, size_t path_len, bool *answer);
+
+/* Whether some version of Windows may take a name of it for a device: what stands before the first `:` of a name,
+   up to its first dot, without the spaces at its end, in any case; `CONIN$`, `CONOUT$` and superscript digits too.
+   A path of Unix has its own names, so `a\nul` is one that is not told: where it is not known on which system a
+   path is used, ask both dialects. */
+TYPED_PATH_MUST_USE uint32_t typed_path_may_be_device(
+    uint32_t dialect, const char *path, size_t path_len, bool *answer);
 
 /* Whether it begins with the components of the base, as they are written. No check of containment. */
 TYPED_PATH_MUST_USE uint32_t typed_path_starts_with(
@@ -348,6 +423,11 @@ TYPED_PATH_MUST_USE uint32_t typed_path_hash(
    show neither it nor the hashes. */
 TYPED_PATH_MUST_USE uint32_t typed_path_hash_keyed(
     uint32_t dialect, uint64_t key0, uint64_t key1, const char *path, size_t path_len, uint64_t *hash);
+
+/* What a status says, and what a kind of component is called: a text in English that is put as an answer is.
+   TYPED_PATH_NONE of a number that is none; then the buffer and `*len` are as they were. TYPED_PATH_TEXT_BOUND. */
+TYPED_PATH_MUST_USE uint32_t typed_path_status_text(uint32_t status, char *out, size_t out_size, size_t *len);
+TYPED_PATH_MUST_USE uint32_t typed_path_kind_text(uint32_t kind, char *out, size_t out_size, size_t *len);
 
 #ifdef __cplusplus
 }

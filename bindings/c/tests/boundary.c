@@ -115,6 +115,8 @@ static bool is_kept(const Row *bad, Text one, Text two) {
     char out[1000];
     if (call->ask || call->ask_of)
         return told_by(bad, one, two, &answer, list, out, &len) == TYPED_PATH_BAD_DIALECT && !answer;
+    if (call->judge)
+        return call->judge(bad->dialect, one.bytes, one.length) == TYPED_PATH_BAD_DIALECT;
     if (call->part || call->part_of)
         return told_by(bad, one, two, &span, list, out, &len) == TYPED_PATH_BAD_DIALECT && span.start == 1
             && span.length == 2;
@@ -141,6 +143,8 @@ static bool is_kept(const Row *bad, Text one, Text two) {
 
 /* How many bytes a call tells its answer in. */
 static size_t size_told(const Call *call) {
+    if (call->judge)
+        return 0;
     if (call->ask || call->ask_of)
         return sizeof(bool);
     if (call->part || call->part_of)
@@ -243,8 +247,8 @@ static void part_random(void) {
             if (!puts_answer(call))
                 continue;
             uint32_t status = put_by(call, dialect, path, with, out, bound_of(call, path, with), &len);
-            look(status < TYPED_PATH_OUT_OF_MEMORY || status == TYPED_PATH_NONE || status == TYPED_PATH_AMBIGUOUS,
-                 "status", call->name, path, with);
+            look(status < TYPED_PATH_OUT_OF_MEMORY || status == TYPED_PATH_NONE || status == TYPED_PATH_AMBIGUOUS
+                 || status >= TYPED_PATH_HAS_PREFIX, "status", call->name, path, with);
             look_at_sizes(call, dialect, path, with, status, (Text){out, len});
         }
     }
@@ -325,6 +329,7 @@ static void part_steps(void) {
 
 /* A batch, by what it is handed and tells. */
 typedef struct Batch {
+    const Call *call;
     uint32_t dialect;
     Text base, names;
     size_t ends[12], count;
@@ -337,7 +342,7 @@ static uint32_t done_by(Batch *batch, char *out) {
     memset(batch->out_ends, PATTERN, sizeof batch->out_ends);
     memset(batch->statuses, PATTERN, sizeof batch->statuses);
     memset(answers.first, PATTERN, answers.size);
-    return typed_path_join_checked_batch(
+    return batch->call->batch(
         batch->dialect, batch->base.bytes, batch->base.length, batch->names.bytes, batch->names.length, batch->ends,
         batch->count, out, batch->size, batch->out_ends, batch->places, batch->statuses, batch->places, &batch->done);
 }
@@ -354,7 +359,7 @@ static void look_at_batch(Batch *batch) {
             break;
         }
         len = 0;
-        uint32_t each = typed_path_join_checked(
+        uint32_t each = batch->call->put_of(
             batch->dialect, batch->base.bytes, batch->base.length, batch->names.bytes + from, end - from,
             one, sizeof one, &len);
         if (at >= batch->places || (each == TYPED_PATH_DONE && len > batch->size - room)) {
@@ -382,6 +387,9 @@ static void part_batch(void) {
     char base[100], names[1000];
     for (size_t round = 0; round < 3000; round++) {
         Batch batch = {.names = {names, 0}};
+        do
+            batch.call = &CALLS[drawn(CALL_COUNT)];
+        while (!batch.call->batch);
         batch.dialect = (uint32_t)drawn(2);
         batch.base = random_text(base);
         batch.count = drawn(9);
@@ -452,6 +460,42 @@ static void part_hashes(void) {
     }
 }
 
+typedef uint32_t SaidBy(uint32_t, char *, size_t, size_t *);
+
+/* Each of the first numbers has a text of its own, which is put as an answer is; others have none. */
+static void look_at_texts(const char *name, SaidBy *said_by, uint32_t count) {
+    static const uint32_t NO_NUMBERS[] = {99, UINT32_MAX};
+    char texts_of[32][TYPED_PATH_TEXT_BOUND] = {""};
+    for (uint32_t number = 0; number < count; number++) {
+        size_t length = 0;
+        look(said_by(number, texts_of[number], TYPED_PATH_TEXT_BOUND, &length) == TYPED_PATH_DONE && length > 0
+             && strlen(texts_of[number]) == length, "text", name, NOTHING, NOTHING);
+        for (uint32_t before = 0; before < number; before++)
+            look(strcmp(texts_of[before], texts_of[number]) != 0, "text of another number", name, NOTHING, NOTHING);
+        for (size_t size = 0; size <= TYPED_PATH_TEXT_BOUND; size++) {
+            memset(answers.first, PATTERN, answers.size);
+            char *out = place(answers, size, true);
+            size_t len = 0, written = size < length ? 0 : length + (size > length);
+            uint32_t status = said_by(number, out, size, &len);
+            look(status == (size < length ? TYPED_PATH_TOO_SMALL : TYPED_PATH_DONE) && len == length
+                 && memcmp(out, texts_of[number], written) == 0 && is_pattern(out + written, size - written)
+                 && is_pattern(answers.first, answers.size - size), "text in a buffer", name, NOTHING, NOTHING);
+        }
+    }
+    for (size_t at = 0; at <= sizeof NO_NUMBERS / sizeof *NO_NUMBERS; at++) {
+        size_t len = 12345;
+        uint32_t number = at ? NO_NUMBERS[at - 1] : count;
+        memset(answers.first, PATTERN, answers.size);
+        look(said_by(number, answers.first, answers.size, &len) == TYPED_PATH_NONE && len == 12345
+             && is_pattern(answers.first, answers.size), "text of no number", name, NOTHING, NOTHING);
+    }
+}
+
+static void part_texts(void) {
+    look_at_texts("status_text", typed_path_status_text, TYPED_PATH_NOT_TEXT + 1);
+    look_at_texts("kind_text", typed_path_kind_text, TYPED_PATH_PREFIX_DISK + 1);
+}
+
 /* Where malloc and realloc are the linker's to wrap, requests are counted, and refused by their number. */
 static size_t requests, refuse_at, refuse_from, held;
 
@@ -494,7 +538,7 @@ static void look_refused(const Row *row, const char *wanted, size_t length, size
     memset(out, PATTERN, sizeof out);
     requests = 0;
     if (batch)
-        status = typed_path_join_checked_batch(
+        status = row->call->batch(
             row->dialect, row->path.bytes, row->path.length, row->other.bytes, row->other.length, ends, 1, out, bound,
             out_ends, 1, statuses, 1, &len);
     else
@@ -528,8 +572,9 @@ static void part_refused(void) {
             look(requests == 0, "request for memory", row.call->name, row.path, row.other);
             continue;
         }
-        bool batch = row.call->put_of == typed_path_join_checked;
-        bool free_of = batch || row.call->put_of == typed_path_relative_to;
+        bool batch = row.call->batch != NULL;
+        bool free_of = batch || row.call->put_of == typed_path_resolve_checked
+            || row.call->put_of == typed_path_relative_to;
         size_t bound = bound_of(row.call, row.path, row.other), total;
         for (int way = 0; way < (batch ? 4 : 2); way++) {
             requests = 0;
@@ -639,7 +684,7 @@ int main(int count, char **words) {
         void (*run)(void);
     } PARTS[] = {
         {"rows", part_rows}, {"random", part_random}, {"steps", part_steps}, {"batch", part_batch}, {"hashes", part_hashes},
-        {"refused", part_refused}, {"long", part_long}, {"threads", part_threads},
+        {"texts", part_texts}, {"refused", part_refused}, {"long", part_long}, {"threads", part_threads},
     };
     if (count != 3)
         return 2;

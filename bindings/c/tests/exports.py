@@ -1,7 +1,7 @@
 #!/usr/bin/env python3
 """Compares the calls that the header declares with those that the sources of the crate export: their names,
-and the names and types of their parameters and results. A call with a dialect returns a status, so it has to
-bear the mark that it must be looked at, and no other call may.
+and the names and types of their parameters and results. A call with a dialect, or with a number that is to be
+named, returns a status, so it has to bear the mark that it must be looked at, and no other call may.
 
 exports.py HEADER SOURCES: prints a line for each difference, and then how many calls agree.
 """
@@ -24,6 +24,8 @@ SLICES = {
     "&mut [Component]": ("typed_path_component *", "count"),
 }
 MARK = "TYPED_PATH_MUST_USE "
+# The first parameter of a call that returns a status.
+TAKEN_BY_STATUSES = [(it, "uint32_t") for it in ("dialect", "status", "kind")]
 # These have the same fields on either side.
 STRUCTS = {
     "typed_path_span": "Span", "typed_path_component": "Component", "typed_path_reading": "Unread",
@@ -60,7 +62,7 @@ def exported(sources):
                 wanted += [(word, pointer), (f"{word}_{behind}", "size_t")]
             elif kind != "Global":
                 wanted.append((word, PLAIN.get(kind, kind)))
-        mark = MARK if wanted[:1] == [("dialect", "uint32_t")] else ""
+        mark = MARK if wanted and wanted[0] in TAKEN_BY_STATUSES else ""
         calls[name] = mark + PLAIN.get(result, result), wanted
     return calls
 

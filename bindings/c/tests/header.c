@@ -17,6 +17,7 @@ int main(void) {
     typed_path_place place = {0, 0};
     bool answer = false;
     uint64_t hashes[2] = {0, 0};
+    char text[TYPED_PATH_TEXT_BOUND];
     if (typed_path_version() != TYPED_PATH_VERSION || !is_put("/srv", "a/b", "/srv/a/b"))
         return 1;
     if (typed_path_file_name(TYPED_PATH_UNIX, "/a/b", 4, &span) != TYPED_PATH_DONE || span.start != 3)
@@ -32,6 +33,11 @@ int main(void) {
     if (typed_path_push_place(TYPED_PATH_UNIX, "a", 1, "b", 1, &place) != TYPED_PATH_DONE || place.kept != 1
         || place.separator != '/')
         return 8;
+    if (typed_path_check(TYPED_PATH_UNIX, "a/../..", 7) != TYPED_PATH_PATH_TRAVERSAL_ATTACK)
+        return 9;
+    if (typed_path_status_text(TYPED_PATH_DEVICE, text, sizeof text, &span.length) != TYPED_PATH_DONE
+        || span.length != strlen(text))
+        return 10;
     if (typed_path_hash(TYPED_PATH_UNIX, "a", 1, &hashes[0]) != TYPED_PATH_DONE
         || typed_path_hash_keyed(TYPED_PATH_UNIX, 1, 2, "a", 1, &hashes[1]) != TYPED_PATH_DONE
         || hashes[0] == hashes[1])

@@ -7,9 +7,12 @@
 
 const Call CALLS[] = {
     {.name = "join", .put_of = typed_path_join},
-    {.name = "join_checked", .put_of = typed_path_join_checked},
+    {.name = "join_checked", .put_of = typed_path_join_checked, .batch = typed_path_join_checked_batch},
+    {.name = "join_portable", .put_of = typed_path_join_portable, .batch = typed_path_join_portable_batch},
+    {.name = "resolve_checked", .put_of = typed_path_resolve_checked},
     {.name = "with_file_name", .put_of = typed_path_with_file_name},
     {.name = "with_extension", .put_of = typed_path_with_extension},
+    {.name = "with_added_extension", .put_of = typed_path_with_added_extension},
     {.name = "normalize", .put = typed_path_normalize},
     {.name = "clean", .put = typed_path_clean},
     {.name = "relative_to", .put_of = typed_path_relative_to},
@@ -20,12 +23,19 @@ const Call CALLS[] = {
     {.name = "parent", .part = typed_path_parent},
     {.name = "file_name", .part = typed_path_file_name},
     {.name = "file_stem", .part = typed_path_file_stem},
+    {.name = "file_prefix", .part = typed_path_file_prefix},
     {.name = "extension", .part = typed_path_extension},
     {.name = "strip_prefix", .part_of = typed_path_strip_prefix},
+    {.name = "common_ancestor", .part_of = typed_path_common_ancestor},
+    {.name = "simplified", .part = typed_path_simplified},
+    {.name = "check", .judge = typed_path_check},
+    {.name = "check_portable", .judge = typed_path_check_portable},
     {.name = "is_absolute", .ask = typed_path_is_absolute},
     {.name = "has_root", .ask = typed_path_has_root},
     {.name = "is_valid", .ask = typed_path_is_valid},
     {.name = "is_valid_name", .ask = typed_path_is_valid_name},
+    {.name = "is_portable", .ask = typed_path_is_portable},
+    {.name = "may_be_device", .ask = typed_path_may_be_device},
     {.name = "keeps_prefix", .ask = typed_path_keeps_prefix},
     {.name = "starts_with", .ask_of = typed_path_starts_with},
     {.name = "ends_with", .ask_of = typed_path_ends_with},
@@ -44,7 +54,8 @@ size_t row_count;
 
 static const char *const STATUSES[] = {
     "DONE", "INVALID_FILENAME", "PATH_TRAVERSAL_ATTACK", "UNEXPECTED_PREFIX", "UNEXPECTED_ROOT", "OUT_OF_MEMORY",
-    "TOO_SMALL", "BAD_DIALECT", "NONE", "AMBIGUOUS", "BAD_ENDS", "BAD_READING",
+    "TOO_SMALL", "BAD_DIALECT", "NONE", "AMBIGUOUS", "BAD_ENDS", "BAD_READING", "HAS_PREFIX", "FORBIDDEN", "DEVICE",
+    "ENDING", "TOO_LONG", "NOT_TEXT",
 };
 static const char *const KINDS[] = {
     "root", "current", "parent", "normal", "Verbatim", "VerbatimUNC", "VerbatimDisk", "DeviceNS", "UNC", "Disk",
@@ -149,7 +160,9 @@ size_t bound_of(const Call *call, Text path, Text other) {
         return TYPED_PATH_NORMALIZE_BOUND(path.length);
     if (call->put_in)
         return TYPED_PATH_CONVERT_BOUND(path.length);
-    if (call->put_of == typed_path_with_extension)
+    if (call->put_of == typed_path_resolve_checked)
+        return TYPED_PATH_RESOLVE_BOUND(path.length, other.length);
+    if (call->put_of == typed_path_with_extension || call->put_of == typed_path_with_added_extension)
         return TYPED_PATH_EXTENSION_BOUND(path.length, other.length);
     if (call->put_of == typed_path_relative_to)
         return TYPED_PATH_RELATIVE_BOUND(path.length, other.length);
@@ -266,6 +279,8 @@ uint32_t told_by(
         status = call->ask ? call->ask(row->dialect, path.bytes, path.length, answer)
             : call->ask_of(row->dialect, path.bytes, path.length, other.bytes, other.length, answer);
         *len = (size_t)sprintf(out, "%s", *answer ? "true" : "false");
+    } else if (call->judge) {
+        status = call->judge(row->dialect, path.bytes, path.length);
     } else if (strcmp(call->name, "derive") == 0) {
         status = TYPED_PATH_DONE;
         *len = (size_t)sprintf(out, "%s", typed_path_derive(path.bytes, path.length) ? "windows" : "unix");

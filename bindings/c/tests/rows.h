@@ -15,9 +15,13 @@ typedef uint32_t PutIn(uint32_t, const char *, size_t, uint32_t, char *, size_t,
 typedef uint32_t Part(uint32_t, const char *, size_t, typed_path_span *);
 typedef uint32_t PartOf(uint32_t, const char *, size_t, const char *, size_t, typed_path_span *);
 typedef uint32_t Ask(uint32_t, const char *, size_t, bool *);
+typedef uint32_t Judge(uint32_t, const char *, size_t);
+typedef uint32_t BatchOf(
+    uint32_t, const char *, size_t, const char *, size_t, const size_t *, size_t, char *, size_t, size_t *, size_t,
+    uint32_t *, size_t, size_t *);
 typedef uint32_t AskOf(uint32_t, const char *, size_t, const char *, size_t, bool *);
 
-/* A call, by the one of the members that it is. What else there is has none. */
+/* A call, by the one of the members that it is, and its batch if it has one. What else there is has none. */
 typedef struct Call {
     const char *name;
     Put *put;
@@ -27,6 +31,8 @@ typedef struct Call {
     PartOf *part_of;
     Ask *ask;
     AskOf *ask_of;
+    Judge *judge;
+    BatchOf *batch;
 } Call;
 
 typedef struct Row {

@@ -28,7 +28,11 @@ REFUSALS = {
 # What a call returns where there is no such part.
 NONE = {"file_name": "", "file_stem": "", "extension": None}
 # What the package has no call for.
-CALLS_OF_C = {"is_valid_name", "key_words", "prefix_names", "push_place"}
+CALLS_OF_C = {
+    "is_valid_name", "key_words", "prefix_names", "push_place", "check", "check_portable", "is_portable",
+    "may_be_device", "join_portable", "resolve_checked", "with_added_extension", "file_prefix", "common_ancestor",
+    "simplified",
+}
 # What the library takes for another name or extension, and Python refuses.
 NO_NAMES = [
     ("with_file_name", b"a/b", b""), ("with_file_name", b"a/b", b"/x"), ("with_file_name", b"a/b", b".."),

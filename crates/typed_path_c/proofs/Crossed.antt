@@ -1,18 +1,20 @@
 -- A checked conversion is put, or refused, as its definition has it; and answers that fit into their bounds.
-use Rattle.std.proofs.Common.{arith, ◌≡◌, ◌≤◌, ◌+◌, ◌*◌, ℕ, List, length, Result, Ok, Err, Option, Some, None, IfSome, refl, sym, subst, ⊎_elim, IfOk, MatchResult}
+use Rattle.std.proofs.Common.{arith, ◌≡◌, ◌≤◌, ◌+◌, ◌*◌, ℕ, List, [], ◌∷◌, length, length-take, Result, Ok, Err, Option, Some, None, IfSome, refl, sym, subst, ⊎_elim, IfOk, MatchResult}
 use Rattle.std.proofs.lemmas.Bool.{cases_lt}
+use Rattle.std.proofs.lemmas.List.{length-append}
 use Rattle.typed_path.specs.declared.errors.CheckedPathError.{CheckedPathError}
 use Rattle.typed_path.specs.declared.errors.AbsolutizeError.{AbsolutizeError}
 use Rattle.typed_path.specs.declared.errors.AbsolutizeError.TheVariants as absolute
 use Rattle.typed_path.specs.declared.errors.PathError.{PathError}
 use Rattle.typed_path.specs.declared.errors.PathError.TheVariants.{Checked, OutOfMemory}
-use Rattle.typed_path.specs.changes.Checked.{refusal}
+use Rattle.typed_path.specs.changes.{push, refusal, with_added_extension}
 use Rattle.typed_path_c.specs.Answers.{too_small, path_status, absolute_status, IsPut, IsRefused, IsMade, IsCrossed, IsFound}
 use Rattle.typed_path.specs.components.{Dialect}
 use Rattle.typed_path.specs.conversions.{absolute_from}
-use Rattle.typed_path.specs.places.{relative_text}
+use Rattle.typed_path.specs.places.{clean_text, relative_text}
+use Rattle.typed_path.proofs.lemmas.changes.Lengths.{push_length}
 use Rattle.typed_path.proofs.lemmas.changes.PushLengths.{absolute_known}
-use Rattle.typed_path.proofs.lemmas.places.CleanLengths.{relative_text_length}
+use Rattle.typed_path.proofs.lemmas.places.CleanLengths.{clean_text_length, relative_text_length}
 
 module _ (old new : List ℕ) (told len status : ℕ) where
   put-made : (answer : List ℕ) → IsPut answer old new len status → IsMade answer old told new len status
@@ -29,6 +31,15 @@ module _ (old new : List ℕ) (told len status : ℕ) where
       subst (λ a. IsCrossed a old told new len status) (sym (why e refl)) (kept, λ no. st)
   made_crossed bytes (Err OutOfMemory) (Ok a) is why (st, kept) = (λ e. kept, λ no. absurd (no st))
   made_crossed bytes (Err OutOfMemory) (Err e) is why (st, kept) = (kept, λ no. absurd (no st))
+
+-- a path with one extension more has one byte more than both at the most
+pub with_added_extension_length : (d : Dialect) (t ext : List ℕ) → length (with_added_extension d t ext) ≤ length t + length ext + 1
+with_added_extension_length d t [] = omega arith
+with_added_extension_length d t (b ∷ bs) = grind (arith, length-append, length-take)
+
+-- and the clean path of a join four
+pub resolved_length : (d : Dialect) (base path : List ℕ) → length (clean_text d (push d base path)) ≤ length base + length path + 4
+resolved_length d base path = omega (arith, clean_text_length d (push d base path), push_length d base path)
 
 -- an answer of no more bytes than a buffer has is never too long for it
 pub never_small : (answer old new : List ℕ) (len status bound : ℕ) → IsPut answer old new len status → length answer ≤ bound → bound ≤ length old → status ≡ too_small → ⊥

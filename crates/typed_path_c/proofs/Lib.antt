@@ -3,3 +3,4 @@ pub mod Crossed
 pub mod Spans
 pub mod Stepped
 pub mod Placed
+pub mod Held

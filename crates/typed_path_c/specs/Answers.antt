@@ -1,5 +1,5 @@
 -- What a call tells across the boundary: a status, an answer in a buffer, and its length.
-use Rattle.std.specs.Prelude.{◌≡◌, ◌≤◌, ◌<◌, ℕ, zero, suc, List, [], ◌∷◌, ◌++◌, length, take, drop, Option, Some, None, Result, Ok, Err, IfOk, IsOk, MatchOption, Bool, false, fold, ℤ, pos, negsuc}
+use Rattle.std.specs.Prelude.{◌≡◌, ◌≤◌, ◌<◌, ℕ, zero, suc, List, [], ◌∷◌, ◌++◌, length, take, drop, Option, Some, None, Result, Ok, Err, IfOk, IsOk, MatchOption, Bool, false, true, fold, ℤ, pos, negsuc}
 use Rattle.std.specs.declared.cmp.Ordering.{Ordering}
 use Rattle.std.specs.declared.cmp.Ordering.TheVariants.{Less, Equal, Greater}
 use Rattle.std.specs.Hash.DefaultHasher as sip
@@ -7,16 +7,21 @@ use Rattle.typed_path.specs.order.{key_bytes, key_words}
 use Rattle.typed_path.specs.components.{Dialect, unix, windows}
 use Rattle.typed_path.specs.declared.errors.CheckedPathError.{CheckedPathError}
 use Rattle.typed_path.specs.declared.errors.CheckedPathError.TheVariants.{InvalidFilename, PathTraversalAttack, UnexpectedPrefix, UnexpectedRoot}
+use Rattle.typed_path.specs.declared.errors.PortableError.{PortableError}
+use Rattle.typed_path.specs.declared.errors.PortableError.TheVariants.{Prefix, Forbidden, Device, Ending, TooLong, NotText}
+use Rattle.typed_path.specs.declared.errors.JoinError.{JoinError}
+use Rattle.typed_path.specs.declared.errors.JoinError.TheVariants as join
+use Rattle.typed_path.specs.declared.errors.JoinError.TheVariants.{Portable}
 use Rattle.typed_path.specs.declared.errors.PathError.{PathError}
 use Rattle.typed_path.specs.declared.errors.PathError.TheVariants as path
 use Rattle.typed_path.specs.declared.errors.PathError.TheVariants.{Checked}
 use Rattle.typed_path.specs.declared.errors.AbsolutizeError.{AbsolutizeError}
 use Rattle.typed_path.specs.declared.errors.AbsolutizeError.TheVariants as absolute
 use Rattle.typed_path.specs.declared.errors.AbsolutizeError.TheVariants.{Ambiguous}
-use Rattle.typed_path.specs.changes.{push, fault}
+use Rattle.typed_path.specs.changes.{push}
 use Rattle.typed_path.specs.conversions.Convert.{converted, converted_checked, absolute_from}
 use Rattle.typed_path.specs.places.{relative_text}
-use Rattle.typed_path.specs.promises.{HasPrefixOf, LiesWithin, LiesBelow, StaysWithin}
+use Rattle.typed_path.specs.promises.{HasPrefixOf, LiesWithin, LiesBelow, StaysWithin, keeps_prefix}
 
 -- the dialect that a number names
 abbrev pub dialect_named : ℕ → Option Dialect
@@ -33,6 +38,14 @@ fault_status InvalidFilename = 1
 fault_status PathTraversalAttack = 2
 fault_status UnexpectedPrefix = 3
 fault_status UnexpectedRoot = 4
+
+abbrev pub portable_status : PortableError → ℕ
+portable_status Prefix = 12
+portable_status Forbidden = 13
+portable_status Device = 14
+portable_status Ending = 15
+portable_status TooLong = 16
+portable_status NotText = 17
 
 abbrev pub out_of_memory : ℕ
 out_of_memory = 5
@@ -85,20 +98,41 @@ Makes number answer old told new len status =
     (λ d. IsMade (answer d) old told new len status)
 
 -- an answer is put, or it is told what it is refused for, and nothing changes
-abbrev pub IsChecked : Option CheckedPathError → List ℕ → List ℕ → ℕ → List ℕ → ℕ → ℕ → Type 0
-IsChecked refused answer old told new len status =
-    MatchOption refused (IsMade answer old told new len status) (λ e. (status ≡ fault_status e) × IsKept old told new len)
+abbrev pub IsChecked : {E : Type 0} → (E → ℕ) → Option E → List ℕ → List ℕ → ℕ → List ℕ → ℕ → ℕ → Type 0
+IsChecked told_by refused answer old told new len status =
+    MatchOption refused (IsMade answer old told new len status) (λ e. (status ≡ told_by e) × IsKept old told new len)
 
--- a path with another pushed onto it, unless that has a component that offends
-abbrev pub Joins : ℕ → List ℕ → List ℕ → List ℕ → ℕ → List ℕ → ℕ → ℕ → Type 0
-Joins number base path old told new len status =
+-- the same of an answer and a refusal for each dialect, and for a number that names none
+abbrev pub Joins : {E : Type 0} → ℕ → (E → ℕ) → (Dialect → Option E) → (Dialect → List ℕ) → List ℕ → ℕ → List ℕ → ℕ → ℕ → Type 0
+Joins number told_by refused answer old told new len status =
     MatchOption (dialect_named number) ((status ≡ bad_dialect) × IsKept old told new len)
-    (λ d. IsChecked (fault d path) (push d base path) old told new len status)
+    (λ d. IsChecked told_by (refused d) (answer d) old told new len status)
 
--- what was put has the prefix of the base, and lies within it
+-- a path that is joined to a base has the prefix of it, and lies within it
+abbrev pub IsHeld : Dialect → List ℕ → List ℕ → List ℕ → Type 0
+IsHeld d base path joined = HasPrefixOf d base joined × LiesWithin d base path joined × LiesBelow d base joined × StaysWithin d base joined
+
+-- what was put does
 abbrev pub LiesIn : ℕ → List ℕ → List ℕ → ℕ → List ℕ → ℕ → Type 0
-LiesIn number base path status new len = (d : Dialect) → dialect_named number ≡ Some d → status ≡ done
-    → HasPrefixOf d base (take len new) × LiesWithin d base path (take len new) × LiesBelow d base (take len new) × StaysWithin d base (take len new)
+LiesIn number base path status new len = (d : Dialect) → dialect_named number ≡ Some d → status ≡ done → IsHeld d base path (take len new)
+
+-- the same where the base keeps its prefix
+abbrev pub LiesInKept : ℕ → List ℕ → List ℕ → ℕ → List ℕ → ℕ → Type 0
+LiesInKept number base path status new len =
+    (d : Dialect) → dialect_named number ≡ Some d → status ≡ done → keeps_prefix d base ≡ true → IsHeld d base path (take len new)
+
+-- a path that was accepted is held by each base
+abbrev pub IsHeldByEach : ℕ → List ℕ → ℕ → Type 0
+IsHeldByEach number path status = (d : Dialect) (base : List ℕ) → dialect_named number ≡ Some d → status ≡ done → IsHeld d base path (push d base path)
+
+-- the status of a fault, or that there is none
+abbrev pub status_by : {E : Type 0} → (E → ℕ) → Option E → ℕ
+status_by status None = done
+status_by status (Some e) = status e
+
+-- a path is judged, and nothing else is told
+abbrev pub Judges : ℕ → (Dialect → ℕ) → ℕ → Type 0
+Judges number judged status = MatchOption (dialect_named number) (status ≡ bad_dialect) (λ d. status ≡ judged d)
 
 -- a path in another dialect
 abbrev pub Converts : ℕ → ℕ → List ℕ → List ℕ → ℕ → List ℕ → ℕ → ℕ → Type 0
@@ -128,6 +162,11 @@ Absolutizes number directory path old told new len status =
 abbrev pub path_status : PathError → ℕ
 path_status (Checked e) = fault_status e
 path_status path.OutOfMemory = out_of_memory
+
+abbrev pub join_status : JoinError → ℕ
+join_status (Portable e) = portable_status e
+join_status (join.Checked e) = fault_status e
+join_status join.OutOfMemory = out_of_memory
 
 abbrev pub absolute_status : AbsolutizeError → ℕ
 absolute_status Ambiguous = ambiguous

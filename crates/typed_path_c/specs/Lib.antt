@@ -4,3 +4,4 @@ pub mod Parts
 pub mod HasherViews
 pub mod Steps
 pub mod Places
+pub mod Texts

@@ -5,7 +5,8 @@ use Rattle.typed_path.specs.components.Dialects.{Dialect}
 use Rattle.typed_path.specs.components.Parts.{Prefix, verbatim, verbatim_unc, verbatim_disk, device_ns, unc, disk, Kind, prefix, root, current, parent, normal, Placed, end_of, is_name}
 use Rattle.typed_path.specs.components.Comps.{comps}
 use Rattle.typed_path.specs.queries.Queries.{parent_of, extension, stripped}
-use Rattle.typed_path.specs.queries.Names.{stem_of}
+use Rattle.typed_path.specs.queries.Names.{first_stem_of, stem_of}
+use Rattle.typed_path.specs.queries.{common_ancestor_of, simplified_text}
 use Rattle.typed_path.specs.scan.Left.{first_of, last_of}
 use Rattle.typed_path.specs.views.PieceViews.{part_of}
 use Rattle.typed_path_c.specs.declared.parts.Last.{Last}
@@ -21,15 +22,26 @@ last_name d t = option_and_then (λ last. if is_name last.part.kind then Some la
 abbrev pub last_view : Last → Placed
 last_view l = record { part = part_of l.piece; start = l.start }
 
+-- the place of a front, by its text
+abbrev pub front_place : List ℕ → ℕ × ℕ
+front_place front = (0, length front)
+
+-- that of a part of the file name, at its front
+abbrev pub name_place : (List ℕ → List ℕ) → Dialect → List ℕ → Option (ℕ × ℕ)
+name_place part d t = option_map (λ last. (last.start, length (part last.part.text))) (last_name d t)
+
 -- the places of the parts
 abbrev pub parent_place : Dialect → List ℕ → Option (ℕ × ℕ)
-parent_place d t = option_map (λ p. (0, length p)) (parent_of d t)
+parent_place d t = option_map front_place (parent_of d t)
 
 abbrev pub file_name_place : Dialect → List ℕ → Option (ℕ × ℕ)
 file_name_place d t = option_map (λ last. (last.start, length last.part.text)) (last_name d t)
 
 abbrev pub file_stem_place : Dialect → List ℕ → Option (ℕ × ℕ)
-file_stem_place d t = option_map (λ last. (last.start, length (stem_of last.part.text))) (last_name d t)
+file_stem_place = name_place stem_of
+
+abbrev pub file_prefix_place : Dialect → List ℕ → Option (ℕ × ℕ)
+file_prefix_place = name_place first_stem_of
 
 -- where the last component ends
 abbrev pub last_end : Dialect → List ℕ → ℕ
@@ -37,6 +49,12 @@ last_end d t = unwrap_or (option_map end_of (last_of (comps d t))) 0
 
 abbrev pub extension_place : Dialect → List ℕ → Option (ℕ × ℕ)
 extension_place d t = option_map (λ e. (last_end d t - length e, length e)) (extension d t)
+
+abbrev pub common_place : Dialect → List ℕ → List ℕ → Option (ℕ × ℕ)
+common_place d t other = option_map front_place (common_ancestor_of d t other)
+
+abbrev pub simplified_place : Dialect → List ℕ → Option (ℕ × ℕ)
+simplified_place d t = Some (length t - length (simplified_text d t), length (simplified_text d t))
 
 abbrev pub stripped_place : Dialect → List ℕ → List ℕ → Option (ℕ × ℕ)
 stripped_place d t base = option_map (λ rest. (length t - length rest, length rest)) (stripped d t base)

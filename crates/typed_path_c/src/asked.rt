@@ -5,11 +5,12 @@ ghost use Rattle.typed_path.specs.components.{kinds, parts_of};
 ghost use Rattle.typed_path.specs.order.{is_same, path_cmp};
 ghost use Rattle.typed_path.specs.places.{is_within};
 ghost use Rattle.typed_path.specs.promises.{keeps_prefix};
-ghost use Rattle.typed_path.specs.queries.{is_absolute, has_root, is_valid, is_valid_name, path_starts_with, path_ends_with};
+ghost use Rattle.typed_path.specs.changes.{fault};
+ghost use Rattle.typed_path.specs.queries.{is_absolute, has_root, is_portable, is_valid, is_valid_name, may_be_device, path_starts_with, path_ends_with, portable_fault};
 ghost use Rattle.typed_path.specs.typed.{derived_dialect};
-ghost use Rattle.typed_path_c.specs.Answers.{dialect_named, done, bad_dialect, order_number, Tells, Orders};
+ghost use Rattle.typed_path_c.specs.Answers.{dialect_named, done, bad_dialect, fault_status, portable_status, status_by, order_number, IsHeldByEach, Judges, Tells, Orders};
 
-use crate::status::{BAD_DIALECT, DONE, of_encoding, of_path, path_in};
+use crate::status::{BAD_DIALECT, DONE, ended, of_encoding, of_path, path_in};
 use std::cmp::Ordering;
 use typed_path::{Encoding, Path, PathType};
 
@@ -88,6 +89,46 @@ fn is_valid_name<T: Encoding>(name: &[u8]) -> bool
     ensures { result ≡ is_valid_name T.dialect name.now }
 {
     T::valid(name)
+}
+
+/// What a checked join refuses a path for, whatever it is joined to.
+#[unsafe(no_mangle)]
+pub extern "C" fn typed_path_check(dialect: u32, path: &[u8]) -> u32
+    ensures judged { Judges dialect (λ d. status_by fault_status (fault d path.now)) result }
+    ensures contained { IsHeldByEach dialect path.now result }
+{
+    of_encoding!(dialect, check(path), BAD_DIALECT)
+}
+
+/// The same of a path of one encoding.
+fn check<T: Encoding>(path: &[u8]) -> u32
+    ensures { result ≡ status_by fault_status (fault T.dialect path.now) }
+{
+    ended(T::check(path))
+}
+
+/// Why some system does not take each component of a path as it is written.
+#[unsafe(no_mangle)]
+pub extern "C" fn typed_path_check_portable(dialect: u32, path: &[u8]) -> u32
+    ensures { Judges dialect (λ d. status_by portable_status (portable_fault d path.now)) result }
+{
+    of_path!(dialect, path => ended(path.check_portable()), BAD_DIALECT)
+}
+
+/// Whether every system takes each component of a path as it is written.
+#[unsafe(no_mangle)]
+pub extern "C" fn typed_path_is_portable(dialect: u32, path: &[u8], answer: &mut bool) -> u32
+    ensures { Tells dialect (λ d. is_portable d path.now) answer.new result }
+{
+    of_path!(dialect, path => tell(path.is_portable(), answer), tell_none(answer))
+}
+
+/// Whether some version of Windows may take a name of it for a device.
+#[unsafe(no_mangle)]
+pub extern "C" fn typed_path_may_be_device(dialect: u32, path: &[u8], answer: &mut bool) -> u32
+    ensures { Tells dialect (λ d. may_be_device d path.now) answer.new result }
+{
+    of_path!(dialect, path => tell(path.may_be_device(), answer), tell_none(answer))
 }
 
 /// True only if every checked join onto it has its prefix.

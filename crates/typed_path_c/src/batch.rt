@@ -1,15 +1,24 @@
-//! Checked joins of many names onto one base.
+//! Joins of many names onto one base, by the rule of a checked join or of a portable one.
 
 ghost use Rattle.std.specs.Prelude.{◌≡◌, ◌≤◌, ◌<◌, ◌+◌, ◌++◌, ◌⊎◌, take, drop, length, IfOk, IfErr, None};
-ghost use Rattle.typed_path.specs.changes.{fault};
+ghost use Rattle.typed_path.specs.changes.Push as push_spec;
+ghost use Rattle.typed_path.specs.changes.{join_refusal};
 ghost use Rattle.typed_path.specs.typed.{typed_dialect};
-ghost use Rattle.typed_path.specs.views.TypedViews.{typed_bytes};
+ghost use Rattle.typed_path.specs.views.TypedViews.{owned_bytes, typed_bytes};
 ghost use Rattle.typed_path_c.specs.Answers.{out_of_memory, too_small};
-ghost use Rattle.typed_path_c.specs.Batch.{name_answer, name_status, IsBatch, Batches};
+ghost use Rattle.typed_path_c.specs.declared.batch.Rule.TheVariants as rules;
+ghost use Rattle.typed_path_c.specs.Batch.{name_answer, name_status, refused_by, IsBatch, Batches};
 
-use crate::status::{BAD_DIALECT, BAD_ENDS, DONE, OUT_OF_MEMORY, TOO_SMALL, path_in, status_of};
+use crate::status::{BAD_DIALECT, BAD_ENDS, DONE, OUT_OF_MEMORY, Refusal, TOO_SMALL, path_in};
 use std::alloc::Global;
-use typed_path::{PathError, TypedPath};
+use typed_path::{JoinError, TypedPath, TypedPathBuf};
+
+/// What refuses a name: the checked join alone, or the portable one.
+#[derive(Clone, Copy)]
+enum Rule {
+    Checked,
+    Portable,
+}
 
 /// Where the answer to a name ends, and its status.
 #[derive(Clone, Copy)]
@@ -31,19 +40,82 @@ pub extern "C" fn typed_path_join_checked_batch(
     statuses: &mut [u32],
     done: &mut usize,
 ) -> u32
-    ensures { Batches dialect base.now names.now ends.now out.old out.new out_ends.old out_ends.new
+    ensures { Batches rules.Checked dialect base.now names.now ends.now out.old out.new out_ends.old out_ends.new
+        statuses.old statuses.new done.new result }
+{
+    join_batch(
+        alloc,
+        Rule::Checked,
+        dialect,
+        base,
+        names,
+        ends,
+        out,
+        out_ends,
+        statuses,
+        done,
+    )
+}
+
+/// The same for portable names alone.
+#[unsafe(no_mangle)]
+pub extern "C" fn typed_path_join_portable_batch(
+    alloc: Global,
+    dialect: u32,
+    base: &[u8],
+    names: &[u8],
+    ends: &[usize],
+    out: &mut [u8],
+    out_ends: &mut [usize],
+    statuses: &mut [u32],
+    done: &mut usize,
+) -> u32
+    ensures { Batches rules.Portable dialect base.now names.now ends.now out.old out.new out_ends.old out_ends.new
+        statuses.old statuses.new done.new result }
+{
+    join_batch(
+        alloc,
+        Rule::Portable,
+        dialect,
+        base,
+        names,
+        ends,
+        out,
+        out_ends,
+        statuses,
+        done,
+    )
+}
+
+/// The same by a rule.
+fn join_batch(
+    alloc: Global,
+    rule: Rule,
+    dialect: u32,
+    base: &[u8],
+    names: &[u8],
+    ends: &[usize],
+    out: &mut [u8],
+    out_ends: &mut [usize],
+    statuses: &mut [u32],
+    done: &mut usize,
+) -> u32
+    ensures { Batches rule dialect base.now names.now ends.now out.old out.new out_ends.old out_ends.new
         statuses.old statuses.new done.new result }
 {
     *done = 0;
-    match path_in(dialect, base) {
-        Some(base) => join_each(alloc, base, names, ends, out, out_ends, statuses, done),
-        None => BAD_DIALECT,
-    }
+    let Some(base) = path_in(dialect, base) else {
+        return BAD_DIALECT;
+    };
+    join_each(
+        alloc, rule, base, names, ends, out, out_ends, statuses, done,
+    )
 }
 
 /// The same onto a path.
 fn join_each(
     alloc: Global,
+    rule: Rule,
     base: TypedPath<'_>,
     names: &[u8],
     ends: &[usize],
@@ -53,7 +125,7 @@ fn join_each(
     done: &mut usize,
 ) -> u32
     requires { done.old ≡ 0 }
-    ensures { IsBatch (typed_dialect base.entry) (typed_bytes base.entry) names.now ends.now
+    ensures { IsBatch rule (typed_dialect base.entry) (typed_bytes base.entry) names.now ends.now
         out.old out.new out_ends.old out_ends.new statuses.old statuses.new done.new result }
 {
     let mut start = 0;
@@ -66,7 +138,7 @@ fn join_each(
         if out_ends.len() <= *done || statuses.len() <= *done {
             return TOO_SMALL;
         }
-        match join_one(alloc, base, &names[start..end], out, at) {
+        match join_one(alloc, rule, base, &names[start..end], out, at) {
             Ok(joined) => {
                 out_ends[*done] = joined.end;
                 statuses[*done] = joined.status;
@@ -83,26 +155,27 @@ fn join_each(
 /// Joins one name onto a path, and puts the answer behind the first bytes of a buffer.
 fn join_one(
     alloc: Global,
+    rule: Rule,
     base: TypedPath<'_>,
     name: &[u8],
     out: &mut [u8],
     at: usize,
 ) -> Result<Joined, u32>
     requires { at ≤ length out.old }
-    ensures status { IfOk result (λ j. j.status ≡ name_status (typed_dialect base.entry) name.now) }
+    ensures status { IfOk result (λ j. j.status ≡ name_status rule (typed_dialect base.entry) name.now) }
     ensures end { IfOk result (λ j. j.end
-        ≡ at + length (name_answer (typed_dialect base.entry) (typed_bytes base.entry) name.now)) }
+        ≡ at + length (name_answer rule (typed_dialect base.entry) (typed_bytes base.entry) name.now)) }
     ensures within { IfOk result (λ j. j.end ≤ length out.old) }
     ensures put { IfOk result (λ j. out.new ≡ take at out.old
-        ++ name_answer (typed_dialect base.entry) (typed_bytes base.entry) name.now
+        ++ name_answer rule (typed_dialect base.entry) (typed_bytes base.entry) name.now
         ++ drop j.end out.old) }
     ensures kept { IfErr result (λ _. out.new ≡ out.old) }
     ensures why { IfErr result (λ why.
-        ((why ≡ out_of_memory) × (fault (typed_dialect base.entry) name.now ≡ None))
+        ((why ≡ out_of_memory) × (refused_by rule (typed_dialect base.entry) name.now ≡ None))
         ⊎ ((why ≡ too_small) × (length out.old
-        < at + length (name_answer (typed_dialect base.entry) (typed_bytes base.entry) name.now)))) }
+        < at + length (name_answer rule (typed_dialect base.entry) (typed_bytes base.entry) name.now)))) }
 {
-    match base.join_checked(alloc, name) {
+    match join_by(alloc, rule, base, name) {
         Ok(path) => {
             let answer = path.as_bytes();
             if out.len() - at < answer.len() {
@@ -112,10 +185,27 @@ fn join_one(
             out[at..end].copy_from_slice(answer);
             Ok(Joined { end, status: DONE })
         }
-        Err(PathError::Checked(fault)) => Ok(Joined {
+        Err(JoinError::OutOfMemory) => Err(OUT_OF_MEMORY),
+        Err(refusal) => Ok(Joined {
             end: at,
-            status: status_of(fault),
+            status: refusal.status(),
         }),
-        Err(PathError::OutOfMemory) => Err(OUT_OF_MEMORY),
+    }
+}
+
+/// The path with a name pushed onto it, unless the rule refuses that.
+fn join_by(
+    alloc: Global,
+    rule: Rule,
+    base: TypedPath<'_>,
+    name: &[u8],
+) -> Result<TypedPathBuf, JoinError>
+    ensures refused { join_refusal result ≡ refused_by rule (typed_dialect base.entry) name.now }
+    ensures joined { IfOk result (λ p. owned_bytes p
+        ≡ push_spec.push (typed_dialect base.entry) (typed_bytes base.entry) name.now) }
+{
+    match rule {
+        Rule::Checked => Ok(base.join_checked(alloc, name)?),
+        Rule::Portable => base.join_portable(alloc, name),
     }
 }

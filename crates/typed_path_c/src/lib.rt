@@ -15,11 +15,12 @@ mod parts;
 mod place;
 mod status;
 mod steps;
+mod texts;
 
 /// The version of the library: a part of two digits each for major, minor and patch.
 #[unsafe(no_mangle)]
 pub extern "C" fn typed_path_version() -> u32
-    ensures { result ≡ 100 }
+    ensures { result ≡ 101 }
 {
-    100
+    101
 }

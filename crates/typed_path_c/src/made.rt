@@ -1,18 +1,18 @@
 //! Paths that are made of others, and put into a buffer of the caller.
-#![tactic(auto, using(typed_path::proofs::lemmas::texts::TextChanges::text_laws, typed_path::proofs::lemmas::texts::TextClean::clean_laws, typed_path::proofs::lemmas::texts::TextClean::relative_laws, crate::proofs::Crossed::never_small, typed_path::proofs::lemmas::changes::Lengths::push_length, typed_path::proofs::lemmas::changes::Lengths::with_extension_length, typed_path::proofs::lemmas::changes::Lengths::with_file_name_length, typed_path::proofs::lemmas::changes::PushLengths::normal_text_length, typed_path::proofs::lemmas::changes::PushLengths::converted_length, typed_path::proofs::lemmas::changes::PushLengths::checked_known, typed_path::proofs::lemmas::places::CleanLengths::clean_text_length))]
+#![tactic(auto, using(typed_path::proofs::lemmas::texts::TextChanges::text_laws, typed_path::proofs::lemmas::texts::TextClean::clean_laws, typed_path::proofs::lemmas::texts::TextClean::relative_laws, crate::proofs::Crossed::never_small, typed_path::proofs::lemmas::changes::Lengths::push_length, typed_path::proofs::lemmas::changes::Lengths::with_extension_length, crate::proofs::Crossed::with_added_extension_length, crate::proofs::Crossed::resolved_length, typed_path::proofs::lemmas::changes::Lengths::with_file_name_length, typed_path::proofs::lemmas::changes::PushLengths::normal_text_length, typed_path::proofs::lemmas::changes::PushLengths::converted_length, typed_path::proofs::lemmas::changes::PushLengths::checked_known, typed_path::proofs::lemmas::places::CleanLengths::clean_text_length))]
 
-ghost use Rattle.std.specs.Prelude.{◌≡◌, ◌+◌, ◌*◌, true, take, length};
+ghost use Rattle.std.specs.Prelude.{◌≡◌, ◌+◌, ◌*◌, IfOk, true, take, length};
 ghost use Rattle.std.specs.Str.{is_utf8};
 ghost use Rattle.typed_path.specs.changes.Push as push_spec;
-ghost use Rattle.typed_path.specs.changes.{with_file_name, with_extension};
+ghost use Rattle.typed_path.specs.changes.{fault, join_fault, refusal, with_added_extension, with_extension, with_file_name};
 ghost use Rattle.typed_path.specs.places.{clean_text, normal_text};
-ghost use Rattle.typed_path_c.specs.Answers.{done, Makes, Joins, LiesIn, Leads, Converts, Crosses, Absolutizes, Suffices};
+ghost use Rattle.typed_path.specs.typed.{typed_dialect};
+ghost use Rattle.typed_path.specs.views.TypedViews.{owned_bytes, typed_bytes};
+ghost use Rattle.typed_path_c.specs.Answers.{done, fault_status, join_status, Makes, Joins, LiesIn, LiesInKept, Leads, Converts, Crosses, Absolutizes, Suffices};
 
-use crate::status::{
-    BAD_DIALECT, of_path, path_in, put_absolute, put_checked, put_crossed, put_found, put_made,
-};
+use crate::status::{BAD_DIALECT, of_path, path_in, put_crossed, put_found, put_made};
 use std::alloc::Global;
-use typed_path::PlatformPath;
+use typed_path::{PathError, PlatformPath, TypedPath, TypedPathBuf};
 
 /// Puts a path with another pushed onto it.
 #[unsafe(no_mangle)]
@@ -43,12 +43,61 @@ pub extern "C" fn typed_path_join_checked(
     out: &mut [u8],
     len: &mut usize,
 ) -> u32
-    ensures joined { Joins dialect path.now other.now out.old len.old out.new len.new result }
+    ensures joined { Joins dialect fault_status (λ d. fault d other.now)
+        (λ d. push_spec.push d path.now other.now) out.old len.old out.new len.new result }
     ensures contained { LiesIn dialect path.now other.now result out.new len.new }
     ensures fits { Suffices (length path.now + length other.now + 3) out.old result }
     ensures text { is_utf8 path.now ≡ true → is_utf8 other.now ≡ true → result ≡ done → is_utf8 (take len.new out.new) ≡ true }
 {
-    of_path!(dialect, path => put_checked(path.join_checked(alloc, other), out, len), BAD_DIALECT)
+    of_path!(dialect, path => put_made(path.join_checked(alloc, other), out, len), BAD_DIALECT)
+}
+
+/// Puts a path with a portable one pushed onto it, unless that has a component that offends.
+#[unsafe(no_mangle)]
+pub extern "C" fn typed_path_join_portable(
+    alloc: Global,
+    dialect: u32,
+    path: &[u8],
+    other: &[u8],
+    out: &mut [u8],
+    len: &mut usize,
+) -> u32
+    ensures joined { Joins dialect join_status (λ d. join_fault d other.now)
+        (λ d. push_spec.push d path.now other.now) out.old len.old out.new len.new result }
+    ensures contained { LiesIn dialect path.now other.now result out.new len.new }
+    ensures fits { Suffices (length path.now + length other.now + 3) out.old result }
+    ensures text { is_utf8 path.now ≡ true → is_utf8 other.now ≡ true → result ≡ done → is_utf8 (take len.new out.new) ≡ true }
+{
+    of_path!(dialect, path => put_made(path.join_portable(alloc, other), out, len), BAD_DIALECT)
+}
+
+/// Puts the clean path of a checked join, unless that is refused.
+#[unsafe(no_mangle)]
+pub extern "C" fn typed_path_resolve_checked(
+    alloc: Global,
+    dialect: u32,
+    path: &[u8],
+    other: &[u8],
+    out: &mut [u8],
+    len: &mut usize,
+) -> u32
+    ensures resolved { Joins dialect fault_status (λ d. fault d other.now)
+        (λ d. clean_text d (push_spec.push d path.now other.now)) out.old len.old out.new len.new result }
+    ensures contained { LiesInKept dialect path.now other.now result out.new len.new }
+    ensures fits { Suffices (length path.now + length other.now + 4) out.old result }
+    ensures text { is_utf8 path.now ≡ true → is_utf8 other.now ≡ true → result ≡ done → is_utf8 (take len.new out.new) ≡ true }
+{
+    of_path!(dialect, path => put_made(resolve(alloc, path, other), out, len), BAD_DIALECT)
+}
+
+/// The clean path of a checked join.
+fn resolve(alloc: Global, path: TypedPath<'_>, other: &[u8]) -> Result<TypedPathBuf, PathError>
+    ensures refused { refusal result ≡ fault (typed_dialect path.entry) other.now }
+    ensures resolved { IfOk result (λ p. owned_bytes p ≡ clean_text (typed_dialect path.entry)
+        (push_spec.push (typed_dialect path.entry) (typed_bytes path.entry) other.now)) }
+{
+    let joined = path.join_checked(alloc, other)?;
+    Ok(joined.clean(alloc)?)
 }
 
 /// Puts a path with another file name, or with the name pushed where it has none.
@@ -85,6 +134,24 @@ pub extern "C" fn typed_path_with_extension(
     ensures text { is_utf8 path.now ≡ true → is_utf8 extension.now ≡ true → result ≡ done → is_utf8 (take len.new out.new) ≡ true }
 {
     of_path!(dialect, path => put_made(path.with_extension(alloc, extension), out, len), BAD_DIALECT)
+}
+
+/// Puts a path with one extension more behind its file name.
+#[unsafe(no_mangle)]
+pub extern "C" fn typed_path_with_added_extension(
+    alloc: Global,
+    dialect: u32,
+    path: &[u8],
+    extension: &[u8],
+    out: &mut [u8],
+    len: &mut usize,
+) -> u32
+    ensures extended { Makes dialect (λ d. with_added_extension d path.now extension.now)
+        out.old len.old out.new len.new result }
+    ensures fits { Suffices (length path.now + length extension.now + 1) out.old result }
+    ensures text { is_utf8 path.now ≡ true → is_utf8 extension.now ≡ true → result ≡ done → is_utf8 (take len.new out.new) ≡ true }
+{
+    of_path!(dialect, path => put_made(path.with_added_extension(alloc, extension), out, len), BAD_DIALECT)
 }
 
 /// Puts a path without `.`, and without `..` and the names that these take away.
@@ -194,5 +261,5 @@ pub extern "C" fn typed_path_absolutize(
     ensures text { is_utf8 path.now ≡ true → is_utf8 directory.now ≡ true → result ≡ done → is_utf8 (take len.new out.new) ≡ true }
 {
     let directory = PlatformPath::new(directory);
-    of_path!(dialect, path => put_absolute(path.absolutize(alloc, directory), out, len), BAD_DIALECT)
+    of_path!(dialect, path => put_made(path.absolutize(alloc, directory), out, len), BAD_DIALECT)
 }

@@ -1,17 +1,19 @@
 //! Parts of a path, lent by their places.
 
-ghost use Rattle.std.specs.Prelude.{◌≡◌, ◌<◌, ◌^◌, length, ◌++◌, ◌∷◌, [], List, Some, drop, option_map, MatchOption};
+ghost use Rattle.std.specs.Prelude.{◌≡◌, ◌<◌, ◌^◌, ℕ, length, ◌++◌, ◌∷◌, [], List, Some, drop, option_copied, option_map, MatchOption};
 ghost use Rattle.typed_path.specs.components.{Placed, comps};
+ghost use Rattle.typed_path.specs.queries.{file_name_of};
 ghost use Rattle.typed_path.specs.scan.{first_of, last_of};
 ghost use Rattle.typed_path.specs.views.PathViews.{components_items, components_slice};
 ghost use Rattle.typed_path.specs.views.PieceViews.{part_of};
+ghost use Rattle.typed_path.specs.views.TypedViews.{typed_bytes};
 ghost use Rattle.typed_path_c.specs.declared.parts.Component.{Component};
 ghost use Rattle.typed_path_c.specs.Answers.{done, none_there};
-ghost use Rattle.typed_path_c.specs.Parts.{last_view, parent_place, file_name_place, file_stem_place, extension_place, stripped_place, Lends, kind_number, over, told, ListsIn, Lists, LendsAt, IsBehind};
+ghost use Rattle.typed_path_c.specs.Parts.{last_view, parent_place, file_name_place, file_stem_place, file_prefix_place, extension_place, stripped_place, simplified_place, common_place, front_place, name_place, Lends, kind_number, over, told, ListsIn, Lists, LendsAt, IsBehind};
 ghost use Rattle.typed_path_c.specs.Places.{Names};
 
 use crate::status::{BAD_DIALECT, DONE, NONE, TOO_SMALL, of_encoding, path_in};
-use typed_path::{Components, Encoding, Path, Piece, PieceKind, WindowsPrefix};
+use typed_path::{Components, Encoding, Path, Piece, PieceKind, TypedPath, WindowsPrefix};
 
 /// A part of the caller's path: its first byte, counted from 0, and how many bytes it has.
 #[repr(C)]
@@ -70,15 +72,20 @@ pub extern "C" fn typed_path_parent(dialect: u32, path: &[u8], span: &mut Span) 
     let Some(path) = path_in(dialect, path) else {
         return BAD_DIALECT;
     };
-    match path.parent() {
-        Some(parent) => {
-            *span = Span {
-                start: 0,
-                length: parent.as_bytes().len(),
-            };
-            DONE
-        }
-        None => NONE,
+    lend(whole_front(path.parent()), span)
+}
+
+/// Where a path stands that is the front of another.
+fn whole_front(found: Option<TypedPath<'_>>) -> Option<Span>
+    ensures { option_map (λ s. (s.start, s.length)) result
+        ≡ option_map front_place (option_map typed_bytes found.entry) }
+{
+    match found {
+        Some(front) => Some(Span {
+            start: 0,
+            length: front.as_bytes().len(),
+        }),
+        None => None,
     }
 }
 
@@ -115,13 +122,38 @@ pub extern "C" fn typed_path_file_stem(dialect: u32, path: &[u8], span: &mut Spa
 fn file_stem<T: Encoding>(path: &[u8]) -> Option<Span>
     ensures { option_map (λ s. (s.start, s.length)) result ≡ file_stem_place T.dialect path.now }
 {
-    let Some(stem) = Path::<T>::new(path).file_stem() else {
+    front::<T>(path, Path::<T>::new(path).file_stem())
+}
+
+/// The file name up to its first dot that is not its first byte.
+#[unsafe(no_mangle)]
+pub extern "C" fn typed_path_file_prefix(dialect: u32, path: &[u8], span: &mut Span) -> u32
+    ensures { Lends dialect (λ d. file_prefix_place d path.now) span.old span.new result }
+{
+    let found = of_encoding!(dialect, file_prefix(path), return BAD_DIALECT);
+    lend(found, span)
+}
+
+fn file_prefix<T: Encoding>(path: &[u8]) -> Option<Span>
+    ensures { option_map (λ s. (s.start, s.length)) result ≡ file_prefix_place T.dialect path.now }
+{
+    front::<T>(path, Path::<T>::new(path).file_prefix())
+}
+
+/// Where the front of the file name stands, by its text.
+#[inline(always)]
+fn front<T: Encoding>(path: &[u8], text: Option<&[u8]>) -> Option<Span>
+    ensures { (part : List ℕ → List ℕ)
+        → option_copied text.entry ≡ option_map part (file_name_of T.dialect path.now)
+        → option_map (λ s. (s.start, s.length)) result ≡ name_place part T.dialect path.now }
+{
+    let Some(text) = text else {
         return None;
     };
     match last_of::<T>(path) {
         Some(last) => Some(Span {
             start: last.start,
-            length: stem.len(),
+            length: text.len(),
         }),
         None => None,
     }
@@ -147,6 +179,38 @@ fn extension<T: Encoding>(path: &[u8]) -> Option<Span>
         start: end.saturating_sub(extension.len()),
         length: extension.len(),
     })
+}
+
+/// What a path has in common with another: its front up to where both begin alike.
+#[unsafe(no_mangle)]
+pub extern "C" fn typed_path_common_ancestor(
+    dialect: u32,
+    path: &[u8],
+    other: &[u8],
+    span: &mut Span,
+) -> u32
+    ensures { Lends dialect (λ d. common_place d path.now other.now) span.old span.new result }
+{
+    let Some(path) = path_in(dialect, path) else {
+        return BAD_DIALECT;
+    };
+    lend(whole_front(path.common_ancestor(other)), span)
+}
+
+/// A path without the `\\?\` in front of its drive, where that means the same; else the path itself.
+#[unsafe(no_mangle)]
+pub extern "C" fn typed_path_simplified(dialect: u32, path: &[u8], span: &mut Span) -> u32
+    ensures { Lends dialect (λ d. simplified_place d path.now) span.old span.new result }
+{
+    let Some(own) = path_in(dialect, path) else {
+        return BAD_DIALECT;
+    };
+    let length = own.simplified().as_bytes().len();
+    *span = Span {
+        start: path.len().saturating_sub(length),
+        length,
+    };
+    DONE
 }
 
 /// What is left of a path behind a base.

@@ -1,14 +1,17 @@
 //! The statuses, the dialect that a number names, and how an answer is put into a buffer.
 
+ghost use Rattle.std.proofs.Common.{rules};
 ghost use Rattle.std.specs.Prelude.{ℕ, List, Result, Ok, Err, IfOk, IsOk, Option, option_map, ◌≡◌, ◌≤◌, IfSome, IsNone, None, Some, MatchResult, take};
-ghost use Rattle.typed_path.specs.changes.{refusal};
+ghost use Rattle.typed_path.specs.changes.{error_of, refusal};
 ghost use Rattle.typed_path.specs.declared.errors.CheckedPathError.{CheckedPathError};
 ghost use Rattle.typed_path.specs.typed.{typed_dialect};
 ghost use Rattle.typed_path.specs.views.TypedViews.{typed_bytes, owned_bytes};
-ghost use Rattle.typed_path_c.specs.Answers.{dialect_named, fault_status, path_status, absolute_status, out_of_memory, done, IsPut, IsRefused, StandsAsMade, IsCrossed, IsFound};
+ghost use Rattle.typed_path_c.specs.Answers.{dialect_named, fault_status, portable_status, path_status, join_status, absolute_status, status_by, out_of_memory, done, IsPut, IsRefused, StandsAsMade, IsCrossed, IsFound};
 
 use std::alloc::AllocError;
-use typed_path::{AbsolutizeError, CheckedPathError, PathError, TypedPath, TypedPathBuf};
+use typed_path::{
+    AbsolutizeError, CheckedPathError, JoinError, PathError, PortableError, TypedPath, TypedPathBuf,
+};
 
 /// The call did what it is for.
 pub const DONE: u32 = 0;
@@ -27,15 +30,106 @@ pub const BAD_ENDS: u32 = 10;
 /// No reading of the path may stand at the numbers.
 pub const BAD_READING: u32 = 11;
 
-/// The status that names what a path is refused for.
-pub fn status_of(fault: CheckedPathError) -> u32
-    ensures { result ≡ fault_status fault }
+/// Why a call did not do what it is for.
+pub trait Refusal: Sized {
+    ghost status: { Self → ℕ };
+
+    /// The status that names it.
+    fn status(self) -> u32
+        ensures { result ≡ status self };
+
+    ghost refuses: { (e : Self) → status e ≡ done → ⊥ };
+}
+
+impl Refusal for CheckedPathError {
+    ghost status = { fault_status };
+
+    ghost refuses = { Prim.search rules };
+
+    fn status(self) -> u32 {
+        match self {
+            CheckedPathError::InvalidFilename => 1,
+            CheckedPathError::PathTraversalAttack => 2,
+            CheckedPathError::UnexpectedPrefix => 3,
+            CheckedPathError::UnexpectedRoot => 4,
+        }
+    }
+}
+
+impl Refusal for PortableError {
+    ghost status = { portable_status };
+
+    ghost refuses = { Prim.search rules };
+
+    fn status(self) -> u32 {
+        match self {
+            PortableError::Prefix => 12,
+            PortableError::Forbidden => 13,
+            PortableError::Device => 14,
+            PortableError::Ending => 15,
+            PortableError::TooLong => 16,
+            PortableError::NotText => 17,
+        }
+    }
+}
+
+impl Refusal for AllocError {
+    ghost status = { λ _. out_of_memory };
+
+    ghost refuses = { Prim.search rules };
+
+    fn status(self) -> u32 {
+        OUT_OF_MEMORY
+    }
+}
+
+impl Refusal for PathError {
+    ghost status = { path_status };
+
+    ghost refuses = { Prim.search rules };
+
+    fn status(self) -> u32 {
+        match self {
+            PathError::Checked(fault) => fault.status(),
+            PathError::OutOfMemory => OUT_OF_MEMORY,
+        }
+    }
+}
+
+impl Refusal for JoinError {
+    ghost status = { join_status };
+
+    ghost refuses = { Prim.search rules };
+
+    fn status(self) -> u32 {
+        match self {
+            JoinError::Portable(fault) => fault.status(),
+            JoinError::Checked(fault) => fault.status(),
+            JoinError::OutOfMemory => OUT_OF_MEMORY,
+        }
+    }
+}
+
+impl Refusal for AbsolutizeError {
+    ghost status = { absolute_status };
+
+    ghost refuses = { Prim.search rules };
+
+    fn status(self) -> u32 {
+        match self {
+            AbsolutizeError::Ambiguous => AMBIGUOUS,
+            AbsolutizeError::OutOfMemory => OUT_OF_MEMORY,
+        }
+    }
+}
+
+/// How a call ended that tells nothing else.
+pub fn ended<E: Refusal>(judged: Result<(), E>) -> u32
+    ensures { result ≡ status_by E.status (error_of judged) }
 {
-    match fault {
-        CheckedPathError::InvalidFilename => 1,
-        CheckedPathError::PathTraversalAttack => 2,
-        CheckedPathError::UnexpectedPrefix => 3,
-        CheckedPathError::UnexpectedRoot => 4,
+    match judged {
+        Ok(()) => DONE,
+        Err(fault) => fault.status(),
     }
 }
 
@@ -93,15 +187,15 @@ pub fn put(answer: &[u8], out: &mut [u8], len: &mut usize) -> u32
     DONE
 }
 
-/// Puts a path that was made, unless memory was refused.
-pub fn put_made(made: Result<TypedPathBuf, AllocError>, out: &mut [u8], len: &mut usize) -> u32
+/// Puts a path that was made, or tells why none was.
+pub fn put_made<E: Refusal>(made: Result<TypedPathBuf, E>, out: &mut [u8], len: &mut usize) -> u32
     ensures put { MatchResult made (λ p. IsPut (owned_bytes p) out.old out.new len.new result)
-        (λ _. IsRefused out_of_memory out.old len.old out.new len.new result) }
+        (λ e. IsRefused (E.status e) out.old len.old out.new len.new result) }
     ensures stands { StandsAsMade owned_bytes made result (take len.new out.new) }
 {
     match made {
         Ok(path) => put(path.as_bytes(), out, len),
-        Err(_) => OUT_OF_MEMORY,
+        Err(why) => why.status(),
     }
 }
 
@@ -122,19 +216,6 @@ pub fn put_found(
     }
 }
 
-/// The same of a path that was judged.
-pub fn put_checked(made: Result<TypedPathBuf, PathError>, out: &mut [u8], len: &mut usize) -> u32
-    ensures put { MatchResult made (λ p. IsPut (owned_bytes p) out.old out.new len.new result)
-        (λ e. IsRefused (path_status e) out.old len.old out.new len.new result) }
-    ensures stands { StandsAsMade owned_bytes made result (take len.new out.new) }
-{
-    match made {
-        Ok(path) => put(path.as_bytes(), out, len),
-        Err(PathError::Checked(fault)) => status_of(fault),
-        Err(PathError::OutOfMemory) => OUT_OF_MEMORY,
-    }
-}
-
 /// The same of a path that was converted, whatever its conversion is.
 pub fn put_crossed(made: Result<TypedPathBuf, PathError>, out: &mut [u8], len: &mut usize) -> u32
     ensures put { (answer : Result (List ℕ) CheckedPathError)
@@ -145,22 +226,5 @@ pub fn put_crossed(made: Result<TypedPathBuf, PathError>, out: &mut [u8], len: &
         (λ e. IsRefused (path_status e) out.old len.old out.new len.new result) }
     ensures stands { StandsAsMade owned_bytes made result (take len.new out.new) }
 {
-    put_checked(made, out, len)
-}
-
-/// The same of a path that was made absolute.
-pub fn put_absolute(
-    made: Result<TypedPathBuf, AbsolutizeError>,
-    out: &mut [u8],
-    len: &mut usize,
-) -> u32
-    ensures put { MatchResult made (λ p. IsPut (owned_bytes p) out.old out.new len.new result)
-        (λ e. IsRefused (absolute_status e) out.old len.old out.new len.new result) }
-    ensures stands { StandsAsMade owned_bytes made result (take len.new out.new) }
-{
-    match made {
-        Ok(path) => put(path.as_bytes(), out, len),
-        Err(AbsolutizeError::Ambiguous) => AMBIGUOUS,
-        Err(AbsolutizeError::OutOfMemory) => OUT_OF_MEMORY,
-    }
+    put_made(made, out, len)
 }

@@ -12,7 +12,7 @@ from typing import Any, Callable, NamedTuple, Optional, Sequence, TypeVar, Union
 
 Text = TypeVar("Text", str, bytes)
 NAME = "libtyped_path.so.0.1"
-VERSION = 100
+VERSION = 101
 UNIX, WINDOWS = 0, 1
 
 # What os.fsencode and os.fsdecode take.

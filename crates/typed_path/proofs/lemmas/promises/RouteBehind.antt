@@ -34,13 +34,13 @@ tells (Some p) false n names = let h = tells-ups n names in record { prefix = re
 tells (Some p) true n names = record { prefix = refl; anchored = refl; over = unmet-ups n names; names = names-ups n names }
 
 -- lists of one route lead alike
-record Alike (ks ls : List Kind) : Type 0 where
+pub record Alike (ks ls : List Kind) : Type 0 where
   pub prefix : first_prefix ks ≡ first_prefix ls
   pub anchored : is_anchored ks ≡ is_anchored ls
   pub rising : rising ks ≡ rising ls
   pub names : kept_names ks ≡ kept_names ls
 
-alike : (ks ls : List Kind) → routed ks ≡ routed ls → Alike ks ls
+pub alike : (ks ls : List Kind) → routed ks ≡ routed ls → Alike ks ls
 alike ks ls same =
     let own = tells (first_prefix ks) (is_anchored ks) (rising ks) (kept_names ks) in
     let others = tells (first_prefix ls) (is_anchored ls) (rising ls) (kept_names ls) in

@@ -6,7 +6,7 @@ use Rattle.typed_path_c.proofs.batch.join_each.Given as goal
 
 abbrev pub invariant-names : goal.invariant-names
 invariant-names l =
-    Runs (typed_dialect l.fn.base) (typed_bytes l.fn.base) l.fn.names l.fn.ends l.fn.out l.out l.fn.out_ends l.out_ends l.fn.statuses l.statuses l.done l.start l.at
+    Runs l.fn.rule (typed_dialect l.fn.base) (typed_bytes l.fn.base) l.fn.names l.fn.ends l.fn.out l.out l.fn.out_ends l.out_ends l.fn.statuses l.statuses l.done l.start l.at
 
 abbrev pub decreases-names : goal.decreases-names
 decreases-names l = length l.ends - l.done
