@@ -1,10 +1,10 @@
 //! Paths in lower case, and paths compared as these are: without regard to the case of ASCII letters.
 
-ghost use Rattle.std.specs.Prelude.{◌≡◌, ◌<◌, ◌≤◌, ℕ, List, length, get_or, IfOk, IsOk, []};
+ghost use Rattle.std.specs.Prelude.{◌≡◌, ◌<◌, ℕ, List, length, get_or, IfOk};
 ghost use Rattle.std.specs.Str.{bytes_eq, str_to_ascii_lowercase};
-ghost use Rattle.typed_path.specs.components.{Part, prefix, prefix_of, comps};
+ghost use Rattle.typed_path.specs.components.{prefix};
 ghost use Rattle.typed_path.specs.queries.{path_starts_with};
-ghost use Rattle.typed_path.specs.order.{IsLoweredBehind, is_same, kind_cmp, lowered, lowered_begins, lowered_behind, lowered_bytes_cmp, lowered_cmp, lowered_kind, lowered_part, lowered_prefix, mark_before, mark_in, mark_length, path_cmp};
+ghost use Rattle.typed_path.specs.order.{IsLoweredBehind, is_same, kind_cmp, lowered, lowered_behind, lowered_bytes_cmp, lowered_cmp, lowered_kind, lowered_part, lowered_prefix, mark_in, mark_length, path_cmp};
 ghost use Rattle.typed_path.specs.views.BodyViews.{body_items};
 ghost use Rattle.typed_path.specs.views.PieceViews.{kind_view, part_of, prefix_view, step_part};
 ghost use Rattle.typed_path.specs.views.PathViews.{path_bytes};

@@ -1,18 +1,16 @@
 -- A path in lower case is read as the path is, each of its components in lower case.
-use Rattle.std.proofs.Common.{◌≡◌, ℕ, zero, suc, ◌+◌, ◌-◌, ◌<◌, ◌≤◌, ◌==◌, ◌⊎◌, inl, inr, Bool, true, false, not, ◌&&◌, ◌||◌, nat_le, nat_lt, if◌then◌else◌, cond, List, [], ◌∷◌, ◌++◌, map, flat_map, length, take, drop, refl, sym, ap, ap₂, ◌∙◌, arith, Option, Some, None, option_map, option_and_then, ne_eqb, nat_eq}
+use Rattle.std.proofs.Common.{◌≡◌, ℕ, zero, suc, ◌+◌, ◌≤◌, ◌==◌, Bool, true, false, not, ◌&&◌, ◌||◌, nat_lt, if◌then◌else◌, cond, List, [], ◌∷◌, ◌++◌, map, flat_map, length, take, drop, refl, sym, ap, ap₂, ◌∙◌, arith, Option, Some, None, option_map, option_and_then, nat_eq}
 use Rattle.std.proofs.lemmas.Grind.{common_steps}
-use Rattle.std.proofs.lemmas.Bool.{eqb-false, cases_lt}
 use Rattle.std.proofs.lemmas.Bool.Decides.{nat_tests}
 use Rattle.std.proofs.lemmas.List.{length-map, take-map, drop-map, map-append}
-use Rattle.std.proofs.lemmas.Str.Ascii.{lowercase_is}
 use Rattle.std.specs.Char.{to_ascii_lowercase}
 use Rattle.std.specs.Str.{str_to_ascii_lowercase}
 use Rattle.std.specs.Option.{option_or}
-use Rattle.std.specs.List.{slice_split, onto_first, before_first, after_first, position_or_len}
+use Rattle.std.specs.List.{slice_split, onto_first, after_first, position_or_len}
 use Rattle.typed_path.specs.declared.scan.separators.Separators.{Separators}
 use Rattle.typed_path.specs.declared.scan.separators.Separators.TheVariants.{Slash, Backslash, Either}
-use Rattle.typed_path.specs.components.{Dialect, unix, windows, is_separator, separators, begins_verbatim, dot, colon, question, is_drive_letter, to_upper, Segment, Placed, placed, segments, component, is_dot, is_dot_dot, named, later, first, body_of, body, Found, found, Prefix, verbatim, verbatim_unc, verbatim_disk, device_ns, unc, disk, is_empty, name, second_name, names_length, drive, after_two, after_four, after_mark, after_unc, verbatim_unc_case, verbatim_disk_case, verbatim_case, device_case, unc_case, disk_case, prefix_of, backslash, comps, comps_behind, prefix_part}
-use Rattle.typed_path.specs.order.{lowered, lowered_behind, lowered_kind, lowered_part, lowered_placed, lowered_prefix, mark_before, mark_in, mark_length}
+use Rattle.typed_path.specs.components.{Dialect, unix, windows, is_separator, separators, begins_verbatim, dot, colon, question, is_drive_letter, to_upper, Segment, placed, segments, component, is_dot, is_dot_dot, later, first, body_of, body, Found, found, Prefix, verbatim, verbatim_unc, verbatim_disk, device_ns, unc, disk, is_empty, name, second_name, names_length, drive, after_two, after_four, after_mark, after_unc, verbatim_unc_case, verbatim_disk_case, verbatim_case, device_case, unc_case, disk_case, prefix_of, backslash, comps, comps_behind, prefix_part}
+use Rattle.typed_path.specs.order.{lowered, lowered_behind, lowered_placed, lowered_prefix, mark_before, mark_length}
 use Rattle.std.specs.Cmp.Lexicographic.{pointwise}
 use Rattle.typed_path.proofs.lemmas.components.Prefixes.{prefix_by}
 use Rattle.typed_path.proofs.lemmas.lists.Options.{and_then-some, first-some, some_is, unless-some}

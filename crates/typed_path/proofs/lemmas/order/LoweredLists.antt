@@ -1,14 +1,12 @@
 -- Two paths compared in lower case, component by component, with their prefixes first.
-use Rattle.std.proofs.Common.{◌≡◌, ◌≢◌, ℕ, zero, suc, ◌+◌, ◌-◌, ◌<◌, ◌≤◌, ◌==◌, ◌⊎◌, inl, inr, Bool, true, false, not, ◌&&◌, List, [], ◌∷◌, ◌++◌, map, length, take, drop, get_or, min, refl, sym, ap, ap₂, ◌∙◌, subst, arith, Option, Some, None, option_map, Ordering, Less, Equal, Greater, take-append-drop, take_all, length-drop, eqb-true, eq-eqb}
-use Rattle.std.proofs.lemmas.Grind.{common_steps}
-use Rattle.std.specs.Ordering.{is_ne, nat_cmp, ordering_then, ordering_reverse}
-use Rattle.std.specs.Str.{bytes_eq, str_to_ascii_lowercase}
+use Rattle.std.proofs.Common.{◌≡◌, ◌≢◌, ℕ, zero, suc, ◌-◌, ◌<◌, ◌≤◌, ◌==◌, Bool, true, false, not, ◌&&◌, List, [], ◌∷◌, ◌++◌, map, length, take, drop, get_or, min, refl, sym, ap, ap₂, ◌∙◌, arith, Option, Some, None, option_map, Ordering, Less, Equal, Greater, take-append-drop, take_all, length-drop, eqb-true, eq-eqb}
+use Rattle.std.specs.Ordering.{nat_cmp, ordering_then}
+use Rattle.std.specs.Str.{bytes_eq}
 use Rattle.std.specs.Char.{to_ascii_lowercase}
 use Rattle.typed_path.specs.components.{Dialect, Prefix, verbatim, verbatim_unc, verbatim_disk, device_ns, unc, disk, Kind, prefix, root, current, parent, normal, Part, Placed, parts, kinds, comps, unix, windows, Found, prefix_of}
 use Rattle.typed_path.specs.scan.{first_part, PartAt}
 use Rattle.typed_path.specs.queries.{first_prefix, behind_prefix, path_starts_with}
-use Rattle.typed_path.specs.order.{IsLoweredBehind, bytes_cmp, kind_cmp, kinds_cmp, left_cmp, path_cmp, lowered, lowered_begins, lowered_behind, lowered_bytes_cmp, lowered_cmp, mark_before, mark_length, lowered_kind, lowered_part, lowered_placed, lowered_prefix}
-use Rattle.typed_path.proofs.lemmas.order.Comparisons.{cmp-none, cmp-more, cmp-fewer, cmp-differ, cmp-alike, prefixes-differ, prefixes-alike, prefixes-none, prefixed-bare, bare-prefixed}
+use Rattle.typed_path.specs.order.{IsLoweredBehind, bytes_cmp, kind_cmp, kinds_cmp, left_cmp, path_cmp, lowered, lowered_begins, lowered_behind, lowered_cmp, mark_before, mark_length, lowered_kind, lowered_part, lowered_placed, lowered_prefix}
 use Rattle.typed_path.proofs.lemmas.order.Lowered.{comps_lowered, prefix-lowered}
 use Rattle.typed_path.specs.declared.scan.separators.Separators.TheVariants.{Slash}
 use Rattle.typed_path.proofs.lemmas.components.Prefixes.{prefix-fits}

@@ -1,18 +1,18 @@
 -- A path in lower case is its own, and answers, is refused and lies as the path does.
-use Rattle.std.proofs.Common.{◌≡◌, ◌↔◌, ℕ, zero, suc, ◌+◌, ◌-◌, ◌<◌, ◌≤◌, ◌==◌, Bool, true, false, not, ◌&&◌, ◌||◌, nat_le, if◌then◌else◌, cond, List, [], ◌∷◌, ◌++◌, map, length, take, drop, refl, sym, ap, ap₂, ◌∙◌, arith, Option, Some, None, option_map}
+use Rattle.std.proofs.Common.{◌≡◌, ◌↔◌, ℕ, zero, suc, ◌+◌, ◌-◌, ◌<◌, ◌==◌, Bool, true, false, not, ◌&&◌, ◌||◌, if◌then◌else◌, cond, List, [], ◌∷◌, map, length, take, drop, refl, sym, ap, ap₂, ◌∙◌, arith, Option, Some, None, option_map}
 use Rattle.std.proofs.lemmas.Bool.{and_parts}
 use Rattle.std.proofs.lemmas.Bool.Decides.{nat_tests}
 use Rattle.std.proofs.lemmas.Cmp.{tied_itself}
-use Rattle.std.proofs.lemmas.List.{length-map, map-append, take-map, drop-map}
+use Rattle.std.proofs.lemmas.List.{length-map, map-append, take-map}
 use Rattle.std.proofs.lemmas.Slice.Eq.{starts_is, bytes_eq-Decides}
 use Rattle.std.proofs.lemmas.Str.Ascii.{lowercase-lowercase}
 use Rattle.std.specs.Char.{to_ascii_lowercase}
 use Rattle.std.specs.Cmp.{Equal-is}
-use Rattle.std.specs.List.{before_first, list_all, list_any, position_or_len, starts_with}
+use Rattle.std.specs.List.{before_first, list_any, position_or_len, starts_with}
 use Rattle.std.specs.Ordering.{is_eq}
-use Rattle.std.specs.Str.{bytes_eq, str_eq_ignore_ascii_case, str_to_ascii_lowercase}
-use Rattle.typed_path.specs.components.{Dialect, unix, windows, slash, backslash, colon, question, dot, Prefix, verbatim, verbatim_unc, verbatim_disk, device_ns, unc, disk, Kind, prefix, root, current, parent, normal, Part, Placed, parts, kinds, comps, parts_of, Found, found, prefix_of, is_empty}
-use Rattle.typed_path.specs.queries.{begins_with_root, first_prefix, has_allowed_bytes, has_implicit_root, has_physical_root, has_prefix, has_root, is_a_dot, is_absolute, is_disallowed, is_reserved, is_valid, is_valid_kind, is_valid_name, reserved_names}
+use Rattle.std.specs.Str.{bytes_eq, str_to_ascii_lowercase}
+use Rattle.typed_path.specs.components.{Dialect, unix, windows, Prefix, verbatim, verbatim_unc, verbatim_disk, device_ns, unc, disk, Kind, prefix, root, current, parent, normal, Placed, parts, kinds, comps, parts_of, Found, found, prefix_of, is_empty}
+use Rattle.typed_path.specs.queries.{begins_with_root, first_prefix, has_prefix, has_root, is_a_dot, is_absolute, is_disallowed, is_reserved, is_valid, is_valid_kind, is_valid_name, reserved_names}
 use Rattle.typed_path.specs.changes.{fault, fault_at}
 use Rattle.typed_path.specs.places.{holds_all, is_anchored, is_within, kept_names, leads_within, rising, same_heads, unmet}
 use Rattle.typed_path.specs.order.{IsSame, are_same_prefixes, exact_kinds, is_same, kind_cmp, kind_cmp_total, lowered, lowered_behind, lowered_kind, lowered_kinds, lowered_placed, lowered_prefix, mark_before, mark_length}

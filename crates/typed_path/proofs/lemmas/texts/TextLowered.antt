@@ -1,5 +1,5 @@
 -- A text in lower case is a text.
-use Rattle.std.proofs.Common.{◌≡◌, ℕ, zero, suc, ◌+◌, ◌<◌, ◌≤◌, ◌==◌, ◌&&◌, Bool, true, false, List, [], ◌∷◌, ◌++◌, map, length, take, drop, arith, refl, sym, ap, ap₂, ◌∙◌, subst, eqb-true, get_or, inl, inr, append-nil, Option, Some, None, option_and_then}
+use Rattle.std.proofs.Common.{◌≡◌, ℕ, zero, suc, ◌<◌, ◌≤◌, ◌==◌, ◌&&◌, true, List, [], ◌∷◌, length, take, arith, refl, sym, ap, ap₂, ◌∙◌, subst, eqb-true, get_or, inl, inr, append-nil, Option, Some, None, option_and_then}
 use Rattle.std.specs.Char.{to_ascii_lowercase}
 use Rattle.std.specs.List.{AllByRecursion}
 use Rattle.std.specs.Str.{IsUtf8, is_utf8, str_to_ascii_lowercase}
@@ -11,7 +11,7 @@ use Rattle.std.proofs.lemmas.Str.Ascii.{encode_ascii, lowercase_ascii, lowercase
 use lib.Utf8.{scalar, scalars, encode, encodes}
 use Rattle.typed_path.specs.declared.scan.separators.Separators.{Separators}
 use Rattle.typed_path.specs.declared.scan.separators.Separators.TheVariants.{Either}
-use Rattle.typed_path.specs.components.{Dialect, unix, windows, Found, after_mark, after_unc, is_separator, prefix_of, question, separators, verbatim_unc_case}
+use Rattle.typed_path.specs.components.{Dialect, unix, windows, Found, after_mark, after_unc, is_separator, question, separators, verbatim_unc_case}
 use Rattle.typed_path.specs.order.{lowered, lowered_behind, mark_before}
 use Rattle.typed_path.proofs.lemmas.components.Prefixes.{after_mark-size, after_unc-size}
 use Rattle.typed_path.proofs.lemmas.lists.Options.{and_then-some, where-some}

@@ -1,8 +1,6 @@
 use Rattle.std.proofs.Common.{◌≡◌, map, sym, ap, ap₂, ◌∙◌}
 use Rattle.std.proofs.lemmas.Cmp.{tied_itself}
 use Rattle.std.specs.Cmp.Lexicographic.{bytes_decides}
-use Rattle.std.specs.Ordering.{ordering_reverse}
-use Rattle.typed_path.specs.components.{Dialect, comps}
 use Rattle.typed_path.specs.queries.{behind_prefix}
 use Rattle.typed_path.specs.order.{left_cmp, lowered, lowered_cmp, path_cmp, path_cmp_total, lowered_placed, lowered_prefix}
 use Rattle.typed_path.specs.views.BodyViews.{body_items}

@@ -1,7 +1,7 @@
-use Rattle.std.proofs.Common.{◌≡◌, ◌<◌, ◌∙◌, ℕ, sym, ap, ap₂, subst, arith, get_or, length}
+use Rattle.std.proofs.Common.{◌∙◌, sym, ap, arith, get_or}
 use Rattle.typed_path.specs.order.{lowered_behind, mark_in}
 use Rattle.typed_path.specs.views.PieceViews.{kind_view}
-use Rattle.typed_path.proofs.lemmas.order.LoweredLists.{alike-each, differ-at, differ-length, length-lowered}
+use Rattle.typed_path.proofs.lemmas.order.LoweredLists.{alike-each, differ-length, length-lowered}
 use Rattle.typed_path.proofs.common.ascii_case.is_written_alike.Goals as goal
 
 pub returns-then-own-other : goal.returns-then-own-other

@@ -1,6 +1,6 @@
 use Rattle.std.proofs.Common.{subst, sym, ap, ◌∙◌}
 use Rattle.typed_path.specs.order.{IsLoweredBehind}
-use Rattle.typed_path.specs.components.{comps, kinds, parts}
+use Rattle.typed_path.specs.components.{kinds, parts}
 use Rattle.typed_path.specs.queries.{first_prefix}
 use Rattle.typed_path.specs.views.PieceViews.{prefix_view}
 use Rattle.typed_path.proofs.lemmas.order.LoweredLists.{kept-none, kept-some}

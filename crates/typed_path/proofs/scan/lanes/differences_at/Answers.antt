@@ -1,4 +1,4 @@
-use Rattle.std.proofs.Common.{cond, ℕ, ◌+◌, ◌%◌, ◌^◌, ◌==◌, ◌≡◌, ◌≤◌, ◌<◌, Bool, true, not, List, length, map, sym, subst, ◌∙◌, ap, ap₂, w8, arith, ne_eqb}
+use Rattle.std.proofs.Common.{cond, ℕ, ◌+◌, ◌%◌, ◌^◌, ◌==◌, ◌≡◌, ◌≤◌, Bool, true, not, List, length, map, sym, subst, ◌∙◌, ap, w8, arith, ne_eqb}
 use Rattle.std.specs.Simd.Lanes.{zip2, mask_l}
 use Rattle.std.proofs.lemmas.Simd.{tops_compared, mask_l-mod, length-zip2, length-chunk}
 use Rattle.std.specs.Str.{str_to_ascii_lowercase}
