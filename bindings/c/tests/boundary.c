@@ -567,8 +567,14 @@ static void part_refused(void) {
             typed_path_component list[200];
             uint64_t told[4] = {0};
             size_t len;
+            /* The answer of push_place is told beside a join, which asks for memory: so it is asked alone. */
+            typed_path_place place = {0, 0};
             requests = 0;
-            told_by(&row, row.path, row.other, told, list, out, &len);
+            if (strcmp(row.call->name, "push_place") == 0)
+                look(typed_path_push_place(row.dialect, row.path.bytes, row.path.length, row.other.bytes,
+                     row.other.length, &place) == row.status, "status", row.call->name, row.path, row.other);
+            else
+                told_by(&row, row.path, row.other, told, list, out, &len);
             look(requests == 0, "request for memory", row.call->name, row.path, row.other);
             continue;
         }
