@@ -190,6 +190,19 @@ cases(
 cases("unix", "join_portable", *((b"/srv/files", path) for path in (b"a/b", b"a/con/b", b"../a", filled(b"abcdefg/", 1000, end=b"x"))))
 cases("windows", "join_portable", *((rb"C:\b", path) for path in (b"a/b", b"a/con/b", b"../a", filled(b"abcdefg/", 1000, end=b"x"))))
 
+# Letters in either case.
+CASE = "eq_ignore_case starts_with_ignore_case"
+cases(
+    "unix", CASE,
+    (b"/usr/lib/python3/a.py", b"/usr/lib/Python3/A.py"), (b"/usr/lib/python3/a.py", b"/usr/lib/python3/a.py"), (b"a", b"A"), (b"README.md", b"readme.txt"),
+    (b"usr//lib/./python3", b"USR/lib/python3"), (filled(b"abcdefg/", 1025, end=b"x"), filled(b"abcdeFg/", 1025, end=b"x")), (HEX, HEX.upper()),
+)
+cases(
+    "windows", CASE,
+    (rb"C:\Users\u\.cargo", rb"c:\users\U\.cargo"), (rb"C:\Users\u\x", rb"C:/Users/u/X"), (rb"\\srv\share\a", rb"\\SRV\share\A"), (rb"\\?\UNC\srv\share\a", rb"\\?\UNC\Srv\Share\A"), (rb"C:\a", rb"D:\a"),
+)
+cases("unix windows", "to_lowercase", b"a", b"/Usr/Share/Doc/README", filled(b"Abcdefg/", 1000), rb"\\?\UNC\Srv\Share\A")
+
 # Which bases keep their prefix, and which marks go.
 cases("windows", "keeps_prefix simplified", b"a", rb"C:\a", rb"\\srv", rb"\\srv\share", rb"\\?\C:\Users\u\AppData\Local", rb"\\?\UNC\srv\share\a", rb"\\?\C:\a\con .txt", rb"\\?\UNC", b"/")
 cases("unix", "keeps_prefix", b"/srv/www")

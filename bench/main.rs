@@ -62,7 +62,7 @@ exports!((path: *const u8, len: usize):
     bench_file_name bench_extension bench_to_path_buf bench_normalize bench_clean bench_first bench_hash bench_windows_hash
     bench_windows_walk
     bench_windows_walk_back bench_windows_first bench_windows_last bench_windows_parent
-    bench_windows_ancestors bench_is_portable bench_may_be_device bench_step_back bench_steps bench_key_hash bench_put_key
+    bench_windows_ancestors bench_is_portable bench_may_be_device bench_step_back bench_steps bench_key_hash bench_put_key bench_to_ascii_lowercase
     bench_windows_is_portable bench_windows_may_be_device bench_windows_step_back bench_windows_prefix_names
     bench_is_valid bench_windows_is_valid bench_windows_keeps_prefix bench_windows_simplified
     bench_to_string_lossy bench_windows_file_name bench_windows_extension bench_windows_normalize bench_windows_clean
@@ -72,7 +72,7 @@ exports!((path: *const u8, len: usize):
 exports!((path: *const u8, len: usize, other: *const u8, other_len: usize):
     bench_starts_with bench_common_ancestor bench_is_within bench_relative_to bench_strip_prefix bench_ends_with bench_join bench_join_checked
     bench_with_file_name bench_with_extension bench_with_added_extension bench_eq bench_cmp bench_windows_eq bench_windows_cmp bench_windows_join bench_windows_join_checked
-    bench_extend bench_windows_extend bench_push_place
+    bench_extend bench_windows_extend bench_push_place bench_eq_ignore_case bench_starts_with_ignore_case
     bench_windows_starts_with bench_windows_is_within bench_windows_relative_to bench_windows_strip_prefix
     bench_windows_with_extension bench_absolutize);
 
@@ -650,6 +650,15 @@ fn rows(corpus: &Corpus) -> Vec<Row<'_>> {
         whole.two("`cmp`, differs early", |at| (paths.at(at), corpus.begins_otherwise.at(at)), bench_cmp, Some(cmp)),
         whole.two("`cmp`, differs late", |at| (paths.at(at), corpus.ends_otherwise.at(at)), bench_cmp, Some(cmp)),
         whole.two("`cmp`, written otherwise", |at| (paths.at(at), corpus.doubled.at(at)), bench_cmp, Some(cmp)),
+        whole.two(
+            "`eq_ignore_ascii_case`, differs late",
+            |at| (paths.at(at), corpus.ends_otherwise.at(at)),
+            bench_eq_ignore_case,
+            Some(eq_ignore_case),
+        ),
+        whole.two("the same, written otherwise", |at| (paths.at(at), corpus.doubled.at(at)), bench_eq_ignore_case, Some(eq_ignore_case)),
+        whole.two("`starts_with_ignore_ascii_case` of the first half", half, bench_starts_with_ignore_case, Some(starts_ignoring_case)),
+        whole.one("`to_ascii_lowercase`", paths, bench_to_ascii_lowercase, |path| made(PathBuf::from(path.as_os_str().to_ascii_lowercase()))),
         whole.one("`hash`", paths, bench_hash, std_hash),
         whole.one("`hash` of a `Key`, beside that of a path", paths, bench_key_hash, std_hash),
         whole.one("`put_key`", paths, bench_put_key, std_put_key),
@@ -842,6 +851,23 @@ fn windows_rows(corpus: &Corpus, at: usize) -> Vec<Row<'_>> {
 
 fn eq(path: &Path, other: &Path) -> usize {
     usize::from(path == other)
+}
+
+/// By components, in the plain way: std compares texts so, and no paths.
+fn starts_ignoring_case(path: &Path, base: &Path) -> usize {
+    let mut own = path.components();
+    usize::from(base.components().all(|piece| own.next().is_some_and(|own| own.as_os_str().eq_ignore_ascii_case(piece))))
+}
+
+fn eq_ignore_case(path: &Path, other: &Path) -> usize {
+    let (mut own, mut others) = (path.components(), other.components());
+    loop {
+        match (own.next(), others.next()) {
+            (None, None) => return 1,
+            (Some(piece), Some(other)) if piece.as_os_str().eq_ignore_ascii_case(other) => {}
+            _ => return 0,
+        }
+    }
 }
 
 fn cmp(path: &Path, other: &Path) -> usize {

@@ -86,6 +86,12 @@ pub extern "C" fn bench_may_be_device(path: &[u8]) -> usize {
     usize::from(UnixPath::new(path).may_be_device())
 }
 
+/// Whether the path begins with a base in lower case.
+#[unsafe(no_mangle)]
+pub extern "C" fn bench_starts_with_ignore_case(path: &[u8], base: &[u8]) -> usize {
+    usize::from(UnixPath::new(path).starts_with_ignore_ascii_case(UnixPath::new(base)))
+}
+
 /// The last component, by a step of a reading that is three numbers.
 #[unsafe(no_mangle)]
 pub extern "C" fn bench_step_back(path: &[u8]) -> usize {

@@ -61,6 +61,12 @@ pub extern "C" fn bench_windows_hash(path: &[u8]) -> usize {
     hash::<WindowsEncoding>(path)
 }
 
+/// Whether two Unix paths are equal in lower case.
+#[unsafe(no_mangle)]
+pub extern "C" fn bench_eq_ignore_case(path: &[u8], other: &[u8]) -> usize {
+    usize::from(UnixPath::new(path).eq_ignore_ascii_case(UnixPath::new(other)))
+}
+
 /// The hash of a Unix path as a key.
 #[unsafe(no_mangle)]
 pub extern "C" fn bench_key_hash(path: &[u8]) -> usize {

@@ -15,6 +15,12 @@ pub extern "C" fn bench_to_path_buf(alloc: Global, path: &[u8]) -> usize {
     length_of(UnixPath::new(path).to_path_buf(alloc))
 }
 
+/// The path in lower case.
+#[unsafe(no_mangle)]
+pub extern "C" fn bench_to_ascii_lowercase(alloc: Global, path: &[u8]) -> usize {
+    length_of(UnixPath::new(path).to_ascii_lowercase(alloc))
+}
+
 /// The path with another pushed onto it.
 #[unsafe(no_mangle)]
 pub extern "C" fn bench_join(alloc: Global, path: &[u8], other: &[u8]) -> usize {

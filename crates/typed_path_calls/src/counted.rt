@@ -339,6 +339,24 @@ pub fn eq<T: Encoding>(path: &[u8], other: &[u8]) -> usize {
     usize::from(Path::<T>::new(path) == Path::new(other))
 }
 
+/// Whether two paths are equal in lower case.
+#[inline(never)]
+pub fn eq_ignore_ascii_case<T: Encoding>(path: &[u8], other: &[u8]) -> usize {
+    usize::from(Path::<T>::new(path).eq_ignore_ascii_case(Path::new(other)))
+}
+
+/// Whether the path begins with a base in lower case.
+#[inline(never)]
+pub fn starts_with_ignore_ascii_case<T: Encoding>(path: &[u8], base: &[u8]) -> usize {
+    usize::from(Path::<T>::new(path).starts_with_ignore_ascii_case(Path::new(base)))
+}
+
+/// The path in lower case.
+#[inline(never)]
+pub fn to_ascii_lowercase<T: Encoding>(alloc: Global, path: &[u8]) -> usize {
+    length_of(Path::<T>::new(path).to_ascii_lowercase(alloc))
+}
+
 /// The order of two paths.
 #[inline(never)]
 pub fn cmp<T: Encoding>(path: &[u8], other: &[u8]) -> usize {

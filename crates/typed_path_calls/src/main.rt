@@ -55,6 +55,9 @@ fn answer<T: Encoding, U: Encoding>(
         b"strip_prefix" => counted::strip_prefix::<T>(path, other),
         b"ends_with" => counted::ends_with::<T>(path, other),
         b"eq" => counted::eq::<T>(path, other),
+        b"eq_ignore_case" => counted::eq_ignore_ascii_case::<T>(path, other),
+        b"starts_with_ignore_case" => counted::starts_with_ignore_ascii_case::<T>(path, other),
+        b"to_lowercase" => counted::to_ascii_lowercase::<T>(alloc, path),
         b"cmp" => counted::cmp::<T>(path, other),
         _ => return None,
     })
