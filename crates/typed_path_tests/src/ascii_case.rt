@@ -1,8 +1,10 @@
 //! Paths in lower case where memory is ample, and compared by these.
 
+use crate::long::LENGTHS;
+use crate::support::repeated;
 use std::alloc::{AllocError, Global};
 use std::test::Fail;
-use typed_path::{Encoding, Path, UnixEncoding, WindowsEncoding};
+use typed_path::{Encoding, Path, UnixEncoding, UnixPath, WindowsEncoding};
 
 /// Whether each path of a table has the text beside it in lower case, and is equal to that so.
 fn are_lowered_as<T: Encoding>(alloc: Global, rows: &[(&[u8], &[u8])]) -> Result<bool, AllocError> {
@@ -41,5 +43,15 @@ fn lower_case(rt: HostRuntime) -> Result<(), Fail> {
     ];
     assert!(rt; are_lowered_as::<UnixEncoding>(rt.alloc(), UNIX)?);
     assert!(rt; are_lowered_as::<WindowsEncoding>(rt.alloc(), WINDOWS)?);
+    Ok(())
+}
+
+#[test]
+fn names_of_any_length_in_lower_case(rt: HostRuntime) -> Result<(), Fail> {
+    for &length in LENGTHS {
+        let name = repeated(rt.alloc(), b"", b"A", length, b"")?;
+        let lowered = UnixPath::new(name.as_slice()).to_ascii_lowercase(rt.alloc())?;
+        assert_eq!(rt; lowered.as_path().as_bytes().len(), length);
+    }
     Ok(())
 }

@@ -1,5 +1,7 @@
 //! Portable paths: names that other tools refuse, joins with ample memory, and printed errors.
 
+use crate::long::LENGTHS;
+use crate::support::repeated;
 use std::alloc::Global;
 use std::test::Fail;
 use typed_path::{
@@ -75,6 +77,16 @@ fn portable_joins(rt: HostRuntime) {
     assert!(rt; text.is_ok_and(|path| path.as_path().as_str() == "/é/a/ü"));
     let typed = TypedPath::windows(br"C:\a").join_portable(alloc, b"b");
     assert!(rt; typed.is_ok_and(|path| path.as_bytes() == br"C:\a\b".as_slice()));
+}
+
+#[test]
+fn portable_joins_of_any_length(rt: HostRuntime) -> Result<(), Fail> {
+    for &count in LENGTHS {
+        let path = repeated(rt.alloc(), b"", b"a/", count, b"b")?;
+        let joined = UnixPath::new(b"/").join_portable(rt.alloc(), UnixPath::new(path.as_slice()));
+        assert!(rt; joined.is_ok());
+    }
+    Ok(())
 }
 
 #[test]
