@@ -10,7 +10,9 @@ ghost use Rattle.typed_path.specs.views.PieceViews.{kind_view, part_of, prefix_v
 ghost use Rattle.typed_path.specs.views.PathViews.{path_bytes};
 
 use crate::common::encoding::Encoding;
-use crate::common::order::{kind_rank, order_by_prefixes, order_of_prefixed, order_step_by_step};
+use crate::common::order::{
+    kind_rank, order_of_prefixed, order_step_by_step, return_order_of_prefixes,
+};
 use crate::common::path::Path;
 use crate::common::path_buf::PathBuf;
 use crate::scan::{
@@ -112,7 +114,7 @@ fn compare_lowered<T: Encoding>(path: &[u8], other: &[u8]) -> Ordering
     }
     let own = T::cursor(path);
     let others = T::cursor(other);
-    order_by_prefixes!(own, others, compare_lowered_prefixes);
+    return_order_of_prefixes!(own, others, compare_lowered_prefixes);
     compare_each_lowered(own.body(), others.body())
 }
 

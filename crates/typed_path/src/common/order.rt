@@ -27,8 +27,8 @@ use crate::scan::{
 use std::cmp::Ordering;
 use std::hash::{Hash, Hasher};
 
-/// The order of two readings by their prefixes, where these differ or one alone has one.
-macro_rules! order_by_prefixes {
+/// Returns the order of two readings from where it stands, if their prefixes differ or one alone has one.
+macro_rules! return_order_of_prefixes {
     ($own:expr, $others:expr, $compare:path) => {
         match ($own.prefix(), $others.prefix()) {
             (Some(prefix), Some(other)) => {
@@ -63,8 +63,8 @@ macro_rules! order_step_by_step {
     }};
 }
 
-pub(super) use order_by_prefixes;
 pub(super) use order_step_by_step;
+pub(super) use return_order_of_prefixes;
 
 impl<'a, T: Encoding> Path<'a, T> {
     /// Whether the path has the same components as the path of these bytes.
@@ -396,7 +396,7 @@ fn compare_components<T: Encoding>(path: &[u8], other: &[u8]) -> Ordering
 {
     let own = T::cursor(path);
     let others = T::cursor(other);
-    order_by_prefixes!(own, others, compare_prefixes);
+    return_order_of_prefixes!(own, others, compare_prefixes);
     let (rest, wanted) = bodies_behind_shared(own.body(), others.body());
     compare_each(rest, wanted)
 }
