@@ -49,15 +49,22 @@ fn answer<T: Encoding, U: Encoding>(
         b"join_checked" => counted::join_checked::<T>(alloc, path, other),
         b"join_portable" => counted::join_portable::<T>(alloc, path, other),
         b"relative_to" => counted::relative_to::<T>(alloc, path, other),
+        b"to_lowercase" => counted::to_ascii_lowercase::<T>(alloc, path),
+        _ => return answer_beside::<T>(name, path, other),
+    })
+}
+
+/// The same of the calls that look at two paths.
+fn answer_beside<T: Encoding>(name: &[u8], path: &[u8], other: &[u8]) -> Option<usize> {
+    Some(match name {
         b"is_within" => counted::is_within::<T>(path, other),
         b"common_ancestor" => counted::common_ancestor::<T>(path, other),
         b"starts_with" => counted::starts_with::<T>(path, other),
+        b"starts_with_ignore_case" => counted::starts_with_ignore_ascii_case::<T>(path, other),
         b"strip_prefix" => counted::strip_prefix::<T>(path, other),
         b"ends_with" => counted::ends_with::<T>(path, other),
         b"eq" => counted::eq::<T>(path, other),
         b"eq_ignore_case" => counted::eq_ignore_ascii_case::<T>(path, other),
-        b"starts_with_ignore_case" => counted::starts_with_ignore_ascii_case::<T>(path, other),
-        b"to_lowercase" => counted::to_ascii_lowercase::<T>(alloc, path),
         b"cmp" => counted::cmp::<T>(path, other),
         _ => return None,
     })

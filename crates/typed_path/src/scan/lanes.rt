@@ -261,6 +261,23 @@ fn in_lower_case<const N: usize>(block: Simd<u8, N>) -> Simd<u8, N>
     capitals.select(block + Simd::splat(32), block)
 }
 
+/// Which bytes of a block differ from those of another text in lower case.
+///
+/// It is a call of its own, so that what compares texts as they are stays small enough to be built into its callers.
+#[inline]
+fn lowered_differences_at<const N: usize>(text: &[u8], other: &[u8], at: usize) -> u64
+    requires lanes { (0 < N) × (N ≤ 64) }
+    requires in_text { at + N ≤ length text.now }
+    requires in_other { at + N ≤ length other.now }
+    ensures mask { IsMask (λ k. differs_at (str_to_ascii_lowercase text.now)
+        (str_to_ascii_lowercase other.now) (at + k)) N result }
+    ensures fits { result < 2 ^ 64 }
+{
+    let own = in_lower_case::<N>(Simd::from_slice(&text[at..]));
+    let others = in_lower_case::<N>(Simd::from_slice(&other[at..]));
+    own.simd_ne(others).to_bitmask()
+}
+
 /// Which bytes of a block differ from those of another text, as they are or in lower case.
 #[inline(always)]
 fn differences_at<const N: usize, const LOWER: bool>(text: &[u8], other: &[u8], at: usize) -> u64
@@ -271,9 +288,7 @@ fn differences_at<const N: usize, const LOWER: bool>(text: &[u8], other: &[u8], 
     ensures fits { result < 2 ^ 64 }
 {
     if LOWER {
-        let own = in_lower_case::<N>(Simd::from_slice(&text[at..]));
-        let others = in_lower_case::<N>(Simd::from_slice(&other[at..]));
-        return own.simd_ne(others).to_bitmask();
+        return lowered_differences_at::<N>(text, other, at);
     }
     Simd::<u8, N>::from_slice(&text[at..])
         .simd_ne(Simd::from_slice(&other[at..]))

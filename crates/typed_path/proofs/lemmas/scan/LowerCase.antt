@@ -1,12 +1,13 @@
 -- Blocks of bytes in lower case, and where two texts differ in lower case.
-use Rattle.std.proofs.Common.{◌≡◌, ℕ, zero, suc, ◌+◌, ◌%◌, ◌≤◌, ◌&&◌, Bool, true, false, cond, List, [], ◌∷◌, map, length, take, drop, replicate, refl, sym, ap, ap₂, ◌∙◌, arith, leb, bit_and}
+use Rattle.std.proofs.Common.{◌≡◌, ℕ, zero, suc, ◌+◌, ◌%◌, ◌^◌, ◌==◌, ◌≤◌, ◌&&◌, Bool, true, false, not, cond, List, [], ◌∷◌, map, length, take, drop, replicate, refl, sym, subst, ap, ap₂, ◌∙◌, w8, arith, leb, bit_and}
 use Rattle.std.proofs.lemmas.Bool.Decides.{nat_tests}
 use Rattle.std.proofs.lemmas.List.{take-map, drop-map, length-map}
+use Rattle.std.proofs.lemmas.Simd.{tops_compared, mask_l-mod, length-zip2, length-chunk}
 use Rattle.std.specs.Char.{to_ascii_lowercase}
 use Rattle.std.specs.Str.{str_to_ascii_lowercase}
 use Rattle.typed_path.specs.scan.{IsMask, differs_at, differs_in}
-use Rattle.typed_path.proofs.lemmas.scan.Searches.{lane}
-use lib.Lanes.{chunk, zip2, sel_l, top}
+use Rattle.typed_path.proofs.lemmas.scan.Searches.{lane, mask-chunks}
+use lib.Lanes.{chunk, mask_l, zip2, sel_l, top}
 
 -- both of two lanes are set
 both-set : (p q : Bool) → top 7 (bit_and (lane p) (lane q)) ≡ (p && q)
@@ -38,6 +39,20 @@ chunk-lowered at n text = sym (ap (take n) (drop-map to_ascii_lowercase at text)
 
 pub fits-lowered : (m : ℕ) (text : List ℕ) → m ≤ length text → m ≤ length (str_to_ascii_lowercase text)
 fits-lowered m text fits = omega (arith, length-map text to_ascii_lowercase)
+
+abbrev differ : ℕ → ℕ → Bool
+differ a b = not (a == b)
+
+-- the mask of the lanes in which a block of one text differs from that of another
+pub marks-of : (at n : ℕ) (text other : List ℕ) → n ≤ 64 → at + n ≤ length text → at + n ≤ length other
+    → IsMask (λ k. differs_at text other (at + k)) n (mask_l (map (top 7) (zip2 (λ a b. cond (differ a b) 255 0) (chunk at n text) (chunk at n other))) % 2 ^ 64)
+marks-of at n text other low fits fits' =
+    let xs = chunk at n text in
+    let ys = chunk at n other in
+    let whole = length-chunk at n text fits in
+    let long = length-zip2 differ xs ys (whole ∙ sym (length-chunk at n other fits')) ∙ whole in
+    let mask = ap (λ ms. mask_l ms % 2 ^ 64) (tops_compared w8 differ xs ys) ∙ mask_l-mod (zip2 differ xs ys) 64 (omega (arith, long, low)) in
+    subst (λ m. IsMask (λ k. differs_at text other (at + k)) n m) (sym mask) (mask-chunks differ at n text other fits fits')
 
 -- which of the two is asked
 module _ (text other : List ℕ) (at n mask : ℕ) where
