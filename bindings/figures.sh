@@ -23,7 +23,7 @@ static Path made, their_base = base[0];
 static char out[1 << 20];
 static size_t len, out_ends[1000], sum;
 static uint32_t statuses[1000];
-static View put(uint32_t status) { return status == TYPED_PATH_DONE ? View(out, len) : throw status; }
+static View put(uint32_t status) { return status == TYPED_PATH_STATUS_DONE ? View(out, len) : throw status; }
 static View put(Path &&path) { return (made = std::move(path)).native(); }
 static View said(bool answer) { return answer ? "yes" : "no"; }
 static bool leads_out(const Path &path) { return path.empty() || *path.begin() == ".."; }

@@ -44,7 +44,7 @@ end() {
 }
 
 # The header and what includes it, in each language that a compiler knows. A status that is dropped is told of.
-strict=(-Wall -Wextra -Wpedantic -Werror) include=$here/c/include
+strict=(-Wall -Wextra -Wpedantic -Wconversion -Wsign-conversion -Wshadow -Werror) include=$here/c/include
 each_language() {
     local compiler language standard standards
     for compiler in cc clang c++ clang++; do
@@ -143,14 +143,15 @@ is_told_of_changes() {
             echo "$number: $edit" && cat "$room/told" && return 1
         fi
     done << 'END'
-0.1.0	0.2.0	s/\(_NONE\) 8/\1 18/
+0.1.0	0.2.0	s/\(_NONE UINT32_C\)(8)/\1(18)/
+0.1.0	0.2.0	s/\(_NONE\) UINT32_C(8)/\1 ((size_t)8)/
 0.1.0	0.2.0	s/size_t length;/uint32_t length;/
 0.1.0	0.2.0	s/    uint32_t kind;/    uint32_t kind, more;/; s/kind, more;/kind;\n    uint32_t more;/
 0.1.0	0.2.0	s/(path_len) + 2)$/(path_len) + 3)/
 0.1.0	0.2.0	s/\(typed_path_derive(const char \*path\), size_t path_len/\1/
 0.1.0	0.2.0	/typed_path_version(void);/d
 0.1.0	0.1.1	s/^uint32_t typed_path_version(void);/&\nuint32_t typed_path_newer(void);/
-0.1.7	0.1.8	s/^#define TYPED_PATH_BAD_ENDS 10 .*/&\n#define TYPED_PATH_NEWER 11/
+0.1.7	0.1.8	s/^#define TYPED_PATH_STATUS_BAD_ENDS .*/&\n#define TYPED_PATH_STATUS_NEWER UINT32_C(18)/
 1.4.2	2.0.0	s/uint64_t key0, uint64_t key1/uint64_t key/
 1.4.2	1.5.0	s/^uint32_t typed_path_version(void);/&\nuint32_t typed_path_newer(void);/
 END
@@ -160,6 +161,20 @@ numbered() {
     local major minor patch
     IFS=. read -r major minor patch <<< "$1"
     sed "s/\(_VERSION_MAJOR\) [0-9]*$/\1 $major/; s/\(_VERSION_MINOR\) [0-9]*$/\1 $minor/; s/\(_VERSION_PATCH\) [0-9]*$/\1 $patch/" "$2"
+}
+
+# A program that asks whether it can run is told so on a processor of x86-64-v2, and not on one of the baseline.
+each_processor() {
+    if is_there qemu-x86_64; then
+        part "an older processor is told of" is_told_of_processors "$@"
+    else
+        left_out "whether an older processor is told of" qemu-x86_64
+    fi
+}
+is_told_of_processors() {
+    cc "-I$include" "$2" "$1" -o "$room/here" && qemu-x86_64 -cpu Nehalem "$room/here" || return 1
+    qemu-x86_64 -cpu qemu64 "$room/here"
+    [[ $? -eq 1 ]]
 }
 
 if [[ "$*" == declared ]]; then
@@ -177,8 +192,9 @@ if [[ "$*" == declared ]]; then
         is_there $needed || { left_out "how the library is installed" $needed && end; }
     done
     part "a stub is laid out" "$tests/stub.sh" "$room/a stub"
-    printf '#include <typed_path.h>\nint main(void) { return typed_path_version() != TYPED_PATH_VERSION; }\n' > "$room/asked.c"
+    printf '#include <typed_path.h>\nint main(void) { return typed_path_version() != TYPED_PATH_VERSION || !typed_path_runs_here(); }\n' > "$room/asked.c"
     installs "$room/a stub" "$room/asked.c"
+    each_processor "$room/a stub/lib/libtyped_path.a" "$room/asked.c"
     end
 fi
 
@@ -202,7 +218,7 @@ each_language in_language
 
 # Names: what the header declares, the crate exports and the library shows.
 declares() {
-    sed -n 's/^\(TYPED_PATH_MUST_USE \)\?uint32_t \(typed_path_[a-z_]*\)(.*/\2/p' "$include/typed_path.h" | sort
+    sed -n 's/^\(TYPED_PATH_MUST_USE \)\?\(uint32_t\|bool\) \(typed_path_[a-z_]*\)(.*/\3/p' "$include/typed_path.h" | sort
 }
 shows_declared() {
     diff <(declares) <(nm -D --defined-only "$shared" | sed 's/.* //' | sort)
@@ -215,6 +231,7 @@ part "the shared object shows what the header declares" shows_declared
 part "the archive needs free, malloc, memmove, realloc" needs_four
 agree
 installs "$dir" "$tests/header.c"
+each_processor "$archive" "$tests/header.c"
 
 # The boundary.
 compiled() {

@@ -12,7 +12,7 @@ import pathlib
 import zipfile
 
 HERE = pathlib.Path(__file__).parent
-NAME, VERSION, BUILD, TAG = "typed_path", "0.1.1", "1_x86_64_v2", "py3-none-linux_x86_64"
+NAME, VERSION, BUILD, TAG = "typed_path", "0.2.0", "1_x86_64_v2", "py3-none-linux_x86_64"
 METADATA = f"""Metadata-Version: 2.1
 Name: typed-path
 Version: {VERSION}
@@ -33,7 +33,7 @@ def files():
     for file in sorted((HERE / "src" / NAME).glob("*")):
         if file.is_file():
             yield f"{NAME}/{file.name}", file.read_bytes()
-    yield f"{NAME}/libtyped_path.so.0.1", pathlib.Path(library).read_bytes()
+    yield f"{NAME}/libtyped_path.so.0.2", pathlib.Path(library).read_bytes()
     for licence in ("LICENSE-MIT", "LICENSE-APACHE"):
         yield f"{NAME}-{VERSION}.dist-info/{licence}", (HERE.parents[1] / licence).read_bytes()
     yield f"{NAME}-{VERSION}.dist-info/METADATA", (METADATA + (HERE / "README.md").read_text()).encode()

@@ -13,11 +13,11 @@
 
 static const char *name_of(uint32_t status) {
     switch (status) {
-        case TYPED_PATH_DONE: return "ok";
-        case TYPED_PATH_INVALID_FILENAME: return "InvalidFilename";
-        case TYPED_PATH_PATH_TRAVERSAL_ATTACK: return "PathTraversalAttack";
-        case TYPED_PATH_UNEXPECTED_PREFIX: return "UnexpectedPrefix";
-        case TYPED_PATH_UNEXPECTED_ROOT: return "UnexpectedRoot";
+        case TYPED_PATH_STATUS_DONE: return "ok";
+        case TYPED_PATH_STATUS_INVALID_FILENAME: return "InvalidFilename";
+        case TYPED_PATH_STATUS_PATH_TRAVERSAL_ATTACK: return "PathTraversalAttack";
+        case TYPED_PATH_STATUS_UNEXPECTED_PREFIX: return "UnexpectedPrefix";
+        case TYPED_PATH_STATUS_UNEXPECTED_ROOT: return "UnexpectedRoot";
         default: return NULL;
     }
 }
@@ -35,7 +35,7 @@ int main(int count, char **words) {
     size_t folder_len = strlen(folder), size = TYPED_PATH_JOIN_BOUND(folder_len, sizeof name), len;
     char *target = malloc(size);
     uint32_t asked = typed_path_keeps_prefix(dialect, folder, folder_len, &keeps);
-    if (!target || asked != TYPED_PATH_DONE || !keeps) {
+    if (!target || asked != TYPED_PATH_STATUS_DONE || !keeps) {
         fprintf(stderr, "%s: %s\n", folder, target ? "it does not keep its prefix" : "out of memory");
         free(target);
         return 2;
@@ -53,8 +53,8 @@ int main(int count, char **words) {
             free(target);
             return 2;
         }
-        refused += status != TYPED_PATH_DONE;
-        if (status == TYPED_PATH_DONE)
+        refused += status != TYPED_PATH_STATUS_DONE;
+        if (status == TYPED_PATH_STATUS_DONE)
             printf("ok\t%s\n", target);
         else
             printf("%s\t%.*s\n", name_of(status), (int)name_len, name);

@@ -13,8 +13,8 @@ static std::string normalized(uint32_t dialect, const std::string &path) {
     std::string out(TYPED_PATH_NORMALIZE_BOUND(path.size()), '\0');
     size_t len = 0;
     switch (typed_path_normalize(dialect, path.data(), path.size(), &out[0], out.size(), &len)) {
-        case TYPED_PATH_DONE: break;
-        case TYPED_PATH_OUT_OF_MEMORY: throw std::bad_alloc();
+        case TYPED_PATH_STATUS_DONE: break;
+        case TYPED_PATH_STATUS_OUT_OF_MEMORY: throw std::bad_alloc();
         default: throw std::invalid_argument("there is no such dialect");
     }
     out.resize(len);

@@ -3,20 +3,20 @@
    A text is a pointer and a number of bytes. It is any bytes, needs no NUL at its end, and may be NULL
    with 0. A dialect is TYPED_PATH_UNIX or TYPED_PATH_WINDOWS. The calls that return `uint32_t`, but for
    typed_path_derive and typed_path_version, return a status, and each comment says which. Every call with
-   a dialect returns TYPED_PATH_BAD_DIALECT for a number that names none. Look at the status before
+   a dialect returns TYPED_PATH_STATUS_BAD_DIALECT for a number that names none. Look at the status before
    anything else: a call that refuses leaves what an earlier one put. Compilers warn where it is dropped
    (TYPED_PATH_MUST_USE).
 
    A call that *puts* an answer is handed a buffer `out` of `out_size` bytes, and `len`:
-   - TYPED_PATH_DONE: the answer stands at the beginning of the buffer, its length is in `*len`, and a
+   - TYPED_PATH_STATUS_DONE: the answer stands at the beginning of the buffer, its length is in `*len`, and a
      NUL is behind it where there is room for one. The bytes behind that are as they were.
-   - TYPED_PATH_TOO_SMALL: the answer has more than `out_size` bytes. `*len` is its length, and the buffer
+   - TYPED_PATH_STATUS_TOO_SMALL: the answer has more than `out_size` bytes. `*len` is its length, and the buffer
      is as it was. A buffer of the bound that the comment names is large enough, and has room for the NUL.
      To ask for the length first costs the call twice.
    - Any other status: the buffer and `*len` are as they were.
    Where the texts are UTF-8, so is the answer. Calls that make a path allocate, by malloc, realloc and
    free, and free all of it before they return; where memory is refused they return
-   TYPED_PATH_OUT_OF_MEMORY. No other call allocates, and none has a state: several threads may call at
+   TYPED_PATH_STATUS_OUT_OF_MEMORY. No other call allocates, and none has a state: several threads may call at
    once.
 
    The caller owes that each pointer is good for its number of bytes or items, that no pointer but that of
@@ -24,7 +24,7 @@
    writes (`out`, `len` ..) overlaps nothing else that it is handed. So no path is changed in place.
 
    The library is built for x86-64-v2, which a processor is that has SSE4.2 and POPCNT. An older one ends
-   the program by an illegal instruction. */
+   the program by an illegal instruction; typed_path_runs_here tells of it before. */
 #ifndef TYPED_PATH_H
 #define TYPED_PATH_H
 
@@ -40,10 +40,10 @@ extern "C" {
 
 /* The version of this header: a part of two digits each for major, minor and patch. */
 #define TYPED_PATH_VERSION_MAJOR 0
-#define TYPED_PATH_VERSION_MINOR 1
-#define TYPED_PATH_VERSION_PATCH 1
+#define TYPED_PATH_VERSION_MINOR 2
+#define TYPED_PATH_VERSION_PATCH 0
 #define TYPED_PATH_VERSION \
-    (TYPED_PATH_VERSION_MAJOR * 10000 + TYPED_PATH_VERSION_MINOR * 100 + TYPED_PATH_VERSION_PATCH)
+    (UINT32_C(10000) * TYPED_PATH_VERSION_MAJOR + UINT32_C(100) * TYPED_PATH_VERSION_MINOR + TYPED_PATH_VERSION_PATCH)
 
 /* Stands before each call that returns a status. */
 #if defined(__cplusplus) && __cplusplus >= 201703L
@@ -57,41 +57,41 @@ extern "C" {
 #endif
 
 /* The dialects. */
-#define TYPED_PATH_UNIX 0
-#define TYPED_PATH_WINDOWS 1
+#define TYPED_PATH_UNIX UINT32_C(0)
+#define TYPED_PATH_WINDOWS UINT32_C(1)
 
 /* The statuses. Those from 1 to 4 name what the first component that offends is refused for by a checked call,
    and those from 12 to 17 why it is not portable. */
-#define TYPED_PATH_DONE 0
-#define TYPED_PATH_INVALID_FILENAME 1      /* a name that is not allowed (typed_path_is_valid) */
-#define TYPED_PATH_PATH_TRAVERSAL_ATTACK 2 /* a `..` that no name before it makes up for */
-#define TYPED_PATH_UNEXPECTED_PREFIX 3     /* a prefix; never on Unix */
-#define TYPED_PATH_UNEXPECTED_ROOT 4       /* a root */
-#define TYPED_PATH_OUT_OF_MEMORY 5         /* memory was refused */
-#define TYPED_PATH_TOO_SMALL 6             /* the answer does not fit */
-#define TYPED_PATH_BAD_DIALECT 7           /* a number names no dialect */
-#define TYPED_PATH_NONE 8                  /* there is no such part */
-#define TYPED_PATH_AMBIGUOUS 9             /* absolute neither alone nor behind the directory */
-#define TYPED_PATH_BAD_ENDS 10             /* an end lies before the one before it, or behind the names */
-#define TYPED_PATH_BAD_READING 11          /* no reading of the path may stand at these numbers */
-#define TYPED_PATH_HAS_PREFIX 12           /* a prefix; never on Unix */
-#define TYPED_PATH_FORBIDDEN 13            /* a byte that no name of Windows may have, or a control byte */
-#define TYPED_PATH_DEVICE 14               /* a name that may be a device (typed_path_may_be_device) */
-#define TYPED_PATH_ENDING 15               /* a name that ends in a dot or a space */
-#define TYPED_PATH_TOO_LONG 16             /* a name of more than 255 bytes */
-#define TYPED_PATH_NOT_TEXT 17             /* a name that is not UTF-8 */
+#define TYPED_PATH_STATUS_DONE UINT32_C(0)
+#define TYPED_PATH_STATUS_INVALID_FILENAME UINT32_C(1)      /* a name that is not allowed (typed_path_is_valid) */
+#define TYPED_PATH_STATUS_PATH_TRAVERSAL_ATTACK UINT32_C(2) /* a `..` that no name before it makes up for */
+#define TYPED_PATH_STATUS_UNEXPECTED_PREFIX UINT32_C(3)     /* a prefix; never on Unix */
+#define TYPED_PATH_STATUS_UNEXPECTED_ROOT UINT32_C(4)       /* a root */
+#define TYPED_PATH_STATUS_OUT_OF_MEMORY UINT32_C(5)         /* memory was refused */
+#define TYPED_PATH_STATUS_TOO_SMALL UINT32_C(6)             /* the answer does not fit */
+#define TYPED_PATH_STATUS_BAD_DIALECT UINT32_C(7)           /* a number names no dialect */
+#define TYPED_PATH_STATUS_NONE UINT32_C(8)                  /* there is no such part */
+#define TYPED_PATH_STATUS_AMBIGUOUS UINT32_C(9)             /* absolute neither alone nor behind the directory */
+#define TYPED_PATH_STATUS_BAD_ENDS UINT32_C(10)             /* an end lies before the last one, or behind the names */
+#define TYPED_PATH_STATUS_BAD_READING UINT32_C(11)          /* no reading of the path may stand at these numbers */
+#define TYPED_PATH_STATUS_HAS_PREFIX UINT32_C(12)           /* a prefix; never on Unix */
+#define TYPED_PATH_STATUS_FORBIDDEN UINT32_C(13)            /* a byte that no name of Windows has, or a control byte */
+#define TYPED_PATH_STATUS_DEVICE UINT32_C(14)               /* a name that may be a device (typed_path_may_be_device) */
+#define TYPED_PATH_STATUS_ENDING UINT32_C(15)               /* a name that ends in a dot or a space */
+#define TYPED_PATH_STATUS_TOO_LONG UINT32_C(16)             /* a name of more than 255 bytes */
+#define TYPED_PATH_STATUS_NOT_TEXT UINT32_C(17)             /* a name that is not UTF-8 */
 
-/* The kinds of components. One of TYPED_PATH_PREFIX_VERBATIM or more is a prefix, which only Windows has. */
-#define TYPED_PATH_ROOT 0
-#define TYPED_PATH_CURRENT 1
-#define TYPED_PATH_PARENT 2
-#define TYPED_PATH_NAME 3
-#define TYPED_PATH_PREFIX_VERBATIM 4      /* \\?\name */
-#define TYPED_PATH_PREFIX_VERBATIM_UNC 5  /* \\?\UNC\server\share */
-#define TYPED_PATH_PREFIX_VERBATIM_DISK 6 /* \\?\C: */
-#define TYPED_PATH_PREFIX_DEVICE_NS 7     /* \\.\name */
-#define TYPED_PATH_PREFIX_UNC 8           /* \\server\share */
-#define TYPED_PATH_PREFIX_DISK 9          /* C: */
+/* The kinds of components. One of TYPED_PATH_KIND_PREFIX_VERBATIM or more is a prefix, which only Windows has. */
+#define TYPED_PATH_KIND_ROOT UINT32_C(0)
+#define TYPED_PATH_KIND_CURRENT UINT32_C(1)
+#define TYPED_PATH_KIND_PARENT UINT32_C(2)
+#define TYPED_PATH_KIND_NAME UINT32_C(3)
+#define TYPED_PATH_KIND_PREFIX_VERBATIM UINT32_C(4)      /* \\?\name */
+#define TYPED_PATH_KIND_PREFIX_VERBATIM_UNC UINT32_C(5)  /* \\?\UNC\server\share */
+#define TYPED_PATH_KIND_PREFIX_VERBATIM_DISK UINT32_C(6) /* \\?\C: */
+#define TYPED_PATH_KIND_PREFIX_DEVICE_NS UINT32_C(7)     /* \\.\name */
+#define TYPED_PATH_KIND_PREFIX_UNC UINT32_C(8)           /* \\server\share */
+#define TYPED_PATH_KIND_PREFIX_DISK UINT32_C(9)          /* C: */
 
 /* Bounds of answers, in bytes with the NUL; of the batch, which puts none, without. All are proved,
    where the number does not wrap; that of the batch, where ends and statuses have room for each name. */
@@ -106,7 +106,7 @@ extern "C" {
 #define TYPED_PATH_BATCH_BOUND(base_len, names_len, count) \
     ((size_t)(names_len) + (size_t)(count) * ((size_t)(base_len) + 3))
 #define TYPED_PATH_KEY_BOUND(path_len) (2 * (size_t)(path_len) + 2)
-#define TYPED_PATH_TEXT_BOUND 64
+#define TYPED_PATH_TEXT_BOUND ((size_t)64)
 /* And of the number of components. */
 #define TYPED_PATH_COMPONENTS_BOUND(path_len) ((size_t)(path_len))
 
@@ -142,6 +142,10 @@ typedef struct typed_path_place {
 /* The version of the library, as TYPED_PATH_VERSION. */
 uint32_t typed_path_version(void);
 
+/* Whether this processor can run the library. It is the one call that any x86-64 runs, and the one that is not
+   proved. It asks the processor each time, so ask it once, before the first call. */
+bool typed_path_runs_here(void);
+
 /* The dialect that a text looks like: Windows if it begins with `\` or a prefix, else Unix. */
 uint32_t typed_path_derive(const char *path, size_t path_len);
 
@@ -162,8 +166,8 @@ TYPED_PATH_MUST_USE uint32_t typed_path_join_checked(
     char *out, size_t out_size, size_t *len);
 
 /* The same where the other path is portable too (typed_path_check_portable). Else the status, from 12 to 17,
-   names why not; that is asked first, so TYPED_PATH_INVALID_FILENAME and TYPED_PATH_UNEXPECTED_PREFIX are not
-   told. The base need not be portable. TYPED_PATH_JOIN_BOUND. */
+   names why not; that is asked first, so TYPED_PATH_STATUS_INVALID_FILENAME and
+   TYPED_PATH_STATUS_UNEXPECTED_PREFIX are not told. The base need not be portable. TYPED_PATH_JOIN_BOUND. */
 TYPED_PATH_MUST_USE uint32_t typed_path_join_portable(
     uint32_t dialect, const char *path, size_t path_len, const char *other, size_t other_len,
     char *out, size_t out_size, size_t *len);
@@ -206,7 +210,7 @@ TYPED_PATH_MUST_USE uint32_t typed_path_normalize(
 TYPED_PATH_MUST_USE uint32_t typed_path_clean(
     uint32_t dialect, const char *path, size_t path_len, char *out, size_t out_size, size_t *len);
 
-/* The path that leads from the base to a path, by `..` and names; `.` where both lead alike. TYPED_PATH_NONE
+/* The path that leads from the base to a path, by `..` and names; `.` where both lead alike. TYPED_PATH_STATUS_NONE
    where there is none: one begins with another prefix, or alone with a root; the base leads higher; or a name
    that is to be written holds a `/`, as one behind `\\?\` on Windows may. None is told even where memory is
    refused. TYPED_PATH_RELATIVE_BOUND. */
@@ -226,7 +230,7 @@ TYPED_PATH_MUST_USE uint32_t typed_path_convert_checked(
     uint32_t dialect, const char *path, size_t path_len, uint32_t other,
     char *out, size_t out_size, size_t *len);
 
-/* The normal path, read from a directory of Unix where it is not absolute. TYPED_PATH_AMBIGUOUS where it
+/* The normal path, read from a directory of Unix where it is not absolute. TYPED_PATH_STATUS_AMBIGUOUS where it
    is not absolute behind the directory either. That is asked before the path is made normal, so on Windows
    what is put may be on another drive, and not absolute: of `C:\a\D:` it is `D:`. TYPED_PATH_JOIN_BOUND. */
 TYPED_PATH_MUST_USE uint32_t typed_path_absolutize(
@@ -236,13 +240,13 @@ TYPED_PATH_MUST_USE uint32_t typed_path_absolutize(
 /* Checked joins of many names onto one base. The names stand behind each other in `names`: each begins
    where the one before it ends, the first at 0, and `ends` has where each ends. The answers are put behind
    each other in `out`, with no NUL: `out_ends` is told where each ends, and `statuses` that it is
-   TYPED_PATH_DONE, or from 1 to 4 what the name is refused for, whose answer is empty. `*done` is told how
+   TYPED_PATH_STATUS_DONE, or from 1 to 4 what the name is refused for, whose answer is empty. `*done` is told how
    many names that was done for, and the call returns
-   - TYPED_PATH_DONE: for all.
-   - TYPED_PATH_TOO_SMALL: the answer to the next name does not fit, or its end, or its status.
-   - TYPED_PATH_OUT_OF_MEMORY: memory was refused for the next name.
-   - TYPED_PATH_BAD_ENDS: the next end lies before the one before it, or behind the names.
-   - TYPED_PATH_BAD_DIALECT: for none.
+   - TYPED_PATH_STATUS_DONE: for all.
+   - TYPED_PATH_STATUS_TOO_SMALL: the answer to the next name does not fit, or its end, or its status.
+   - TYPED_PATH_STATUS_OUT_OF_MEMORY: memory was refused for the next name.
+   - TYPED_PATH_STATUS_BAD_ENDS: the next end lies before the one before it, or behind the names.
+   - TYPED_PATH_STATUS_BAD_DIALECT: for none.
    The bytes behind the answers and the items behind `*done` are as they were. TYPED_PATH_BATCH_BOUND. */
 TYPED_PATH_MUST_USE uint32_t typed_path_join_checked_batch(
     uint32_t dialect, const char *base, size_t base_len, const char *names, size_t names_len,
@@ -255,7 +259,7 @@ TYPED_PATH_MUST_USE uint32_t typed_path_join_portable_batch(
     const size_t *ends, size_t ends_count, char *out, size_t out_size,
     size_t *out_ends, size_t out_ends_count, uint32_t *statuses, size_t statuses_count, size_t *done);
 
-/* Parts of a path, told by their places. TYPED_PATH_NONE where there is no such part; then, and for a bad
+/* Parts of a path, told by their places. TYPED_PATH_STATUS_NONE where there is no such part; then, and for a bad
    dialect, `*span` is as it was. */
 
 /* The path without its last component. None of an empty path, a root, or a prefix but a drive. */
@@ -295,22 +299,22 @@ TYPED_PATH_MUST_USE uint32_t typed_path_simplified(
     uint32_t dialect, const char *path, size_t path_len, typed_path_span *span);
 
 /* Puts the components of a path into an array, as many as fit, and into `*count` how many there are.
-   TYPED_PATH_TOO_SMALL where that is more than `out_count`. Of a bad dialect both are as they were.
+   TYPED_PATH_STATUS_TOO_SMALL where that is more than `out_count`. Of a bad dialect both are as they were.
    TYPED_PATH_COMPONENTS_BOUND. */
 TYPED_PATH_MUST_USE uint32_t typed_path_components(
     uint32_t dialect, const char *path, size_t path_len,
     typed_path_component *out, size_t out_count, size_t *count);
 
-/* One component, counted from 0. TYPED_PATH_NONE where there are no more than `index`; then, and for a bad
+/* One component, counted from 0. TYPED_PATH_STATUS_NONE where there are no more than `index`; then, and for a bad
    dialect, `*component` is as it was. It is found by reading from the front. */
 TYPED_PATH_MUST_USE uint32_t typed_path_component_at(
     uint32_t dialect, const char *path, size_t path_len, size_t index, typed_path_component *component);
 
 /* Takes the first component that is left of a reading, or the last. The path is handed in anew each time, and
-   nothing else is kept. TYPED_PATH_NONE where none is left; then `*component` is as it was. TYPED_PATH_BAD_READING
-   where no reading of this path may stand at the numbers, as where they were told of another path; then, and for a
-   bad dialect, they and `*component` are as they were. Numbers at which one may stand are taken for right: whatever
-   they are, what is told lies within the path, and each step takes a component less. */
+   nothing else is kept. TYPED_PATH_STATUS_NONE where none is left; then `*component` is as it was.
+   TYPED_PATH_STATUS_BAD_READING where no reading of this path may stand at the numbers, as where they were told of
+   another path; then, and for a bad dialect, they and `*component` are as they were. Numbers at which one may stand
+   are taken for right: whatever they are, what is told lies within the path, and each step takes a component less. */
 TYPED_PATH_MUST_USE uint32_t typed_path_next(
     uint32_t dialect, const char *path, size_t path_len,
     typed_path_reading *reading, typed_path_component *component);
@@ -319,31 +323,31 @@ TYPED_PATH_MUST_USE uint32_t typed_path_next_back(
     typed_path_reading *reading, typed_path_component *component);
 
 /* Where the names of the prefix stand: the server and the share; or a name or the letter of a drive alone, and then
-   `*second` is empty. TYPED_PATH_NONE where there is no prefix, as on Unix; then, and for a bad dialect, both are as
-   they were. */
+   `*second` is empty. TYPED_PATH_STATUS_NONE where there is no prefix, as on Unix; then, and for a bad dialect, both
+   are as they were. */
 TYPED_PATH_MUST_USE uint32_t typed_path_prefix_names(
     uint32_t dialect, const char *path, size_t path_len, typed_path_span *first, typed_path_span *second);
 
 /* Where another path goes that is pushed onto a path, as typed_path_join pushes it: the first `kept` bytes of the
-   path, `separator` if it is not 0, and the other path. TYPED_PATH_NONE where it is merged into a base of a verbatim
-   kind, as `\\?\C:\a`, and typed_path_join makes it; then, and for a bad dialect, `*place` is as it was. */
+   path, `separator` if it is not 0, and the other path. TYPED_PATH_STATUS_NONE where it is merged into a base of a
+   verbatim kind, as `\\?\C:\a`, and typed_path_join makes it; then, and for a bad dialect, `*place` is as it was. */
 TYPED_PATH_MUST_USE uint32_t typed_path_push_place(
     uint32_t dialect, const char *path, size_t path_len, const char *other, size_t other_len,
     typed_path_place *place);
 
 /* Paths that are judged. The status tells all. */
 
-/* What typed_path_join_checked refuses a path for, whatever it is joined to: TYPED_PATH_DONE, or from 1 to 4 what
-   the first component that offends is refused for. The empty path, `.` and `a/..` are accepted, and name the base
-   itself. */
+/* What typed_path_join_checked refuses a path for, whatever it is joined to: TYPED_PATH_STATUS_DONE, or from 1 to 4
+   what the first component that offends is refused for. The empty path, `.` and `a/..` are accepted, and name the
+   base itself. */
 TYPED_PATH_MUST_USE uint32_t typed_path_check(uint32_t dialect, const char *path, size_t path_len);
 
-/* Why some system does not take each component of a path as it is written: TYPED_PATH_DONE, or from 12 to 17 what
-   the first component that offends does, the first of these that is true of it. Roots, `.` and `..` are let
+/* Why some system does not take each component of a path as it is written: TYPED_PATH_STATUS_DONE, or from 12 to 17
+   what the first component that offends does, the first of these that is true of it. Roots, `.` and `..` are let
    through, so for a name that comes from outside take typed_path_join_portable. */
 TYPED_PATH_MUST_USE uint32_t typed_path_check_portable(uint32_t dialect, const char *path, size_t path_len);
 
-/* Questions. The status is TYPED_PATH_DONE, or TYPED_PATH_BAD_DIALECT, and then the answer is false. */
+/* Questions. The status is TYPED_PATH_STATUS_DONE, or TYPED_PATH_STATUS_BAD_DIALECT, and then the answer is false. */
 
 /* Whether a path leads to one place from every directory; on Windows `C:\a` does, `C:a` and `\a` do not. */
 TYPED_PATH_MUST_USE uint32_t typed_path_is_absolute(
@@ -408,7 +412,7 @@ TYPED_PATH_MUST_USE uint32_t typed_path_compare(
 
 /* The words of a path's key, for a hasher of the caller's own: of each component its kind, the number of its bytes,
    and these. They are one text for equal paths and for no others, and no such text begins with another.
-   TYPED_PATH_TOO_SMALL where they do not fit: then only the length is told. TYPED_PATH_KEY_BOUND. */
+   TYPED_PATH_STATUS_TOO_SMALL where they do not fit: then only the length is told. TYPED_PATH_KEY_BOUND. */
 TYPED_PATH_MUST_USE uint32_t typed_path_key_words(
     uint32_t dialect, const char *path, size_t path_len, char *out, size_t out_size, size_t *len);
 
@@ -425,7 +429,8 @@ TYPED_PATH_MUST_USE uint32_t typed_path_hash_keyed(
     uint32_t dialect, uint64_t key0, uint64_t key1, const char *path, size_t path_len, uint64_t *hash);
 
 /* What a status says, and what a kind of component is called: a text in English that is put as an answer is.
-   TYPED_PATH_NONE of a number that is none; then the buffer and `*len` are as they were. TYPED_PATH_TEXT_BOUND. */
+   TYPED_PATH_STATUS_NONE of a number that is none; then the buffer and `*len` are as they were.
+   TYPED_PATH_TEXT_BOUND. */
 TYPED_PATH_MUST_USE uint32_t typed_path_status_text(uint32_t status, char *out, size_t out_size, size_t *len);
 TYPED_PATH_MUST_USE uint32_t typed_path_kind_text(uint32_t kind, char *out, size_t out_size, size_t *len);
 

@@ -75,7 +75,8 @@ def listed(file):
         if behind.startswith("("):
             bounds.append(f"bound {name}{' '.join(behind.split())}")
         elif not LEFT_OUT.fullmatch(name):
-            questions.append(f'printf("constant {name} %lld\\n", (long long){name});')
+            kind = f'_Generic({name}, uint32_t: "uint32_t", size_t: "size_t")'
+            questions.append(f'printf("constant %s {name} %lld\\n", {kind}, (long long){name});')
     for name, fields in structs_of(header):
         questions.append(f'printf("struct {name}:");')
         for kind, field in fields:
@@ -97,7 +98,7 @@ def noted(file):
 
 
 def by_name(lines):
-    found = ((re.match(r"(?:constant|struct|bound) (\w+)|call .*?(\w+)\(", it), it) for it in lines)
+    found = ((re.match(r"(?:constant(?: \w+_t)?|struct|bound) (\w+)|call .*?(\w+)\(", it), it) for it in lines)
     return {name[1] or name[2]: it for name, it in found}
 
 

@@ -68,16 +68,16 @@ static Block texts[2], answers, structs;
 static void look_at_size(
     const Call *call, uint32_t dialect, Text path, Text other, uint32_t status, Text answer, size_t size, bool last) {
     memset(answers.first, PATTERN, answers.size);
-    size_t len = 12345, told = status == TYPED_PATH_DONE ? answer.length : 12345;
+    size_t len = 12345, told = status == TYPED_PATH_STATUS_DONE ? answer.length : 12345;
     char *out = place(answers, size, last);
     uint32_t got = put_by(call, dialect, path, other, size ? out : last ? out : NULL, size, &len);
     size_t written = 0;
-    if (status != TYPED_PATH_DONE) {
+    if (status != TYPED_PATH_STATUS_DONE) {
         look(got == status, "status", call->name, path, other);
     } else if (size < answer.length) {
-        look(got == TYPED_PATH_TOO_SMALL, "status where it is too small", call->name, path, other);
+        look(got == TYPED_PATH_STATUS_TOO_SMALL, "status where it is too small", call->name, path, other);
     } else {
-        look(got == TYPED_PATH_DONE, "status where it fits", call->name, path, other);
+        look(got == TYPED_PATH_STATUS_DONE, "status where it fits", call->name, path, other);
         look(answer.length == 0 || memcmp(out, answer.bytes, answer.length) == 0, "answer", call->name, path, other);
         look(size == answer.length || out[answer.length] == '\0', "NUL", call->name, path, other);
         written = answer.length + (size > answer.length);
@@ -97,7 +97,7 @@ static void look_at_sizes(const Call *call, uint32_t dialect, Text path, Text ot
         for (size_t size = 0; size <= bound; size++)
             look_at_size(call, dialect, one, two, status, answer, size, last);
         for (size_t at = 0; at < BAD_DIALECTS; at++)
-            look_at_size(call, BAD[at], one, two, TYPED_PATH_BAD_DIALECT, answer, bound, last);
+            look_at_size(call, BAD[at], one, two, TYPED_PATH_STATUS_BAD_DIALECT, answer, bound, last);
     }
 }
 
@@ -114,29 +114,29 @@ static bool is_kept(const Row *bad, Text one, Text two) {
     size_t len, count = 8;
     char out[1000];
     if (call->ask || call->ask_of)
-        return told_by(bad, one, two, &answer, list, out, &len) == TYPED_PATH_BAD_DIALECT && !answer;
+        return told_by(bad, one, two, &answer, list, out, &len) == TYPED_PATH_STATUS_BAD_DIALECT && !answer;
     if (call->judge)
-        return call->judge(bad->dialect, one.bytes, one.length) == TYPED_PATH_BAD_DIALECT;
+        return call->judge(bad->dialect, one.bytes, one.length) == TYPED_PATH_STATUS_BAD_DIALECT;
     if (call->part || call->part_of)
-        return told_by(bad, one, two, &span, list, out, &len) == TYPED_PATH_BAD_DIALECT && span.start == 1
+        return told_by(bad, one, two, &span, list, out, &len) == TYPED_PATH_STATUS_BAD_DIALECT && span.start == 1
             && span.length == 2;
     if (strcmp(call->name, "compare") == 0)
-        return told_by(bad, one, two, &order, list, out, &len) == TYPED_PATH_BAD_DIALECT && order == 3
-            && typed_path_hash(bad->dialect, one.bytes, one.length, &hash) == TYPED_PATH_BAD_DIALECT
-            && typed_path_hash_keyed(bad->dialect, 1, 2, one.bytes, one.length, &hash) == TYPED_PATH_BAD_DIALECT
+        return told_by(bad, one, two, &order, list, out, &len) == TYPED_PATH_STATUS_BAD_DIALECT && order == 3
+            && typed_path_hash(bad->dialect, one.bytes, one.length, &hash) == TYPED_PATH_STATUS_BAD_DIALECT
+            && typed_path_hash_keyed(bad->dialect, 1, 2, one.bytes, one.length, &hash) == TYPED_PATH_STATUS_BAD_DIALECT
             && hash == 4;
     if (strcmp(call->name, "components") == 0)
-        return typed_path_components(bad->dialect, one.bytes, one.length, &component, 1, &count) == TYPED_PATH_BAD_DIALECT
-            && typed_path_component_at(bad->dialect, one.bytes, one.length, 0, &component) == TYPED_PATH_BAD_DIALECT
-            && typed_path_next(bad->dialect, one.bytes, one.length, &reading, &component) == TYPED_PATH_BAD_DIALECT
-            && typed_path_next_back(bad->dialect, one.bytes, one.length, &reading, &component) == TYPED_PATH_BAD_DIALECT
+        return typed_path_components(bad->dialect, one.bytes, one.length, &component, 1, &count) == TYPED_PATH_STATUS_BAD_DIALECT
+            && typed_path_component_at(bad->dialect, one.bytes, one.length, 0, &component) == TYPED_PATH_STATUS_BAD_DIALECT
+            && typed_path_next(bad->dialect, one.bytes, one.length, &reading, &component) == TYPED_PATH_STATUS_BAD_DIALECT
+            && typed_path_next_back(bad->dialect, one.bytes, one.length, &reading, &component) == TYPED_PATH_STATUS_BAD_DIALECT
             && count == 8 && component.start == 5 && component.length == 6 && component.kind == 7
             && reading.from == 0 && reading.to == one.length && reading.stage == 0;
     if (strcmp(call->name, "prefix_names") == 0)
-        return told_by(bad, one, two, names, list, out, &len) == TYPED_PATH_BAD_DIALECT && names[0].start == 1
+        return told_by(bad, one, two, names, list, out, &len) == TYPED_PATH_STATUS_BAD_DIALECT && names[0].start == 1
             && names[0].length == 2 && names[1].start == 3 && names[1].length == 4;
     if (strcmp(call->name, "push_place") == 0)
-        return told_by(bad, one, two, &place, list, out, &len) == TYPED_PATH_BAD_DIALECT && place.kept == 1
+        return told_by(bad, one, two, &place, list, out, &len) == TYPED_PATH_STATUS_BAD_DIALECT && place.kept == 1
             && place.separator == 2;
     return true;
 }
@@ -169,7 +169,7 @@ static void look_at_told(const Row *row) {
         size_t len;
         uint32_t status = told_by(row, one, two, told, list, out, &len);
         look(is_answered(row, status, out, len), "answer", call->name, one, two);
-        size_t written = status == TYPED_PATH_NONE ? 0 : size;
+        size_t written = status == TYPED_PATH_STATUS_NONE ? 0 : size;
         look(is_pattern(last ? structs.first : structs.first + written, structs.size - written),
              "bytes that are told", call->name, one, two);
         Row bad = *row;
@@ -185,12 +185,12 @@ static void look_at_lists(uint32_t dialect, Text path) {
     typed_path_component all[200], some[200];
     size_t there = 0, count;
     uint32_t status = typed_path_components(dialect, path.bytes, path.length, all, path.length, &there);
-    look(status == TYPED_PATH_DONE, "status", "components", path, NOTHING);
+    look(status == TYPED_PATH_STATUS_DONE, "status", "components", path, NOTHING);
     for (size_t size = 0; size <= there; size++) {
         memset(answers.first, PATTERN, answers.size);
         void *list = place(answers, size * sizeof *some, true);
         status = typed_path_components(dialect, path.bytes, path.length, size ? list : NULL, size, &count);
-        look(status == (size < there ? TYPED_PATH_TOO_SMALL : TYPED_PATH_DONE), "status", "components", path, NOTHING);
+        look(status == (size < there ? TYPED_PATH_STATUS_TOO_SMALL : TYPED_PATH_STATUS_DONE), "status", "components", path, NOTHING);
         look(count == there, "count", "components", path, NOTHING);
         memcpy(some, list, size * sizeof *some);
         for (size_t at = 0; at < size; at++)
@@ -247,8 +247,8 @@ static void part_random(void) {
             if (!puts_answer(call))
                 continue;
             uint32_t status = put_by(call, dialect, path, with, out, bound_of(call, path, with), &len);
-            look(status < TYPED_PATH_OUT_OF_MEMORY || status == TYPED_PATH_NONE || status == TYPED_PATH_AMBIGUOUS
-                 || status >= TYPED_PATH_HAS_PREFIX, "status", call->name, path, with);
+            look(status < TYPED_PATH_STATUS_OUT_OF_MEMORY || status == TYPED_PATH_STATUS_NONE || status == TYPED_PATH_STATUS_AMBIGUOUS
+                 || status >= TYPED_PATH_STATUS_HAS_PREFIX, "status", call->name, path, with);
             look_at_sizes(call, dialect, path, with, status, (Text){out, len});
         }
     }
@@ -259,17 +259,17 @@ static void look_at_steps(uint32_t dialect, Text path) {
     typed_path_component list[200], one = {0, 0, 99};
     typed_path_reading left = TYPED_PATH_READING(path.length);
     size_t count = 0, front = 0, back = 0;
-    look(typed_path_components(dialect, path.bytes, path.length, list, path.length, &count) == TYPED_PATH_DONE,
+    look(typed_path_components(dialect, path.bytes, path.length, list, path.length, &count) == TYPED_PATH_STATUS_DONE,
          "status", "components", path, NOTHING);
     for (;;) {
         bool last = drawn(2);
         uint32_t status = (last ? typed_path_next_back : typed_path_next)(dialect, path.bytes, path.length, &left, &one);
         if (front + back == count) {
-            look(status == TYPED_PATH_NONE, "status where none is left", "next", path, NOTHING);
+            look(status == TYPED_PATH_STATUS_NONE, "status where none is left", "next", path, NOTHING);
             return;
         }
         const typed_path_component *wanted = &list[last ? count - 1 - back++ : front++];
-        look(status == TYPED_PATH_DONE && one.start == wanted->start && one.length == wanted->length
+        look(status == TYPED_PATH_STATUS_DONE && one.start == wanted->start && one.length == wanted->length
              && one.kind == wanted->kind, "component", "next", path, NOTHING);
         if (front + back == count)
             look(left.from == left.to, "slice where none is left", "next", path, NOTHING);
@@ -291,9 +291,9 @@ static void look_at_any_numbers(uint32_t dialect, Text path) {
         typed_path_component one = {777, 777, 777};
         uint32_t status = (drawn(2) ? typed_path_next_back : typed_path_next)(
             dialect, path.bytes, path.length, &left, &one);
-        if (status != TYPED_PATH_DONE) {
+        if (status != TYPED_PATH_STATUS_DONE) {
             look(one.start == 777 && one.length == 777 && one.kind == 777, "component that is none", "next", path, NOTHING);
-            look(status == TYPED_PATH_NONE || (status == TYPED_PATH_BAD_READING && left.from == before.from
+            look(status == TYPED_PATH_STATUS_NONE || (status == TYPED_PATH_STATUS_BAD_READING && left.from == before.from
                  && left.to == before.to && left.stage == before.stage), "numbers that are refused", "next", path, NOTHING);
             return;
         }
@@ -319,9 +319,9 @@ static void part_steps(void) {
                 continue;
             size_t len;
             uint32_t status = told_by(&row, path, other, &place, NULL, out, &len);
-            look(status == TYPED_PATH_DONE || (status == TYPED_PATH_NONE && dialect && other.length), "place of a push",
+            look(status == TYPED_PATH_STATUS_DONE || (status == TYPED_PATH_STATUS_NONE && dialect && other.length), "place of a push",
                  "push_place", path, other);
-            refused += status == TYPED_PATH_NONE;
+            refused += status == TYPED_PATH_STATUS_NONE;
         }
     }
     look(refused > 100, "no push was merged", "push_place", NOTHING, NOTHING);
@@ -350,23 +350,23 @@ static uint32_t done_by(Batch *batch, char *out) {
 /* Each name beside the call for one, as far as the batch had room and the ends were in order. */
 static void look_at_batch(Batch *batch) {
     char *out = place(answers, batch->size, true), one[400];
-    uint32_t status = done_by(batch, out), wanted = TYPED_PATH_DONE;
+    uint32_t status = done_by(batch, out), wanted = TYPED_PATH_STATUS_DONE;
     size_t from = 0, at = 0, room = 0, len = 0;
     for (; at < batch->count; at++) {
         size_t end = batch->ends[at];
         if (end < from || end > batch->names.length) {
-            wanted = TYPED_PATH_BAD_ENDS;
+            wanted = TYPED_PATH_STATUS_BAD_ENDS;
             break;
         }
         len = 0;
         uint32_t each = batch->call->put_of(
             batch->dialect, batch->base.bytes, batch->base.length, batch->names.bytes + from, end - from,
             one, sizeof one, &len);
-        if (at >= batch->places || (each == TYPED_PATH_DONE && len > batch->size - room)) {
-            wanted = TYPED_PATH_TOO_SMALL;
+        if (at >= batch->places || (each == TYPED_PATH_STATUS_DONE && len > batch->size - room)) {
+            wanted = TYPED_PATH_STATUS_TOO_SMALL;
             break;
         }
-        if (each != TYPED_PATH_DONE)
+        if (each != TYPED_PATH_STATUS_DONE)
             len = 0;
         look(batch->statuses[at] == each, "status of a name", "batch", batch->base, batch->names);
         look(batch->out_ends[at] == room + len, "end of a name", "batch", batch->base, batch->names);
@@ -399,7 +399,7 @@ static void part_batch(void) {
         batch.places = batch.count;
         batch.size = bound;
         look_at_batch(&batch);
-        look(done_by(&batch, place(answers, bound, true)) == TYPED_PATH_DONE, "bound", "batch", batch.base, batch.names);
+        look(done_by(&batch, place(answers, bound, true)) == TYPED_PATH_STATUS_DONE, "bound", "batch", batch.base, batch.names);
         batch.size = drawn(bound + 1);
         look_at_batch(&batch);
         batch.size = bound;
@@ -411,7 +411,7 @@ static void part_batch(void) {
         look_at_batch(&batch);
         for (size_t at = 0; at < BAD_DIALECTS; at++) {
             batch.dialect = BAD[at];
-            look(done_by(&batch, answers.first) == TYPED_PATH_BAD_DIALECT && batch.done == 0
+            look(done_by(&batch, answers.first) == TYPED_PATH_STATUS_BAD_DIALECT && batch.done == 0
                  && is_pattern(answers.first, answers.size) && is_pattern((char *)batch.out_ends, sizeof batch.out_ends)
                  && is_pattern((char *)batch.statuses, sizeof batch.statuses),
                  "bad dialect", "batch", batch.base, batch.names);
@@ -450,8 +450,8 @@ static void part_hashes(void) {
             uint64_t bare = 0, *each = hashes + COUNT * number;
             for (size_t at = 0; at < COUNT; at++)
                 look(typed_path_hash_keyed(dialect, KEYS[at][0], KEYS[at][1], text.bytes, text.length, &each[at])
-                     == TYPED_PATH_DONE, "status", "hash_keyed", text, NOTHING);
-            look(typed_path_hash(dialect, text.bytes, text.length, &bare) == TYPED_PATH_DONE && bare == each[0],
+                     == TYPED_PATH_STATUS_DONE, "status", "hash_keyed", text, NOTHING);
+            look(typed_path_hash(dialect, text.bytes, text.length, &bare) == TYPED_PATH_STATUS_DONE && bare == each[0],
                  "hash under a key of zeros", "hash", text, NOTHING);
         }
         qsort(hashes, COUNT * PATHS, sizeof *hashes, by_number);
@@ -468,7 +468,7 @@ static void look_at_texts(const char *name, SaidBy *said_by, uint32_t count) {
     char texts_of[32][TYPED_PATH_TEXT_BOUND] = {""};
     for (uint32_t number = 0; number < count; number++) {
         size_t length = 0;
-        look(said_by(number, texts_of[number], TYPED_PATH_TEXT_BOUND, &length) == TYPED_PATH_DONE && length > 0
+        look(said_by(number, texts_of[number], TYPED_PATH_TEXT_BOUND, &length) == TYPED_PATH_STATUS_DONE && length > 0
              && strlen(texts_of[number]) == length, "text", name, NOTHING, NOTHING);
         for (uint32_t before = 0; before < number; before++)
             look(strcmp(texts_of[before], texts_of[number]) != 0, "text of another number", name, NOTHING, NOTHING);
@@ -477,7 +477,7 @@ static void look_at_texts(const char *name, SaidBy *said_by, uint32_t count) {
             char *out = place(answers, size, true);
             size_t len = 0, written = size < length ? 0 : length + (size > length);
             uint32_t status = said_by(number, out, size, &len);
-            look(status == (size < length ? TYPED_PATH_TOO_SMALL : TYPED_PATH_DONE) && len == length
+            look(status == (size < length ? TYPED_PATH_STATUS_TOO_SMALL : TYPED_PATH_STATUS_DONE) && len == length
                  && memcmp(out, texts_of[number], written) == 0 && is_pattern(out + written, size - written)
                  && is_pattern(answers.first, answers.size - size), "text in a buffer", name, NOTHING, NOTHING);
         }
@@ -486,14 +486,14 @@ static void look_at_texts(const char *name, SaidBy *said_by, uint32_t count) {
         size_t len = 12345;
         uint32_t number = at ? NO_NUMBERS[at - 1] : count;
         memset(answers.first, PATTERN, answers.size);
-        look(said_by(number, answers.first, answers.size, &len) == TYPED_PATH_NONE && len == 12345
+        look(said_by(number, answers.first, answers.size, &len) == TYPED_PATH_STATUS_NONE && len == 12345
              && is_pattern(answers.first, answers.size), "text of no number", name, NOTHING, NOTHING);
     }
 }
 
 static void part_texts(void) {
-    look_at_texts("status_text", typed_path_status_text, TYPED_PATH_NOT_TEXT + 1);
-    look_at_texts("kind_text", typed_path_kind_text, TYPED_PATH_PREFIX_DISK + 1);
+    look_at_texts("status_text", typed_path_status_text, TYPED_PATH_STATUS_NOT_TEXT + 1);
+    look_at_texts("kind_text", typed_path_kind_text, TYPED_PATH_KIND_PREFIX_DISK + 1);
 }
 
 /* Where malloc and realloc are the linker's to wrap, requests are counted, and refused by their number. */
@@ -545,12 +545,12 @@ static void look_refused(const Row *row, const char *wanted, size_t length, size
         status = put_by(row->call, row->dialect, row->path, row->other, out, bound, &len);
     refuse_at = refuse_from = 0;
     look(held == before, "memory that is not freed", row->call->name, row->path, row->other);
-    if (status == TYPED_PATH_OUT_OF_MEMORY) {
+    if (status == TYPED_PATH_STATUS_OUT_OF_MEMORY) {
         look(is_pattern(out, sizeof out), "buffer where memory is refused", row->call->name, row->path, row->other);
         look(batch ? len == 0 && out_ends[0] == 12345 && statuses[0] == 12345 : len == 12345,
              "what is told where memory is refused", row->call->name, row->path, row->other);
     } else if (batch) {
-        look(status == TYPED_PATH_DONE && statuses[0] == row->status && out_ends[0] == length
+        look(status == TYPED_PATH_STATUS_DONE && statuses[0] == row->status && out_ends[0] == length
              && memcmp(out, wanted, length) == 0, "answer where memory is refused", "batch", row->path, row->other);
     } else {
         look(status == row->status && (status || (len == length && memcmp(out, wanted, length) == 0)),
@@ -586,7 +586,7 @@ static void part_refused(void) {
             requests = 0;
             look_refused(&row, row.answer.bytes, row.status ? 0 : row.answer.length, bound, way > 1);
             total = requests;
-            look(total == 0 || row.status == TYPED_PATH_DONE || !free_of, "memory for what is refused",
+            look(total == 0 || row.status == TYPED_PATH_STATUS_DONE || !free_of, "memory for what is refused",
                  row.call->name, row.path, row.other);
             for (size_t number = 1; number <= total; number++) {
                 refuse_at = way % 2 ? 0 : number;
@@ -621,7 +621,7 @@ static void *each_long(void *wrong_texts) {
                 Text with = call->put_in ? (Text){dialect ? "\0" : "\1", 1} : BESIDE;
                 len = 0;
                 uint32_t status = put_by(call, dialect, text, with, out, bound_of(call, text, with), &len);
-                if (status == TYPED_PATH_OUT_OF_MEMORY || status == TYPED_PATH_TOO_SMALL || (!status && out[len]))
+                if (status == TYPED_PATH_STATUS_OUT_OF_MEMORY || status == TYPED_PATH_STATUS_TOO_SMALL || (!status && out[len]))
                     *(size_t *)wrong_texts += 1;
             }
             len = count = 0;

@@ -14,7 +14,7 @@ from exports import MARK, declared
 
 CALL = re.compile(r'^\.Ft (.*)\n\.Fo (\w+)\n((?:\.Fa ".*"\n)+)\.Fc$', re.MULTILINE)
 # The other numbers of the header, which are kinds of components and its version.
-LEFT_OUT = re.compile("TYPED_PATH_(VERSION.*|H|MUST_USE|PREFIX_.*|ROOT|CURRENT|PARENT|NAME)")
+LEFT_OUT = re.compile("TYPED_PATH_(VERSION.*|H|MUST_USE|KIND_.*)")
 
 
 def wrong_library(header, page):

@@ -112,7 +112,7 @@ static Row row_of(char *line) {
     bool done = fields[4][0] == '=';
     Row row = {
         .call = call_of(fields[0]), .dialect = dialect_of(fields[1]), .path = text_of(fields[2]),
-        .other = text_of(fields[3]), .status = done ? TYPED_PATH_DONE : found(fields[4], STATUSES, sizeof STATUSES / sizeof *STATUSES),
+        .other = text_of(fields[3]), .status = done ? TYPED_PATH_STATUS_DONE : found(fields[4], STATUSES, sizeof STATUSES / sizeof *STATUSES),
         .answer = text_of(fields[4] + (done ? 1 : 0)),
     };
     if (row.call->put_in)
@@ -178,7 +178,7 @@ static bool is_stepped(const Row *row, Text path, const typed_path_component *li
         uint32_t status = (last ? typed_path_next_back : typed_path_next)(
             row->dialect, path.bytes, path.length, &reading, &one);
         if (at == count)
-            return status == TYPED_PATH_NONE;
+            return status == TYPED_PATH_STATUS_NONE;
         if (status || one.start != wanted->start || one.length != wanted->length || one.kind != wanted->kind)
             return false;
     }
@@ -189,7 +189,7 @@ static uint32_t listed(const Row *row, Text path, typed_path_component *list, ch
     size_t count = 0;
     uint32_t status = typed_path_components(
         row->dialect, path.bytes, path.length, list, TYPED_PATH_COMPONENTS_BOUND(path.length), &count);
-    for (size_t at = 0; status == TYPED_PATH_DONE && at < count; at++) {
+    for (size_t at = 0; status == TYPED_PATH_STATUS_DONE && at < count; at++) {
         typed_path_component one = {0, 0, 99};
         uint32_t again = typed_path_component_at(row->dialect, path.bytes, path.length, at, &one);
         if (again || one.start != list[at].start || one.length != list[at].length || one.kind != list[at].kind)
@@ -198,9 +198,9 @@ static uint32_t listed(const Row *row, Text path, typed_path_component *list, ch
         memcpy(out + *len, path.bytes + one.start, one.length);
         *len += one.length;
     }
-    if (typed_path_component_at(row->dialect, path.bytes, path.length, count, list) != TYPED_PATH_NONE)
+    if (typed_path_component_at(row->dialect, path.bytes, path.length, count, list) != TYPED_PATH_STATUS_NONE)
         return 99;
-    if (status == TYPED_PATH_DONE && !(is_stepped(row, path, list, count, false) && is_stepped(row, path, list, count, true)))
+    if (status == TYPED_PATH_STATUS_DONE && !(is_stepped(row, path, list, count, false) && is_stepped(row, path, list, count, true)))
         return 93;
     return status;
 }
@@ -208,7 +208,7 @@ static uint32_t listed(const Row *row, Text path, typed_path_component *list, ch
 /* The names of a prefix, with `|` between them. */
 static uint32_t named(const Row *row, Text path, typed_path_span names[2], char *out, size_t *len) {
     uint32_t status = typed_path_prefix_names(row->dialect, path.bytes, path.length, &names[0], &names[1]);
-    for (size_t at = 0; status == TYPED_PATH_DONE && at < 2; at++) {
+    for (size_t at = 0; status == TYPED_PATH_STATUS_DONE && at < 2; at++) {
         if (names[at].start > path.length || names[at].length > path.length - names[at].start)
             return 92;
         memcpy(out + *len, path.bytes + names[at].start, names[at].length);
@@ -225,7 +225,7 @@ static uint32_t placed(const Row *row, Text path, Text other, typed_path_place *
     size_t length = 0;
     uint32_t status = typed_path_push_place(
         row->dialect, path.bytes, path.length, other.bytes, other.length, place);
-    if (status != TYPED_PATH_DONE)
+    if (status != TYPED_PATH_STATUS_DONE)
         return status;
     if (place->kept > path.length || place->separator > 255
         || typed_path_join(row->dialect, path.bytes, path.length, other.bytes, other.length, joined, sizeof joined, &length))
@@ -255,7 +255,7 @@ static uint32_t compared(const Row *row, Text path, Text other, void *told, char
     *len = (size_t)sprintf(out, "%d", (int)*order);
     if (hashed(row->dialect, path, one) != status || hashed(row->dialect, other, two) != status)
         return 97;
-    for (int at = 0; status == TYPED_PATH_DONE && at < 2; at++)
+    for (int at = 0; status == TYPED_PATH_STATUS_DONE && at < 2; at++)
         if ((one[at] == two[at]) != (*order == 0))
             return 95;
     return status;
@@ -270,9 +270,9 @@ uint32_t told_by(
         typed_path_span *span = told;
         status = call->part ? call->part(row->dialect, path.bytes, path.length, span)
             : call->part_of(row->dialect, path.bytes, path.length, other.bytes, other.length, span);
-        if (status == TYPED_PATH_DONE && (span->start > path.length || span->length > path.length - span->start))
+        if (status == TYPED_PATH_STATUS_DONE && (span->start > path.length || span->length > path.length - span->start))
             return 96;
-        if (status == TYPED_PATH_DONE && span->length > 0)
+        if (status == TYPED_PATH_STATUS_DONE && span->length > 0)
             memcpy(out, path.bytes + span->start, *len = span->length);
     } else if (call->ask || call->ask_of) {
         bool *answer = told;
@@ -282,7 +282,7 @@ uint32_t told_by(
     } else if (call->judge) {
         status = call->judge(row->dialect, path.bytes, path.length);
     } else if (strcmp(call->name, "derive") == 0) {
-        status = TYPED_PATH_DONE;
+        status = TYPED_PATH_STATUS_DONE;
         *len = (size_t)sprintf(out, "%s", typed_path_derive(path.bytes, path.length) ? "windows" : "unix");
     } else if (strcmp(call->name, "compare") == 0) {
         status = compared(row, path, other, told, out, len);
@@ -297,7 +297,7 @@ uint32_t told_by(
 }
 
 bool is_answered(const Row *row, uint32_t status, const char *out, size_t len) {
-    if (status != row->status || status != TYPED_PATH_DONE)
+    if (status != row->status || status != TYPED_PATH_STATUS_DONE)
         return status == row->status;
     return len == row->answer.length && (len == 0 || memcmp(out, row->answer.bytes, len) == 0);
 }

@@ -11,8 +11,8 @@ from ctypes import POINTER, byref, c_bool, c_char, c_char_p, c_int32, c_size_t, 
 from typing import Any, Callable, NamedTuple, Optional, Sequence, TypeVar, Union
 
 Text = TypeVar("Text", str, bytes)
-NAME = "libtyped_path.so.0.1"
-VERSION = 101
+NAME = "libtyped_path.so.0.2"
+VERSION = 200
 UNIX, WINDOWS = 0, 1
 
 # What os.fsencode and os.fsdecode take.
@@ -117,6 +117,9 @@ def _loaded() -> ctypes.CDLL:
     library = ctypes.CDLL(named or (str(beside) if beside.exists() else NAME))
     if library.typed_path_version() != VERSION:
         raise ImportError(f"{NAME} has version {library.typed_path_version()}, and this package needs {VERSION}")
+    library.typed_path_runs_here.restype = c_bool
+    if not library.typed_path_runs_here():
+        raise ImportError(f"{NAME} needs a processor of x86-64-v2, which has SSE4.2 and POPCNT")
     return library
 
 
