@@ -3,8 +3,8 @@
 
 Each block has one fate. A whole file of Rattle is compiled in a crate over the library, which the commands of
 the README have put there, and what that page says of it is asked of it. Another piece of Rattle or of a proof
-stands line for line in a file of the repository, or is compiled and run in a function; C is compiled with its
-header. Commands are run as they are pasted, in a copy of the checkout. A picture, and what takes long, is left out
+stands line for line in a file of the repository, or is compiled and run in a function; C and C++ are compiled
+with their header. Commands are run as they are pasted, in a copy of the checkout. A picture, and what takes long, is left out
 by name, with the reason. A block without a fate fails, and so does a fate without a block. The tables of calls,
 with the columns `Of` and `It is` or `Here it is`, are asked row by row, here and in the language that they set
 them beside, if it is there. `./pages.py PAGE..` tries these pages alone. It takes a minute or two, and proves
@@ -408,6 +408,15 @@ def wrong_c(block):
     return ran(["cc", *strict, "-x", "c", "-"], TOP, text).stderr.splitlines()
 
 
+def wrong_cpp(block):
+    """What a C++ compiler, if there is one, says of a whole file of C++."""
+    if not shutil.which("c++"):
+        print(f"pages.py: {block.name}: left out: there is no c++", flush=True)
+        return []
+    strict = ["-std=c++17", "-Wall", "-Wextra", "-Werror", "-fsyntax-only", "-I", TOP / "bindings/c/include"]
+    return ran(["c++", *strict, "-x", "c++", "-"], TOP, block.text).stderr.splitlines()
+
+
 def compiled(repository, crate, files):
     """Compiles a crate of these files and runs its tests: what there is to say of it."""
     source = repository / "crates" / crate / "src"
@@ -721,6 +730,8 @@ def sorted_blocks(pages, count):
             pieces.append(block)
         elif block.language == "c":
             count.add([block.name], wrong_c(block))
+        elif block.language == "cpp":
+            count.add([block.name], wrong_cpp(block))
         elif block.text.startswith("crates.txt  "):
             count.add([block.name], list(lost_paths(block)))
         else:

@@ -74,6 +74,36 @@ void drop(bool *answer) {
 END
     grep unused-result "$room/told"
 }
+# The header of C++, and what includes it, in each standard that a compiler knows.
+each_standard() {
+    local compiler standard
+    for compiler in c++ clang++; do
+        if is_there $compiler; then
+            for standard in c++17 c++20 c++2b; do
+                if echo | "$compiler" -x c++ -std=$standard -c - -o "$room/none" 2> "$room/said"; then
+                    part "$1 in $standard by $compiler" "$2" $compiler $standard
+                else
+                    left_out "$1 in $standard by $compiler" "$standard"
+                fi
+            done
+        else
+            left_out "$1 by $compiler" "$compiler"
+        fi
+    done
+}
+# It has each call but these, which serve C alone, each status and each kind.
+has_all_calls() {
+    local name
+    for name in $(declares) $(sed -n 's/^#define \(TYPED_PATH_\(STATUS\|KIND\)_[A-Z_]*\) .*/\1/p' "$include/typed_path.h"); do
+        case $name in
+            typed_path_version | typed_path_components | typed_path_hash | typed_path_*_batch) ;;
+            *) grep -qw "$name" "$include/typed_path.hpp" || { echo "typed_path.hpp does not have $name" && return 1; } ;;
+        esac
+    done
+}
+declares() {
+    sed -n 's/^\(TYPED_PATH_MUST_USE \)\?\(uint32_t\|bool\) \(typed_path_[a-z_]*\)(.*/\3/p' "$include/typed_path.h" | sort
+}
 # What stands in several places: the header, the crate, the list of what a built program relies on, and the manual.
 agree() {
     local header=$include/typed_path.h list=$here/c/abi.txt page
@@ -87,6 +117,7 @@ agree() {
         else
             left_out "whether the number was raised with the list" "earlier state of the list in git"
         fi
+        part "the header of C++ has all calls" has_all_calls
         part "the manual says what header and program say" "$tests/manual.py" \
             "$header" "$here/c/man/typed_path.3" "$here/../refusals/help" "$here/c/man/typath.1"
     else
@@ -185,7 +216,11 @@ if [[ "$*" == declared ]]; then
     compiles() {
         (cd "$room" && cc -std=c11 -D_GNU_SOURCE "${strict[@]}" "-I$include" -c "$@")
     }
+    reads_plus() {
+        "$1" "-std=$2" "${strict[@]}" -Wold-style-cast "-I$include" -c "$tests/header.cpp" -o "$room/none"
+    }
     each_language reads
+    each_standard "the header of C++" reads_plus
     agree
     part "the tests and an example of C are read" compiles "$tests"/{boundary,rows}.c "$here/c/examples/check_names.c"
     for needed in ld objcopy ar readelf; do
@@ -215,11 +250,14 @@ in_language() {
     "$1" -x "$2" "-std=$3" "${strict[@]}" "$tests/header.c" -x none "$archive" -o "$room/header" && "$room/header"
 }
 each_language in_language
+in_standard() {
+    "$1" "-std=$2" "${strict[@]}" -Wold-style-cast "$tests/header.cpp" "$archive" -o "$room/header" && "$room/header" &&
+        "$1" "-std=$2" "${strict[@]}" -Wold-style-cast "$tests/rows.cpp" "$archive" -o "$room/rows" &&
+        "$room/rows" "$here/rows.tsv"
+}
+each_standard "rows by the header of C++" in_standard
 
 # Names: what the header declares, the crate exports and the library shows.
-declares() {
-    sed -n 's/^\(TYPED_PATH_MUST_USE \)\?\(uint32_t\|bool\) \(typed_path_[a-z_]*\)(.*/\3/p' "$include/typed_path.h" | sort
-}
 shows_declared() {
     diff <(declares) <(nm -D --defined-only "$shared" | sed 's/.* //' | sort)
 }

@@ -1,6 +1,6 @@
 #!/usr/bin/env bash
 # Proves the calls for C and the program, builds them, and lays out in a folder what a program links with:
-#   include/typed_path.h   lib/libtyped_path.a   lib/libtyped_path.so   bin/typath
+#   include/typed_path.h   include/typed_path.hpp   lib/libtyped_path.a   lib/libtyped_path.so   bin/typath
 #   lib/pkgconfig/typed_path.pc   lib/cmake/typed_path/typed_path-config.cmake
 #
 # bindings/c/build.sh [DIR]: without it, in bindings/c/out, from where install.sh takes it.

@@ -1,5 +1,5 @@
 #!/usr/bin/env bash
-# Installs below PREFIX what build.sh laid out: header, archive and shared object, what pkg-config and cmake find them
+# Installs below PREFIX what build.sh laid out: headers, archive and shared object, what pkg-config and cmake find them
 # by, the program, and with these the pages of the manual, the examples and the licences.
 #
 # [DESTDIR=FOLDER] bindings/c/install.sh [--libdir LIBDIR] [--from DIR] PREFIX
@@ -53,7 +53,9 @@ put() {
 number=$(number_of "$from/include/typed_path.h")
 shared=libtyped_path.so.$(kept_of "$number")
 manual=$prefix/share/man documents=$prefix/share/doc/typed_path
-put 644 "$from/include/typed_path.h" "$prefix/include/typed_path.h"
+for file in typed_path.h typed_path.hpp; do
+    put 644 "$from/include/$file" "$prefix/include/$file"
+done
 put 644 "$from/lib/libtyped_path.a" "$libdir/libtyped_path.a"
 put 644 "$from/lib/$shared" "$libdir/$shared"
 put link "$shared" "$libdir/libtyped_path.so"

@@ -15,7 +15,7 @@ mkdir -p -- "$1"
 dir=$(cd -- "$1" && pwd)
 shift
 mkdir -p "$dir/include" "$dir/lib/pkgconfig" "$dir/lib/cmake/typed_path"
-cp "$here/include/typed_path.h" "$dir/include/"
+cp "$here"/include/typed_path.{h,hpp} "$dir/include/"
 number=$(number_of "$here/include/typed_path.h")
 shared=libtyped_path.so.$(kept_of "$number")
 room=$(mktemp -d)

@@ -95,6 +95,7 @@ what_is_put() {
 755 f bin/typath 
 755 d include 
 644 f include/typed_path.h 
+644 f include/typed_path.hpp 
 755 d lib 
 755 d lib/x86_64-linux-gnu 
 755 d lib/x86_64-linux-gnu/cmake 
