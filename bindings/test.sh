@@ -1,7 +1,8 @@
 #!/usr/bin/env bash
 # Tests the calls for C at their boundary, how they are installed and found, and the package of Python, over what
 # bindings/c/build.sh lays out. It says what it leaves out where a compiler, valgrind, pkg-config, cmake, man, mandoc,
-# python3 or a package of it is missing, and ends in `N passed, M failed`, where each part counts once.
+# qemu-x86_64, musl-gcc, libarchive, python3 or a package of it is missing, and ends in `N passed, M failed`, where each
+# part counts once.
 #
 # bindings/test.sh [DIR]: DIR has what build.sh laid out; without it, it is built.
 # bindings/test.sh declared: what needs no archive alone, with a stub in its place, which is what the gate runs.
@@ -194,6 +195,17 @@ numbered() {
     sed "s/\(_VERSION_MAJOR\) [0-9]*$/\1 $major/; s/\(_VERSION_MINOR\) [0-9]*$/\1 $minor/; s/\(_VERSION_PATCH\) [0-9]*$/\1 $patch/" "$2"
 }
 
+# The archive under another library of C.
+under_musl() {
+    if is_there musl-gcc; then
+        part "the archive is linked with musl" runs_under_musl "$@"
+    else
+        left_out "the archive with musl" musl-gcc
+    fi
+}
+runs_under_musl() {
+    musl-gcc -static "${strict[@]}" "-I$include" "$2" "$1" -o "$room/with_musl" && "$room/with_musl"
+}
 # A program that asks whether it can run is told so on a processor of x86-64-v2, and not on one of the baseline.
 each_processor() {
     if is_there qemu-x86_64; then
@@ -206,6 +218,10 @@ is_told_of_processors() {
     cc "-I$include" "$2" "$1" -o "$room/here" && qemu-x86_64 -cpu Nehalem "$room/here" || return 1
     qemu-x86_64 -cpu qemu64 "$room/here"
     [[ $? -eq 1 ]]
+}
+
+has_libarchive() {
+    echo '#include <archive.h>' | cc -x c -fsyntax-only - 2> "$room/said"
 }
 
 if [[ "$*" == declared ]]; then
@@ -223,6 +239,11 @@ if [[ "$*" == declared ]]; then
     each_standard "the header of C++" reads_plus
     agree
     part "the tests and an example of C are read" compiles "$tests"/{boundary,rows}.c "$here/c/examples/check_names.c"
+    if has_libarchive; then
+        part "the example over libarchive is read" compiles "$here/c/examples/extract.c"
+    else
+        left_out "the example over libarchive" libarchive
+    fi
     for needed in ld objcopy ar readelf; do
         is_there $needed || { left_out "how the library is installed" $needed && end; }
     done
@@ -230,6 +251,7 @@ if [[ "$*" == declared ]]; then
     printf '#include <typed_path.h>\nint main(void) { return typed_path_version() != TYPED_PATH_VERSION || !typed_path_runs_here(); }\n' > "$room/asked.c"
     installs "$room/a stub" "$room/asked.c"
     each_processor "$room/a stub/lib/libtyped_path.a" "$room/asked.c"
+    under_musl "$room/a stub/lib/libtyped_path.a" "$room/asked.c"
     end
 fi
 
@@ -270,6 +292,7 @@ part "the archive needs free, malloc, memmove, realloc" needs_four
 agree
 installs "$dir" "$tests/header.c"
 each_processor "$archive" "$tests/header.c"
+under_musl "$archive" "$tests/header.c"
 
 # The boundary.
 compiled() {
@@ -285,9 +308,17 @@ done
 wrap=-Wl,--wrap=malloc,--wrap=realloc,--wrap=free
 part "compiled, with requests refused" compiled "$room/refusing" -O1 -DREFUSES $wrap
 part "boundary, each request for memory refused" looked refusing refused
-sanitize=(-fsanitize=address,undefined -fno-sanitize-recover=all)
+sanitize=(-fsanitize=address,undefined -fno-sanitize-recover=all) sanitizes=
 if echo 'int main(void) { return 0; }' | cc -x c "${sanitize[@]}" - -o "$room/none" 2> "$room/said" && "$room/none"; then
+    sanitizes=yes
     part "compiled, sanitized" compiled "$room/sanitized" -O1 "${sanitize[@]}"
+    if is_there c++; then
+        rows_sanitized() {
+            c++ -std=c++20 -g "${strict[@]}" "${sanitize[@]}" "$tests/rows.cpp" "$archive" -o "$room/rows" &&
+                "$room/rows" "$here/rows.tsv"
+        }
+        part "rows by the header of C++, sanitized" rows_sanitized
+    fi
     for each in rows random steps batch hashes texts long threads; do
         part "boundary, sanitized, $each" looked sanitized $each
     done
@@ -321,11 +352,56 @@ is_normalized() {
     c++ "${strict[@]}" "$here/c/examples/normalize.cpp" "$archive" -o "$room/normalize" &&
         diff <(printf '%s\n' 'C:\b' '' '\\s\h\x') <(printf '%s\n' 'C:/a/../b' '' '\\s\h\..\x' | "$room/normalize" windows)
 }
+is_extracted() {
+    cc -std=c11 -g "${strict[@]}" "${extra[@]}" "$here/c/examples/extract.c" "$archive" -larchive -o "$room/extract" &&
+        "$tests/extracts.py" "$room/extract"
+}
+is_served_to() {
+    c++ -std=c++17 "${strict[@]}" "$here/c/examples/serve.cpp" "$archive" -o "$room/serve" && "$room/serve" > "$room/out" << 'END' &&
+PUT /a/b.txt one
+GET /a//./b.txt
+PUT /a/c%2F../b.txt two
+GET /a/b.txt
+GET /%2e%2e/etc/passwd
+GET //etc/passwd
+PUT /CON three
+GET /c%00
+GET /%ff
+GET /%4
+GET /none
+POST /a
+END
+        diff - "$room/out" << 'END'
+201 /srv/a/b.txt
+200 one
+201 /srv/a/b.txt
+200 two
+400 path attempts to escape original path
+400 path contains unexpected root
+400 path contains a name that may be a device
+400 path contains a forbidden byte
+400 path contains a name that is not UTF-8
+400 there is none
+404
+405
+END
+}
 part "example, names checked in C" names_are_checked
+if has_libarchive && is_there python3; then
+    extra=()
+    part "example, hostile archives extracted in C" is_extracted
+    if [[ $sanitizes ]]; then
+        extra=("${sanitize[@]}")
+        part "example, hostile archives extracted in C, sanitized" is_extracted
+    fi
+else
+    left_out "the example over libarchive" "libarchive or python3"
+fi
 if is_there c++; then
     part "example, normal paths in C++" is_normalized
+    part "example, a server's files in C++" is_served_to
 else
-    left_out "the example in C++" c++
+    left_out "the examples in C++" c++
 fi
 
 # Python.

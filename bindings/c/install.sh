@@ -64,7 +64,7 @@ for file in typed_path-config.cmake typed_path-config-version.cmake; do
     put 644 "$room/$file" "$libdir/cmake/typed_path/$file"
 done
 put 644 "$here/man/typed_path.3" "$manual/man3/typed_path.3"
-for file in check_names.c normalize.cpp; do
+for file in check_names.c extract.c normalize.cpp serve.cpp; do
     put 644 "$here/examples/$file" "$documents/examples/$file"
 done
 for file in LICENSE-APACHE LICENSE-MIT; do

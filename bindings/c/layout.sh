@@ -1,6 +1,7 @@
 #!/usr/bin/env bash
 # Lays out in a folder what a program links with, of built archives: that of the calls, and that of the
-# kit by which they ask for memory. The call that tells of the processor is compiled here. build.sh runs it. The folder may be moved.
+# kit by which they ask for memory. The call that tells of the processor is compiled here. build.sh runs it. The folder
+# may be moved.
 #
 # bindings/c/layout.sh DIR ARCHIVE..
 set -euo pipefail
@@ -23,8 +24,8 @@ trap 'rm -rf "$room"' EXIT
 
 # One object, in which the names of the header alone can be seen, is the archive. Where LLVM copies by memcpy,
 # memmove serves.
-cc -O2 -fPIC -ffunction-sections -march=x86-64 -mtune=generic -Wall -Wextra -Werror "-I$here/include" -c "$here/runs_here.c" \
-    -o "$room/runs_here.o"
+cc -O2 -fPIC -ffunction-sections -march=x86-64 -mtune=generic -Wall -Wextra -Werror "-I$here/include" \
+    -c "$here/runs_here.c" -o "$room/runs_here.o"
 ld -r --whole-archive "$@" "$room/runs_here.o" -o "$room/all.o"
 objcopy --redefine-sym memcpy=memmove --wildcard --keep-global-symbol 'typed_path_*' "$room/all.o" "$room/typed_path.o"
 rm -f "$dir"/lib/libtyped_path.*

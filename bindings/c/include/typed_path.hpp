@@ -8,7 +8,7 @@
 //
 // Texts come in as what a std::string_view can be made of. A path that is made is a std::string, a part of a path a
 // std::optional<std::string_view> into its text. Where memory is refused, std::bad_alloc is thrown; without exceptions
-// the program ends there, and where `value` would throw. What neither makes a path nor puts words is noexcept.
+// the program ends there, and where `value` would throw. Parts, components, questions and comparisons are noexcept.
 #ifndef TYPED_PATH_HPP
 #define TYPED_PATH_HPP
 
@@ -312,9 +312,10 @@ public:
     constexpr basic_path_view(const Text &text) noexcept : text_(text) {}
 #if defined(__cpp_lib_filesystem)
     /// Of a path of the system, where that is one of Unix.
-    template <class Path, class = std::enable_if_t<
-        std::is_same_v<Path, std::filesystem::path> && D == dialect::Unix && std::is_same_v<typename Path::value_type, char>>,
-        class = void>
+    template <class Path,
+              class = std::enable_if_t<std::is_same_v<Path, std::filesystem::path> && D == dialect::Unix
+                                       && std::is_same_v<typename Path::value_type, char>>,
+              class = void>
     basic_path_view(const Path &path) noexcept : text_(path.native()) {}
     /// It as a path of the system, where that is one of Unix.
     [[nodiscard]] std::filesystem::path to_filesystem() const {
@@ -331,7 +332,9 @@ public:
     // Paths that are made.
 
     /// It with another pushed onto it; an absolute one replaces it.
-    [[nodiscard]] std::string join(basic_path_view other) const { return made<typed_path_join>(join_bound(other), other); }
+    [[nodiscard]] std::string join(basic_path_view other) const {
+        return made<typed_path_join>(join_bound(other), other);
+    }
     /// The same if the other has no component that offends: what is made lies within this path.
     result<std::string> join_checked(basic_path_view other) const {
         return asked<typed_path_join_checked>(join_bound(other), other);
@@ -393,7 +396,9 @@ public:
     /// The file name up to its last dot.
     [[nodiscard]] std::optional<std::string_view> file_stem() const noexcept { return part<typed_path_file_stem>(); }
     /// The file name up to its first dot.
-    [[nodiscard]] std::optional<std::string_view> file_prefix() const noexcept { return part<typed_path_file_prefix>(); }
+    [[nodiscard]] std::optional<std::string_view> file_prefix() const noexcept {
+        return part<typed_path_file_prefix>();
+    }
     /// What stands behind the last dot of the file name, without the dot.
     [[nodiscard]] std::optional<std::string_view> extension() const noexcept { return part<typed_path_extension>(); }
     /// What is left behind a base, if it begins with that.
@@ -435,7 +440,9 @@ public:
     /// What a checked join refuses it for, whatever it is joined to; or `done`.
     [[nodiscard]] status check() const noexcept { return static_cast<status>(call<typed_path_check>()); }
     /// Why some system does not take each component as it is written; or `done`.
-    [[nodiscard]] status check_portable() const noexcept { return static_cast<status>(call<typed_path_check_portable>()); }
+    [[nodiscard]] status check_portable() const noexcept {
+        return static_cast<status>(call<typed_path_check_portable>());
+    }
     /// Whether it leads to one place from every directory.
     [[nodiscard]] bool is_absolute() const noexcept { return is<typed_path_is_absolute>(); }
     /// Whether it begins with a root, written or implied by a prefix.

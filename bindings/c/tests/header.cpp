@@ -31,7 +31,7 @@ static_assert(std::regular<unix_path> && std::totally_ordered<windows_path>);
 static_assert(std::three_way_comparable<unix_path, std::weak_ordering>);
 #endif
 
-// Maps find equal paths, by views and by texts of their own; refusals are asked and thrown; paths of the system are taken.
+// Maps find equal paths, by views and by texts; refusals are asked and thrown; paths of the system are taken.
 int main() {
     std::unordered_map<unix_path, int> views = {{"/a/b", 1}};
     std::unordered_map<std::string, int, windows_hash, windows_equal> texts;
@@ -58,7 +58,8 @@ int main() {
 // The views of libstdc++ want a clang of 16 or later.
 #if defined(__cpp_lib_ranges) && (!defined(__clang__) || __clang_major__ >= 16)
     const unix_path path = "/usr/lib/x.so";
-    auto names = path.components() | std::views::reverse | std::views::filter([](component it) { return it.kind == kind::name; });
+    const auto is_name = [](component it) { return it.kind == kind::name; };
+    auto names = path.components() | std::views::reverse | std::views::filter(is_name);
     good = good && (*names.begin()).text == "x.so" && std::ranges::distance(path.components()) == 4
         && std::ranges::find(path.components(), "lib"sv, &component::text) != path.components().end();
 #endif

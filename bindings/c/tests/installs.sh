@@ -30,7 +30,9 @@ installs() {
         left_out "pkg-config" pkg-config
     fi
     if is_there cmake; then
-        part "found by cmake" by_cmake "-DCMAKE_PREFIX_PATH=$own"
+        plus=
+        ! is_there c++ || plus=$tests/header.cpp
+        part "found by cmake" by_cmake "-DCMAKE_PREFIX_PATH=$own" "-DPLUS=$plus"
         part "found by cmake below DESTDIR" by_cmake "-Dtyped_path_DIR=$staged/lib/x86_64-linux-gnu/cmake/typed_path"
         part "found by cmake behind a link" by_cmake "-DCMAKE_PREFIX_PATH=$linked"
     else
@@ -114,7 +116,9 @@ what_is_put() {
 644 f share/doc/typed_path/LICENSE-MIT 
 755 d share/doc/typed_path/examples 
 644 f share/doc/typed_path/examples/check_names.c 
+644 f share/doc/typed_path/examples/extract.c 
 644 f share/doc/typed_path/examples/normalize.cpp 
+644 f share/doc/typed_path/examples/serve.cpp 
 755 d share/man 
 755 d share/man/man1 
 644 f share/man/man1/typath.1 
@@ -168,17 +172,21 @@ by_each_pc() {
     done
 }
 examples_are_built() {
-    local said
+    local said file
     said=$(PKG_CONFIG_PATH=$own/lib/pkgconfig pkg-config --cflags --libs typed_path) || return 1
     (
         cd "$own/share/doc/typed_path/examples" && eval "cc check_names.c $said -o \"\$room/found\"" || exit 1
-        ! is_there c++ || eval "c++ normalize.cpp $said -o \"\$room/found\""
+        ! pkg-config --exists libarchive ||
+            eval "cc extract.c $said $(pkg-config --cflags --libs libarchive) -o \"\$room/found\"" || exit 1
+        ! is_there c++ || for file in normalize serve; do
+            eval "c++ -std=c++17 $file.cpp $said -o \"\$room/found\"" || exit 1
+        done
     )
 }
 by_cmake() {
     local build=$room/by_cmake
     rm -rf "$build"
-    cmake -S "$of_c/tests/app" -B "$build" "-DSOURCE=$source" "$1" && cmake --build "$build" || return 1
+    cmake -S "$of_c/tests/app" -B "$build" "-DSOURCE=$source" "$@" && cmake --build "$build" || return 1
     env -u LD_LIBRARY_PATH "$build/app" && env -u LD_LIBRARY_PATH "$build/app_static" &&
         readelf -d "$build/app" | grep -qF "[$shared]" && ! readelf -d "$build/app_static" | grep -F typed_path
 }
