@@ -219,21 +219,33 @@ static uint32_t named(const Row *row, Text path, typed_path_span names[2], char 
     return status;
 }
 
-/* How many bytes of a path are kept, and the separator behind them; put so, the answer is that of a join. */
-static uint32_t placed(const Row *row, Text path, Text other, typed_path_place *place, char *out, size_t *len) {
+/* Whether a join puts a path where its place is. It asks for memory. */
+static bool is_joined_at(const Row *row, Text path, Text other, const typed_path_place *place) {
     char joined[1000];
-    size_t length = 0;
+    size_t length = 0, between = place->kept + (place->separator != 0);
+    if (typed_path_join(
+            row->dialect, path.bytes, path.length, other.bytes, other.length, joined, sizeof joined, &length))
+        return false;
+    return length == between + other.length && (!place->kept || memcmp(joined, path.bytes, place->kept) == 0)
+        && (!place->separator || joined[place->kept] == (char)place->separator)
+        && (!other.length || memcmp(joined + between, other.bytes, other.length) == 0);
+}
+
+/* How many bytes of a path are kept, and the separator behind them; put so, the answer is that of a join, which is not
+   asked where requests for memory are counted. */
+static uint32_t placed(const Row *row, Text path, Text other, typed_path_place *place, char *out, size_t *len) {
+#ifdef REFUSES
+    const bool joins = false;
+#else
+    const bool joins = true;
+#endif
     uint32_t status = typed_path_push_place(
         row->dialect, path.bytes, path.length, other.bytes, other.length, place);
     if (status != TYPED_PATH_STATUS_DONE)
         return status;
-    if (place->kept > path.length || place->separator > 255
-        || typed_path_join(row->dialect, path.bytes, path.length, other.bytes, other.length, joined, sizeof joined, &length))
+    if (place->kept > path.length || place->separator > 255)
         return 91;
-    size_t between = place->kept + (place->separator != 0);
-    if (length != between + other.length || (place->kept && memcmp(joined, path.bytes, place->kept) != 0)
-        || (place->separator && joined[place->kept] != (char)place->separator)
-        || (other.length && memcmp(joined + between, other.bytes, other.length) != 0))
+    if (joins && !is_joined_at(row, path, other, place))
         return 90;
     *len = (size_t)sprintf(out, "%zu|", place->kept);
     if (place->separator)
