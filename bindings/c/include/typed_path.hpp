@@ -167,7 +167,7 @@ class [[nodiscard]] result {
 public:
     result(T made) : made_(std::move(made)), status_(typed_path::status::done) {}
     /// A refusal, which is not `done`.
-    result(typed_path::status refused) noexcept : status_(refused) {}
+    result(typed_path::status refused) noexcept : made_(), status_(refused) {}
 
     /// Whether it was made.
     [[nodiscard]] bool has_value() const noexcept { return made_.has_value(); }
