@@ -8,6 +8,11 @@
 using namespace typed_path;
 using namespace std::literals;
 
+// The constants of C are numbers of one type.
+static_assert(std::is_same_v<decltype(TYPED_PATH_WINDOWS), std::uint32_t>);
+static_assert(std::is_same_v<decltype(TYPED_PATH_STATUS_NOT_TEXT), std::uint32_t>);
+static_assert(std::is_same_v<decltype(TYPED_PATH_KIND_PREFIX_DISK), std::uint32_t>);
+
 // A path is a view, and its components are a range that can be read from both ends.
 static_assert(std::is_trivially_copyable_v<unix_path> && sizeof(unix_path) == sizeof(std::string_view));
 static_assert(std::is_nothrow_default_constructible_v<windows_path> && std::is_convertible_v<std::string, unix_path>);
