@@ -12,6 +12,10 @@
 #ifndef TYPED_PATH_HPP
 #define TYPED_PATH_HPP
 
+#if !defined(__cplusplus) || __cplusplus < 201703L
+#error "typed_path.hpp is for C++17 and later; typed_path.h is for C, and for earlier ones"
+#endif
+
 #include <typed_path.h>
 
 #include <cstddef>
