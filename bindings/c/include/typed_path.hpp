@@ -335,11 +335,13 @@ public:
 
     // Paths that are made.
 
-    /// It with another pushed onto it; an absolute one replaces it.
+    /// It with another pushed onto it, which replaces it if that is absolute; on Windows one with a prefix does so too, as
+    /// `D:x`, and one with a root replaces all but the prefix, as `\x`.
     [[nodiscard]] std::string join(basic_path_view other) const {
         return made<typed_path_join>(join_bound(other), other);
     }
-    /// The same if the other has no component that offends: what is made lies within this path.
+    /// The same if the other has no component that offends: what is made lies within this path, if this one keeps its
+    /// prefix.
     result<std::string> join_checked(basic_path_view other) const {
         return asked<typed_path_join_checked>(join_bound(other), other);
     }
@@ -382,9 +384,11 @@ public:
     result<std::string> convert_checked(dialect to) const {
         return asked<typed_path_convert_checked>(TYPED_PATH_CONVERT_BOUND(text_.size()), to);
     }
-    /// The normal path, read from a directory if it is not absolute; `ambiguous` if it isn't absolute there either.
-    result<std::string> absolutize(basic_path_view directory) const {
-        return asked<typed_path_absolutize>(join_bound(directory), directory);
+    /// The normal path, read from a directory of Unix if it is not absolute; `ambiguous` if it isn't absolute there
+    /// either.
+    result<std::string> absolutize(basic_path_view<dialect::Unix> directory) const {
+        return asked<typed_path_absolutize>(TYPED_PATH_JOIN_BOUND(text_.size(), directory.text().size()),
+                                            directory.text());
     }
     /// The words of its key, for a hasher of one's own: one text for equal paths, and for no others.
     [[nodiscard]] std::string key_words() const {
@@ -461,7 +465,7 @@ public:
     [[nodiscard]] bool is_portable() const noexcept { return is<typed_path_is_portable>(); }
     /// Whether some version of Windows may take a name of it for a device.
     [[nodiscard]] bool may_be_device() const noexcept { return is<typed_path_may_be_device>(); }
-    /// Whether every accepted join onto it has its prefix, and so lies within it.
+    /// True only if every accepted join onto it has its prefix, and so lies within it.
     [[nodiscard]] bool keeps_prefix() const noexcept { return is<typed_path_keeps_prefix>(); }
     /// Whether it begins with the components of a base, as they are written: no check of containment.
     [[nodiscard]] bool starts_with(basic_path_view base) const noexcept { return is<typed_path_starts_with>(base); }

@@ -127,7 +127,7 @@ static Answer asked(const std::string &call, const std::string &text, const std:
     if (call == "key_words") return answer(path.key_words());
     if (call == "convert") return answer(path.convert(to));
     if (call == "convert_checked") return answer(path.convert_checked(to));
-    if (call == "absolutize") return answer(path.absolutize(beside));
+    if (call == "absolutize") return answer(path.absolutize(beside.text()));
     if (call == "parent") return answer(path.parent());
     if (call == "file_name") return answer(path.file_name());
     if (call == "file_stem") return answer(path.file_stem());
