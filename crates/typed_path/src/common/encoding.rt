@@ -1,4 +1,4 @@
-//! What every encoding of paths can do.
+//! The trait that every encoding of paths implements.
 
 ghost use Rattle.std.specs.Prelude.{◌≡◌, ◌≤◌, ◌<◌, Bool, ◌+◌, ◌++◌, length, fold, ℕ, List, drop, take, option_copied, option_map, IsSome, Some, None, IsOk, IfOk, IfSome, OnOk, OnErr};
 ghost use Rattle.std.specs.Vec.{vec_len, vec_capacity};
@@ -21,22 +21,23 @@ use std::alloc::AllocError;
 use std::cmp::Ordering;
 use std::hash::Hasher;
 
-/// A way of writing paths.
+/// An encoding: how paths are read and written, as on Unix or as on Windows.
 ///
-/// Code that is generic over the encoding rests on these contracts alone.
+/// Code that is generic over the encoding relies on these contracts alone.
 pub trait Encoding: Sized {
     ghost dialect: { Dialect };
 
     ghost IS_PLATFORM: { Bool };
 
-    /// Whether the encoding is that of the machine.
+    /// Whether this is the platform encoding. It is `false` for the Unix encoding, although the
+    /// platform encoding forwards to that.
     const IS_PLATFORM: bool;
 
     /// The name of the encoding: `unix` or `windows`.
     fn label() -> &'static str
         ensures { result.now ≡ label_of dialect };
 
-    /// How the root is written where a path is put together.
+    /// The root as it is written when a path is put together: `/` or `\`.
     fn root_text() -> &'static [u8]
         ensures { result.now ≡ root_of dialect };
 
@@ -48,8 +49,8 @@ pub trait Encoding: Sized {
     fn valid_names(path: &[u8]) -> bool
         ensures { result ≡ is_valid dialect (kinds (parts_of dialect path.now)) };
 
-    /// Feeds a path to a hasher: its prefix, by kind and names, then the text of each later component
-    /// but the root's, and last the sum of the lengths of these texts.
+    /// Feeds a path to a hasher: the prefix by its kind and names, then the bytes of each later
+    /// component except the root, and last the sum of the lengths of these bytes.
     fn hash<H: Hasher>(path: &[u8], state: &mut H)
         ensures { state.new ≡ fold H.write state.old (path_words dialect path.now) }
     {
@@ -63,13 +64,13 @@ pub trait Encoding: Sized {
         state.write_usize(len);
     }
 
-    /// Judges a path that is to be pushed, on its own: it is refused for its first component that
-    /// offends. A path that is not refused lies within each base that it is pushed onto, where the
-    /// result has the prefix of that base. It always has for the bases that `keeps_prefix` lists.
+    /// Checks whether a checked push accepts a path, whatever the base. An accepted path lies
+    /// within each base that it is pushed onto if the result has the prefix of that base. It always
+    /// has for the bases of which `keeps_prefix` is true.
     ///
     /// # Errors
     ///
-    /// The first component that offends says which: `UnexpectedPrefix`, `UnexpectedRoot`,
+    /// The refusal of the first component that offends: `UnexpectedPrefix`, `UnexpectedRoot`,
     /// `PathTraversalAttack` for a `..` that no earlier name makes up for, as in `a/../..`, or
     /// `InvalidFilename`.
     fn check(path: &[u8]) -> Result<(), CheckedPathError>
@@ -79,7 +80,7 @@ pub trait Encoding: Sized {
         ensures contained { OnOk result ((base : List ℕ)
             → LiesWithin dialect base path.now (push_spec.push dialect base path.now)) };
 
-    /// Pushes a path onto another. Where memory is refused, the other is as it was.
+    /// Pushes `other` onto `path`. If allocation fails, `path` keeps its bytes.
     fn push(path: &mut Vec<u8>, other: &[u8]) -> Result<(), AllocError>
         ensures ok { OnOk result
             (path.new.items ≡ push_spec.push dialect path.old.items other.now) }
@@ -91,8 +92,8 @@ pub trait Encoding: Sized {
         Self::push_over(path, path.len(), other)
     }
 
-    /// Pushes a path onto another, unless the path has a component that offends. Then, and where
-    /// memory is refused, the other is as it was.
+    /// Pushes `other` onto `path`, unless a component of `other` offends. If one does, or
+    /// allocation fails, `path` keeps its bytes.
     fn push_checked(path: &mut Vec<u8>, other: &[u8]) -> Result<(), PathError>
         ensures refused { refusal result ≡ fault dialect other.now }
         ensures ok { OnOk result
@@ -110,19 +111,21 @@ pub trait Encoding: Sized {
         Ok(Self::push(path, other)?)
     }
 
-    /// For encodings alone. A reading of the components of a text.
+    /// For encodings alone. Returns a cursor over the components of a path.
     fn cursor(path: &[u8]) -> Cursor<'_>
         ensures items { items_left result ≡ comps dialect path.now }
         ensures slice { slice_left result ≡ path.now };
 
-    /// For encodings alone. Takes the first component that is left, with the separators behind it.
+    /// For encodings alone. Takes the first component that is left, with the separators after it;
+    /// `None` if no component is left.
     fn front<'a>(cursor: &mut Cursor<'a>) -> Option<Piece<'a>>
         ensures taken { option_map part_of result ≡ first_part (items_left cursor.old) }
         ensures items { items_left cursor.new ≡ drop 1 (items_left cursor.old) }
         ensures slice { slice_left cursor.new
             ≡ slice_after_front (items_left cursor.old) (slice_left cursor.old) };
 
-    /// For encodings alone. Takes the last component that is left, with the separators before it.
+    /// For encodings alone. Takes the last component that is left, with the separators before it;
+    /// `None` if no component is left.
     fn back<'a>(cursor: &mut Cursor<'a>) -> Option<Piece<'a>>
         ensures taken { option_map part_of result ≡ last_part (items_left cursor.old) }
         ensures items { items_left cursor.new ≡ but_last (items_left cursor.old) }
@@ -133,38 +136,39 @@ pub trait Encoding: Sized {
     fn absolute(cursor: &Cursor<'_>) -> bool
         ensures { result ≡ is_absolute dialect (kinds (parts (items_left cursor.now))) };
 
-    /// For encodings alone. Whether the components that are left begin with a root, written or implied
-    /// by a prefix.
+    /// For encodings alone. Whether the components that are left begin with a root, written or
+    /// implied by a prefix.
     fn rooted(cursor: &Cursor<'_>) -> bool
         ensures { result ≡ has_root dialect (kinds (parts (items_left cursor.now))) };
 
-    /// For encodings alone. What is left of a path behind a base, where the bytes of the two tell,
-    /// with no reading of either. None says nothing.
+    /// For encodings alone. Returns what is left of `path` after `base`, if a look at their bytes
+    /// finds it. `None` leaves it open, as the default does.
     fn behind<'a>(path: &'a [u8], base: &[u8]) -> Option<&'a [u8]>
         ensures { IfSome result (λ rest. stripped dialect path.now base.now ≡ Some rest.now) }
     {
         None
     }
 
-    /// For encodings alone. What is left of a path behind a base, or none where it does not begin with
-    /// the base's components, where the bytes of the two tell, with no reading of either. None says nothing.
-    /// An encoding that does not write it is asked for the first alone, by `behind`.
+    /// For encodings alone. Returns whether `path` begins with the components of `base`, and if so
+    /// what is left of it after them, if a look at their bytes tells: `Some(Some(rest))` or
+    /// `Some(None)`. `None` leaves it open. The default finds the first of these alone, by
+    /// `behind`.
     fn strip_by_bytes<'a>(path: &'a [u8], base: &[u8]) -> Option<Option<&'a [u8]>>
         ensures { IfSome result (λ told. stripped dialect path.now base.now ≡ option_copied told) }
     {
         Self::behind(path, base).map(Some)
     }
 
-    /// For encodings alone. The order of two paths by their prefixes, where these differ or one path alone has
-    /// one, and else by what stands behind them, as its bytes tell. None says nothing.
+    /// For encodings alone. Returns the order of two paths if their prefixes differ, or one alone
+    /// has one, or if the bytes after the prefixes decide it. `None` leaves it open.
     fn order_behind_prefix(path: &[u8], other: &[u8]) -> Option<Ordering>
         ensures { IfSome result (λ order. path_cmp dialect path.now other.now ≡ order) }
     {
         None
     }
 
-    /// For encodings alone. Cuts a path to its first bytes, and pushes another onto what is left.
-    /// Where memory is refused, the path is as it was.
+    /// For encodings alone. Cuts `path` to its first `kept` bytes, and pushes `other` onto these.
+    /// If allocation fails, `path` keeps all its bytes.
     fn push_over(path: &mut Vec<u8>, kept: usize, other: &[u8]) -> Result<(), AllocError>
         ensures ok { OnOk result
             (path.new.items ≡ push_spec.push dialect (take kept path.old.items) other.now) }
@@ -173,8 +177,8 @@ pub trait Encoding: Sized {
         ensures succeeds { FitsPush dialect (vec_capacity path.old)
             (take kept path.old.items) other.now → IsOk result };
 
-    /// For encodings alone. Pushes a path onto the one that stands behind the first bytes of a text.
-    /// Where memory is refused, the text is as it was.
+    /// For encodings alone. Pushes `other` onto the path `text[start..]`. If allocation fails,
+    /// `text` keeps its bytes.
     fn push_behind(text: &mut Vec<u8>, start: usize, other: &[u8]) -> Result<(), AllocError>
         ensures ok { OnOk result (text.new.items ≡ take start text.old.items
             ++ push_spec.push dialect (drop start text.old.items) other.now) }
@@ -187,13 +191,13 @@ pub trait Encoding: Sized {
         Ok(())
     }
 
-    /// For encodings alone. Pushes a path onto the one that stands behind the first bytes of a text,
-    /// of which something may be known, and answers what is known of what stands there then. Where
-    /// memory is refused, the text is as it was.
+    /// For encodings alone. Pushes `other` onto the path `text[start..]`, and returns what is known
+    /// of the result. If allocation fails, `text` keeps its bytes.
     ///
-    /// What may be known is how many bytes the prefix takes of a Windows path that a push spells as it
-    /// stands; nothing is known of another. So paths that are pushed one by one need not read what stands
-    /// there anew for each. Where what is said to be known is not so, only the refusal is promised.
+    /// What is known is the length of the prefix of a Windows path that is spelled as a push under
+    /// a verbatim prefix would spell it; `None` if that is not known. A row of pushes hands it on,
+    /// so that none has to read anew what stands there. If `known` is wrong, all that holds is that
+    /// `text` keeps its bytes if allocation fails.
     fn push_next(
         text: &mut Vec<u8>,
         start: usize,
@@ -212,10 +216,13 @@ pub trait Encoding: Sized {
             → IsKnown dialect known (drop start text.old.items)
             → FitsPush dialect room (drop start text.old.items) other.now → IsOk result };
 
-    /// For encodings alone. Puts the normal text of a path behind a text: what its list resolves to,
-    /// pushed one by one onto the empty path. Where memory is refused, the text is as it was. Where
-    /// there is room for the whole path and a byte more behind the text, it succeeds for each path
-    /// whose names are put one behind the other.
+    /// For encodings alone. Appends the normal path of `path` to `text`: the components that its
+    /// list resolves to, pushed one by one onto the empty path. If allocation fails, `text` keeps
+    /// its bytes.
+    ///
+    /// It succeeds if `text` has spare capacity for `path` and one byte more, and each of these
+    /// pushes only appends: on Windows, if the prefix is not verbatim and no segment after it
+    /// begins with a drive.
     fn put_normal(text: &mut Vec<u8>, path: &[u8]) -> Result<(), AllocError>
         ensures ok { OnOk result (text.new.items ≡ text.old.items ++ normal_text dialect path.now) }
         ensures err { OnErr result (text.new.items ≡ text.old.items) }
