@@ -1,4 +1,4 @@
-//! A path that is lent: what makes one, what it answers, and the owned paths that are made of it.
+//! The borrowed path: how it is made, what it answers, and the owned paths that are made of it.
 
 ghost use Rattle.std.specs.Prelude.{◌≡◌, IfOk, not, ◌≤◌, length, option_map, option_copied, IfSome, [], IsOk, take, ◌++◌, None};
 ghost use Rattle.typed_path.specs.places.{clean_text, is_within, normal_text, relative_text};
@@ -32,7 +32,7 @@ pub struct Path<'a, T> {
 }
 
 impl<'a, T> Path<'a, T> {
-    /// The path of these bytes, whatever they are.
+    /// The path of these bytes. Any bytes are a path.
     #[inline(always)]
     pub fn new(bytes: &'a [u8]) -> Path<'a, T>
         ensures { path_bytes result ≡ bytes.now }
@@ -93,18 +93,20 @@ impl<'a, T: Encoding> Path<'a, T> {
 
     /// Whether some version of Windows may take a name of the path for a device.
     ///
-    /// `nul .txt`, `con:a` and `COM¹` may be taken for one, and `nul_` and `a.con` not. A name is read up to its
-    /// first `:`, then up to its first dot, without the spaces at its end, in either case.
+    /// `nul .txt`, `con:a` and `COM¹` may be taken for one, `nul_` and `a.con` not. Only what
+    /// precedes the first `:` of a name counts, of that only what precedes the first dot, without
+    /// spaces at its end and in either case.
     ///
-    /// A path of Unix has its own names: `a\nul` is one that is not told. Where it is not known on which system a
-    /// path is used, ask both readings.
+    /// The names are those of the path's own dialect: on Unix `a\nul` is one name, and no device.
+    /// If it is not known on which system a path will be used, ask it in both dialects.
     pub fn may_be_device(self) -> bool
         ensures { result ≡ may_be_device T.dialect (path_bytes self.entry) }
     {
         have_device(self.components())
     }
 
-    /// Whether every system takes each component of the path as it is written, as [`Path::check_portable`] asks.
+    /// Whether every system takes each component of the path as it is written, as
+    /// [`Path::check_portable`] finds.
     ///
     /// `a/b.txt` is portable, and `nul`, `a:b` and `a/b.` are not.
     pub fn is_portable(self) -> bool
@@ -113,14 +115,16 @@ impl<'a, T: Encoding> Path<'a, T> {
         self.check_portable().is_ok()
     }
 
-    /// Asks whether every system takes each component of the path as it is written. Roots, `.` and `..` are let
-    /// through, and each name has to be text of at most 255 bytes, without a byte that no name of Windows may
-    /// have and without a control byte, that may be no device and ends in neither a dot nor a space.
+    /// Checks that every system takes each component of the path as it is written. Roots, `.` and
+    /// `..` are accepted. A name has to be UTF-8 of at most 255 bytes, without control bytes and
+    /// without bytes that Windows forbids in names; it may not be a device, nor end in a dot or a
+    /// space.
     ///
     /// # Errors
     ///
-    /// What the first component that offends does: `Prefix`, `Forbidden`, `Device`, `Ending`, `TooLong` or
-    /// `NotText`, the first of these that is true of it. On Windows `C:\nul` is refused with `Prefix`.
+    /// The refusal of the first component that offends, and of its faults the first in this order:
+    /// `Prefix`, `Forbidden`, `Device`, `Ending`, `TooLong`, `NotText`. On Windows `C:\nul` is
+    /// refused with `Prefix`.
     pub fn check_portable(self) -> Result<(), PortableError>
         ensures { error_of result ≡ portable_fault T.dialect (path_bytes self.entry) }
     {
@@ -130,7 +134,8 @@ impl<'a, T: Encoding> Path<'a, T> {
         refused_for(self.unportable())
     }
 
-    /// The first component for which [`Path::check_portable`] refuses the path, as it is written, and why.
+    /// Returns the first component for which [`Path::check_portable`] refuses the path, as it is
+    /// written, and the refusal; `None` if the path is portable.
     ///
     /// Of `a/nul .txt/b` it is `nul .txt` with `Device`.
     pub fn unportable(self) -> Option<(&'a [u8], PortableError)>
@@ -140,13 +145,15 @@ impl<'a, T: Encoding> Path<'a, T> {
         first_unportable(self.components())
     }
 
-    /// True only if every path that a checked join makes of this one has its prefix, or none if it has none.
+    /// Whether each checked join onto this path is known to have its prefix, or none if it has
+    /// none. `false` leaves it open.
     ///
-    /// Every path of Unix keeps it so. On Windows `C:\a`, `\\s\h` and `a` do. `\\s`, a server without a
-    /// share, does not, nor do `\\?\UNC`, `/`, `\\` and `/\`: what is put behind these becomes a part of a prefix.
-    /// It is false too of some that keep theirs, as `//a/` and `\\s\\x`.
+    /// It is `true` of every Unix path. On Windows it is `true` of `C:\a`, `\\s\h` and `a`. It is
+    /// `false` of `\\s`, a server without a share, and of `\\?\UNC`, `/`, `\\` and `/\`, as what is
+    /// put after these becomes a part of a prefix. It is `false` too of some that keep theirs, as
+    /// `//a/` and `\\s\\x`.
     ///
-    /// So a base that is known only when the program runs is asked once: if it keeps its prefix, each path
+    /// So a base that is known only at run time is asked once: if it keeps its prefix, each path
     /// that [`Path::join_checked`] makes of it lies below it.
     pub fn keeps_prefix(self) -> bool
         ensures { result ≡ keeps_prefix T.dialect (path_bytes self.entry) }
@@ -154,7 +161,7 @@ impl<'a, T: Encoding> Path<'a, T> {
         T::root_text() == b"/".as_slice() || keeps_prefix(self.bytes)
     }
 
-    /// The components of the path, from either end.
+    /// Returns an iterator over the components of the path, from either end.
     ///
     /// The Unix path `/a/./b//` has the root, `a` and `b`.
     #[inline(always)]
@@ -165,7 +172,7 @@ impl<'a, T: Encoding> Path<'a, T> {
         Reading::new(self)
     }
 
-    /// The texts of the components, from either end.
+    /// Returns an iterator over the texts of the components, from either end.
     ///
     /// Those of the Unix path `/a/./b` are `/`, `a` and `b`.
     #[inline(always)]
@@ -176,7 +183,7 @@ impl<'a, T: Encoding> Path<'a, T> {
         Reading::new(self)
     }
 
-    /// The path, and then each parent of the one before.
+    /// Returns an iterator over the path, and then each parent of the one before.
     ///
     /// Those of the Unix path `/a/b/.` are `/a/b/.`, `/a` and `/`.
     #[inline(always)]
@@ -186,8 +193,8 @@ impl<'a, T: Encoding> Path<'a, T> {
         Ancestors::new(self)
     }
 
-    /// The path without its last component, or none where there is no component or nothing is above
-    /// the last one.
+    /// Returns the path without its last component. `None` if it has no component, or if nothing is
+    /// above the last one: a root or, on Windows, a prefix other than a drive.
     ///
     /// On Unix that of `/a/./b//` is `/a`, that of `a` is the empty path, and `/` has none.
     pub fn parent(self) -> Option<Path<'a, T>>
@@ -201,7 +208,7 @@ impl<'a, T: Encoding> Path<'a, T> {
         Some(Path::new(components.as_bytes()))
     }
 
-    /// The last component, where it is a name.
+    /// Returns the last component if it is a name, else `None`.
     ///
     /// Of `a/b//` it is `b`, and `a/..` has none.
     pub fn file_name(self) -> Option<&'a [u8]>
@@ -215,7 +222,8 @@ impl<'a, T: Encoding> Path<'a, T> {
         }
     }
 
-    /// The file name up to its last dot, or the whole of it where no dot but a first one is there.
+    /// Returns the file name up to its last dot, or the whole file name if it has no dot but one at
+    /// its start. `None` if the path has no file name.
     ///
     /// Of `a.tar.gz` it is `a.tar`, and of `.bashrc` it is `.bashrc`.
     pub fn file_stem(self) -> Option<&'a [u8]>
@@ -225,7 +233,8 @@ impl<'a, T: Encoding> Path<'a, T> {
         Some(split_name(name).0)
     }
 
-    /// What stands in the file name behind its last dot, where that is not its first byte.
+    /// Returns what follows the last dot of the file name. `None` if the path has no file name, or
+    /// that has no dot but one at its start.
     ///
     /// Of `a.tar.gz` it is `gz`, of `a.` it is empty, and `.bashrc` has none.
     pub fn extension(self) -> Option<&'a [u8]>
@@ -234,7 +243,8 @@ impl<'a, T: Encoding> Path<'a, T> {
         split_name(self.file_name()?).1
     }
 
-    /// The file name up to its first dot that is not its first byte.
+    /// Returns the file name up to its first dot that is not at its start, or the whole file name
+    /// if it has none. `None` if the path has no file name.
     ///
     /// Of `a.tar.gz` it is `a`, and of `.config.toml` it is `.config`.
     pub fn file_prefix(self) -> Option<&'a [u8]>
@@ -246,8 +256,8 @@ impl<'a, T: Encoding> Path<'a, T> {
 
     /// Whether the last byte separates components of the path.
     ///
-    /// That of `a/` does. On Windows that of `a\` does too, and that of `\\?\C:\a/` does not, since behind
-    /// `\\?\` no `/` separates.
+    /// That of `a/` does. On Windows that of `a\` does too, and that of `\\?\C:\a/` does not, since
+    /// no `/` separates after `\\?\`.
     pub fn has_trailing_separator(self) -> bool
         ensures { result ≡ has_trailing_separator T.dialect (path_bytes self.entry) }
     {
@@ -268,7 +278,7 @@ impl<'a, T: Encoding> Path<'a, T> {
         }
     }
 
-    /// The last component.
+    /// Returns the last component, `None` if there is none.
     #[inline(always)]
     fn last(self) -> Option<Piece<'a>>
         ensures { option_map part_of result ≡ last_part (comps T.dialect (path_bytes self.entry)) }
@@ -276,7 +286,7 @@ impl<'a, T: Encoding> Path<'a, T> {
         self.components().next_back()
     }
 
-    /// The path without its file name, where it has one.
+    /// Returns the path without its file name, or the whole path if it has no file name.
     pub(crate) fn without_file_name(self) -> Path<'a, T>
         ensures { path_bytes result ≡ without_file_name T.dialect (path_bytes self.entry) }
     {
@@ -287,7 +297,7 @@ impl<'a, T: Encoding> Path<'a, T> {
         }
     }
 
-    /// Where the stem of the file name ends.
+    /// Returns the index at which the stem of the file name ends, `None` if there is no file name.
     pub(crate) fn stem_end(self) -> Option<usize>
         ensures end { result ≡ stem_end T.dialect (path_bytes self.entry) }
         ensures within { IfSome result (λ end. end ≤ length (path_bytes self.entry)) }
@@ -300,7 +310,7 @@ impl<'a, T: Encoding> Path<'a, T> {
         Some(self.components().last_end() - extension)
     }
 
-    /// Where the file name ends.
+    /// Returns the index at which the file name ends, `None` if there is none.
     pub(crate) fn name_end(self) -> Option<usize>
         ensures end { result ≡ name_end T.dialect (path_bytes self.entry) }
         ensures within { IfSome result (λ end. end ≤ length (path_bytes self.entry)) }
@@ -312,14 +322,14 @@ impl<'a, T: Encoding> Path<'a, T> {
         Some(self.components().last_end())
     }
 
-    /// What is left of the path behind a base.
+    /// Returns what is left of the path after `base`.
     ///
-    /// Of the Unix path `/a/./b/c` it is `b/c` behind `/a`.
+    /// Of the Unix path `/a/./b/c` it is `b/c` after `/a`.
     ///
     /// # Errors
     ///
-    /// `StripPrefixError` exactly where the path does not begin with the base's components, compared
-    /// as they are written: on Windows `c:\a` does not begin with `C:`.
+    /// `StripPrefixError` exactly if the path does not begin with the components of `base`,
+    /// compared as they are written: on Windows `c:\a` does not begin with `C:`.
     pub fn strip_prefix(self, base: Path<'_, T>) -> Result<Path<'a, T>, StripPrefixError>
         ensures { stripped_to path_bytes result
             ≡ stripped T.dialect (path_bytes self.entry) (path_bytes base.entry) }
@@ -327,7 +337,7 @@ impl<'a, T: Encoding> Path<'a, T> {
         self.behind(base).ok_or(StripPrefixError)
     }
 
-    /// Whether the path begins with the components of another, as they are written.
+    /// Whether the path begins with the components of `base`, compared as they are written.
     ///
     /// `a/b` begins with `a`, and `ab` does not.
     pub fn starts_with(self, base: Path<'_, T>) -> bool
@@ -337,12 +347,12 @@ impl<'a, T: Encoding> Path<'a, T> {
         self.behind(base).is_some()
     }
 
-    /// The front of the path up to where the components end with which another begins too, as they are
-    /// written; none where the two begin with none alike.
+    /// Returns the longest front of the path whose components, compared as they are written,
+    /// `other` begins with too; `None` if the two share no component.
     ///
-    /// Of the Unix path `/a//b/c` it is `/a//b` beside `/a/b/d`, and `a` has none beside `/a`. On Windows
-    /// that of `C:/a\b` is `C:/a` beside `C:\a\c`, and `c:\a` has none beside `C:\a`. Both paths begin with it,
-    /// and it begins with each path that both begin with.
+    /// Of the Unix path `/a//b/c` it is `/a//b` beside `/a/b/d`, and `a` has none beside `/a`. On
+    /// Windows that of `C:/a\b` is `C:/a` beside `C:\a\c`, and `c:\a` has none beside `C:\a`. Both
+    /// paths begin with it, and it begins with each path that both begin with.
     pub fn common_ancestor(self, other: Path<'_, T>) -> Option<Path<'a, T>>
         ensures { option_map path_bytes result ≡ common_ancestor_of T.dialect
             (path_bytes self.entry) (path_bytes other.entry) }
@@ -356,7 +366,7 @@ impl<'a, T: Encoding> Path<'a, T> {
         }
     }
 
-    /// Whether the path ends with the components of another, as they are written.
+    /// Whether the path ends with the components of `end`, compared as they are written.
     ///
     /// `a/b/c` ends with `b/c`, and `a/bc` does not end with `c`.
     pub fn ends_with(self, end: Path<'_, T>) -> bool
@@ -375,37 +385,39 @@ impl<'a, T: Encoding> Path<'a, T> {
         true
     }
 
-    /// Whether the path lies at a base or below it, from whatever directory both are read.
+    /// Whether the path lies at `base` or below it, from whatever directory both are read.
     ///
-    /// A `..` takes away the name before it. One that finds none leads above where the path begins, and
-    /// behind a root nowhere. So `a/b/..` and `a/b` lie within `a`, and `a/../b` and `../a` do not; `a` lies
-    /// within `..`. A root without a prefix holds all paths without one. On Windows `c:\a` lies within
-    /// `C:\`, since drives are alike in either case, and not within `C:\A`. Links are not followed.
+    /// A `..` cancels the name before it. One without such a name leads above where the path
+    /// begins, or after a root nowhere. So `a/b/..` and `a/b` lie within `a`, and `a/../b` and
+    /// `../a` do not; `a` lies within `..`. A root without a prefix contains every path without a
+    /// prefix. On Windows `c:\a` lies within `C:\`, since the case of drive letters does not count,
+    /// and not within `C:\A`. Links are not followed.
     ///
-    /// From every absolute directory that keeps its prefix, the place of a path that is within a base is that
-    /// of the base, and then some names. On Unix this is so of no other path.
+    /// From every absolute directory that keeps its prefix, the place of a path that is within a
+    /// base is that of the base, and then some names. On Unix this is so of no other path.
     pub fn is_within(self, base: Path<'_, T>) -> bool
         ensures { result ≡ is_within T.dialect (path_bytes self.entry) (path_bytes base.entry) }
     {
         is_within::<T>(self.as_bytes(), base.as_bytes())
     }
 
-    /// The path that leads from a base to this one, from whatever directory both are read: a `..` for each
-    /// name of the base that this path does not begin with, and then the names that are left of it.
+    /// Returns the path that leads from `base` to this one, from whatever directory both are read:
+    /// a `..` for each name of `base` that this path does not begin with, and for each `..` by
+    /// which this path leads higher, and then the names of this path that are left.
     ///
-    /// From `/a/b` to `/a/c/d` it is `../c/d`, from `a` to `a/.` it is `.`, and from `a` to `../b` it is
-    /// `../../b`. It has neither a prefix nor a root, and no `.` but where it is `.` alone, or where `.\`
-    /// stands before a name that would be read as a prefix on Windows, as in `.\C:`. Names are compared byte by
-    /// byte. Links are not followed.
+    /// From `/a/b` to `/a/c/d` it is `../c/d`, from `a` to `a/.` it is `.`, and from `a` to `../b`
+    /// it is `../../b`. It has neither a prefix nor a root. If nothing is left to write, it is `.`;
+    /// on Windows `.\` precedes a name that would be read as a prefix, as in `.\C:`. Names are
+    /// compared byte by byte. Links are not followed.
     ///
-    /// There is none, and the call is not refused, where the two do not begin with the same prefix or none and
-    /// with a root, written or implied, or none; where more `..` of the base find no name to take away than
-    /// of this path, as from `..` to `a`; and where a name that is left holds a `/`, as may one of a verbatim
-    /// path of Windows.
+    /// It is `Ok(None)`, and never an error, if the two have different prefixes, or one alone has a
+    /// prefix or begins with a root, written or implied; if more `..` of `base` than of this path
+    /// lead above where it begins, as from `..` to `a`; or if a name that is left holds a `/`, as
+    /// one of a verbatim Windows path may.
     ///
-    /// On Unix the answer that is joined to the base leads where this path leads, and there is none exactly
-    /// where no relative path does. On Windows it leads there behind a base that keeps its prefix and, if that
-    /// is verbatim, ends with as many names as `..` are taken.
+    /// On Unix the result, joined to `base`, leads where this path leads, and it is `None` exactly
+    /// if no relative path does. On Windows it leads there if `base` keeps its prefix and, if that
+    /// is verbatim, ends with at least as many names as the result has `..`.
     pub fn relative_to(
         self,
         alloc: Global,
@@ -419,12 +431,13 @@ impl<'a, T: Encoding> Path<'a, T> {
         relative_to::<T>(alloc, self.as_bytes(), base.as_bytes())
     }
 
-    /// What is left of the path behind a base, where it begins with the base's components as they
-    /// are written. The bytes are asked first, of either answer.
+    /// Returns what is left of the path after `base`, `None` if it does not begin with the
+    /// components of `base`, compared as they are written.
     fn behind(self, base: Path<'_, T>) -> Option<Path<'a, T>>
         ensures { option_map path_bytes result
             ≡ stripped T.dialect (path_bytes self.entry) (path_bytes base.entry) }
     {
+        // A look at the bytes mostly tells, whether the path begins with the base or not.
         match T::strip_by_bytes(self.as_bytes(), base.as_bytes()) {
             Some(Some(rest)) => Some(Path::new(rest)),
             Some(None) => None,
@@ -432,7 +445,7 @@ impl<'a, T: Encoding> Path<'a, T> {
         }
     }
 
-    /// The same, component by component.
+    /// Returns what [`Path::behind`] does, by reading both paths component by component.
     fn behind_by_components(self, base: Path<'_, T>) -> Option<Path<'a, T>>
         ensures { option_map path_bytes result
             ≡ stripped T.dialect (path_bytes self.entry) (path_bytes base.entry) }
@@ -456,8 +469,8 @@ impl<'a, T: Encoding> Path<'a, T> {
         PathBuf::from_bytes(alloc, self.as_bytes())
     }
 
-    /// The path with another pushed onto it: an absolute one stands in its place, and with an empty
-    /// one it is a copy.
+    /// Returns this path with `path` pushed onto it: an absolute one replaces it, an empty one
+    /// makes a copy.
     ///
     /// On Unix `/etc` with `a` is `/etc/a`; on Windows `C:\a\b` with `\c` is `C:\c`.
     pub fn join(self, alloc: Global, path: Path<'_, T>) -> Result<PathBuf<T>, AllocError>
@@ -472,18 +485,19 @@ impl<'a, T: Encoding> Path<'a, T> {
         Ok(PathBuf::from_vec(joined))
     }
 
-    /// The path with another pushed onto it, unless that has a component that offends.
+    /// Returns this path with `path` pushed onto it, unless a component of `path` offends.
     ///
-    /// The answer lies within this path, where it has the prefix of this one: on Unix `/etc` with
-    /// `abc/../def` is `/etc/abc/../def`. Where this path keeps its prefix, the place of the answer is
-    /// that of this path, and then some names, and it is within this path, as [`Path::is_within`] tells. A
-    /// path with a fault is refused for that, however little memory there is.
+    /// The result lies within this path if it has the prefix of this one: on Unix `/etc` with
+    /// `abc/../def` is `/etc/abc/../def`. If this path keeps its prefix, the place of the result is
+    /// that of this path, and then some names, and the result is within this path, as
+    /// [`Path::is_within`] says. A `path` that offends is refused for that, however little memory
+    /// there is.
     ///
     /// # Errors
     ///
-    /// `Checked` where the pushed path has a prefix, a root, a `..` that no earlier name of it makes up
-    /// for, or a name that the encoding does not allow: the first of these says which. `OutOfMemory`
-    /// where it has none of them, and memory is refused.
+    /// `Checked` if `path` has a prefix, a root, a `..` that no earlier name of it makes up for, or
+    /// a name that the encoding does not allow: the first of these says which. `OutOfMemory` if it
+    /// has none of them, and allocation fails.
     pub fn join_checked(self, alloc: Global, path: Path<'_, T>) -> Result<PathBuf<T>, PathError>
         ensures refused { refusal result ≡ fault T.dialect (path_bytes path.entry) }
         ensures joined { IfOk result (λ p. p.bytes
@@ -499,16 +513,18 @@ impl<'a, T: Encoding> Path<'a, T> {
         Ok(self.join(alloc, path)?)
     }
 
-    /// The path with a portable one pushed onto it, unless that has a component that offends.
+    /// Returns this path with `path` pushed onto it, unless `path` is not portable or a component
+    /// of it offends.
     ///
-    /// What [`Path::join_checked`] promises of its answer is true of this one too, and every system takes the
-    /// names that were pushed as they are written. A path with a fault is refused for that, however little memory
-    /// there is.
+    /// What [`Path::join_checked`] promises of its result is true of this one too, and every system
+    /// takes the names that were pushed as they are written. A `path` that is not portable, or
+    /// offends, is refused for that, however little memory there is.
     ///
     /// # Errors
     ///
-    /// `Portable` where the pushed path is not portable, with what [`Path::check_portable`] refuses it for. Else
-    /// those of [`Path::join_checked`], of which a prefix and a name that is not allowed are none any more.
+    /// `Portable` if `path` is not portable, with the refusal of [`Path::check_portable`]. Else
+    /// those of [`Path::join_checked`]; of a portable path these are never for a prefix or for a
+    /// name that is not allowed.
     pub fn join_portable(self, alloc: Global, path: Path<'_, T>) -> Result<PathBuf<T>, JoinError>
         ensures refused { join_refusal result ≡ join_fault T.dialect (path_bytes path.entry) }
         ensures joined { IfOk result (λ p. p.bytes
@@ -524,7 +540,8 @@ impl<'a, T: Encoding> Path<'a, T> {
         Ok(self.join_checked(alloc, path)?)
     }
 
-    /// A copy with another file name, or with the name pushed where there is none.
+    /// Returns a copy with another file name. If the path has no file name, the name is pushed onto
+    /// it.
     ///
     /// On Unix `a//b/` with `c` is `a/c`, and `a/..` with `c` is `a/../c`.
     pub fn with_file_name(self, alloc: Global, name: &[u8]) -> Result<PathBuf<T>, AllocError>
@@ -534,8 +551,8 @@ impl<'a, T: Encoding> Path<'a, T> {
         self.without_file_name().join(alloc, Path::new(name))
     }
 
-    /// A copy whose file name has another extension, or none where the new one is empty. Without a
-    /// file name it is a mere copy.
+    /// Returns a copy whose file name has another extension, or none if `extension` is empty.
+    /// Without a file name it is an unchanged copy.
     ///
     /// `a.tar.gz` with `zip` is `a.tar.zip`, and with an empty one `a.tar`.
     pub fn with_extension(self, alloc: Global, extension: &[u8]) -> Result<PathBuf<T>, AllocError>
@@ -548,8 +565,8 @@ impl<'a, T: Encoding> Path<'a, T> {
         }
     }
 
-    /// A copy with one extension more behind its file name. Without a file name, or with an empty
-    /// extension, it is a mere copy.
+    /// Returns a copy with `extension` appended to its file name, after a dot. Without a file name,
+    /// or with an empty extension, it is an unchanged copy.
     ///
     /// `a.tar` with `gz` is `a.tar.gz`, and so is `a.tar/`.
     pub fn with_added_extension(
@@ -566,7 +583,8 @@ impl<'a, T: Encoding> Path<'a, T> {
         }
     }
 
-    /// A copy of the first bytes, with an extension behind them.
+    /// Returns a copy of the first `end` bytes, with a dot and the extension after them, or nothing
+    /// if that is empty.
     fn extended_at(
         self,
         alloc: Global,
@@ -584,16 +602,16 @@ impl<'a, T: Encoding> Path<'a, T> {
         Ok(PathBuf::from_vec(extended))
     }
 
-    /// The path without `.`, and without `..` and the names that these take away.
+    /// Returns the path without `.`, and without `..` and the names that these cancel.
     ///
     /// That of the Unix path `foo/bar//baz/./asdf/quux/..` is `foo/bar/baz/asdf`.
     ///
-    /// The components that are left are pushed one by one onto the empty path. A `..` that finds no
-    /// name to take away vanishes. On Unix the answer is read as just these components, is its own
-    /// normal text, and is the same, byte for byte, for all paths that lead to the same. On Windows,
-    /// where no name has a byte that no name may have and the prefix is not the verbatim one named
-    /// `UNC`, the answer is read as these components with a root put in behind a verbatim drive, leads
-    /// where the path does, and is its own normal text.
+    /// The components that are left are pushed one by one onto the empty path. A `..` that has no
+    /// name to cancel vanishes. On Unix the result is read as just these components, is its own
+    /// normal path, and is the same, byte for byte, for all paths that lead to the same place. On
+    /// Windows, if no name has a byte that no name may have and the prefix is not the verbatim one
+    /// named `UNC`, the result is read as these components with a root put in after a verbatim
+    /// drive, leads where the path does, and is its own normal path.
     pub fn normalize(self, alloc: Global) -> Result<PathBuf<T>, AllocError>
         ensures text { IfOk result (λ p. p.bytes ≡ normal_text T.dialect (path_bytes self.entry)) }
         ensures form { IfOk result (λ p. HasNormalForm T.dialect (path_bytes self.entry) p.bytes) }
@@ -604,14 +622,15 @@ impl<'a, T: Encoding> Path<'a, T> {
         Ok(PathBuf::from_vec(text))
     }
 
-    /// The path without `.`, doubled separators, and the names that a `..` takes away. A relative path keeps the
-    /// `..` that it needs, and nothing is `.`.
+    /// Returns the path without `.`, doubled separators, and the names that a `..` cancels. A
+    /// relative path keeps the `..` that it needs. If nothing is left, the result is `.`.
     ///
     /// That of the Unix path `a/../../b//./c` is `../b/c`, and that of `a/..` is `.`.
     ///
-    /// The prefix stays as it stands, and on Windows none is gained: that of `a\..\C:\b` is `.\C:\b`. Read from every
-    /// absolute directory that keeps its prefix, the answer leads where the path does, and it is its own clean path; of
-    /// the verbatim prefix named `UNC` neither is promised.
+    /// The prefix is kept as it is written, and on Windows none is gained: that of `a\..\C:\b` is
+    /// `.\C:\b`. From every absolute directory that keeps its prefix, the result leads where the
+    /// path does, and it is its own clean path; of the verbatim prefix named `UNC` neither is
+    /// promised.
     pub fn clean(self, alloc: Global) -> Result<PathBuf<T>, AllocError>
         ensures { IfOk result (λ p. p.bytes ≡ clean_text T.dialect (path_bytes self.entry)) }
     {
