@@ -1,4 +1,4 @@
-//! A path that owns its bytes: what makes one, what changes it, and what it is turned into.
+//! The owned path: how it is made, how it is changed, and what it is turned into.
 
 ghost use Rattle.std.specs.Prelude.{◌≡◌, ◌≤◌, ◌+◌, [], length, is_some, max, min, IsSome, None, IfOk, OnOk, OnErr, IsOk, map, take, ◌++◌};
 ghost use Rattle.std.specs.Vec.{vec_capacity};
@@ -42,7 +42,7 @@ impl<T: Encoding> PathBuf<T> {
         PathBuf::from_vec(Vec::new(alloc))
     }
 
-    /// The empty path, with room for so many bytes.
+    /// The empty path, with a capacity of `capacity` bytes.
     pub fn with_capacity(alloc: Global, capacity: usize) -> Result<PathBuf<T>, AllocError>
         ensures bytes { IfOk result (λ p. p.bytes ≡ []) }
         ensures capacity { IfOk result (λ p. p.capacity ≡ capacity) }
@@ -69,7 +69,7 @@ impl<T: Encoding> PathBuf<T> {
         PathBuf::from_bytes(alloc, text.as_bytes())
     }
 
-    /// The path of the bytes that a vector holds.
+    /// The path of the bytes of a vector, with no copy.
     pub(crate) fn from_vec(inner: Vec<u8>) -> PathBuf<T>
         ensures bytes { result.bytes ≡ inner.items }
         ensures capacity { result.capacity ≡ vec_capacity inner }
@@ -80,27 +80,28 @@ impl<T: Encoding> PathBuf<T> {
         }
     }
 
-    /// The path, lent.
+    /// Borrows the path.
     pub fn as_path(&self) -> Path<'_, T>
         ensures { path_bytes result ≡ self.now.bytes }
     {
         Path::new(self.inner.as_slice())
     }
 
-    /// How many bytes the path has room for, its own among them.
+    /// How many bytes the path can hold without allocating, its own included.
     pub fn capacity(&self) -> usize
         ensures { result ≡ self.now.capacity }
     {
         self.inner.capacity()
     }
 
-    /// Pushes a path onto this one: an absolute one replaces it, an empty one changes nothing.
+    /// Pushes `path` onto this one: an absolute one replaces it, an empty one changes nothing.
     ///
     /// On Unix `b` makes `a` into `a/b`; on Windows `..` makes `\\?\C:\a` into `\\?\C:\`.
     ///
-    /// Where the result fits the room that there is, memory is not asked for. A path under a verbatim
-    /// prefix of Windows has to stand as a push would spell it, and wants room for a byte more. Where
-    /// memory is refused the path is as it was, and has no less room.
+    /// If the result fits the capacity, nothing is allocated. If this path has a verbatim prefix of
+    /// Windows, that is promised only if it is spelled as a push would spell it, and has spare
+    /// capacity for `path` and one byte more. If allocation fails, the path is unchanged, and its
+    /// capacity is no less.
     pub fn push(&mut self, path: Path<'_, T>) -> Result<(), AllocError>
         ensures ok { OnOk result
             (self.new.bytes ≡ push_spec.push T.dialect self.old.bytes (path_bytes path.entry)) }
@@ -112,17 +113,17 @@ impl<T: Encoding> PathBuf<T> {
         T::push(&mut self.inner, path.as_bytes())
     }
 
-    /// Pushes a path onto this one, unless it has a component that offends.
+    /// Pushes `path` onto this one, unless a component of `path` offends.
     ///
-    /// Pushed, it lies within this path, where this one keeps its prefix: on Unix `abc/../def` makes
+    /// The result lies within this path if this one keeps its prefix: on Unix `abc/../def` makes
     /// `/etc` into `/etc/abc/../def`.
     ///
     /// # Errors
     ///
-    /// `Checked` where the pushed path has a prefix, a root, a `..` that no earlier name of it makes up
-    /// for, or a name that the encoding does not allow: the first of these says which. Then nothing
-    /// changes, and no memory is asked for. `OutOfMemory` where it has none of them, and memory is
-    /// refused: the path is as it was, and has no less room.
+    /// `Checked` if `path` has a prefix, a root, a `..` that no earlier name of it makes up for, or
+    /// a name that the encoding does not allow: the first of these says which. Then nothing
+    /// changes, and nothing is allocated. `OutOfMemory` if it has none of them, and allocation
+    /// fails: the path is unchanged, and its capacity is no less.
     pub fn push_checked(&mut self, path: Path<'_, T>) -> Result<(), PathError>
         ensures refused { refusal result ≡ fault T.dialect (path_bytes path.entry) }
         ensures ok { OnOk result
@@ -140,8 +141,9 @@ impl<T: Encoding> PathBuf<T> {
         T::push_checked(&mut self.inner, path.as_bytes())
     }
 
-    /// Pushes a path onto this one, of which something may be known, and answers what is known of it
-    /// then: so paths that are pushed one by one need not read this one anew for each.
+    /// Does what [`PathBuf::push`] does, where `known` is what is known of this path, and returns
+    /// what is known of the result, as [`Encoding::push_next`] does: so a row of pushes need not
+    /// read this path anew for each.
     pub(crate) fn push_next(
         &mut self,
         path: Path<'_, T>,
@@ -160,7 +162,7 @@ impl<T: Encoding> PathBuf<T> {
         T::push_next(&mut self.inner, 0, path.as_bytes(), known)
     }
 
-    /// Cuts the path to its parent, where it has one, and answers whether it has.
+    /// Cuts the path to its parent. Returns whether it has one; without one nothing changes.
     ///
     /// The Unix path `/a/b//` becomes `/a`, and `/` stays.
     pub fn pop(&mut self) -> bool
@@ -176,11 +178,11 @@ impl<T: Encoding> PathBuf<T> {
         true
     }
 
-    /// Gives the path another file name, or pushes the name where it has none.
+    /// Replaces the file name by `name`, or pushes `name` if the path has no file name.
     ///
     /// On Unix `c` makes `a//b/` into `a/c`, and `a/..` into `a/../c`.
     ///
-    /// Where memory is refused the path is as it was, and has no less room.
+    /// If allocation fails, the path is unchanged, and its capacity is no less.
     pub fn set_file_name(&mut self, name: &[u8]) -> Result<(), AllocError>
         ensures ok { OnOk result
             (self.new.bytes ≡ with_file_name T.dialect self.old.bytes name.now) }
@@ -193,12 +195,12 @@ impl<T: Encoding> PathBuf<T> {
         T::push_over(&mut self.inner, kept, name)
     }
 
-    /// Gives the file name another extension, or takes the extension away where the new one is
-    /// empty, and answers whether there is a file name. Without one nothing changes.
+    /// Replaces the extension of the file name, or removes it if `extension` is empty. Returns
+    /// whether there is a file name; without one nothing changes.
     ///
     /// `zip` makes `a.tar.gz` into `a.tar.zip`.
     ///
-    /// Where memory is refused the path is as it was, and has no less room.
+    /// If allocation fails, the path is unchanged, and its capacity is no less.
     pub fn set_extension(&mut self, extension: &[u8]) -> Result<bool, AllocError>
         ensures ok { OnOk result
             (self.new.bytes ≡ with_extension T.dialect self.old.bytes extension.now) }
@@ -217,12 +219,12 @@ impl<T: Encoding> PathBuf<T> {
         Ok(true)
     }
 
-    /// Puts one extension more behind the file name, and answers whether there is one. Without one,
-    /// and where the extension is empty, nothing changes.
+    /// Appends a dot and `extension` to the file name. Returns whether there is a file name.
+    /// Without one, or with an empty extension, nothing changes.
     ///
     /// `gz` makes `a.tar` into `a.tar.gz`, and `a.tar/` too.
     ///
-    /// Where memory is refused the path is as it was, and has no less room.
+    /// If allocation fails, the path is unchanged, and its capacity is no less.
     pub fn add_extension(&mut self, extension: &[u8]) -> Result<bool, AllocError>
         ensures ok { OnOk result
             (self.new.bytes ≡ with_added_extension T.dialect self.old.bytes extension.now) }
@@ -244,7 +246,8 @@ impl<T: Encoding> PathBuf<T> {
         Ok(true)
     }
 
-    /// Cuts the path to its first bytes, and puts an extension behind them.
+    /// Cuts the path to its first `end` bytes, and appends a dot and the extension, or nothing if
+    /// that is empty. If allocation fails, the path keeps all its bytes.
     fn extend_at(&mut self, end: usize, extension: &[u8]) -> Result<(), AllocError>
         requires { end ≤ length self.old.bytes }
         ensures ok { OnOk result
@@ -261,7 +264,7 @@ impl<T: Encoding> PathBuf<T> {
         put_extension(&mut self.inner, extension)
     }
 
-    /// Makes the path the empty one. It keeps its room.
+    /// Makes the path empty. It keeps its capacity.
     pub fn clear(&mut self)
         ensures bytes { self.new.bytes ≡ [] }
         ensures capacity { self.new.capacity ≡ self.old.capacity }
@@ -269,7 +272,7 @@ impl<T: Encoding> PathBuf<T> {
         self.inner.clear();
     }
 
-    /// Finds room for so many bytes more, and perhaps for others behind these.
+    /// Reserves capacity for at least `additional` bytes more.
     pub fn reserve(&mut self, additional: usize) -> Result<(), AllocError>
         ensures bytes { self.new.bytes ≡ self.old.bytes }
         ensures room { OnOk result (length self.new.bytes + additional ≤ self.new.capacity) }
@@ -280,7 +283,7 @@ impl<T: Encoding> PathBuf<T> {
         self.inner.reserve(additional)
     }
 
-    /// The same as `reserve`, which answers want of memory too.
+    /// Alias of `reserve`, which is fallible already.
     pub fn try_reserve(&mut self, additional: usize) -> Result<(), AllocError>
         ensures bytes { self.new.bytes ≡ self.old.bytes }
         ensures room { OnOk result (length self.new.bytes + additional ≤ self.new.capacity) }
@@ -291,7 +294,7 @@ impl<T: Encoding> PathBuf<T> {
         self.inner.try_reserve(additional)
     }
 
-    /// Finds room for so many bytes more, and for no others where room has to be found.
+    /// Reserves capacity for `additional` bytes more, and for no more than these if it has to grow.
     pub fn reserve_exact(&mut self, additional: usize) -> Result<(), AllocError>
         ensures bytes { self.new.bytes ≡ self.old.bytes }
         ensures room { OnOk result
@@ -302,7 +305,7 @@ impl<T: Encoding> PathBuf<T> {
         self.inner.reserve_exact(additional)
     }
 
-    /// The same as `reserve_exact`, which answers want of memory too.
+    /// Alias of `reserve_exact`, which is fallible already.
     pub fn try_reserve_exact(&mut self, additional: usize) -> Result<(), AllocError>
         ensures bytes { self.new.bytes ≡ self.old.bytes }
         ensures room { OnOk result
@@ -313,8 +316,8 @@ impl<T: Encoding> PathBuf<T> {
         self.inner.try_reserve_exact(additional)
     }
 
-    /// Gives room back that is not used, as far as memory for a smaller block is found. The empty
-    /// path keeps none.
+    /// Gives unused capacity back, as far as a smaller block can be allocated, and never fails. The
+    /// empty path keeps none.
     pub fn shrink_to_fit(&mut self) -> Result<(), AllocError>
         ensures ok { IsOk result }
         ensures bytes { self.new.bytes ≡ self.old.bytes }
@@ -325,7 +328,8 @@ impl<T: Encoding> PathBuf<T> {
         Ok(())
     }
 
-    /// Gives room back but for so many bytes, as far as memory for a smaller block is found.
+    /// Gives unused capacity above `min_capacity` bytes back, as far as a smaller block can be
+    /// allocated, and never fails.
     pub fn shrink_to(&mut self, min_capacity: usize) -> Result<(), AllocError>
         ensures ok { IsOk result }
         ensures bytes { self.new.bytes ≡ self.old.bytes }
@@ -347,7 +351,7 @@ impl<T: Encoding> PathBuf<T> {
     }
 }
 
-/// A copy of the bytes, all at once, in the memory of the same allocator.
+/// Copies the bytes in one allocation, in the memory of the same allocator.
 impl<T: Encoding> Clone for PathBuf<T> {
     ghost is_clone = { λ path copy. copy.bytes ≡ path.bytes };
 
@@ -386,7 +390,7 @@ impl<T: Encoding> From<PathBuf<T>> for Vec<u8> {
     }
 }
 
-/// Pushes paths one by one. Where memory is refused, those before it stay pushed.
+/// Pushes the paths one by one. If allocation fails, those before stay pushed.
 impl<'p, T: Encoding> Extend<Path<'p, T>> for PathBuf<T> {
     ghost extend_gives = { λ old paths new. new.bytes
         ≡ push_all T.dialect old.bytes (map path_bytes paths) };
