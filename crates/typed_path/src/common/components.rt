@@ -1,5 +1,5 @@
-//! What is read of a path: its components from either end, as pieces, texts or values of their own, and
-//! the paths above it; and what a component is asked.
+//! Iterators over a path: over its components, as pieces, as texts or as values of the encoding's
+//! own type, and over the paths above it; and what one component answers.
 
 ghost use Rattle.std.specs.Prelude.{◌≡◌, ℕ, List, option_map, codes, ⊤, Some, true, drop, slice_get, ◌==◌, [], ◌∷◌, length};
 ghost use Rattle.typed_path.specs.components.{Part, parts, Placed, end_of, kinds, written, as_written, comps, Dialect, root_of, dot, root as root_kind, parent as parent_kind, current as current_kind, is_name, is_parent, is_current};
@@ -24,7 +24,8 @@ use std::hash::Hash;
 use std::iter::FusedIterator;
 use std::marker::PhantomData;
 
-/// The components of a path that are left to be read, as what is to be given for each.
+/// The iterator over the components of a path, from either end. The type `I` says what it gives for
+/// each: see [`ReadAs`].
 pub struct Reading<'a, T: Encoding, I> {
     cursor: Cursor<'a>,
     encoding: PhantomData<T>,
@@ -33,10 +34,10 @@ pub struct Reading<'a, T: Encoding, I> {
     ghost names: { have_text_names (parts (items_left cursor)) ≡ true },
 }
 
-/// The components of a path that are left to be read.
+/// The iterator over the components of a path, from either end.
 pub type Components<'a, T> = Reading<'a, T, Pieces>;
 
-/// The texts of the components that are left to be read.
+/// The iterator over the texts of the components of a path, from either end.
 pub type Iter<'a, T> = Reading<'a, T, Texts>;
 
 impl<'a, T: Encoding, I> Clone for Reading<'a, T, I> {
@@ -55,7 +56,7 @@ impl<'a, T: Encoding, I> Copy for Reading<'a, T, I> {}
 impl<'a, T: Encoding, I> Reading<'a, T, I> {
     ghost use Rattle.typed_path.specs.views.PathViews.{path_bytes, components_items, components_slice, components_parts};
 
-    /// The components of a path, from either end.
+    /// Returns an iterator over the components of a path, from either end.
     #[inline(always)]
     pub fn new(path: Path<'a, T>) -> Reading<'a, T, I>
         ensures items { components_items result ≡ comps T.dialect (path_bytes path.entry) }
@@ -68,7 +69,7 @@ impl<'a, T: Encoding, I> Reading<'a, T, I> {
         }
     }
 
-    /// The same components, as what else is to be given for each.
+    /// Returns an iterator over the same components, which gives for each what `J` says.
     #[inline(always)]
     pub(crate) fn read_as<J>(self) -> Reading<'a, T, J>
         ensures items { components_items result ≡ components_items self.entry }
@@ -81,7 +82,7 @@ impl<'a, T: Encoding, I> Reading<'a, T, I> {
         }
     }
 
-    /// The reading itself.
+    /// Returns the cursor over what is left.
     #[inline(always)]
     pub(crate) fn cursor(self) -> Cursor<'a>
         ensures items { items_left result ≡ components_items self.entry }
@@ -92,9 +93,9 @@ impl<'a, T: Encoding, I> Reading<'a, T, I> {
 
     /// The slice left: from the first component that is left to the end of the last.
     ///
-    /// It is the whole text before the first step, and keeps what stands behind the last component
-    /// until a step from the back. Once all components are taken it is empty. Of the Unix path
-    /// `/a/./b//` it is `a/./b//` after one step from the front, and `/a` after one from the back.
+    /// Before the first step it is the whole path. What follows the last component stays until a
+    /// step from the back. Once all components are taken it is empty. Of the Unix path `/a/./b//`
+    /// it is `a/./b//` after one step from the front, and `/a` after one from the back.
     #[inline(always)]
     pub fn as_bytes(self) -> &'a [u8]
         ensures { result.now ≡ components_slice self.entry }
@@ -102,9 +103,9 @@ impl<'a, T: Encoding, I> Reading<'a, T, I> {
         self.cursor.as_bytes()
     }
 
-    /// Where the last component that is left ends, as a number of bytes of the whole path.
+    /// Returns the index in the whole path at which the last component that is left ends.
     ///
-    /// Of the Unix path `a/b//` it is 3, and once all components are taken it says nothing.
+    /// Of the Unix path `a/b//` it is 3. Once all components are taken the number means nothing.
     #[inline(always)]
     pub fn last_end(self) -> usize
         ensures { (last : Placed) → last_of (components_items self.entry) ≡ Some last → result
@@ -132,7 +133,7 @@ impl<'a, T: Encoding, I: ReadAs<'a, T>> Reading<'a, T, I> {
     ghost use Rattle.typed_path.specs.views.PathViews.{components_items, components_slice};
     ghost use Rattle.typed_path.specs.views.ReversedViews.{reversed_source};
 
-    /// Takes the first component that is left. It answers none for good once all are taken.
+    /// Takes the first component that is left, or returns `None` for good once all are taken.
     #[inline(always)]
     pub fn next(&mut self) -> Option<I::Item>
         ensures taken { option_map I.seen result
@@ -145,7 +146,7 @@ impl<'a, T: Encoding, I: ReadAs<'a, T>> Reading<'a, T, I> {
         Some(I::from_piece(piece))
     }
 
-    /// Takes the last component that is left. It answers none for good once all are taken.
+    /// Takes the last component that is left, or returns `None` for good once all are taken.
     #[inline(always)]
     pub fn next_back(&mut self) -> Option<I::Item>
         ensures taken { option_map I.seen result
@@ -158,7 +159,7 @@ impl<'a, T: Encoding, I: ReadAs<'a, T>> Reading<'a, T, I> {
         Some(I::from_piece(piece))
     }
 
-    /// What is left, from the last to the first.
+    /// Returns an iterator over what is left, from the last to the first.
     #[inline(always)]
     pub fn rev(self) -> Reversed<Reading<'a, T, I>>
         ensures { reversed_source result ≡ self.entry }
@@ -221,7 +222,7 @@ impl<'a, T: Encoding> Reading<'a, T, Values> {
     }
 }
 
-/// What a reading gives for each component of a path.
+/// What an iterator over components gives for each of them.
 pub trait ReadAs<'a, T: Encoding> {
     ghost Seen: { Type 0 };
 
@@ -234,7 +235,7 @@ pub trait ReadAs<'a, T: Encoding> {
     /// The type of what is given.
     type Item: Copy + fmt::Debug;
 
-    /// The name of the iterator.
+    /// The name of the iterator, which `Debug` prints.
     fn iterator_name() -> &'static str
         ensures { result.now ≡ named };
 
@@ -245,7 +246,7 @@ pub trait ReadAs<'a, T: Encoding> {
         ensures { seen result ≡ shown.of (part_of piece.entry) };
 }
 
-/// Gives each component as a piece of the text.
+/// Gives each component as a [`Piece`]: its kind and its text.
 pub struct Pieces;
 
 impl<'a, T: Encoding> ReadAs<'a, T> for Pieces {
@@ -300,9 +301,9 @@ impl<'a, T: Encoding> ReadAs<'a, T> for Texts {
 /// Gives each component as a value of its encoding's own type.
 pub struct Values;
 
-/// A path, and then each parent of the one before.
+/// The iterator over a path, and then each parent of the one before.
 ///
-/// They are what is left of one reading from the back, so the prefix is read once.
+/// Each is what one reading from the back has left, so the prefix is read once.
 #[derive_where(Clone, Copy)]
 pub struct Ancestors<'a, T: Encoding> {
     rest: Components<'a, T>,
@@ -312,7 +313,7 @@ pub struct Ancestors<'a, T: Encoding> {
 impl<'a, T: Encoding> Ancestors<'a, T> {
     ghost use Rattle.typed_path.specs.views.PathViews.{path_bytes, components_items, components_slice, ancestors_from, ancestors_left};
 
-    /// The path and those above it.
+    /// Returns an iterator over `path` and the paths above it.
     #[inline(always)]
     pub(crate) fn new(path: Path<'a, T>) -> Ancestors<'a, T>
         ensures { ancestors_left result ≡ ancestors_of T.dialect (path_bytes path.entry) }
@@ -323,7 +324,7 @@ impl<'a, T: Encoding> Ancestors<'a, T> {
         }
     }
 
-    /// The path that comes next, where one does.
+    /// Returns the path that comes next, `None` if none does.
     pub(crate) fn path(self) -> Option<Path<'a, T>>
         ensures { option_map path_bytes result ≡ slice_get (ancestors_left self.entry) 0 }
     {
@@ -333,7 +334,8 @@ impl<'a, T: Encoding> Ancestors<'a, T> {
         Some(Path::new(self.rest.as_bytes()))
     }
 
-    /// Takes the last component of a reading, and answers whether nothing is above it.
+    /// Takes the last component that is left. Returns whether nothing is above it, or no component
+    /// was left.
     #[inline(always)]
     fn take_last(rest: &mut Components<'a, T>) -> bool
         ensures { ancestors_from result rest.new
@@ -368,7 +370,7 @@ impl<'a, T: Encoding> Iterator for Ancestors<'a, T> {
 
 impl<'a, T: Encoding> FusedIterator for Ancestors<'a, T> {}
 
-/// What another iterator has left, from the last item to the first.
+/// An iterator over what another has left, from the last item to the first.
 #[derive(Clone, Copy)]
 pub struct Reversed<I> {
     source: I,
@@ -377,7 +379,7 @@ pub struct Reversed<I> {
 impl<I: DoubleEndedIterator> Reversed<I> {
     ghost use Rattle.typed_path.specs.views.ReversedViews.{reversed_source};
 
-    /// What an iterator has left, from its end.
+    /// Returns an iterator over what `source` has left, from its end.
     #[inline(always)]
     pub(crate) fn new(source: I) -> Reversed<I>
         ensures { reversed_source result ≡ source }
@@ -424,7 +426,7 @@ pub trait Component<'a>: Copy + fmt::Debug + Ord + Hash {
 
     ghost part: { Self → Part };
 
-    /// The text of the component.
+    /// Returns the bytes of the component.
     fn as_bytes(&self) -> &'a [u8]
         ensures { result.now ≡ (part self.now).text };
 
@@ -444,8 +446,8 @@ pub trait Component<'a>: Copy + fmt::Debug + Ord + Hash {
     fn is_current(&self) -> bool
         ensures { result ≡ is_current (part self.now).kind };
 
-    /// Whether the component is no name, or a name that the encoding allows: `ab:c` is one of Unix, and
-    /// none of Windows.
+    /// Whether the component is not a name, or is one that the encoding allows: `ab:c` is allowed
+    /// on Unix, and not on Windows.
     fn is_valid(&self) -> bool
         ensures { result ≡ is_valid_kind dialect (part self.now).kind };
 
@@ -453,15 +455,16 @@ pub trait Component<'a>: Copy + fmt::Debug + Ord + Hash {
     fn may_be_device(&self) -> bool
         ensures { result ≡ kind_may_be_device (part self.now).kind };
 
-    /// Asks whether every system takes the component as it is written, as `check_portable` of a path has it.
+    /// Checks that every system takes the component as it is written, as `check_portable` of a path
+    /// does.
     fn check_portable(&self) -> Result<(), PortableError>
         ensures { error_of result ≡ kind_fault (part self.now).kind };
 
-    /// How many bytes the text has.
+    /// Returns how many bytes the component has.
     fn len(&self) -> usize
         ensures { result ≡ length (part self.now).text };
 
-    /// Whether the text is empty.
+    /// Whether the component has no bytes.
     fn is_empty(&self) -> bool
         ensures { result ≡ (length (part self.now).text == 0) };
 
@@ -484,8 +487,8 @@ pub trait Component<'a>: Copy + fmt::Debug + Ord + Hash {
 impl<'a> Piece<'a> {
     ghost use Rattle.typed_path.specs.views.PieceViews.{part_of};
 
-    /// How the component is written where the root is written so: the root, and every prefix but a
-    /// drive, as that root, and all else as it stands.
+    /// Returns how the component is written in an encoding whose root is written `root`: the root,
+    /// and every prefix but a drive, as `root`; all else as it is.
     #[inline(always)]
     pub(crate) fn crossed(self, root: &'static [u8]) -> &'a [u8]
         ensures { (e : Dialect) → root.now ≡ root_of e
@@ -494,7 +497,7 @@ impl<'a> Piece<'a> {
         if self.is_root() { root } else { self.text }
     }
 
-    /// Whether the component is no name, or a name that the encoding allows.
+    /// Whether the component is not a name, or is one that the encoding allows.
     pub fn is_valid<T: Encoding>(self) -> bool
         ensures { result ≡ is_valid_kind T.dialect (part_of self.entry).kind }
     {
@@ -511,7 +514,8 @@ impl<'a> Piece<'a> {
         piece_may_be_device(self)
     }
 
-    /// Asks whether every system takes the component as it is written, as `check_portable` of a path has it.
+    /// Checks that every system takes the component as it is written, as `check_portable` of a path
+    /// does.
     pub fn check_portable(self) -> Result<(), PortableError>
         ensures { error_of result ≡ kind_fault (part_of self.entry).kind }
     {
