@@ -1,5 +1,5 @@
-//! Equality and order of paths, by their components, and what a path feeds to a hasher; and the
-//! traits of std for paths and for what is left of them, which are read off these.
+//! Equality, order and hashing of paths by their components, and the traits of std for paths and
+//! for iterators that rest on these.
 
 ghost use Rattle.std.specs.Prelude.{◌≡◌, ◌&&◌, List, ◌∷◌, None, option_map, fold, refl};
 ghost use Rattle.typed_path.specs.scan.{PartAt};
@@ -27,7 +27,8 @@ use crate::scan::{
 use std::cmp::Ordering;
 use std::hash::{Hash, Hasher};
 
-/// Returns the order of two readings from where it stands, if their prefixes differ or one alone has one.
+/// Makes the function around it return the order of two paths, if their prefixes differ or one
+/// alone has a prefix.
 macro_rules! return_order_of_prefixes {
     ($own:expr, $others:expr, $compare:path) => {
         match ($own.prefix(), $others.prefix()) {
@@ -44,7 +45,7 @@ macro_rules! return_order_of_prefixes {
     };
 }
 
-/// The order of what two readings have left, step by step.
+/// The order of what two bodies have left, component by component from the front.
 macro_rules! order_step_by_step {
     ($rest:ident, $wanted:ident, $compare:path) => {{
         'steps: while let Some(step) = $wanted.front() {
@@ -88,7 +89,7 @@ impl<'a, T: Encoding> Path<'a, T> {
     }
 }
 
-/// Paths are equal where they have the same components, however these are written.
+/// Paths are equal if they have the same components, however these are written.
 impl<'a, T: Encoding> PartialEq for Path<'a, T> {
     ghost eq = { on path_bytes (is_same T.dialect) };
 
@@ -131,7 +132,7 @@ impl<'a, T: Encoding> Ord for Path<'a, T> {
     }
 }
 
-/// Equal paths feed a hasher alike: what is fed is read off the components.
+/// Equal paths feed a hasher alike: what is fed is made of the components.
 impl<'a, T: Encoding> Hash for Path<'a, T> {
     ghost hash_input = { λ p. kinds_words (kinds (parts_of T.dialect (path_bytes p))) };
 
@@ -143,7 +144,7 @@ impl<'a, T: Encoding> Hash for Path<'a, T> {
     }
 }
 
-/// As the paths that are lent.
+/// Compares as the borrowed paths do.
 impl<T: Encoding> PartialEq for PathBuf<T> {
     ghost eq = { on (λ p. p.bytes) (is_same T.dialect) };
 
@@ -186,7 +187,7 @@ impl<T: Encoding> Ord for PathBuf<T> {
     }
 }
 
-/// Equal paths feed a hasher alike: what is fed is read off the components.
+/// Equal paths feed a hasher alike: what is fed is made of the components.
 impl<T: Encoding> Hash for PathBuf<T> {
     ghost hash_input = { λ p. kinds_words (kinds (parts_of T.dialect p.bytes)) };
 
@@ -197,7 +198,7 @@ impl<T: Encoding> Hash for PathBuf<T> {
     }
 }
 
-/// As the paths of the slices left, read anew: a half-read reading counts for what it has left.
+/// Compares as the paths of the slices left, each read anew, whatever was taken before.
 impl<'a, T: Encoding, I> PartialEq for Reading<'a, T, I> {
     ghost eq = { on components_slice (is_same T.dialect) };
 
@@ -241,12 +242,12 @@ impl<'a, T: Encoding, I> Ord for Reading<'a, T, I> {
     }
 }
 
-/// Whether two texts have the same components. Where their bytes are equal, neither is read, and where they seem to be
-/// alike, their order tells.
+/// Whether two paths have the same components.
 #[inline]
 pub(crate) fn is_same<T: Encoding>(path: &[u8], other: &[u8]) -> bool
     ensures { result ≡ is_same T.dialect path.now other.now }
 {
+    // Equal bytes need no reading.
     if path == other {
         return true;
     }
@@ -256,14 +257,15 @@ pub(crate) fn is_same<T: Encoding>(path: &[u8], other: &[u8]) -> bool
     have_same_components::<T>(path, other)
 }
 
-/// Whether two short texts end with bytes of names, are about as long, and have prefixes of one sort, as their second
-/// bytes and `\\?\` tell: so their order is told sooner than their last components are. Where `/` alone separates these
-/// are told as soon, unless they end alike. It only chooses between two ways to one answer.
+/// Whether [`is_same`] is likely to tell sooner by the order of two paths than by their last
+/// components: both are short and about as long, end with bytes of names, and have prefixes of one
+/// sort, as their second bytes and `\\?\` tell. A wrong guess costs nothing but time.
 #[inline(always)]
 fn seem_alike<T: Encoding>(path: &[u8], other: &[u8]) -> bool {
     let ([.., last], [.., others]) = (path, other) else {
         return false;
     };
+    // Where `/` alone separates, the last components tell as soon, unless the paths end alike.
     (last == others || T::root_text() != b"/".as_slice())
         && !matches!(*last, b'/' | b'\\' | b'.')
         && !matches!(*others, b'/' | b'\\' | b'.')
@@ -275,22 +277,24 @@ fn seem_alike<T: Encoding>(path: &[u8], other: &[u8]) -> bool {
         && path.starts_with(br"\\?\") == other.starts_with(br"\\?\")
 }
 
-/// How many bytes two texts have at most whose order is asked first to tell whether they are the same: what longer ones
-/// share may be long, so their last components are asked.
+/// The greatest length of paths of which [`is_same`] asks the order first. What longer ones share
+/// may be long, so their last components are compared first.
 const MOST_ORDERED: usize = 128;
 
-/// The order of two texts, by their components. Where their bytes are equal, neither is read.
+/// Returns the order of two paths by their components.
 #[inline]
 pub(crate) fn compare<T: Encoding>(path: &[u8], other: &[u8]) -> Ordering
     ensures { result ≡ path_cmp T.dialect path.now other.now }
 {
+    // Equal bytes need no reading.
     if path == other {
         return Ordering::Equal;
     }
     order_of_unequal::<T>(path, other)
 }
 
-/// The same of two texts whose bytes are not equal: it asks no comparison of all of them.
+/// Returns the order of two paths by their components, as [`compare`] does, without comparing all
+/// their bytes first.
 #[inline(always)]
 fn order_of_unequal<T: Encoding>(path: &[u8], other: &[u8]) -> Ordering
     ensures { result ≡ path_cmp T.dialect path.now other.now }
@@ -301,16 +305,18 @@ fn order_of_unequal<T: Encoding>(path: &[u8], other: &[u8]) -> Ordering
     }
 }
 
-/// The order of two texts without their prefixes, by their components. Where their bytes tell, neither is
-/// read, and else what stands behind those that both begin with.
+/// Returns the order of two bodies, which is what paths have after their prefixes, by their
+/// components.
 #[inline(always)]
 pub(crate) fn compare_texts(text: &[u8], other: &[u8], separators: Separators) -> Ordering
     ensures { result ≡ left_cmp (body separators 0 text.now) (body separators 0 other.now) }
 {
+    // If the bytes decide, neither is read; else only what follows what both begin with.
     compare_parted(text, other, first_difference(text, other), separators)
 }
 
-/// The same where it is told how many bytes the two begin with.
+/// Returns the order that [`compare_texts`] does. `shared` is the index of the first difference, or
+/// the length of the shorter body if there is none.
 #[inline(always)]
 pub(crate) fn compare_parted(
     text: &[u8],
@@ -321,15 +327,16 @@ pub(crate) fn compare_parted(
     requires { PartAt text.now other.now shared }
     ensures { result ≡ left_cmp (body separators 0 text.now) (body separators 0 other.now) }
 {
+    // Most texts differ within names, which is decided here; the others are a call.
     match order_behind(text, other, shared, separators) {
         Some(order) => order,
         None => compare_from(text, other, shared, separators),
     }
 }
 
-/// The same of two texts that do not part within names: by their first bytes, or where one begins with the other, and
-/// else behind the last separator that both begin with, as long as there is one; all others are read. It is told how
-/// many bytes the two begin with, and stands apart so that the order of most texts is told in place.
+/// The slow path of [`compare_parted`]: tries the first bytes, then whether one body begins with
+/// the other, then all anew after the last separator that both share. If they share no separator
+/// any more, it compares component by component.
 fn compare_from(text: &[u8], other: &[u8], shared: usize, separators: Separators) -> Ordering
     requires { PartAt text.now other.now shared }
     ensures { result ≡ left_cmp (body separators 0 text.now) (body separators 0 other.now) }
@@ -361,9 +368,7 @@ fn compare_from(text: &[u8], other: &[u8], shared: usize, separators: Separators
     }
 }
 
-/// Whether two texts have the same components: the prefix first, then the last component, in which
-/// most paths that are not the same differ, and then from the front. Those that both begin with, by
-/// their bytes, are not read.
+/// Whether two paths have the same components.
 fn have_same_components<T: Encoding>(path: &[u8], other: &[u8]) -> bool
     ensures { result ≡ is_same T.dialect path.now other.now }
 {
@@ -374,9 +379,11 @@ fn have_same_components<T: Encoding>(path: &[u8], other: &[u8]) -> bool
     }
     let mut rest = own.body();
     let mut wanted = others.body();
+    // Most paths that are not the same differ in the last component.
     if !take_same_last(&mut rest, &mut wanted) {
         return false;
     }
+    // Components that both begin with, by their bytes, are not read.
     let (mut rest, mut wanted) = bodies_behind_shared(rest, wanted);
     'steps: while let Some(step) = wanted.front() {
         let Some(own) = rest.front() else {
@@ -389,19 +396,19 @@ fn have_same_components<T: Encoding>(path: &[u8], other: &[u8]) -> bool
     rest.front().is_none()
 }
 
-/// The order of the components of two texts, the prefix first and then from the front. Those that
-/// both begin with, by their bytes, are not read.
+/// Returns the order of two paths by their components.
 fn compare_components<T: Encoding>(path: &[u8], other: &[u8]) -> Ordering
     ensures { result ≡ path_cmp T.dialect path.now other.now }
 {
     let own = T::cursor(path);
     let others = T::cursor(other);
     return_order_of_prefixes!(own, others, compare_prefixes);
+    // Components that both begin with, by their bytes, are not read.
     let (rest, wanted) = bodies_behind_shared(own.body(), others.body());
     compare_each(rest, wanted)
 }
 
-/// The order of what two readings have left, component by component.
+/// Returns the order of what two bodies have left, component by component.
 #[inline(always)]
 pub(crate) fn compare_each(mut rest: Body<'_>, mut wanted: Body<'_>) -> Ordering
     ensures { result ≡ left_cmp (body_items rest.entry) (body_items wanted.entry) }
@@ -409,7 +416,8 @@ pub(crate) fn compare_each(mut rest: Body<'_>, mut wanted: Body<'_>) -> Ordering
     order_step_by_step!(rest, wanted, compare_steps)
 }
 
-/// Whether two readings end alike: with the same component, which is taken, or with none.
+/// Takes the last component of both, and returns whether the two are the same, or neither body had
+/// one.
 #[inline(always)]
 fn take_same_last(rest: &mut Body<'_>, wanted: &mut Body<'_>) -> bool
     ensures { left_same (body_items rest.old) (body_items wanted.old)
@@ -422,8 +430,8 @@ fn take_same_last(rest: &mut Body<'_>, wanted: &mut Body<'_>) -> bool
     }
 }
 
-/// The order of a list that begins with a prefix and one that has none: it comes first, but for the
-/// empty list.
+/// Returns the order of a path with a prefix beside one without, which has `bare` left: the first
+/// is less, unless `bare` is empty.
 pub(crate) fn order_of_prefixed(mut bare: Body<'_>) -> Ordering
     ensures { (p : Prefix) (ks : List Kind)
         → None ≡ first_prefix (kinds (parts (body_items bare.entry)))
@@ -451,7 +459,8 @@ pub(crate) fn have_same_prefixes(
     }
 }
 
-/// The order of two prefixes: by kind, and then by names. How they are written is no part of it.
+/// Returns the order of two prefixes: by kind, and then by names. How they are written does not
+/// count.
 #[inline(always)]
 pub(crate) fn compare_prefixes(own: WindowsPrefix<'_>, other: WindowsPrefix<'_>) -> Ordering
     ensures { result
@@ -460,7 +469,7 @@ pub(crate) fn compare_prefixes(own: WindowsPrefix<'_>, other: WindowsPrefix<'_>)
     own.cmp(&other)
 }
 
-/// The order of two components: by kind, and then by name.
+/// Returns the order of two components after the prefix: by kind, and then by name.
 #[inline(always)]
 fn compare_steps(step: Step<'_>, other: Step<'_>) -> Ordering
     ensures { result ≡ kind_cmp (step_part step.entry).kind (step_part other.entry).kind }
@@ -471,7 +480,7 @@ fn compare_steps(step: Step<'_>, other: Step<'_>) -> Ordering
     kind_rank(step.kind).cmp(&kind_rank(other.kind))
 }
 
-/// Whether two components are of one kind, with one name.
+/// Whether two components after the prefix are of one kind, and have one name if they are names.
 #[inline(always)]
 fn is_same_step(step: Step<'_>, other: Step<'_>) -> bool
     ensures { result ≡ is_eq (kind_cmp (step_part step.entry).kind (step_part other.entry).kind) }
@@ -485,7 +494,7 @@ fn is_same_step(step: Step<'_>, other: Step<'_>) -> bool
     }
 }
 
-/// The rank of a kind among those that stand behind the prefix.
+/// Returns the rank of a kind of component after the prefix, least first.
 #[inline(always)]
 pub(crate) fn kind_rank(kind: StepKind) -> u8
     ensures { result ≡ step_rank kind }
@@ -498,7 +507,7 @@ pub(crate) fn kind_rank(kind: StepKind) -> u8
     }
 }
 
-/// Feeds the prefix of a path to a hasher, where it has one: its kind and names.
+/// Feeds the prefix of a path to a hasher, by its kind and names; nothing without a prefix.
 #[inline(always)]
 pub(crate) fn feed_prefix<H: Hasher>(prefix: Option<WindowsPrefix<'_>>, state: &mut H)
     ensures { state.new
@@ -509,8 +518,8 @@ pub(crate) fn feed_prefix<H: Hasher>(prefix: Option<WindowsPrefix<'_>>, state: &
     }
 }
 
-/// Feeds a component behind the prefix to a hasher, and answers how many bytes of its text are
-/// counted.
+/// Feeds a component after the prefix to a hasher, and returns how many bytes it fed: none for a
+/// root.
 #[inline(always)]
 pub(crate) fn feed<H: Hasher>(step: Step<'_>, state: &mut H) -> usize
     ensures words { state.new ≡ fold H.write state.old
