@@ -1,4 +1,5 @@
-//! Paths in lower case, and paths compared as these are: without regard to the case of ASCII letters.
+//! Paths in lower case, and paths compared in lower case: without regard to the case of ASCII
+//! letters.
 
 ghost use Rattle.std.specs.Prelude.{◌≡◌, ◌<◌, ℕ, List, length, get_or, IfOk};
 ghost use Rattle.std.specs.Str.{bytes_eq, str_to_ascii_lowercase};
@@ -22,10 +23,10 @@ use std::alloc::{AllocError, Global};
 use std::cmp::Ordering;
 
 impl<'a, T: Encoding> Path<'a, T> {
-    /// Whether the path has the same components as another, but for the case of ASCII letters: whether the two are
-    /// equal in lower case.
+    /// Whether the path has the same components as `other` in lower case: whether the two are equal
+    /// but for the case of ASCII letters.
     ///
-    /// `a/B` is so equal to `A//b`, and on Windows `\\Server\a` to `\\server\A`.
+    /// So `a/B` equals `A//b`, and on Windows `\\Server\a` equals `\\server\A`.
     pub fn eq_ignore_ascii_case(self, other: Path<'_, T>) -> bool
         ensures { result ≡ is_same T.dialect (lowered T.dialect (path_bytes self.entry))
             (lowered T.dialect (path_bytes other.entry)) }
@@ -33,7 +34,7 @@ impl<'a, T: Encoding> Path<'a, T> {
         self.cmp_ignore_ascii_case(other).is_eq()
     }
 
-    /// The order of the path and another in lower case, by their components.
+    /// Returns the order of the path and `other` in lower case, by their components.
     ///
     /// `B` is greater than `a`, and `_` is less than `A`, since it is less than `a`.
     pub fn cmp_ignore_ascii_case(self, other: Path<'_, T>) -> Ordering
@@ -43,10 +44,10 @@ impl<'a, T: Encoding> Path<'a, T> {
         compare_lowered::<T>(self.as_bytes(), other.as_bytes())
     }
 
-    /// Whether the path begins with the components of another, as they are written, but for the case of ASCII
-    /// letters: whether it does in lower case.
+    /// Whether the path begins with the components of `base` in lower case, compared as they are
+    /// written: whether it begins with them but for the case of ASCII letters.
     ///
-    /// `Src/Lib` so begins with `src`, and on Windows `c:\a` with `C:`.
+    /// So `Src/Lib` begins with `src`, and on Windows `c:\a` with `C:`.
     pub fn starts_with_ignore_ascii_case(self, base: Path<'_, T>) -> bool
         ensures { result ≡ path_starts_with T.dialect (lowered T.dialect (path_bytes self.entry))
             (lowered T.dialect (path_bytes base.entry)) }
@@ -64,12 +65,13 @@ impl<'a, T: Encoding> Path<'a, T> {
         true
     }
 
-    /// The path in lower case: each letter of ASCII, but for the `UNC` of a prefix `\\?\UNC\`, which is read so in
-    /// capitals alone.
+    /// Returns the path in lower case: with each ASCII letter in lower case, except the `UNC` of a
+    /// prefix `\\?\UNC\`, which is read so in capitals alone.
     ///
     /// That of `Src/É` is `src/É`, and on Windows that of `\\?\UNC\S\H` is `\\?\UNC\s\h`.
     ///
-    /// The answer is read as the path is, each component in lower case. It is as long, and its own answer.
+    /// The result is read as the path is, each component in lower case. It is as long, and in lower
+    /// case it is itself.
     pub fn to_ascii_lowercase(self, alloc: Global) -> Result<PathBuf<T>, AllocError>
         ensures { IfOk result (λ p. p.bytes ≡ lowered T.dialect (path_bytes self.entry)) }
     {
@@ -82,7 +84,8 @@ impl<'a, T: Encoding> Path<'a, T> {
     }
 }
 
-/// How many bytes of a path stay as they are written: those of `\\?\UNC\` before a server.
+/// Returns how many bytes at the front of a path stay as they are in lower case: those of a
+/// `\\?\UNC\` before a server, else 0.
 #[inline]
 fn kept_before<T: Encoding>(path: &[u8]) -> usize
     ensures { IsLoweredBehind T.dialect path.now result }
@@ -93,7 +96,8 @@ fn kept_before<T: Encoding>(path: &[u8]) -> usize
     }
 }
 
-/// How many bytes of a prefix stay as they are written.
+/// Returns how many bytes at the front of a prefix stay as they are in lower case: those of
+/// `\\?\UNC\`, else 0.
 #[inline(always)]
 fn mark_len(prefix: WindowsPrefix<'_>) -> usize
     ensures { result ≡ mark_length (prefix_view prefix.entry) }
@@ -104,11 +108,12 @@ fn mark_len(prefix: WindowsPrefix<'_>) -> usize
     }
 }
 
-/// The order of two paths in lower case, by their components. Where their bytes are equal, neither is read.
+/// Returns the order of two paths in lower case, by their components.
 fn compare_lowered<T: Encoding>(path: &[u8], other: &[u8]) -> Ordering
     ensures { result ≡ path_cmp T.dialect (lowered T.dialect path.now)
         (lowered T.dialect other.now) }
 {
+    // Equal bytes need no reading.
     if path == other {
         return Ordering::Equal;
     }
@@ -118,14 +123,14 @@ fn compare_lowered<T: Encoding>(path: &[u8], other: &[u8]) -> Ordering
     compare_each_lowered(own.body(), others.body())
 }
 
-/// The order of what two readings have left, in lower case.
+/// Returns the order of what two bodies have left in lower case, component by component.
 fn compare_each_lowered(mut rest: Body<'_>, mut wanted: Body<'_>) -> Ordering
     ensures { result ≡ lowered_cmp (body_items rest.entry) (body_items wanted.entry) }
 {
     order_step_by_step!(rest, wanted, compare_lowered_steps)
 }
 
-/// The order of two prefixes in lower case.
+/// Returns the order of two prefixes in lower case: by kind, and then by names.
 fn compare_lowered_prefixes(own: WindowsPrefix<'_>, other: WindowsPrefix<'_>) -> Ordering
     ensures { result ≡ kind_cmp (prefix (lowered_prefix (prefix_view own.entry)))
         (prefix (lowered_prefix (prefix_view other.entry))) }
@@ -147,7 +152,7 @@ fn compare_lowered_prefixes(own: WindowsPrefix<'_>, other: WindowsPrefix<'_>) ->
     }
 }
 
-/// The order of two components in lower case.
+/// Returns the order of two components after the prefix in lower case: by kind, and then by name.
 #[inline(always)]
 fn compare_lowered_steps(step: Step<'_>, other: Step<'_>) -> Ordering
     ensures { result ≡ kind_cmp (lowered_kind (step_part step.entry).kind)
@@ -159,7 +164,7 @@ fn compare_lowered_steps(step: Step<'_>, other: Step<'_>) -> Ordering
     kind_rank(step.kind).cmp(&kind_rank(other.kind))
 }
 
-/// The order of two names in lower case.
+/// Returns the order of two names in lower case.
 #[inline(always)]
 fn compare_lowered_names(name: &[u8], other: &[u8]) -> Ordering
     ensures { result ≡ lowered_bytes_cmp name.now other.now }
@@ -194,7 +199,7 @@ fn is_written_alike(own: Piece<'_>, other: Piece<'_>) -> bool
     true
 }
 
-/// Whether two texts are one in lower case.
+/// Whether two texts are equal in lower case.
 #[inline(always)]
 fn is_same_in_lower_case(text: &[u8], other: &[u8]) -> bool
     ensures { result ≡ bytes_eq (str_to_ascii_lowercase other.now) (str_to_ascii_lowercase text.now) }
@@ -202,7 +207,7 @@ fn is_same_in_lower_case(text: &[u8], other: &[u8]) -> bool
     text.len() == other.len() && first_difference_in_lower_case(text, other) == text.len()
 }
 
-/// How many bytes of a component stay as they are written.
+/// Returns how many bytes at the front of a component stay as they are in lower case.
 #[inline(always)]
 fn kept_len(kind: PieceKind<'_>) -> usize
     ensures { (text : List ℕ) → result ≡ mark_in (kind_view kind.entry text) }
@@ -213,7 +218,7 @@ fn kept_len(kind: PieceKind<'_>) -> usize
     }
 }
 
-/// A byte of a text in lower case, but for its first bytes.
+/// Returns the byte at index `at` in lower case, or as it is if it is one of the first `kept`.
 #[inline(always)]
 fn lowered_byte(text: &[u8], kept: usize, at: usize) -> u8
     requires { at < length text.now }

@@ -1,4 +1,4 @@
-//! Paths as texts, and what prints them and what is read of them.
+//! Paths as text, and what is printed of paths and of the iterators over them.
 
 ghost use Rattle.std.specs.Prelude.{◌≡◌, IfOk, IsOk, option_copied};
 ghost use Rattle.std.specs.Str.Lossy.{utf8_lossy};
@@ -16,24 +16,24 @@ use std::alloc::{AllocError, Global};
 use std::borrow::CowStr;
 use std::{fmt, str};
 
-/// A path that is to be printed: its text, with U+FFFD where the bytes are none.
+/// A path to be printed: as text, with U+FFFD for what is not UTF-8.
 #[derive_where(Clone, Copy)]
 pub struct Display<'a, T> {
     path: Path<'a, T>,
 }
 
 impl<'a, T: Encoding> Path<'a, T> {
-    /// The path as a text, where its bytes are UTF-8.
+    /// Returns the path as text if it is UTF-8, else `None`.
     pub fn to_str(self) -> Option<&'a str>
         ensures { option_copied result ≡ text_of_bytes (path_bytes self.entry) }
     {
         str::from_utf8(self.as_bytes()).ok()
     }
 
-    /// The path as a text, with U+FFFD where its bytes are none.
+    /// Returns the path as text, with U+FFFD for what is not UTF-8.
     ///
-    /// Where they are UTF-8, the text is lent and no memory is asked for. Of the bytes `0x61 0xFF` it
-    /// is `a` and U+FFFD.
+    /// If all of it is UTF-8, the text is borrowed and nothing is allocated. Of the bytes
+    /// `0x61 0xFF` it is `a` and U+FFFD.
     pub fn to_string_lossy(self, alloc: Global) -> Result<CowStr<'a>, AllocError>
         ensures text { IfOk result
             (λ text. cow_str_bytes text ≡ utf8_lossy (path_bytes self.entry)) }
@@ -46,7 +46,7 @@ impl<'a, T: Encoding> Path<'a, T> {
         }
     }
 
-    /// The path, to be printed.
+    /// Returns the path as a value that prints it.
     pub fn display(self) -> Display<'a, T>
         ensures { displayed result ≡ path_bytes self.entry }
     {
@@ -54,10 +54,11 @@ impl<'a, T: Encoding> Path<'a, T> {
     }
 }
 
-/// The text of bytes, with U+FFFD where they are none. Room for as many bytes is found first.
+/// Returns a copy of the bytes as text, with U+FFFD for what is not UTF-8.
 fn replaced(alloc: Global, bytes: &[u8]) -> Result<String, AllocError>
     ensures { IfOk result (λ text. string_bytes text ≡ utf8_lossy bytes.now) }
 {
+    // Capacity for as many bytes is reserved at once.
     let mut text = String::with_capacity(alloc, bytes.len())?;
     'chunks: for chunk in bytes.utf8_chunks() {
         text.push_str(chunk.valid())?;
@@ -68,7 +69,7 @@ fn replaced(alloc: Global, bytes: &[u8]) -> Result<String, AllocError>
     Ok(text)
 }
 
-/// Writes the path's text, with U+FFFD where its bytes are none.
+/// Prints the path as text, with U+FFFD for what is not UTF-8.
 impl<'a, T: Encoding> fmt::Display for Path<'a, T> {
     ghost output = { λ path. text_of_bytes (path_bytes path) };
 
@@ -120,7 +121,7 @@ impl<'a, T: Encoding> fmt::Debug for Display<'a, T> {
     }
 }
 
-/// What is left of a reading, as a list.
+/// What an iterator has left, printed as a list.
 #[derive_where(Clone, Copy)]
 struct Listed<'a, T: Encoding, I> {
     reading: Reading<'a, T, I>,
