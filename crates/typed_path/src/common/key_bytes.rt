@@ -1,4 +1,4 @@
-//! The words of a path's key as bytes in a buffer, for a hasher across a boundary.
+//! The key of a path as bytes in a buffer, for a hasher that is called across a boundary.
 
 ghost use Rattle.std.specs.Prelude.{◌≡◌, ◌≤◌, ◌<◌, ◌+◌, ◌^◌, ◌∷◌, ◌++◌, length, drop, option_map};
 ghost use Rattle.std.specs.List.{concat};
@@ -11,10 +11,12 @@ use crate::common::path::Path;
 use crate::scan::{Step, StepKind, WindowsPrefix};
 
 impl<'a, T: Encoding> Path<'a, T> {
-    /// Puts the words that the path's [`Key`](crate::Key) feeds a hasher, one behind the other, at the beginning of a
-    /// buffer, if they fit. It tells how many bytes they are: at most twice those of the path, and one.
+    /// Writes the bytes that the path's [`Key`](crate::Key) feeds a hasher, one word after the
+    /// other, to the front of `out`. Returns how many they are: at most twice those of the path,
+    /// and one. If they do not fit, nothing is written.
     ///
-    /// No path's bytes begin with those of another, so other values may be fed behind them.
+    /// The bytes of no path begin with those of another that is not equal, so other values may be
+    /// fed after them.
     pub fn put_key(self, out: &mut [u8]) -> usize
         ensures length { result ≡ length (key_bytes T.dialect (path_bytes self.entry)) }
         ensures put { length (key_bytes T.dialect (path_bytes self.entry)) ≤ length out.old → out.new
@@ -32,7 +34,8 @@ impl<'a, T: Encoding> Path<'a, T> {
     }
 }
 
-/// The same of the bytes of a path; where they do not fit, some of them may be put.
+/// Writes the bytes of a path's key to the front of `out`, and returns how many they are. If they
+/// do not fit, only some of them may be written.
 fn put_words<T: Encoding>(path: &[u8], out: &mut [u8]) -> usize
     ensures { IsPutFrom 0 (key_bytes T.dialect path.now) out.old out.new result }
 {
@@ -45,7 +48,8 @@ fn put_words<T: Encoding>(path: &[u8], out: &mut [u8]) -> usize
     put_bytes(out, at, &[0])
 }
 
-/// Puts the number of the prefix's kind, and its names or its letter.
+/// Writes the number of the prefix's kind, and its names or its letter, to `out[at..]`; nothing
+/// without a prefix. Returns the index after them, whether they fit or not.
 fn put_prefix(out: &mut [u8], at: usize, prefix: Option<WindowsPrefix<'_>>) -> usize
     requires { at + length (concat (key_words_before (option_map prefix_view prefix))) < 2 ^ 64 }
     ensures { IsPutFrom at (concat (key_words_before (option_map prefix_view prefix.entry)))
@@ -64,7 +68,8 @@ fn put_prefix(out: &mut [u8], at: usize, prefix: Option<WindowsPrefix<'_>>) -> u
     }
 }
 
-/// Puts a component behind the prefix: the number of its kind, or its name.
+/// Writes a component after the prefix to `out[at..]`: the number of its kind, or its name. Returns
+/// the index after it, whether it fits or not.
 #[inline(always)]
 fn put_step(out: &mut [u8], at: usize, step: Step<'_>) -> usize
     requires { at + length (concat (kind_key_words (step_part step).kind)) < 2 ^ 64 }
@@ -78,7 +83,8 @@ fn put_step(out: &mut [u8], at: usize, step: Step<'_>) -> usize
     }
 }
 
-/// Puts the number of a kind, and two names.
+/// Writes the number of a kind and two names to `out[at..]`. Returns the index after them, whether
+/// they fit or not.
 fn put_both_named(out: &mut [u8], at: usize, kind: u8, server: &[u8], share: &[u8]) -> usize
     requires { at + 1 + length (concat (length_prefixed server.now ++ length_prefixed share.now)) < 2 ^ 64 }
     ensures { IsPutFrom at (kind ∷ concat (length_prefixed server.now ++ length_prefixed share.now))
@@ -88,7 +94,8 @@ fn put_both_named(out: &mut [u8], at: usize, kind: u8, server: &[u8], share: &[u
     put_name(out, behind, share)
 }
 
-/// Puts the number of a kind, and a name.
+/// Writes the number of a kind and a name to `out[at..]`. Returns the index after them, whether
+/// they fit or not.
 fn put_named(out: &mut [u8], at: usize, kind: u8, name: &[u8]) -> usize
     requires { at + 1 + length (concat (length_prefixed name.now)) < 2 ^ 64 }
     ensures { IsPutFrom at (kind ∷ concat (length_prefixed name.now)) out.old out.new result }
@@ -97,7 +104,8 @@ fn put_named(out: &mut [u8], at: usize, kind: u8, name: &[u8]) -> usize
     put_name(out, behind, name)
 }
 
-/// Puts the number of a name's bytes, and these.
+/// Writes the length of a name and its bytes to `out[at..]`. Returns the index after them, whether
+/// they fit or not.
 fn put_name(out: &mut [u8], at: usize, name: &[u8]) -> usize
     requires { at + length (concat (length_prefixed name.now)) < 2 ^ 64 }
     ensures { IsPutFrom at (concat (length_prefixed name.now)) out.old out.new result }
@@ -106,7 +114,9 @@ fn put_name(out: &mut [u8], at: usize, name: &[u8]) -> usize
     put_bytes(out, behind, name)
 }
 
-/// Puts a number of bytes: up to 244 in one byte, which is no number of a kind; a larger one behind 255.
+/// Writes a length to `out[at..]`: up to 244 in one byte, which is not the number of a kind; a
+/// greater one after the byte 255, lowest byte first. Returns the index after it, whether it fits
+/// or not.
 fn put_count(out: &mut [u8], at: usize, count: usize) -> usize
     requires { at + length (concat (length_words count)) < 2 ^ 64 }
     ensures { IsPutFrom at (concat (length_words count)) out.old out.new result }
@@ -118,7 +128,7 @@ fn put_count(out: &mut [u8], at: usize, count: usize) -> usize
     put_bytes(out, behind, &count.to_le_bytes())
 }
 
-/// Puts bytes into a buffer from a place on, if they fit, and tells where they end.
+/// Writes bytes to `out[at..]` if they fit. Returns the index after them, whether they fit or not.
 #[inline(always)]
 fn put_bytes(out: &mut [u8], at: usize, bytes: &[u8]) -> usize
     requires { at + length bytes.now < 2 ^ 64 }

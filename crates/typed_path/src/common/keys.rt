@@ -1,5 +1,5 @@
-//! Keys of maps whose names strangers choose: paths that feed a hasher their components with borders, so that
-//! no two lists of components feed alike.
+//! Keys of maps whose names strangers choose. A key feeds a hasher where each component ends too,
+//! so no two lists of components feed it alike.
 
 ghost use Rattle.std.specs.Prelude.{◌≡◌, List, ℕ, IsTrue, fold, option_map};
 ghost use Rattle.std.proofs.Common.{ap};
@@ -13,13 +13,13 @@ use crate::common::path_buf::PathBuf;
 use crate::scan::{Step, StepKind, WindowsPrefix};
 use std::hash::{Hash, Hasher};
 
-/// A path that may be in a [`Key`]: lent, owned, of text, or typed.
+/// A path that may be in a [`Key`]: borrowed or owned, of bytes or of text, typed or not.
 pub trait KeyPath: Eq {
     ghost key_input: { Self → List (List ℕ) };
 
-    /// Feeds a hasher the words of the path's key: of a name the number of its bytes and these; of any other
-    /// component a byte for its kind, and behind that of a prefix its names in the same way, or the letter of its
-    /// drive; and last a byte with which no component begins.
+    /// Feeds the key of a path to a hasher: of a name its length and its bytes; of any other
+    /// component a byte for its kind, and after that of a prefix its names in the same way, or the
+    /// letter of its drive; and last a byte with which no component begins.
     fn hash_key<H: Hasher>(&self, state: &mut H)
         ensures { state.new ≡ fold H.write state.old (key_input self.now) };
 
@@ -50,9 +50,9 @@ impl<T: Encoding> KeyPath for PathBuf<T> {
 
 /// A path as the key of a map whose names strangers choose.
 ///
-/// It is equal and in order as its path. What it feeds a hasher tells its components apart from all others:
-/// `a/bc`, `ab/c` and `abc`, which feed alike as paths, do not as keys. So a hasher with a key of its own, as
-/// std's `RandomState` makes it, spreads them like any other names.
+/// It compares as its path does. What it feeds a hasher tells its list of components from all
+/// others: `a/bc`, `ab/c` and `abc`, which feed alike as paths, do not as keys. So a hasher with a
+/// key of its own, as std's `RandomState` makes it, spreads them like any other names.
 #[derive(Clone, Copy, Debug, PartialEq, Eq, PartialOrd, Ord, Drop)]
 pub struct Key<P> {
     path: P,
@@ -91,7 +91,7 @@ impl<P: KeyPath> Hash for Key<P> {
     }
 }
 
-/// Feeds a hasher the key of a path.
+/// Feeds the key of a path to a hasher.
 fn feed_key<T: Encoding, H: Hasher>(path: &[u8], state: &mut H)
     ensures { state.new ≡ fold H.write state.old (key_words T.dialect path.now) }
 {
@@ -104,7 +104,7 @@ fn feed_key<T: Encoding, H: Hasher>(path: &[u8], state: &mut H)
     state.write_u8(0);
 }
 
-/// Feeds the number of the prefix's kind, and its names or its letter.
+/// Feeds the number of the prefix's kind, and its names or its letter; nothing without a prefix.
 fn feed_prefix<H: Hasher>(prefix: Option<WindowsPrefix<'_>>, state: &mut H)
     ensures { state.new
         ≡ fold H.write state.old (key_words_before (option_map prefix_view prefix.entry)) }
@@ -140,7 +140,7 @@ fn feed_prefix<H: Hasher>(prefix: Option<WindowsPrefix<'_>>, state: &mut H)
     }
 }
 
-/// Feeds a component behind the prefix: the number of its kind, or its name.
+/// Feeds a component after the prefix: the number of its kind, or its name.
 #[inline(always)]
 fn feed_step<H: Hasher>(step: Step<'_>, state: &mut H)
     ensures { state.new ≡ fold H.write state.old (kind_key_words (step_part step.entry).kind) }
@@ -153,7 +153,7 @@ fn feed_step<H: Hasher>(step: Step<'_>, state: &mut H)
     }
 }
 
-/// Feeds the number of a name's bytes, and these.
+/// Feeds the length of a name, and its bytes.
 #[inline(always)]
 fn feed_name<H: Hasher>(name: &[u8], state: &mut H)
     ensures { state.new ≡ fold H.write state.old (length_prefixed name.now) }
@@ -162,7 +162,8 @@ fn feed_name<H: Hasher>(name: &[u8], state: &mut H)
     state.write(name);
 }
 
-/// Feeds a number of bytes: up to 244 in one byte, which is no number of a kind; a larger one behind 255.
+/// Feeds a length: up to 244 in one byte, which is not the number of a kind; a greater one after
+/// the byte 255.
 #[inline(always)]
 fn feed_length<H: Hasher>(length: usize, state: &mut H)
     ensures { state.new ≡ fold H.write state.old (length_words length) }
