@@ -1,10 +1,10 @@
-//! Where a path goes that is pushed onto another in place.
+//! Where a path goes that is pushed onto another without merging: after a front of that one.
 
-/// What is kept of a base, and what stands between that and a path that is pushed onto it.
+/// What a push keeps of the base, and what it puts between that and the pushed path.
 #[derive(Clone, Copy, Debug)]
 pub struct PushPlace {
     /// How many bytes of the base are kept.
     pub kept: usize,
-    /// What is put behind these: the separator, or nothing.
+    /// What follows these, before the pushed path: one separator, or nothing.
     pub separator: &'static [u8],
 }

@@ -1,4 +1,4 @@
-//! Whether a path is one that every system takes as it is written, and whether a name of it may be a device.
+//! Whether every system takes a path as it is written, and whether a name of it may be a device.
 
 ghost use Rattle.std.specs.Prelude.{◌≡◌, ℕ, false, None, IsTrue, option_map};
 ghost use Rattle.std.specs.List.{list_any, slice_split};
@@ -20,7 +20,7 @@ use crate::scan::{
 };
 use std::str;
 
-/// How many bytes a name has at most on every system.
+/// The greatest length of a name, in bytes, that every system takes.
 const LONGEST_NAME: usize = 255;
 
 /// Whether one of the components that are left may be a device.
@@ -43,7 +43,8 @@ pub fn piece_may_be_device(piece: Piece<'_>) -> bool
     matches!(piece.kind, PieceKind::Normal) && may_be_device(piece.text)
 }
 
-/// The first of the components that are left that offends, as it is written, and why.
+/// Returns the first of the components left that offends, as it is written, and its fault; `None`
+/// if none does.
 pub fn first_unportable<'a, T: Encoding>(
     mut rest: Components<'a, T>,
 ) -> Option<(&'a [u8], PortableError)>
@@ -57,7 +58,7 @@ pub fn first_unportable<'a, T: Encoding>(
     None
 }
 
-/// The refusal for a component that was found, if one was.
+/// Returns the fault of a component that was found as an error, `Ok` if none was found.
 pub fn refused_for(found: Option<(&[u8], PortableError)>) -> Result<(), PortableError>
     ensures { error_of result ≡ option_map (λ o. o.1) (option_map offence_of found.entry) }
 {
@@ -67,7 +68,7 @@ pub fn refused_for(found: Option<(&[u8], PortableError)>) -> Result<(), Portable
     }
 }
 
-/// The refusal for a fault, if there is one.
+/// Returns a fault as an error, `Ok` if there is none.
 pub fn refused_as(fault: Option<PortableError>) -> Result<(), PortableError>
     ensures { error_of result ≡ fault }
 {
@@ -77,7 +78,7 @@ pub fn refused_as(fault: Option<PortableError>) -> Result<(), PortableError>
     }
 }
 
-/// What a component offends by.
+/// Returns the fault of a component, `None` if it is portable.
 pub fn piece_fault(piece: Piece<'_>) -> Option<PortableError>
     ensures { result ≡ kind_fault (part_of piece.entry).kind }
 {
@@ -88,14 +89,14 @@ pub fn piece_fault(piece: Piece<'_>) -> Option<PortableError>
     }
 }
 
-/// Asks whether every system takes a name as it is written.
+/// Checks that every system takes a name as it is written.
 pub fn check_name(name: &[u8]) -> Result<(), PortableError>
     ensures { error_of result ≡ name_fault name.now }
 {
     refused_as(name_fault(name))
 }
 
-/// What a name offends by.
+/// Returns the first fault of a name, `None` if it is portable.
 fn name_fault(name: &[u8]) -> Option<PortableError>
     ensures { result ≡ name_fault name.now }
 {
@@ -114,7 +115,7 @@ fn name_fault(name: &[u8]) -> Option<PortableError>
     }
 }
 
-/// Whether each byte of a name is one that a name of Windows may have, and no control byte.
+/// Whether a name has neither a byte that Windows forbids in names nor a control byte.
 fn has_portable_bytes(name: &[u8]) -> bool
     ensures { result ≡ has_portable_bytes name.now }
 {
@@ -136,10 +137,7 @@ fn is_text(bytes: &[u8]) -> bool
     str::from_utf8(bytes).is_ok()
 }
 
-/// Whether the bytes of a path tell that each component is one that every system takes as it is written. False says
-/// nothing.
-///
-/// All bytes are looked at as a whole, by blocks, and only then the segments, for their ends.
+/// Whether a look at the bytes of a path finds each component portable. `false` leaves it open.
 #[tactic(auto, using(crate::proofs::lemmas::queries::Portable::told_unix, crate::proofs::lemmas::queries::Portable::told_bare))]
 pub fn looks_portable<T: Encoding>(path: &[u8]) -> bool
     ensures { IsTrue result → portable_fault T.dialect path.now ≡ None }
@@ -150,19 +148,21 @@ pub fn looks_portable<T: Encoding>(path: &[u8]) -> bool
     }
 }
 
-/// Whether each name of a text without a prefix is portable, as its bytes tell. False says nothing.
+/// Whether a look at the bytes of a text without a prefix finds each name portable. `false` leaves
+/// it open.
 fn are_plain_names(text: &[u8], separators: Separators) -> bool
     ensures names { (at : ℕ) → IsTrue result
         → kinds_fault (kinds (parts (body separators at text.now))) ≡ None }
     ensures free { IsTrue result → has_second_colon text.now ≡ false }
 {
+    // All bytes are looked at by blocks first, and only then the ends of segments.
     if separators.strays_on_windows(text) || has_control(text) || !is_text(text) {
         return false;
     }
     !has_offending_segment(text, separators)
 }
 
-/// Whether a segment of a text offends, whatever its bytes are.
+/// Whether a segment of a text is one that [`may_offend`].
 fn has_offending_segment(text: &[u8], separators: Separators) -> bool
     ensures { result ≡ list_any may_offend (slice_split (is_separator separators) text.now) }
 {
@@ -176,7 +176,8 @@ fn has_offending_segment(text: &[u8], separators: Separators) -> bool
     may_offend(rest)
 }
 
-/// Whether a segment is too long for a name, ends in a dot or a space and is neither `.` nor `..`, or may be a device.
+/// Whether a segment is too long for a name, ends in a dot or a space without being `.` or `..`, or
+/// may be a device.
 #[inline(always)]
 fn may_offend(segment: &[u8]) -> bool
     ensures { result ≡ may_offend segment.now }
