@@ -1,5 +1,6 @@
-//! The path that leads from a base to another: as the bytes of the two tell, or name by name from the back.
-//! What is read so is written from its end too, and then turned round.
+//! The path that leads from a base to another path: as a look at the bytes of both tells, or else
+//! name by name from the back. What is read from the back is written backwards, and reversed at the
+//! end. Which names are kept, and which `..` unmatched, is said in `within`.
 
 ghost use Rattle.std.specs.Prelude.{◌≡◌, ◌+◌, ◌*◌, ◌-◌, ◌++◌, ◌∷◌, ◌<◌, ◌≤◌, ◌^◌, ◌==◌, ◌&&◌, not, false, nat_le, [], length, take, drop, reverse, option_map, if◌then◌else◌, None, IfOk, IsOk, OnOk, MatchOption, Bool, List, ℕ, Some, IfSome};
 ghost use Rattle.std.specs.Vec.{vec_len, vec_capacity};
@@ -18,8 +19,7 @@ use crate::common::writing::drop_separator;
 use crate::scan::{Body, Cursor, Separators, cut_at_separator, leading_names, rests_behind_shared};
 use std::alloc::{AllocError, Global};
 
-/// The path that leads from a base to a path, where there is one. It is written into room that is asked
-/// for once.
+/// Returns the path that leads from `base` to `path`, `None` if there is none.
 pub(crate) fn relative_to<T: Encoding>(
     alloc: Global,
     path: &[u8],
@@ -34,6 +34,7 @@ pub(crate) fn relative_to<T: Encoding>(
             .up
             .saturating_mul(3)
             .saturating_add(near.rest.len() + 2);
+        // The whole answer fits, so it is allocated once.
         let mut text = Vec::with_capacity(alloc, room)?;
         put_near::<T>(&mut text, near)?;
         return Ok(Some(PathBuf::from_vec(text)));
@@ -41,8 +42,8 @@ pub(crate) fn relative_to<T: Encoding>(
     relative_by_components(alloc, path, base)
 }
 
-/// So many parents, and then the names of a text that is names alone: whether a separator stands behind the last
-/// one too.
+/// The steps from a base to a path: `up` times `..`, and then the names in `rest`. `ended` says
+/// whether a separator follows the last of these names too.
 #[derive(Clone, Copy)]
 pub(crate) struct Near<'a> {
     pub up: usize,
@@ -50,7 +51,8 @@ pub(crate) struct Near<'a> {
     ended: bool,
 }
 
-/// The steps that lead from a base to a path, where the bytes of both tell. None says nothing.
+/// Returns the steps from the base `other` to the path `own`, if a look at the bytes of both tells.
+/// `None` leaves it open.
 #[inline(always)]
 pub(crate) fn near_steps<'a>(
     own: Cursor<'a>,
@@ -68,7 +70,7 @@ pub(crate) fn near_steps<'a>(
     near_behind(own.body(), other.body(), separators)
 }
 
-/// Whether two readings begin with the same prefix or none, and with a root or none.
+/// Whether two paths have the same prefix or none, and both or neither are anchored.
 #[inline(always)]
 fn have_same_heads(own: Cursor<'_>, other: Cursor<'_>) -> bool
     ensures { result ≡ same_heads (kinds (parts (items_left own.entry)))
@@ -77,7 +79,7 @@ fn have_same_heads(own: Cursor<'_>, other: Cursor<'_>) -> bool
     have_same_prefixes(own.prefix(), other.prefix()) && begins_rooted(own) == begins_rooted(other)
 }
 
-/// Whether a reading begins with a root, written or implied.
+/// Whether a path is anchored: it begins with a root, written or implied by a prefix.
 #[inline(always)]
 fn begins_rooted(cursor: Cursor<'_>) -> bool
     ensures { result ≡ is_anchored (kinds (parts (items_left cursor.entry))) }
@@ -85,7 +87,8 @@ fn begins_rooted(cursor: Cursor<'_>) -> bool
     cursor.has_implicit_root() || cursor.has_physical_root()
 }
 
-/// The same of what two paths have behind the prefix.
+/// Returns the steps of [`near_steps`] between what two paths have after their prefixes. `None`
+/// leaves it open.
 #[inline(always)]
 fn near_behind<'a>(own: Body<'a>, other: Body<'a>, separators: Separators) -> Option<Near<'a>>
     ensures { IfSome result (λ near. PartInNames separators
@@ -102,7 +105,7 @@ fn near_behind<'a>(own: Body<'a>, other: Body<'a>, separators: Separators) -> Op
     near_texts(own.as_bytes(), other.as_bytes(), separators)
 }
 
-/// The same of two texts that are read from their beginnings.
+/// Returns the steps of [`near_steps`] between two texts without prefixes. `None` leaves it open.
 #[inline(always)]
 fn near_texts<'a>(text: &'a [u8], other: &'a [u8], separators: Separators) -> Option<Near<'a>>
     ensures { IfSome result (λ near. PartInNames separators
@@ -115,7 +118,8 @@ fn near_texts<'a>(text: &'a [u8], other: &'a [u8], separators: Separators) -> Op
     Some(Near { up, rest, ended })
 }
 
-/// How many names a text is that is names alone, as looks at its bytes tell. None says nothing.
+/// Returns how many names a text has, if a look at its bytes finds nothing but names, with one
+/// separator after each or after each but the last. `None` leaves it open.
 #[inline(always)]
 fn names_alone(text: &[u8], separators: Separators) -> Option<usize>
     ensures { IfSome result (λ count. (ended : Bool) × (names : List (List ℕ))
@@ -126,8 +130,8 @@ fn names_alone(text: &[u8], separators: Separators) -> Option<usize>
     Some(if ended { ends } else { ends + 1 })
 }
 
-/// Whether a separator stands behind the last name too of a text that is names alone, as looks at its bytes tell.
-/// None says nothing.
+/// Returns whether a separator follows the last name too, if a look at the bytes of a text finds
+/// nothing but names, with one separator between two. `None` leaves it open.
 #[inline(always)]
 fn ends_alone(text: &[u8], separators: Separators) -> Option<bool>
     ensures { IfSome result
@@ -140,7 +144,7 @@ fn ends_alone(text: &[u8], separators: Separators) -> Option<bool>
     }
 }
 
-/// How many separators a text has.
+/// Returns how many separators a text has.
 #[inline(always)]
 fn count_ends(text: &[u8], separators: Separators) -> usize
     ensures count { result + 1 ≡ length (slice_split (is_separator separators) text.now) }
@@ -155,7 +159,7 @@ fn count_ends(text: &[u8], separators: Separators) -> usize
     count
 }
 
-/// The separators of a text without a prefix.
+/// Returns which bytes separate in a path without a prefix.
 #[inline(always)]
 pub(crate) fn bare_separators<T: Encoding>() -> Separators
     ensures { result ≡ bare_separators T.dialect }
@@ -167,7 +171,7 @@ pub(crate) fn bare_separators<T: Encoding>() -> Separators
     }
 }
 
-/// Puts so many parents and the names of a text into an empty text.
+/// Writes the path that `near` describes into an empty vector.
 #[inline(always)]
 fn put_near<T: Encoding>(text: &mut Vec<u8>, near: Near<'_>) -> Result<(), AllocError>
     requires empty { text.old.items ≡ [] }
@@ -184,7 +188,7 @@ fn put_near<T: Encoding>(text: &mut Vec<u8>, near: Near<'_>) -> Result<(), Alloc
     put_apart(text, 0, separators)
 }
 
-/// Puts so many parents behind a text, each with a separator behind it.
+/// Appends `count` times `..`, each with a separator after it.
 #[inline(always)]
 fn put_ups(text: &mut Vec<u8>, count: usize, separators: Separators) -> Result<(), AllocError>
     ensures ok { OnOk result
@@ -199,7 +203,7 @@ fn put_ups(text: &mut Vec<u8>, count: usize, separators: Separators) -> Result<(
     Ok(())
 }
 
-/// Puts the names of a text that is names alone behind a text, each with a separator behind it.
+/// Appends the names of `near`, each with a separator after it.
 #[inline(always)]
 fn put_alone(text: &mut Vec<u8>, near: Near<'_>, separators: Separators) -> Result<(), AllocError>
     ensures ok { (names : List (List ℕ))
@@ -219,7 +223,7 @@ fn put_alone(text: &mut Vec<u8>, near: Near<'_>, separators: Separators) -> Resu
     Ok(())
 }
 
-/// The same, read component by component.
+/// Returns what [`relative_to`] does, by reading both paths component by component.
 fn relative_by_components<T: Encoding>(
     alloc: Global,
     path: &[u8],
@@ -240,14 +244,15 @@ fn relative_by_components<T: Encoding>(
     }
 }
 
-/// How many parents lead up from a base, and how many of the last names of a path down from there.
+/// How many `..` lead up from a base, and how many of the last kept names of a path lead down from
+/// there.
 #[derive(Clone, Copy)]
 struct Steps {
     up: usize,
     down: usize,
 }
 
-/// The steps that lead from a base to a path.
+/// Returns the steps from the base `other` to the path `own`, `None` if no path leads there.
 #[tactic(auto, using(crate::proofs::lemmas::places::KeptFromBack::few_behind_prefix, crate::proofs::lemmas::places::KeptFromBack::kept_behind_prefix))]
 fn steps_between(own: Cursor<'_>, other: Cursor<'_>) -> Option<Steps>
     requires { length (items_left own) + length (items_left other) < 2 ^ 64 }
@@ -274,7 +279,7 @@ fn steps_between(own: Cursor<'_>, other: Cursor<'_>) -> Option<Steps>
     })
 }
 
-/// Whether a path leads no lower than a base, and begins with a root as that does, or with none.
+/// Whether a path and a base are both anchored or both not, and the base leads no higher.
 fn leads_from(lead: Lead, start: Lead) -> bool
     ensures { result ≡ ((if lead.is_anchored then start.is_anchored else not start.is_anchored)
         && nat_le (if start.is_anchored then 0 else start.unmet)
@@ -283,7 +288,8 @@ fn leads_from(lead: Lead, start: Lead) -> bool
     lead.is_anchored == start.is_anchored && start.rising() <= lead.rising()
 }
 
-/// How many first names of a base lead to a path too: none where one of the two leads higher.
+/// Returns how many of the first kept names of a base a path shares, or 0 if one of the two leads
+/// higher.
 fn met_count(rest: Body<'_>, base: Body<'_>, lead: Lead, start: Lead) -> usize
     requires fits { length (body_items rest) < 2 ^ 64 }
     requires base_fits { length (body_items base) < 2 ^ 64 }
@@ -301,8 +307,8 @@ fn met_count(rest: Body<'_>, base: Body<'_>, lead: Lead, start: Lead) -> usize
     }
 }
 
-/// How many first names of two lists that are kept are the same. From the back the last difference is the
-/// first one that is seen, so each later one counts.
+/// Returns how many of the first kept names two paths share. `names` and `base_names` are how many
+/// each has.
 fn shared_count(mut rest: Body<'_>, mut base: Body<'_>, names: usize, base_names: usize) -> usize
     requires fits { length (body_items rest) < 2 ^ 64 }
     requires base_fits { length (body_items base) < 2 ^ 64 }
@@ -318,6 +324,7 @@ fn shared_count(mut rest: Body<'_>, mut base: Body<'_>, names: usize, base_names
     skip(&mut base, &mut base_owed, base_names.saturating_sub(names));
     let mut below = names - deeper;
     let mut met = below;
+    // From the back, the last difference that is seen is the first one, so it overrides the others.
     'names: while let Some(name) = last_name(&mut base, &mut base_owed) {
         below -= 1;
         if !is_last(&mut rest, &mut owed, name) {
@@ -327,7 +334,7 @@ fn shared_count(mut rest: Body<'_>, mut base: Body<'_>, names: usize, base_names
     met
 }
 
-/// Takes the last name that is kept, and says whether it is the given one.
+/// Takes the last kept name, and returns whether there is one and it is `name`.
 fn is_last(rest: &mut Body<'_>, owed: &mut usize, name: &[u8]) -> bool
     requires { owed.old + length (body_items rest.old) < 2 ^ 64 }
     ensures is { IsLast (names_under owed.old (body_items rest.old))
@@ -341,7 +348,7 @@ fn is_last(rest: &mut Body<'_>, owed: &mut usize, name: &[u8]) -> bool
     }
 }
 
-/// Takes so many of the last names that are kept.
+/// Takes the last `count` kept names.
 fn skip(rest: &mut Body<'_>, owed: &mut usize, count: usize)
     requires fits { owed.old + length (body_items rest.old) < 2 ^ 64 }
     requires count { count ≤ length (names_under owed.old (body_items rest.old)) }
@@ -356,7 +363,7 @@ fn skip(rest: &mut Body<'_>, owed: &mut usize, count: usize)
     }
 }
 
-/// Whether so many of the last names that are kept hold no `/`. None does where that separates.
+/// Whether the last `count` kept names are free of `/`; always `true` if `/` separates.
 #[tactic(auto, using(crate::proofs::lemmas::places::NearSteps::plain_stand))]
 fn can_stand(mut rest: Body<'_>, count: usize) -> bool
     requires fits { length (body_items rest) < 2 ^ 64 }
@@ -379,7 +386,7 @@ fn can_stand(mut rest: Body<'_>, count: usize) -> bool
     true
 }
 
-/// What a path has behind its prefix: the names that are kept stand there.
+/// Returns what follows the prefix of a path, which has all its names.
 #[tactic(auto, using(crate::proofs::lemmas::places::KeptFromBack::few, crate::proofs::lemmas::places::KeptFromBack::few_behind_prefix, crate::proofs::lemmas::places::KeptFromBack::kept_behind_prefix))]
 #[inline(always)]
 fn body_of<T: Encoding>(path: &[u8]) -> Body<'_>
@@ -391,7 +398,8 @@ fn body_of<T: Encoding>(path: &[u8]) -> Body<'_>
     T::cursor(path).body()
 }
 
-/// Puts so many parents, and so many of the last names of a path, into an empty text.
+/// Writes `steps.up` times `..`, and the last `steps.down` kept names of `path`, into an empty
+/// vector.
 fn put_steps<T: Encoding>(text: &mut Vec<u8>, path: &[u8], steps: Steps) -> Result<(), AllocError>
     requires empty { text.old.items ≡ [] }
     requires down { steps.down ≤ length (kept_names (kinds (parts_of T.dialect path.now))) }
@@ -401,6 +409,7 @@ fn put_steps<T: Encoding>(text: &mut Vec<u8>, path: &[u8], steps: Steps) -> Resu
     ensures succeeds { steps.up * 3 + length path.now + 2 ≤ vec_capacity text.old → IsOk result }
 {
     let separators = bare_separators::<T>();
+    // Both are written from their ends, and all is reversed then.
     put_names(text, body_of::<T>(path), steps.down, separators)?;
     put_parents(text, steps.up, separators)?;
     text.reverse();
@@ -408,8 +417,8 @@ fn put_steps<T: Encoding>(text: &mut Vec<u8>, path: &[u8], steps: Steps) -> Resu
     put_apart(text, 0, separators)
 }
 
-/// Puts so many of the last names that are kept into an empty text, the last one first, each behind a
-/// separator and from its end.
+/// Writes the last `count` kept names backwards into an empty vector: the last name first, each
+/// after a separator and with its bytes reversed.
 fn put_names(
     text: &mut Vec<u8>,
     mut rest: Body<'_>,
@@ -436,7 +445,7 @@ fn put_names(
     Ok(())
 }
 
-/// Puts a separator, and a name from its end, behind a text.
+/// Appends a separator, and then a name with its bytes reversed.
 fn put_reversed(text: &mut Vec<u8>, name: &[u8], separators: Separators) -> Result<(), AllocError>
     ensures ok { OnOk result (reverse text.new.items
         ≡ (name.now ++ row_end separators ∷ []) ++ reverse text.old.items) }
@@ -452,7 +461,7 @@ fn put_reversed(text: &mut Vec<u8>, name: &[u8], separators: Separators) -> Resu
     Ok(())
 }
 
-/// Puts so many parents behind a text, each behind a separator.
+/// Appends `count` times a separator and `..`.
 fn put_parents(text: &mut Vec<u8>, count: usize, separators: Separators) -> Result<(), AllocError>
     ensures ok { OnOk result (reverse text.new.items
         ≡ rows_of separators (dots count) ++ reverse text.old.items) }

@@ -1,4 +1,8 @@
-//! Whether a path lies at another or below it, by its names from the back, and what two paths begin with.
+//! Whether a path lies at another or below it, and what two paths begin with.
+//!
+//! Of a path it matters which `..` are unmatched, and which names are kept. A `..` cancels the
+//! nearest name before it that no other one has cancelled; it is unmatched if there is none. A name
+//! is kept if no `..` cancels it.
 
 ghost use Rattle.std.specs.Prelude.{◌≡◌, ◌+◌, ◌++◌, ◌∷◌, ◌<◌, ◌≤◌, ◌^◌, ◌&&◌, ◌==◌, not, nat_le, [], length, MatchOption, ℕ, IfSome, if◌then◌else◌};
 ghost use Rattle.std.specs.List.{starts_with};
@@ -16,18 +20,18 @@ use crate::common::path::Path;
 use crate::common::relative::{bare_separators, near_steps};
 use crate::scan::{Body, Cursor, StepKind, shared_front};
 
-/// Whether a path lies at a base or below it. Where bytes tell the steps from the base to it, it does
-/// if none of these leads up.
+/// Whether `path` lies at `base` or below it.
 pub(crate) fn is_within<T: Encoding>(path: &[u8], base: &[u8]) -> bool
     ensures { result ≡ is_within T.dialect path.now base.now }
 {
+    // If the bytes tell the steps from the base to the path, none of them may lead up.
     match near_steps(T::cursor(path), T::cursor(base), bare_separators::<T>()) {
         Some(near) => near.up == 0,
         None => within_by_components::<T>(path, base),
     }
 }
 
-/// The same, read component by component.
+/// Whether `path` lies at `base` or below it, read component by component from the back.
 #[tactic(auto, using(crate::proofs::lemmas::places::KeptFromBack::few, crate::proofs::lemmas::places::KeptFromBack::few_behind_prefix, crate::proofs::lemmas::places::KeptFromBack::kept_behind_prefix))]
 fn within_by_components<T: Encoding>(path: &[u8], base: &[u8]) -> bool
     ensures { result ≡ is_within T.dialect path.now base.now }
@@ -48,19 +52,20 @@ fn within_by_components<T: Encoding>(path: &[u8], base: &[u8]) -> bool
     begin_alike(own.body(), other.body(), lead.names - wanted.names)
 }
 
-/// What a path says of where it leads, but for its prefix and its names themselves.
+/// Where a path leads, without its prefix and the names themselves.
 #[derive(Clone, Copy)]
 pub(crate) struct Lead {
-    /// Whether it begins with a root, written or implied.
+    /// Whether it is anchored: it begins with a root, written or implied by a prefix.
     pub is_anchored: bool,
-    /// How many parents find no name to take away.
+    /// How many `..` are unmatched: they have no name to cancel.
     pub unmet: usize,
-    /// How many names are kept.
+    /// How many names are kept: no `..` cancels them.
     pub names: usize,
 }
 
 impl Lead {
-    /// How many parents lead above where the path begins.
+    /// Returns how many `..` lead above where the path begins: the unmatched ones, or none if it is
+    /// anchored.
     #[inline(always)]
     pub(crate) fn rising(self) -> usize
         ensures { result ≡ (if self.is_anchored then 0 else self.unmet) }
@@ -69,7 +74,7 @@ impl Lead {
     }
 }
 
-/// Reads where a path leads.
+/// Returns where a path leads, counted over all its components.
 #[tactic(auto, using(crate::proofs::lemmas::places::KeptFromBack::few_behind_prefix, crate::proofs::lemmas::places::KeptFromBack::kept_behind_prefix, crate::proofs::lemmas::places::KeptFromBack::unmet_behind_prefix))]
 #[inline(always)]
 pub(crate) fn lead_of(cursor: Cursor<'_>) -> Lead
@@ -87,14 +92,14 @@ pub(crate) fn lead_of(cursor: Cursor<'_>) -> Lead
     }
 }
 
-/// How many parents of a list find no name to take away, and how many names are kept.
+/// How many `..` of a path are unmatched, and how many names are kept.
 #[derive(Clone, Copy)]
 struct Depth {
     unmet: usize,
     names: usize,
 }
 
-/// Counts the parents that find no name and the names that are kept.
+/// Counts the unmatched `..` and the kept names of what is left.
 #[inline(always)]
 fn depth_of(mut rest: Body<'_>) -> Depth
     requires { length (body_items rest) < 2 ^ 64 }
@@ -109,8 +114,9 @@ fn depth_of(mut rest: Body<'_>) -> Depth
     Depth { unmet: owed, names }
 }
 
-/// Whether a base without names holds what leads no higher: a root alone all, where it has no prefix,
-/// and parents alone all with no more of them.
+/// Whether a base has no kept names, and contains `own` since that leads no higher. A root without
+/// a prefix contains every path without one; a base that is not anchored contains those that are
+/// not either, and have no more unmatched `..`.
 fn holds_all(own: Lead, base: Lead, is_prefixed: bool) -> bool
     ensures { result ≡ ((base.names == 0) && (if base.is_anchored then not is_prefixed
         else not own.is_anchored && nat_le own.unmet base.unmet)) }
@@ -123,7 +129,7 @@ fn holds_all(own: Lead, base: Lead, is_prefixed: bool) -> bool
         }
 }
 
-/// Whether two paths lead alike as far as their names: behind a root, or behind as many parents.
+/// Whether two paths are both anchored, or both not and have as many unmatched `..`.
 fn leads_alike(own: Lead, base: Lead) -> bool
     ensures { result ≡ ((if own.is_anchored then base.is_anchored else not base.is_anchored)
         && ((if own.is_anchored then 0 else own.unmet)
@@ -132,7 +138,8 @@ fn leads_alike(own: Lead, base: Lead) -> bool
     own.is_anchored == base.is_anchored && (own.is_anchored || own.unmet == base.unmet)
 }
 
-/// Takes the last name that is kept, where so many parents behind it are still owed a name.
+/// Takes names and `..` from the back up to the last kept name, and returns that; `None` if no kept
+/// name is left. `owed` counts the `..` taken so far that have yet to cancel a name.
 #[inline(always)]
 pub(crate) fn last_name<'a>(rest: &mut Body<'a>, owed: &mut usize) -> Option<&'a [u8]>
     requires { owed.old + length (body_items rest.old) < 2 ^ 64 }
@@ -159,7 +166,7 @@ pub(crate) fn last_name<'a>(rest: &mut Body<'a>, owed: &mut usize) -> Option<&'a
     None
 }
 
-/// Whether the names that are kept begin with those of a base, of which they have so many more.
+/// Whether the kept names of a path begin with those of a base; they are `deeper` more.
 #[inline(always)]
 fn begin_alike(mut rest: Body<'_>, mut base: Body<'_>, deeper: usize) -> bool
     requires fits { length (body_items rest) < 2 ^ 64 }
@@ -183,7 +190,8 @@ fn begin_alike(mut rest: Body<'_>, mut base: Body<'_>, deeper: usize) -> bool
     true
 }
 
-/// Where the components of a path end with which another begins too, as they are written.
+/// Returns the index in `path` at which the last component ends that both paths begin with,
+/// compared as they are written; 0 if they share none.
 pub(crate) fn shared_end<T: Encoding>(path: Path<'_, T>, other: Path<'_, T>) -> usize
     ensures end { result ≡ shared_end T.dialect (path_bytes path.entry) (path_bytes other.entry) }
     ensures within { result ≤ length (path_bytes path.entry) }
@@ -194,7 +202,8 @@ pub(crate) fn shared_end<T: Encoding>(path: Path<'_, T>, other: Path<'_, T>) -> 
     shared_by_components(path, other)
 }
 
-/// The same of two readings without a prefix, where the bytes of both tell. None says nothing.
+/// Returns what [`shared_end`] does, of two paths without a prefix, if a look at their bytes tells.
+/// `None` leaves it open.
 #[inline(always)]
 fn shared_by_bytes(own: Cursor<'_>, other: Cursor<'_>) -> Option<usize>
     ensures { IfSome result
@@ -217,7 +226,7 @@ fn shared_by_bytes(own: Cursor<'_>, other: Cursor<'_>) -> Option<usize>
     Some(Body::new(&text[..front], 0, separators).last_end())
 }
 
-/// The same, read component by component.
+/// Returns what [`shared_end`] does, by reading both paths component by component.
 fn shared_by_components<T: Encoding>(path: Path<'_, T>, other: Path<'_, T>) -> usize
     ensures end { result ≡ shared_end T.dialect (path_bytes path.entry) (path_bytes other.entry) }
     ensures within { result ≤ length (path_bytes path.entry) }
