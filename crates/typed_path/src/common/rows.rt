@@ -1,5 +1,5 @@
-//! Parents and names in rows behind a text, each with a separator behind it, and the clean text of a path, which
-//! is made of them.
+//! `..` and names written in rows, each with a separator after it; and the clean path, which is
+//! made of such rows.
 
 ghost use Rattle.std.specs.Prelude.{◌≡◌, ◌<◌, ◌≤◌, ◌+◌, ◌++◌, ◌∷◌, List, ℕ, [], take, length, IfOk, IsOk, OnOk, OnErr, MatchOption, ◌||◌, false, drop, is_some, if◌then◌else◌, Some};
 ghost use Rattle.std.specs.List.{slice_split};
@@ -20,7 +20,7 @@ use crate::scan::{
 };
 use std::alloc::AllocError;
 
-/// Puts the clean text of a path behind a text. Where memory is refused, all of it goes.
+/// Appends the clean path of `path` to `text`. If allocation fails, `text` keeps its bytes.
 pub(crate) fn put_clean<T: Encoding>(text: &mut Vec<u8>, path: &[u8]) -> Result<(), AllocError>
     ensures ok { OnOk result (text.new.items ≡ text.old.items ++ clean_text T.dialect path.now) }
     ensures err { OnErr result (text.new.items ≡ text.old.items) }
@@ -33,7 +33,7 @@ pub(crate) fn put_clean<T: Encoding>(text: &mut Vec<u8>, path: &[u8]) -> Result<
     cut_back(text, len, done)
 }
 
-/// The same, but for what is left where memory is refused.
+/// Does what [`put_clean`] does, but a part of the clean path may be left if allocation fails.
 #[inline(always)]
 fn put_whole<T: Encoding>(text: &mut Vec<u8>, path: &[u8]) -> Result<(), AllocError>
     ensures ok { OnOk result (text.new.items ≡ text.old.items ++ clean_text T.dialect path.now) }
@@ -51,7 +51,7 @@ fn put_whole<T: Encoding>(text: &mut Vec<u8>, path: &[u8]) -> Result<(), AllocEr
     }
 }
 
-/// Puts the clean text of a path without a prefix behind a text.
+/// Appends the clean path of a path without a prefix.
 #[inline(always)]
 fn put_bare(text: &mut Vec<u8>, path: &[u8], separators: Separators) -> Result<(), AllocError>
     ensures ok { OnOk result (text.new.items ≡ text.old.items
@@ -68,7 +68,8 @@ fn put_bare(text: &mut Vec<u8>, path: &[u8], separators: Separators) -> Result<(
     put_apart(text, start, separators)
 }
 
-/// Puts the clean text of a path of Windows behind a text, with its prefix as it stands.
+/// Appends the clean path of a Windows path with the prefix `found`, which is kept as it is
+/// written.
 #[inline(always)]
 fn put_prefixed(text: &mut Vec<u8>, path: &[u8], found: Found<'_>) -> Result<(), AllocError>
     requires { Some (found_of found) ≡ prefix_of windows path.now }
@@ -90,8 +91,9 @@ fn put_prefixed(text: &mut Vec<u8>, path: &[u8], found: Found<'_>) -> Result<(),
     Ok(())
 }
 
-/// Puts the prefix of a path, which ends at a place, behind a text, then the root, written or implied, and then
-/// what is kept of the rest. Answers whether the root is written.
+/// Appends `path[..end]`, the prefix, then a root, and then the `..` and names that the clean path
+/// has of the rest. The root is appended if the path has one, or if the prefix implies one, as
+/// `implied` says, and something follows. Returns whether the path has one.
 #[inline(always)]
 fn put_headed(
     text: &mut Vec<u8>,
@@ -126,8 +128,8 @@ fn put_headed(
     Ok(rooted)
 }
 
-/// Puts what would be read as a prefix from a place of a text on behind `.` and a separator, and `.` where
-/// nothing stands there.
+/// Puts `.` and a separator before `text[start..]` if that would be read as a prefix. Appends `.`
+/// if it is empty.
 #[inline(always)]
 pub(crate) fn put_apart(
     text: &mut Vec<u8>,
@@ -152,7 +154,7 @@ pub(crate) fn put_apart(
     Ok(())
 }
 
-/// Whether a text begins with a prefix.
+/// Whether a text begins with a prefix; a Unix path never does.
 #[inline(always)]
 fn has_prefix(text: &[u8], separators: Separators) -> bool
     ensures { result ≡ is_some (prefix_of (dialect_of separators) text.now) }
@@ -163,8 +165,12 @@ fn has_prefix(text: &[u8], separators: Separators) -> bool
     }
 }
 
-/// What puts what is kept of a path behind a text. The separators stand in each body: the compiler is to know them
-/// there where `/` alone separates, which saves a tenth of the time, and more where few names stand side by side.
+/// The body of [`put_kept_by`] and of [`put_kept_by_slashes`]: copies names that stand side by side
+/// at once, and applies the segment after them. If no names are found at the front, or what is left
+/// may not fit the capacity, it goes on segment by segment.
+///
+/// It is a macro so that the compiler knows the separators if `/` alone separates. That saves a
+/// tenth of the time, and more where few names stand side by side.
 macro_rules! settle {
     ($text:ident, $path:ident, $anchored:ident, $separators:expr, $each:ident $(, $own:ident)?) => {{
         let mut floor = $text.len();
@@ -187,7 +193,8 @@ macro_rules! settle {
     }};
 }
 
-/// The same, segment by segment.
+/// The body of [`put_one_by_one`] and of [`put_each_by_slashes`]: puts segment by segment. It is a
+/// macro for the same reason as `settle`.
 macro_rules! settle_each {
     ($text:ident, $floor:ident, $path:ident, $separators:expr, $anchored:ident) => {{
         let mut begin = $floor;
@@ -201,9 +208,8 @@ macro_rules! settle_each {
     }};
 }
 
-/// Puts the parents that are left over and the names that are kept of a path behind a text, each with a
-/// separator behind it. Where names stand side by side they are put at once; all others are settled segment by
-/// segment, and so are all where there is no room for the whole path.
+/// Appends the `..` of a path that have no name to cancel, or none of them if it is anchored, and
+/// then the names that no `..` cancels, each with a separator after it.
 #[inline(always)]
 pub fn put_kept(
     text: &mut Vec<u8>,
@@ -224,7 +230,7 @@ pub fn put_kept(
     }
 }
 
-/// The same between any separators.
+/// Does what [`put_kept`] does, for any separators.
 fn put_kept_by(
     text: &mut Vec<u8>,
     path: &[u8],
@@ -241,7 +247,7 @@ fn put_kept_by(
     settle!(text, path, anchored, separators, put_one_by_one, separators)
 }
 
-/// The same where `/` alone separates.
+/// Does what [`put_kept`] does, if `/` alone separates.
 pub fn put_kept_by_slashes(
     text: &mut Vec<u8>,
     path: &[u8],
@@ -257,8 +263,8 @@ pub fn put_kept_by_slashes(
     settle!(text, path, anchored, Separators::Slash, put_each_by_slashes)
 }
 
-/// How many bytes at the front of a text are names, each with a separator behind it, as looks at its bytes
-/// tell; none where each segment is a name.
+/// Returns a number of bytes at the front of a text that are names, each with a separator after it;
+/// `None` if every segment of the text is a name. More names may follow them.
 #[inline(always)]
 fn leading_names(text: &[u8], separators: Separators) -> Option<usize>
     ensures { TellsNamesOf separators text.now result }
@@ -266,7 +272,8 @@ fn leading_names(text: &[u8], separators: Separators) -> Option<usize>
     leading_short_names(text, separators.pair())
 }
 
-/// Settles the segments of a path one by one behind the names that stand.
+/// Applies the segments of `path` one by one to the names in `text[floor..]`, as [`put_segment`]
+/// does.
 #[inline(always)]
 fn put_one_by_one(
     text: &mut Vec<u8>,
@@ -287,7 +294,7 @@ fn put_one_by_one(
     settle_each!(text, floor, path, separators, anchored)
 }
 
-/// The same where `/` alone separates.
+/// Does what [`put_one_by_one`] does, if `/` alone separates.
 #[inline(always)]
 fn put_each_by_slashes(
     text: &mut Vec<u8>,
@@ -308,7 +315,7 @@ fn put_each_by_slashes(
     settle_each!(text, floor, path, Separators::Slash, anchored)
 }
 
-/// The same as [`put_kept_by_slashes`], segment by segment from the first.
+/// Does what [`put_kept_by_slashes`] does, segment by segment from the first.
 #[inline(always)]
 pub fn put_each_segment(text: &mut Vec<u8>, path: &[u8], anchored: bool) -> Result<(), AllocError>
     ensures ok { OnOk result (text.new.items ≡ text.old.items ++ rows_of Separators.Slash
@@ -322,8 +329,8 @@ pub fn put_each_segment(text: &mut Vec<u8>, path: &[u8], anchored: bool) -> Resu
     put_each_by_slashes(text, len, path, anchored)
 }
 
-/// Puts the names that a path is told to begin with behind a text, each with a separator behind it, and answers
-/// what is left; none where all of it was put.
+/// Appends the names at the front of `path`, each with a separator after it, and returns what is
+/// left; `None` if nothing is. `names` is what [`leading_names`] returns of `path`.
 #[inline(always)]
 pub fn put_names<'a>(
     text: &mut Vec<u8>,
@@ -354,7 +361,8 @@ pub fn put_names<'a>(
     Ok(Some(&path[names..]))
 }
 
-/// Puts a text behind another, each of its separators written as the one that is written behind a segment.
+/// Appends `source` with each of its separators written as [`row_end`] writes it. If allocation
+/// fails, `text` keeps its bytes.
 #[inline(always)]
 pub(crate) fn put_turned_where(
     text: &mut Vec<u8>,
@@ -373,8 +381,10 @@ pub(crate) fn put_turned_where(
     }
 }
 
-/// Settles one more segment, which is what the rest begins with, behind the names that begin at a place, and
-/// answers where the names begin then.
+/// Applies `segment`, with which `rest` begins, to the names in `text[floor..]`, and returns the
+/// index at which the names begin then. A name is appended. A `..` removes the last name; if there
+/// is none, it is appended, and the names begin after it, or it vanishes if the path is anchored.
+/// An empty segment and `.` do nothing.
 #[inline(always)]
 fn put_segment(
     text: &mut Vec<u8>,
@@ -412,7 +422,7 @@ fn put_segment(
     Ok(floor)
 }
 
-/// Puts the first bytes of a text behind another, with a separator behind them.
+/// Appends the first `len` bytes of `rest`, and a separator.
 #[inline(always)]
 pub(crate) fn put_row(
     text: &mut Vec<u8>,
@@ -433,7 +443,7 @@ pub(crate) fn put_row(
     Ok(())
 }
 
-/// The separator that is written behind a segment.
+/// Returns the separator that is written after a segment: `/` if that alone separates, else `\`.
 #[inline(always)]
 pub fn row_end(separators: Separators) -> u8
     ensures { result ≡ row_end separators }

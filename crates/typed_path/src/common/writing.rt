@@ -1,5 +1,4 @@
-//! Names in a text: split at their last dot or at the first one, put behind it where its memory is found first, and
-//! taken off its end.
+//! Names in vectors of bytes: split at their last or first dot, appended, and removed from the end.
 
 ghost use Rattle.std.specs.Prelude.{◌≡◌, ◌<◌, ◌≤◌, ◌+◌, ◌-◌, ◌++◌, ℕ, List, fold, take, drop, length, option_copied, position, IfSome, IsOk, IsTrue, OnOk, OnErr};
 ghost use Rattle.std.specs.List.{before_first, slice_split};
@@ -14,7 +13,8 @@ use crate::scan::Separators;
 use memchr::memrchr;
 use std::alloc::AllocError;
 
-/// The stem of a name and its extension. A dot that is the first byte begins no extension.
+/// Splits a name at its last dot: returns its stem, and its extension if it has one. A dot at index
+/// 0 begins no extension.
 pub fn split_name(name: &[u8]) -> (&[u8], Option<&[u8]>)
     ensures stem { result.0.now ≡ stem_of name.now }
     ensures shorter { length result.0.now ≤ length name.now }
@@ -29,7 +29,7 @@ pub fn split_name(name: &[u8]) -> (&[u8], Option<&[u8]>)
     (&name[..at], Some(&name[at + 1..]))
 }
 
-/// A name up to its first dot that is not its first byte.
+/// Returns a name up to its first dot that is not at index 0, or the whole name if it has none.
 pub fn first_stem(name: &[u8]) -> &[u8]
     ensures { result.now ≡ first_stem_of name.now }
 {
@@ -42,7 +42,7 @@ pub fn first_stem(name: &[u8]) -> &[u8]
     }
 }
 
-/// What stands before the first dot of a text, or the whole where it has none.
+/// Returns what precedes the first dot, or the whole text if it has none.
 #[tactic(auto, using(crate::proofs::lemmas::queries::FileNames::before_dot_some, crate::proofs::lemmas::queries::FileNames::before_dot_none))]
 fn before_dot(text: &[u8]) -> &[u8]
     ensures { result.now ≡ before_first is_a_dot text.now }
@@ -53,14 +53,14 @@ fn before_dot(text: &[u8]) -> &[u8]
     }
 }
 
-/// Where the first dot of a text stands.
+/// Returns the index of the first dot, `None` if there is none.
 fn first_dot(text: &[u8]) -> Option<usize>
     ensures { result ≡ position is_a_dot text.now }
 {
     text.iter().position(|b| *b == b'.')
 }
 
-/// How many bytes an extension takes with the dot before it; none where it is empty.
+/// Returns how many bytes an extension takes with the dot before it: 0 if it is empty.
 pub fn dotted_len(extension: &[u8]) -> usize
     ensures { result ≡ length (dotted extension.now) }
 {
@@ -71,7 +71,7 @@ pub fn dotted_len(extension: &[u8]) -> usize
     }
 }
 
-/// Puts an extension behind a stem, with the dot before it; nothing where the extension is empty.
+/// Appends a dot and an extension to a stem, or nothing if the extension is empty.
 pub fn put_extension(stem: &mut Vec<u8>, extension: &[u8]) -> Result<(), AllocError>
     ensures ok { OnOk result (stem.new.items ≡ stem.old.items ++ dotted extension.now) }
     ensures capacity { vec_capacity stem.old ≤ vec_capacity stem.new }
@@ -85,7 +85,8 @@ pub fn put_extension(stem: &mut Vec<u8>, extension: &[u8]) -> Result<(), AllocEr
     stem.extend_from_slice(extension)
 }
 
-/// Cuts a path to its first bytes, and puts a separator and another path behind them.
+/// Cuts `path` to its first `kept` bytes, and appends `separator`, of at most one byte, and
+/// `other`. If allocation fails, `path` keeps all its bytes.
 #[inline(always)]
 pub fn put_over(
     path: &mut Vec<u8>,
@@ -111,7 +112,7 @@ pub fn put_over(
     path.extend_from_slice(other)
 }
 
-/// Whether there is room behind a text for another one and a byte more.
+/// Whether the spare capacity of `text` holds `other` and one byte more.
 #[inline(always)]
 pub fn has_room(text: &Vec<u8>, other: &[u8]) -> bool
     ensures room { IsTrue result → vec_len text.now + length other.now < vec_capacity text.now }
@@ -120,11 +121,10 @@ pub fn has_room(text: &Vec<u8>, other: &[u8]) -> bool
     other.len() < text.capacity() - text.len()
 }
 
-/// How many bytes are put as one block.
+/// How many bytes `append_first` copies as one block.
 const BLOCK: usize = 16;
 
-/// Puts the first bytes of a text behind another text. A few are put as a block, and what is too many
-/// is cut off again: a block is a store, where a copy of any size is a call that branches by the size.
+/// Appends the first `len` bytes of `source`. If allocation fails, `text` keeps its bytes.
 #[inline(always)]
 pub fn append_first(text: &mut Vec<u8>, source: &[u8], len: usize) -> Result<(), AllocError>
     requires { len ≤ length source.now }
@@ -133,6 +133,8 @@ pub fn append_first(text: &mut Vec<u8>, source: &[u8], len: usize) -> Result<(),
     ensures capacity { vec_capacity text.old ≤ vec_capacity text.new }
     ensures succeeds { vec_len text.old + length source.now ≤ vec_capacity text.old → IsOk result }
 {
+    // A few bytes are copied as a whole block, and what is too much is cut off: a block is one
+    // store, where a copy of any length is a call that branches by the length.
     if BLOCK < len || source.len() < BLOCK {
         return text.extend_from_slice(&source[..len]);
     }
@@ -142,7 +144,8 @@ pub fn append_first(text: &mut Vec<u8>, source: &[u8], len: usize) -> Result<(),
     Ok(())
 }
 
-/// Puts a text behind another, each of its separators written as one byte.
+/// Appends `source` with each of its separators replaced by `byte`. If allocation fails, `text`
+/// keeps its bytes.
 #[inline(always)]
 pub fn put_turned(
     text: &mut Vec<u8>,
@@ -162,7 +165,7 @@ pub fn put_turned(
     Ok(())
 }
 
-/// Writes the separators that stand behind the first bytes of a text as one byte.
+/// Replaces each separator in `text[from..]` by `byte`.
 #[inline(always)]
 pub fn turn_behind(text: &mut Vec<u8>, from: usize, separators: Separators, byte: u8)
     requires { from ≤ length text.old.items }
@@ -173,7 +176,7 @@ pub fn turn_behind(text: &mut Vec<u8>, from: usize, separators: Separators, byte
     turn(text.as_mut_slice(), from, separators, byte);
 }
 
-/// The same in a slice.
+/// Replaces each separator in the slice `text[from..]` by `byte`, for [`turn_behind`].
 fn turn(text: &mut [u8], from: usize, separators: Separators, byte: u8)
     requires { from ≤ length text.old }
     ensures { text.new ≡ take from text.old ++ turned separators byte (drop from text.old) }
@@ -184,7 +187,8 @@ fn turn(text: &mut [u8], from: usize, separators: Separators, byte: u8)
     }
 }
 
-/// Takes the last name off, and the separator behind it, where a name stands behind the first bytes.
+/// Removes the last of the names in `text[len..]`, each of which ends with a separator; does
+/// nothing if there is none.
 #[inline(always)]
 pub fn drop_name(text: &mut Vec<u8>, len: usize, separators: Separators)
     requires { len ≤ length text.old.items }
@@ -202,7 +206,7 @@ pub fn drop_name(text: &mut Vec<u8>, len: usize, separators: Separators)
     }
 }
 
-/// Takes the separator behind the last name off, where a name stands behind the first bytes.
+/// Removes the last byte, the separator after the last name, unless `text` is no longer than `len`.
 #[inline(always)]
 pub fn drop_separator(text: &mut Vec<u8>, len: usize)
     ensures capacity { vec_capacity text.new ≡ vec_capacity text.old }
@@ -216,7 +220,7 @@ pub fn drop_separator(text: &mut Vec<u8>, len: usize)
     }
 }
 
-/// Cuts a text back to its first bytes where memory was refused.
+/// Returns `done`. If that is an error, it first truncates `text` to `len` bytes.
 #[inline(always)]
 pub fn cut_back(
     text: &mut Vec<u8>,
@@ -234,8 +238,8 @@ pub fn cut_back(
     done
 }
 
-/// What is left behind a segment: where it is empty or `.`, without the segments like it that come
-/// next, so that a run of separators is not cut one by one.
+/// Returns `rest`, which follows `segment`. If `segment` is empty or `.`, it leaves out the empty
+/// and `.` segments at the front of `rest` too.
 #[inline(always)]
 pub fn behind_segment<'a>(segment: &[u8], rest: &'a [u8], separators: Separators) -> &'a [u8]
     ensures same { (names : List (List ℕ))
@@ -247,6 +251,7 @@ pub fn behind_segment<'a>(segment: &[u8], rest: &'a [u8], separators: Separators
 {
     let mut left = rest;
     if matches!(segment, [] | [b'.']) {
+        // So a run of separators is not cut one by one.
         'blanks: while let Some(behind) = behind_blank(left, separators) {
             left = behind;
         }
@@ -254,7 +259,8 @@ pub fn behind_segment<'a>(segment: &[u8], rest: &'a [u8], separators: Separators
     left
 }
 
-/// What stands behind a separator that a text begins with, or behind a `.` and a separator.
+/// Returns what follows an empty or `.` segment at the front, and its separator; `None` if the text
+/// does not begin so.
 #[inline(always)]
 fn behind_blank(text: &[u8], separators: Separators) -> Option<&[u8]>
     ensures same { IfSome result (λ rest. (names : List (List ℕ))
