@@ -1,4 +1,4 @@
-//! Paths that are texts: each holds the path of its bytes, whose calls it forwards to.
+//! Paths of text: each holds the path of its bytes, to which its calls forward.
 
 mod encoding;
 mod path;

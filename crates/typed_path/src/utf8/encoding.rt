@@ -1,5 +1,5 @@
-//! What every encoding of paths of text can do, and each of its components; and bytes that are known
-//! to be a text, taken as one.
+//! The traits that every encoding of paths of text and every component of such a path implement;
+//! and bytes that are known to be UTF-8, taken as text without a check.
 #![tactic(auto, using(crate::proofs::lemmas::texts::TextChanges::text_laws))]
 
 ghost use Rattle.std.specs.Prelude.{◌≡◌, ◌≤◌, Bool, fold, None, IsSome, IsOk, OnOk, OnErr, ◌==◌, [], ◌∷◌, length, option_copied, true};
@@ -19,7 +19,7 @@ use std::alloc::AllocError;
 use std::hash::{Hash, Hasher};
 use std::{fmt, mem, str};
 
-/// A way of writing paths that are texts.
+/// An encoding of paths of text.
 ///
 /// It names the encoding of the bytes, and all else follows from that.
 pub trait Utf8Encoding: Sized {
@@ -28,7 +28,8 @@ pub trait Utf8Encoding: Sized {
 
     ghost IS_PLATFORM: { Bool };
 
-    /// Whether the encoding is that of the machine.
+    /// Whether this is the platform encoding. It is `false` for the Unix encoding, although the
+    /// platform encoding forwards to that.
     const IS_PLATFORM: bool;
 
     /// The name of the encoding: `unix` or `windows`.
@@ -38,14 +39,14 @@ pub trait Utf8Encoding: Sized {
         Self::Bytes::label()
     }
 
-    /// Feeds a path to a hasher, as the bytes of it are fed.
+    /// Feeds a path to a hasher, as `Encoding::hash` feeds its bytes.
     fn hash<H: Hasher>(path: &str, state: &mut H)
         ensures { state.new ≡ fold H.write state.old (path_words Self.Bytes.dialect path.now) }
     {
         Self::Bytes::hash(path.as_bytes(), state);
     }
 
-    /// Pushes a path onto another. Where memory is refused, the other is as it was.
+    /// Pushes `other` onto `path`. If allocation fails, `path` keeps its bytes.
     fn push(path: &mut String, other: &str) -> Result<(), AllocError>
         ensures ok { OnOk result (string_bytes path.new
             ≡ push_spec.push Self.Bytes.dialect (string_bytes path.old) other.now) }
@@ -60,8 +61,8 @@ pub trait Utf8Encoding: Sized {
         done
     }
 
-    /// Pushes a path onto another, unless the path has a component that offends. Then, and where
-    /// memory is refused, the other is as it was.
+    /// Pushes `other` onto `path`, unless a component of `other` offends. If one does, or
+    /// allocation fails, `path` keeps its bytes.
     fn push_checked(path: &mut String, other: &str) -> Result<(), PathError>
         ensures refused { refusal result ≡ fault Self.Bytes.dialect other.now }
         ensures ok { OnOk result (string_bytes path.new
@@ -88,7 +89,7 @@ pub trait Utf8Component<'a>: Copy + fmt::Debug + Ord + Hash {
 
     ghost part: { Self → Part };
 
-    /// The text of the component.
+    /// Returns the text of the component.
     fn as_str(&self) -> &'a str
         ensures { result.now ≡ (part self.now).text };
 
@@ -108,8 +109,8 @@ pub trait Utf8Component<'a>: Copy + fmt::Debug + Ord + Hash {
     fn is_current(&self) -> bool
         ensures { result ≡ is_current (part self.now).kind };
 
-    /// Whether the component is no name, or a name that the encoding allows: `ab:c` is one of Unix, and
-    /// none of Windows.
+    /// Whether the component is not a name, or is one that the encoding allows: `ab:c` is allowed
+    /// on Unix, and not on Windows.
     fn is_valid(&self) -> bool
         ensures { result ≡ is_valid_kind dialect (part self.now).kind };
 
@@ -117,15 +118,16 @@ pub trait Utf8Component<'a>: Copy + fmt::Debug + Ord + Hash {
     fn may_be_device(&self) -> bool
         ensures { result ≡ kind_may_be_device (part self.now).kind };
 
-    /// Asks whether every system takes the component as it is written, as `check_portable` of a path has it.
+    /// Checks that every system takes the component as it is written, as `check_portable` of a path
+    /// does.
     fn check_portable(&self) -> Result<(), PortableError>
         ensures { error_of result ≡ kind_fault (part self.now).kind };
 
-    /// How many bytes the text has.
+    /// Returns how many bytes the component has.
     fn len(&self) -> usize
         ensures { result ≡ length (part self.now).text };
 
-    /// Whether the text is empty.
+    /// Whether the component has no bytes.
     fn is_empty(&self) -> bool
         ensures { result ≡ (length (part self.now).text == 0) };
 
@@ -145,7 +147,7 @@ pub trait Utf8Component<'a>: Copy + fmt::Debug + Ord + Hash {
         ensures text { (part result).text ≡ dot ∷ [] };
 }
 
-/// Bytes that are UTF-8, as a text.
+/// Returns the bytes as text. They have to be UTF-8, and are not checked.
 #[inline(always)]
 pub fn text_of(bytes: &[u8]) -> &str
     requires { is_utf8 bytes.now ≡ true }
@@ -154,7 +156,7 @@ pub fn text_of(bytes: &[u8]) -> &str
     unsafe { str::from_utf8_unchecked(bytes) }
 }
 
-/// The same of bytes that may not be there.
+/// Returns the bytes as text, `None` if there are none. They have to be UTF-8, and are not checked.
 #[inline(always)]
 pub fn text_of_option(bytes: Option<&[u8]>) -> Option<&str>
     requires { is_text_option (option_copied bytes) ≡ true }
@@ -166,7 +168,7 @@ pub fn text_of_option(bytes: Option<&[u8]>) -> Option<&str>
     }
 }
 
-/// The same of bytes that are owned.
+/// Returns the owned bytes as text, with no copy. They have to be UTF-8, and are not checked.
 #[inline(always)]
 pub fn string_of(bytes: Vec<u8>) -> String
     requires { is_utf8 bytes.items ≡ true }

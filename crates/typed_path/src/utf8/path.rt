@@ -1,4 +1,4 @@
-//! A path that is a text, lent, and those above it.
+//! The borrowed path of text, and an iterator over the paths above it.
 #![tactic(auto, using(crate::proofs::lemmas::texts::TextChanges::text_laws))]
 
 ghost use Rattle.std.specs.Prelude.{◌≡◌, true, ⊤, not, option_map, is_ok, IfOk, IfErr, option_copied, [], IsOk, Ok, Err, Some, None};
@@ -33,7 +33,7 @@ use std::iter::FusedIterator;
 use std::str::Utf8Error;
 use std::{fmt, str};
 
-/// A path that is a text: a text, with the encoding by which it is read.
+/// A borrowed path of text: a `str`, with the encoding by which it is read.
 ///
 /// Equality, order and hash are those of the path of its bytes.
 #[derive_where(PartialEq, Eq, PartialOrd, Ord, Hash; T: Utf8Encoding)]
@@ -66,10 +66,10 @@ impl<'a, T: Utf8Encoding> Clone for Utf8Path<'a, T> {
 
 impl<'a, T: Utf8Encoding> Copy for Utf8Path<'a, T> {}
 
-/// The components of a path of text that are left to be read.
+/// The iterator over the components of a path of text, from either end.
 pub type Utf8Components<'a, T> = Utf8Reading<'a, T, Utf8Piece<'a>>;
 
-/// The texts of the components that are left to be read.
+/// The iterator over the texts of the components of a path, from either end.
 pub type Utf8Iter<'a, T> = Utf8Reading<'a, T, &'a str>;
 
 impl<'a, T: Utf8Encoding> Utf8Path<'a, T> {
@@ -78,7 +78,7 @@ impl<'a, T: Utf8Encoding> Utf8Path<'a, T> {
     ghost use Rattle.typed_path.specs.views.TextViews.{utf8_bytes};
     ghost use Rattle.typed_path.specs.changes.Push as push_spec;
 
-    /// The path of this text, whatever it is.
+    /// The path of this text. Any text is a path.
     #[inline(always)]
     pub fn new(text: &'a str) -> Utf8Path<'a, T>
         ensures { utf8_bytes result ≡ text.now }
@@ -88,11 +88,11 @@ impl<'a, T: Utf8Encoding> Utf8Path<'a, T> {
         }
     }
 
-    /// The path of a path of bytes.
+    /// Returns the path of text that has the bytes of `path`.
     ///
     /// # Errors
     ///
-    /// `Utf8Error` exactly where its bytes are no text.
+    /// `Utf8Error` exactly if the bytes are not UTF-8.
     pub fn from_bytes_path(path: Path<'a, T::Bytes>) -> Result<Utf8Path<'a, T>, Utf8Error>
         ensures ok { IfOk result (λ p. utf8_bytes p ≡ path_bytes path.entry) }
         ensures flag { is_ok result ≡ is_utf8 (path_bytes path.entry) }
@@ -101,7 +101,8 @@ impl<'a, T: Utf8Encoding> Utf8Path<'a, T> {
         Ok(Utf8Path::new(str::from_utf8(path.as_bytes())?))
     }
 
-    /// The same of a path whose bytes are known to be a text; they are not looked at again.
+    /// Returns the path of text that has the bytes of `path`. They are known to be UTF-8, and not
+    /// checked again.
     pub fn from_bytes_path_unchecked(path: Path<'a, T::Bytes>) -> Utf8Path<'a, T>
         requires { is_utf8 (path_bytes path) ≡ true }
         ensures { utf8_bytes result ≡ path_bytes path.entry }
@@ -109,7 +110,7 @@ impl<'a, T: Utf8Encoding> Utf8Path<'a, T> {
         Utf8Path::of(path)
     }
 
-    /// The path of bytes that are a text.
+    /// Returns the path of text that has the bytes of `path`, which are UTF-8.
     #[inline(always)]
     pub(super) fn of(path: Path<'a, T::Bytes>) -> Utf8Path<'a, T>
         requires { is_utf8 (path_bytes path) ≡ true }
@@ -118,7 +119,8 @@ impl<'a, T: Utf8Encoding> Utf8Path<'a, T> {
         Utf8Path { path }
     }
 
-    /// The same of a path that may not be there.
+    /// Returns the path of text that has the bytes of `path`, which are UTF-8; `None` if there is
+    /// no path.
     #[inline(always)]
     pub(super) fn of_option(path: Option<Path<'a, T::Bytes>>) -> Option<Utf8Path<'a, T>>
         requires { is_text_option (option_map path_bytes path) ≡ true }
@@ -138,7 +140,7 @@ impl<'a, T: Utf8Encoding> Utf8Path<'a, T> {
         text_of(self.path.as_bytes())
     }
 
-    /// The path of the bytes.
+    /// The path of its bytes.
     #[inline(always)]
     pub fn as_bytes_path(self) -> Path<'a, T::Bytes>
         ensures bytes { path_bytes result ≡ utf8_bytes self.entry }
@@ -193,19 +195,20 @@ impl<'a, T: Utf8Encoding> Utf8Path<'a, T> {
         self.path.is_portable()
     }
 
-    /// Asks whether every system takes each component of the path as it is written, as [`Path::check_portable`]
-    /// has it.
+    /// Checks that every system takes each component of the path as it is written, as
+    /// [`Path::check_portable`] does.
     ///
     /// # Errors
     ///
-    /// What the first component that offends does.
+    /// The refusal of the first component that offends.
     pub fn check_portable(self) -> Result<(), PortableError>
         ensures { error_of result ≡ portable_fault T.Bytes.dialect (utf8_bytes self.entry) }
     {
         self.path.check_portable()
     }
 
-    /// The first component for which [`Utf8Path::check_portable`] refuses the path, as it is written, and why.
+    /// Returns the first component for which [`Utf8Path::check_portable`] refuses the path, as it
+    /// is written, and the refusal; `None` if the path is portable.
     pub fn unportable(self) -> Option<(&'a str, PortableError)>
         ensures { option_map offence_of result
             ≡ unportable T.Bytes.dialect (utf8_bytes self.entry) }
@@ -216,14 +219,15 @@ impl<'a, T: Utf8Encoding> Utf8Path<'a, T> {
         }
     }
 
-    /// True only if every path that a checked join makes of this one has its prefix, or none if it has none.
+    /// Whether each checked join onto this path is known to have its prefix, or none if it has
+    /// none. `false` leaves it open.
     pub fn keeps_prefix(self) -> bool
         ensures { result ≡ keeps_prefix T.Bytes.dialect (utf8_bytes self.entry) }
     {
         self.path.keeps_prefix()
     }
 
-    /// The components of the path, from either end.
+    /// Returns an iterator over the components of the path, from either end.
     #[inline(always)]
     pub fn components(self) -> Utf8Components<'a, T>
         ensures items { reading_items result ≡ comps T.Bytes.dialect (utf8_bytes self.entry) }
@@ -232,7 +236,7 @@ impl<'a, T: Utf8Encoding> Utf8Path<'a, T> {
         Utf8Reading::new(self)
     }
 
-    /// The texts of the components, from either end.
+    /// Returns an iterator over the texts of the components, from either end.
     #[inline(always)]
     pub fn iter(self) -> Utf8Iter<'a, T>
         ensures items { reading_items result ≡ comps T.Bytes.dialect (utf8_bytes self.entry) }
@@ -241,7 +245,7 @@ impl<'a, T: Utf8Encoding> Utf8Path<'a, T> {
         Utf8Reading::new(self)
     }
 
-    /// The path, and then each parent of the one before.
+    /// Returns an iterator over the path, and then each parent of the one before.
     #[inline(always)]
     pub fn ancestors(self) -> Utf8Ancestors<'a, T>
         ensures { utf8_ancestors_left result
@@ -250,8 +254,8 @@ impl<'a, T: Utf8Encoding> Utf8Path<'a, T> {
         Utf8Ancestors::new(self)
     }
 
-    /// The path without its last component, or none where there is no component or nothing is above
-    /// the last one.
+    /// Returns the path without its last component. `None` if it has no component, or if nothing is
+    /// above the last one: a root or, on Windows, a prefix other than a drive.
     ///
     /// Of the Unix path `日/本//語/` it is `日/本`.
     pub fn parent(self) -> Option<Utf8Path<'a, T>>
@@ -260,28 +264,31 @@ impl<'a, T: Utf8Encoding> Utf8Path<'a, T> {
         Utf8Path::of_option(self.as_bytes_path().parent())
     }
 
-    /// The last component, where it is a name.
+    /// Returns the last component if it is a name, else `None`.
     pub fn file_name(self) -> Option<&'a str>
         ensures { option_copied result ≡ file_name_of T.Bytes.dialect (utf8_bytes self.entry) }
     {
         text_of_option(self.as_bytes_path().file_name())
     }
 
-    /// The file name up to its last dot, or the whole of it where no dot but a first one is there.
+    /// Returns the file name up to its last dot, or the whole file name if it has no dot but one at
+    /// its start. `None` if the path has no file name.
     pub fn file_stem(self) -> Option<&'a str>
         ensures { option_copied result ≡ file_stem_of T.Bytes.dialect (utf8_bytes self.entry) }
     {
         text_of_option(self.as_bytes_path().file_stem())
     }
 
-    /// What stands in the file name behind its last dot, where that is not its first character.
+    /// Returns what follows the last dot of the file name. `None` if the path has no file name, or
+    /// that has no dot but one at its start.
     pub fn extension(self) -> Option<&'a str>
         ensures { option_copied result ≡ extension T.Bytes.dialect (utf8_bytes self.entry) }
     {
         text_of_option(self.as_bytes_path().extension())
     }
 
-    /// The file name up to its first dot that is not its first character.
+    /// Returns the file name up to its first dot that is not at its start, or the whole file name
+    /// if it has none. `None` if the path has no file name.
     pub fn file_prefix(self) -> Option<&'a str>
         ensures { option_copied result ≡ file_prefix_of T.Bytes.dialect (utf8_bytes self.entry) }
     {
@@ -295,12 +302,12 @@ impl<'a, T: Utf8Encoding> Utf8Path<'a, T> {
         self.as_bytes_path().has_trailing_separator()
     }
 
-    /// What is left of the path behind a base.
+    /// Returns what is left of the path after `base`.
     ///
     /// # Errors
     ///
-    /// `StripPrefixError` exactly where the path does not begin with the base's components, compared
-    /// as they are written.
+    /// `StripPrefixError` exactly if the path does not begin with the components of `base`,
+    /// compared as they are written.
     pub fn strip_prefix(self, base: Utf8Path<'_, T>) -> Result<Utf8Path<'a, T>, StripPrefixError>
         ensures { stripped_to utf8_bytes result
             ≡ stripped T.Bytes.dialect (utf8_bytes self.entry) (utf8_bytes base.entry) }
@@ -311,7 +318,7 @@ impl<'a, T: Utf8Encoding> Utf8Path<'a, T> {
         }
     }
 
-    /// Whether the path begins with the components of another, as they are written.
+    /// Whether the path begins with the components of `base`, compared as they are written.
     pub fn starts_with(self, base: Utf8Path<'_, T>) -> bool
         ensures { result ≡ path_starts_with T.Bytes.dialect (utf8_bytes self.entry)
             (utf8_bytes base.entry) }
@@ -319,7 +326,8 @@ impl<'a, T: Utf8Encoding> Utf8Path<'a, T> {
         self.as_bytes_path().starts_with(base.as_bytes_path())
     }
 
-    /// Whether the path begins with the components of another in lower case, as they are written.
+    /// Whether the path begins with the components of `base` in lower case, compared as they are
+    /// written.
     pub fn starts_with_ignore_ascii_case(self, base: Utf8Path<'_, T>) -> bool
         ensures { result ≡ path_starts_with T.Bytes.dialect
             (lowered T.Bytes.dialect (utf8_bytes self.entry))
@@ -329,7 +337,7 @@ impl<'a, T: Utf8Encoding> Utf8Path<'a, T> {
             .starts_with_ignore_ascii_case(base.as_bytes_path())
     }
 
-    /// Whether the path has the same components as another in lower case.
+    /// Whether the path has the same components as `other` in lower case.
     pub fn eq_ignore_ascii_case(self, other: Utf8Path<'_, T>) -> bool
         ensures { result ≡ is_same T.Bytes.dialect
             (lowered T.Bytes.dialect (utf8_bytes self.entry))
@@ -339,7 +347,7 @@ impl<'a, T: Utf8Encoding> Utf8Path<'a, T> {
             .eq_ignore_ascii_case(other.as_bytes_path())
     }
 
-    /// The order of the path and another in lower case, by their components.
+    /// Returns the order of the path and `other` in lower case, by their components.
     pub fn cmp_ignore_ascii_case(self, other: Utf8Path<'_, T>) -> Ordering
         ensures { result ≡ path_cmp T.Bytes.dialect
             (lowered T.Bytes.dialect (utf8_bytes self.entry))
@@ -349,8 +357,8 @@ impl<'a, T: Utf8Encoding> Utf8Path<'a, T> {
             .cmp_ignore_ascii_case(other.as_bytes_path())
     }
 
-    /// The front of the path up to where the components end with which another begins too, as they are
-    /// written; none where the two begin with none alike.
+    /// Returns the longest front of the path whose components, compared as they are written,
+    /// `other` begins with too; `None` if the two share no component.
     pub fn common_ancestor(self, other: Utf8Path<'_, T>) -> Option<Utf8Path<'a, T>>
         ensures { option_map utf8_bytes result ≡ common_ancestor_of T.Bytes.dialect
             (utf8_bytes self.entry) (utf8_bytes other.entry) }
@@ -358,7 +366,7 @@ impl<'a, T: Utf8Encoding> Utf8Path<'a, T> {
         Utf8Path::of_option(self.as_bytes_path().common_ancestor(other.as_bytes_path()))
     }
 
-    /// Whether the path lies at a base or below it, from whatever directory both are read.
+    /// Whether the path lies at `base` or below it, from whatever directory both are read.
     pub fn is_within(self, base: Utf8Path<'_, T>) -> bool
         ensures { result ≡ is_within T.Bytes.dialect (utf8_bytes self.entry)
             (utf8_bytes base.entry) }
@@ -366,8 +374,8 @@ impl<'a, T: Utf8Encoding> Utf8Path<'a, T> {
         self.as_bytes_path().is_within(base.as_bytes_path())
     }
 
-    /// The path that leads from a base to this one, where there is one, as
-    /// [`Path::relative_to`](crate::Path::relative_to) has it.
+    /// Returns the path that leads from `base` to this one, `None` if there is none, as
+    /// [`Path::relative_to`](crate::Path::relative_to) does.
     #[tactic(auto, using(crate::proofs::lemmas::texts::TextChanges::text_laws, crate::proofs::lemmas::texts::TextClean::relative_laws))]
     pub fn relative_to(
         self,
@@ -387,7 +395,7 @@ impl<'a, T: Utf8Encoding> Utf8Path<'a, T> {
         }
     }
 
-    /// Whether the path ends with the components of another, as they are written.
+    /// Whether the path ends with the components of `end`, compared as they are written.
     pub fn ends_with(self, end: Utf8Path<'_, T>) -> bool
         ensures { result ≡ path_ends_with T.Bytes.dialect (utf8_bytes self.entry)
             (utf8_bytes end.entry) }
@@ -419,8 +427,8 @@ impl<'a, T: Utf8Encoding> Utf8Path<'a, T> {
         owned!(self.as_bytes_path().to_path_buf(alloc))
     }
 
-    /// The path with another pushed onto it: an absolute one stands in its place, and with an empty
-    /// one it is a copy.
+    /// Returns this path with `path` pushed onto it: an absolute one replaces it, an empty one
+    /// makes a copy.
     pub fn join(self, alloc: Global, path: Utf8Path<'_, T>) -> Result<Utf8PathBuf<T>, AllocError>
         ensures { IfOk result (λ p. p.bytes
             ≡ push_spec.push T.Bytes.dialect (utf8_bytes self.entry) (utf8_bytes path.entry)) }
@@ -428,10 +436,10 @@ impl<'a, T: Utf8Encoding> Utf8Path<'a, T> {
         owned!(self.as_bytes_path().join(alloc, path.as_bytes_path()))
     }
 
-    /// The path with another pushed onto it, unless that has a component that offends.
+    /// Returns this path with `path` pushed onto it, unless a component of `path` offends.
     ///
-    /// The answer lies within this path, where it has the prefix of this one. A path with a fault
-    /// is refused for that, however little memory there is.
+    /// The result lies within this path if it has the prefix of this one. A `path` that offends is
+    /// refused for that, however little memory there is.
     ///
     /// # Errors
     ///
@@ -450,7 +458,8 @@ impl<'a, T: Utf8Encoding> Utf8Path<'a, T> {
         )
     }
 
-    /// The path with a portable one pushed onto it, unless that has a component that offends.
+    /// Returns this path with `path` pushed onto it, unless `path` is not portable or a component
+    /// of it offends.
     ///
     /// # Errors
     ///
@@ -469,7 +478,8 @@ impl<'a, T: Utf8Encoding> Utf8Path<'a, T> {
         )
     }
 
-    /// A copy with another file name, or with the name pushed where there is none.
+    /// Returns a copy with another file name. If the path has no file name, the name is pushed onto
+    /// it.
     pub fn with_file_name(self, alloc: Global, name: &str) -> Result<Utf8PathBuf<T>, AllocError>
         ensures { IfOk result
             (λ p. p.bytes ≡ with_file_name T.Bytes.dialect (utf8_bytes self.entry) name.now) }
@@ -477,8 +487,8 @@ impl<'a, T: Utf8Encoding> Utf8Path<'a, T> {
         owned!(self.as_bytes_path().with_file_name(alloc, name.as_bytes()))
     }
 
-    /// A copy whose file name has another extension, or none where the new one is empty. Without a
-    /// file name it is a mere copy.
+    /// Returns a copy whose file name has another extension, or none if `extension` is empty.
+    /// Without a file name it is an unchanged copy.
     ///
     /// `/tmp/日本語.txt/` with `z` is `/tmp/日本語.z`.
     pub fn with_extension(
@@ -495,8 +505,8 @@ impl<'a, T: Utf8Encoding> Utf8Path<'a, T> {
         )
     }
 
-    /// A copy with one extension more behind its file name. Without a file name, or with an empty
-    /// extension, it is a mere copy.
+    /// Returns a copy with `extension` appended to its file name, after a dot. Without a file name,
+    /// or with an empty extension, it is an unchanged copy.
     ///
     /// `/tmp/日本語/` with `z` is `/tmp/日本語.z`.
     pub fn with_added_extension(
@@ -513,16 +523,16 @@ impl<'a, T: Utf8Encoding> Utf8Path<'a, T> {
         )
     }
 
-    /// The path without `.`, and without `..` and the names that these take away, in the form of
-    /// [`Path::normalize`](crate::Path::normalize).
+    /// Returns the path without `.`, and without `..` and the names that these cancel, in the form
+    /// of [`Path::normalize`](crate::Path::normalize).
     pub fn normalize(self, alloc: Global) -> Result<Utf8PathBuf<T>, AllocError>
         ensures { Normalizes T.Bytes.dialect (λ p. p.bytes) (utf8_bytes self.entry) result }
     {
         owned!(self.as_bytes_path().normalize(alloc))
     }
 
-    /// The path without `.`, doubled separators, and the names that a `..` takes away, as
-    /// [`Path::clean`](crate::Path::clean) writes it.
+    /// Returns the path without `.`, doubled separators, and the names that a `..` cancels, as
+    /// [`Path::clean`](crate::Path::clean) does.
     #[tactic(auto, using(crate::proofs::lemmas::texts::TextChanges::text_laws, crate::proofs::lemmas::texts::TextClean::clean_laws))]
     pub fn clean(self, alloc: Global) -> Result<Utf8PathBuf<T>, AllocError>
         ensures { IfOk result (λ p. p.bytes ≡ clean_text T.Bytes.dialect (utf8_bytes self.entry)) }
@@ -530,7 +540,8 @@ impl<'a, T: Utf8Encoding> Utf8Path<'a, T> {
         owned!(self.as_bytes_path().clean(alloc))
     }
 
-    /// The path in lower case, as [`Path::to_ascii_lowercase`](crate::Path::to_ascii_lowercase) writes it.
+    /// Returns the path in lower case, as
+    /// [`Path::to_ascii_lowercase`](crate::Path::to_ascii_lowercase) does.
     #[tactic(auto, using(crate::proofs::lemmas::texts::TextChanges::text_laws, crate::proofs::lemmas::texts::TextLowered::lowered_laws))]
     pub fn to_ascii_lowercase(self, alloc: Global) -> Result<Utf8PathBuf<T>, AllocError>
         ensures { IfOk result (λ p. p.bytes ≡ lowered T.Bytes.dialect (utf8_bytes self.entry)) }
@@ -538,8 +549,8 @@ impl<'a, T: Utf8Encoding> Utf8Path<'a, T> {
         owned!(self.as_bytes_path().to_ascii_lowercase(alloc))
     }
 
-    /// The path in another encoding: its components pushed one by one onto the empty path, as
-    /// [`Path::with_encoding`](crate::Path::with_encoding) writes them.
+    /// Returns the path in the encoding `U`: its components pushed one by one onto the empty path,
+    /// as [`Path::with_encoding`](crate::Path::with_encoding) does.
     pub fn with_encoding<U: Utf8Encoding>(self, alloc: Global) -> Result<Utf8PathBuf<U>, AllocError>
         ensures { IfOk result
             (λ p. p.bytes ≡ converted T.Bytes.dialect U.Bytes.dialect (utf8_bytes self.entry)) }
@@ -547,7 +558,8 @@ impl<'a, T: Utf8Encoding> Utf8Path<'a, T> {
         owned!(self.as_bytes_path().with_encoding::<U::Bytes>(alloc))
     }
 
-    /// The same by checked pushes, also in an encoding of the same label.
+    /// Returns the path in the encoding `U` by checked pushes, also if that has the label of this
+    /// encoding.
     ///
     /// # Errors
     ///
@@ -572,7 +584,7 @@ impl<'a, T: Utf8Encoding> Utf8Path<'a, T> {
         self.as_bytes_path().has_unix_encoding()
     }
 
-    /// The path as on Unix, as [`Utf8Path::with_encoding`] writes it.
+    /// Returns the path as on Unix, as [`Utf8Path::with_encoding`] does.
     pub fn with_unix_encoding(self, alloc: Global) -> Result<Utf8UnixPathBuf, AllocError>
         ensures { IfOk result (λ p. p.bytes
             ≡ converted T.Bytes.dialect unix (utf8_bytes self.entry)) }
@@ -580,7 +592,7 @@ impl<'a, T: Utf8Encoding> Utf8Path<'a, T> {
         self.with_encoding::<Utf8UnixEncoding>(alloc)
     }
 
-    /// The path as on Unix, refused as [`Utf8Path::with_encoding_checked`] does.
+    /// Returns the path as on Unix by checked pushes, as [`Utf8Path::with_encoding_checked`] does.
     pub fn with_unix_encoding_checked(self, alloc: Global) -> Result<Utf8UnixPathBuf, PathError>
         ensures { ConvertsChecked T.Bytes.dialect unix
             (λ p. p.bytes) (utf8_bytes self.entry) result }
@@ -595,7 +607,7 @@ impl<'a, T: Utf8Encoding> Utf8Path<'a, T> {
         self.as_bytes_path().has_windows_encoding()
     }
 
-    /// The path as on Windows, as [`Utf8Path::with_encoding`] writes it.
+    /// Returns the path as on Windows, as [`Utf8Path::with_encoding`] does.
     pub fn with_windows_encoding(self, alloc: Global) -> Result<Utf8WindowsPathBuf, AllocError>
         ensures { IfOk result (λ p. p.bytes
             ≡ converted T.Bytes.dialect windows (utf8_bytes self.entry)) }
@@ -603,7 +615,8 @@ impl<'a, T: Utf8Encoding> Utf8Path<'a, T> {
         self.with_encoding::<Utf8WindowsEncoding>(alloc)
     }
 
-    /// The path as on Windows, refused as [`Utf8Path::with_encoding_checked`] does.
+    /// Returns the path as on Windows by checked pushes, as [`Utf8Path::with_encoding_checked`]
+    /// does.
     pub fn with_windows_encoding_checked(
         self,
         alloc: Global,
@@ -614,14 +627,14 @@ impl<'a, T: Utf8Encoding> Utf8Path<'a, T> {
         self.with_encoding_checked::<Utf8WindowsEncoding>(alloc)
     }
 
-    /// Whether the encoding is that of the machine, which [`Utf8PlatformEncoding`] alone is.
+    /// Whether the encoding is [`Utf8PlatformEncoding`].
     pub fn has_platform_encoding(self) -> bool
         ensures { result ≡ T.IS_PLATFORM }
     {
         T::IS_PLATFORM
     }
 
-    /// The path as on the machine, as [`Utf8Path::with_encoding`] writes it.
+    /// Returns the path as on the machine, as [`Utf8Path::with_encoding`] does.
     pub fn with_platform_encoding(self, alloc: Global) -> Result<Utf8PlatformPathBuf, AllocError>
         ensures { IfOk result (λ p. p.bytes
             ≡ converted T.Bytes.dialect platform (utf8_bytes self.entry)) }
@@ -629,7 +642,8 @@ impl<'a, T: Utf8Encoding> Utf8Path<'a, T> {
         self.with_encoding::<Utf8PlatformEncoding>(alloc)
     }
 
-    /// The path as on the machine, refused as [`Utf8Path::with_encoding_checked`] does.
+    /// Returns the path as on the machine by checked pushes, as [`Utf8Path::with_encoding_checked`]
+    /// does.
     pub fn with_platform_encoding_checked(
         self,
         alloc: Global,
@@ -640,13 +654,13 @@ impl<'a, T: Utf8Encoding> Utf8Path<'a, T> {
         self.with_encoding_checked::<Utf8PlatformEncoding>(alloc)
     }
 
-    /// The normal text of the path where it is absolute, and else of the directory in this path's
-    /// encoding with the path pushed onto it.
+    /// Returns the normal path of this path if it is absolute, else that of `directory`, written in
+    /// this path's encoding, with this path pushed onto it.
     ///
     /// # Errors
     ///
-    /// `Ambiguous` where the path is absolute neither alone nor behind the directory. `OutOfMemory`
-    /// where memory is refused.
+    /// `Ambiguous` if the path is absolute neither alone nor after the directory. `OutOfMemory` if
+    /// allocation fails.
     pub fn absolutize(
         self,
         alloc: Global,
@@ -698,7 +712,7 @@ impl<'a, T: Utf8Encoding> fmt::Debug for Utf8Path<'a, T> {
     }
 }
 
-/// A path of text, and then each parent of the one before.
+/// The iterator over a path of text, and then each parent of the one before.
 pub struct Utf8Ancestors<'a, T: Utf8Encoding> {
     inner: Ancestors<'a, T::Bytes>,
     ghost is_text: { are_texts (ancestors_left inner) ≡ true },
@@ -721,7 +735,7 @@ impl<'a, T: Utf8Encoding> Utf8Ancestors<'a, T> {
     ghost use Rattle.typed_path.specs.views.TextViews.{utf8_bytes};
     ghost use Rattle.typed_path.specs.views.TextAncestorViews.{utf8_ancestors_left};
 
-    /// The path and those above it.
+    /// Returns an iterator over `path` and the paths above it.
     #[inline(always)]
     pub(super) fn new(path: Utf8Path<'a, T>) -> Utf8Ancestors<'a, T>
         ensures { utf8_ancestors_left result
