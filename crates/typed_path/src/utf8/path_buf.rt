@@ -1,4 +1,4 @@
-//! A path that is a text, owned.
+//! The owned path of text.
 #![tactic(auto, using(crate::proofs::lemmas::texts::TextChanges::text_laws))]
 
 ghost use Rattle.std.specs.Prelude.{◌≡◌, true, ◌≤◌, ◌+◌, [], length, is_some, max, min, IsSome, None, IfOk, OnOk, OnErr, IsOk, is_ok, IfErr, map, refl, Some};
@@ -24,7 +24,7 @@ use std::fmt;
 use std::hash::{Hash, Hasher};
 use std::marker::Model;
 
-/// What is owned of bytes that are a text, where there is one.
+/// Turns a result with an owned path, whose bytes are UTF-8, into one with a path of text.
 macro_rules! owned {
     ($made:expr) => {
         match $made {
@@ -63,7 +63,7 @@ impl<T: Utf8Encoding> Utf8PathBuf<T> {
         Utf8PathBuf::of(PathBuf::new(alloc))
     }
 
-    /// The empty path, with room for so many bytes.
+    /// The empty path, with a capacity of `capacity` bytes.
     pub fn with_capacity(alloc: Global, capacity: usize) -> Result<Utf8PathBuf<T>, AllocError>
         ensures bytes { IfOk result (λ p. p.bytes ≡ []) }
         ensures capacity { IfOk result (λ p. p.capacity ≡ capacity) }
@@ -80,11 +80,11 @@ impl<T: Utf8Encoding> Utf8PathBuf<T> {
         owned!(PathBuf::from_str(alloc, text))
     }
 
-    /// The path of the bytes of another, with no copy.
+    /// Returns the path of text that has the bytes of `path`, with no copy.
     ///
     /// # Errors
     ///
-    /// The path of bytes, given back, exactly where its bytes are no text.
+    /// The `path` itself, exactly if its bytes are not UTF-8.
     pub fn from_bytes_path_buf(path: PathBuf<T::Bytes>) -> Result<Utf8PathBuf<T>, PathBuf<T::Bytes>>
         ensures ok { IfOk result (λ p. (p.bytes ≡ path.bytes) × (p.capacity ≡ path.capacity)) }
         ensures back { IfErr result (λ p. p ≡ path) }
@@ -97,7 +97,8 @@ impl<T: Utf8Encoding> Utf8PathBuf<T> {
         }
     }
 
-    /// The same of a path whose bytes are known to be a text; they are not looked at again.
+    /// Returns the path of text that has the bytes of `path`. They are known to be UTF-8, and not
+    /// checked again.
     pub fn from_bytes_path_buf_unchecked(path: PathBuf<T::Bytes>) -> Utf8PathBuf<T>
         requires { is_utf8 path.bytes ≡ true }
         ensures bytes { result.bytes ≡ path.bytes }
@@ -106,7 +107,7 @@ impl<T: Utf8Encoding> Utf8PathBuf<T> {
         Utf8PathBuf::of(path)
     }
 
-    /// The path of owned bytes that are a text.
+    /// Returns the path of text that has the bytes of `inner`, which are UTF-8, with no copy.
     #[inline(always)]
     pub(super) fn of(inner: PathBuf<T::Bytes>) -> Utf8PathBuf<T>
         requires { is_utf8 inner.bytes ≡ true }
@@ -116,23 +117,23 @@ impl<T: Utf8Encoding> Utf8PathBuf<T> {
         Utf8PathBuf { inner }
     }
 
-    /// The path, lent.
+    /// Borrows the path.
     pub fn as_path(&self) -> Utf8Path<'_, T>
         ensures { utf8_bytes result ≡ self.now.bytes }
     {
         Utf8Path::of(self.inner.as_path())
     }
 
-    /// How many bytes the path has room for, its own among them.
+    /// How many bytes the path can hold without allocating, its own included.
     pub fn capacity(&self) -> usize
         ensures { result ≡ self.now.capacity }
     {
         self.inner.capacity()
     }
 
-    /// Pushes a path onto this one: an absolute one replaces it, an empty one changes nothing.
+    /// Pushes `path` onto this one: an absolute one replaces it, an empty one changes nothing.
     ///
-    /// Where memory is refused the path is as it was, and has no less room.
+    /// If allocation fails, the path is unchanged, and its capacity is no less.
     pub fn push(&mut self, path: Utf8Path<'_, T>) -> Result<(), AllocError>
         ensures ok { OnOk result (self.new.bytes ≡ push_spec.push T.Bytes.dialect self.old.bytes
             (utf8_bytes path.entry)) }
@@ -144,12 +145,13 @@ impl<T: Utf8Encoding> Utf8PathBuf<T> {
         self.inner.push(path.as_bytes_path())
     }
 
-    /// Pushes a path onto this one, unless it has a component that offends. Pushed, it lies within
-    /// this path, where this one keeps its prefix.
+    /// Pushes `path` onto this one, unless a component of `path` offends. The result lies within
+    /// this path if this one keeps its prefix.
     ///
     /// # Errors
     ///
-    /// Those of [`PathBuf::push_checked`](crate::PathBuf::push_checked). Then the path is as it was.
+    /// Those of [`PathBuf::push_checked`](crate::PathBuf::push_checked). Then the path is
+    /// unchanged.
     pub fn push_checked(&mut self, path: Utf8Path<'_, T>) -> Result<(), PathError>
         ensures refused { refusal result ≡ fault T.Bytes.dialect (utf8_bytes path.entry) }
         ensures ok { OnOk result (self.new.bytes ≡ push_spec.push T.Bytes.dialect self.old.bytes
@@ -167,7 +169,8 @@ impl<T: Utf8Encoding> Utf8PathBuf<T> {
         self.inner.push_checked(path.as_bytes_path())
     }
 
-    /// The same of a path of which something may be known, as the path of the bytes has it.
+    /// Does what `push` does, where `known` is what is known of this path, and returns what is
+    /// known of the result, as `PathBuf::push_next` does.
     pub(super) fn push_next(
         &mut self,
         path: Utf8Path<'_, T>,
@@ -182,7 +185,7 @@ impl<T: Utf8Encoding> Utf8PathBuf<T> {
         self.inner.push_next(path.as_bytes_path(), known)
     }
 
-    /// Cuts the path to its parent, where it has one, and answers whether it has.
+    /// Cuts the path to its parent. Returns whether it has one; without one nothing changes.
     pub fn pop(&mut self) -> bool
         ensures bytes { self.new.bytes ≡ popped T.Bytes.dialect self.old.bytes }
         ensures flag { result ≡ is_some (parent_of T.Bytes.dialect self.old.bytes) }
@@ -191,9 +194,9 @@ impl<T: Utf8Encoding> Utf8PathBuf<T> {
         self.inner.pop()
     }
 
-    /// Gives the path another file name, or pushes the name where it has none.
+    /// Replaces the file name by `name`, or pushes `name` if the path has no file name.
     ///
-    /// Where memory is refused the path is as it was, and has no less room.
+    /// If allocation fails, the path is unchanged, and its capacity is no less.
     pub fn set_file_name(&mut self, name: &str) -> Result<(), AllocError>
         ensures ok { OnOk result
             (self.new.bytes ≡ with_file_name T.Bytes.dialect self.old.bytes name.now) }
@@ -205,10 +208,10 @@ impl<T: Utf8Encoding> Utf8PathBuf<T> {
         self.inner.set_file_name(name.as_bytes())
     }
 
-    /// Gives the file name another extension, or takes the extension away where the new one is
-    /// empty, and answers whether there is a file name. Without one nothing changes.
+    /// Replaces the extension of the file name, or removes it if `extension` is empty. Returns
+    /// whether there is a file name; without one nothing changes.
     ///
-    /// Where memory is refused the path is as it was, and has no less room.
+    /// If allocation fails, the path is unchanged, and its capacity is no less.
     pub fn set_extension(&mut self, extension: &str) -> Result<bool, AllocError>
         ensures ok { OnOk result
             (self.new.bytes ≡ with_extension T.Bytes.dialect self.old.bytes extension.now) }
@@ -224,10 +227,10 @@ impl<T: Utf8Encoding> Utf8PathBuf<T> {
         self.inner.set_extension(extension.as_bytes())
     }
 
-    /// Puts one extension more behind the file name, and answers whether there is one. Without one,
-    /// and where the extension is empty, nothing changes.
+    /// Appends a dot and `extension` to the file name. Returns whether there is a file name.
+    /// Without one, or with an empty extension, nothing changes.
     ///
-    /// Where memory is refused the path is as it was, and has no less room.
+    /// If allocation fails, the path is unchanged, and its capacity is no less.
     pub fn add_extension(&mut self, extension: &str) -> Result<bool, AllocError>
         ensures ok { OnOk result
             (self.new.bytes ≡ with_added_extension T.Bytes.dialect self.old.bytes extension.now) }
@@ -244,7 +247,7 @@ impl<T: Utf8Encoding> Utf8PathBuf<T> {
         self.inner.add_extension(extension.as_bytes())
     }
 
-    /// Makes the path the empty one. It keeps its room.
+    /// Makes the path empty. It keeps its capacity.
     pub fn clear(&mut self)
         ensures bytes { self.new.bytes ≡ [] }
         ensures capacity { self.new.capacity ≡ self.old.capacity }
@@ -252,7 +255,7 @@ impl<T: Utf8Encoding> Utf8PathBuf<T> {
         self.inner.clear();
     }
 
-    /// Finds room for so many bytes more, and perhaps for others behind these.
+    /// Reserves capacity for at least `additional` bytes more.
     pub fn reserve(&mut self, additional: usize) -> Result<(), AllocError>
         ensures bytes { self.new.bytes ≡ self.old.bytes }
         ensures room { OnOk result (length self.new.bytes + additional ≤ self.new.capacity) }
@@ -263,7 +266,7 @@ impl<T: Utf8Encoding> Utf8PathBuf<T> {
         self.inner.reserve(additional)
     }
 
-    /// The same as `reserve`, which answers want of memory too.
+    /// Alias of `reserve`, which is fallible already.
     pub fn try_reserve(&mut self, additional: usize) -> Result<(), AllocError>
         ensures bytes { self.new.bytes ≡ self.old.bytes }
         ensures room { OnOk result (length self.new.bytes + additional ≤ self.new.capacity) }
@@ -274,7 +277,7 @@ impl<T: Utf8Encoding> Utf8PathBuf<T> {
         self.inner.try_reserve(additional)
     }
 
-    /// Finds room for so many bytes more, and for no others where room has to be found.
+    /// Reserves capacity for `additional` bytes more, and for no more than these if it has to grow.
     pub fn reserve_exact(&mut self, additional: usize) -> Result<(), AllocError>
         ensures bytes { self.new.bytes ≡ self.old.bytes }
         ensures room { OnOk result
@@ -285,7 +288,7 @@ impl<T: Utf8Encoding> Utf8PathBuf<T> {
         self.inner.reserve_exact(additional)
     }
 
-    /// The same as `reserve_exact`, which answers want of memory too.
+    /// Alias of `reserve_exact`, which is fallible already.
     pub fn try_reserve_exact(&mut self, additional: usize) -> Result<(), AllocError>
         ensures bytes { self.new.bytes ≡ self.old.bytes }
         ensures room { OnOk result
@@ -296,8 +299,8 @@ impl<T: Utf8Encoding> Utf8PathBuf<T> {
         self.inner.try_reserve_exact(additional)
     }
 
-    /// Gives room back that is not used, as far as memory for a smaller block is found. The empty
-    /// path keeps none.
+    /// Gives unused capacity back, as far as a smaller block can be allocated, and never fails. The
+    /// empty path keeps none.
     pub fn shrink_to_fit(&mut self) -> Result<(), AllocError>
         ensures ok { IsOk result }
         ensures bytes { self.new.bytes ≡ self.old.bytes }
@@ -307,7 +310,8 @@ impl<T: Utf8Encoding> Utf8PathBuf<T> {
         self.inner.shrink_to_fit()
     }
 
-    /// Gives room back but for so many bytes, as far as memory for a smaller block is found.
+    /// Gives unused capacity above `min_capacity` bytes back, as far as a smaller block can be
+    /// allocated, and never fails.
     pub fn shrink_to(&mut self, min_capacity: usize) -> Result<(), AllocError>
         ensures ok { IsOk result }
         ensures bytes { self.new.bytes ≡ self.old.bytes }
@@ -337,7 +341,7 @@ impl<T: Utf8Encoding> Utf8PathBuf<T> {
     }
 }
 
-/// A copy of the text, all at once, in the memory of the same allocator.
+/// Copies the text in one allocation, in the memory of the same allocator.
 impl<T: Utf8Encoding> Clone for Utf8PathBuf<T> {
     ghost is_clone = { λ path copy. copy.bytes ≡ path.bytes };
 
@@ -384,7 +388,7 @@ impl<T: Utf8Encoding> From<Utf8PathBuf<T>> for String {
     }
 }
 
-/// Pushes paths one by one. Where memory is refused, those before it stay pushed.
+/// Pushes the paths one by one. If allocation fails, those before stay pushed.
 impl<'p, T: Utf8Encoding> Extend<Utf8Path<'p, T>> for Utf8PathBuf<T> {
     ghost use Rattle.typed_path.specs.views.TextViews.{utf8_bytes};
 

@@ -1,4 +1,5 @@
-//! The components of a path of text, each as a value of the type that the iterator names.
+//! An iterator over the components of a path of text, each as a value of the type that the iterator
+//! names.
 #![tactic(auto, using(crate::proofs::lemmas::texts::TextChanges::reading_laws))]
 
 ghost use Rattle.std.specs.Prelude.{◌≡◌, true, ⊤, drop, option_map, map, ◌==◌, length, ℕ, List};
@@ -23,7 +24,7 @@ use std::fmt;
 use std::iter::FusedIterator;
 use std::marker::PhantomData;
 
-/// A value that a component of a path of text is read as.
+/// A type of values as which the components of a path of text can be read.
 pub trait FromPiece<'a, T: Utf8Encoding>: Copy + fmt::Debug {
     ghost Seen: { Type 0 };
 
@@ -31,17 +32,17 @@ pub trait FromPiece<'a, T: Utf8Encoding>: Copy + fmt::Debug {
 
     ghost seen_of: { Part → Seen };
 
-    /// The name of the iterator over such values.
+    /// The name of the iterator over such values, which `Debug` prints.
     const ITERATOR: &'static str;
 
-    /// The value that a piece is read as.
+    /// Returns the value for a piece of text.
     fn from_piece(piece: Piece<'a>) -> Self
         requires text { is_text_part (part_of piece) ≡ true }
         requires written { part_of piece ≡ written T.Bytes.dialect (part_of piece) }
         ensures { seen result ≡ seen_of (part_of piece.entry) };
 }
 
-/// The components of a path of text that are left to be read, as values of one type.
+/// The iterator over the components of a path of text, each as a value of the type `I`.
 #[derive_where(PartialEq, Eq, PartialOrd, Ord; T: Utf8Encoding)]
 pub struct Utf8Reading<'a, T: Utf8Encoding, I> {
     components: Components<'a, T::Bytes>,
@@ -69,7 +70,7 @@ impl<'a, T: Utf8Encoding, I> Utf8Reading<'a, T, I> {
     ghost use Rattle.typed_path.specs.views.ReadingViews.{reading_items, reading_slice, reading_parts};
     ghost use Rattle.typed_path.specs.views.ReversedViews.{reversed_source};
 
-    /// The components of a path, from either end.
+    /// Returns an iterator over the components of a path, from either end.
     #[inline(always)]
     pub fn new(path: Utf8Path<'a, T>) -> Utf8Reading<'a, T, I>
         ensures items { reading_items result ≡ comps T.Bytes.dialect (utf8_bytes path.entry) }
@@ -81,7 +82,7 @@ impl<'a, T: Utf8Encoding, I> Utf8Reading<'a, T, I> {
         }
     }
 
-    /// The reading itself.
+    /// Returns the cursor over what is left.
     #[inline(always)]
     pub(crate) fn cursor(self) -> Cursor<'a>
         ensures items { items_left result ≡ reading_items self.entry }
@@ -90,7 +91,7 @@ impl<'a, T: Utf8Encoding, I> Utf8Reading<'a, T, I> {
         self.components.cursor()
     }
 
-    /// The same components, of the path of the bytes.
+    /// Returns an iterator over the same components, of the path of the bytes.
     #[inline(always)]
     pub(super) fn bytes<J>(self) -> Reading<'a, T::Bytes, J>
         ensures items { components_items result ≡ reading_items self.entry }
@@ -98,7 +99,7 @@ impl<'a, T: Utf8Encoding, I> Utf8Reading<'a, T, I> {
         self.components.read_as()
     }
 
-    /// What is left, from the last to the first.
+    /// Returns an iterator over what is left, from the last to the first.
     #[inline(always)]
     pub fn rev(self) -> Reversed<Utf8Reading<'a, T, I>>
     where
@@ -146,7 +147,7 @@ impl<'a, T: Utf8Encoding> Utf8Reading<'a, T, &'a str> {
 impl<'a, T: Utf8Encoding, I: FromPiece<'a, T>> Utf8Reading<'a, T, I> {
     ghost use Rattle.typed_path.specs.views.ReadingViews.{reading_items, reading_slice};
 
-    /// Takes the first component that is left. It answers none for good once all are taken.
+    /// Takes the first component that is left, or returns `None` for good once all are taken.
     #[inline(always)]
     pub fn next(&mut self) -> Option<I>
         ensures taken { option_map I.seen result
@@ -159,7 +160,7 @@ impl<'a, T: Utf8Encoding, I: FromPiece<'a, T>> Utf8Reading<'a, T, I> {
         Some(I::from_piece(piece))
     }
 
-    /// Takes the last component that is left. It answers none for good once all are taken.
+    /// Takes the last component that is left, or returns `None` for good once all are taken.
     #[inline(always)]
     pub fn next_back(&mut self) -> Option<I>
         ensures taken { option_map I.seen result
@@ -203,7 +204,7 @@ impl<'a, T: Utf8Encoding, I: FromPiece<'a, T>> DoubleEndedIterator for Utf8Readi
     }
 }
 
-/// What is left of a reading, as a list.
+/// What an iterator has left, printed as a list.
 #[derive_where(Clone, Copy)]
 struct Listed<'a, T: Utf8Encoding, I> {
     reading: Utf8Reading<'a, T, I>,
@@ -246,12 +247,13 @@ pub enum Utf8PieceKind<'a> {
 pub struct Utf8Piece<'a> {
     /// What the component is.
     pub kind: Utf8PieceKind<'a>,
-    /// How it is written: the raw text of a prefix, `/` or `\` for the root, `.`, `..`, or the name.
+    /// How it is written: the raw text of a prefix, `/` or `\` for the root, `.`, `..`, or the
+    /// name.
     pub text: &'a str,
 }
 
 impl<'a> Utf8Piece<'a> {
-    /// The text of the component.
+    /// Returns the text of the component.
     pub fn as_str(self) -> &'a str
         ensures { result.now ≡ (text_part self.entry).text }
     {
@@ -291,7 +293,7 @@ impl<'a> Utf8Piece<'a> {
         matches!(self.kind, Utf8PieceKind::CurDir)
     }
 
-    /// Whether the component is no name, or a name that the encoding allows.
+    /// Whether the component is not a name, or is one that the encoding allows.
     pub fn is_valid<T: Utf8Encoding>(self) -> bool
         ensures { result ≡ is_valid_kind T.Bytes.dialect (text_part self.entry).kind }
     {
@@ -311,7 +313,8 @@ impl<'a> Utf8Piece<'a> {
         }
     }
 
-    /// Asks whether every system takes the component as it is written, as `check_portable` of a path has it.
+    /// Checks that every system takes the component as it is written, as `check_portable` of a path
+    /// does.
     pub fn check_portable(self) -> Result<(), PortableError>
         ensures { error_of result ≡ kind_fault (text_part self.entry).kind }
     {
@@ -322,14 +325,14 @@ impl<'a> Utf8Piece<'a> {
         }
     }
 
-    /// How many bytes the text has.
+    /// Returns how many bytes the component has.
     pub fn len(self) -> usize
         ensures { result ≡ length (text_part self.entry).text }
     {
         self.text.len()
     }
 
-    /// Whether the text is empty.
+    /// Whether the component has no bytes.
     pub fn is_empty(self) -> bool
         ensures { result ≡ (length (text_part self.entry).text == 0) }
     {
