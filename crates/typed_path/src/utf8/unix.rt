@@ -1,4 +1,5 @@
-//! Paths of text, written as on Unix: their components, and what is read of them; and those of the machine.
+//! Unix paths of text: their encoding, and what their components answer; and the paths of the
+//! machine.
 #![tactic(auto, using(crate::proofs::lemmas::texts::TextChanges::text_laws))]
 
 ghost use Rattle.std.specs.Prelude.{◌≡◌, true, false, codes, Some, is_ok, IfOk, IfErr};
@@ -22,7 +23,7 @@ use crate::utf8::reading::{FromPiece, Utf8Reading};
 use std::str::Utf8Error;
 use std::{fmt, str};
 
-/// Texts of Unix paths.
+/// The encoding of Unix paths of text.
 #[derive(Clone, Copy, Debug, Default, PartialEq, Eq, PartialOrd, Ord, Hash)]
 pub struct Utf8UnixEncoding;
 
@@ -51,7 +52,8 @@ impl fmt::Display for Utf8UnixEncoding {
 
 /// A component of a Unix path of text.
 ///
-/// The order is the root, the current directory, the parent directory, and names by their bytes.
+/// The order is the root, the current directory, the parent directory, and then names by their
+/// bytes.
 #[derive(Clone, Copy, Debug, PartialEq, Eq, PartialOrd, Ord, Hash)]
 pub enum Utf8UnixComponent<'a> {
     /// The root directory, `/`.
@@ -64,15 +66,15 @@ pub enum Utf8UnixComponent<'a> {
     Normal(&'a str),
 }
 
-/// The components of a Unix path of text that are left to be read.
+/// The iterator over the components of a Unix path of text, from either end.
 pub type Utf8UnixComponents<'a> = Utf8Reading<'a, Utf8UnixEncoding, Utf8UnixComponent<'a>>;
 
 impl<'a> Utf8UnixComponent<'a> {
-    /// The component of a path of bytes, where its name is a text.
+    /// Returns a component of bytes as one of text.
     ///
     /// # Errors
     ///
-    /// The name that is no text.
+    /// `Utf8Error` exactly if it is a name that is not UTF-8.
     #[tactic(auto, using(crate::proofs::lemmas::texts::TextChanges::component_laws))]
     pub fn from_utf8(component: &UnixComponent<'a>) -> Result<Utf8UnixComponent<'a>, Utf8Error>
         ensures ok { IfOk result (λ c. text_unix_part c ≡ unix_part component.now) }
@@ -87,7 +89,7 @@ impl<'a> Utf8UnixComponent<'a> {
         }
     }
 
-    /// The same where it is known to be a text; it is not looked at again.
+    /// Returns a component of bytes as one of text. It is known to be UTF-8, and not checked again.
     #[inline(always)]
     pub fn from_utf8_unchecked(component: &UnixComponent<'a>) -> Utf8UnixComponent<'a>
         requires { is_text_part (unix_part component.now) ≡ true }
@@ -214,7 +216,7 @@ impl<'a> Utf8Reading<'a, Utf8UnixEncoding, Utf8UnixComponent<'a>> {
     }
 }
 
-/// The component of text, as [`Utf8UnixComponent::from_utf8`] answers it.
+/// Makes the component of text, as [`Utf8UnixComponent::from_utf8`] does.
 impl<'a> TryFrom<UnixComponent<'a>> for Utf8UnixComponent<'a> {
     type Error = Utf8Error;
 
@@ -229,7 +231,7 @@ impl<'a> TryFrom<UnixComponent<'a>> for Utf8UnixComponent<'a> {
 ///
 /// # Errors
 ///
-/// Those of a `UnixComponent`.
+/// Those of reading a [`UnixComponent`].
 impl<'a> TryFrom<&'a str> for Utf8UnixComponent<'a> {
     type Error = ParseError;
 
@@ -243,7 +245,7 @@ impl<'a> TryFrom<&'a str> for Utf8UnixComponent<'a> {
     }
 }
 
-/// Texts of paths as on the machine.
+/// The encoding of the machine's paths of text, which forwards to that of Unix.
 #[derive(Clone, Copy, Debug, Default, PartialEq, Eq, PartialOrd, Ord, Hash)]
 pub struct Utf8PlatformEncoding;
 

@@ -1,4 +1,4 @@
-//! Paths of text, written as on Windows: their prefixes, their components, and what is read of them.
+//! Windows paths of text: their encoding, prefixes and components, and what these answer.
 #![tactic(auto, using(crate::proofs::lemmas::texts::TextChanges::text_laws))]
 
 ghost use Rattle.std.specs.Prelude.{◌≡◌, true, false, codes, Some, min, is_ok, IfOk, IfErr, length, option_map};
@@ -25,7 +25,7 @@ use crate::windows::{WindowsComponent, WindowsEncoding, WindowsPrefixComponent};
 use std::str::Utf8Error;
 use std::{fmt, str};
 
-/// Texts of Windows paths.
+/// The encoding of Windows paths of text.
 #[derive(Clone, Copy, Debug, Default, PartialEq, Eq, PartialOrd, Ord, Hash)]
 pub struct Utf8WindowsEncoding;
 
@@ -44,8 +44,8 @@ impl Utf8Encoding for Utf8WindowsEncoding {
 }
 
 impl<'a> Utf8Path<'a, Utf8WindowsEncoding> {
-    /// The path of a verbatim drive without its `\\?\`, where that means the same to Windows; else the
-    /// path itself. When it means the same, [`Path::simplified`] says.
+    /// Returns a path of a verbatim drive without its `\\?\`, if that means the same to Windows;
+    /// else the path itself. [`Path::simplified`] says when it does.
     ///
     /// [`Path::simplified`]: crate::Path::simplified
     pub fn simplified(self) -> Utf8WindowsPath<'a>
@@ -64,11 +64,11 @@ impl fmt::Display for Utf8WindowsEncoding {
     }
 }
 
-/// What a Windows path of text may begin with, before its root.
+/// The prefix of a Windows path of text, which may precede its root.
 ///
-/// The names are slices of the path's text; a drive letter is the character whose number is the byte,
-/// raised to ASCII upper case. The order is that of the kinds below, and then that of the names and
-/// letters.
+/// The names are slices of the path's text. A drive letter is the character whose number is the
+/// byte, in ASCII upper case. Prefixes are ordered by their kinds, as these are listed, and then by
+/// their names or letters.
 #[derive(Clone, Copy, Debug, PartialEq, Eq, PartialOrd, Ord, Hash)]
 pub enum Utf8WindowsPrefix<'a> {
     /// `\\?\name`
@@ -86,11 +86,11 @@ pub enum Utf8WindowsPrefix<'a> {
 }
 
 impl<'a> Utf8WindowsPrefix<'a> {
-    /// The prefix of a path of bytes, where its names are texts.
+    /// Returns a prefix of bytes as one of text.
     ///
     /// # Errors
     ///
-    /// The first name that is no text.
+    /// `Utf8Error` of the first name that is not UTF-8, exactly if there is one.
     pub fn from_utf8(prefix: &WindowsPrefix<'a>) -> Result<Utf8WindowsPrefix<'a>, Utf8Error>
         ensures ok { IfOk result (λ p. text_prefix p ≡ prefix_view prefix.now) }
         ensures flag { is_ok result ≡ is_text_prefix (prefix_view prefix.now) }
@@ -110,7 +110,8 @@ impl<'a> Utf8WindowsPrefix<'a> {
         })
     }
 
-    /// The prefix of a path of bytes whose names are texts, which is not looked at again.
+    /// Returns a prefix of bytes as one of text. Its names are known to be UTF-8, and not checked
+    /// again.
     pub fn from_utf8_unchecked(prefix: &WindowsPrefix<'a>) -> Utf8WindowsPrefix<'a>
         requires { is_text_prefix (prefix_view prefix.now) ≡ true }
         ensures { text_prefix result ≡ prefix_view prefix.now }
@@ -127,7 +128,8 @@ impl<'a> Utf8WindowsPrefix<'a> {
         }
     }
 
-    /// The same prefix of bytes, but for the letter of a drive.
+    /// Returns the prefix as one of bytes, but with `C` as the letter of a drive: its length and
+    /// its kind are the same.
     fn outline(self) -> WindowsPrefix<'a>
         ensures length { prefix_length (prefix_view result)
             ≡ prefix_length (text_prefix self.entry) }
@@ -146,8 +148,8 @@ impl<'a> Utf8WindowsPrefix<'a> {
         }
     }
 
-    /// How many bytes the prefix has where it is written with one separator between names, or the
-    /// largest number where it has more.
+    /// Returns how many bytes the prefix has when it is written with one separator between names,
+    /// or `usize::MAX` if it has more.
     pub fn len(self) -> usize
         ensures { result ≡ min (prefix_length (text_prefix self.entry)) usize.MAX }
     {
@@ -166,7 +168,7 @@ impl<'a> Utf8WindowsPrefix<'a> {
 ///
 /// # Errors
 ///
-/// Those of a `WindowsPrefix`.
+/// Those of reading a [`WindowsPrefix`].
 impl<'a> TryFrom<&'a str> for Utf8WindowsPrefix<'a> {
     type Error = ParseError;
 
@@ -180,7 +182,7 @@ impl<'a> TryFrom<&'a str> for Utf8WindowsPrefix<'a> {
     }
 }
 
-/// The prefix of a Windows path of text, with the text that it was read from.
+/// The prefix of a Windows path of text, with its raw text.
 ///
 /// Equality, order and hash look at the kind alone: how the prefix is written is no part of it.
 #[derive(Clone, Copy, Debug)]
@@ -194,11 +196,12 @@ pub struct Utf8WindowsPrefixComponent<'a> {
 impl<'a> Utf8WindowsPrefixComponent<'a> {
     ghost use Rattle.typed_path.specs.components.{prefix};
 
-    /// The prefix of a path of bytes with its text, where that is one in UTF-8; then its names are, too.
+    /// Returns a prefix component of bytes as one of text. Its names are UTF-8 if its raw bytes
+    /// are.
     ///
     /// # Errors
     ///
-    /// The raw text that is no text.
+    /// `Utf8Error` exactly if the raw bytes are not UTF-8.
     pub fn from_utf8(component: &WindowsPrefixComponent<'a>) -> Result<Self, Utf8Error>
         ensures ok { IfOk result (λ c. text_prefix_part c ≡ prefix_component_part component.now) }
         ensures flag { is_ok result ≡ is_text_part (prefix_component_part component.now) }
@@ -210,7 +213,8 @@ impl<'a> Utf8WindowsPrefixComponent<'a> {
         Ok(Utf8WindowsPrefixComponent { raw, kind })
     }
 
-    /// The same where that is known to be a text; it is not looked at again.
+    /// Returns a prefix component of bytes as one of text. It is known to be UTF-8, and not checked
+    /// again.
     pub fn from_utf8_unchecked(component: &WindowsPrefixComponent<'a>) -> Self
         requires { is_utf8 (prefix_component_part component.now).text ≡ true }
         ensures { text_prefix_part result ≡ prefix_component_part component.now }
@@ -221,7 +225,8 @@ impl<'a> Utf8WindowsPrefixComponent<'a> {
         }
     }
 
-    /// The same of a prefix that may not be there.
+    /// Returns a prefix component of bytes, which is known to be UTF-8, as one of text; `None` if
+    /// there is none.
     pub(super) fn of_option(component: Option<WindowsPrefixComponent<'a>>) -> Option<Self>
         requires { is_text_part_option (option_map prefix_component_part component) ≡ true }
         ensures { option_map text_prefix_part result
@@ -233,21 +238,21 @@ impl<'a> Utf8WindowsPrefixComponent<'a> {
         }
     }
 
-    /// Which prefix it is.
+    /// Returns which prefix it is.
     pub fn kind(self) -> Utf8WindowsPrefix<'a>
         ensures { prefix (text_prefix result) ≡ (text_prefix_part self.entry).kind }
     {
         self.kind
     }
 
-    /// How many bytes the text has.
+    /// Returns how many bytes the prefix has.
     pub fn len(self) -> usize
         ensures { result ≡ length (text_prefix_part self.entry).text }
     {
         self.raw.len()
     }
 
-    /// The text of the prefix.
+    /// Returns the text of the prefix.
     pub fn as_str(self) -> &'a str
         ensures { result.now ≡ (text_prefix_part self.entry).text }
     {
@@ -259,7 +264,7 @@ impl<'a> Utf8WindowsPrefixComponent<'a> {
 ///
 /// # Errors
 ///
-/// Those of a `WindowsPrefix`.
+/// Those of reading a [`WindowsPrefix`].
 impl<'a> TryFrom<&'a str> for Utf8WindowsPrefixComponent<'a> {
     type Error = ParseError;
 
@@ -275,7 +280,8 @@ impl<'a> TryFrom<&'a str> for Utf8WindowsPrefixComponent<'a> {
 
 /// A component of a Windows path of text.
 ///
-/// The order is prefixes by kind, the root, the current directory, the parent directory, and names by their bytes.
+/// The order is prefixes by kind, the root, the current directory, the parent directory, and then
+/// names by their bytes.
 #[derive(Clone, Copy, Debug, PartialEq, Eq, PartialOrd, Ord, Hash)]
 pub enum Utf8WindowsComponent<'a> {
     /// The prefix, as `C:` or `\\server\share`.
@@ -291,11 +297,11 @@ pub enum Utf8WindowsComponent<'a> {
 }
 
 impl<'a> Utf8WindowsComponent<'a> {
-    /// The component of a path of bytes, where its text and its names are texts.
+    /// Returns a component of bytes as one of text.
     ///
     /// # Errors
     ///
-    /// The name, or the raw text of a prefix, that is no text.
+    /// `Utf8Error` exactly if it is a name that is not UTF-8, or a prefix whose raw bytes are not.
     #[tactic(auto, using(crate::proofs::lemmas::texts::TextChanges::component_laws))]
     pub fn from_utf8(component: &WindowsComponent<'a>) -> Result<Self, Utf8Error>
         ensures ok { IfOk result (λ c. text_windows_part c ≡ windows_part component.now) }
@@ -314,7 +320,7 @@ impl<'a> Utf8WindowsComponent<'a> {
         }
     }
 
-    /// The same where it is known to be a text; it is not looked at again.
+    /// Returns a component of bytes as one of text. It is known to be UTF-8, and not checked again.
     #[inline(always)]
     pub fn from_utf8_unchecked(component: &WindowsComponent<'a>) -> Utf8WindowsComponent<'a>
         requires { is_text_part (windows_part component.now) ≡ true }
@@ -338,7 +344,7 @@ impl<'a> Utf8WindowsComponent<'a> {
         matches!(self, Self::Prefix(_))
     }
 
-    /// The prefix with its text, where the component is one.
+    /// Returns the prefix with its text, or `None` if the component is none.
     pub fn prefix(self) -> Option<Utf8WindowsPrefixComponent<'a>>
         ensures { option_map text_prefix_part result
             ≡ prefix_part_in (text_windows_part self.entry) }
@@ -349,7 +355,7 @@ impl<'a> Utf8WindowsComponent<'a> {
         }
     }
 
-    /// Which prefix the component is, where it is one.
+    /// Returns which prefix the component is, or `None` if it is none.
     pub fn prefix_kind(self) -> Option<Utf8WindowsPrefix<'a>>
         ensures { option_map text_prefix result ≡ prefix_in (text_windows_part self.entry).kind }
     {
@@ -470,7 +476,7 @@ impl<'a> FromPiece<'a, Utf8WindowsEncoding> for Utf8WindowsComponent<'a> {
 ///
 /// # Errors
 ///
-/// Those of a `WindowsComponent`.
+/// Those of reading a [`WindowsComponent`].
 impl<'a> TryFrom<&'a str> for Utf8WindowsComponent<'a> {
     type Error = ParseError;
 
@@ -484,7 +490,7 @@ impl<'a> TryFrom<&'a str> for Utf8WindowsComponent<'a> {
     }
 }
 
-/// The components of a Windows path of text that are left to be read.
+/// The iterator over the components of a Windows path of text, from either end.
 pub type Utf8WindowsComponents<'a> = Utf8Reading<'a, Utf8WindowsEncoding, Utf8WindowsComponent<'a>>;
 
 impl<'a> Utf8Reading<'a, Utf8WindowsEncoding, Utf8WindowsComponent<'a>> {
@@ -495,86 +501,87 @@ impl<'a> Utf8Reading<'a, Utf8WindowsEncoding, Utf8WindowsComponent<'a>> {
         Utf8Path::new(self.as_str())
     }
 
-    /// The prefix with its text, where it is the first component that is left.
+    /// Returns the prefix with its text, or `None` if the first component left is none.
     pub fn prefix(self) -> Option<Utf8WindowsPrefixComponent<'a>>
         ensures { option_map text_prefix_part result ≡ prefix_among (reading_parts self.entry) }
     {
         Utf8WindowsPrefixComponent::of_option(self.bytes().prefix())
     }
 
-    /// Which prefix is the first component that is left, where one is.
+    /// Returns which prefix the first component left is, or `None` if it is none.
     pub fn prefix_kind(self) -> Option<Utf8WindowsPrefix<'a>>
         ensures { option_map text_prefix result ≡ first_prefix (kinds (reading_parts self.entry)) }
     {
         Some(self.prefix()?.kind())
     }
 
-    /// Whether a prefix is the first component that is left.
+    /// Whether the first component left is a prefix.
     pub fn has_prefix(self) -> bool
         ensures { result ≡ has_prefix (kinds (reading_parts self.entry)) }
     {
         self.bytes().has_prefix()
     }
 
-    /// Whether a prefix of one of the three verbatim kinds is first: `\\?\name`,
-    /// `\\?\UNC\server\share` or `\\?\C:`. One is in `//?/C:/a`, and none in `C:\a`.
+    /// Whether the first component left is a verbatim prefix: `\\?\name`, `\\?\UNC\server\share` or
+    /// `\\?\C:`. That of `//?/C:/a` is one, and that of `C:\a` is not.
     pub fn has_any_verbatim_prefix(self) -> bool
         ensures { result ≡ has_any_verbatim_prefix (kinds (reading_parts self.entry)) }
     {
         self.bytes().has_any_verbatim_prefix()
     }
 
-    /// Whether the prefix `\\?\name` is first.
+    /// Whether the first component left is a prefix `\\?\name`.
     pub fn has_verbatim_prefix(self) -> bool
         ensures { result ≡ has_verbatim_prefix (kinds (reading_parts self.entry)) }
     {
         self.bytes().has_verbatim_prefix()
     }
 
-    /// Whether the prefix `\\?\UNC\server\share` is first.
+    /// Whether the first component left is a prefix `\\?\UNC\server\share`.
     pub fn has_verbatim_unc_prefix(self) -> bool
         ensures { result ≡ has_verbatim_unc_prefix (kinds (reading_parts self.entry)) }
     {
         self.bytes().has_verbatim_unc_prefix()
     }
 
-    /// Whether the prefix `\\?\C:` is first.
+    /// Whether the first component left is a prefix `\\?\C:`.
     pub fn has_verbatim_disk_prefix(self) -> bool
         ensures { result ≡ has_verbatim_disk_prefix (kinds (reading_parts self.entry)) }
     {
         self.bytes().has_verbatim_disk_prefix()
     }
 
-    /// Whether the prefix `\\.\name` is first.
+    /// Whether the first component left is a prefix `\\.\name`.
     pub fn has_device_ns_prefix(self) -> bool
         ensures { result ≡ has_device_ns_prefix (kinds (reading_parts self.entry)) }
     {
         self.bytes().has_device_ns_prefix()
     }
 
-    /// Whether the prefix `\\server\share` is first.
+    /// Whether the first component left is a prefix `\\server\share`.
     pub fn has_unc_prefix(self) -> bool
         ensures { result ≡ has_unc_prefix (kinds (reading_parts self.entry)) }
     {
         self.bytes().has_unc_prefix()
     }
 
-    /// Whether the prefix `C:` is first.
+    /// Whether the first component left is a prefix `C:`.
     pub fn has_disk_prefix(self) -> bool
         ensures { result ≡ has_disk_prefix (kinds (reading_parts self.entry)) }
     {
         self.bytes().has_disk_prefix()
     }
 
-    /// Whether a root is written: it is the first component that is left, or right behind the
-    /// prefix, as in `C:\a`. None is in `C:a` and `\\s\h`.
+    /// Whether a root is written: it is the first component left, or comes right after the prefix,
+    /// as in `C:\a`. `C:a` and `\\s\h` have none.
     pub fn has_physical_root(self) -> bool
         ensures { result ≡ has_physical_root (kinds (reading_parts self.entry)) }
     {
         self.bytes().has_physical_root()
     }
 
-    /// Whether a prefix other than `C:` is first, which implies a root, as in `\\s\h`.
+    /// Whether the first component left is a prefix other than `C:`, which implies a root, as in
+    /// `\\s\h`.
     pub fn has_implicit_root(self) -> bool
         ensures { result ≡ has_implicit_root (kinds (reading_parts self.entry)) }
     {
