@@ -1,4 +1,4 @@
-//! Paths whose dialect is chosen when the program runs.
+//! Paths whose dialect is chosen at run time.
 
 mod numbers;
 mod path;

@@ -1,5 +1,6 @@
-//! What callers across a boundary are told in numbers: the steps of a reading that they keep as three, where a path
-//! goes that is pushed, and where the names of a prefix stand. No call needs memory.
+//! What callers across a boundary get of a path in numbers: the steps of a reading that they keep
+//! as three numbers, where a pushed path goes, and where the names of a prefix stand. No call
+//! allocates.
 
 ghost use Rattle.std.specs.Prelude.{◌≡◌, ◌≤◌, length, drop, option_map, is_ok, is_some, not, IfSome, IfOk, OnOk, OnErr, IsSome, IsNone, MatchOption};
 ghost use Rattle.typed_path.specs.changes.{IsNoneOrSeparator, merges, put_in_place};
@@ -22,7 +23,7 @@ use crate::unix;
 use crate::windows::{self, PrefixNames};
 
 impl<'a> TypedPath<'a> {
-    /// The numbers of a reading of which nothing was taken.
+    /// Returns the numbers of a reading of this path from which nothing was taken.
     pub fn unread(self) -> Unread
         ensures items { IsReading (typed_dialect self.entry) (typed_bytes self.entry) result
             (comps (typed_dialect self.entry) (typed_bytes self.entry)) }
@@ -35,12 +36,13 @@ impl<'a> TypedPath<'a> {
         }
     }
 
-    /// Takes the first component that is left of a reading of this path.
+    /// Takes the first component that is left of the reading of this path at `unread`, and moves
+    /// `unread` past it; `Ok(None)` if none is left.
     ///
     /// # Errors
     ///
-    /// `ReadingError` exactly where no reading of the path may stand at these numbers, as it may be if they were
-    /// told of another path.
+    /// `ReadingError` exactly if no reading of this path may stand at these numbers, as may be if
+    /// they are those of another path. Then they are unchanged.
     #[inline(always)]
     pub fn step_front(self, unread: &mut Unread) -> Result<Option<PlacedPiece<'a>>, ReadingError>
         ensures told { is_ok result
@@ -66,7 +68,8 @@ impl<'a> TypedPath<'a> {
         Ok(taken)
     }
 
-    /// Takes the last component that is left of a reading of this path.
+    /// Takes the last component that is left of the reading of this path at `unread`, and moves
+    /// `unread` before it; `Ok(None)` if none is left.
     ///
     /// # Errors
     ///
@@ -96,10 +99,11 @@ impl<'a> TypedPath<'a> {
         Ok(taken)
     }
 
-    /// Where another path of its kind goes that is pushed onto this one: how many bytes of this one are kept, and
-    /// what stands between. None where a push merges it into a base of a verbatim kind.
+    /// Returns where `other`, read in the same dialect, goes if it is pushed onto this path: how
+    /// many bytes of this one are kept, and what stands between. `None` if the push merges it into
+    /// a base with a verbatim prefix.
     ///
-    /// Of `a` and `b` on Unix all of `a` is kept, with `/` behind it.
+    /// Of `a` and `b` on Unix all of `a` is kept, with `/` after it.
     #[inline]
     pub fn push_place(self, other: &[u8]) -> Option<PushPlace>
         ensures place { IfSome result (λ place.
@@ -117,7 +121,7 @@ impl<'a> TypedPath<'a> {
         }
     }
 
-    /// Where the names of the prefix stand; none where there is no prefix, as on Unix.
+    /// Returns where the names of the prefix begin and end, `None` without a prefix, as on Unix.
     pub fn prefix_names(self) -> Option<PrefixNames>
         ensures { MatchOption (prefix_of (typed_dialect self.entry) (typed_bytes self.entry))
             (IsNone result) (λ f. IsSome result × IfSome result (λ names.
@@ -131,7 +135,8 @@ impl<'a> TypedPath<'a> {
     }
 }
 
-/// The reading of a path that stands at these numbers; none where none may stand there.
+/// Returns the cursor over what a reading at these numbers has left, `None` if no reading of the
+/// path may stand there.
 #[inline(always)]
 fn taken_up<'a>(path: TypedPath<'a>, unread: Unread) -> Option<Cursor<'a>>
     ensures told { is_some result
@@ -153,7 +158,8 @@ fn taken_up<'a>(path: TypedPath<'a>, unread: Unread) -> Option<Cursor<'a>>
     }
 }
 
-/// The prefix of a path of Windows, where a stage says that nothing was taken from the front.
+/// Returns the prefix of a Windows path if the stage is 0, in which nothing was taken from the
+/// front; `None` if it has none, or in a later stage.
 #[inline(always)]
 fn untaken_prefix(path: &[u8], stage: u32) -> Option<Found<'_>>
     ensures { stage ≡ 0 → option_map found_of result ≡ prefix_of windows path.now }

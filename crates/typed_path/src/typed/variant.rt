@@ -1,5 +1,5 @@
-//! A value of Unix or one of Windows, the bodies that answer by the value that is held, and the dialect
-//! that a path looks like.
+//! Values of Unix or of Windows, the macros that forward a call to the value that is held, and the
+//! dialect that a path looks like.
 
 ghost use Rattle.std.specs.Prelude.{◌≡◌, refl};
 ghost use Rattle.typed_path.specs.components.{unix, windows};
@@ -11,10 +11,11 @@ use crate::scan::find_prefix;
 use std::fmt;
 use std::hash::Hasher;
 
-/// A value of Unix or one of Windows, as it was chosen when the program ran.
+/// A value of Unix or one of Windows, as it is chosen at run time.
 ///
-/// Values of two kinds are never equal, and one of Unix is less than one of Windows. Values of one kind
-/// compare, and feed a hasher, as those that they hold.
+/// Values of two dialects are never equal, and one of Unix is less than one of Windows. Values of
+/// one dialect compare as those that they hold. A value feeds a hasher its dialect, and then what
+/// the one that it holds feeds.
 #[derive(Clone, Copy, Debug, PartialEq, Eq, PartialOrd, Ord, Hash, Drop)]
 pub enum Typed<U, W> {
     /// Of Unix.
@@ -23,7 +24,7 @@ pub enum Typed<U, W> {
     Windows(W),
 }
 
-/// What the held value answers.
+/// Evaluates `answer`, with the value that is held as `held`.
 macro_rules! each {
     ($typed:expr, $held:ident => $answer:expr) => {
         match $typed {
@@ -33,7 +34,7 @@ macro_rules! each {
     };
 }
 
-/// What the held value answers, of the same kind.
+/// Evaluates `answer`, with the value that is held as `held`, and wraps it in the same dialect.
 macro_rules! typed {
     ($typed:expr, $held:ident => $answer:expr) => {
         match $typed {
@@ -43,7 +44,7 @@ macro_rules! typed {
     };
 }
 
-/// The same where there may be no answer.
+/// Does what `typed` does, for an answer that is an `Option`.
 macro_rules! typed_option {
     ($typed:expr, $held:ident => $answer:expr) => {
         match $typed {
@@ -59,7 +60,7 @@ macro_rules! typed_option {
     };
 }
 
-/// The same where the answer may be refused.
+/// Does what `typed` does, for an answer that is a `Result`.
 macro_rules! typed_result {
     ($typed:expr, $held:ident => $answer:expr) => {
         match $typed {
@@ -75,7 +76,7 @@ macro_rules! typed_result {
     };
 }
 
-/// The same where there may be no answer, or it may be refused.
+/// Does what `typed` does, for an answer that is an `Option` in a `Result`.
 macro_rules! typed_option_result {
     ($typed:expr, $held:ident => $answer:expr) => {
         match $typed {
@@ -93,7 +94,7 @@ macro_rules! typed_option_result {
     };
 }
 
-/// A value of the kind that is named.
+/// Wraps a value in the dialect `kind`.
 macro_rules! made_as {
     ($kind:expr, $made:expr) => {
         match $kind {
@@ -135,7 +136,7 @@ impl<U: fmt::Display, V: fmt::Display> fmt::Display for Typed<U, V> {
     }
 }
 
-/// The kind of a path: as on Unix, or as on Windows.
+/// A dialect of paths: that of Unix, or that of Windows.
 #[derive(Clone, Copy, Debug, PartialEq, Eq, PartialOrd, Ord, Hash)]
 pub enum PathType {
     /// Written as on Unix.
@@ -145,10 +146,10 @@ pub enum PathType {
 }
 
 impl PathType {
-    /// The kind that a text looks like: Windows where it begins with `\` or with a prefix of Windows,
-    /// and else Unix.
+    /// Returns the dialect that a path looks like: Windows if it begins with `\` or with a prefix
+    /// of Windows, else Unix.
     ///
-    /// `\`, `//a/b` and `a:b` are of Windows, the empty text and `///a` of Unix.
+    /// `\`, `//a/b` and `a:b` look like Windows, the empty path and `///a` like Unix.
     pub fn derive(text: &[u8]) -> PathType
         ensures { kind_dialect result ≡ derived_dialect text.now }
     {
