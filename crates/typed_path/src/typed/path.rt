@@ -1,4 +1,4 @@
-//! A lent path whose dialect is chosen when the program runs.
+//! Borrowed paths whose dialect is chosen at run time.
 
 ghost use Rattle.std.specs.Prelude.{◌≡◌, [], IfOk, IsOk, Ok, not, IfSome, option_map, option_copied};
 ghost use Rattle.typed_path.specs.typed.{kind_dialect, derived_dialect, typed_dialect};
@@ -36,17 +36,17 @@ use std::cmp::Ordering;
 /// A path of Unix or of Windows: a slice of bytes, with the dialect by which it is read.
 pub type TypedPath<'a> = Typed<UnixPath<'a>, WindowsPath<'a>>;
 
-/// The texts of the components that are left to be read.
+/// The iterator over the texts of the components of a path, from either end.
 pub type TypedIter<'a> = Typed<Iter<'a, UnixEncoding>, Iter<'a, WindowsEncoding>>;
 
-/// A path, and then each parent of the one before.
+/// The iterator over a path, and then each parent of the one before.
 pub type TypedAncestors<'a> = Typed<Ancestors<'a, UnixEncoding>, Ancestors<'a, WindowsEncoding>>;
 
-/// A path that is to be printed: its text, with U+FFFD where the bytes are none.
+/// A path to be printed: as text, with U+FFFD for what is not UTF-8.
 pub type TypedDisplay<'a> = Typed<Display<'a, UnixEncoding>, Display<'a, WindowsEncoding>>;
 
 impl<'a> TypedPath<'a> {
-    /// The path of these bytes, of a kind.
+    /// The path of these bytes, in the dialect `kind`.
     #[inline(always)]
     pub fn new(bytes: &'a [u8], kind: PathType) -> TypedPath<'a>
         ensures dialect { typed_dialect result ≡ kind_dialect kind }
@@ -55,7 +55,7 @@ impl<'a> TypedPath<'a> {
         made_as!(kind, Path::new(bytes))
     }
 
-    /// The path of these bytes, as on Unix.
+    /// The Unix path of these bytes.
     #[inline(always)]
     pub fn unix(bytes: &'a [u8]) -> TypedPath<'a>
         ensures dialect { typed_dialect result ≡ unix }
@@ -64,7 +64,7 @@ impl<'a> TypedPath<'a> {
         Typed::Unix(Path::new(bytes))
     }
 
-    /// The path of these bytes, as on Windows.
+    /// The Windows path of these bytes.
     #[inline(always)]
     pub fn windows(bytes: &'a [u8]) -> TypedPath<'a>
         ensures dialect { typed_dialect result ≡ windows }
@@ -73,7 +73,7 @@ impl<'a> TypedPath<'a> {
         Typed::Windows(Path::new(bytes))
     }
 
-    /// The path of these bytes, of the kind that [`PathType::derive`] says they look like.
+    /// The path of these bytes, in the dialect that [`PathType::derive`] says they look like.
     #[inline]
     pub fn derive(bytes: &'a [u8]) -> TypedPath<'a>
         ensures dialect { typed_dialect result ≡ derived_dialect bytes.now }
@@ -90,15 +90,15 @@ impl<'a> TypedPath<'a> {
         each!(self, path => path.as_bytes())
     }
 
-    /// The path as a text, where its bytes are UTF-8.
+    /// Returns the path as text if it is UTF-8, else `None`.
     pub fn to_str(self) -> Option<&'a str>
         ensures { option_copied result ≡ text_of_bytes (typed_bytes self.entry) }
     {
         each!(self, path => path.to_str())
     }
 
-    /// The path as a text, with U+FFFD where its bytes are none. Where they are UTF-8, the text is
-    /// lent and no memory is asked for.
+    /// Returns the path as text, with U+FFFD for what is not UTF-8. If all of it is UTF-8, the text
+    /// is borrowed and nothing is allocated.
     pub fn to_string_lossy(self, alloc: Global) -> Result<CowStr<'a>, AllocError>
         ensures text { IfOk result
             (λ text. cow_str_bytes text ≡ utf8_lossy (typed_bytes self.entry)) }
@@ -108,7 +108,7 @@ impl<'a> TypedPath<'a> {
         each!(self, path => path.to_string_lossy(alloc))
     }
 
-    /// The path, to be printed.
+    /// Returns the path as a value that prints it.
     pub fn display(self) -> TypedDisplay<'a>
         ensures dialect { typed_dialect result ≡ typed_dialect self.entry }
         ensures bytes { typed_displayed result ≡ typed_bytes self.entry }
@@ -154,19 +154,20 @@ impl<'a> TypedPath<'a> {
         each!(self, path => path.is_portable())
     }
 
-    /// Asks whether every system takes each component of the path as it is written, as [`Path::check_portable`]
-    /// has it.
+    /// Checks that every system takes each component of the path as it is written, as
+    /// [`Path::check_portable`] does.
     ///
     /// # Errors
     ///
-    /// What the first component that offends does.
+    /// The refusal of the first component that offends.
     pub fn check_portable(self) -> Result<(), PortableError>
         ensures { error_of result ≡ portable_fault (typed_dialect self.entry) (typed_bytes self.entry) }
     {
         each!(self, path => path.check_portable())
     }
 
-    /// The first component for which [`TypedPath::check_portable`] refuses the path, as it is written, and why.
+    /// Returns the first component for which [`TypedPath::check_portable`] refuses the path, as it
+    /// is written, and the refusal; `None` if the path is portable.
     pub fn unportable(self) -> Option<(&'a [u8], PortableError)>
         ensures { option_map offence_of result
             ≡ unportable (typed_dialect self.entry) (typed_bytes self.entry) }
@@ -174,15 +175,16 @@ impl<'a> TypedPath<'a> {
         each!(self, path => path.unportable())
     }
 
-    /// True only if every path that a checked join makes of this one has its prefix, or none if it has none.
+    /// Whether each checked join onto this path is known to have its prefix, or none if it has
+    /// none. `false` leaves it open.
     pub fn keeps_prefix(self) -> bool
         ensures { result ≡ keeps_prefix (typed_dialect self.entry) (typed_bytes self.entry) }
     {
         each!(self, path => path.keeps_prefix())
     }
 
-    /// The path of a verbatim drive of Windows without its `\\?\`, where that means the same to Windows;
-    /// else the path itself, as each one of Unix.
+    /// Returns a path of a verbatim drive of Windows without its `\\?\`, if that means the same to
+    /// Windows; else, as of every Unix path, the path itself.
     pub fn simplified(self) -> TypedPath<'a>
         ensures dialect { typed_dialect result ≡ typed_dialect self.entry }
         ensures bytes { typed_bytes result
@@ -194,8 +196,8 @@ impl<'a> TypedPath<'a> {
         }
     }
 
-    /// The path without its last component, or none where there is no component or nothing is above
-    /// the last one.
+    /// Returns the path without its last component. `None` if it has no component, or if nothing is
+    /// above the last one: a root or, on Windows, a prefix other than a drive.
     pub fn parent(self) -> Option<TypedPath<'a>>
         ensures dialect { IfSome result (λ p. typed_dialect p ≡ typed_dialect self.entry) }
         ensures bytes { option_map typed_bytes result
@@ -204,7 +206,7 @@ impl<'a> TypedPath<'a> {
         typed_option!(self, path => path.parent())
     }
 
-    /// The path, and then each parent of the one before.
+    /// Returns an iterator over the path, and then each parent of the one before.
     #[inline(always)]
     pub fn ancestors(self) -> TypedAncestors<'a>
         ensures dialect { typed_dialect result ≡ typed_dialect self.entry }
@@ -214,7 +216,7 @@ impl<'a> TypedPath<'a> {
         typed!(self, path => path.ancestors())
     }
 
-    /// The last component, where it is a name.
+    /// Returns the last component if it is a name, else `None`.
     pub fn file_name(self) -> Option<&'a [u8]>
         ensures { option_copied result
             ≡ file_name_of (typed_dialect self.entry) (typed_bytes self.entry) }
@@ -222,7 +224,8 @@ impl<'a> TypedPath<'a> {
         each!(self, path => path.file_name())
     }
 
-    /// The file name up to its last dot, or the whole of it where no dot but a first one is there.
+    /// Returns the file name up to its last dot, or the whole file name if it has no dot but one at
+    /// its start. `None` if the path has no file name.
     pub fn file_stem(self) -> Option<&'a [u8]>
         ensures { option_copied result
             ≡ file_stem_of (typed_dialect self.entry) (typed_bytes self.entry) }
@@ -230,7 +233,8 @@ impl<'a> TypedPath<'a> {
         each!(self, path => path.file_stem())
     }
 
-    /// What stands in the file name behind its last dot, where that is not its first byte.
+    /// Returns what follows the last dot of the file name. `None` if the path has no file name, or
+    /// that has no dot but one at its start.
     pub fn extension(self) -> Option<&'a [u8]>
         ensures { option_copied result
             ≡ extension (typed_dialect self.entry) (typed_bytes self.entry) }
@@ -238,7 +242,8 @@ impl<'a> TypedPath<'a> {
         each!(self, path => path.extension())
     }
 
-    /// The file name up to its first dot that is not its first byte.
+    /// Returns the file name up to its first dot that is not at its start, or the whole file name
+    /// if it has none. `None` if the path has no file name.
     pub fn file_prefix(self) -> Option<&'a [u8]>
         ensures { option_copied result
             ≡ file_prefix_of (typed_dialect self.entry) (typed_bytes self.entry) }
@@ -253,12 +258,12 @@ impl<'a> TypedPath<'a> {
         each!(self, path => path.has_trailing_separator())
     }
 
-    /// What is left of the path behind a base of its kind.
+    /// Returns what is left of the path after `base`, read in the same dialect.
     ///
     /// # Errors
     ///
-    /// `StripPrefixError` exactly where the path does not begin with the base's components, compared
-    /// as they are written.
+    /// `StripPrefixError` exactly if the path does not begin with the components of `base`,
+    /// compared as they are written.
     pub fn strip_prefix(self, base: &[u8]) -> Result<TypedPath<'a>, StripPrefixError>
         ensures dialect { IfOk result (λ p. typed_dialect p ≡ typed_dialect self.entry) }
         ensures bytes { stripped_to typed_bytes result
@@ -267,7 +272,8 @@ impl<'a> TypedPath<'a> {
         typed_result!(self, path => path.strip_prefix(Path::new(base)))
     }
 
-    /// Whether the path begins with the components of another of its kind, as they are written.
+    /// Whether the path begins with the components of `base`, read in the same dialect and compared
+    /// as they are written.
     pub fn starts_with(self, base: &[u8]) -> bool
         ensures { result
             ≡ path_starts_with (typed_dialect self.entry) (typed_bytes self.entry) base.now }
@@ -275,7 +281,8 @@ impl<'a> TypedPath<'a> {
         each!(self, path => path.starts_with(Path::new(base)))
     }
 
-    /// Whether the path begins with the components of another of its kind in lower case, as they are written.
+    /// Whether the path begins with the components of `base` in lower case, read in the same
+    /// dialect and compared as they are written.
     pub fn starts_with_ignore_ascii_case(self, base: &[u8]) -> bool
         ensures { result ≡ path_starts_with (typed_dialect self.entry)
             (lowered (typed_dialect self.entry) (typed_bytes self.entry))
@@ -284,7 +291,7 @@ impl<'a> TypedPath<'a> {
         each!(self, path => path.starts_with_ignore_ascii_case(Path::new(base)))
     }
 
-    /// Whether the path is of the kind of another, and has the same components in lower case.
+    /// Whether the path is of the dialect of `other`, and has the same components in lower case.
     pub fn eq_ignore_ascii_case(self, other: TypedPath<'_>) -> bool
         ensures { result ≡ lowered_typed_eq (typed_dialect self.entry) (typed_bytes self.entry)
             (typed_dialect other.entry) (typed_bytes other.entry) }
@@ -292,8 +299,8 @@ impl<'a> TypedPath<'a> {
         self.cmp_ignore_ascii_case(other).is_eq()
     }
 
-    /// The order of the path and another: of one kind, by their components in lower case; else a path of Unix is
-    /// less than one of Windows.
+    /// Returns the order of the path and `other`: of one dialect, by their components in lower
+    /// case; else a Unix path is less than a Windows path.
     pub fn cmp_ignore_ascii_case(self, other: TypedPath<'_>) -> Ordering
         ensures { result ≡ lowered_typed_cmp (typed_dialect self.entry) (typed_bytes self.entry)
             (typed_dialect other.entry) (typed_bytes other.entry) }
@@ -306,8 +313,9 @@ impl<'a> TypedPath<'a> {
         }
     }
 
-    /// The front of the path up to where the components end with which another of its kind begins too,
-    /// as they are written; none where the two begin with none alike.
+    /// Returns the longest front of the path whose components, compared as they are written,
+    /// `other` begins with too; `None` if the two share no component. `other` is read in the same
+    /// dialect.
     pub fn common_ancestor(self, other: &[u8]) -> Option<TypedPath<'a>>
         ensures dialect { IfSome result (λ p. typed_dialect p ≡ typed_dialect self.entry) }
         ensures bytes { option_map typed_bytes result
@@ -316,15 +324,16 @@ impl<'a> TypedPath<'a> {
         typed_option!(self, path => path.common_ancestor(Path::new(other)))
     }
 
-    /// Whether the path lies at a base of its kind or below it, from whatever directory both are read.
+    /// Whether the path lies at `base` or below it, from whatever directory both are read. `base`
+    /// is read in the same dialect.
     pub fn is_within(self, base: &[u8]) -> bool
         ensures { result ≡ is_within (typed_dialect self.entry) (typed_bytes self.entry) base.now }
     {
         each!(self, path => path.is_within(Path::new(base)))
     }
 
-    /// The path that leads from a base of its kind to this one, where there is one, as
-    /// [`Path::relative_to`] has it.
+    /// Returns the path that leads from `base` to this one, `None` if there is none, as
+    /// [`Path::relative_to`] does. `base` is read in the same dialect.
     pub fn relative_to(self, alloc: Global, base: &[u8]) -> Result<Option<TypedPathBuf>, AllocError>
         ensures dialect { IfOk result (λ found. IfSome found
             (λ p. typed_dialect p ≡ typed_dialect self.entry)) }
@@ -334,7 +343,8 @@ impl<'a> TypedPath<'a> {
         typed_option_result!(self, path => path.relative_to(alloc, Path::new(base)))
     }
 
-    /// Whether the path ends with the components of another of its kind, as they are written.
+    /// Whether the path ends with the components of `end`, read in the same dialect and compared as
+    /// they are written.
     pub fn ends_with(self, end: &[u8]) -> bool
         ensures { result
             ≡ path_ends_with (typed_dialect self.entry) (typed_bytes self.entry) end.now }
@@ -342,7 +352,7 @@ impl<'a> TypedPath<'a> {
         each!(self, path => path.ends_with(Path::new(end)))
     }
 
-    /// The components of the path, from either end.
+    /// Returns an iterator over the components of the path, from either end.
     #[inline(always)]
     pub fn components(self) -> TypedComponents<'a>
         ensures dialect { reading_dialect result ≡ typed_dialect self.entry }
@@ -353,7 +363,7 @@ impl<'a> TypedPath<'a> {
         TypedComponents::new(self)
     }
 
-    /// The texts of the components, from either end.
+    /// Returns an iterator over the texts of the components, from either end.
     #[inline(always)]
     pub fn iter(self) -> TypedIter<'a>
         ensures dialect { typed_dialect result ≡ typed_dialect self.entry }
@@ -373,8 +383,8 @@ impl<'a> TypedPath<'a> {
         typed_result!(self, path => path.to_path_buf(alloc))
     }
 
-    /// The path with another of its kind pushed onto it: an absolute one stands in its place, and with
-    /// an empty one it is a copy.
+    /// Returns this path with `path`, read in the same dialect, pushed onto it: an absolute one
+    /// replaces it, an empty one makes a copy.
     pub fn join(self, alloc: Global, path: &[u8]) -> Result<TypedPathBuf, AllocError>
         ensures dialect { IfOk result (λ p. typed_dialect p ≡ typed_dialect self.entry) }
         ensures joined { IfOk result (λ p. owned_bytes p
@@ -383,10 +393,11 @@ impl<'a> TypedPath<'a> {
         typed_result!(self, base => base.join(alloc, Path::new(path)))
     }
 
-    /// The path with another of its kind pushed onto it, unless that has a component that offends.
+    /// Returns this path with `path`, read in the same dialect, pushed onto it, unless a component
+    /// of `path` offends.
     ///
-    /// The answer lies within this path, where it has the prefix of this one. A path with a fault
-    /// is refused for that, however little memory there is.
+    /// The result lies within this path if it has the prefix of this one. A `path` that offends is
+    /// refused for that, however little memory there is.
     ///
     /// # Errors
     ///
@@ -399,7 +410,8 @@ impl<'a> TypedPath<'a> {
         typed_result!(self, base => base.join_checked(alloc, Path::new(path)))
     }
 
-    /// The path with a portable one of its kind pushed onto it, unless that has a component that offends.
+    /// Returns this path with `path`, read in the same dialect, pushed onto it, unless `path` is
+    /// not portable or a component of it offends.
     ///
     /// # Errors
     ///
@@ -412,7 +424,8 @@ impl<'a> TypedPath<'a> {
         typed_result!(self, base => base.join_portable(alloc, Path::new(path)))
     }
 
-    /// A copy with another file name, or with the name pushed where there is none.
+    /// Returns a copy with another file name. If the path has no file name, the name is pushed onto
+    /// it.
     pub fn with_file_name(self, alloc: Global, name: &[u8]) -> Result<TypedPathBuf, AllocError>
         ensures dialect { IfOk result (λ p. typed_dialect p ≡ typed_dialect self.entry) }
         ensures bytes { IfOk result (λ p. owned_bytes p
@@ -421,8 +434,8 @@ impl<'a> TypedPath<'a> {
         typed_result!(self, path => path.with_file_name(alloc, name))
     }
 
-    /// A copy whose file name has another extension, or none where the new one is empty. Without a
-    /// file name it is a mere copy.
+    /// Returns a copy whose file name has another extension, or none if `extension` is empty.
+    /// Without a file name it is an unchanged copy.
     pub fn with_extension(self, alloc: Global, extension: &[u8]) -> Result<TypedPathBuf, AllocError>
         ensures dialect { IfOk result (λ p. typed_dialect p ≡ typed_dialect self.entry) }
         ensures bytes { IfOk result (λ p. owned_bytes p
@@ -431,8 +444,8 @@ impl<'a> TypedPath<'a> {
         typed_result!(self, path => path.with_extension(alloc, extension))
     }
 
-    /// A copy with one extension more behind its file name. Without a file name, or with an empty
-    /// extension, it is a mere copy.
+    /// Returns a copy with `extension` appended to its file name, after a dot. Without a file name,
+    /// or with an empty extension, it is an unchanged copy.
     pub fn with_added_extension(
         self,
         alloc: Global,
@@ -445,8 +458,8 @@ impl<'a> TypedPath<'a> {
         typed_result!(self, path => path.with_added_extension(alloc, extension))
     }
 
-    /// The path without `.`, and without `..` and the names that these take away, in the form of
-    /// [`Path::normalize`].
+    /// Returns the path without `.`, and without `..` and the names that these cancel, in the form
+    /// of [`Path::normalize`].
     pub fn normalize(self, alloc: Global) -> Result<TypedPathBuf, AllocError>
         ensures dialect { IfOk result (λ p. typed_dialect p ≡ typed_dialect self.entry) }
         ensures normal { Normalizes (typed_dialect self.entry) owned_bytes (typed_bytes self.entry)
@@ -455,8 +468,8 @@ impl<'a> TypedPath<'a> {
         typed_result!(self, path => path.normalize(alloc))
     }
 
-    /// The path without `.`, doubled separators, and the names that a `..` takes away, as [`Path::clean`]
-    /// writes it.
+    /// Returns the path without `.`, doubled separators, and the names that a `..` cancels, as
+    /// [`Path::clean`] does.
     pub fn clean(self, alloc: Global) -> Result<TypedPathBuf, AllocError>
         ensures dialect { IfOk result (λ p. typed_dialect p ≡ typed_dialect self.entry) }
         ensures bytes { IfOk result (λ p. owned_bytes p
@@ -465,7 +478,7 @@ impl<'a> TypedPath<'a> {
         typed_result!(self, path => path.clean(alloc))
     }
 
-    /// The path in lower case, as [`Path::to_ascii_lowercase`] writes it.
+    /// Returns the path in lower case, as [`Path::to_ascii_lowercase`] does.
     pub fn to_ascii_lowercase(self, alloc: Global) -> Result<TypedPathBuf, AllocError>
         ensures dialect { IfOk result (λ p. typed_dialect p ≡ typed_dialect self.entry) }
         ensures bytes { IfOk result (λ p. owned_bytes p
@@ -474,13 +487,13 @@ impl<'a> TypedPath<'a> {
         typed_result!(self, path => path.to_ascii_lowercase(alloc))
     }
 
-    /// The normal text of the path where it is absolute, and else of the directory in this path's
-    /// dialect with the path pushed onto it.
+    /// Returns the normal path of this path if it is absolute, else that of `directory`, written in
+    /// this path's dialect, with this path pushed onto it.
     ///
     /// # Errors
     ///
-    /// `Ambiguous` where the path is absolute neither alone nor behind the directory, as every Windows
-    /// path without a prefix is behind `/home/u`. `OutOfMemory` where memory is refused.
+    /// `Ambiguous` if the path is absolute neither alone nor after the directory, as every Windows
+    /// path without a prefix is after `/home/u`. `OutOfMemory` if allocation fails.
     pub fn absolutize(
         self,
         alloc: Global,
@@ -493,8 +506,8 @@ impl<'a> TypedPath<'a> {
         typed_result!(self, path => path.absolutize(alloc, directory))
     }
 
-    /// The path as on Unix: that of Unix is copied, and that of Windows written as
-    /// [`Path::with_encoding`] does.
+    /// Returns the path as on Unix: a copy if it is a Unix path, else as [`Path::with_encoding`]
+    /// does.
     pub fn with_unix_encoding(self, alloc: Global) -> Result<TypedPathBuf, AllocError>
         ensures dialect { IfOk result (λ p. typed_dialect p ≡ unix) }
         ensures bytes { IfOk result (λ p. owned_bytes p
@@ -503,7 +516,8 @@ impl<'a> TypedPath<'a> {
         Ok(Typed::Unix(each!(self, path => path.with_unix_encoding(alloc))?))
     }
 
-    /// The path as on Unix, refused as [`Path::with_encoding_checked`] does, also where it is of Unix.
+    /// Returns the path as on Unix by checked pushes, also if it is a Unix path, as
+    /// [`Path::with_encoding_checked`] does.
     pub fn with_unix_encoding_checked(self, alloc: Global) -> Result<TypedPathBuf, PathError>
         ensures dialect { IfOk result (λ p. typed_dialect p ≡ unix) }
         ensures converted { ConvertsChecked (typed_dialect self.entry) unix owned_bytes
@@ -512,7 +526,7 @@ impl<'a> TypedPath<'a> {
         Ok(Typed::Unix(each!(self, path => path.with_unix_encoding_checked(alloc))?))
     }
 
-    /// The path as on Windows: that of Windows is copied, and that of Unix written as
+    /// Returns the path as on Windows: a copy if it is a Windows path, else as
     /// [`Path::with_encoding`] does.
     pub fn with_windows_encoding(self, alloc: Global) -> Result<TypedPathBuf, AllocError>
         ensures dialect { IfOk result (λ p. typed_dialect p ≡ windows) }
@@ -522,8 +536,8 @@ impl<'a> TypedPath<'a> {
         Ok(Typed::Windows(each!(self, path => path.with_windows_encoding(alloc))?))
     }
 
-    /// The path as on Windows, refused as [`Path::with_encoding_checked`] does, also where it is of
-    /// Windows.
+    /// Returns the path as on Windows by checked pushes, also if it is a Windows path, as
+    /// [`Path::with_encoding_checked`] does.
     pub fn with_windows_encoding_checked(self, alloc: Global) -> Result<TypedPathBuf, PathError>
         ensures dialect { IfOk result (λ p. typed_dialect p ≡ windows) }
         ensures converted { ConvertsChecked (typed_dialect self.entry) windows owned_bytes
@@ -533,7 +547,7 @@ impl<'a> TypedPath<'a> {
     }
 }
 
-/// The path of these bytes, of the kind that they look like.
+/// The path of these bytes, in the dialect that they look like.
 impl<'a> From<&'a [u8]> for TypedPath<'a> {
     ghost from_gives = { λ bytes path. (typed_dialect path ≡ derived_dialect bytes.now)
         × (typed_bytes path ≡ bytes.now) };
@@ -543,7 +557,7 @@ impl<'a> From<&'a [u8]> for TypedPath<'a> {
     }
 }
 
-/// The path of this text, of the kind that it looks like.
+/// The path of this text, in the dialect that it looks like.
 impl<'a> From<&'a str> for TypedPath<'a> {
     ghost from_gives = { λ text path. (typed_dialect path ≡ derived_dialect text.now)
         × (typed_bytes path ≡ text.now) };

@@ -1,4 +1,4 @@
-//! The same for paths of text.
+//! Paths of text whose dialect is chosen at run time.
 
 mod path;
 mod path_buf;

@@ -1,4 +1,4 @@
-//! A lent path of text whose dialect is chosen when the program runs.
+//! Borrowed paths of text whose dialect is chosen at run time.
 
 ghost use Rattle.std.specs.Prelude.{◌≡◌, [], IfOk, IsOk, Ok, not, bytes_eq, IfSome, option_map, option_copied};
 ghost use Rattle.typed_path.specs.typed.{kind_dialect, derived_dialect, typed_dialect};
@@ -33,20 +33,20 @@ use std::cmp::Ordering;
 /// A path of text of Unix or of Windows: a text, with the dialect by which it is read.
 pub type Utf8TypedPath<'a> = Typed<Utf8UnixPath<'a>, Utf8WindowsPath<'a>>;
 
-/// The texts of the components that are left to be read.
+/// The iterator over the texts of the components of a path, from either end.
 pub type Utf8TypedIter<'a> = Typed<
     Utf8Iter<'a, Utf8UnixEncoding>,
     Utf8Iter<'a, Utf8WindowsEncoding>,
 >;
 
-/// A path of text, and then each parent of the one before.
+/// The iterator over a path of text, and then each parent of the one before.
 pub type Utf8TypedAncestors<'a> = Typed<
     Utf8Ancestors<'a, Utf8UnixEncoding>,
     Utf8Ancestors<'a, Utf8WindowsEncoding>,
 >;
 
 impl<'a> Utf8TypedPath<'a> {
-    /// The path of this text, of a kind.
+    /// The path of this text, in the dialect `kind`.
     #[inline(always)]
     pub fn new(text: &'a str, kind: PathType) -> Utf8TypedPath<'a>
         ensures dialect { typed_dialect result ≡ kind_dialect kind }
@@ -55,7 +55,7 @@ impl<'a> Utf8TypedPath<'a> {
         made_as!(kind, Utf8Path::new(text))
     }
 
-    /// The path of this text, as on Unix.
+    /// The Unix path of this text.
     #[inline(always)]
     pub fn unix(text: &'a str) -> Utf8TypedPath<'a>
         ensures dialect { typed_dialect result ≡ unix }
@@ -64,7 +64,7 @@ impl<'a> Utf8TypedPath<'a> {
         Typed::Unix(Utf8Path::new(text))
     }
 
-    /// The path of this text, as on Windows.
+    /// The Windows path of this text.
     #[inline(always)]
     pub fn windows(text: &'a str) -> Utf8TypedPath<'a>
         ensures dialect { typed_dialect result ≡ windows }
@@ -73,7 +73,7 @@ impl<'a> Utf8TypedPath<'a> {
         Typed::Windows(Utf8Path::new(text))
     }
 
-    /// The path of this text, of the kind that [`PathType::derive`] says it looks like.
+    /// The path of this text, in the dialect that [`PathType::derive`] says it looks like.
     #[inline]
     pub fn derive(text: &'a str) -> Utf8TypedPath<'a>
         ensures dialect { typed_dialect result ≡ derived_dialect text.now }
@@ -128,19 +128,20 @@ impl<'a> Utf8TypedPath<'a> {
         each!(self, path => path.is_portable())
     }
 
-    /// Asks whether every system takes each component of the path as it is written, as [`Utf8Path::check_portable`]
-    /// has it.
+    /// Checks that every system takes each component of the path as it is written, as
+    /// [`Utf8Path::check_portable`] does.
     ///
     /// # Errors
     ///
-    /// What the first component that offends does.
+    /// The refusal of the first component that offends.
     pub fn check_portable(self) -> Result<(), PortableError>
         ensures { error_of result ≡ portable_fault (typed_dialect self.entry) (typed_text self.entry) }
     {
         each!(self, path => path.check_portable())
     }
 
-    /// The first component for which [`Utf8TypedPath::check_portable`] refuses the path, as it is written, and why.
+    /// Returns the first component for which [`Utf8TypedPath::check_portable`] refuses the path, as
+    /// it is written, and the refusal; `None` if the path is portable.
     pub fn unportable(self) -> Option<(&'a str, PortableError)>
         ensures { option_map offence_of result
             ≡ unportable (typed_dialect self.entry) (typed_text self.entry) }
@@ -148,15 +149,16 @@ impl<'a> Utf8TypedPath<'a> {
         each!(self, path => path.unportable())
     }
 
-    /// True only if every path that a checked join makes of this one has its prefix, or none if it has none.
+    /// Whether each checked join onto this path is known to have its prefix, or none if it has
+    /// none. `false` leaves it open.
     pub fn keeps_prefix(self) -> bool
         ensures { result ≡ keeps_prefix (typed_dialect self.entry) (typed_text self.entry) }
     {
         each!(self, path => path.keeps_prefix())
     }
 
-    /// The path of a verbatim drive of Windows without its `\\?\`, where that means the same to Windows;
-    /// else the path itself, as each one of Unix.
+    /// Returns a path of a verbatim drive of Windows without its `\\?\`, if that means the same to
+    /// Windows; else, as of every Unix path, the path itself.
     pub fn simplified(self) -> Utf8TypedPath<'a>
         ensures dialect { typed_dialect result ≡ typed_dialect self.entry }
         ensures bytes { typed_text result
@@ -168,8 +170,8 @@ impl<'a> Utf8TypedPath<'a> {
         }
     }
 
-    /// The path without its last component, or none where there is no component or nothing is above
-    /// the last one.
+    /// Returns the path without its last component. `None` if it has no component, or if nothing is
+    /// above the last one: a root or, on Windows, a prefix other than a drive.
     pub fn parent(self) -> Option<Utf8TypedPath<'a>>
         ensures dialect { IfSome result (λ p. typed_dialect p ≡ typed_dialect self.entry) }
         ensures bytes { option_map typed_text result
@@ -178,7 +180,7 @@ impl<'a> Utf8TypedPath<'a> {
         typed_option!(self, path => path.parent())
     }
 
-    /// The path, and then each parent of the one before.
+    /// Returns an iterator over the path, and then each parent of the one before.
     #[inline(always)]
     pub fn ancestors(self) -> Utf8TypedAncestors<'a>
         ensures dialect { typed_dialect result ≡ typed_dialect self.entry }
@@ -188,7 +190,7 @@ impl<'a> Utf8TypedPath<'a> {
         typed!(self, path => path.ancestors())
     }
 
-    /// The last component, where it is a name.
+    /// Returns the last component if it is a name, else `None`.
     pub fn file_name(self) -> Option<&'a str>
         ensures { option_copied result
             ≡ file_name_of (typed_dialect self.entry) (typed_text self.entry) }
@@ -196,7 +198,8 @@ impl<'a> Utf8TypedPath<'a> {
         each!(self, path => path.file_name())
     }
 
-    /// The file name up to its last dot, or the whole of it where no dot but a first one is there.
+    /// Returns the file name up to its last dot, or the whole file name if it has no dot but one at
+    /// its start. `None` if the path has no file name.
     pub fn file_stem(self) -> Option<&'a str>
         ensures { option_copied result
             ≡ file_stem_of (typed_dialect self.entry) (typed_text self.entry) }
@@ -204,7 +207,8 @@ impl<'a> Utf8TypedPath<'a> {
         each!(self, path => path.file_stem())
     }
 
-    /// What stands in the file name behind its last dot, where that is not its first character.
+    /// Returns what follows the last dot of the file name. `None` if the path has no file name, or
+    /// that has no dot but one at its start.
     pub fn extension(self) -> Option<&'a str>
         ensures { option_copied result
             ≡ extension (typed_dialect self.entry) (typed_text self.entry) }
@@ -212,7 +216,8 @@ impl<'a> Utf8TypedPath<'a> {
         each!(self, path => path.extension())
     }
 
-    /// The file name up to its first dot that is not its first character.
+    /// Returns the file name up to its first dot that is not at its start, or the whole file name
+    /// if it has none. `None` if the path has no file name.
     pub fn file_prefix(self) -> Option<&'a str>
         ensures { option_copied result
             ≡ file_prefix_of (typed_dialect self.entry) (typed_text self.entry) }
@@ -227,12 +232,12 @@ impl<'a> Utf8TypedPath<'a> {
         each!(self, path => path.has_trailing_separator())
     }
 
-    /// What is left of the path behind a base of its kind.
+    /// Returns what is left of the path after `base`, read in the same dialect.
     ///
     /// # Errors
     ///
-    /// `StripPrefixError` exactly where the path does not begin with the base's components, compared
-    /// as they are written.
+    /// `StripPrefixError` exactly if the path does not begin with the components of `base`,
+    /// compared as they are written.
     pub fn strip_prefix(self, base: &str) -> Result<Utf8TypedPath<'a>, StripPrefixError>
         ensures dialect { IfOk result (λ p. typed_dialect p ≡ typed_dialect self.entry) }
         ensures bytes { stripped_to typed_text result
@@ -241,7 +246,8 @@ impl<'a> Utf8TypedPath<'a> {
         typed_result!(self, path => path.strip_prefix(Utf8Path::new(base)))
     }
 
-    /// Whether the path begins with the components of another of its kind, as they are written.
+    /// Whether the path begins with the components of `base`, read in the same dialect and compared
+    /// as they are written.
     pub fn starts_with(self, base: &str) -> bool
         ensures { result
             ≡ path_starts_with (typed_dialect self.entry) (typed_text self.entry) base.now }
@@ -249,7 +255,8 @@ impl<'a> Utf8TypedPath<'a> {
         each!(self, path => path.starts_with(Utf8Path::new(base)))
     }
 
-    /// Whether the path begins with the components of another of its kind in lower case, as they are written.
+    /// Whether the path begins with the components of `base` in lower case, read in the same
+    /// dialect and compared as they are written.
     pub fn starts_with_ignore_ascii_case(self, base: &str) -> bool
         ensures { result ≡ path_starts_with (typed_dialect self.entry)
             (lowered (typed_dialect self.entry) (typed_text self.entry))
@@ -258,7 +265,7 @@ impl<'a> Utf8TypedPath<'a> {
         each!(self, path => path.starts_with_ignore_ascii_case(Utf8Path::new(base)))
     }
 
-    /// Whether the path is of the kind of another, and has the same components in lower case.
+    /// Whether the path is of the dialect of `other`, and has the same components in lower case.
     pub fn eq_ignore_ascii_case(self, other: Utf8TypedPath<'_>) -> bool
         ensures { result ≡ lowered_typed_eq (typed_dialect self.entry) (typed_text self.entry)
             (typed_dialect other.entry) (typed_text other.entry) }
@@ -266,8 +273,8 @@ impl<'a> Utf8TypedPath<'a> {
         self.cmp_ignore_ascii_case(other).is_eq()
     }
 
-    /// The order of the path and another: of one kind, by their components in lower case; else a path of Unix is
-    /// less than one of Windows.
+    /// Returns the order of the path and `other`: of one dialect, by their components in lower
+    /// case; else a Unix path is less than a Windows path.
     pub fn cmp_ignore_ascii_case(self, other: Utf8TypedPath<'_>) -> Ordering
         ensures { result ≡ lowered_typed_cmp (typed_dialect self.entry) (typed_text self.entry)
             (typed_dialect other.entry) (typed_text other.entry) }
@@ -280,8 +287,9 @@ impl<'a> Utf8TypedPath<'a> {
         }
     }
 
-    /// The front of the path up to where the components end with which another of its kind begins too,
-    /// as they are written; none where the two begin with none alike.
+    /// Returns the longest front of the path whose components, compared as they are written,
+    /// `other` begins with too; `None` if the two share no component. `other` is read in the same
+    /// dialect.
     pub fn common_ancestor(self, other: &str) -> Option<Utf8TypedPath<'a>>
         ensures dialect { IfSome result (λ p. typed_dialect p ≡ typed_dialect self.entry) }
         ensures bytes { option_map typed_text result
@@ -290,15 +298,16 @@ impl<'a> Utf8TypedPath<'a> {
         typed_option!(self, path => path.common_ancestor(Utf8Path::new(other)))
     }
 
-    /// Whether the path lies at a base of its kind or below it, from whatever directory both are read.
+    /// Whether the path lies at `base` or below it, from whatever directory both are read. `base`
+    /// is read in the same dialect.
     pub fn is_within(self, base: &str) -> bool
         ensures { result ≡ is_within (typed_dialect self.entry) (typed_text self.entry) base.now }
     {
         each!(self, path => path.is_within(Utf8Path::new(base)))
     }
 
-    /// The path that leads from a base of its kind to this one, where there is one, as
-    /// [`Utf8Path::relative_to`] has it.
+    /// Returns the path that leads from `base` to this one, `None` if there is none, as
+    /// [`Utf8Path::relative_to`] does. `base` is read in the same dialect.
     pub fn relative_to(
         self,
         alloc: Global,
@@ -312,7 +321,8 @@ impl<'a> Utf8TypedPath<'a> {
         typed_option_result!(self, path => path.relative_to(alloc, Utf8Path::new(base)))
     }
 
-    /// Whether the path ends with the components of another of its kind, as they are written.
+    /// Whether the path ends with the components of `end`, read in the same dialect and compared as
+    /// they are written.
     pub fn ends_with(self, end: &str) -> bool
         ensures { result
             ≡ path_ends_with (typed_dialect self.entry) (typed_text self.entry) end.now }
@@ -328,7 +338,7 @@ impl<'a> Utf8TypedPath<'a> {
         self.as_str() == other
     }
 
-    /// The components of the path, from either end.
+    /// Returns an iterator over the components of the path, from either end.
     #[inline(always)]
     pub fn components(self) -> Utf8TypedComponents<'a>
         ensures dialect { reading_dialect result ≡ typed_dialect self.entry }
@@ -339,7 +349,7 @@ impl<'a> Utf8TypedPath<'a> {
         Utf8TypedComponents::new(self)
     }
 
-    /// The texts of the components, from either end.
+    /// Returns an iterator over the texts of the components, from either end.
     #[inline(always)]
     pub fn iter(self) -> Utf8TypedIter<'a>
         ensures dialect { typed_dialect result ≡ typed_dialect self.entry }
@@ -359,8 +369,8 @@ impl<'a> Utf8TypedPath<'a> {
         typed_result!(self, path => path.to_path_buf(alloc))
     }
 
-    /// The path with another of its kind pushed onto it: an absolute one stands in its place, and with
-    /// an empty one it is a copy.
+    /// Returns this path with `path`, read in the same dialect, pushed onto it: an absolute one
+    /// replaces it, an empty one makes a copy.
     pub fn join(self, alloc: Global, path: &str) -> Result<Utf8TypedPathBuf, AllocError>
         ensures dialect { IfOk result (λ p. typed_dialect p ≡ typed_dialect self.entry) }
         ensures joined { IfOk result (λ p. owned_bytes p
@@ -369,10 +379,11 @@ impl<'a> Utf8TypedPath<'a> {
         typed_result!(self, base => base.join(alloc, Utf8Path::new(path)))
     }
 
-    /// The path with another of its kind pushed onto it, unless that has a component that offends.
+    /// Returns this path with `path`, read in the same dialect, pushed onto it, unless a component
+    /// of `path` offends.
     ///
-    /// The answer lies within this path, where it has the prefix of this one. A path with a fault
-    /// is refused for that, however little memory there is.
+    /// The result lies within this path if it has the prefix of this one. A `path` that offends is
+    /// refused for that, however little memory there is.
     ///
     /// # Errors
     ///
@@ -385,7 +396,8 @@ impl<'a> Utf8TypedPath<'a> {
         typed_result!(self, base => base.join_checked(alloc, Utf8Path::new(path)))
     }
 
-    /// The path with a portable one of its kind pushed onto it, unless that has a component that offends.
+    /// Returns this path with `path`, read in the same dialect, pushed onto it, unless `path` is
+    /// not portable or a component of it offends.
     ///
     /// # Errors
     ///
@@ -398,7 +410,8 @@ impl<'a> Utf8TypedPath<'a> {
         typed_result!(self, base => base.join_portable(alloc, Utf8Path::new(path)))
     }
 
-    /// A copy with another file name, or with the name pushed where there is none.
+    /// Returns a copy with another file name. If the path has no file name, the name is pushed onto
+    /// it.
     pub fn with_file_name(self, alloc: Global, name: &str) -> Result<Utf8TypedPathBuf, AllocError>
         ensures dialect { IfOk result (λ p. typed_dialect p ≡ typed_dialect self.entry) }
         ensures bytes { IfOk result (λ p. owned_bytes p
@@ -407,8 +420,8 @@ impl<'a> Utf8TypedPath<'a> {
         typed_result!(self, path => path.with_file_name(alloc, name))
     }
 
-    /// A copy whose file name has another extension, or none where the new one is empty. Without a
-    /// file name it is a mere copy.
+    /// Returns a copy whose file name has another extension, or none if `extension` is empty.
+    /// Without a file name it is an unchanged copy.
     pub fn with_extension(
         self,
         alloc: Global,
@@ -421,8 +434,8 @@ impl<'a> Utf8TypedPath<'a> {
         typed_result!(self, path => path.with_extension(alloc, extension))
     }
 
-    /// A copy with one extension more behind its file name. Without a file name, or with an empty
-    /// extension, it is a mere copy.
+    /// Returns a copy with `extension` appended to its file name, after a dot. Without a file name,
+    /// or with an empty extension, it is an unchanged copy.
     pub fn with_added_extension(
         self,
         alloc: Global,
@@ -435,8 +448,8 @@ impl<'a> Utf8TypedPath<'a> {
         typed_result!(self, path => path.with_added_extension(alloc, extension))
     }
 
-    /// The path without `.`, and without `..` and the names that these take away, in the form of
-    /// [`Utf8Path::normalize`].
+    /// Returns the path without `.`, and without `..` and the names that these cancel, in the form
+    /// of [`Utf8Path::normalize`].
     pub fn normalize(self, alloc: Global) -> Result<Utf8TypedPathBuf, AllocError>
         ensures dialect { IfOk result (λ p. typed_dialect p ≡ typed_dialect self.entry) }
         ensures normal { Normalizes (typed_dialect self.entry) owned_bytes (typed_text self.entry)
@@ -445,8 +458,8 @@ impl<'a> Utf8TypedPath<'a> {
         typed_result!(self, path => path.normalize(alloc))
     }
 
-    /// The path without `.`, doubled separators, and the names that a `..` takes away, as [`Utf8Path::clean`]
-    /// writes it.
+    /// Returns the path without `.`, doubled separators, and the names that a `..` cancels, as
+    /// [`Utf8Path::clean`] does.
     pub fn clean(self, alloc: Global) -> Result<Utf8TypedPathBuf, AllocError>
         ensures dialect { IfOk result (λ p. typed_dialect p ≡ typed_dialect self.entry) }
         ensures bytes { IfOk result (λ p. owned_bytes p
@@ -455,7 +468,8 @@ impl<'a> Utf8TypedPath<'a> {
         typed_result!(self, path => path.clean(alloc))
     }
 
-    /// The path in lower case, as [`Path::to_ascii_lowercase`](crate::Path::to_ascii_lowercase) writes it.
+    /// Returns the path in lower case, as
+    /// [`Path::to_ascii_lowercase`](crate::Path::to_ascii_lowercase) does.
     pub fn to_ascii_lowercase(self, alloc: Global) -> Result<Utf8TypedPathBuf, AllocError>
         ensures dialect { IfOk result (λ p. typed_dialect p ≡ typed_dialect self.entry) }
         ensures bytes { IfOk result (λ p. owned_bytes p
@@ -464,13 +478,13 @@ impl<'a> Utf8TypedPath<'a> {
         typed_result!(self, path => path.to_ascii_lowercase(alloc))
     }
 
-    /// The normal text of the path where it is absolute, and else of the directory in this path's
-    /// dialect with the path pushed onto it.
+    /// Returns the normal path of this path if it is absolute, else that of `directory`, written in
+    /// this path's dialect, with this path pushed onto it.
     ///
     /// # Errors
     ///
-    /// `Ambiguous` where the path is absolute neither alone nor behind the directory, as every Windows
-    /// path without a prefix is behind `/home/u`. `OutOfMemory` where memory is refused.
+    /// `Ambiguous` if the path is absolute neither alone nor after the directory, as every Windows
+    /// path without a prefix is after `/home/u`. `OutOfMemory` if allocation fails.
     pub fn absolutize(
         self,
         alloc: Global,
@@ -483,7 +497,7 @@ impl<'a> Utf8TypedPath<'a> {
         typed_result!(self, path => path.absolutize(alloc, directory))
     }
 
-    /// The path as on Unix: that of Unix is copied, and that of Windows written as
+    /// Returns the path as on Unix: a copy if it is a Unix path, else as
     /// [`Utf8Path::with_encoding`] does.
     pub fn with_unix_encoding(self, alloc: Global) -> Result<Utf8TypedPathBuf, AllocError>
         ensures dialect { IfOk result (λ p. typed_dialect p ≡ unix) }
@@ -493,7 +507,8 @@ impl<'a> Utf8TypedPath<'a> {
         Ok(Typed::Unix(each!(self, path => path.with_unix_encoding(alloc))?))
     }
 
-    /// The path as on Unix, refused as [`Utf8Path::with_encoding_checked`] does, also where it is of Unix.
+    /// Returns the path as on Unix by checked pushes, also if it is a Unix path, as
+    /// [`Utf8Path::with_encoding_checked`] does.
     pub fn with_unix_encoding_checked(self, alloc: Global) -> Result<Utf8TypedPathBuf, PathError>
         ensures dialect { IfOk result (λ p. typed_dialect p ≡ unix) }
         ensures converted { ConvertsChecked (typed_dialect self.entry) unix owned_bytes
@@ -502,7 +517,7 @@ impl<'a> Utf8TypedPath<'a> {
         Ok(Typed::Unix(each!(self, path => path.with_unix_encoding_checked(alloc))?))
     }
 
-    /// The path as on Windows: that of Windows is copied, and that of Unix written as
+    /// Returns the path as on Windows: a copy if it is a Windows path, else as
     /// [`Utf8Path::with_encoding`] does.
     pub fn with_windows_encoding(self, alloc: Global) -> Result<Utf8TypedPathBuf, AllocError>
         ensures dialect { IfOk result (λ p. typed_dialect p ≡ windows) }
@@ -512,8 +527,8 @@ impl<'a> Utf8TypedPath<'a> {
         Ok(Typed::Windows(each!(self, path => path.with_windows_encoding(alloc))?))
     }
 
-    /// The path as on Windows, refused as [`Utf8Path::with_encoding_checked`] does, also where it is of
-    /// Windows.
+    /// Returns the path as on Windows by checked pushes, also if it is a Windows path, as
+    /// [`Utf8Path::with_encoding_checked`] does.
     pub fn with_windows_encoding_checked(self, alloc: Global) -> Result<Utf8TypedPathBuf, PathError>
         ensures dialect { IfOk result (λ p. typed_dialect p ≡ windows) }
         ensures converted { ConvertsChecked (typed_dialect self.entry) windows owned_bytes
@@ -523,7 +538,7 @@ impl<'a> Utf8TypedPath<'a> {
     }
 }
 
-/// The path of this text, of the kind that it looks like.
+/// The path of this text, in the dialect that it looks like.
 impl<'a> From<&'a str> for Utf8TypedPath<'a> {
     ghost from_gives = { λ text path. (typed_dialect path ≡ derived_dialect text.now)
         × (typed_text path ≡ text.now) };
