@@ -1,4 +1,4 @@
-//! An owned path whose dialect is chosen when the program runs.
+//! Owned paths whose dialect is chosen at run time.
 
 ghost use Rattle.std.specs.Prelude.{◌≡◌, [], IfOk, IsOk, not, Ok, Err, Some, None, IfSome, option_map, option_copied, Option, IfErr, is_ok};
 ghost use Rattle.std.specs.Vec.{vec_capacity};
@@ -37,7 +37,7 @@ use std::cmp::Ordering;
 pub type TypedPathBuf = Typed<UnixPathBuf, WindowsPathBuf>;
 
 impl TypedPathBuf {
-    /// The empty path of a kind.
+    /// The empty path, in the dialect `kind`.
     pub fn new(alloc: Global, kind: PathType) -> TypedPathBuf
         ensures dialect { typed_dialect result ≡ kind_dialect kind }
         ensures bytes { owned_bytes result ≡ [] }
@@ -46,7 +46,7 @@ impl TypedPathBuf {
         made_as!(kind, PathBuf::new(alloc))
     }
 
-    /// The empty path, as on Unix.
+    /// The empty Unix path.
     pub fn unix(alloc: Global) -> TypedPathBuf
         ensures dialect { typed_dialect result ≡ unix }
         ensures bytes { owned_bytes result ≡ [] }
@@ -55,7 +55,7 @@ impl TypedPathBuf {
         Typed::Unix(PathBuf::new(alloc))
     }
 
-    /// The empty path, as on Windows.
+    /// The empty Windows path.
     pub fn windows(alloc: Global) -> TypedPathBuf
         ensures dialect { typed_dialect result ≡ windows }
         ensures bytes { owned_bytes result ≡ [] }
@@ -64,7 +64,7 @@ impl TypedPathBuf {
         Typed::Windows(PathBuf::new(alloc))
     }
 
-    /// The path of a copy of these bytes, as on Unix.
+    /// The Unix path of a copy of these bytes.
     pub fn from_unix(alloc: Global, bytes: &[u8]) -> Result<TypedPathBuf, AllocError>
         ensures dialect { IfOk result (λ p. typed_dialect p ≡ unix) }
         ensures bytes { IfOk result (λ p. owned_bytes p ≡ bytes.now) }
@@ -73,7 +73,7 @@ impl TypedPathBuf {
         TypedPath::unix(bytes).to_path_buf(alloc)
     }
 
-    /// The path of a copy of these bytes, as on Windows.
+    /// The Windows path of a copy of these bytes.
     pub fn from_windows(alloc: Global, bytes: &[u8]) -> Result<TypedPathBuf, AllocError>
         ensures dialect { IfOk result (λ p. typed_dialect p ≡ windows) }
         ensures bytes { IfOk result (λ p. owned_bytes p ≡ bytes.now) }
@@ -82,7 +82,8 @@ impl TypedPathBuf {
         TypedPath::windows(bytes).to_path_buf(alloc)
     }
 
-    /// The path of a copy of these bytes, of the kind that [`PathType::derive`] says they look like.
+    /// The path of a copy of these bytes, in the dialect that [`PathType::derive`] says they look
+    /// like.
     pub fn from_bytes(alloc: Global, bytes: &[u8]) -> Result<TypedPathBuf, AllocError>
         ensures dialect { IfOk result (λ p. typed_dialect p ≡ derived_dialect bytes.now) }
         ensures bytes { IfOk result (λ p. owned_bytes p ≡ bytes.now) }
@@ -91,7 +92,7 @@ impl TypedPathBuf {
         TypedPath::derive(bytes).to_path_buf(alloc)
     }
 
-    /// The path of a copy of this text, of the kind that it looks like.
+    /// The path of a copy of this text, in the dialect that it looks like.
     pub fn from_str(alloc: Global, text: &str) -> Result<TypedPathBuf, AllocError>
         ensures dialect { IfOk result (λ p. typed_dialect p ≡ derived_dialect text.now) }
         ensures bytes { IfOk result (λ p. owned_bytes p ≡ text.now) }
@@ -100,7 +101,7 @@ impl TypedPathBuf {
         TypedPathBuf::from_bytes(alloc, text.as_bytes())
     }
 
-    /// The path, lent.
+    /// Borrows the path.
     pub fn to_path(&self) -> TypedPath<'_>
         ensures dialect { typed_dialect result ≡ typed_dialect self.now }
         ensures bytes { typed_bytes result ≡ owned_bytes self.now }
@@ -620,12 +621,12 @@ impl TypedPathBuf {
 pub trait TryAsRef<T> {
     ghost try_as_ref_gives: { Self → Option T → Type 0 };
 
-    /// The value that is held, where it is one of that type.
+    /// Returns the value that is held if it is of that type, else `None`.
     fn try_as_ref(&self) -> Option<T>
         ensures { try_as_ref_gives self.now result };
 }
 
-/// The path that is held, where it is one of Unix.
+/// The path that is held if it is a Unix path, else `None`.
 impl<'a> TryAsRef<UnixPath<'a>> for TypedPath<'a> {
     ghost try_as_ref_gives = { λ path held. held ≡ held_unix path };
 
@@ -637,7 +638,7 @@ impl<'a> TryAsRef<UnixPath<'a>> for TypedPath<'a> {
     }
 }
 
-/// The path that is held, where it is one of Windows.
+/// The path that is held if it is a Windows path, else `None`.
 impl<'a> TryAsRef<WindowsPath<'a>> for TypedPath<'a> {
     ghost try_as_ref_gives = { λ path held. held ≡ held_windows path };
 
@@ -650,7 +651,7 @@ impl<'a> TryAsRef<WindowsPath<'a>> for TypedPath<'a> {
 }
 
 impl<'a> UnixPath<'a> {
-    /// The path as one whose dialect is chosen when the program runs.
+    /// Returns the path as a typed one of the same dialect.
     pub fn to_typed_path(self) -> TypedPath<'a>
         ensures dialect { typed_dialect result ≡ unix }
         ensures bytes { typed_bytes result ≡ path_bytes self.entry }
@@ -658,7 +659,7 @@ impl<'a> UnixPath<'a> {
         Typed::Unix(self)
     }
 
-    /// A copy of the path as one whose dialect is chosen when the program runs.
+    /// Returns a copy of the path as a typed one of the same dialect.
     pub fn to_typed_path_buf(self, alloc: Global) -> Result<TypedPathBuf, AllocError>
         ensures dialect { IfOk result (λ p. typed_dialect p ≡ unix) }
         ensures bytes { IfOk result (λ p. owned_bytes p ≡ path_bytes self.entry) }
@@ -669,7 +670,7 @@ impl<'a> UnixPath<'a> {
 }
 
 impl<'a> WindowsPath<'a> {
-    /// The path as one whose dialect is chosen when the program runs.
+    /// Returns the path as a typed one of the same dialect.
     pub fn to_typed_path(self) -> TypedPath<'a>
         ensures dialect { typed_dialect result ≡ windows }
         ensures bytes { typed_bytes result ≡ path_bytes self.entry }
@@ -677,7 +678,7 @@ impl<'a> WindowsPath<'a> {
         Typed::Windows(self)
     }
 
-    /// A copy of the path as one whose dialect is chosen when the program runs.
+    /// Returns a copy of the path as a typed one of the same dialect.
     pub fn to_typed_path_buf(self, alloc: Global) -> Result<TypedPathBuf, AllocError>
         ensures dialect { IfOk result (λ p. typed_dialect p ≡ windows) }
         ensures bytes { IfOk result (λ p. owned_bytes p ≡ path_bytes self.entry) }
@@ -687,7 +688,7 @@ impl<'a> WindowsPath<'a> {
     }
 }
 
-/// The path of the bytes of a vector, of the kind that they look like, with no copy.
+/// The path of the bytes of a vector, in the dialect that they look like, with no copy.
 impl From<Vec<u8>> for TypedPathBuf {
     ghost from_gives = { λ bytes path. (typed_dialect path ≡ derived_dialect bytes.items)
         × (owned_bytes path ≡ bytes.items)
@@ -698,7 +699,7 @@ impl From<Vec<u8>> for TypedPathBuf {
     }
 }
 
-/// The path of the bytes of a text, of the kind that it looks like, with no copy.
+/// The path of the bytes of a text, in the dialect that it looks like, with no copy.
 impl From<String> for TypedPathBuf {
     ghost from_gives = { λ text path. (typed_dialect path ≡ derived_dialect (string_bytes text))
         × (owned_bytes path ≡ string_bytes text)
@@ -709,7 +710,7 @@ impl From<String> for TypedPathBuf {
     }
 }
 
-/// The path that is held, where it is one of Unix; one of Windows is given back.
+/// The path that is held if it is a Unix path; a Windows path is given back.
 impl TryFrom<TypedPathBuf> for UnixPathBuf {
     type Error = TypedPathBuf;
 
@@ -725,7 +726,7 @@ impl TryFrom<TypedPathBuf> for UnixPathBuf {
     }
 }
 
-/// The path that is held, where it is one of Windows; one of Unix is given back.
+/// The path that is held if it is a Windows path; a Unix path is given back.
 impl TryFrom<TypedPathBuf> for WindowsPathBuf {
     type Error = TypedPathBuf;
 

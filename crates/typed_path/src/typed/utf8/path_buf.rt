@@ -1,4 +1,4 @@
-//! An owned path of text whose dialect is chosen when the program runs.
+//! Owned paths of text whose dialect is chosen at run time.
 
 ghost use Rattle.std.specs.Prelude.{◌≡◌, [], IfOk, IsOk, not, bytes_eq, Ok, Err, Some, None, IfSome, option_map, option_copied, Option, IfErr, is_ok};
 ghost use Rattle.std.specs.String.{string_bytes, string_capacity};
@@ -34,7 +34,7 @@ use std::cmp::Ordering;
 pub type Utf8TypedPathBuf = Typed<Utf8UnixPathBuf, Utf8WindowsPathBuf>;
 
 impl Utf8TypedPathBuf {
-    /// The empty path of a kind.
+    /// The empty path, in the dialect `kind`.
     pub fn new(alloc: Global, kind: PathType) -> Utf8TypedPathBuf
         ensures dialect { typed_dialect result ≡ kind_dialect kind }
         ensures bytes { owned_bytes result ≡ [] }
@@ -43,7 +43,7 @@ impl Utf8TypedPathBuf {
         made_as!(kind, Utf8PathBuf::new(alloc))
     }
 
-    /// The empty path, as on Unix.
+    /// The empty Unix path.
     pub fn unix(alloc: Global) -> Utf8TypedPathBuf
         ensures dialect { typed_dialect result ≡ unix }
         ensures bytes { owned_bytes result ≡ [] }
@@ -52,7 +52,7 @@ impl Utf8TypedPathBuf {
         Typed::Unix(Utf8PathBuf::new(alloc))
     }
 
-    /// The empty path, as on Windows.
+    /// The empty Windows path.
     pub fn windows(alloc: Global) -> Utf8TypedPathBuf
         ensures dialect { typed_dialect result ≡ windows }
         ensures bytes { owned_bytes result ≡ [] }
@@ -61,7 +61,7 @@ impl Utf8TypedPathBuf {
         Typed::Windows(Utf8PathBuf::new(alloc))
     }
 
-    /// The path of a copy of this text, as on Unix.
+    /// The Unix path of a copy of this text.
     pub fn from_unix(alloc: Global, text: &str) -> Result<Utf8TypedPathBuf, AllocError>
         ensures dialect { IfOk result (λ p. typed_dialect p ≡ unix) }
         ensures bytes { IfOk result (λ p. owned_bytes p ≡ text.now) }
@@ -70,7 +70,7 @@ impl Utf8TypedPathBuf {
         Utf8TypedPath::unix(text).to_path_buf(alloc)
     }
 
-    /// The path of a copy of this text, as on Windows.
+    /// The Windows path of a copy of this text.
     pub fn from_windows(alloc: Global, text: &str) -> Result<Utf8TypedPathBuf, AllocError>
         ensures dialect { IfOk result (λ p. typed_dialect p ≡ windows) }
         ensures bytes { IfOk result (λ p. owned_bytes p ≡ text.now) }
@@ -79,7 +79,8 @@ impl Utf8TypedPathBuf {
         Utf8TypedPath::windows(text).to_path_buf(alloc)
     }
 
-    /// The path of a copy of this text, of the kind that [`PathType::derive`] says it looks like.
+    /// The path of a copy of this text, in the dialect that [`PathType::derive`] says it looks
+    /// like.
     pub fn from_str(alloc: Global, text: &str) -> Result<Utf8TypedPathBuf, AllocError>
         ensures dialect { IfOk result (λ p. typed_dialect p ≡ derived_dialect text.now) }
         ensures bytes { IfOk result (λ p. owned_bytes p ≡ text.now) }
@@ -88,7 +89,7 @@ impl Utf8TypedPathBuf {
         Utf8TypedPath::derive(text).to_path_buf(alloc)
     }
 
-    /// The path, lent.
+    /// Borrows the path.
     pub fn to_path(&self) -> Utf8TypedPath<'_>
         ensures dialect { typed_dialect result ≡ typed_dialect self.now }
         ensures bytes { typed_text result ≡ owned_bytes self.now }
@@ -596,7 +597,7 @@ impl Utf8TypedPathBuf {
     }
 }
 
-/// The path that is held, where it is one of Unix.
+/// The path that is held if it is a Unix path, else `None`.
 impl<'a> TryAsRef<Utf8UnixPath<'a>> for Utf8TypedPath<'a> {
     ghost try_as_ref_gives = { λ path held. held ≡ held_unix path };
 
@@ -608,7 +609,7 @@ impl<'a> TryAsRef<Utf8UnixPath<'a>> for Utf8TypedPath<'a> {
     }
 }
 
-/// The path that is held, where it is one of Windows.
+/// The path that is held if it is a Windows path, else `None`.
 impl<'a> TryAsRef<Utf8WindowsPath<'a>> for Utf8TypedPath<'a> {
     ghost try_as_ref_gives = { λ path held. held ≡ held_windows path };
 
@@ -621,7 +622,7 @@ impl<'a> TryAsRef<Utf8WindowsPath<'a>> for Utf8TypedPath<'a> {
 }
 
 impl<'a> Utf8UnixPath<'a> {
-    /// The path as one whose dialect is chosen when the program runs.
+    /// Returns the path as a typed one of the same dialect.
     pub fn to_typed_path(self) -> Utf8TypedPath<'a>
         ensures dialect { typed_dialect result ≡ unix }
         ensures bytes { typed_text result ≡ utf8_bytes self.entry }
@@ -629,7 +630,7 @@ impl<'a> Utf8UnixPath<'a> {
         Typed::Unix(self)
     }
 
-    /// A copy of the path as one whose dialect is chosen when the program runs.
+    /// Returns a copy of the path as a typed one of the same dialect.
     pub fn to_typed_path_buf(self, alloc: Global) -> Result<Utf8TypedPathBuf, AllocError>
         ensures dialect { IfOk result (λ p. typed_dialect p ≡ unix) }
         ensures bytes { IfOk result (λ p. owned_bytes p ≡ utf8_bytes self.entry) }
@@ -640,7 +641,7 @@ impl<'a> Utf8UnixPath<'a> {
 }
 
 impl<'a> Utf8WindowsPath<'a> {
-    /// The path as one whose dialect is chosen when the program runs.
+    /// Returns the path as a typed one of the same dialect.
     pub fn to_typed_path(self) -> Utf8TypedPath<'a>
         ensures dialect { typed_dialect result ≡ windows }
         ensures bytes { typed_text result ≡ utf8_bytes self.entry }
@@ -648,7 +649,7 @@ impl<'a> Utf8WindowsPath<'a> {
         Typed::Windows(self)
     }
 
-    /// A copy of the path as one whose dialect is chosen when the program runs.
+    /// Returns a copy of the path as a typed one of the same dialect.
     pub fn to_typed_path_buf(self, alloc: Global) -> Result<Utf8TypedPathBuf, AllocError>
         ensures dialect { IfOk result (λ p. typed_dialect p ≡ windows) }
         ensures bytes { IfOk result (λ p. owned_bytes p ≡ utf8_bytes self.entry) }
@@ -658,7 +659,7 @@ impl<'a> Utf8WindowsPath<'a> {
     }
 }
 
-/// The path of a text, of the kind that it looks like, with no copy.
+/// The path of a text, in the dialect that it looks like, with no copy.
 impl From<String> for Utf8TypedPathBuf {
     ghost from_gives = { λ text path. (typed_dialect path ≡ derived_dialect (string_bytes text))
         × (owned_bytes path ≡ string_bytes text)
@@ -669,7 +670,7 @@ impl From<String> for Utf8TypedPathBuf {
     }
 }
 
-/// The path that is held, where it is one of Unix; one of Windows is given back.
+/// The path that is held if it is a Unix path; a Windows path is given back.
 impl TryFrom<Utf8TypedPathBuf> for Utf8UnixPathBuf {
     type Error = Utf8TypedPathBuf;
 
@@ -685,7 +686,7 @@ impl TryFrom<Utf8TypedPathBuf> for Utf8UnixPathBuf {
     }
 }
 
-/// The path that is held, where it is one of Windows; one of Unix is given back.
+/// The path that is held if it is a Windows path; a Unix path is given back.
 impl TryFrom<Utf8TypedPathBuf> for Utf8WindowsPathBuf {
     type Error = Utf8TypedPathBuf;
 
