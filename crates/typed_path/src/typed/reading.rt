@@ -1,4 +1,4 @@
-//! What is read of a path whose dialect is chosen when the program runs.
+//! Iterators over paths whose dialect is chosen at run time, and components of these.
 
 ghost use Rattle.std.specs.Prelude.{◌≡◌, drop, option_map, option_copied, refl, IfSome, ◌==◌, length};
 ghost use Rattle.typed_path.specs.scan.{but_last, slice_after_front, slice_after_back, first_part, last_part, LeavesFront, LeavesBack};
@@ -16,10 +16,10 @@ use crate::windows::{WindowsComponent, WindowsComponents};
 use std::cmp::Ordering;
 use std::iter::FusedIterator;
 
-/// What is left to be read of a path of Unix or of Windows.
+/// An iterator over a path of Unix or of Windows.
 ///
-/// What two readings of one kind have left is equal as the paths of their slices left are. Readings
-/// of two kinds are never equal.
+/// Two of one dialect are equal if the paths of their slices left are, each read anew. Two of
+/// different dialects are never equal.
 #[derive(Clone, Copy, Debug, PartialEq, Eq)]
 pub enum TypedReading<U, W> {
     /// Of Unix.
@@ -28,8 +28,8 @@ pub enum TypedReading<U, W> {
     Windows(W),
 }
 
-/// What readings of one kind have left is in order as the paths of their slices left are. Readings of
-/// two kinds are in none.
+/// Two of one dialect are ordered as the paths of their slices left, each read anew. Two of
+/// different dialects are in no order.
 impl<U: PartialOrd, W: PartialOrd> PartialOrd for TypedReading<U, W> {
     ghost partial_cmp = { reading_partial_cmp U.partial_cmp W.partial_cmp };
 
@@ -52,11 +52,11 @@ impl<U: PartialOrd, W: PartialOrd> PartialOrd for TypedReading<U, W> {
     }
 }
 
-/// The components of a path that are left to be read.
+/// The iterator over the components of a path, from either end.
 pub type TypedComponents<'a> = TypedReading<UnixComponents<'a>, WindowsComponents<'a>>;
 
 impl<'a> TypedComponents<'a> {
-    /// The components of a path, from either end.
+    /// Returns an iterator over the components of a path, from either end.
     #[inline(always)]
     pub fn new(path: TypedPath<'a>) -> TypedComponents<'a>
         ensures dialect { reading_dialect result ≡ typed_dialect path.entry }
@@ -70,7 +70,7 @@ impl<'a> TypedComponents<'a> {
         }
     }
 
-    /// The slice left, as a path of the kind that is read.
+    /// The slice left, as a path of the same dialect.
     pub fn to_path(self) -> TypedPath<'a>
         ensures dialect { typed_dialect result ≡ reading_dialect self.entry }
         ensures bytes { typed_bytes result ≡ typed_slice self.entry }
@@ -100,7 +100,7 @@ impl<'a> TypedComponents<'a> {
         each!(self, reading => reading.has_root())
     }
 
-    /// Takes the first component that is left. It answers none for good once all are taken.
+    /// Takes the first component that is left, or returns `None` for good once all are taken.
     #[inline(always)]
     pub fn next(&mut self) -> Option<TypedComponent<'a>>
         ensures dialect { reading_dialect self.new ≡ reading_dialect self.old }
@@ -113,7 +113,7 @@ impl<'a> TypedComponents<'a> {
         typed_option!(self, reading => reading.next())
     }
 
-    /// Takes the last component that is left. It answers none for good once all are taken.
+    /// Takes the last component that is left, or returns `None` for good once all are taken.
     #[inline(always)]
     pub fn next_back(&mut self) -> Option<TypedComponent<'a>>
         ensures dialect { reading_dialect self.new ≡ reading_dialect self.old }
@@ -158,7 +158,7 @@ impl<'a> DoubleEndedIterator for TypedComponents<'a> {
 impl<'a> FusedIterator for TypedComponents<'a> {}
 
 impl<'a> TypedIter<'a> {
-    /// The slice left, as a path of the kind that is read.
+    /// The slice left, as a path of the same dialect.
     pub fn to_path(self) -> TypedPath<'a>
         ensures dialect { typed_dialect result ≡ typed_dialect self.entry }
         ensures bytes { typed_bytes result ≡ typed_iter_slice self.entry }
@@ -173,7 +173,7 @@ impl<'a> TypedIter<'a> {
         each!(self, left => left.as_path().as_bytes())
     }
 
-    /// Takes the text of the first component that is left.
+    /// Takes the text of the first component that is left, `None` once all are taken.
     #[inline(always)]
     pub fn next(&mut self) -> Option<&'a [u8]>
         ensures dialect { KeepsDialect self.old self.new }
@@ -186,7 +186,7 @@ impl<'a> TypedIter<'a> {
         each!(self, left => left.next())
     }
 
-    /// Takes the text of the last component that is left.
+    /// Takes the text of the last component that is left, `None` once all are taken.
     #[inline(always)]
     pub fn next_back(&mut self) -> Option<&'a [u8]>
         ensures dialect { KeepsDialect self.old self.new }
@@ -249,7 +249,7 @@ impl<'a> FusedIterator for TypedAncestors<'a> {}
 pub type TypedComponent<'a> = Typed<UnixComponent<'a>, WindowsComponent<'a>>;
 
 impl<'a> TypedComponent<'a> {
-    /// The path of this one component, of the kind that its text looks like.
+    /// Returns the path of this one component, in the dialect that its text looks like.
     ///
     /// Of the component `a` of the Windows path `C:\a` it is the Unix path `a`.
     pub fn to_path(self) -> TypedPath<'a>
@@ -259,7 +259,7 @@ impl<'a> TypedComponent<'a> {
         TypedPath::derive(self.as_bytes())
     }
 
-    /// The text of the component.
+    /// Returns the bytes of the component.
     pub fn as_bytes(self) -> &'a [u8]
         ensures { result.now ≡ (typed_part self.entry).text }
     {
@@ -280,7 +280,7 @@ impl<'a> TypedComponent<'a> {
         each!(self, component => component.is_normal())
     }
 
-    /// The name that the component is, where it is one.
+    /// Returns the name if the component is one, else `None`.
     pub fn as_normal_bytes(self) -> Option<&'a [u8]>
         ensures { option_copied result ≡ name_of (typed_part self.entry).kind }
     {
@@ -305,14 +305,14 @@ impl<'a> TypedComponent<'a> {
         each!(self, component => component.is_current())
     }
 
-    /// How many bytes the text has.
+    /// Returns how many bytes the component has.
     pub fn len(self) -> usize
         ensures { result ≡ length (typed_part self.entry).text }
     {
         each!(self, component => component.len())
     }
 
-    /// Whether the text is empty.
+    /// Whether the component has no bytes.
     pub fn is_empty(self) -> bool
         ensures { result ≡ (length (typed_part self.entry).text == 0) }
     {

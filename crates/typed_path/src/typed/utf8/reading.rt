@@ -1,4 +1,4 @@
-//! What is read of a path of text whose dialect is chosen when the program runs.
+//! Iterators over paths of text whose dialect is chosen at run time, and components of these.
 
 ghost use Rattle.std.specs.Prelude.{◌≡◌, drop, option_map, option_copied, IfSome, ◌==◌, length};
 ghost use Rattle.typed_path.specs.scan.{but_last, slice_after_front, slice_after_back, first_part, last_part, LeavesFront, LeavesBack};
@@ -18,11 +18,11 @@ use crate::utf8::{
 };
 use std::iter::FusedIterator;
 
-/// The components of a path of text that are left to be read.
+/// The iterator over the components of a path of text, from either end.
 pub type Utf8TypedComponents<'a> = TypedReading<Utf8UnixComponents<'a>, Utf8WindowsComponents<'a>>;
 
 impl<'a> Utf8TypedComponents<'a> {
-    /// The components of a path, from either end.
+    /// Returns an iterator over the components of a path, from either end.
     #[inline(always)]
     pub fn new(path: Utf8TypedPath<'a>) -> Utf8TypedComponents<'a>
         ensures dialect { reading_dialect result ≡ typed_dialect path.entry }
@@ -36,7 +36,7 @@ impl<'a> Utf8TypedComponents<'a> {
         }
     }
 
-    /// The slice left, as a path of the kind that is read.
+    /// The slice left, as a path of the same dialect.
     pub fn to_path(self) -> Utf8TypedPath<'a>
         ensures dialect { typed_dialect result ≡ reading_dialect self.entry }
         ensures bytes { typed_text result ≡ typed_text_slice self.entry }
@@ -67,7 +67,7 @@ impl<'a> Utf8TypedComponents<'a> {
         each!(self, reading => reading.has_root())
     }
 
-    /// Takes the first component that is left. It answers none for good once all are taken.
+    /// Takes the first component that is left, or returns `None` for good once all are taken.
     #[inline(always)]
     pub fn next(&mut self) -> Option<Utf8TypedComponent<'a>>
         ensures dialect { reading_dialect self.new ≡ reading_dialect self.old }
@@ -80,7 +80,7 @@ impl<'a> Utf8TypedComponents<'a> {
         typed_option!(self, reading => reading.next())
     }
 
-    /// Takes the last component that is left. It answers none for good once all are taken.
+    /// Takes the last component that is left, or returns `None` for good once all are taken.
     #[inline(always)]
     pub fn next_back(&mut self) -> Option<Utf8TypedComponent<'a>>
         ensures dialect { reading_dialect self.new ≡ reading_dialect self.old }
@@ -125,7 +125,7 @@ impl<'a> DoubleEndedIterator for Utf8TypedComponents<'a> {
 impl<'a> FusedIterator for Utf8TypedComponents<'a> {}
 
 impl<'a> Utf8TypedIter<'a> {
-    /// The slice left, as a path of the kind that is read.
+    /// The slice left, as a path of the same dialect.
     pub fn to_path(self) -> Utf8TypedPath<'a>
         ensures dialect { typed_dialect result ≡ typed_dialect self.entry }
         ensures bytes { typed_text result ≡ typed_text_iter_slice self.entry }
@@ -140,7 +140,7 @@ impl<'a> Utf8TypedIter<'a> {
         each!(self, left => left.as_str())
     }
 
-    /// Takes the text of the first component that is left.
+    /// Takes the text of the first component that is left, `None` once all are taken.
     #[inline(always)]
     pub fn next(&mut self) -> Option<&'a str>
         ensures dialect { KeepsDialect self.old self.new }
@@ -153,7 +153,7 @@ impl<'a> Utf8TypedIter<'a> {
         each!(self, left => left.next())
     }
 
-    /// Takes the text of the last component that is left.
+    /// Takes the text of the last component that is left, `None` once all are taken.
     #[inline(always)]
     pub fn next_back(&mut self) -> Option<&'a str>
         ensures dialect { KeepsDialect self.old self.new }
@@ -216,7 +216,7 @@ impl<'a> FusedIterator for Utf8TypedAncestors<'a> {}
 pub type Utf8TypedComponent<'a> = Typed<Utf8UnixComponent<'a>, Utf8WindowsComponent<'a>>;
 
 impl<'a> Utf8TypedComponent<'a> {
-    /// The path of this one component, of the kind that its text looks like.
+    /// Returns the path of this one component, in the dialect that its text looks like.
     ///
     /// Of the component `a` of the Windows path `C:\a` it is the Unix path `a`.
     pub fn to_path(self) -> Utf8TypedPath<'a>
@@ -226,7 +226,7 @@ impl<'a> Utf8TypedComponent<'a> {
         Utf8TypedPath::derive(self.as_str())
     }
 
-    /// The text of the component.
+    /// Returns the text of the component.
     pub fn as_str(self) -> &'a str
         ensures { result.now ≡ (typed_text_part self.entry).text }
     {
@@ -247,7 +247,7 @@ impl<'a> Utf8TypedComponent<'a> {
         each!(self, component => component.is_normal())
     }
 
-    /// The name that the component is, where it is one.
+    /// Returns the name if the component is one, else `None`.
     pub fn as_normal_str(self) -> Option<&'a str>
         ensures { option_copied result ≡ name_of (typed_text_part self.entry).kind }
     {
@@ -272,14 +272,14 @@ impl<'a> Utf8TypedComponent<'a> {
         each!(self, component => component.is_current())
     }
 
-    /// How many bytes the text has.
+    /// Returns how many bytes the component has.
     pub fn len(self) -> usize
         ensures { result ≡ length (typed_text_part self.entry).text }
     {
         each!(self, component => component.len())
     }
 
-    /// Whether the text is empty.
+    /// Whether the component has no bytes.
     pub fn is_empty(self) -> bool
         ensures { result ≡ (length (typed_text_part self.entry).text == 0) }
     {
