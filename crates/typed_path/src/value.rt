@@ -19,7 +19,7 @@ use crate::utf8::{Utf8Encoding, Utf8Path, Utf8PathBuf};
 use serde_json::Value;
 use std::alloc::Global;
 
-/// The JSON text of a copy of this text.
+/// Returns a JSON string with a copy of `text`. Fails with `OutOfMemory` alone.
 fn value_of(alloc: Global, text: &str) -> Result<Value, ValueError>
     ensures ok { IfOk result (λ v. IsValueOf text.now (view v)) }
     ensures err { IfErr result (λ e. e ≡ OutOfMemory) }
@@ -29,7 +29,7 @@ fn value_of(alloc: Global, text: &str) -> Result<Value, ValueError>
     Ok(Value::from(copy))
 }
 
-/// The path of a JSON text, made of that text.
+/// Makes a path of the text of a JSON string; any other value is refused with `NotText`.
 macro_rules! of_text {
     ($value:expr, $text:ident => $made:expr) => {
         match $value.as_str() {
@@ -40,11 +40,12 @@ macro_rules! of_text {
 }
 
 impl<'a, T: Encoding> Path<'a, T> {
-    /// The path as a JSON text.
+    /// Returns the path as a JSON string.
     ///
     /// # Errors
     ///
-    /// `NotUtf8` exactly where the bytes are no text, before memory is asked for; and want of memory.
+    /// `NotUtf8` exactly if the path is not UTF-8, before anything is allocated; `OutOfMemory` if
+    /// allocation fails.
     pub fn to_value(self, alloc: Global) -> Result<Value, ValueError>
         ensures ok { IfOk result (λ v. IsValueOf (path_bytes self.entry) (view v)) }
         ensures not_utf8 { is_utf8 (path_bytes self.entry) ≡ false → FailsBy NotUtf8 result }
@@ -59,11 +60,12 @@ impl<'a, T: Encoding> Path<'a, T> {
 }
 
 impl<T: Encoding> PathBuf<T> {
-    /// The path of a JSON text.
+    /// Returns the path that a JSON string holds.
     ///
     /// # Errors
     ///
-    /// `NotText` exactly where the value is no text, before memory is asked for; and want of memory.
+    /// `NotText` exactly if the value is not a string, before anything is allocated; `OutOfMemory`
+    /// if allocation fails.
     pub fn from_value(alloc: Global, value: &Value) -> Result<PathBuf<T>, ValueError>
         ensures ok { IfOk result (λ p. IsValueOf p.bytes (view value.now)) }
         ensures not_text { is_json_text (view value.now) ≡ false → FailsBy NotText result }
@@ -75,11 +77,11 @@ impl<T: Encoding> PathBuf<T> {
 }
 
 impl<'a, T: Utf8Encoding> Utf8Path<'a, T> {
-    /// The path as a JSON text.
+    /// Returns the path as a JSON string.
     ///
     /// # Errors
     ///
-    /// Want of memory alone.
+    /// `OutOfMemory` if allocation fails.
     pub fn to_value(self, alloc: Global) -> Result<Value, ValueError>
         ensures ok { IfOk result (λ v. IsValueOf (utf8_bytes self.entry) (view v)) }
         ensures memory { IfErr result (λ e. e ≡ OutOfMemory) }
@@ -89,11 +91,12 @@ impl<'a, T: Utf8Encoding> Utf8Path<'a, T> {
 }
 
 impl<T: Utf8Encoding> Utf8PathBuf<T> {
-    /// The path of a JSON text.
+    /// Returns the path that a JSON string holds.
     ///
     /// # Errors
     ///
-    /// `NotText` exactly where the value is no text, before memory is asked for; and want of memory.
+    /// `NotText` exactly if the value is not a string, before anything is allocated; `OutOfMemory`
+    /// if allocation fails.
     pub fn from_value(alloc: Global, value: &Value) -> Result<Utf8PathBuf<T>, ValueError>
         ensures ok { IfOk result (λ p. IsValueOf p.bytes (view value.now)) }
         ensures not_text { is_json_text (view value.now) ≡ false → FailsBy NotText result }
@@ -105,11 +108,12 @@ impl<T: Utf8Encoding> Utf8PathBuf<T> {
 }
 
 impl<'a> TypedPath<'a> {
-    /// The path as a JSON text. The value does not tell its kind.
+    /// Returns the path as a JSON string, which does not tell the dialect.
     ///
     /// # Errors
     ///
-    /// `NotUtf8` exactly where the bytes are no text, before memory is asked for; and want of memory.
+    /// `NotUtf8` exactly if the path is not UTF-8, before anything is allocated; `OutOfMemory` if
+    /// allocation fails.
     pub fn to_value(self, alloc: Global) -> Result<Value, ValueError>
         ensures ok { IfOk result (λ v. IsValueOf (typed_bytes self.entry) (view v)) }
         ensures not_utf8 { is_utf8 (typed_bytes self.entry) ≡ false → FailsBy NotUtf8 result }
@@ -121,11 +125,11 @@ impl<'a> TypedPath<'a> {
 }
 
 impl<'a> Utf8TypedPath<'a> {
-    /// The path as a JSON text. The value does not tell its kind.
+    /// Returns the path as a JSON string, which does not tell the dialect.
     ///
     /// # Errors
     ///
-    /// Want of memory alone.
+    /// `OutOfMemory` if allocation fails.
     pub fn to_value(self, alloc: Global) -> Result<Value, ValueError>
         ensures ok { IfOk result (λ v. IsValueOf (typed_text self.entry) (view v)) }
         ensures memory { IfErr result (λ e. e ≡ OutOfMemory) }
@@ -135,11 +139,12 @@ impl<'a> Utf8TypedPath<'a> {
 }
 
 impl TypedPathBuf {
-    /// The path of a JSON text, of the kind that the text looks like.
+    /// Returns the path that a JSON string holds, in the dialect that the text looks like.
     ///
     /// # Errors
     ///
-    /// `NotText` exactly where the value is no text, before memory is asked for; and want of memory.
+    /// `NotText` exactly if the value is not a string, before anything is allocated; `OutOfMemory`
+    /// if allocation fails.
     pub fn from_value(alloc: Global, value: &Value) -> Result<TypedPathBuf, ValueError>
         ensures dialect { IfOk result (λ p. typed_dialect p ≡ derived_dialect (owned_bytes p)) }
         ensures ok { IfOk result (λ p. IsValueOf (owned_bytes p) (view value.now)) }
@@ -152,11 +157,12 @@ impl TypedPathBuf {
 }
 
 impl Utf8TypedPathBuf {
-    /// The path of a JSON text, of the kind that the text looks like.
+    /// Returns the path that a JSON string holds, in the dialect that the text looks like.
     ///
     /// # Errors
     ///
-    /// `NotText` exactly where the value is no text, before memory is asked for; and want of memory.
+    /// `NotText` exactly if the value is not a string, before anything is allocated; `OutOfMemory`
+    /// if allocation fails.
     pub fn from_value(alloc: Global, value: &Value) -> Result<Utf8TypedPathBuf, ValueError>
         ensures dialect { IfOk result (λ p. typed_dialect p ≡ derived_dialect (owned_bytes p)) }
         ensures ok { IfOk result (λ p. IsValueOf (owned_bytes p) (view value.now)) }
