@@ -64,19 +64,19 @@ pub use windows::{
     windows_prefix_components_compare_by_kind, windows_prefixes_compare_by_kind,
 };
 
-/// A normal text of Unix reads as what the list of its path resolves to.
+/// The normal path of a Unix path is read as the components that the path resolves to.
 #[tactic(auto, using(crate::proofs::lemmas::promises::UnixContained::reads_as_resolved))]
 pub fn normal_reads_as_resolved(path: &[u8])
     ensures { ReadsAsResolved path.now }
 {}
 
-/// A normal text of Unix is its own normal text.
+/// The normal path of a Unix path is its own normal path.
 #[tactic(auto, using(crate::proofs::lemmas::promises::UnixContained::stays_normal))]
 pub fn normal_stays_normal(path: &[u8])
     ensures { StaysNormal path.now }
 {}
 
-/// Two paths of Unix have one normal text exactly if their lists resolve to the same kinds.
+/// Two Unix paths have the same normal path exactly if they resolve to the same kinds.
 #[tactic(auto, using(crate::proofs::lemmas::promises::UnixContained::is_canonical))]
 pub fn normal_is_canonical(path: &[u8], other: &[u8])
     ensures { IsCanonical path.now other.now }
@@ -97,22 +97,24 @@ pub fn order_is_total()
     ensures { IsTotalOrder (path_cmp d) }
 {}
 
-/// Two paths compare as equal exactly if they are equal, and the test for it tells so.
+/// Two paths compare as equal exactly if they are equal, and exactly then the test for equality is
+/// true.
 pub fn order_agrees_with_equality(path: &[u8], other: &[u8])
     ghost d: { Dialect }
     ensures test { (is_same d path.now other.now ≡ true) ↔ IsSame d path.now other.now }
     ensures order { IsSame d path.now other.now ↔ (path_cmp d path.now other.now ≡ Ordering.Equal) }
 {}
 
-/// Equal paths feed the same to a hasher.
+/// Equal paths feed a hasher the same.
 #[tactic(auto, using(crate::proofs::lemmas::order::Comparisons::hash_alike))]
 pub fn equal_paths_hash_alike(path: &[u8], other: &[u8])
     ghost d: { Dialect }
     ensures { HashAlike d path.now other.now }
 {}
 
-/// Two keys feed a hasher the same words exactly if their paths are equal. Where the bytes that they feed come to the
-/// same with any bytes behind each, the paths are equal too, and so is what stands behind.
+/// Two keys feed a hasher the same words exactly if their paths are equal. If the bytes that two
+/// keys feed, each with any bytes after them, are the same as a whole, the paths are equal, and so
+/// are the bytes after.
 pub fn keys_tell_paths_apart(path: &[u8], other: &[u8])
     ghost d: { Dialect }
     ensures words { IsKeyed d path.now other.now }
@@ -129,7 +131,7 @@ pub fn paths_compare_by_components<'a, T: Encoding>(one: Path<'a, T>, other: Pat
         ≡ path_words T.dialect (path_bytes one.entry) }
 {}
 
-/// The keys of paths, lent and owned, feed a hasher the words of the components.
+/// The keys of paths, borrowed and owned, feed a hasher the words of the components.
 pub fn keys_hash_by_components<'a, T: Encoding>(lent: Key<Path<'a, T>>, owned: &Key<PathBuf<T>>)
     ensures lent { ⟦<Key<Path<'a, T>> as Hash>⟧.hash_input lent.entry
         ≡ key_words T.dialect (path_bytes (keyed_path lent.entry)) }
@@ -137,7 +139,7 @@ pub fn keys_hash_by_components<'a, T: Encoding>(lent: Key<Path<'a, T>>, owned: &
         ≡ key_words T.dialect (keyed_path owned.now).bytes }
 {}
 
-/// What an iterator has left is equal and in order as the path of its slice left, read anew.
+/// Iterators over texts compare as the paths of their slices left, each read anew.
 pub fn iterators_compare_by_what_is_left<'a, T: Encoding>(one: Iter<'a, T>, other: Iter<'a, T>)
     ensures equality { ⟦<Iter<'a, T> as PartialEq>⟧.eq one.entry other.entry
         ≡ is_same T.dialect (components_slice one.entry) (components_slice other.entry) }
@@ -147,7 +149,8 @@ pub fn iterators_compare_by_what_is_left<'a, T: Encoding>(one: Iter<'a, T>, othe
         ≡ path_cmp T.dialect (components_slice one.entry) (components_slice other.entry) }
 {}
 
-/// The same of the iterators over the values of an encoding's own type.
+/// Iterators over components compare as the paths of their slices left, each read anew, whatever
+/// they give for a component.
 pub fn concrete_iterators_compare_by_what_is_left<'a, T: Encoding, I>(
     one: Reading<'a, T, I>,
     other: Reading<'a, T, I>,
@@ -160,7 +163,7 @@ pub fn concrete_iterators_compare_by_what_is_left<'a, T: Encoding, I>(
         ≡ path_cmp T.dialect (components_slice one.entry) (components_slice other.entry) }
 {}
 
-/// The clone of an iterator is never refused, and is that iterator.
+/// Cloning an iterator never fails, and makes the same iterator.
 pub fn iterators_are_cloned<'a, T: Encoding, I>(
     components: Components<'a, T>,
     texts: Iter<'a, T>,
@@ -181,8 +184,8 @@ pub fn iterators_are_cloned<'a, T: Encoding, I>(
         → copy ≡ values.entry }
 {}
 
-/// A file name without an extension is its stem; one with an extension is its stem, a dot and the
-/// extension, in which no dot stands; and the stem of a name is not empty.
+/// A file name without an extension is its stem. One with an extension is its stem, a dot and the
+/// extension, which has no dot. The stem of a name is not empty.
 pub fn name_is_stem_and_extension(name: &[u8])
     ensures stem_alone { extension_of name.now ≡ None → stem_of name.now ≡ name.now }
     ensures stem_and_extension { (extension : List ℕ) → extension_of name.now ≡ Some extension
@@ -192,7 +195,7 @@ pub fn name_is_stem_and_extension(name: &[u8])
     ensures stem_is_filled { 0 < length name.now → 0 < length (stem_of name.now) }
 {}
 
-/// A prefix takes some bytes of its path, and no more than the path has.
+/// A prefix takes at least one byte of its path, and no more than the path has.
 pub fn prefix_is_within(path: &[u8])
     ghost d: { Dialect }
     ensures some_bytes { (f : Found) → prefix_of d path.now ≡ Some f → 0 < f.length }
@@ -211,9 +214,10 @@ pub fn components_stand_in_order(path: &[u8])
     ensures { IsLaidOut (comps d path.now) path.now }
 {}
 
-/// Read step by step from both ends, a list of components answers and leaves what the counts of the
-/// steps from each end tell, whether it is that of a whole text or what is left of one. So does the
-/// slice, also where some components were taken before; once all are taken, nothing is left.
+/// A list of components that is read step by step from both ends gives what `reads` says, and
+/// leaves what the numbers of steps from each end say, be it the list of a whole path or what is
+/// left of one. So does the slice, also if components were taken before. Once all are taken,
+/// nothing is left.
 pub fn steps_agree_with_counts(path: &[u8])
     ghost d: { Dialect }
     ensures answers { (cs : List Placed) (sides : List Side) → answers_after cs sides
@@ -250,7 +254,8 @@ pub fn parent_is_the_list_without_its_last(path: &[u8])
         → comps d parent ≡ but_last (comps d path.now) }
 {}
 
-/// A path has at most one ancestor more than components, itself among them, and the last one has no parent.
+/// The ancestors of a path, itself among them, are at most one more than its components, and the
+/// last one has no parent.
 pub fn ancestors_end_at_the_top(path: &[u8])
     ghost d: { Dialect }
     ensures number { length (ancestors_of d path.now) ≤ length (comps d path.now) + 1 }
@@ -258,8 +263,8 @@ pub fn ancestors_end_at_the_top(path: &[u8])
         → parent_of d above ≡ None }
 {}
 
-/// A path ends in a name and its parent is read as a list exactly where the path is read as that list
-/// and one name behind it.
+/// A path ends in a name, and its parent is read as a list, exactly if the path is read as that
+/// list and one name after it.
 #[tactic(auto, using(crate::proofs::lemmas::queries::Parents::child_is_one_below))]
 pub fn children_are_one_name_below(path: &[u8])
     ghost d: { Dialect }
@@ -267,49 +272,50 @@ pub fn children_are_one_name_below(path: &[u8])
         ↔ IsOneBelow above (kinds (parts_of d path.now)) }
 {}
 
-/// A relative Unix path joined to a base that is not empty is read as the list of the base and,
-/// behind it, that of the path without a current directory at its beginning.
+/// A relative Unix path that is joined to a base that is not empty is read as the list of the base,
+/// and then its own without a `.` at the front.
 #[tactic(auto, using(crate::proofs::lemmas::promises::UnixContained::join_appends))]
 pub fn join_appends(base: &[u8], path: &[u8])
     ensures { JoinAppends base.now path.now }
 {}
 
-/// A path onto which another is pushed has at most three bytes more than both, and one with another extension
-/// at most one byte more than the path and the extension.
+/// A path onto which another is pushed is at most three bytes longer than the two together. A path
+/// with another extension is at most one byte longer than the path and the extension together.
 pub fn joined_is_short(base: &[u8], path: &[u8])
     ghost d: { Dialect }
     ensures joined { length (push d base.now path.now) ≤ length base.now + length path.now + 3 }
     ensures extended { length (with_extension d base.now path.now) ≤ length base.now + length path.now + 1 }
 {}
 
-/// A path with another file name has at most three bytes more than both.
+/// A path with another file name is at most three bytes longer than the path and the name together.
 #[tactic(auto, using(crate::proofs::lemmas::changes::Lengths::with_file_name_length))]
 pub fn renamed_is_short(path: &[u8], name: &[u8])
     ghost d: { Dialect }
     ensures { length (with_file_name d path.now name.now) ≤ length path.now + length name.now + 3 }
 {}
 
-/// A clean path has at most one byte more than the path.
+/// A clean path is at most one byte longer than its path.
 #[tactic(auto, using(crate::proofs::lemmas::places::CleanLengths::clean_text_length))]
 pub fn cleaned_is_short(path: &[u8])
     ghost d: { Dialect }
     ensures { length (clean_text d path.now) ≤ length path.now + 1 }
 {}
 
-/// A path that leads from a base has at most three bytes more than the path and twice the base.
+/// The path that leads from a base to a path is at most three bytes longer than the path and twice
+/// the base.
 pub fn led_is_short(path: &[u8], base: &[u8])
     ghost d: { Dialect }
     ensures { IfSome (relative_text d path.now base.now)
         (λ text. length text ≤ length path.now + 2 * length base.now + 3) }
 {}
 
-/// A normal path has at most one byte more than the path.
+/// A normal path is at most one byte longer than its path.
 pub fn normalized_is_short(path: &[u8])
     ghost d: { Dialect }
     ensures { length (normal_text d path.now) ≤ length path.now + 1 }
 {}
 
-/// A path in another dialect has at most one byte more than the path.
+/// A path in another dialect is at most one byte longer than the path.
 pub fn converted_is_short(path: &[u8])
     ghost d: { Dialect }
     ensures converted { (e : Dialect) → length (converted d e path.now) ≤ length path.now + 1 }
@@ -317,28 +323,30 @@ pub fn converted_is_short(path: &[u8])
         → IfOk (converted_checked d e path.now) (λ text. length text ≤ length path.now + 1) }
 {}
 
-/// A path made absolute has at most three bytes more than the directory and the path.
+/// A path made absolute is at most three bytes longer than the directory and the path together.
 pub fn absolutized_is_short(directory: &[u8], path: &[u8])
     ghost d: { Dialect }
     ensures { IfSome (absolute_from d directory.now path.now)
         (λ text. length text ≤ length directory.now + length path.now + 3) }
 {}
 
-/// Where a Unix path begins with a base, what is left behind the base, joined to it, equals the path.
+/// If a Unix path begins with a base, what is left of it after the base, joined to the base, equals
+/// the path.
 #[tactic(auto, using(crate::proofs::lemmas::promises::UnixContained::strip_joins))]
 pub fn strip_joins(path: &[u8], base: &[u8])
     ensures { StripJoins path.now base.now }
 {}
 
-/// A Unix path is within a base exactly where, from every absolute directory, it lies at the place of the
-/// base or names below it.
+/// A Unix path is within a base exactly if, from every absolute directory, it lies at the place of
+/// the base or names below it.
 #[tactic(auto, using(crate::proofs::lemmas::promises::UnixWithin::is_exact))]
 pub fn within_is_exact(path: &[u8], base: &[u8])
     ensures { IsWithinExactly base.now path.now }
 {}
 
-/// What a checked join accepts lies, joined to a base, within it exactly if it has the prefix of the base: on
-/// Unix always. A base that keeps its prefix holds it, and what is joined to that base keeps it too.
+/// A path that a checked join accepts is, joined to a base, within the base exactly if the result
+/// has the prefix of the base, as it always has on Unix. If the base keeps its prefix, the result
+/// is within it, and keeps its prefix too.
 #[tactic(auto, using(crate::proofs::lemmas::promises::JoinedWithin::joins_within, crate::proofs::lemmas::promises::JoinedWithin::stays_within, crate::proofs::lemmas::promises::JoinedWithin::keeps_again))]
 pub fn joined_is_within(base: &[u8], path: &[u8])
     ghost d: { Dialect }
@@ -347,7 +355,8 @@ pub fn joined_is_within(base: &[u8], path: &[u8])
     ensures again { fault d path.now ≡ None → KeepsAgain d base.now (push d base.now path.now) }
 {}
 
-/// Each path is within itself, and a path that is within another is within each base of that one.
+/// Each path is within itself. A path that is within another is within each base that the other is
+/// within.
 #[tactic(auto, using(crate::proofs::lemmas::promises::JoinedWithin::within_itself, crate::proofs::lemmas::promises::JoinedWithin::within_both))]
 pub fn within_is_a_preorder(path: &[u8], middle: &[u8], base: &[u8])
     ghost d: { Dialect }
@@ -356,8 +365,8 @@ pub fn within_is_a_preorder(path: &[u8], middle: &[u8], base: &[u8])
         → is_within d middle.now base.now ≡ true → is_within d path.now base.now ≡ true }
 {}
 
-/// Of two paths that a checked join accepts, one joined behind the other, the answer is within the base, if
-/// that keeps its prefix.
+/// If a checked join accepts two paths, and a base keeps its prefix, then the first joined to the
+/// base, and the second to that, is within the base.
 #[tactic(auto, using(crate::proofs::lemmas::promises::JoinedWithin::stays_within_twice))]
 pub fn joined_twice_is_within(base: &[u8], first: &[u8], second: &[u8])
     ghost d: { Dialect }
@@ -365,45 +374,47 @@ pub fn joined_twice_is_within(base: &[u8], first: &[u8], second: &[u8])
         → StaysWithin d base.now (push d (push d base.now first.now) second.now) }
 {}
 
-/// In each dialect, from every absolute directory that keeps its prefix, a path that is within a base lies
-/// at the place of the base or names below it.
+/// In each dialect, from every absolute directory that keeps its prefix, a path that is within a
+/// base lies at the place of the base or names below it.
 #[tactic(auto, using(crate::proofs::lemmas::promises::VerbatimWithin::leads_below))]
 pub fn within_leads_below(directory: &[u8], path: &[u8], base: &[u8])
     ghost d: { Dialect }
     ensures { LeadsBelow d directory.now base.now path.now }
 {}
 
-/// A clean text has the prefix of its path, or none as that has, leads where the path leads, and is its own clean
-/// text, but behind the verbatim prefix that is named `UNC`.
+/// A clean path has the prefix of its path, or none if that has none, leads where the path leads,
+/// and is its own clean path. The verbatim prefix that is named `UNC` is excepted.
 #[tactic(auto, using(crate::proofs::lemmas::promises::WindowsClean::clean_form))]
 pub fn clean_has_its_form(path: &[u8])
     ghost d: { Dialect }
     ensures { HasCleanForm d path.now (clean_text d path.now) }
 {}
 
-/// Two paths without a prefix, as all of Unix are, have one clean text exactly if they lead alike.
+/// Two paths without a prefix, as all Unix paths are, have the same clean path exactly if they have
+/// the same route.
 #[tactic(auto, using(crate::proofs::lemmas::promises::CleanForms::clean_alike))]
 pub fn clean_is_canonical(path: &[u8], other: &[u8])
     ghost d: { Dialect }
     ensures { AreCleanAlike d path.now other.now }
 {}
 
-/// In each dialect, from every absolute directory that keeps its prefix, paths that lead alike lie at one place.
+/// In each dialect, from every absolute directory that keeps its prefix, paths with the same route
+/// lie at one place.
 #[tactic(auto, using(crate::proofs::lemmas::promises::RouteBehind::lead_alike))]
 pub fn routes_tell_places(directory: &[u8], path: &[u8], other: &[u8])
     ghost d: { Dialect }
     ensures { LeadAlike d directory.now path.now other.now }
 {}
 
-/// In each dialect, from every absolute directory that keeps its prefix, a clean path lies where its path does, but
-/// behind the verbatim prefix that is named `UNC`.
+/// In each dialect, from every absolute directory that keeps its prefix, a clean path lies where
+/// its path does. The verbatim prefix that is named `UNC` is excepted.
 #[tactic(auto, using(crate::proofs::lemmas::promises::RouteBehind::clean_leads_alike))]
 pub fn clean_leads_where_its_path_does(directory: &[u8], path: &[u8])
     ghost d: { Dialect }
     ensures { CleanLeadsAlike d directory.now path.now }
 {}
 
-/// The clean text of a text in UTF-8 is one.
+/// The clean path of a path in UTF-8 is in UTF-8.
 #[tactic(auto, using(crate::proofs::lemmas::texts::TextClean::clean_laws))]
 pub fn clean_stays_a_text(path: &[u8])
     ghost d: { Dialect }
@@ -417,31 +428,33 @@ pub fn relative_stays_relative(path: &[u8], base: &[u8])
     ensures { StaysRelative d path.now base.now }
 {}
 
-/// On Unix it leads, joined to its base, where the path leads.
+/// On Unix, the path that leads from a base to a path leads there if it is joined to the base.
 #[tactic(auto, using(crate::proofs::lemmas::promises::UnixRelative::leads_unix))]
 pub fn relative_leads_back(path: &[u8], base: &[u8])
     ensures { LeadsBack unix path.now base.now }
 {}
 
-/// There is none exactly where the two begin differently, the base leads higher, or no text without a prefix is
-/// read with the names that are left.
+/// `relative_to` finds no path exactly if the two begin differently, the base leads higher, or no
+/// path without a prefix is read with the names that are left.
 pub fn relative_has_none(path: &[u8], base: &[u8])
     ghost d: { Dialect }
     ensures { HasNone d path.now base.now }
 {}
 
-/// On Unix there is none exactly where one of the two alone has a root, or more parents of the base are left over.
+/// On Unix, `relative_to` finds no path exactly if one of the two alone has a root, or more `..` of
+/// the base lead above where it begins.
 pub fn relative_has_none_on_unix(path: &[u8], base: &[u8])
     ensures { HasNoneOnUnix path.now base.now }
 {}
 
-/// On Unix there is none exactly where no relative path leads from the base to the path.
+/// On Unix, `relative_to` finds no path exactly if no relative path leads from the base to the
+/// path.
 #[tactic(auto, using(crate::proofs::lemmas::promises::UnixRelative::has_none_at_all))]
 pub fn relative_has_none_at_all(path: &[u8], base: &[u8])
     ensures { HasNoneAtAll path.now base.now }
 {}
 
-/// On Unix `.` leads from a base to a path exactly where both have one route.
+/// On Unix, `.` leads from a base to a path exactly if both have the same route.
 pub fn dot_leads_to_the_same(path: &[u8], base: &[u8])
     ensures { IsDotAlike path.now base.now }
 {}
@@ -456,8 +469,8 @@ pub fn unix_components_compare_by_kind<'a>(one: UnixComponent<'a>, other: UnixCo
         ≡ unix_words (unix_part one.entry).kind }
 {}
 
-/// What a component is, beside its text, is equal, compares and hashes as the kind of a component with an
-/// empty text.
+/// Values of [`PieceKind`] are equal, compare and hash as the kind of a component whose text is
+/// empty.
 pub fn piece_kinds_compare_by_kind<'a>(one: PieceKind<'a>, other: PieceKind<'a>)
     ensures equality { (⟦<PieceKind<'a> as PartialEq>⟧.eq one.entry other.entry ≡ true)
         ↔ (kind_view one.entry [] ≡ kind_view other.entry []) }
@@ -467,8 +480,8 @@ pub fn piece_kinds_compare_by_kind<'a>(one: PieceKind<'a>, other: PieceKind<'a>)
         ≡ kind_words (kind_view one.entry []) }
 {}
 
-/// Components, as the readings of both dialects give them, are equal, compare and hash as their kinds say,
-/// and then their texts.
+/// Pieces, which the readings of both dialects give, are equal, compare and hash by their kinds,
+/// and then by their texts.
 pub fn pieces_compare_by_kind_and_text<'a>(one: Piece<'a>, other: Piece<'a>)
     ensures equality { (⟦<Piece<'a> as PartialEq>⟧.eq one.entry other.entry ≡ true)
         ↔ (part_of one.entry ≡ part_of other.entry) }
@@ -490,8 +503,8 @@ pub fn unix_constants_are_these()
     ensures disallowed_characters { DISALLOWED_FILENAME_CHARS ≡ slash ∷ 0 ∷ [] }
 {}
 
-/// The encoding of the machine reads and writes as that of Unix does, and it alone, of bytes and of text, is
-/// the machine's.
+/// The platform encoding reads and writes as that of Unix does. It alone is the encoding of the
+/// machine, and of those of text its twin alone.
 pub fn platform_is_unix()
     ensures dialect { ⟦<PlatformEncoding as Encoding>⟧.dialect
         ≡ ⟦<UnixEncoding as Encoding>⟧.dialect }
@@ -503,9 +516,9 @@ pub fn platform_is_unix()
     ensures text_of_windows { ⟦<Utf8WindowsEncoding as Utf8Encoding>⟧.IS_PLATFORM ≡ false }
 {}
 
-/// The checked conversion to Windows accepts a Unix path in whose names no `\` stands exactly where
-/// Windows allows each name: none has a byte that Windows allows in no name, and none stands for a
-/// device. Then the answer is read as the same components, and its conversion to Unix equals the
+/// If no name of a Unix path has a `\`, the checked conversion to Windows accepts the path exactly
+/// if Windows allows each name: none has a byte that Windows forbids in names, and none stands for
+/// a device. Then the result is read as the same components, and converted to Unix it equals the
 /// path.
 #[tactic(auto, using(crate::proofs::lemmas::conversions::Crossings::crosses_where_allowed, crate::proofs::lemmas::conversions::CrossedPaths::crosses_as_it_is, crate::proofs::lemmas::conversions::CrossedPaths::crosses_back))]
 pub fn unix_paths_cross_to_windows(path: &[u8])
@@ -514,9 +527,9 @@ pub fn unix_paths_cross_to_windows(path: &[u8])
     ensures back { CrossesBack path.now }
 {}
 
-/// A Windows path none of whose names has a byte that no name may have becomes on Unix: a root, where
-/// it has one or a prefix that is no drive, or else its drive as a name, or a current that stands
-/// first; and then its parents and names, in order.
+/// A Windows path whose names have no forbidden byte becomes on Unix: a root, if it has one or a
+/// prefix other than a drive; else its drive as a name, or a `.` that is its first component; and
+/// then its `..` and names, in order.
 #[tactic(auto, using(crate::proofs::lemmas::conversions::CrossedPaths::crosses_to_unix))]
 pub fn windows_paths_cross_to_unix(path: &[u8])
     ensures { CrossesToUnix path.now }
@@ -535,7 +548,7 @@ pub fn text_paths_compare_by_components<'a, T: Utf8Encoding>(
         ≡ path_words T.Bytes.dialect (utf8_bytes one.entry) }
 {}
 
-/// What a reading of a text has left is equal and in order as the path of its slice left, read anew.
+/// Iterators over a path of text compare as the paths of their slices left, each read anew.
 pub fn text_readings_compare_by_what_is_left<'a, T: Utf8Encoding, I>(
     one: Utf8Reading<'a, T, I>,
     other: Utf8Reading<'a, T, I>,
@@ -549,7 +562,7 @@ pub fn text_readings_compare_by_what_is_left<'a, T: Utf8Encoding, I>(
         ≡ path_cmp T.Bytes.dialect (reading_slice one.entry) (reading_slice other.entry) }
 {}
 
-/// The clone of an iterator over a text is never refused, and is that iterator.
+/// Cloning an iterator over a path of text never fails, and makes the same iterator.
 pub fn text_iterators_are_cloned<'a, T: Utf8Encoding, I>(
     reading: Utf8Reading<'a, T, I>,
     ancestors: Utf8Ancestors<'a, T>,
@@ -585,8 +598,8 @@ pub fn text_prefixes_compare_by_kind<'a>(one: Utf8WindowsPrefix<'a>, other: Utf8
         ≡ text_prefix_words (text_prefix one.entry) }
 {}
 
-/// Prefixes of texts, with how they are written, are equal, compare and hash as their kinds say,
-/// however they are written.
+/// Prefixes of texts, together with how they are written, are equal, compare and hash by their
+/// kinds alone.
 pub fn text_prefix_components_compare_by_kind<'a>(
     one: Utf8WindowsPrefixComponent<'a>,
     other: Utf8WindowsPrefixComponent<'a>,
@@ -612,8 +625,8 @@ pub fn text_windows_components_compare_by_kind<'a>(
         ≡ text_windows_words (text_windows_part one.entry).kind }
 {}
 
-/// What a component of a text is, beside its text, is equal, compares and hashes as the kind of a
-/// component with an empty text.
+/// Values of [`Utf8PieceKind`] are equal, compare and hash as the kind of a component whose text is
+/// empty.
 pub fn text_piece_kinds_compare_by_kind<'a>(one: Utf8PieceKind<'a>, other: Utf8PieceKind<'a>)
     ensures equality { (⟦<Utf8PieceKind<'a> as PartialEq>⟧.eq one.entry other.entry ≡ true)
         ↔ (text_kind one.entry [] ≡ text_kind other.entry []) }
@@ -623,8 +636,8 @@ pub fn text_piece_kinds_compare_by_kind<'a>(one: Utf8PieceKind<'a>, other: Utf8P
         ≡ text_kind_words (text_kind one.entry []) }
 {}
 
-/// Components of texts, as the readings of both dialects give them, are equal, compare and hash as
-/// their kinds say, and then their texts.
+/// Pieces of text, which the readings of both dialects give, are equal, compare and hash by their
+/// kinds, and then by their texts.
 pub fn text_pieces_compare_by_kind_and_text<'a>(one: Utf8Piece<'a>, other: Utf8Piece<'a>)
     ensures equality { (⟦<Utf8Piece<'a> as PartialEq>⟧.eq one.entry other.entry ≡ true)
         ↔ (text_part one.entry ≡ text_part other.entry) }
@@ -635,8 +648,9 @@ pub fn text_pieces_compare_by_kind_and_text<'a>(one: Utf8Piece<'a>, other: Utf8P
         ≡ text_piece_words (text_part one.entry) }
 {}
 
-/// Values of two kinds are never equal, and one of Unix is less. Those of one kind are equal, in order
-/// and hashed as what they hold, behind the kind.
+/// Typed values of two dialects are never equal, and one of Unix is less. Those of one dialect
+/// compare as what they hold. A typed value feeds a hasher its dialect, and then what the value
+/// that it holds feeds.
 pub fn typed_values_compare_by_kind<U: Ord + Hash, W: Ord + Hash>(
     one: &Typed<U, W>,
     other: &Typed<U, W>,
@@ -649,14 +663,15 @@ pub fn typed_values_compare_by_kind<U: Ord + Hash, W: Ord + Hash>(
         ≡ typed_words U.hash_input W.hash_input one.now }
 {}
 
-/// The key of a typed path feeds a hasher the number of its dialect, and then what the key of the path that it
-/// holds feeds.
+/// The key of a typed path feeds a hasher the number of its dialect, and then what the key of the
+/// path that it holds feeds.
 pub fn typed_keys_hash_by_kind<U: KeyPath, W: KeyPath>(key: &Key<Typed<U, W>>)
     ensures { ⟦<Key<Typed<U, W>> as Hash>⟧.hash_input key.now
         ≡ typed_key_words U.key_input W.key_input (keyed_path key.now) }
 {}
 
-/// Readings of two kinds are never equal, and in no order. Those of one kind compare as what they hold.
+/// Iterators of two dialects are never equal, and are in no order. Those of one dialect compare as
+/// what they hold.
 pub fn typed_readings_compare_by_kind<U: PartialOrd, W: PartialOrd>(
     one: &TypedReading<U, W>,
     other: &TypedReading<U, W>,
@@ -667,14 +682,14 @@ pub fn typed_readings_compare_by_kind<U: PartialOrd, W: PartialOrd>(
         ≡ reading_partial_cmp U.partial_cmp W.partial_cmp one.now other.now }
 {}
 
-/// Kinds of paths compare by their place, Unix first, and feed a hasher that place.
+/// Dialects compare by their place, Unix first, and feed a hasher that place.
 pub fn path_types_compare_by_place(one: PathType, other: PathType)
     ensures order { ⟦<PathType as Ord>⟧.cmp one other
         ≡ nat_cmp (kind_place one) (kind_place other) }
     ensures hash { ⟦<PathType as Hash>⟧.hash_input one ≡ isize (pos (kind_place one)) }
 {}
 
-/// The clone of an iterator whose dialect is chosen when the program runs is never refused, and is that
+/// Cloning an iterator whose dialect is chosen at run time never fails, and makes the same
 /// iterator.
 pub fn typed_iterators_are_cloned<'a>(
     components: TypedComponents<'a>,
@@ -708,8 +723,8 @@ pub fn typed_iterators_are_cloned<'a>(
         → copy ≡ text_ancestors.entry }
 {}
 
-/// Two paths begin with their common ancestor, and it begins with each path that both begin with. Where there
-/// is none, no path with a component begins both.
+/// Two paths begin with their common ancestor, and it begins with each path that both begin with.
+/// If they have none, both begin with no path that has a component.
 #[tactic(auto, using(crate::proofs::lemmas::promises::Shared::longest, crate::proofs::lemmas::promises::Shared::share_nothing))]
 pub fn common_ancestor_is_longest(path: &[u8], other: &[u8])
     ghost d: { Dialect }
@@ -720,8 +735,9 @@ pub fn common_ancestor_is_longest(path: &[u8], other: &[u8])
         → ShareNothing d path.now other.now }
 {}
 
-/// With one extension more, in which no byte separates its components, a path has its parent, and its file name
-/// with that behind it, but for a prefix that is the verbatim one named `UNC`.
+/// If a path with a file name gets one more extension, in which no byte separates its components,
+/// its parent stays, and its file name becomes the old one, a dot and the extension. The verbatim
+/// prefix that is named `UNC` is excepted.
 pub fn added_extension_keeps_the_parent(path: &[u8], extension: &[u8])
     ghost d: { Dialect }
     ensures { ExtendsName d path.now extension.now }

@@ -36,8 +36,8 @@ pub fn lowered_stays(path: &[u8])
     ensures again { lowered d (lowered d path.now) ≡ lowered d path.now }
 {}
 
-/// A path in lower case is absolute, has a root, and has valid names exactly as the path, and a checked join refuses
-/// both for the same.
+/// A path in lower case is absolute, has a root, and has valid names exactly if the path does, and
+/// a checked join refuses both for the same.
 #[tactic(auto, using(crate::proofs::lemmas::promises::LoweredPaths::is_absolute_lowered, crate::proofs::lemmas::promises::LoweredPaths::has_root_lowered, crate::proofs::lemmas::promises::LoweredPaths::is_valid_lowered, crate::proofs::lemmas::promises::LoweredPaths::fault_lowered))]
 pub fn lowered_answers_alike(path: &[u8])
     ghost d: { Dialect }
@@ -50,7 +50,7 @@ pub fn lowered_answers_alike(path: &[u8])
     ensures refused { fault d (lowered d path.now) ≡ fault d path.now }
 {}
 
-/// What lies within a base does so in lower case.
+/// If a path is within a base, it is so in lower case too.
 #[tactic(auto, using(crate::proofs::lemmas::promises::LoweredPaths::is_within_lowered))]
 pub fn lowered_stays_within(path: &[u8], base: &[u8])
     ghost d: { Dialect }

@@ -8,27 +8,27 @@ ghost use Rattle.typed_path.specs.changes.{fault, fault_behind};
 ghost use Rattle.typed_path.specs.conversions.{converted, converted_checked};
 ghost use Rattle.typed_path.specs.order.{IsSame};
 
-/// A name that stands for a device by the rule of valid names, or is taken for one by that of simplified paths, may
-/// be one.
+/// A name that stands for a device by the rule of valid names, or by that of simplified paths, may
+/// be one by the widest rule.
 pub fn reserved_names_may_be_devices(name: &[u8])
     ensures reserved { is_reserved windows name.now ≡ true → name_may_be_device name.now ≡ true }
     ensures taken { is_taken_for_device name.now ≡ true → name_may_be_device name.now ≡ true }
 {}
 
-/// A portable name is one that is not empty, is valid in both dialects, has no control byte, may be no device, ends in
-/// neither a dot nor a space, has at most 255 bytes and is UTF-8.
+/// A portable name is one that is not empty, is valid in both dialects, has no control byte, may be
+/// no device, ends in neither a dot nor a space, has at most 255 bytes and is UTF-8.
 pub fn portable_names_are_these(name: &[u8])
     ensures { (is_portable_name name.now ≡ true) ↔ IsPortableName name.now }
 {}
 
-/// The first component that offends tells what the path is refused for.
+/// A path is refused as not portable for what its first component that offends is refused for.
 pub fn unportable_tells_why(path: &[u8])
     ghost d: { Dialect }
     ensures { option_map (λ found. found.1) (unportable d path.now) ≡ portable_fault d path.now }
 {}
 
-/// A portable path is valid in both dialects, none of its names may be a device, and where it has neither a root nor
-/// a `..` a checked call of either dialect refuses none of its components.
+/// A portable path is valid in both dialects, and none of its names may be a device. If it has
+/// neither a root nor a `..`, a checked call of either dialect refuses none of its components.
 pub fn portable_is_valid_in_both(path: &[u8])
     ghost d: { Dialect }
     ensures valid { portable_fault d path.now ≡ None
@@ -43,8 +43,8 @@ pub fn portable_is_valid_in_both(path: &[u8])
         → list_any is_parent (kinds (parts_of d path.now)) ≡ false → fault d path.now ≡ None }
 {}
 
-/// The text of a portable Unix path has no `\`. Without a root it is read on Windows as the same components, so it is
-/// portable there, and without a `..` the checks of both dialects accept it.
+/// A portable Unix path has no `\`. Without a root it is read on Windows as the same components, so
+/// it is portable there. If it also has no `..`, the checks of both dialects accept it.
 pub fn portable_reads_alike(path: &[u8])
     ensures lacks { portable_fault unix path.now ≡ None → list_any is_backslash path.now ≡ false }
     ensures alike { portable_fault unix path.now ≡ None
@@ -59,8 +59,9 @@ pub fn portable_reads_alike(path: &[u8])
         → (e : Dialect) → fault e path.now ≡ None }
 {}
 
-/// The text of a portable Windows path, if it has no `\`, is read on Unix as the same kinds, so it is portable there;
-/// without a root it is read as the same components, and without a `..` too the checks of both dialects accept it.
+/// A portable Windows path without a `\` is read on Unix as the same kinds, so it is portable
+/// there. Without a root it is read as the same components. If it also has no `..`, the checks of
+/// both dialects accept it.
 pub fn portable_reads_alike_on_unix(path: &[u8])
     ensures kinds { portable_fault windows path.now ≡ None
         → list_any is_backslash path.now ≡ false
@@ -78,7 +79,8 @@ pub fn portable_reads_alike_on_unix(path: &[u8])
         → (e : Dialect) → fault e path.now ≡ None }
 {}
 
-/// A portable path keeps its components in the other dialect, stays portable there, and comes back.
+/// A portable path keeps its components in the other dialect, stays portable there, and equals
+/// itself if it is converted back.
 pub fn portable_crosses(path: &[u8])
     ensures accepted { portable_fault unix path.now ≡ None
         → IsOk (converted_checked unix windows path.now) }

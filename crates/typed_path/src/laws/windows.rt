@@ -1,4 +1,5 @@
-//! The laws of Windows: of normal texts, and of single values.
+//! The laws of Windows: of normal, relative and simplified paths, of constants, and of single
+//! values.
 
 ghost use Rattle.std.specs.Prelude.{◌≡◌, ◌↔◌, true, false, IfSome, [], ◌∷◌, ◌++◌, codes, map};
 ghost use Rattle.typed_path.specs.components.{dot, slash, backslash, windows, prefix, kinds, parts_of};
@@ -19,16 +20,17 @@ use crate::constants::windows::{
 use crate::windows::{WindowsComponent, WindowsPrefix, WindowsPrefixComponent};
 use std::hash::Hash;
 
-/// A normal text of Windows reads as what the list of its path resolves to, but for a root put in
-/// behind a verbatim drive, leads where the path does and is its own normal text, where no name has a
-/// byte that no name may have and the prefix is not the verbatim one named `UNC`.
+/// The normal path of a Windows path is read as the components that the path resolves to, with a
+/// root put in after a verbatim drive. It leads where the path does, and is its own normal path.
+/// This is so if no name has a byte that no name may have, and the prefix is not the verbatim one
+/// named `UNC`.
 #[tactic(auto, using(crate::proofs::lemmas::promises::WindowsStable::stays_stable))]
 pub fn normal_stays_stable(path: &[u8])
     ensures { StaysStable path.now }
 {}
 
-/// A Windows path with a prefix that is within a base lies, from every directory, at the place of the base or
-/// names below it.
+/// A Windows path with a prefix that is within a base lies, from every directory, at the place of
+/// the base or names below it.
 #[tactic(auto, using(crate::proofs::lemmas::promises::WindowsWithin::prefixed_below))]
 pub fn prefixed_within_leads_below(directory: &[u8], path: &[u8], base: &[u8])
     ensures { has_prefix (kinds (parts_of windows path.now)) ≡ true
@@ -37,13 +39,15 @@ pub fn prefixed_within_leads_below(directory: &[u8], path: &[u8], base: &[u8])
         (push windows directory.now path.now) }
 {}
 
-/// A path that leads from a base to another leads back behind a base that keeps its prefix, and if that is
-/// verbatim ends with as many names as parents lead up.
+/// On Windows, the path that leads from a base to a path leads there if it is joined to the base,
+/// provided that the base keeps its prefix and, if that is verbatim, ends with at least as many
+/// names as `..` lead up.
 pub fn relative_leads_back_on_windows(path: &[u8], base: &[u8])
     ensures { LeadsBackOnWindows path.now base.now }
 {}
 
-/// A path that leads from a base to another leads back behind a clean base that keeps its prefix, verbatim or not.
+/// On Windows, the path that leads from a base to a path leads there if it is joined to the base,
+/// provided that the base is clean and keeps its prefix, be that verbatim or not.
 pub fn relative_leads_back_behind_clean(path: &[u8], base: &[u8])
     ensures { LeadsBackBehindClean path.now base.now }
 {}
@@ -55,8 +59,9 @@ pub fn kept_prefix_is_not_named_unc(base: &[u8])
         → is_verbatim_unc_name (prefix_kind windows base.now) ≡ false }
 {}
 
-/// A simplified path has the components of the path, but that the verbatim drive may have become the drive:
-/// it is absolute, has a root and a file name as the path, and resolves to the same names.
+/// A simplified path has the components of the path, except that a verbatim drive may have become a
+/// drive. It is absolute, has a root and has a file name as the path does, and resolves to the same
+/// names.
 #[tactic(auto, using(crate::proofs::lemmas::queries::Simplified::alike_behind))]
 pub fn simplified_is_alike_behind(path: &[u8])
     ensures { IsAlikeBehind path.now (simplified_text windows path.now) }
@@ -95,8 +100,7 @@ pub fn windows_prefixes_compare_by_kind<'a>(one: WindowsPrefix<'a>, other: Windo
         ≡ prefix_words (prefix_view one.entry) }
 {}
 
-/// Prefixes with their texts are equal, compare and hash as their kinds say, however they are
-/// written.
+/// Prefixes together with how they are written are equal, compare and hash by their kinds alone.
 pub fn windows_prefix_components_compare_by_kind<'a>(
     one: WindowsPrefixComponent<'a>,
     other: WindowsPrefixComponent<'a>,
