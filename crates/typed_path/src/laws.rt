@@ -214,10 +214,10 @@ pub fn components_stand_in_order(path: &[u8])
     ensures { IsLaidOut (comps d path.now) path.now }
 {}
 
-/// A list of components that is read step by step from both ends gives what `reads` says, and
-/// leaves what the numbers of steps from each end say, be it the list of a whole path or what is
-/// left of one. So does the slice, also if components were taken before. Once all are taken,
-/// nothing is left.
+/// A reading from both ends is defined step by step, and by the numbers of steps from each end. The
+/// two agree on what each step returns and on the components left, be they those of a whole path or
+/// what is left of one. They agree on the slice left, also if components were taken before. Once
+/// all are taken, nothing is left.
 pub fn steps_agree_with_counts(path: &[u8])
     ghost d: { Dialect }
     ensures answers { (cs : List Placed) (sides : List Side) → answers_after cs sides
@@ -503,8 +503,8 @@ pub fn unix_constants_are_these()
     ensures disallowed_characters { DISALLOWED_FILENAME_CHARS ≡ slash ∷ 0 ∷ [] }
 {}
 
-/// The platform encoding reads and writes as that of Unix does. It alone is the encoding of the
-/// machine, and of those of text its twin alone.
+/// The platform encoding reads and writes as that of Unix does. It is the only encoding of bytes
+/// that counts as the machine's, and its twin the only one of text.
 pub fn platform_is_unix()
     ensures dialect { ⟦<PlatformEncoding as Encoding>⟧.dialect
         ≡ ⟦<UnixEncoding as Encoding>⟧.dialect }
@@ -598,8 +598,8 @@ pub fn text_prefixes_compare_by_kind<'a>(one: Utf8WindowsPrefix<'a>, other: Utf8
         ≡ text_prefix_words (text_prefix one.entry) }
 {}
 
-/// Prefixes of texts, together with how they are written, are equal, compare and hash by their
-/// kinds alone.
+/// Prefix components of text are equal, compare and hash by their kinds alone, however they are
+/// written.
 pub fn text_prefix_components_compare_by_kind<'a>(
     one: Utf8WindowsPrefixComponent<'a>,
     other: Utf8WindowsPrefixComponent<'a>,

@@ -220,7 +220,7 @@ pub trait Encoding: Sized {
     /// list resolves to, pushed one by one onto the empty path. If allocation fails, `text` keeps
     /// its bytes.
     ///
-    /// It succeeds if `text` has spare capacity for `path` and one byte more, and each of these
+    /// It never fails if `text` has spare capacity for `path` and one byte more, and each of these
     /// pushes only appends: on Windows, if the prefix is not verbatim and no segment after it
     /// begins with a drive.
     fn put_normal(text: &mut Vec<u8>, path: &[u8]) -> Result<(), AllocError>

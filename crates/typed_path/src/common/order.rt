@@ -480,7 +480,8 @@ fn compare_steps(step: Step<'_>, other: Step<'_>) -> Ordering
     kind_rank(step.kind).cmp(&kind_rank(other.kind))
 }
 
-/// Whether two components after the prefix are of one kind, and have one name if they are names.
+/// Whether two components after the prefix are of one kind, and have the same name if they are
+/// names.
 #[inline(always)]
 fn is_same_step(step: Step<'_>, other: Step<'_>) -> bool
     ensures { result ≡ is_eq (kind_cmp (step_part step.entry).kind (step_part other.entry).kind) }
@@ -494,7 +495,7 @@ fn is_same_step(step: Step<'_>, other: Step<'_>) -> bool
     }
 }
 
-/// Returns the rank of a kind of component after the prefix, least first.
+/// Returns the rank of a kind of component after the prefix, from 0 for the least.
 #[inline(always)]
 pub(crate) fn kind_rank(kind: StepKind) -> u8
     ensures { result ≡ step_rank kind }

@@ -145,8 +145,8 @@ impl<'a, T: Encoding> Path<'a, T> {
         first_unportable(self.components())
     }
 
-    /// Whether each checked join onto this path is known to have its prefix, or none if it has
-    /// none. `false` leaves it open.
+    /// Whether each path that a checked join makes of this one is known to have the prefix of this
+    /// one, or none if this one has none. `false` leaves it open.
     ///
     /// It is `true` of every Unix path. On Windows it is `true` of `C:\a`, `\\s\h` and `a`. It is
     /// `false` of `\\s`, a server without a share, and of `\\?\UNC`, `/`, `\\` and `/\`, as what is
@@ -347,8 +347,8 @@ impl<'a, T: Encoding> Path<'a, T> {
         self.behind(base).is_some()
     }
 
-    /// Returns the longest front of the path whose components, compared as they are written,
-    /// `other` begins with too; `None` if the two share no component.
+    /// Returns the leading components that both paths share, compared as they are written, as the
+    /// front of this path up to the end of the last one; `None` if they share none.
     ///
     /// Of the Unix path `/a//b/c` it is `/a//b` beside `/a/b/d`, and `a` has none beside `/a`. On
     /// Windows that of `C:/a\b` is `C:/a` beside `C:\a\c`, and `c:\a` has none beside `C:\a`. Both
@@ -394,7 +394,7 @@ impl<'a, T: Encoding> Path<'a, T> {
     /// and not within `C:\A`. Links are not followed.
     ///
     /// From every absolute directory that keeps its prefix, the place of a path that is within a
-    /// base is that of the base, and then some names. On Unix this is so of no other path.
+    /// base is that of the base, and then some names. On Unix this is true of no other path.
     pub fn is_within(self, base: Path<'_, T>) -> bool
         ensures { result ≡ is_within T.dialect (path_bytes self.entry) (path_bytes base.entry) }
     {
@@ -437,7 +437,8 @@ impl<'a, T: Encoding> Path<'a, T> {
         ensures { option_map path_bytes result
             ≡ stripped T.dialect (path_bytes self.entry) (path_bytes base.entry) }
     {
-        // A look at the bytes mostly tells, whether the path begins with the base or not.
+        // A look at the bytes mostly tells, be it that the path begins with the base or that it
+        // does not.
         match T::strip_by_bytes(self.as_bytes(), base.as_bytes()) {
             Some(Some(rest)) => Some(Path::new(rest)),
             Some(None) => None,

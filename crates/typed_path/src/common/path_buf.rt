@@ -272,7 +272,8 @@ impl<T: Encoding> PathBuf<T> {
         self.inner.clear();
     }
 
-    /// Reserves capacity for at least `additional` bytes more.
+    /// Reserves capacity for at least `additional` bytes more. If allocation fails, nothing
+    /// changes.
     pub fn reserve(&mut self, additional: usize) -> Result<(), AllocError>
         ensures bytes { self.new.bytes ≡ self.old.bytes }
         ensures room { OnOk result (length self.new.bytes + additional ≤ self.new.capacity) }
@@ -295,6 +296,7 @@ impl<T: Encoding> PathBuf<T> {
     }
 
     /// Reserves capacity for `additional` bytes more, and for no more than these if it has to grow.
+    /// If allocation fails, nothing changes.
     pub fn reserve_exact(&mut self, additional: usize) -> Result<(), AllocError>
         ensures bytes { self.new.bytes ≡ self.old.bytes }
         ensures room { OnOk result

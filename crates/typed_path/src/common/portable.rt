@@ -155,14 +155,14 @@ fn are_plain_names(text: &[u8], separators: Separators) -> bool
         → kinds_fault (kinds (parts (body separators at text.now))) ≡ None }
     ensures free { IsTrue result → has_second_colon text.now ≡ false }
 {
-    // All bytes are looked at by blocks first, and only then the ends of segments.
+    // All bytes are checked by blocks first, and only then the ends of segments.
     if separators.strays_on_windows(text) || has_control(text) || !is_text(text) {
         return false;
     }
     !has_offending_segment(text, separators)
 }
 
-/// Whether a segment of a text is one that [`may_offend`].
+/// Whether [`may_offend`] is true of a segment of a text.
 fn has_offending_segment(text: &[u8], separators: Separators) -> bool
     ensures { result ≡ list_any may_offend (slice_split (is_separator separators) text.now) }
 {

@@ -330,7 +330,8 @@ pub fn put_each_segment(text: &mut Vec<u8>, path: &[u8], anchored: bool) -> Resu
 }
 
 /// Appends the names at the front of `path`, each with a separator after it, and returns what is
-/// left; `None` if nothing is. `names` is what [`leading_names`] returns of `path`.
+/// left of `path`; `None` if each of its segments was a name. `names` is what [`leading_names`]
+/// returns of `path`.
 #[inline(always)]
 pub fn put_names<'a>(
     text: &mut Vec<u8>,

@@ -190,8 +190,8 @@ fn begin_alike(mut rest: Body<'_>, mut base: Body<'_>, deeper: usize) -> bool
     true
 }
 
-/// Returns the index in `path` at which the last component ends that both paths begin with,
-/// compared as they are written; 0 if they share none.
+/// Returns the index in `path` at which the leading components end that both paths share, compared
+/// as they are written; 0 if they share none.
 pub(crate) fn shared_end<T: Encoding>(path: Path<'_, T>, other: Path<'_, T>) -> usize
     ensures end { result ≡ shared_end T.dialect (path_bytes path.entry) (path_bytes other.entry) }
     ensures within { result ≤ length (path_bytes path.entry) }

@@ -50,7 +50,7 @@ pub fn lowered_answers_alike(path: &[u8])
     ensures refused { fault d (lowered d path.now) ≡ fault d path.now }
 {}
 
-/// If a path is within a base, it is so in lower case too.
+/// If a path is within a base, the path in lower case is within the base in lower case.
 #[tactic(auto, using(crate::proofs::lemmas::promises::LoweredPaths::is_within_lowered))]
 pub fn lowered_stays_within(path: &[u8], base: &[u8])
     ghost d: { Dialect }

@@ -79,8 +79,8 @@ pub fn portable_reads_alike_on_unix(path: &[u8])
         → (e : Dialect) → fault e path.now ≡ None }
 {}
 
-/// A portable path keeps its components in the other dialect, stays portable there, and equals
-/// itself if it is converted back.
+/// A portable path keeps its components in the other dialect, stays portable there, and converted
+/// back equals the path that it was.
 pub fn portable_crosses(path: &[u8])
     ensures accepted { portable_fault unix path.now ≡ None
         → IsOk (converted_checked unix windows path.now) }

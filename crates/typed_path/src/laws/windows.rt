@@ -22,7 +22,7 @@ use std::hash::Hash;
 
 /// The normal path of a Windows path is read as the components that the path resolves to, with a
 /// root put in after a verbatim drive. It leads where the path does, and is its own normal path.
-/// This is so if no name has a byte that no name may have, and the prefix is not the verbatim one
+/// This holds if no name has a byte that no name may have, and the prefix is not the verbatim one
 /// named `UNC`.
 #[tactic(auto, using(crate::proofs::lemmas::promises::WindowsStable::stays_stable))]
 pub fn normal_stays_stable(path: &[u8])
@@ -100,7 +100,7 @@ pub fn windows_prefixes_compare_by_kind<'a>(one: WindowsPrefix<'a>, other: Windo
         ≡ prefix_words (prefix_view one.entry) }
 {}
 
-/// Prefixes together with how they are written are equal, compare and hash by their kinds alone.
+/// Prefix components are equal, compare and hash by their kinds alone, however they are written.
 pub fn windows_prefix_components_compare_by_kind<'a>(
     one: WindowsPrefixComponent<'a>,
     other: WindowsPrefixComponent<'a>,

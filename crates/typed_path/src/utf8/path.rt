@@ -219,8 +219,8 @@ impl<'a, T: Utf8Encoding> Utf8Path<'a, T> {
         }
     }
 
-    /// Whether each checked join onto this path is known to have its prefix, or none if it has
-    /// none. `false` leaves it open.
+    /// Whether each path that a checked join makes of this one is known to have the prefix of this
+    /// one, or none if this one has none. `false` leaves it open.
     pub fn keeps_prefix(self) -> bool
         ensures { result ≡ keeps_prefix T.Bytes.dialect (utf8_bytes self.entry) }
     {
@@ -357,8 +357,8 @@ impl<'a, T: Utf8Encoding> Utf8Path<'a, T> {
             .cmp_ignore_ascii_case(other.as_bytes_path())
     }
 
-    /// Returns the longest front of the path whose components, compared as they are written,
-    /// `other` begins with too; `None` if the two share no component.
+    /// Returns the leading components that both paths share, compared as they are written, as the
+    /// front of this path up to the end of the last one; `None` if they share none.
     pub fn common_ancestor(self, other: Utf8Path<'_, T>) -> Option<Utf8Path<'a, T>>
         ensures { option_map utf8_bytes result ≡ common_ancestor_of T.Bytes.dialect
             (utf8_bytes self.entry) (utf8_bytes other.entry) }

@@ -255,7 +255,8 @@ impl<T: Utf8Encoding> Utf8PathBuf<T> {
         self.inner.clear();
     }
 
-    /// Reserves capacity for at least `additional` bytes more.
+    /// Reserves capacity for at least `additional` bytes more. If allocation fails, nothing
+    /// changes.
     pub fn reserve(&mut self, additional: usize) -> Result<(), AllocError>
         ensures bytes { self.new.bytes ≡ self.old.bytes }
         ensures room { OnOk result (length self.new.bytes + additional ≤ self.new.capacity) }
@@ -278,6 +279,7 @@ impl<T: Utf8Encoding> Utf8PathBuf<T> {
     }
 
     /// Reserves capacity for `additional` bytes more, and for no more than these if it has to grow.
+    /// If allocation fails, nothing changes.
     pub fn reserve_exact(&mut self, additional: usize) -> Result<(), AllocError>
         ensures bytes { self.new.bytes ≡ self.old.bytes }
         ensures room { OnOk result

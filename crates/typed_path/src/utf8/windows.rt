@@ -64,11 +64,11 @@ impl fmt::Display for Utf8WindowsEncoding {
     }
 }
 
-/// The prefix of a Windows path of text, which may precede its root.
+/// The prefix of a Windows path of text, which comes before its root.
 ///
 /// The names are slices of the path's text. A drive letter is the character whose number is the
-/// byte, in ASCII upper case. Prefixes are ordered by their kinds, as these are listed, and then by
-/// their names or letters.
+/// byte, in ASCII upper case. Kinds are ordered as they are listed here, and prefixes of one kind
+/// by their names or letters.
 #[derive(Clone, Copy, Debug, PartialEq, Eq, PartialOrd, Ord, Hash)]
 pub enum Utf8WindowsPrefix<'a> {
     /// `\\?\name`

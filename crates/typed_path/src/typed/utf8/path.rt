@@ -149,8 +149,8 @@ impl<'a> Utf8TypedPath<'a> {
         each!(self, path => path.unportable())
     }
 
-    /// Whether each checked join onto this path is known to have its prefix, or none if it has
-    /// none. `false` leaves it open.
+    /// Whether each path that a checked join makes of this one is known to have the prefix of this
+    /// one, or none if this one has none. `false` leaves it open.
     pub fn keeps_prefix(self) -> bool
         ensures { result ≡ keeps_prefix (typed_dialect self.entry) (typed_text self.entry) }
     {
@@ -287,9 +287,9 @@ impl<'a> Utf8TypedPath<'a> {
         }
     }
 
-    /// Returns the longest front of the path whose components, compared as they are written,
-    /// `other` begins with too; `None` if the two share no component. `other` is read in the same
-    /// dialect.
+    /// Returns the leading components that both paths share, compared as they are written, as the
+    /// front of this path up to the end of the last one; `None` if they share none. `other` is read
+    /// in the same dialect.
     pub fn common_ancestor(self, other: &str) -> Option<Utf8TypedPath<'a>>
         ensures dialect { IfSome result (λ p. typed_dialect p ≡ typed_dialect self.entry) }
         ensures bytes { option_map typed_text result
