@@ -1,4 +1,4 @@
-//! Reading a text component by component.
+//! Reading the bytes of a path component by component.
 
 mod cursor;
 mod cut;

@@ -1,4 +1,4 @@
-//! A reading of a text from both ends.
+//! A cursor over the components of a path, which takes them from both ends.
 
 ghost use Rattle.std.specs.Prelude.{◌≡◌, ◌≤◌, ◌-◌, ℕ, List, length, slice_range, true, [], take, drop, option_map, is_some, Some, None, IfSome, IfNone, IsTrue};
 ghost use Rattle.typed_path.specs.components.{Dialect, prefix_part, body, comps, component, Placed, end_of, kinds, parts, windows, dialect_of, later_body};
@@ -11,8 +11,7 @@ use crate::scan::separators::Separators;
 use crate::scan::step::{Piece, PieceKind, Step, back_step, depth_behind, front_step, trim_blanks};
 use crate::scan::unread::{PlacedPiece, Unread, begins_clean};
 
-/// The place of a reading of a text: the range of its body that is left, and its prefix while that is
-/// still to be taken.
+/// What is left of a path: a range of its body, and the prefix until that is taken.
 #[derive(Clone, Copy, Debug)]
 pub struct Cursor<'a> {
     text: &'a [u8],
@@ -27,7 +26,7 @@ pub struct Cursor<'a> {
     ghost fits: { pending prefix ≤ from },
 }
 
-/// What a cursor has left behind its prefix.
+/// The [`Body`] of a cursor: what it has left after its prefix.
 macro_rules! rest {
     ($cursor:expr) => {
         Body {
@@ -49,7 +48,7 @@ impl<'a> Cursor<'a> {
     ghost use Rattle.typed_path.specs.views.UnreadViews.{IsReadingOf};
     ghost use Rattle.typed_path.specs.changes.{error_of, fault_behind};
 
-    /// A reading of a whole text that has no prefix.
+    /// Returns a cursor over the whole of a path that has no prefix.
     #[inline(always)]
     pub(crate) fn new(text: &'a [u8], separators: Separators) -> Cursor<'a>
         ensures slice { slice_left result ≡ text.now }
@@ -66,7 +65,7 @@ impl<'a> Cursor<'a> {
         }
     }
 
-    /// A reading of a whole text of Windows.
+    /// Returns a cursor over the whole of a Windows path.
     #[inline(always)]
     pub(crate) fn of_windows(text: &'a [u8]) -> Cursor<'a>
         ensures items { items_left result ≡ comps windows text.now }
@@ -86,7 +85,8 @@ impl<'a> Cursor<'a> {
         }
     }
 
-    /// The slice left: from the first component that is left to the last.
+    /// Returns the slice left, from the first component left on. Separators at its end stay until a
+    /// component is taken from the back.
     #[inline(always)]
     pub fn as_bytes(&self) -> &'a [u8]
         ensures { result.now ≡ slice_left self.now }
@@ -97,7 +97,7 @@ impl<'a> Cursor<'a> {
         }
     }
 
-    /// The prefix, where it is still to be taken.
+    /// Returns the prefix, or `None` if there is none or it was taken.
     #[inline(always)]
     pub(crate) fn prefix(&self) -> Option<WindowsPrefix<'a>>
         ensures { option_map prefix_view result
@@ -109,7 +109,7 @@ impl<'a> Cursor<'a> {
         }
     }
 
-    /// Whether the prefix is still to be taken.
+    /// Whether there is a prefix that was not taken yet.
     #[inline(always)]
     pub(crate) fn has_prefix(&self) -> bool
         ensures { result ≡ has_prefix (kinds (parts (items_left self.now))) }
@@ -117,7 +117,7 @@ impl<'a> Cursor<'a> {
         self.prefix.is_some()
     }
 
-    /// The prefix with its text, where it is still to be taken.
+    /// Returns the prefix with its raw bytes, or `None` if there is none or it was taken.
     #[inline(always)]
     pub(crate) fn prefix_piece(&self) -> Option<Piece<'a>>
         ensures { option_map part_of result ≡ prefix_among (parts (items_left self.now)) }
@@ -126,7 +126,7 @@ impl<'a> Cursor<'a> {
         Some(prefix_piece(self.text, self.from, found))
     }
 
-    /// What is left behind the prefix.
+    /// Returns what is left after the prefix.
     #[inline(always)]
     pub(crate) fn body(&self) -> Body<'a>
         ensures { body_items result ≡ behind_prefix (items_left self.now) }
@@ -134,8 +134,8 @@ impl<'a> Cursor<'a> {
         rest!(self)
     }
 
-    /// The same components, read off a text of which the slice left is the first bytes: searches may
-    /// look at what stands behind.
+    /// Returns this cursor over `span.text`, whose first `span.len` bytes are the slice left.
+    /// Searches may then read past these bytes.
     #[inline(always)]
     pub(crate) fn within(self, span: Span<'a>) -> Cursor<'a>
         requires { slice_left self ≡ span_bytes span }
@@ -151,7 +151,7 @@ impl<'a> Cursor<'a> {
         }
     }
 
-    /// Whether the first component that is left, the prefix aside, is the root.
+    /// Whether the first component left, not counting the prefix, is the root.
     #[inline(always)]
     pub(crate) fn has_physical_root(&self) -> bool
         ensures { result ≡ has_physical_root (kinds (parts (items_left self.now))) }
@@ -159,7 +159,7 @@ impl<'a> Cursor<'a> {
         rest!(self).has_physical_root()
     }
 
-    /// Whether the first component that is left is the root.
+    /// Whether the first component left is the root.
     #[inline(always)]
     pub(crate) fn begins_with_root(&self) -> bool
         ensures { result ≡ begins_with_root (kinds (parts (items_left self.now))) }
@@ -167,7 +167,7 @@ impl<'a> Cursor<'a> {
         self.prefix.is_none() && self.has_physical_root()
     }
 
-    /// Where the last component that is left ends in the text.
+    /// Returns the index in the path just after the last component left.
     #[inline(always)]
     pub(crate) fn last_end(&self) -> usize
         ensures { (last : Placed) → last_of (items_left self.now) ≡ Some last → result
@@ -176,8 +176,8 @@ impl<'a> Cursor<'a> {
         rest!(self).last_end()
     }
 
-    /// Judges the components that are left, from the front: the first one that offends is what a
-    /// path of them is refused for when it is to be pushed.
+    /// Checks the components left as those of a path to be pushed. `Err` is the error of the first
+    /// one that is refused.
     #[inline(always)]
     pub(crate) fn check(self) -> Result<(), CheckedPathError>
         ensures { error_of result ≡ fault_behind (dialect_of (cursor_separators self.entry)) []
@@ -189,7 +189,7 @@ impl<'a> Cursor<'a> {
         }
     }
 
-    /// Takes the first component that is left.
+    /// Takes the first component left and returns it, or `None` if none is left.
     #[inline(always)]
     pub(crate) fn front(&mut self) -> Option<Piece<'a>>
         ensures taken { option_map part_of result ≡ first_part (items_left self.old) }
@@ -216,7 +216,7 @@ impl<'a> Cursor<'a> {
         }
     }
 
-    /// Takes the prefix from the front.
+    /// Takes the prefix, which is `found`, and returns it.
     #[inline(always)]
     fn take_prefix(&mut self, found: Found<'a>) -> Piece<'a>
         requires { self.old.prefix ≡ Some found }
@@ -231,7 +231,7 @@ impl<'a> Cursor<'a> {
         piece
     }
 
-    /// Takes the last component that is left.
+    /// Takes the last component left and returns it, or `None` if none is left.
     #[inline(always)]
     pub(crate) fn back(&mut self) -> Option<Piece<'a>>
         ensures taken { option_map part_of result ≡ last_part (items_left self.old) }
@@ -262,7 +262,7 @@ impl<'a> Cursor<'a> {
     ghost use Rattle.typed_path.specs.queries.{has_implicit_root};
     ghost use Rattle.typed_path.specs.views.CursorViews.{items_left};
 
-    /// Whether a prefix other than a drive is still to be taken, which implies a root.
+    /// Whether the prefix was not taken yet and implies a root, as each kind but `C:` does.
     #[inline(always)]
     pub(crate) fn has_implicit_root(&self) -> bool
         ensures { result ≡ has_implicit_root (kinds (parts (items_left self.now))) }
@@ -278,8 +278,12 @@ impl<'a> Cursor<'a> {
     ghost use Rattle.typed_path.specs.views.CursorViews.{slice_left, items_left};
     ghost use Rattle.typed_path.specs.views.UnreadViews.{IsLookedUp, IsReadingOf, numbers_of, placed_of};
 
-    /// The reading of a text that stands at these numbers; none where none may stand there. The prefix of the text
-    /// is looked at where nothing was taken from the front.
+    /// Returns the cursor over `text` with the numbers `unread`. `separators` are those of `text`,
+    /// and at stage 0 `prefix` is its prefix; at other stages `prefix` is not used.
+    ///
+    /// `None` if `to` is past the end of `text` or before `from`; at stage 0, if `from` is not 0 or
+    /// `to` is within the prefix; at stage 2, if the slice begins with a separator or a skipped
+    /// `.`; at any stage but 0, 1 and 2.
     #[inline(always)]
     #[tactic(auto, using(crate::proofs::lemmas::scan::Unread::whole_fits))]
     pub(crate) fn taken_up(
@@ -347,7 +351,7 @@ impl<'a> Cursor<'a> {
         }
     }
 
-    /// The numbers at which the reading stands.
+    /// Returns the numbers from which [`Cursor::taken_up`] makes this cursor again.
     #[inline(always)]
     pub(crate) fn numbers(&self) -> Unread
         ensures { result ≡ numbers_of self.now }
@@ -373,7 +377,7 @@ impl<'a> Cursor<'a> {
         }
     }
 
-    /// Where the first component that is left begins in the text.
+    /// Returns the index in the path at which the first component left begins.
     #[inline(always)]
     pub(crate) fn first_start(&self) -> usize
         ensures { (first : Placed) → first_of (items_left self.now) ≡ Some first → result ≡ first.start }
@@ -384,7 +388,7 @@ impl<'a> Cursor<'a> {
         }
     }
 
-    /// Takes the first component that is left, with its place.
+    /// Takes the first component left and returns it with its index, or `None` if none is left.
     #[inline(always)]
     pub(crate) fn front_placed(&mut self) -> Option<PlacedPiece<'a>>
         ensures taken { option_map placed_of result ≡ first_of (items_left self.old) }
@@ -400,7 +404,7 @@ impl<'a> Cursor<'a> {
         }
     }
 
-    /// Takes the last component that is left, with its place.
+    /// Takes the last component left and returns it with its index, or `None` if none is left.
     #[inline(always)]
     pub(crate) fn back_placed(&mut self) -> Option<PlacedPiece<'a>>
         ensures taken { option_map placed_of result ≡ last_of (items_left self.old) }
@@ -420,7 +424,7 @@ impl<'a> Cursor<'a> {
     }
 }
 
-/// How many bytes the prefix takes that is still to be taken.
+/// Returns the length in bytes of a prefix that was not taken yet, or 0 if there is none.
 #[inline(always)]
 fn pending(prefix: Option<Found<'_>>) -> usize
     ensures { result ≡ pending prefix.entry }
@@ -431,41 +435,41 @@ fn pending(prefix: Option<Found<'_>>) -> usize
     }
 }
 
-/// The piece of a prefix that ends at a place of a text.
-///
-/// It stands apart so that a reading without a prefix is built in small.
+/// Returns the component of the prefix `found`, whose raw bytes end at `end`.
 fn prefix_piece<'a>(text: &'a [u8], end: usize, found: Found<'a>) -> Piece<'a>
     requires length { found.length ≤ end }
     requires within { end ≤ length text.now }
     ensures { part_of result ≡ prefix_part (prefix_view found.entry.kind)
         (slice_range text.now (end - found.entry.length) end) }
 {
+    // Out of line, so that code for paths without a prefix stays small.
     Piece {
         kind: PieceKind::Prefix(found.kind),
         text: &text[end - found.length..end],
     }
 }
 
-/// Where the slice left of a reading begins.
+/// Where the slice left begins, which decides how its first segment is read.
 #[derive(Clone, Copy, Debug)]
 pub enum Begin {
-    /// At the beginning of the body: an empty first segment is the root, and `.` a component.
+    /// At the start of the body: an empty first segment is the root, and `.` a component.
     Body,
-    /// Behind a component: an empty segment is nothing, and `.` mostly too.
+    /// After a component: an empty segment is skipped, and `.` too unless the path is read
+    /// verbatim.
     Inside,
 }
 
-/// The place of a reading of a body: where the components that are left begin and end in the text.
+/// What is left of a path after its prefix: a range of its bytes.
 #[derive(Clone, Copy, Debug)]
 pub struct Body<'a> {
-    /// The whole text.
+    /// The whole path.
     pub text: &'a [u8],
-    /// Where what is left begins.
+    /// The index at which what is left begins.
     pub from: usize,
-    /// Where it ends.
+    /// The index at which what is left ends.
     pub to: usize,
     begin: Begin,
-    /// Those of the whole text.
+    /// The separators of the whole path.
     pub separators: Separators,
     ghost ordered: { from ≤ to },
     ghost in_range: { to ≤ length text.now },
@@ -479,7 +483,7 @@ impl<'a> Body<'a> {
     ghost use Rattle.typed_path.specs.views.BodyViews.{body_slice, body_items};
     ghost use Rattle.typed_path.specs.changes.{error_of, fault_behind};
 
-    /// A reading of what stands in a text from a place on.
+    /// Returns the whole body `text[from..]`, of which nothing was taken.
     #[inline(always)]
     pub fn new(text: &'a [u8], from: usize, separators: Separators) -> Body<'a>
         requires { from ≤ length text.now }
@@ -498,7 +502,8 @@ impl<'a> Body<'a> {
         }
     }
 
-    /// A reading of what stands in a text from a component on, behind others.
+    /// Returns the rest `text[from..]` of a body. It is empty or begins with a component, and
+    /// follows others.
     #[inline(always)]
     pub fn inside(text: &'a [u8], from: usize, separators: Separators) -> Body<'a>
         requires within { from ≤ length text.now }
@@ -515,7 +520,7 @@ impl<'a> Body<'a> {
         }
     }
 
-    /// What stands in the text from the slice left on.
+    /// Returns `text[from..]`: the slice left and all bytes after it.
     #[inline(always)]
     pub fn onward(&self) -> &'a [u8]
         ensures { result.now ≡ drop self.now.from self.now.text.now }
@@ -523,7 +528,8 @@ impl<'a> Body<'a> {
         &self.text[self.from..]
     }
 
-    /// The slice left: from the first component that is left to the last.
+    /// Returns the slice left, from the first component left on. Separators at its end stay until a
+    /// component is taken from the back.
     #[inline(always)]
     pub fn as_bytes(&self) -> &'a [u8]
         ensures { result.now ≡ body_slice self.now }
@@ -531,7 +537,7 @@ impl<'a> Body<'a> {
         &self.text[self.from..self.to]
     }
 
-    /// Whether no step from the front was taken.
+    /// Whether no component was taken from the front.
     #[inline(always)]
     pub fn is_whole(&self) -> bool
         ensures { IsTrue result → self.now.begin ≡ Begin.Body }
@@ -539,7 +545,7 @@ impl<'a> Body<'a> {
         matches!(self.begin, Begin::Body)
     }
 
-    /// Whether the first component that is left is the root.
+    /// Whether the first component left is the root.
     #[inline(always)]
     pub fn has_physical_root(&self) -> bool
         ensures { result ≡ begins_with_root (kinds (parts (body_items self.now))) }
@@ -553,7 +559,7 @@ impl<'a> Body<'a> {
         }
     }
 
-    /// Where the last component that is left ends in the text.
+    /// Returns the index in the path just after the last component left, or `from` if none is left.
     #[inline(always)]
     pub fn last_end(&self) -> usize
         ensures { result ≡ end_from self.now.from (body_items self.now) }
@@ -561,15 +567,14 @@ impl<'a> Body<'a> {
         self.from + trim_blanks(self.as_bytes(), self.separators)
     }
 
-    /// Judges the components that are left, from the front: the first one that offends is what a
-    /// path of them is refused for when it is to be pushed.
-    ///
-    /// It stands in place, so that it is built for the separators of each encoding.
+    /// Checks the components left as those of a path to be pushed. `Err` is the error of the first
+    /// one that is refused.
     #[inline(always)]
     pub fn check(mut self) -> Result<(), CheckedPathError>
         ensures { error_of result ≡ fault_behind (dialect_of self.entry.separators) []
             (kinds (parts (body_items self.entry))) }
     {
+        // Inlined, so that it is compiled for the separators of each encoding.
         let allowed = self.separators.allows_names_of(self.as_bytes());
         let mut depth = 0usize;
         'steps: while let Some(step) = self.front() {
@@ -578,7 +583,7 @@ impl<'a> Body<'a> {
         Ok(())
     }
 
-    /// Takes the first component that is left.
+    /// Takes the first component left and returns it, or `None` if none is left.
     #[inline(always)]
     pub fn front(&mut self) -> Option<Step<'a>>
         ensures taken { option_map step_part result ≡ first_part (body_items self.old) }
@@ -601,7 +606,7 @@ impl<'a> Body<'a> {
         Some(step)
     }
 
-    /// Takes the last component that is left.
+    /// Takes the last component left and returns it, or `None` if none is left.
     #[inline(always)]
     pub fn back(&mut self) -> Option<Step<'a>>
         ensures taken { option_map step_part result ≡ last_part (body_items self.old) }
@@ -627,13 +632,13 @@ impl<'a> Body<'a> {
     }
 }
 
-/// The first bytes of a text. What stands behind them is none of them, but a search in them may look at
-/// it, and so may a copy of them: a block of a fixed size takes no branch by theirs.
+/// The first `len` bytes of `text`. Searches and copies may read the bytes after them, so that
+/// these can work on blocks of a fixed size.
 #[derive(Clone, Copy, Debug)]
 pub struct Span<'a> {
-    /// The whole text.
+    /// The bytes of the span, and those after it.
     pub text: &'a [u8],
-    /// How many of its bytes are meant.
+    /// The length of the span in bytes.
     pub len: usize,
     ghost within: { len ≤ length text.now },
 }
@@ -641,7 +646,7 @@ pub struct Span<'a> {
 impl<'a> Span<'a> {
     ghost use Rattle.typed_path.specs.views.SpanViews.{span_bytes};
 
-    /// All bytes of a text.
+    /// Returns the span of all bytes of `text`.
     #[inline(always)]
     pub fn whole(text: &'a [u8]) -> Span<'a>
         ensures { span_bytes result ≡ text.now }
@@ -652,7 +657,7 @@ impl<'a> Span<'a> {
         }
     }
 
-    /// The bytes that are meant.
+    /// Returns the bytes of the span.
     #[inline(always)]
     pub fn as_bytes(self) -> &'a [u8]
         ensures { result.now ≡ span_bytes self.entry }

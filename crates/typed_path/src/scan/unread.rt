@@ -1,4 +1,4 @@
-//! Readings that are kept as numbers: what is left of a path, without the path.
+//! A reading of a path as three numbers, without the path.
 
 ghost use Rattle.std.specs.Prelude.{◌≡◌};
 ghost use Rattle.typed_path.specs.declared.scan.cursor.Begin.{Begin};
@@ -8,30 +8,30 @@ use crate::scan::names::begins_blank;
 use crate::scan::separators::Separators;
 use crate::scan::step::Piece;
 
-/// What is left of the reading of a path, in three numbers. Each step is handed the path anew.
+/// What a reading has left of a path, in three numbers. Each step is handed the path anew.
 ///
-/// Of a path of `len` bytes of which nothing was taken they are 0, `len` and 0.
+/// For a path of `len` bytes of which nothing was taken they are 0, `len` and 0.
 #[repr(C)]
 #[derive(Clone, Copy, Debug, PartialEq, Eq)]
 pub struct Unread {
-    /// Where the slice left begins.
+    /// The index in the path at which the slice left begins.
     pub from: usize,
-    /// Where it ends.
+    /// The index at which it ends.
     pub to: usize,
     /// What was taken from the front: nothing (0), at most the prefix (1), or a component behind it (2).
     pub stage: u32,
 }
 
-/// A component, and where it begins.
+/// A component, and its index in the path.
 #[derive(Clone, Copy, Debug)]
 pub struct PlacedPiece<'a> {
-    /// Its first byte in the path.
+    /// The index of its first byte in the path.
     pub start: usize,
     /// The component.
     pub piece: Piece<'a>,
 }
 
-/// Whether a text is empty or begins with a component, where others stand before it.
+/// Whether `text`, which follows a component, is empty or begins with a component.
 #[inline(always)]
 pub fn begins_clean(text: &[u8], separators: Separators) -> bool
     ensures { result ≡ is_clean Begin.Inside separators text.now }
