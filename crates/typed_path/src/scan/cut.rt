@@ -1,5 +1,5 @@
-//! Texts cut at a byte, at a separator, behind a beginning, behind a base, and behind what two of them
-//! share; and the order of two texts from where they part.
+//! Bytes split at a byte or a separator, stripped of a beginning or a base, and compared from their
+//! first difference on.
 
 ghost use Rattle.std.specs.Prelude.{◌≡◌, ◌≢◌, ◌≤◌, ◌<◌, ◌+◌, ◌==◌, ◌⊎◌, List, ℕ, [], ◌∷◌, ◌++◌, take, length, MatchOption, IfSome, true, false, drop, IsTrue};
 ghost use Rattle.std.specs.List.{slice_split, before_first, starts_with, IsAfterLastMatch};
@@ -19,7 +19,7 @@ use crate::scan::separators::Separators;
 use crate::scan::step::skip_blanks;
 use std::cmp::Ordering;
 
-/// What stands before the first such byte, and what stands behind it.
+/// Returns the bytes before and after the first `byte`, or `None` if there is none.
 pub fn cut_at(byte: u8, text: &[u8]) -> Option<(&[u8], &[u8])>
     ensures pieces { MatchOption result (slice_split (λ b. b == byte) text.now ≡ text.now ∷ [])
         (λ cut. slice_split (λ b. b == byte) text.now
@@ -34,9 +34,7 @@ pub fn cut_at(byte: u8, text: &[u8]) -> Option<(&[u8], &[u8])>
     None
 }
 
-/// What stands before the first separator, and what stands behind it.
-///
-/// The search is that of the steps, in place: a call for each segment would cost more than it saves.
+/// Returns the bytes before and after the first separator, or `None` if there is none.
 #[inline(always)]
 pub fn cut_at_separator(separators: Separators, text: &[u8]) -> Option<(&[u8], &[u8])>
     ensures pieces { MatchOption result
@@ -49,6 +47,7 @@ pub fn cut_at_separator(separators: Separators, text: &[u8]) -> Option<(&[u8], &
         (λ cut. length text.now ≡ length cut.0.now + 1 + length cut.1.now) }
     ensures front { IfSome result (λ cut. take (length cut.0.now) text.now ≡ cut.0.now) }
 {
+    // Inlined: a call for each segment would cost more than it saves.
     let at = separators.first_in(text);
     if at < text.len() {
         return Some((&text[..at], &text[at + 1..]));
@@ -56,16 +55,15 @@ pub fn cut_at_separator(separators: Separators, text: &[u8]) -> Option<(&[u8], &
     None
 }
 
-/// What stands behind a beginning of a text, where the text begins so.
-///
-/// Where it is called, the beginning is known, so the comparison is one of two words with constants:
-/// that of slices would be a call.
+/// Returns what follows `beginning`, of 4 to 16 bytes, at the front of `text`, or `None` if `text`
+/// begins otherwise.
 #[inline(always)]
 pub fn text_behind<'a>(beginning: &[u8], text: &'a [u8]) -> Option<&'a [u8]>
     requires short { (4 ≤ length beginning.now) × (length beginning.now ≤ 16) }
     ensures { MatchOption result ((rest : List ℕ) → text.now ≢ beginning.now ++ rest)
         (λ rest. text.now ≡ beginning.now ++ rest.now) }
 {
+    // Each caller passes a constant, so two words are compared; comparing slices would be a call.
     let len = beginning.len();
     if text.len() < len {
         return None;
@@ -78,9 +76,9 @@ pub fn text_behind<'a>(beginning: &[u8], text: &'a [u8]) -> Option<&'a [u8]>
     if differs { None } else { Some(&text[len..]) }
 }
 
-/// How many bytes of a text stand before the component behind a base, where the bytes tell: the
-/// text begins with those of the base, and no component reaches over its end. It is told how many bytes the two
-/// begin with.
+/// Returns the index in `text` of the first component after those of `base`, or the length if none
+/// follows. `None` leaves it open: `base` is empty, `text` begins with other bytes, or a segment
+/// spans the end of `base`. `shared` is their [`first_difference`].
 #[inline(always)]
 pub fn base_end(text: &[u8], base: &[u8], shared: usize, separators: Separators) -> Option<usize>
     requires { PartAt text.now base.now shared }
@@ -96,7 +94,7 @@ pub fn base_end(text: &[u8], base: &[u8], shared: usize, separators: Separators)
     end_behind(text, base, separators)
 }
 
-/// The same of a text that begins with the bytes of the base.
+/// Like [`base_end`], for a `text` that begins with the bytes of `base`.
 #[inline(always)]
 pub fn end_behind(text: &[u8], base: &[u8], separators: Separators) -> Option<usize>
     requires begins { take (length base.now) text.now ≡ base.now }
@@ -117,8 +115,8 @@ pub fn end_behind(text: &[u8], base: &[u8], separators: Separators) -> Option<us
     Some(base.len() + skip_blanks(rest, separators))
 }
 
-/// Whether no component reaches over the border between two texts: one of them has a separator
-/// there, or one is empty.
+/// Whether no segment spans the border between `front` and `rest`: one of them is empty, or has a
+/// separator there.
 #[inline(always)]
 fn is_border(front: &[u8], rest: &[u8], separators: Separators) -> bool
     ensures { IsTrue result → 0 < length front.now → (at : ℕ)
@@ -134,9 +132,9 @@ fn is_border(front: &[u8], rest: &[u8], separators: Separators) -> bool
     separators.contains(*last) || separators.contains(*first)
 }
 
-/// Two readings behind the components that the bytes of both begin with, which compare as the two do.
-/// Where the bytes tell of none, or the readings are not those of whole bodies with the same
-/// separators, they stay as they are.
+/// Returns two readings that compare as `rest` and `wanted` do, but begin after their last shared
+/// separator, if they share one. They are unchanged if a component was taken from the front of
+/// either, or if their separators differ.
 #[inline(always)]
 pub fn bodies_behind_shared<'a>(rest: Body<'a>, wanted: Body<'a>) -> (Body<'a>, Body<'a>)
     ensures { left_cmp (body_items result.0) (body_items result.1)
@@ -151,8 +149,8 @@ pub fn bodies_behind_shared<'a>(rest: Body<'a>, wanted: Body<'a>) -> (Body<'a>, 
     bodies_behind(text, other, first_difference(text, other), separators)
 }
 
-/// Two readings, behind the last separator that two texts begin with, which compare as the texts do. It
-/// is told how many bytes the two begin with.
+/// Returns readings of two bodies that compare as the bodies do, but begin at the first component
+/// after their last shared separator, if they share one. `shared` is their [`first_difference`].
 #[inline(always)]
 fn bodies_behind<'a>(
     text: &'a [u8],
@@ -179,9 +177,9 @@ fn bodies_behind<'a>(
     )
 }
 
-/// What two texts hold behind the last separator that both begin with, and behind the blanks there: the one is in
-/// order with the other, and begins with it, as the texts do. None where they begin with no separator. It is told how
-/// many bytes the two begin with.
+/// Returns the rests of two bodies from the first component after their last shared separator. The
+/// rests compare as the bodies do, and one begins with the components of the other if its body
+/// does. `None` if no separator is shared. `shared` is their [`first_difference`].
 #[inline(always)]
 pub fn texts_behind<'a>(
     text: &'a [u8],
@@ -210,7 +208,7 @@ pub fn texts_behind<'a>(
     ))
 }
 
-/// What stands behind the blanks that a text begins with which stands behind a component.
+/// Returns `text`, which follows a component, from its next component on.
 #[inline(always)]
 fn behind_blanks(text: &[u8], separators: Separators) -> &[u8]
     ensures same { (at : ℕ) → parts (body separators 0 result.now)
@@ -220,9 +218,8 @@ fn behind_blanks(text: &[u8], separators: Separators) -> &[u8]
     &text[skip_blanks(text, separators)..]
 }
 
-/// The order of two texts that are read from their beginnings, where the bytes tell: the texts are one,
-/// or part within names, and the names differ. None says nothing. It is told how many bytes the two begin
-/// with.
+/// Compares two bodies that are equal byte by byte, or first differ within names. `None` leaves it
+/// open. `shared` is their [`first_difference`].
 #[inline(always)]
 pub fn order_behind(
     text: &[u8],
@@ -246,9 +243,8 @@ pub fn order_behind(
     order_of_ends(&text[shared..], &other[shared..], separators)
 }
 
-/// The order of two texts that are read from their beginnings, where one alone is empty, or begins with a root,
-/// or where one begins with a dot and the other with a greater byte, or both with dots of another rank. None says
-/// nothing.
+/// Compares two bodies by their first bytes: one alone is empty, one alone begins with a root, or
+/// [`order_of_dots`] tells. `None` leaves it open.
 #[inline(always)]
 pub fn order_of_fronts(text: &[u8], other: &[u8], separators: Separators) -> Option<Ordering>
     ensures { IfSome result (λ order.
@@ -275,8 +271,8 @@ pub fn order_of_fronts(text: &[u8], other: &[u8], separators: Separators) -> Opt
     }
 }
 
-/// The order of two texts that begin with no separator, where one begins with a dot and the other with a greater
-/// byte, so with a name, or where both begin with dots of another rank. None says nothing.
+/// Compares two bodies without a root of which one begins with a dot and the other with a greater
+/// byte, so with a name; or both with dots of different [`front_rank`]. `None` leaves it open.
 #[inline(always)]
 fn order_of_dots(text: &[u8], other: &[u8], separators: Separators) -> Option<Ordering>
     ensures { IfSome result (λ order.
@@ -301,7 +297,8 @@ fn order_of_dots(text: &[u8], other: &[u8], separators: Separators) -> Option<Or
     }
 }
 
-/// The rank of the first segment of a text: that of `.`, of `..`, or of all others. No more than three bytes tell.
+/// Returns the rank of the first segment: 0 for `.`, 1 for `..`, 2 for any other. Reads at most
+/// three bytes.
 #[inline(always)]
 fn front_rank(text: &[u8], separators: Separators) -> u8
     ensures { result ≡ dots_rank (before_first (is_separator separators) text.now) }
@@ -313,7 +310,7 @@ fn front_rank(text: &[u8], separators: Separators) -> u8
     }
 }
 
-/// Whether the first segment of a text is `.`.
+/// Whether the first segment is `.`.
 #[inline(always)]
 fn begins_with_dot(text: &[u8], separators: Separators) -> bool
     ensures { result ≡ is_dot (before_first (is_separator separators) text.now) }
@@ -325,8 +322,8 @@ fn begins_with_dot(text: &[u8], separators: Separators) -> bool
     }
 }
 
-/// Whether two texts that are read from their beginnings begin with bytes that differ, and do not both separate; or
-/// whether the first alone is empty. So their first components are written otherwise. False says nothing.
+/// Whether the first bytes tell that `text` does not begin with the components of `other`: they
+/// differ and are not both separators, or `text` alone is empty. `false` leaves it open.
 #[inline(always)]
 pub fn have_other_fronts(text: &[u8], other: &[u8], separators: Separators) -> bool
     ensures { IsTrue result → starts_with bytes_eq (texts (parts (body separators 0 text.now)))
@@ -341,8 +338,9 @@ pub fn have_other_fronts(text: &[u8], other: &[u8], separators: Separators) -> b
     own != wanted && !(separators.contains(*own) && separators.contains(*wanted))
 }
 
-/// The order of a text and one that it begins with, as of a path in a directory and that directory, where no
-/// component reaches over the end of it. None says nothing.
+/// Compares `text` with the bytes that it begins with, as a path in a directory with that
+/// directory: equal if no component follows, else greater. `None` leaves it open: `beginning` is
+/// empty, or a segment spans its end.
 #[inline(always)]
 fn order_of_longer(text: &[u8], beginning: &[u8], separators: Separators) -> Option<Ordering>
     requires begins { take (length beginning.now) text.now ≡ beginning.now }
@@ -360,8 +358,8 @@ fn order_of_longer(text: &[u8], beginning: &[u8], separators: Separators) -> Opt
     Some(Ordering::Greater)
 }
 
-/// The order of two texts of which one begins with the other, where no component reaches over the end of that.
-/// None says nothing. It is told how many bytes the two begin with.
+/// Compares two bodies of which one begins with the bytes of the other, unless a segment spans the
+/// end of that. `None` leaves it open. `shared` is their [`first_difference`].
 #[inline(always)]
 pub fn order_of_beginning(
     text: &[u8],
@@ -382,9 +380,9 @@ pub fn order_of_beginning(
     None
 }
 
-/// What two texts hold behind components that both begin with, where their bytes tell: behind the one, where the
-/// other begins with it, or behind the last separator that both begin with, where the segments there part. None says
-/// nothing.
+/// Returns the rests of two bodies after components that both begin with: after all of one, if the
+/// other begins with its bytes, or after their last shared separator. If the rests are names alone,
+/// their first names differ. `None` leaves it open.
 #[inline(always)]
 pub fn rests_behind_shared<'a>(
     text: &'a [u8],
@@ -410,8 +408,9 @@ pub fn rests_behind_shared<'a>(
     Some((&text[start..], &other[start..]))
 }
 
-/// How many bytes at the front of a text hold the components that another begins with too, where their bytes tell:
-/// one begins with the other, or they part within names. None says nothing.
+/// Returns the length in bytes of the front of `text` that holds the components that both begin
+/// with, if one begins with the bytes of the other or they first differ within names. `None` leaves
+/// it open.
 #[inline(always)]
 pub fn shared_front(text: &[u8], other: &[u8], separators: Separators) -> Option<usize>
     ensures within { IfSome result (λ n. n ≤ length text.now) }
@@ -439,9 +438,9 @@ pub fn shared_front(text: &[u8], other: &[u8], separators: Separators) -> Option
     None
 }
 
-/// Whether the bytes of two texts tell that they differ in a component in one place: in a name, in their first
-/// components, or behind the last separator that both begin with. False says nothing. It is told how many bytes the
-/// two begin with.
+/// Whether the bytes tell that `text` does not begin with the components of `other`: the two differ
+/// in a name, in their first components, or right after their last shared separator. `false` leaves
+/// it open. `shared` is their [`first_difference`].
 #[inline(always)]
 pub fn are_apart(text: &[u8], other: &[u8], shared: usize, separators: Separators) -> bool
     requires { PartAt text.now other.now shared }
@@ -457,8 +456,8 @@ pub fn are_apart(text: &[u8], other: &[u8], shared: usize, separators: Separator
     part_at_detours(text, other, shared, separators)
 }
 
-/// Whether the bytes of two texts tell that the segments in which they part are components: names, or the first of
-/// each text. False says nothing.
+/// Whether two bodies first differ within names, or within their first segments. `false` leaves it
+/// open. `shared` is their [`first_difference`], and not 0.
 #[inline(always)]
 fn part_in_one_segment(text: &[u8], other: &[u8], shared: usize, separators: Separators) -> bool
     requires shared { PartAt text.now other.now shared }
@@ -476,15 +475,16 @@ fn part_in_one_segment(text: &[u8], other: &[u8], shared: usize, separators: Sep
             && begins_with_name(&other[start..], separators))
 }
 
-/// Whether what two texts hold behind the last separator that both begin with, and behind the blanks there, begins
-/// otherwise. False says nothing: it is looked at only where they part at a dot, or where a separator stands in one of
-/// them and what stands behind it differs from what stands in the other.
+/// Whether the first bytes of [`texts_behind`] tell that `text` does not begin with the components
+/// of `other`. `false` leaves it open. `shared` is their [`first_difference`].
 #[inline(always)]
 fn part_at_detours(text: &[u8], other: &[u8], shared: usize, separators: Separators) -> bool
     requires { PartAt text.now other.now shared }
     ensures { IsTrue result → starts_with bytes_eq (texts (parts (body separators 0 text.now)))
         (texts (parts (body separators 0 other.now))) ≡ false }
 {
+    // The last shared separator is searched for only if a dot or one more separator is at the
+    // difference.
     let is_worth_a_look = matches!(&text[..shared], [.., b'.'])
         || match (&text[shared..], &other[shared..]) {
             ([b'.', b'.', ..], _) | (_, [b'.', ..]) => true,
@@ -502,15 +502,15 @@ fn part_at_detours(text: &[u8], other: &[u8], shared: usize, separators: Separat
     }
 }
 
-/// Whether the bytes of two texts tell that the segments in which they part are names. False says nothing.
-///
-/// The last byte that both begin with mostly tells of both, and no segment is searched for then.
+/// Whether the segments in which two bodies first differ are names. `false` leaves it open.
+/// `shared` is their [`first_difference`].
 #[inline(always)]
 fn part_within_names(text: &[u8], other: &[u8], shared: usize, separators: Separators) -> bool
     requires { PartAt text.now other.now shared }
     ensures { IsTrue result → PartWithinNames separators text.now other.now shared }
 {
     let front = &text[..shared];
+    // Mostly the last shared byte tells, and no segment is searched for.
     if ends_with_name(front, separators) {
         return true;
     }
@@ -518,20 +518,21 @@ fn part_within_names(text: &[u8], other: &[u8], shared: usize, separators: Separ
     begins_with_name(&text[start..], separators) && begins_with_name(&other[start..], separators)
 }
 
-/// Where the last segment of a text begins. It is not searched for where the text ends with a separator.
+/// Returns the index at which the last segment begins: just after the last separator, or 0.
 #[inline(always)]
 fn last_start(text: &[u8], separators: Separators) -> usize
     ensures within { result ≤ length text.now }
     ensures last { IsAfterLastMatch (is_separator separators) text.now result }
 {
     match text {
+        // No search if the last byte separates.
         [.., last] if separators.contains(*last) => text.len(),
         [] | [_] => 0,
         _ => separators.last_in(text),
     }
 }
 
-/// Whether a text ends with a byte that stands in names alone.
+/// Whether the last byte is neither a separator nor a dot, so that its segment is a name.
 #[inline(always)]
 fn ends_with_name(text: &[u8], separators: Separators) -> bool
     ensures { IsTrue result → (before : List ℕ) × (b : ℕ) × (text.now ≡ before ++ b ∷ [])
@@ -543,8 +544,7 @@ fn ends_with_name(text: &[u8], separators: Separators) -> bool
     }
 }
 
-/// Whether a text begins with a name, as its first byte tells, or where that is a dot, those behind it. False says
-/// nothing.
+/// Whether the first segment is a name, as its first three bytes tell. `false` leaves it open.
 #[inline(always)]
 fn begins_with_name(text: &[u8], separators: Separators) -> bool
     ensures { IsTrue result → begins_with_name separators text.now ≡ true }
@@ -557,8 +557,7 @@ fn begins_with_name(text: &[u8], separators: Separators) -> bool
     }
 }
 
-/// Whether a byte tells of the segment that holds it that this is a name: it is neither a separator nor a
-/// dot.
+/// Whether each segment that has `byte` is a name: it is neither a separator nor a dot.
 #[inline(always)]
 fn tells_name(byte: u8, separators: Separators) -> bool
     ensures { result ≡ tells_name separators byte }
@@ -566,7 +565,8 @@ fn tells_name(byte: u8, separators: Separators) -> bool
     !separators.contains(byte) && byte != b'.'
 }
 
-/// The order of what two texts hold up to their first separators, where the first bytes tell.
+/// Compares the first segments of two texts by their first bytes; an empty segment is less. `None`
+/// leaves it open: the bytes are equal, or both segments are empty.
 #[inline(always)]
 fn order_of_ends(text: &[u8], other: &[u8], separators: Separators) -> Option<Ordering>
     ensures { IfSome result (λ order. (is_ne order ≡ true)
@@ -587,7 +587,7 @@ fn order_of_ends(text: &[u8], other: &[u8], separators: Separators) -> Option<Or
     }
 }
 
-/// The first byte of a text, where it does not separate.
+/// Returns the first byte of the first segment, or `None` if that segment is empty.
 #[inline(always)]
 fn first_of_name(text: &[u8], separators: Separators) -> Option<u8>
     ensures { MatchOption result (before_first (is_separator separators) text.now ≡ [])

@@ -9,14 +9,17 @@ ghost use Rattle.typed_path.specs.queries.{is_further_device, is_taken_for_devic
 use crate::scan::lanes::first_between;
 use crate::scan::separators::{Separators, is_in};
 
-/// Whether some version of Windows may take a name for a device. Most begin otherwise, which their first bytes tell.
+/// Whether some version of Windows may take `name` for a device. Only the bytes before the first
+/// `:` count.
 pub fn may_be_device(name: &[u8]) -> bool
     ensures { result ≡ name_may_be_device name.now }
 {
+    // The first three bytes rule out most names.
     begins_as_device(name) && is_taken_for_device(&name[..first_of(name, b':')])
 }
 
-/// Whether Windows takes a name for a device, if it has no `:`. It forgets the spaces before the first dot.
+/// Whether Windows takes `name`, if it has no `:`, for a device. Only the bytes before the first
+/// dot count, without the spaces at their end.
 pub fn is_taken_for_device(name: &[u8]) -> bool
     ensures { result ≡ is_taken_for_device name.now }
 {
@@ -24,7 +27,7 @@ pub fn is_taken_for_device(name: &[u8]) -> bool
     Separators::Backslash.is_reserved(stem) || is_further_device(stem)
 }
 
-/// Where the first of a byte stands in a text, or the length where it has none.
+/// Returns the index of the first `byte`, or the length if there is none.
 #[inline(always)]
 fn first_of(text: &[u8], byte: u8) -> usize
     ensures within { result ≤ length text.now }
@@ -33,19 +36,20 @@ fn first_of(text: &[u8], byte: u8) -> usize
     first_between(text, 0, text.len(), (byte, byte))
 }
 
-/// Whether the first three bytes of a text are, but for higher bits, one of `acnlp`, one of `opru` and one of `lmntx`,
-/// as each device begins.
+/// Whether the first three bytes, masked to five bits, are in `[acnlp][opru][lmntx]`, as those of
+/// each device are.
 #[inline(always)]
 fn begins_as_device(text: &[u8]) -> bool
     ensures { result ≡ begins_as_device text.now }
 {
     match text {
+        // The sets of letters, a bit for each by its low five bits.
         [a, b, c, ..] => is_in(86_026, *a) & (is_in(2_457_600, *b) & is_in(17_854_464, *c)),
         _ => false,
     }
 }
 
-/// A text without the spaces at its end.
+/// Returns `text` without the spaces at its end.
 fn without_last_spaces(text: &[u8]) -> &[u8]
     ensures { result.now ≡ without_last_spaces text.now }
 {
@@ -56,7 +60,8 @@ fn without_last_spaces(text: &[u8]) -> &[u8]
     &text[..len]
 }
 
-/// Whether a text is, ASCII case aside, the name of a device that a valid name may be.
+/// Whether `text` is, ASCII case aside, a device that [`Separators::is_valid_name`] does not
+/// refuse.
 fn is_further_device(text: &[u8]) -> bool
     ensures { result ≡ is_further_device text.now }
 {
@@ -70,7 +75,7 @@ fn is_further_device(text: &[u8]) -> bool
         || is_same(text, b"LPT\xC2\xB3")
 }
 
-/// Whether two texts are the same, ASCII case aside.
+/// Whether two names are equal, ASCII case aside.
 fn is_same(text: &[u8], other: &[u8]) -> bool
     ensures { result ≡ str_eq_ignore_ascii_case text.now other.now }
 {
