@@ -1,7 +1,8 @@
-//! Bytes found by blocks of 64, of 32, of 16, of 8 and of 4. What is looked for is a pair, which is one
-//! byte twice where no other is: so one and two are looked for in the same way. Of the bytes that no
-//! name of Windows may have, it is only told whether a text has one, and of control bytes, of NUL and of two
-//! dots side by side likewise. Of two texts the first place is found at which they differ.
+//! Searches by blocks of 64, 32, 16, 8 and 4 bytes: for a byte of a pair; for bytes that no Windows
+//! name may have, control bytes, NUL, and two dots side by side; and for the first difference of
+//! two slices. A pair is one byte twice if only one is searched for.
+//!
+//! A mask has a bit for each byte of a block, the lowest for the first.
 
 ghost use Rattle.std.specs.Prelude.{◌≡◌, ◌≢◌, ◌≤◌, ◌<◌, ◌+◌, ◌-◌, ◌%◌, ◌^◌, ◌==◌, ℕ, Bool, true, false, length, map, take, drop, slice_index, nat_lt, min, if◌then◌else◌};
 ghost use Rattle.std.specs.Int.{bit_at};
@@ -15,7 +16,7 @@ ghost use Rattle.typed_path.specs.scan.{IsMask, TellsWhether, is_one_of, stands_
 
 use std::simd::prelude::*;
 
-/// Which of the bytes of a block are the given one: a bit for each, the lowest for the first.
+/// Returns the mask of the bytes in `text[at..at + N]` that equal `byte`.
 #[inline(always)]
 pub fn marks_of<const N: usize>(text: &[u8], at: usize, byte: u8) -> u64
     requires lanes { (0 < N) × (N ≤ 64) }
@@ -27,7 +28,7 @@ pub fn marks_of<const N: usize>(text: &[u8], at: usize, byte: u8) -> u64
         .to_bitmask()
 }
 
-/// Which of the bytes of a block are one of a pair.
+/// Returns the mask of the bytes in `text[at..at + N]` that are in `pair`.
 #[inline(always)]
 pub fn marks_at<const N: usize>(text: &[u8], at: usize, pair: (u8, u8)) -> u64
     requires lanes { (0 < N) × (N ≤ 64) }
@@ -37,7 +38,7 @@ pub fn marks_at<const N: usize>(text: &[u8], at: usize, pair: (u8, u8)) -> u64
     marks_of::<N>(text, at, pair.0) | marks_of::<N>(text, at, pair.1)
 }
 
-/// Whether the byte is one of a pair.
+/// Whether `byte` is in `pair`.
 #[inline(always)]
 pub fn is_one_of(pair: (u8, u8), byte: u8) -> bool
     ensures { result ≡ is_one_of pair byte }
@@ -45,7 +46,7 @@ pub fn is_one_of(pair: (u8, u8), byte: u8) -> bool
     byte == pair.0 || byte == pair.1
 }
 
-/// The lowest bit that is set.
+/// Returns the index of the lowest set bit of `mask`, which is not 0.
 #[inline(always)]
 pub fn lowest(mask: u64) -> usize
     requires { mask ≢ 0 }
@@ -56,7 +57,7 @@ pub fn lowest(mask: u64) -> usize
     mask.trailing_zeros() as usize
 }
 
-/// The highest bit that is set.
+/// Returns the index of the highest set bit of `mask`, which is not 0.
 #[inline(always)]
 #[tactic(auto, using(crate::proofs::lemmas::scan::Searches::highest_is_set, crate::proofs::lemmas::scan::Searches::clear_above))]
 fn highest(mask: u64) -> usize
@@ -68,7 +69,7 @@ fn highest(mask: u64) -> usize
     mask.ilog2() as usize
 }
 
-/// The first byte of a pair in a range, byte by byte.
+/// Returns the index of the first byte of `pair` in `text[from..to]`, or `to`, byte by byte.
 #[inline(always)]
 fn first_by_one(text: &[u8], from: usize, to: usize, pair: (u8, u8)) -> usize
     requires ordered { from ≤ to }
@@ -82,7 +83,8 @@ fn first_by_one(text: &[u8], from: usize, to: usize, pair: (u8, u8)) -> usize
     at
 }
 
-/// The place behind the last byte of a pair in a range, byte by byte.
+/// Returns the index just after the last byte of `pair` in `text[from..to]`, or `from`, byte by
+/// byte.
 #[inline(always)]
 fn last_by_one(text: &[u8], from: usize, to: usize, pair: (u8, u8)) -> usize
     requires ordered { from ≤ to }
@@ -96,7 +98,8 @@ fn last_by_one(text: &[u8], from: usize, to: usize, pair: (u8, u8)) -> usize
     at
 }
 
-/// The place of the first mark of a block, or the end of the block where there is none.
+/// Returns `at` plus the index of the lowest set bit of `marks`, or `at + N` if none is set.
+/// `marks` is the mask of the block at `at`.
 #[inline(always)]
 pub fn first_marked<const N: usize>(marks: u64, at: usize) -> usize
     requires in_range { at + N < 2 ^ 64 }
@@ -110,7 +113,7 @@ pub fn first_marked<const N: usize>(marks: u64, at: usize) -> usize
     at + lowest(marks)
 }
 
-/// The place of the first byte of a pair in a block, or its end where there is none.
+/// Returns the index of the first byte of `pair` in `text[at..at + N]`, or `at + N`.
 #[inline(always)]
 fn first_in_block<const N: usize>(text: &[u8], at: usize, pair: (u8, u8)) -> usize
     requires lanes { (0 < N) × (N ≤ 64) }
@@ -120,7 +123,7 @@ fn first_in_block<const N: usize>(text: &[u8], at: usize, pair: (u8, u8)) -> usi
     first_marked::<N>(marks_at::<N>(text, at, pair), at)
 }
 
-/// The place behind the last byte of a pair in a block, or its beginning where there is none.
+/// Returns the index just after the last byte of `pair` in `text[at..at + N]`, or `at`.
 #[inline(always)]
 fn last_in_block<const N: usize>(text: &[u8], at: usize, pair: (u8, u8)) -> usize
     requires lanes { (0 < N) × (N ≤ 64) }
@@ -134,9 +137,8 @@ fn last_in_block<const N: usize>(text: &[u8], at: usize, pair: (u8, u8)) -> usiz
     at + highest(marks) + 1
 }
 
-/// The place of the first byte of a pair in a range of at most N bytes, or the end of the range where
-/// there is none. The N bytes up to that end are compared, and those before the range left out, so
-/// that the rest of a long text is looked at once and not byte by byte.
+/// Returns the index of the first byte of `pair` in `text[from..to]`, or `to`. The range has at
+/// most N bytes, and `to` is at least N.
 #[inline(always)]
 fn first_in_last_block<const N: usize>(text: &[u8], from: usize, to: usize, pair: (u8, u8)) -> usize
     requires lanes { (0 < N) × (N < 64) }
@@ -146,6 +148,7 @@ fn first_in_last_block<const N: usize>(text: &[u8], from: usize, to: usize, pair
     requires in_range { to ≤ length text.now }
     ensures { IsFirstOf pair text.now from to result }
 {
+    // One block of N bytes that ends at `to`; the marks before `from` are shifted out.
     let outside = N - (to - from);
     let block = marks_at::<N>(text, to - N, pair);
     let marks = block >> outside;
@@ -155,7 +158,8 @@ fn first_in_last_block<const N: usize>(text: &[u8], from: usize, to: usize, pair
     from + lowest(marks)
 }
 
-/// The first byte of a pair in a range that ends before 2 N, by two blocks of N bytes.
+/// Returns the index of the first byte of `pair` in `text[from..to]`, or `to`, by at most two
+/// blocks of N bytes. `to` is in `N..=2 * N`.
 #[inline(always)]
 fn first_by_blocks<const N: usize>(text: &[u8], from: usize, to: usize, pair: (u8, u8)) -> usize
     requires lanes { (0 < N) × (N < 64) }
@@ -174,9 +178,7 @@ fn first_by_blocks<const N: usize>(text: &[u8], from: usize, to: usize, pair: (u
     first_in_last_block::<N>(text, found, to, pair)
 }
 
-/// The place of the first byte of a pair in a range, or the end of the range where there is none.
-///
-/// Where the text goes on behind the range, the last block of the search may look at what stands there.
+/// Returns the index of the first byte of `pair` in `text[from..to]`, or `to`.
 #[inline(always)]
 pub fn first_between(text: &[u8], from: usize, to: usize, pair: (u8, u8)) -> usize
     requires ordered { from ≤ to }
@@ -191,6 +193,7 @@ pub fn first_between(text: &[u8], from: usize, to: usize, pair: (u8, u8)) -> usi
         }
         at += 32;
     }
+    // This block may read past `to`.
     if 32 <= text.len() - at {
         return first_in_block::<32>(text, at, pair).min(to);
     }
@@ -209,7 +212,8 @@ pub fn first_between(text: &[u8], from: usize, to: usize, pair: (u8, u8)) -> usi
     first_by_one(text, at, to, pair)
 }
 
-/// The place behind the last byte of a pair in a range, where a block of N bytes comes first.
+/// Returns the index just after the last byte of `pair` in `text[from..to]`, or `from`, by one
+/// block of N bytes and then byte by byte.
 #[inline(always)]
 fn last_by_block<const N: usize>(text: &[u8], from: usize, to: usize, pair: (u8, u8)) -> usize
     requires lanes { (0 < N) × (N ≤ 64) }
@@ -227,7 +231,7 @@ fn last_by_block<const N: usize>(text: &[u8], from: usize, to: usize, pair: (u8,
     last_by_one(text, from, found, pair)
 }
 
-/// The place behind the last byte of a pair in a range, or its beginning where there is none.
+/// Returns the index just after the last byte of `pair` in `text[from..to]`, or `from`.
 #[inline(always)]
 pub fn last_between(text: &[u8], from: usize, to: usize, pair: (u8, u8)) -> usize
     requires ordered { from ≤ to }
@@ -252,7 +256,7 @@ pub fn last_between(text: &[u8], from: usize, to: usize, pair: (u8, u8)) -> usiz
     last_by_block::<8>(text, from, at - 16, pair)
 }
 
-/// The bytes of a block in lower case.
+/// Returns the block in ASCII lower case.
 #[inline(always)]
 fn in_lower_case<const N: usize>(block: Simd<u8, N>) -> Simd<u8, N>
     ensures { result ≡ str_to_ascii_lowercase block.entry }
@@ -261,9 +265,8 @@ fn in_lower_case<const N: usize>(block: Simd<u8, N>) -> Simd<u8, N>
     capitals.select(block + Simd::splat(32), block)
 }
 
-/// Which bytes of a block differ from those of another text in lower case.
-///
-/// It is a call of its own, so that what compares texts as they are stays small enough to be built into its callers.
+/// Returns the mask of the bytes in `text[at..at + N]` that differ from those of `other`, both in
+/// ASCII lower case.
 #[inline]
 fn lowered_differences_at<const N: usize>(text: &[u8], other: &[u8], at: usize) -> u64
     requires lanes { (0 < N) × (N ≤ 64) }
@@ -273,12 +276,14 @@ fn lowered_differences_at<const N: usize>(text: &[u8], other: &[u8], at: usize) 
         (str_to_ascii_lowercase other.now) (at + k)) N result }
     ensures fits { result < 2 ^ 64 }
 {
+    // A call of its own, so that what compares without lower case stays small enough to be inlined.
     let own = in_lower_case::<N>(Simd::from_slice(&text[at..]));
     let others = in_lower_case::<N>(Simd::from_slice(&other[at..]));
     own.simd_ne(others).to_bitmask()
 }
 
-/// Which bytes of a block differ from those of another text, as they are or in lower case.
+/// Returns the mask of the bytes in `text[at..at + N]` that differ from those of `other`; in ASCII
+/// lower case if `LOWER`.
 #[inline(always)]
 fn differences_at<const N: usize, const LOWER: bool>(text: &[u8], other: &[u8], at: usize) -> u64
     requires lanes { (0 < N) × (N ≤ 64) }
@@ -295,7 +300,7 @@ fn differences_at<const N: usize, const LOWER: bool>(text: &[u8], other: &[u8], 
         .to_bitmask()
 }
 
-/// Whether a block of a text differs from that of another.
+/// Whether `text[at..at + N]` differs from those bytes of `other`; in ASCII lower case if `LOWER`.
 #[inline(always)]
 fn differs_in_block<const N: usize, const LOWER: bool>(text: &[u8], other: &[u8], at: usize) -> bool
     requires lanes { (0 < N) × (N ≤ 64) }
@@ -306,7 +311,8 @@ fn differs_in_block<const N: usize, const LOWER: bool>(text: &[u8], other: &[u8]
     differences_at::<N, LOWER>(text, other, at) != 0
 }
 
-/// The first place of a block at which two texts differ, or its end where they are alike there.
+/// Returns the index of the first difference in `at..at + N`, or `at + N`; in ASCII lower case if
+/// `LOWER`.
 #[inline(always)]
 fn first_difference_in_block<const N: usize, const LOWER: bool>(
     text: &[u8],
@@ -321,8 +327,8 @@ fn first_difference_in_block<const N: usize, const LOWER: bool>(
     first_marked::<N>(differences_at::<N, LOWER>(text, other, at), at)
 }
 
-/// The first place at which two texts differ of whose first `to` bytes those before a place are alike,
-/// or `to`. The last N of these are compared.
+/// Returns the index of the first difference in `..to`, or `to`; in ASCII lower case if `LOWER`.
+/// `..from` is known to be equal, and only the last N bytes before `to` are compared.
 #[inline(always)]
 fn first_difference_in_last_block<const N: usize, const LOWER: bool>(
     text: &[u8],
@@ -340,7 +346,8 @@ fn first_difference_in_last_block<const N: usize, const LOWER: bool>(
     first_difference_in_block::<N, LOWER>(text, other, to - N)
 }
 
-/// The same of texts of N bytes to 2 N, by two blocks.
+/// Returns the index of the first difference in `..to`, or `to`, by two blocks of N bytes; in ASCII
+/// lower case if `LOWER`. `to` is in `N..=2 * N`.
 #[inline(always)]
 fn first_difference_in_two<const N: usize, const LOWER: bool>(
     text: &[u8],
@@ -360,7 +367,7 @@ fn first_difference_in_two<const N: usize, const LOWER: bool>(
     first_difference_in_last_block::<N, LOWER>(text, other, N, to)
 }
 
-/// Whether two bytes are alike.
+/// Whether two bytes are equal; in ASCII lower case if `LOWER`.
 #[inline(always)]
 fn is_same_byte<const LOWER: bool>(byte: u8, other: u8) -> bool
     ensures { result ≡ (if LOWER then to_ascii_lowercase byte == to_ascii_lowercase other else byte == other) }
@@ -372,7 +379,8 @@ fn is_same_byte<const LOWER: bool>(byte: u8, other: u8) -> bool
     }
 }
 
-/// The same, byte by byte.
+/// Returns the index of the first difference in `..to`, or `to`, byte by byte; in ASCII lower case
+/// if `LOWER`.
 #[inline(always)]
 fn first_difference_by_one<const LOWER: bool>(text: &[u8], other: &[u8], to: usize) -> usize
     requires in_text { to ≤ length text.now }
@@ -386,16 +394,15 @@ fn first_difference_by_one<const LOWER: bool>(text: &[u8], other: &[u8], to: usi
     at
 }
 
-/// The first place at which two texts differ, or the length of the shorter one where they are alike up
-/// to there.
-///
-/// While they are alike, and go on for two blocks of 64, one of them is compared at once.
+/// Returns the index of the first difference, or the length of the shorter slice if it has none; in
+/// ASCII lower case if `LOWER`.
 #[inline(always)]
 fn first_place_of_difference<const LOWER: bool>(text: &[u8], other: &[u8]) -> usize
     ensures { IsFirstPlace (differs_in LOWER text.now other.now) 0 (min (length text.now) (length other.now)) result }
 {
     let len = text.len().min(other.len());
     let mut at = 0;
+    // By blocks of 64, while two of them are left and the first is equal.
     'pairs: while 128 <= len - at && !differs_in_block::<64, LOWER>(text, other, at) {
         at += 64;
     }
@@ -421,7 +428,7 @@ fn first_place_of_difference<const LOWER: bool>(text: &[u8], other: &[u8]) -> us
     first_difference_by_one::<LOWER>(text, other, len)
 }
 
-/// The first place at which two texts differ, or the length of the shorter one where they are alike up to there.
+/// Returns the index of the first difference, or the length of the shorter slice if it has none.
 #[inline(always)]
 pub fn first_difference(text: &[u8], other: &[u8]) -> usize
     ensures { PartAt text.now other.now result }
@@ -429,15 +436,16 @@ pub fn first_difference(text: &[u8], other: &[u8]) -> usize
     first_place_of_difference::<false>(text, other)
 }
 
-/// The same of two texts in lower case.
+/// Returns the index of the first difference in ASCII lower case, or the length of the shorter
+/// slice if it has none.
 pub fn first_difference_in_lower_case(text: &[u8], other: &[u8]) -> usize
     ensures { PartAt (str_to_ascii_lowercase text.now) (str_to_ascii_lowercase other.now) result }
 {
     first_place_of_difference::<true>(text, other)
 }
 
-/// Whether a text begins otherwise, by the first N bytes of a beginning and its last N, which together
-/// are all of it. Both are looked at, so that one branch tells.
+/// Whether `text` does not begin with `beginning`. The length of `beginning` is in `N..=2 * N`, and
+/// not more than that of `text`.
 #[inline(always)]
 pub fn begins_otherwise<const N: usize>(beginning: &[u8], text: &[u8]) -> bool
     requires lanes { (0 < N) × (N ≤ 64) }
@@ -445,13 +453,14 @@ pub fn begins_otherwise<const N: usize>(beginning: &[u8], text: &[u8]) -> bool
     requires room { length beginning.now ≤ length text.now }
     ensures { TellsWhether (differs_at beginning.now text.now) 0 (length beginning.now) result }
 {
+    // The first N and the last N bytes are all of it. Both are compared, so that one branch tells.
     let last = beginning.len() - N;
     differs_in_block::<N, false>(beginning, text, 0)
         | differs_in_block::<N, false>(beginning, text, last)
 }
 
-/// Which bytes of a block are those that no name of Windows may have, and that separate in no text, or
-/// one of a pair.
+/// Returns the mask of the bytes in `text[at..at + N]` that are forbidden, as [`is_forbidden`]
+/// tells, or in `pair`.
 #[inline(always)]
 fn forbidden_at<const N: usize>(text: &[u8], at: usize, pair: (u8, u8)) -> u64
     requires lanes { (0 < N) × (N ≤ 64) }
@@ -470,20 +479,22 @@ fn forbidden_at<const N: usize>(text: &[u8], at: usize, pair: (u8, u8)) -> u64
         | (block.simd_eq(Simd::splat(pair.0)) | block.simd_eq(Simd::splat(pair.1)))).to_bitmask()
 }
 
-/// The bytes that no name of Windows may have, and that separate in no text, each at the place of its low four
-/// bits; twice, so that each half of a block has a table. Elsewhere stands a byte whose place is another.
+/// The forbidden bytes, each at the index of its low four bits. The 16 entries stand twice, once
+/// for each half of a block. An entry with no forbidden byte has other low bits, so that it equals
+/// no byte.
 const FORBIDDEN: [u8; 32] = [
     b'\0', 0, b'"', 0, 0, 0, 0, 0, 0, 0, b':', 0, b'<', 0, b'>', b'?', b'\0', 0, b'"', 0, 0, 0, 0,
     0, 0, 0, b':', 0, b'<', 0, b'>', b'?',
 ];
 
-/// Those of these bytes at whose place another one stands in that table.
+/// The forbidden bytes whose entry in [`FORBIDDEN`] is taken by another one.
 const ALSO_FORBIDDEN: [u8; 32] = [
     1, 0, 0, 0, 0, 0, 0, 0, 0, 0, b'*', 0, b'|', 0, 0, 0, 1, 0, 0, 0, 0, 0, 0, 0, 0, 0, b'*', 0,
     b'|', 0, 0, 0,
 ];
 
-/// What a table holds at the low four bits of each byte of a block.
+/// Returns for each byte of `block` the entry of `table` at its low four bits. The 16 entries of
+/// `table` stand twice.
 #[inline(always)]
 fn at_low_bits(table: u8x32, block: u8x32) -> u8x32
     requires twice { drop 16 table ≡ take 16 table }
@@ -492,20 +503,21 @@ fn at_low_bits(table: u8x32, block: u8x32) -> u8x32
     table.swizzle_dyn_within::<16>(block & u8x32::splat(15))
 }
 
-/// Which bytes of a block of 32 are those that no name of Windows may have, and that separate in no text, or
-/// one of a pair. Two tables are asked of each byte, which is compared with what they hold alone.
+/// Returns the mask of the bytes in `text[at..at + 32]` that are forbidden or in `pair`.
 #[inline(always)]
 fn forbidden_in_32_at(text: &[u8], at: usize, pair: (u8, u8)) -> u64
     requires { at + 32 ≤ length text.now }
     ensures { IsMask (λ k. forbidden_at pair text.now (at + k)) 32 result }
 {
+    // Each byte is compared with its entry of two tables, and not with each forbidden byte.
     let block = u8x32::from_slice(&text[at..]);
     (at_low_bits(u8x32::from_array(FORBIDDEN), block).simd_eq(block)
         | at_low_bits(u8x32::from_array(ALSO_FORBIDDEN), block).simd_eq(block)
         | (block.simd_eq(Simd::splat(pair.0)) | block.simd_eq(Simd::splat(pair.1)))).to_bitmask()
 }
 
-/// Which bytes of a block of 32 are letters that a table holds as capitals at their low four bits.
+/// Returns the mask of the letters in `text[at..at + 32]`, in either case, that `table` holds as
+/// capitals at the index of their low four bits. The 16 entries of `table` stand twice.
 #[inline(always)]
 pub fn letters_at(text: &[u8], at: usize, table: u8x32) -> u64
     requires in_range { at + 32 ≤ length text.now }
@@ -518,11 +530,10 @@ pub fn letters_at(text: &[u8], at: usize, table: u8x32) -> u64
         .to_bitmask()
 }
 
-/// All bits of a byte but that by which a small letter differs from its capital.
+/// All bits of a byte but the one in which a lower-case letter differs from its capital.
 const CAPITAL: u8 = 0xDF;
 
-/// Whether a block of 32 bytes has a byte that no name of Windows may have, and that separates in no text, or
-/// one of a pair.
+/// Whether a byte in `text[at..at + 32]` is forbidden or in `pair`.
 #[inline(always)]
 pub fn is_forbidden_in_32(text: &[u8], at: usize, pair: (u8, u8)) -> bool
     requires { at + 32 ≤ length text.now }
@@ -531,7 +542,7 @@ pub fn is_forbidden_in_32(text: &[u8], at: usize, pair: (u8, u8)) -> bool
     forbidden_in_32_at(text, at, pair) != 0
 }
 
-/// Whether a block has such a byte.
+/// Whether a byte in `text[at..at + N]` is forbidden or in `pair`.
 #[inline(always)]
 fn is_forbidden_in_block<const N: usize>(text: &[u8], at: usize, pair: (u8, u8)) -> bool
     requires lanes { (0 < N) × (N ≤ 64) }
@@ -541,7 +552,8 @@ fn is_forbidden_in_block<const N: usize>(text: &[u8], at: usize, pair: (u8, u8))
     first_marked::<N>(forbidden_at::<N>(text, at, pair), at) < at + N
 }
 
-/// Whether such a byte stands in a text of N bytes to 2 N, by its first and its last block.
+/// Whether a byte of `text` is forbidden or in `pair`, by its first and its last N bytes. Its
+/// length is in `N..=2 * N`.
 #[inline(always)]
 fn has_forbidden_in_two<const N: usize>(text: &[u8], pair: (u8, u8)) -> bool
     requires lanes { (0 < N) × (N ≤ 64) }
@@ -552,7 +564,7 @@ fn has_forbidden_in_two<const N: usize>(text: &[u8], pair: (u8, u8)) -> bool
         || is_forbidden_in_block::<N>(text, text.len() - N, pair)
 }
 
-/// Whether such a byte stands in a text, byte by byte.
+/// Whether a byte of `text` is forbidden or in `pair`, byte by byte.
 #[inline(always)]
 fn has_forbidden_by_one(text: &[u8], pair: (u8, u8)) -> bool
     ensures { result ≡ list_any (is_forbidden_or pair) text.now }
@@ -564,7 +576,8 @@ fn has_forbidden_by_one(text: &[u8], pair: (u8, u8)) -> bool
     forbidden
 }
 
-/// Whether the byte is one that no name of Windows may have, and that separates in no text.
+/// Whether `byte` is forbidden: no Windows name may have it, and it separates in no path. These are
+/// NUL and `:?*"><|`.
 #[inline(always)]
 fn is_forbidden(byte: u8) -> bool
     ensures { result ≡ is_forbidden byte }
@@ -579,8 +592,7 @@ fn is_forbidden(byte: u8) -> bool
         | (byte == 0)
 }
 
-/// Whether a text has a byte that no name of Windows may have, and that separates in no text, or one of
-/// a pair.
+/// Whether a byte of `text` is forbidden, which is NUL or one of `:?*"><|`, or in `pair`.
 #[inline(always)]
 pub fn has_forbidden(text: &[u8], pair: (u8, u8)) -> bool
     ensures { result ≡ list_any (is_forbidden_or pair) text.now }
@@ -608,7 +620,7 @@ pub fn has_forbidden(text: &[u8], pair: (u8, u8)) -> bool
     has_forbidden_by_one(text, pair)
 }
 
-/// Which bytes of a block are less than the given one.
+/// Returns the mask of the bytes in `text[at..at + N]` that are less than `byte`.
 #[inline(always)]
 fn marks_below<const N: usize>(text: &[u8], at: usize, byte: u8) -> u64
     requires lanes { (0 < N) × (N ≤ 64) }
@@ -620,7 +632,7 @@ fn marks_below<const N: usize>(text: &[u8], at: usize, byte: u8) -> u64
         .to_bitmask()
 }
 
-/// Which bytes of a block are control bytes.
+/// Returns the mask of the control bytes in `text[at..at + N]`.
 #[inline(always)]
 fn controls_at<const N: usize>(text: &[u8], at: usize) -> u64
     requires lanes { (0 < N) × (N ≤ 64) }
@@ -630,10 +642,10 @@ fn controls_at<const N: usize>(text: &[u8], at: usize) -> u64
     marks_below::<N>(text, at, b' ') | marks_of::<N>(text, at, DELETE)
 }
 
-/// The control byte that stands behind all others of ASCII.
+/// The last control byte of ASCII, which comes after all other bytes of ASCII.
 const DELETE: u8 = 127;
 
-/// Whether a block has such a byte.
+/// Whether `text[at..at + N]` has a control byte.
 #[inline(always)]
 fn has_control_in_block<const N: usize>(text: &[u8], at: usize) -> bool
     requires lanes { (0 < N) × (N ≤ 64) }
@@ -643,7 +655,8 @@ fn has_control_in_block<const N: usize>(text: &[u8], at: usize) -> bool
     controls_at::<N>(text, at) != 0
 }
 
-/// Whether such a byte stands in a text of N bytes to 2 N, by its first and its last block.
+/// Whether `text` has a control byte, by its first and its last N bytes. Its length is in
+/// `N..=2 * N`.
 #[inline(always)]
 fn has_control_in_two<const N: usize>(text: &[u8]) -> bool
     requires lanes { (0 < N) × (N ≤ 64) }
@@ -653,7 +666,7 @@ fn has_control_in_two<const N: usize>(text: &[u8]) -> bool
     has_control_in_block::<N>(text, 0) || has_control_in_block::<N>(text, text.len() - N)
 }
 
-/// Whether such a byte stands in a text, byte by byte.
+/// Whether `text` has a control byte, byte by byte.
 #[inline(always)]
 fn has_control_by_one(text: &[u8]) -> bool
     ensures { result ≡ list_any is_control text.now }
@@ -665,7 +678,7 @@ fn has_control_by_one(text: &[u8]) -> bool
     found
 }
 
-/// Whether the byte is a control byte.
+/// Whether `byte` is a control byte of ASCII.
 #[inline(always)]
 fn is_control(byte: u8) -> bool
     ensures { result ≡ is_control byte }
@@ -673,7 +686,7 @@ fn is_control(byte: u8) -> bool
     (byte < b' ') | (byte == DELETE)
 }
 
-/// Whether a text has a control byte of ASCII.
+/// Whether `text` has a control byte of ASCII.
 #[inline(always)]
 pub fn has_control(text: &[u8]) -> bool
     ensures { result ≡ list_any is_control text.now }
@@ -701,8 +714,8 @@ pub fn has_control(text: &[u8]) -> bool
     has_control_by_one(text)
 }
 
-/// Which bytes of a block are NUL, or a dot with another behind it. The byte behind the block is looked
-/// at too.
+/// Returns the mask of the bytes in `text[at..at + N]` that are NUL, or a dot followed by another.
+/// Reads one byte past the block.
 #[inline(always)]
 fn nul_or_dot_pair_at<const N: usize>(text: &[u8], at: usize) -> u64
     requires lanes { (0 < N) × (N ≤ 64) }
@@ -713,7 +726,8 @@ fn nul_or_dot_pair_at<const N: usize>(text: &[u8], at: usize) -> u64
         | (marks_of::<N>(text, at, b'.') & marks_of::<N>(text, at + 1, b'.'))
 }
 
-/// Whether a block has such a byte.
+/// Whether a byte in `text[at..at + N]` is NUL, or a dot followed by another. Reads one byte past
+/// the block.
 #[inline(always)]
 fn has_nul_or_dot_pair_in_block<const N: usize>(text: &[u8], at: usize) -> bool
     requires lanes { (0 < N) × (N ≤ 64) }
@@ -723,7 +737,8 @@ fn has_nul_or_dot_pair_in_block<const N: usize>(text: &[u8], at: usize) -> bool
     nul_or_dot_pair_at::<N>(text, at) != 0
 }
 
-/// Whether such a byte stands in the first bytes of a text, of which there are N to 2 N.
+/// Whether a byte of `text[..to]` is NUL, or a dot followed by another, by two blocks of N bytes.
+/// `to` is in `N..=2 * N`.
 #[inline(always)]
 fn has_nul_or_dot_pair_in_two<const N: usize>(text: &[u8], to: usize) -> bool
     requires lanes { (0 < N) × (N ≤ 64) }
@@ -734,7 +749,7 @@ fn has_nul_or_dot_pair_in_two<const N: usize>(text: &[u8], to: usize) -> bool
     has_nul_or_dot_pair_in_block::<N>(text, 0) | has_nul_or_dot_pair_in_block::<N>(text, to - N)
 }
 
-/// The same, byte by byte.
+/// Whether a byte of `text[..to]` is NUL, or a dot followed by another, byte by byte.
 #[inline(always)]
 fn has_nul_or_dot_pair_by_one(text: &[u8], to: usize) -> bool
     requires { to < length text.now }
@@ -747,7 +762,7 @@ fn has_nul_or_dot_pair_by_one(text: &[u8], to: usize) -> bool
     at < to
 }
 
-/// Whether two bytes are NUL and any other, or two dots.
+/// Whether `first` is NUL, or both bytes are dots.
 #[inline(always)]
 fn is_nul_or_dot_pair(first: u8, second: u8) -> bool
     ensures { result ≡ is_nul_or_dot_pair first second }
@@ -755,7 +770,7 @@ fn is_nul_or_dot_pair(first: u8, second: u8) -> bool
     first == b'\0' || (first == b'.' && second == b'.')
 }
 
-/// Whether such a byte stands before a place of a text.
+/// Whether a byte of `text[..to]` is NUL, or a dot followed by another. `text` goes on after `to`.
 #[inline(always)]
 fn has_nul_or_dot_pair_before(text: &[u8], to: usize) -> bool
     requires { to < length text.now }
@@ -783,8 +798,8 @@ fn has_nul_or_dot_pair_before(text: &[u8], to: usize) -> bool
     has_nul_or_dot_pair_by_one(text, to)
 }
 
-/// Whether a text holds neither NUL nor two dots side by side. So no component offends of a path of Unix that
-/// has no root.
+/// Whether `text` has neither NUL nor two dots side by side. A Unix path that has neither, and no
+/// root, has no component that a checked push refuses.
 pub fn has_no_nul_or_dot_pair(text: &[u8]) -> bool
     ensures { result ≡ has_no_nul_or_dot_pair text.now }
 {

@@ -1,5 +1,5 @@
-//! How much at the front of a text is names, and whether a segment behind a separator is empty or `.`, by
-//! blocks.
+//! Looks at bytes by blocks: how much at the front is names, and whether a segment after a
+//! separator is empty or `.`.
 
 ghost use Rattle.std.specs.Prelude.{◌≡◌, ◌≤◌, ◌<◌, ◌+◌, ◌-◌, ◌==◌, ℕ, true, false, IsTrue, length, slice_index, Bool};
 ghost use Rattle.std.specs.Int.{bit_at};
@@ -12,8 +12,8 @@ ghost use Rattle.typed_path.specs.components.{body, later_body, parts};
 use crate::scan::lanes::{first_marked, is_one_of, lowest, marks_at, marks_of};
 use crate::scan::separators::Separators;
 
-/// Whether looks at the bytes of a text tell that each piece between two bytes of a pair is a name: not
-/// empty, and neither `.` nor `..`. False says nothing.
+/// Whether each segment of `text` is a name: not empty, `.` or `..`. `pair` holds the separators.
+/// `false` leaves it open: a name that begins with `..` is not told from `..`.
 #[inline(always)]
 pub fn has_only_names(text: &[u8], pair: (u8, u8)) -> bool
     ensures { IsTrue result
@@ -22,10 +22,9 @@ pub fn has_only_names(text: &[u8], pair: (u8, u8)) -> bool
     leading_names(text, pair).is_none()
 }
 
-/// How many bytes at the front of a text are names, each with a byte of a pair behind it, as looks at
-/// its bytes tell; none where each piece between two bytes of the pair is a name.
-///
-/// A piece that begins as `..` does, as `..a`, is taken for none.
+/// Returns how many bytes at the front are names, each with a separator after it; `None` if every
+/// segment of `text` is a name. `pair` holds the separators. Stops at a segment that begins with
+/// `..`, even if it is a name, as `..a` is.
 #[inline(always)]
 pub fn leading_names(text: &[u8], pair: (u8, u8)) -> Option<usize>
     ensures { TellsNames pair text.now result }
@@ -46,9 +45,8 @@ pub fn leading_names(text: &[u8], pair: (u8, u8)) -> Option<usize>
     names_behind(text, 0, pair)
 }
 
-/// The same of a text of 34 bytes and more only where its names are short: none are told where fewer than three
-/// separators stand in its first 32 bytes, or before the first of them with no name behind it. Names put one by one
-/// cost less then than a look for those that follow.
+/// Like [`leading_names`], but for 34 bytes or more returns `Some(0)` unless the first 32 show
+/// three separators that names follow.
 #[inline(always)]
 pub fn leading_short_names(text: &[u8], pair: (u8, u8)) -> Option<usize>
     ensures { TellsNames pair text.now result }
@@ -62,6 +60,7 @@ pub fn leading_short_names(text: &[u8], pair: (u8, u8)) -> Option<usize>
     if begins_no_name(pair, *first, *second) {
         return Some(0);
     }
+    // Few or long names are put one by one, which costs less than a look for those that follow.
     let ends = marks_at::<32>(text, 0, pair);
     let seconds = ends & ends.wrapping_sub(1);
     let thirds = seconds & seconds.wrapping_sub(1);
@@ -79,8 +78,8 @@ pub fn leading_short_names(text: &[u8], pair: (u8, u8)) -> Option<usize>
     Some(run + 1)
 }
 
-/// How many bytes at the front of a text of two bytes and more, which begins with a name, are names. It is told of
-/// bytes at the front that none has a piece behind it that is no name.
+/// Like [`leading_names`], for two bytes or more that begin with a name. No separator in
+/// `text[..from]` comes before a segment that [`begins_no_name`] tells of.
 #[inline(always)]
 fn names_behind(text: &[u8], from: usize, pair: (u8, u8)) -> Option<usize>
     requires size { from + 2 ≤ length text.now }
@@ -103,8 +102,9 @@ fn names_behind(text: &[u8], from: usize, pair: (u8, u8)) -> Option<usize>
     None
 }
 
-/// The first byte before a place of a text that is one of a pair with a piece behind it that is empty
-/// or begins as `.` or `..` does, or that place. It is told of bytes at the front that none is so.
+/// Returns the index in `text[..to]` of the first separator before a segment that may be no name:
+/// it is empty, `.`, or begins with `..`. Returns `to` if there is none; in `text[..from]` there is
+/// none.
 #[inline(always)]
 fn first_no_name(text: &[u8], from: usize, to: usize, pair: (u8, u8)) -> usize
     requires room { to + 2 ≤ length text.now }
@@ -132,7 +132,8 @@ fn first_no_name(text: &[u8], from: usize, to: usize, pair: (u8, u8)) -> usize
     first_no_name_by_one(text, to, pair)
 }
 
-/// The first byte of a block that is one of a pair with such a piece behind it, or the end of the block.
+/// Returns the index in `text[at..at + N]` of the first separator before a segment that may be no
+/// name, or `at + N`. Reads two bytes past the block.
 #[inline(always)]
 fn first_no_name_in_block<const N: usize>(text: &[u8], at: usize, pair: (u8, u8)) -> usize
     requires lanes { (0 < N) × (N ≤ 64) }
@@ -142,8 +143,8 @@ fn first_no_name_in_block<const N: usize>(text: &[u8], at: usize, pair: (u8, u8)
     first_marked::<N>(no_names_at::<N>(text, at, pair), at)
 }
 
-/// The first such byte before a place of a text, or that place, by two blocks. Mostly there is none,
-/// which one branch tells.
+/// Returns the index in `text[..to]` of the first separator before a segment that may be no name,
+/// or `to`, by two blocks of N bytes. `to` is in `N..=2 * N`.
 #[inline(always)]
 fn first_no_name_in_two<const N: usize>(text: &[u8], to: usize, pair: (u8, u8)) -> usize
     requires lanes { (0 < N) × (N ≤ 64) }
@@ -153,6 +154,7 @@ fn first_no_name_in_two<const N: usize>(text: &[u8], to: usize, pair: (u8, u8)) 
 {
     let first = no_names_at::<N>(text, 0, pair);
     let last = no_names_at::<N>(text, to - N, pair);
+    // Mostly there is none, which one branch tells.
     if (first == 0) & (last == 0) {
         return to;
     }
@@ -163,7 +165,8 @@ fn first_no_name_in_two<const N: usize>(text: &[u8], to: usize, pair: (u8, u8)) 
     first_marked::<N>(last, to - N)
 }
 
-/// The same, byte by byte.
+/// Returns the index in `text[..to]` of the first separator before a segment that may be no name,
+/// or `to`, byte by byte.
 #[inline(always)]
 fn first_no_name_by_one(text: &[u8], to: usize, pair: (u8, u8)) -> usize
     requires { to + 2 ≤ length text.now }
@@ -178,8 +181,8 @@ fn first_no_name_by_one(text: &[u8], to: usize, pair: (u8, u8)) -> usize
     at
 }
 
-/// Which bytes of a block are one of a pair with such a piece behind it. The two bytes behind the block
-/// are looked at too.
+/// Returns the mask of the separators in `text[at..at + N]` before segments that may be no names.
+/// Reads two bytes past the block.
 #[inline(always)]
 fn no_names_at<const N: usize>(text: &[u8], at: usize, pair: (u8, u8)) -> u64
     requires lanes { (0 < N) × (N ≤ 64) }
@@ -191,8 +194,9 @@ fn no_names_at<const N: usize>(text: &[u8], at: usize, pair: (u8, u8)) -> u64
     marks_at::<N>(text, at, pair) & (marks_at::<N>(text, at + 1, pair) | dots)
 }
 
-/// Which bytes of a block of 32 are one of a pair with such a piece behind it, as the block tells of all but its last
-/// two. It is told which are one of the pair.
+/// Returns the mask of the separators in `text[at..at + 32]` before segments that may be no names,
+/// without reading past the block: bit 30 may be missing, and bit 31 is. `ends` is the mask of all
+/// separators in the block.
 #[inline(always)]
 fn no_names_among(text: &[u8], at: usize, ends: u64, pair: (u8, u8)) -> u64
     requires in_range { at + 32 ≤ length text.now }
@@ -206,7 +210,8 @@ fn no_names_among(text: &[u8], at: usize, ends: u64, pair: (u8, u8)) -> u64
     ends & ((ends >> 1) | ((dots >> 1) & ((ends | dots) >> 2)))
 }
 
-/// Whether a piece that begins with these two bytes is empty, or begins as `.` or `..` does.
+/// Whether a segment that begins with `first` and `second` may be no name: it is empty, `.`, or
+/// begins with `..`.
 #[inline(always)]
 fn begins_no_name(pair: (u8, u8), first: u8, second: u8) -> bool
     ensures { result ≡ begins_no_name pair first second }
@@ -214,8 +219,7 @@ fn begins_no_name(pair: (u8, u8), first: u8, second: u8) -> bool
     is_one_of(pair, first) || (first == b'.' && (is_one_of(pair, second) || second == b'.'))
 }
 
-/// Whether the bytes of a text tell that none of its segments but the first is empty or `.`. False says
-/// nothing.
+/// Whether no segment but the first is empty or `.`. `false` leaves it open.
 #[inline(always)]
 pub fn has_no_blank_behind(text: &[u8], separators: Separators) -> bool
     ensures { IsTrue result → has_blank_behind separators text.now ≡ false }
@@ -233,7 +237,7 @@ pub fn has_no_blank_behind(text: &[u8], separators: Separators) -> bool
     has_no_blank_by_one(text, separators)
 }
 
-/// The same, byte by byte.
+/// Like [`has_no_blank_behind`], byte by byte.
 #[inline(always)]
 fn has_no_blank_by_one(text: &[u8], separators: Separators) -> bool
     ensures { IsTrue result → has_blank_behind separators text.now ≡ false }
@@ -248,7 +252,7 @@ fn has_no_blank_by_one(text: &[u8], separators: Separators) -> bool
     true
 }
 
-/// Whether the first segment of a text is empty or `.`.
+/// Whether the first segment is empty or `.`.
 #[inline(always)]
 pub fn begins_blank(text: &[u8], separators: Separators) -> bool
     ensures { result ≡ begins_blank separators text.now }
@@ -261,8 +265,7 @@ pub fn begins_blank(text: &[u8], separators: Separators) -> bool
     }
 }
 
-/// The same by blocks of N bytes. Behind a separator two bytes are looked at, so a block begins two bytes
-/// before the end of the one before it.
+/// Like [`has_no_blank_behind`], by blocks of N bytes, for N bytes or more.
 #[inline(always)]
 fn has_no_blank_in_blocks<const N: usize>(text: &[u8], separators: Separators) -> bool
     requires lanes { (8 ≤ N) × (N ≤ 32) }
@@ -277,6 +280,7 @@ fn has_no_blank_in_blocks<const N: usize>(text: &[u8], separators: Separators) -
         if blanks_behind(marks, marks, dots) != 0 {
             return false;
         }
+        // The two bytes after a separator count, so the next block overlaps this one by two.
         at += N - 2;
     }
     let last = len - N;
@@ -285,8 +289,8 @@ fn has_no_blank_in_blocks<const N: usize>(text: &[u8], separators: Separators) -
     blanks_behind(marks, marks | (1 << N), dots) == 0
 }
 
-/// Marks of separators before blank segments, by those of all separators, of the ends of segments and of
-/// dots; 0 where there is none.
+/// Returns the mask of the separators that are followed by an empty segment or `.`, given the masks
+/// of separators, of the ends of segments, and of dots.
 #[inline(always)]
 fn blanks_behind(separators: u64, ends: u64, dots: u64) -> u64
     ensures { result ≡ 0 → MarksNoBlank separators ends dots }
@@ -294,8 +298,8 @@ fn blanks_behind(separators: u64, ends: u64, dots: u64) -> u64
     separators & ((ends >> 1) | ((dots >> 1) & (ends >> 2)))
 }
 
-/// A text without the separator at its end, where that stands behind other bytes: it belongs to no
-/// component.
+/// Returns `text` without the separator at its end, which belongs to no component. A lone separator
+/// stays.
 #[inline(always)]
 pub fn before_last_separator(text: &[u8], separators: Separators) -> &[u8]
     ensures body { (at : ℕ) → body separators at text.now ≡ body separators at result.now }
@@ -310,15 +314,15 @@ pub fn before_last_separator(text: &[u8], separators: Separators) -> &[u8]
     }
 }
 
-/// Whether a text goes on behind 64 bytes of which none separates on Windows: a look at the whole of it would cost more
-/// than its name. It only chooses between two ways to one answer.
+/// Whether `text` has more than 64 bytes and neither `/` nor `\` is in the first 64. Only picks the
+/// cheaper of two ways to one result: to look at all bytes would cost more than to read the name.
 #[inline(always)]
 pub fn begins_with_long_name(text: &[u8]) -> bool {
     64 < text.len() && marks_at::<64>(text, 0, (b'/', b'\\')) == 0
 }
 
-/// Whether no separator stands in the first 32 bytes of a text, or in all of it where it has 16 to 31: no names stand
-/// side by side there. It only chooses between two ways to one answer.
+/// Whether no separator is in the first 32 bytes, or in all of 16 to 31 bytes, so that no names are
+/// side by side there. Only picks the cheaper of two ways to one result.
 #[inline(always)]
 pub fn has_long_front(text: &[u8], separators: Separators) -> bool {
     let pair = separators.pair();
