@@ -1,4 +1,4 @@
-//! The prefixes of Windows paths: which one a text begins with.
+//! The prefix that a Windows path begins with.
 
 ghost use Rattle.std.specs.Prelude.{◌≡◌, ◌≤◌, ◌+◌, true, false, length, is_some, ℕ, List, ◌∷◌, Some, None, option_map, option_copied, IfSome, MatchOption};
 ghost use Rattle.typed_path.specs.components.{windows, is_separator, is_drive_letter, drive, after_two, after_mark, after_unc, name, second_name, names_length, is_empty, verbatim_unc_case, verbatim_disk_case, verbatim_case, device_case, unc_case, disk_case, prefix_of, IsPartedDrive};
@@ -8,10 +8,10 @@ ghost use Rattle.typed_path.specs.views.PieceViews.{found_of};
 
 use crate::scan::separators::Separators;
 
-/// What a Windows path may begin with, before its root.
+/// The prefix of a Windows path, which comes before its root.
 ///
-/// The names are slices of the path's text; a drive letter is raised to ASCII upper case. The order
-/// is that of the kinds below, and then that of the names and letters.
+/// Names are slices of the path; a drive letter is in ASCII upper case. Kinds are ordered as they
+/// are listed here, and prefixes of one kind by their names or letters.
 #[derive(Clone, Copy, Debug, PartialEq, Eq, PartialOrd, Ord, Hash)]
 pub enum WindowsPrefix<'a> {
     /// `\\?\name`
@@ -28,7 +28,7 @@ pub enum WindowsPrefix<'a> {
     Disk(u8),
 }
 
-/// A prefix, and how many bytes its raw text has.
+/// A prefix, and its length in the path.
 #[derive(Clone, Copy, Debug)]
 pub struct Found<'a> {
     /// The prefix.
@@ -37,7 +37,8 @@ pub struct Found<'a> {
     pub length: usize,
 }
 
-/// The letter of a text that begins with a drive, raised to ASCII upper case.
+/// Returns the letter, in ASCII upper case, if `text` begins with a drive letter and `:`, or
+/// `None`.
 #[inline]
 pub fn drive(text: &[u8]) -> Option<u8>
     ensures { result ≡ drive text.now }
@@ -48,7 +49,7 @@ pub fn drive(text: &[u8]) -> Option<u8>
     }
 }
 
-/// Whether a byte is an ASCII letter, or one of the letters among the bytes from 128 on.
+/// Whether `byte` is a letter of ASCII, or one of Latin-1 from 0x80 on.
 #[inline]
 fn is_drive_letter(byte: u8) -> bool
     ensures { result ≡ is_drive_letter byte }
@@ -60,7 +61,7 @@ fn is_drive_letter(byte: u8) -> bool
     }
 }
 
-/// Whether the byte is one of both separators.
+/// Whether `byte` is `/` or `\`.
 #[inline(always)]
 fn separates(byte: u8) -> bool
     ensures { result ≡ is_separator Separators.Either byte }
@@ -68,7 +69,7 @@ fn separates(byte: u8) -> bool
     Separators::Either.contains(byte)
 }
 
-/// What stands behind two separators.
+/// Returns what follows two separators at the front, or `None` if `text` begins otherwise.
 #[inline(always)]
 fn after_two(text: &[u8]) -> Option<&[u8]>
     ensures rest { option_copied result ≡ after_two text.now }
@@ -80,7 +81,8 @@ fn after_two(text: &[u8]) -> Option<&[u8]>
     }
 }
 
-/// The first byte of a name that stands behind two separators. None says nothing.
+/// Returns the first byte of a name that follows two separators at the front, or `None` if `text`
+/// begins otherwise.
 #[inline(always)]
 pub fn byte_behind_two(text: &[u8]) -> Option<u8>
     ensures { IfSome result (λ b. (is_separator Separators.Either b ≡ false)
@@ -93,7 +95,8 @@ pub fn byte_behind_two(text: &[u8]) -> Option<u8>
     Some(*first)
 }
 
-/// What stands behind two separators, the byte `sign` and a separator.
+/// Returns what follows two separators, the byte `sign` and a separator at the front, or `None` if
+/// `text` begins otherwise.
 #[inline(always)]
 pub fn after_mark(sign: u8, text: &[u8]) -> Option<&[u8]>
     ensures rest { option_copied result ≡ after_mark sign text.now }
@@ -109,7 +112,8 @@ pub fn after_mark(sign: u8, text: &[u8]) -> Option<&[u8]>
     }
 }
 
-/// What stands behind `UNC` in capitals and a separator.
+/// Returns what follows `UNC` in capitals and a separator at the front, or `None` if `text` begins
+/// otherwise.
 #[inline(always)]
 fn after_unc(separators: Separators, text: &[u8]) -> Option<&[u8]>
     ensures rest { option_copied result ≡ after_unc separators text.now }
@@ -121,7 +125,7 @@ fn after_unc(separators: Separators, text: &[u8]) -> Option<&[u8]>
     }
 }
 
-/// The name that a text begins with, up to the next separator or the end.
+/// Returns the name at the front: the bytes before the first separator, or all.
 #[inline(always)]
 fn name(separators: Separators, text: &[u8]) -> &[u8]
     ensures { result.now ≡ name separators text.now }
@@ -129,8 +133,8 @@ fn name(separators: Separators, text: &[u8]) -> &[u8]
     &text[..separators.first_in(text)]
 }
 
-/// The two names that a text begins with, and how many bytes they take, or none where the first is
-/// empty.
+/// Returns the two names at the front, the second of which may be empty, and how many bytes they
+/// take with the separator between them. `None` if the first is empty.
 #[inline(always)]
 fn names(separators: Separators, text: &[u8]) -> Option<(&[u8], &[u8], usize)>
     ensures filled { MatchOption result (is_empty (name separators text.now) ≡ true)
@@ -151,7 +155,7 @@ fn names(separators: Separators, text: &[u8]) -> Option<(&[u8], &[u8], usize)>
     Some((&text[..end], second, end + 1 + second.len()))
 }
 
-/// `\\?\UNC\server\share`
+/// Returns the prefix `\\?\UNC\server\share` at the front, or `None` if `text` begins otherwise.
 #[inline(always)]
 fn verbatim_unc(separators: Separators, text: &[u8]) -> Option<Found<'_>>
     ensures { option_map found_of result ≡ verbatim_unc_case separators text.now }
@@ -164,7 +168,7 @@ fn verbatim_unc(separators: Separators, text: &[u8]) -> Option<Found<'_>>
     })
 }
 
-/// `\\?\C:`
+/// Returns the prefix `\\?\C:` at the front, or `None` if `text` begins otherwise.
 #[inline(always)]
 fn verbatim_disk(text: &[u8]) -> Option<Found<'_>>
     ensures { option_map found_of result ≡ verbatim_disk_case text.now }
@@ -176,7 +180,8 @@ fn verbatim_disk(text: &[u8]) -> Option<Found<'_>>
     })
 }
 
-/// `\\?\name`, where the name may be empty if a separator follows.
+/// Returns the prefix `\\?\name` at the front, or `None` if `text` begins otherwise. The name may
+/// be empty if a separator follows.
 #[inline(always)]
 fn verbatim(separators: Separators, text: &[u8]) -> Option<Found<'_>>
     ensures { option_map found_of result ≡ verbatim_case separators text.now }
@@ -192,7 +197,7 @@ fn verbatim(separators: Separators, text: &[u8]) -> Option<Found<'_>>
     })
 }
 
-/// `\\.\name`
+/// Returns the prefix `\\.\name` at the front, or `None` if `text` begins otherwise.
 #[inline(always)]
 fn device(text: &[u8]) -> Option<Found<'_>>
     ensures { option_map found_of result ≡ device_case text.now }
@@ -207,7 +212,7 @@ fn device(text: &[u8]) -> Option<Found<'_>>
     })
 }
 
-/// `\\server\share`
+/// Returns the prefix `\\server\share` at the front, or `None` if `text` begins otherwise.
 #[inline(always)]
 fn unc(text: &[u8]) -> Option<Found<'_>>
     ensures { option_map found_of result ≡ unc_case text.now }
@@ -219,7 +224,7 @@ fn unc(text: &[u8]) -> Option<Found<'_>>
     })
 }
 
-/// `C:`
+/// Returns the prefix `C:` at the front, or `None` if `text` begins otherwise.
 #[inline]
 fn disk(text: &[u8]) -> Option<Found<'_>>
     ensures { option_map found_of result ≡ disk_case text.now }
@@ -231,7 +236,7 @@ fn disk(text: &[u8]) -> Option<Found<'_>>
     })
 }
 
-/// Whether a text begins with two separators, as each prefix but a drive alone does.
+/// Whether `text` begins with two separators, as each prefix but `C:` does.
 #[inline(always)]
 pub fn begins_with_two(text: &[u8]) -> bool
     ensures { result ≡ is_some (after_two text.now) }
@@ -239,12 +244,13 @@ pub fn begins_with_two(text: &[u8]) -> bool
     matches!(text, [a, b, ..] if separates(*a) && separates(*b))
 }
 
-/// The prefix of a text that begins with two separators: the first of the five cases that matches. The
-/// third byte tells which of them can.
+/// Returns the prefix of a Windows path that begins with two separators: the first of the five
+/// cases that matches, or `None`.
 fn find_marked(text: &[u8]) -> Option<Found<'_>>
     requires { is_some (after_two text.now) ≡ true }
     ensures { option_map found_of result ≡ prefix_of windows text.now }
 {
+    // The third byte tells which of the cases can match.
     match text {
         [_, _, b'?', ..] => {
             let separators = Separators::of_windows(text);
@@ -258,7 +264,7 @@ fn find_marked(text: &[u8]) -> Option<Found<'_>>
     }
 }
 
-/// The prefix that a Windows text begins with: the first of the six cases that matches.
+/// Returns the prefix of a Windows path: the first of the six cases that matches, or `None`.
 #[inline(always)]
 pub fn find_prefix(text: &[u8]) -> Option<Found<'_>>
     ensures { option_map found_of result ≡ prefix_of windows text.now }
@@ -270,8 +276,8 @@ pub fn find_prefix(text: &[u8]) -> Option<Found<'_>>
     }
 }
 
-/// The letter of the drive that a text begins with, where it does, and what stands behind that. None
-/// of a text that begins with two separators, whose prefix is to be read.
+/// Returns the letter of the drive that `text` begins with, if any, and what follows it. `None` if
+/// `text` begins with two separators, so that it may have another prefix.
 #[inline(always)]
 pub fn parted_drive(text: &[u8]) -> Option<(Option<u8>, &[u8])>
     ensures { IfSome result (λ parted. IsPartedDrive text.now parted.0 parted.1.now) }
@@ -285,7 +291,8 @@ pub fn parted_drive(text: &[u8]) -> Option<(Option<u8>, &[u8])>
     }
 }
 
-/// True only if every path that a checked join makes of a base of Windows has its prefix, or none if it has none.
+/// Whether each checked join onto `base`, a Windows path, has the prefix of `base`, or none if it
+/// has none. `false` leaves it open: `//a/` keeps its prefix too.
 pub fn keeps_prefix(base: &[u8]) -> bool
     ensures { result ≡ keeps_prefix windows base.now }
 {

@@ -1,5 +1,4 @@
-//! Which bytes separate the components of a text, how such a byte is found, and which names stand
-//! between them.
+//! The separators of a path, searches for them, and which names may stand between them.
 
 ghost use Rattle.std.specs.Prelude.{◌≡◌, ◌≤◌, ◌<◌, ◌+◌, ◌-◌, ◌*◌, ◌^◌, ◌==◌, ◌||◌, ◌&&◌, ℕ, not, length, true, drop, slice_range, slice_index, false, IsTrue, IsFalse};
 ghost use Rattle.std.specs.Int.{bit_at};
@@ -19,19 +18,19 @@ use crate::scan::lanes::{
 use memchr::memchr;
 use std::simd::prelude::*;
 
-/// The separators of one text, and with them the way in which it is read.
+/// The separators of a path, which also decide how it is read.
 #[derive(Clone, Copy, Debug)]
 pub enum Separators {
-    /// `/` alone: a Unix text.
+    /// `/` alone: a Unix path.
     Slash,
-    /// `\` alone: a Windows text that begins with exactly `\\?\`, which is read verbatim.
+    /// `\` alone: a Windows path that begins with exactly `\\?\`, which is read verbatim.
     Backslash,
-    /// `/` and `\`: every other Windows text.
+    /// `/` and `\`: every other Windows path.
     Either,
 }
 
 impl Separators {
-    /// The separators of a Windows text.
+    /// Returns the separators of a Windows path.
     #[inline]
     pub fn of_windows(text: &[u8]) -> Separators
         ensures { result ≡ separators windows text.now }
@@ -43,8 +42,8 @@ impl Separators {
         }
     }
 
-    /// The two bytes that separate, which are one byte twice where no other does: so either set is
-    /// asked in the same way.
+    /// Returns the separators as a pair, in which a single one is both bytes. So all sets are
+    /// searched for alike.
     #[inline(always)]
     pub fn pair(self) -> (u8, u8)
         ensures { (b : ℕ) → is_separator self b ≡ is_one_of result b }
@@ -56,7 +55,7 @@ impl Separators {
         }
     }
 
-    /// Whether the byte separates components.
+    /// Whether `byte` separates components.
     #[inline(always)]
     pub fn contains(self, byte: u8) -> bool
         ensures { result ≡ is_separator self byte }
@@ -64,7 +63,7 @@ impl Separators {
         is_one_of(self.pair(), byte)
     }
 
-    /// Whether both are one set.
+    /// Whether both are the same set.
     #[inline(always)]
     pub fn is_same(self, other: Separators) -> bool
         ensures { IsTrue result → self ≡ other }
@@ -77,7 +76,7 @@ impl Separators {
         )
     }
 
-    /// Whether a later `.` is a component.
+    /// Whether the path is read verbatim, so that `.` is a component wherever it is.
     #[inline(always)]
     pub fn is_verbatim(self) -> bool
         ensures { result ≡ is_verbatim self }
@@ -85,7 +84,7 @@ impl Separators {
         matches!(self, Separators::Backslash)
     }
 
-    /// How the root is written.
+    /// Returns how the root is written: `/` or `\`.
     #[inline(always)]
     pub fn root_text(self) -> &'static [u8]
         ensures { result.now ≡ root_text self }
@@ -96,7 +95,8 @@ impl Separators {
         }
     }
 
-    /// Whether a name of such a text is allowed: by its bytes, and as it stands for no device.
+    /// Whether `name` is valid in a path with these separators: all its bytes are allowed in names,
+    /// and it is no Windows device.
     #[inline]
     pub fn is_valid_name(self, name: &[u8]) -> bool
         ensures { result ≡ is_valid_name (dialect_of self) name.now }
@@ -104,7 +104,7 @@ impl Separators {
         self.has_allowed_bytes(name) && !self.is_reserved(name)
     }
 
-    /// Whether a name of such a text has no byte that no name may have.
+    /// Whether all bytes of `name` are allowed in names of a path with these separators.
     #[inline(always)]
     pub fn has_allowed_bytes(self, name: &[u8]) -> bool
         ensures { result ≡ has_allowed_bytes (dialect_of self) name.now }
@@ -115,7 +115,7 @@ impl Separators {
         }
     }
 
-    /// Whether a name of such a text stands for a device.
+    /// Whether `name` stands for a Windows device; never on Unix.
     #[inline(always)]
     #[tactic(auto, using(crate::proofs::lemmas::queries::ValidNames::devices_told))]
     pub fn is_reserved(self, name: &[u8]) -> bool
@@ -127,27 +127,28 @@ impl Separators {
         }
     }
 
-    /// Whether one look at the bytes tells that no name of such a text has a byte that no name may
-    /// have. False says nothing.
+    /// Whether one search tells that all names in `bytes` have allowed bytes. `false` leaves it
+    /// open.
     pub fn allows_names_of(self, bytes: &[u8]) -> bool
         ensures { IsTrue result → SeparatesDisallowed self bytes.now }
     {
         !self.has_stray(bytes)
     }
 
-    /// Whether a text has a byte that no name may have and that is no separator.
+    /// Whether one of `bytes` is not allowed in names and is no separator.
     pub fn has_stray(self, bytes: &[u8]) -> bool
         ensures { result ≡ list_any (is_stray self) bytes.now }
     {
         match self {
             Separators::Slash => memchr(b'\0', bytes).is_some(),
+            // Here `/` is not allowed in names, and does not separate.
             Separators::Backslash => has_forbidden(bytes, (b'/', b'/')),
-            // No byte that separates strays, so none is asked for beside the forbidden ones.
+            // Here both slashes separate. The pair adds nothing, as `:` is forbidden anyway.
             Separators::Either => has_forbidden(bytes, (b':', b':')),
         }
     }
 
-    /// Whether a text has a byte that no name of Windows may have and that is no separator.
+    /// Whether one of `bytes` is not allowed in Windows names and is no separator of this path.
     pub fn strays_on_windows(self, bytes: &[u8]) -> bool
         ensures { result ≡ list_any (strays_on_windows self) bytes.now }
     {
@@ -157,7 +158,7 @@ impl Separators {
         }
     }
 
-    /// The place of the first separator, or the length where there is none.
+    /// Returns the index of the first separator, or the length if there is none.
     #[inline(always)]
     pub fn first_in(self, bytes: &[u8]) -> usize
         ensures within { result ≤ length bytes.now }
@@ -166,8 +167,8 @@ impl Separators {
         first_between(bytes, 0, bytes.len(), self.pair())
     }
 
-    /// How many bytes of a range of a text stand before its first separator, or all where there is
-    /// none. Reads at most 32 bytes of the text before the range.
+    /// Returns how many bytes of `text[from..to]` precede its first separator, or all if there is
+    /// none. Reads at most 32 bytes before the range.
     #[inline(always)]
     pub fn first_within(self, text: &[u8], from: usize, to: usize) -> usize
         requires ordered { from ≤ to }
@@ -179,7 +180,8 @@ impl Separators {
         first_between(text, from, to, self.pair()) - from
     }
 
-    /// The place behind the last separator, or 0 where there is none. Reads from the end, and no further than that separator.
+    /// Returns the index just after the last separator, or 0 if there is none. Searches from the
+    /// end.
     #[inline(always)]
     pub fn last_in(self, bytes: &[u8]) -> usize
         ensures within { result ≤ length bytes.now }
@@ -189,7 +191,7 @@ impl Separators {
     }
 }
 
-/// Whether a text has neither byte of a pair.
+/// Whether `text` has neither byte of `pair`.
 #[inline(always)]
 pub fn is_free_of(pair: (u8, u8), text: &[u8]) -> bool
     ensures { result ≡ not (list_any (is_one_of pair) text.now) }
@@ -197,12 +199,13 @@ pub fn is_free_of(pair: (u8, u8), text: &[u8]) -> bool
     first_between(text, 0, text.len(), pair) == text.len()
 }
 
-/// Whether the first bytes of a name are, ASCII case aside, the name of a device, with a dot or the end
-/// behind them. This tells whether it stands for one, so no name is compared with the list of devices.
+/// Whether `name` stands for a device: it begins with the name of one, ASCII case aside, and a dot
+/// or the end follows.
 #[inline(always)]
 fn is_device(name: &[u8]) -> bool
     ensures { result ≡ is_device name.now }
 {
+    // The first five bytes tell, so no list of devices is searched.
     match name {
         [a, b, c, d, e, ..] => {
             if *d == b'.' {
@@ -223,7 +226,7 @@ fn is_device(name: &[u8]) -> bool
     }
 }
 
-/// Whether three bytes are the name of a device, ASCII case aside.
+/// Whether three bytes are `con`, `prn`, `aux` or `nul`, ASCII case aside.
 #[inline(always)]
 fn is_bare_device(first: u8, second: u8, third: u8) -> bool
     ensures { result
@@ -239,7 +242,7 @@ fn is_bare_device(first: u8, second: u8, third: u8) -> bool
     )
 }
 
-/// Whether four bytes are the name of a device that ends with a digit, ASCII case aside.
+/// Whether four bytes are `com` or `lpt` and a digit, ASCII case aside.
 #[inline(always)]
 fn is_numbered_device(first: u8, second: u8, third: u8, last: u8) -> bool
     ensures { result
@@ -255,16 +258,16 @@ fn is_numbered_device(first: u8, second: u8, third: u8, last: u8) -> bool
     ) && matches!(last.to_ascii_lowercase(), b'0'..=b'9')
 }
 
-/// How many bytes a text has at least that is looked at by blocks for segments that stand for a device.
+/// The length in bytes from which on devices are searched for by blocks.
 const ONE_BLOCK: usize = 32;
 
-/// Whether a segment of a text stands for a device. One look tells of texts of Windows that are not read verbatim,
-/// but for those of a few bytes.
+/// Whether a segment of `text` stands for a device.
 #[inline(always)]
 pub fn has_reserved(text: &[u8], separators: Separators) -> bool
     ensures { result ≡ list_any (is_reserved (dialect_of separators))
         (slice_split (is_separator separators) text.now) }
 {
+    // One search by blocks, unless the path is read verbatim or short.
     if ONE_BLOCK <= text.len() && separators.is_same(Separators::Either) {
         return has_device(text);
     }
@@ -278,12 +281,12 @@ pub fn has_reserved(text: &[u8], separators: Separators) -> bool
     separators.is_reserved(rest)
 }
 
-/// Whether each name of a text without its prefix is valid. One look tells of all its bytes, and
-/// only Windows has names that stand for devices.
+/// Whether each name of a path is valid. `text` is the path without its prefix.
 pub fn has_valid_names(text: &[u8], separators: Separators) -> bool
     ensures { (at : ℕ) → result
         ≡ is_valid (dialect_of separators) (kinds (parts (body separators at text.now))) }
 {
+    // One search tells of all bytes, and only Windows has devices.
     if separators.has_stray(text) {
         return false;
     }
@@ -293,14 +296,15 @@ pub fn has_valid_names(text: &[u8], separators: Separators) -> bool
     }
 }
 
-/// Whether a segment of a text of Windows that is not read verbatim stands for a device.
+/// Whether a segment of `text`, split at `/` and `\`, stands for a device.
 fn has_device(text: &[u8]) -> bool
     ensures { result ≡ has_device text.now }
 {
     !matches!(look_for(false, None, text), Look::Clean)
 }
 
-/// Whether such a text has a byte that no name of Windows may have, or a `\`, or a segment that stands for a device.
+/// Whether `text` has a byte that no Windows name may have and that is not `/`, or a segment, split
+/// at `/` and `\`, that stands for a device.
 pub fn has_forbidden_or_device(text: &[u8]) -> bool
     ensures { result ≡ (list_any (is_forbidden_or (backslash, backslash)) text.now
         || has_device text.now) }
@@ -308,8 +312,9 @@ pub fn has_forbidden_or_device(text: &[u8]) -> bool
     !matches!(look_for(false, Some((b'\\', b'\\')), text), Look::Clean)
 }
 
-/// Looks at a path of Windows that is not read verbatim for bytes that stray, for two dots side by side, and for
-/// segments that stand for devices, up to the first block that has one.
+/// Searches a Windows path that is not read verbatim for a byte that is not allowed in names and
+/// does not separate, for two dots side by side, and for a segment that stands for a device. Stops
+/// at the first block that has one.
 pub fn look_at_path(path: &[u8]) -> Look
     ensures clean { result ≡ Look.Clean → (list_any (is_stray Separators.Either) path.now ≡ false)
         × (has_device path.now ≡ false) × (has_dot_pair path.now ≡ false) }
@@ -320,23 +325,21 @@ pub fn look_at_path(path: &[u8]) -> Look
     look_for(true, Some((b':', b':')), path)
 }
 
-/// What a look at a text of Windows found.
+/// What a search of a Windows path found.
 #[derive(Clone, Copy, Debug)]
 pub enum Look {
-    /// Nothing that was looked for.
+    /// Nothing that was searched for.
     Clean,
-    /// Two dots side by side; in a text of a few bytes NUL too.
+    /// Two dots side by side, or in less than 32 bytes NUL.
     Dots,
-    /// One of the others, and how many bytes had been looked at: where two dots are asked for, none stand side by side up
-    /// to there.
+    /// A byte or a device that was searched for, and how many bytes had been searched. If two dots
+    /// are searched for too, none are side by side in these bytes.
     Offence(usize),
 }
 
-/// Looks at a text of Windows that is not read verbatim for segments that stand for devices, and, where these are
-/// asked for, for two dots side by side, and for bytes that no name may have or that are one of a pair.
-///
-/// The separators of a block are found at once, and with them behind which of these a device may stand, as few
-/// segments begin and end so: of these alone the segments are looked at.
+/// Searches a text, split at `/` and `\`, for a segment that stands for a device; with `dots` for
+/// two dots side by side; with `strays` for NUL, one of `:?*"><|`, or one of the pair. Stops at the
+/// first block that has one.
 #[inline(always)]
 fn look_for(dots: bool, strays: Option<(u8, u8)>, text: &[u8]) -> Look
     ensures clean { result ≡ Look.Clean → (has_stray_of strays text.now ≡ false)
@@ -347,6 +350,8 @@ fn look_for(dots: bool, strays: Option<(u8, u8)>, text: &[u8]) -> Look
     ensures whole { IsTrue dots → result ≡ Look.Offence (length text.now)
         → has_dot_pair text.now ≡ false }
 {
+    // The masks of a block tell after which separators a device may begin, and only the few
+    // segments there are read.
     let len = text.len();
     if len < ONE_BLOCK {
         return look_by_segments(dots, strays, text);
@@ -382,7 +387,7 @@ fn look_for(dots: bool, strays: Option<(u8, u8)>, text: &[u8]) -> Look
     Look::Clean
 }
 
-/// The same of a text of a few bytes, segment by segment.
+/// Like [`look_for`], for a short text, segment by segment.
 #[inline(always)]
 fn look_by_segments(dots: bool, strays: Option<(u8, u8)>, text: &[u8]) -> Look
     ensures clean { result ≡ Look.Clean → (has_stray_of strays text.now ≡ false)
@@ -402,7 +407,7 @@ fn look_by_segments(dots: bool, strays: Option<(u8, u8)>, text: &[u8]) -> Look
     Look::Clean
 }
 
-/// Whether two dots stand side by side in a block of 32 bytes of a text.
+/// Whether two dots are side by side in `text[at..at + 32]`.
 #[inline(always)]
 fn has_dot_pair_at(text: &[u8], at: usize) -> bool
     requires in_range { at + 32 ≤ length text.now }
@@ -412,7 +417,8 @@ fn has_dot_pair_at(text: &[u8], at: usize) -> bool
     dots & (dots >> 1) != 0
 }
 
-/// Whether a byte of a text is one that no name of Windows may have, or one of a pair, where such are asked for.
+/// Whether `text` has NUL, one of `:?*"><|`, or one of the pair in `strays`; `false` if `strays` is
+/// `None`.
 #[inline(always)]
 fn has_stray_of(strays: Option<(u8, u8)>, text: &[u8]) -> bool
     ensures { result ≡ has_stray_of strays text.now }
@@ -423,7 +429,8 @@ fn has_stray_of(strays: Option<(u8, u8)>, text: &[u8]) -> bool
     }
 }
 
-/// The same of a block of 32.
+/// Whether `text[at..at + 32]` has NUL, one of `:?*"><|`, or one of the pair in `strays`; `false`
+/// if `strays` is `None`.
 #[inline(always)]
 fn has_stray_at(strays: Option<(u8, u8)>, text: &[u8], at: usize) -> bool
     requires in_range { at + 32 ≤ length text.now }
@@ -435,27 +442,28 @@ fn has_stray_at(strays: Option<(u8, u8)>, text: &[u8], at: usize) -> bool
     }
 }
 
-/// The bits of the places of a block behind which five more bytes of it stand.
+/// Mask of the first 27 bytes of a block: five more bytes of the block follow each.
 const LOOKED: u64 = (1 << 27) - 1;
 
-/// The bits of the places behind the last block of a text, where each stem ends.
+/// Mask of the five bytes after the last block: the end of the text ends a stem there.
 const ENDED: u64 = 31 << 32;
 
-/// The letters with which names of devices begin, as capitals, each at the place of its low four bits; twice, as a
-/// block of 32 asks for it. Elsewhere stands a byte whose place is another.
+/// The first letters of device names, as capitals, each at the index of its low four bits. The 16
+/// entries stand twice, as [`letters_at`] needs them. An entry with no letter has other low bits.
 const FIRSTS: [u8; 32] = [
     b'P', b'A', 0, b'C', 0, 0, 0, 0, 0, 0, 0, 0, b'L', 0, b'N', 0, b'P', b'A', 0, b'C', 0, 0, 0, 0,
     0, 0, 0, 0, b'L', 0, b'N', 0,
 ];
 
-/// The same of those that stand second.
+/// The second letters of device names, in the order of [`FIRSTS`].
 const SECONDS: [u8; 32] = [
     b'P', 0, b'R', 0, 0, b'U', 0, 0, 0, 0, 0, 0, 0, 0, 0, b'O', b'P', 0, b'R', 0, 0, b'U', 0, 0, 0,
     0, 0, 0, 0, 0, 0, b'O',
 ];
 
-/// Which bytes of a block of 32 separate, with the first bytes of a device behind them, as far as the block tells, or
-/// the marks of ends behind it.
+/// Returns the mask of the separators in `text[at..at + 32]` after which a device may begin: its
+/// first two letters follow, and the end of a stem of three or four bytes. `behind` marks ends
+/// after the block.
 #[inline(always)]
 fn may_begins_at(text: &[u8], at: usize, behind: u64) -> u64
     requires in_range { at + 32 ≤ length text.now }
@@ -472,8 +480,8 @@ fn may_begins_at(text: &[u8], at: usize, behind: u64) -> u64
     may_begins(separators, firsts, seconds, separators | dots | behind)
 }
 
-/// Marks of separators behind which such bytes stand, by those of all separators, of first and second letters and of
-/// what ends a stem.
+/// Returns the mask of the separators after which a device may begin, given the masks of
+/// separators, of first and second letters, and of the ends of stems.
 #[inline(always)]
 fn may_begins(separators: u64, firsts: u64, seconds: u64, ends: u64) -> u64
     ensures { AreMayBegins separators firsts seconds ends result }
@@ -481,7 +489,7 @@ fn may_begins(separators: u64, firsts: u64, seconds: u64, ends: u64) -> u64
     separators & ((firsts >> 1) & ((seconds >> 2) & ((ends >> 4) | (ends >> 5))))
 }
 
-/// Whether a segment behind a separator of such a text stands for a device.
+/// Whether a segment of `text` after a separator, `/` or `\`, stands for a device.
 fn has_device_behind(text: &[u8]) -> bool
     ensures { result ≡ has_device_behind text.now }
 {
@@ -500,8 +508,8 @@ fn has_device_behind(text: &[u8]) -> bool
     false
 }
 
-/// Whether a segment behind a separator of a range stands for a device. The marks tell behind which bytes of the range
-/// one may stand.
+/// Whether a segment after a separator in `text[from..to]` stands for a device. `marks` is the
+/// mask, from `from` on, of the separators after which one may.
 #[inline(always)]
 fn has_device_at(text: &[u8], from: usize, to: usize, marks: u64) -> bool
     requires ordered { from ≤ to }
@@ -524,30 +532,33 @@ fn has_device_at(text: &[u8], from: usize, to: usize, marks: u64) -> bool
     false
 }
 
-/// Whether the first segment of such a text stands for a device. Most begin otherwise, which their first bytes tell.
+/// Whether the first segment of `text`, up to `/` or `\`, stands for a device.
 #[inline(always)]
 fn begins_with_device(text: &[u8]) -> bool
     ensures { result ≡ begins_with_device text.now }
 {
+    // The first bytes rule out most segments.
     if !begins_like_device(text) {
         return false;
     }
     may_end_stem(text) && Separators::Either.is_reserved(first_segment(text))
 }
 
-/// Whether the first two bytes of a text are, but for higher bits, one of `acnlp` and one of `opru`, as each device
-/// begins.
+/// Whether the first two bytes, masked to five bits, are in `[acnlp][opru]`, as those of each
+/// device are.
 #[inline(always)]
 fn begins_like_device(text: &[u8]) -> bool
     ensures { result ≡ begins_like_device text.now }
 {
     match text {
+        // The sets of letters, a bit for each by its low five bits.
         [a, b, ..] => is_in(86_026, *a) & is_in(2_457_600, *b),
         _ => false,
     }
 }
 
-/// Whether the low five bits of a byte name a bit of a set. Letters of either case name the same.
+/// Whether the low five bits of `byte` are the index of a set bit of `set`. Letters of either case
+/// have one index.
 #[inline(always)]
 pub fn is_in(set: u32, byte: u8) -> bool
     ensures { result ≡ is_in set byte }
@@ -555,7 +566,7 @@ pub fn is_in(set: u32, byte: u8) -> bool
     (set >> (byte % 32)) % 2 == 1
 }
 
-/// Whether a text has a stem of three bytes or of four that ends, or is too short to tell.
+/// Whether a stem ends after three or four bytes, or the text is too short to tell.
 #[inline(always)]
 fn may_end_stem(text: &[u8]) -> bool
     ensures { result ≡ may_end_stem text.now }
@@ -566,7 +577,7 @@ fn may_end_stem(text: &[u8]) -> bool
     }
 }
 
-/// Whether a stem ends before a byte.
+/// Whether a stem ends before `byte`: it is a dot, `/` or `\`.
 #[inline(always)]
 fn ends_stem(byte: u8) -> bool
     ensures { result ≡ ends_stem byte }
@@ -574,7 +585,7 @@ fn ends_stem(byte: u8) -> bool
     byte == b'.' || Separators::Either.contains(byte)
 }
 
-/// What stands before the first separator of such a text, or the whole where it has none.
+/// Returns the bytes before the first `/` or `\`, or all.
 fn first_segment(text: &[u8]) -> &[u8]
     ensures { result.now ≡ before_first (is_separator Separators.Either) text.now }
 {

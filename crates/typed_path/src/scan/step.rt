@@ -1,4 +1,4 @@
-//! Components as a reading gives them, and one step of a reading off a plain slice.
+//! The components of a path, and one step over them at either end of a slice.
 
 ghost use Rattle.std.specs.Prelude.{◌≡◌, ◌≤◌, ◌<◌, ◌+◌, ◌++◌, ◌||◌, ℕ, true, not, take, drop, length, IfSome, IfNone, ◌^◌, List, ◌∷◌, IfOk, IsTrue, ◌==◌};
 ghost use Rattle.std.specs.List.{position_or_len};
@@ -29,17 +29,18 @@ pub enum PieceKind<'a> {
     Normal,
 }
 
-/// One component of a path: what it is, and its text.
+/// One component of a path: what it is, and its bytes.
 #[derive(Clone, Copy, Debug, PartialEq, Eq, PartialOrd, Ord, Hash)]
 pub struct Piece<'a> {
     /// What the component is.
     pub kind: PieceKind<'a>,
-    /// How it is written: the raw text of a prefix, `/` or `\` for the root, `.`, `..`, or the name.
+    /// How it is written: the raw bytes of a prefix, `/` or `\` for the root, `.`, `..`, or the
+    /// name.
     pub text: &'a [u8],
 }
 
 impl<'a> Piece<'a> {
-    /// The text of the component.
+    /// Returns the bytes of the component.
     pub fn as_bytes(self) -> &'a [u8]
         ensures { result.now ≡ (part_of self.entry).text }
     {
@@ -80,14 +81,14 @@ impl<'a> Piece<'a> {
         matches!(self.kind, PieceKind::CurDir)
     }
 
-    /// How many bytes the text has.
+    /// Returns how many bytes the component has.
     pub fn len(self) -> usize
         ensures { result ≡ length (part_of self.entry).text }
     {
         self.text.len()
     }
 
-    /// Whether the text is empty.
+    /// Whether the component has no bytes.
     pub fn is_empty(self) -> bool
         ensures { result ≡ (length (part_of self.entry).text == 0) }
     {
@@ -95,7 +96,7 @@ impl<'a> Piece<'a> {
     }
 }
 
-/// What a component behind the prefix is.
+/// What a component after the prefix is.
 #[derive(Clone, Copy, Debug)]
 pub enum StepKind {
     /// The root directory.
@@ -108,8 +109,8 @@ pub enum StepKind {
     Normal,
 }
 
-/// One component behind the prefix. A `Piece` has room for a prefix, which a walk would copy at each
-/// step; this has none.
+/// One component after the prefix: a [`Piece`] without room for a prefix, which loops would copy at
+/// each step.
 #[derive(Clone, Copy, Debug)]
 pub struct Step<'a> {
     /// What the component is.
@@ -119,7 +120,7 @@ pub struct Step<'a> {
 }
 
 impl<'a> Step<'a> {
-    /// The same component as one of a whole path.
+    /// Returns the component as a [`Piece`].
     #[inline(always)]
     pub fn piece(self) -> Piece<'a>
         ensures { part_of result ≡ step_part self.entry }
@@ -137,7 +138,8 @@ impl<'a> Step<'a> {
     }
 }
 
-/// The component that a segment is, where it is one.
+/// Returns the component that `segment` is as the first one of a body: an empty segment is the
+/// root.
 #[inline(always)]
 pub fn step_of(segment: &[u8], separators: Separators) -> Step<'_>
     ensures { (at : ℕ) → first separators (record { text = segment.now; start = at })
@@ -152,8 +154,8 @@ pub fn step_of(segment: &[u8], separators: Separators) -> Step<'_>
     Step { kind, text }
 }
 
-/// The first component of a text that is not empty, which ends at the first separator, and how many
-/// bytes stand before the next one.
+/// Returns the first component of `text`, which is not empty, and the index of the next one, or the
+/// length if there is none. `end` is the index of the first separator, or the length.
 #[inline(always)]
 pub fn front_step(text: &[u8], end: usize, separators: Separators) -> (Step<'_>, usize)
     requires some { 0 < length text.now }
@@ -171,7 +173,9 @@ pub fn front_step(text: &[u8], end: usize, separators: Separators) -> (Step<'_>,
     (step_of(&text[..end], separators), end + behind)
 }
 
-/// How many bytes stand before the next component, or all where there is none.
+/// Returns the index of the first component in `text`, which follows another component, or the
+/// length if there is none. Skips separators and, unless the path is read verbatim, segments that
+/// are `.`.
 #[inline(always)]
 pub fn skip_blanks(text: &[u8], separators: Separators) -> usize
     ensures within { result ≤ length text.now }
@@ -186,8 +190,8 @@ pub fn skip_blanks(text: &[u8], separators: Separators) -> usize
     start
 }
 
-/// How many bytes at the front of what stands behind a component hold none: a separator, or a `.`
-/// with the separator behind it.
+/// Returns the length of what is skipped first in `text`, which follows a component: a separator,
+/// or a `.` with its separator. `None` if `text` is empty or begins with a component.
 #[inline(always)]
 fn blank(text: &[u8], separators: Separators) -> Option<usize>
     ensures within { IfSome result (λ n. (0 < n) × (n ≤ length text.now)) }
@@ -209,7 +213,8 @@ fn blank(text: &[u8], separators: Separators) -> Option<usize>
     }
 }
 
-/// The last component of a text that is not empty, and how many bytes stand up to the end of the one before it.
+/// Returns the last component of `text`, which is not empty, and the index just after the component
+/// before it, or 0 if there is none.
 #[inline(always)]
 pub fn back_step(text: &[u8], separators: Separators) -> (Step<'_>, usize)
     requires { 0 < length text.now }
@@ -232,7 +237,8 @@ pub fn back_step(text: &[u8], separators: Separators) -> (Step<'_>, usize)
     (step, trim_blanks(&last[..start], separators))
 }
 
-/// How many bytes of a text stand up to the end of its last component.
+/// Returns the index just after the last component of `text`. Skips separators at the end and,
+/// unless the path is read verbatim, segments that are `.`; never the first byte.
 #[inline(always)]
 pub fn trim_blanks(text: &[u8], separators: Separators) -> usize
     ensures within { result ≤ length text.now }
@@ -250,8 +256,8 @@ pub fn trim_blanks(text: &[u8], separators: Separators) -> usize
     end
 }
 
-/// Whether the last byte of a text belongs to no component: it is a separator, or a `.` behind one. A byte that stands
-/// alone belongs to one.
+/// Whether the last byte belongs to no component: it is a separator, or a `.` after one, which is
+/// skipped unless the path is read verbatim. A lone byte always belongs to one.
 #[inline(always)]
 fn ends_blank(text: &[u8], separators: Separators) -> bool
     ensures { result ≡ not (is_trimmed separators text.now) }
@@ -266,9 +272,8 @@ fn ends_blank(text: &[u8], separators: Separators) -> bool
         || (*last == b'.' && !separators.is_verbatim() && separators.contains(*before))
 }
 
-/// How many names are left behind a component that no parent has taken, where so many were left
-/// before it; or what the component is refused for. Of a name that is known to have allowed bytes
-/// the bytes are not looked at.
+/// Returns the depth after `step`, or the error for which it is refused. The depth counts the names
+/// that no `..` has cancelled yet. With `allowed`, the bytes of a name are known to be allowed.
 #[inline(always)]
 pub fn depth_behind(
     step: Step<'_>,
