@@ -1,4 +1,4 @@
-//! The encoding of the machine's own paths, which is that of Unix on every machine, and native names.
+//! The platform encoding, which forwards to that of Unix on every machine, and native names.
 
 ghost use Rattle.std.specs.Prelude.{true, codes, Some};
 ghost use Rattle.typed_path.specs.conversions.{platform};
@@ -11,7 +11,7 @@ use std::alloc::AllocError;
 use std::cmp::Ordering;
 use std::fmt;
 
-/// Paths as on the machine: as on Unix.
+/// The encoding of the machine's paths, which forwards to that of Unix.
 #[derive(Clone, Copy, Debug, Default, PartialEq, Eq, PartialOrd, Ord, Hash)]
 pub struct PlatformEncoding;
 

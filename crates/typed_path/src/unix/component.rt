@@ -1,4 +1,4 @@
-//! Components of a Unix path, alone, read of bytes, and one after the other.
+//! The components of a Unix path: single ones, read from bytes, and the iterator over all.
 
 ghost use Rattle.std.specs.Prelude.{◌≡◌};
 ghost use Rattle.typed_path.specs.components.{unix, iterator_name, Part};
@@ -14,7 +14,8 @@ use crate::unix::encoding::UnixEncoding;
 
 /// A component of a Unix path.
 ///
-/// The order is the root, the current directory, the parent directory, and names by their bytes.
+/// The order is the root, the current directory, the parent directory, and then names by their
+/// bytes.
 #[derive(Clone, Copy, Debug, PartialEq, Eq, PartialOrd, Ord, Hash)]
 pub enum UnixComponent<'a> {
     /// The root directory, `/`.
@@ -108,7 +109,7 @@ impl<'a> Component<'a> for UnixComponent<'a> {
     }
 }
 
-/// The components of a Unix path that are left to be read.
+/// The iterator over the components of a Unix path, from either end.
 pub type UnixComponents<'a> = Reading<'a, UnixEncoding, Values>;
 
 impl<'a> ReadAs<'a, UnixEncoding> for Values {
@@ -143,8 +144,8 @@ impl<'a> ReadAs<'a, UnixEncoding> for Values {
 ///
 /// # Errors
 ///
-/// `no component found` where they have none, and `found more than one component` where they have two
-/// or more, as `/a`.
+/// `no component found` if they have none, and `found more than one component` if they have more,
+/// as `/a` has.
 impl<'a> TryFrom<&'a [u8]> for UnixComponent<'a> {
     type Error = ParseError;
 

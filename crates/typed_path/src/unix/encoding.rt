@@ -1,4 +1,4 @@
-//! The encoding of Unix paths: how one is pushed, judged and brought into its normal text.
+//! The encoding of Unix paths: how a path is pushed, checked and normalized.
 
 ghost use Rattle.std.specs.Prelude.{false, ◌≡◌, ◌≤◌, ◌+◌, ◌++◌, ℕ, take, slice_range, length, IfSome, IsNone, IsOk, OnOk, OnErr, ◌<◌, ◌-◌, [], codes, Some, true};
 ghost use Rattle.std.specs.Vec.{vec_capacity, vec_len};
@@ -19,7 +19,7 @@ use std::alloc::AllocError;
 use std::cmp::Ordering;
 use std::fmt;
 
-/// Paths as on Unix: `/` separates, and every other byte belongs to a name.
+/// The encoding of Unix paths: `/` separates, and every other byte belongs to a name.
 #[derive(Clone, Copy, Debug, Default, PartialEq, Eq, PartialOrd, Ord, Hash)]
 pub struct UnixEncoding;
 
@@ -115,7 +115,7 @@ impl Encoding for UnixEncoding {
         push_at(path, 0, kept, other)
     }
 
-    // Nothing needs to be known of a path: what a push puts depends on its last byte alone.
+    // Nothing needs to be known of the path, as a push depends on its last byte alone.
     #[inline(always)]
     fn push_next(
         text: &mut Vec<u8>,
@@ -140,8 +140,8 @@ impl Encoding for UnixEncoding {
     }
 }
 
-/// Cuts a text to its first bytes, and pushes a path onto the one that stands there from a place
-/// on. Where memory is refused, the text is as it was.
+/// Pushes `other` onto the path `text[start..kept]`, and cuts off what follows `kept`. If
+/// allocation fails, `text` is unchanged.
 #[inline(always)]
 pub fn push_at(
     text: &mut Vec<u8>,
@@ -164,7 +164,8 @@ pub fn push_at(
     }
 }
 
-/// Where a path goes that is pushed onto a base.
+/// Returns where `other` goes when it is pushed onto `base`: how many bytes of `base` stay, and
+/// which separator comes between.
 #[inline(always)]
 pub fn push_place(base: &[u8], other: &[u8]) -> PushPlace
     ensures place { push_unix base.now other.now
@@ -184,7 +185,8 @@ pub fn push_place(base: &[u8], other: &[u8]) -> PushPlace
     }
 }
 
-/// What a push puts between a base and a path; none where the path replaces the base.
+/// Returns what a push puts between `base` and `other`: a separator or nothing. `None` if `other`
+/// replaces `base`.
 #[inline(always)]
 fn separator_between(base: &[u8], other: &[u8]) -> Option<&'static [u8]>
     ensures behind { IfSome result (λ separator. push_unix base.now other.now
@@ -200,7 +202,7 @@ fn separator_between(base: &[u8], other: &[u8]) -> Option<&'static [u8]>
     }
 }
 
-/// What a base wants behind it before a relative path.
+/// Returns what `base` needs at its end before a relative path: a separator or nothing.
 #[inline(always)]
 fn separator_behind(base: &[u8]) -> &'static [u8]
     ensures text { ended_with slash base.now ≡ base.now ++ result.now }
@@ -213,10 +215,7 @@ fn separator_behind(base: &[u8]) -> &'static [u8]
     }
 }
 
-/// Puts the normal text of a path behind a text, in one pass.
-///
-/// Each name is put behind the ones before it with a separator behind it, and a `..` takes the last
-/// one off again; at the end the last separator goes. Where memory is refused, all of it goes.
+/// Appends the normal path of `path` to `text`. If allocation fails, `text` is unchanged.
 pub fn put_normal(text: &mut Vec<u8>, path: &[u8]) -> Result<(), AllocError>
     ensures ok { OnOk result (text.new.items ≡ text.old.items ++ normal_text unix path.now) }
     ensures err { OnErr result (text.new.items ≡ text.old.items) }
@@ -228,7 +227,8 @@ pub fn put_normal(text: &mut Vec<u8>, path: &[u8]) -> Result<(), AllocError>
     cut_back(text, len, done)
 }
 
-/// Puts the normal text of a path behind a text: the root, and the names that are left behind it.
+/// Appends the normal path of `path` to `text`: the root, and the names that are left after it. If
+/// allocation fails, a part of it may stay.
 #[inline(always)]
 fn put_rows(text: &mut Vec<u8>, path: &[u8]) -> Result<(), AllocError>
     ensures ok { OnOk result (text.new.items ≡ text.old.items ++ normal_text unix path.now) }
@@ -236,6 +236,8 @@ fn put_rows(text: &mut Vec<u8>, path: &[u8]) -> Result<(), AllocError>
     ensures capacity { vec_capacity text.old ≤ vec_capacity text.new }
     ensures succeeds { vec_len text.old + length path.now < vec_capacity text.old → IsOk result }
 {
+    // One pass: a name is appended with a `/`, `..` takes the last one off again, and at the end
+    // the last `/` goes.
     let (root, rest) = split_root(path);
     text.extend_from_slice(root)?;
     let left = behind_parents(rest);
@@ -245,7 +247,7 @@ fn put_rows(text: &mut Vec<u8>, path: &[u8]) -> Result<(), AllocError>
     Ok(())
 }
 
-/// The root of a path, or nothing, and what stands behind it.
+/// Splits a path into its root, which may be empty, and the rest.
 fn split_root(path: &[u8]) -> (&[u8], &[u8])
     ensures { IsParted path.now result.0.now result.1.now }
 {
@@ -255,7 +257,8 @@ fn split_root(path: &[u8]) -> (&[u8], &[u8])
     }
 }
 
-/// What is left of a text behind the root without the `..` at its front, which have no name to take away.
+/// Returns the rest of a path after its root without the `..` at its front, which have no name to
+/// cancel.
 #[inline(always)]
 fn behind_parents(text: &[u8]) -> &[u8]
     ensures same { names_left text.now ≡ names_left result.now }
@@ -271,8 +274,7 @@ fn behind_parents(text: &[u8]) -> &[u8]
     }
 }
 
-/// Puts the names that are left of a text behind the root, each with a separator behind it. Where a long name is in
-/// front, no names are looked for side by side.
+/// Appends the names that `path`, the rest after a root, resolves to, each with a `/` after it.
 #[inline(always)]
 fn put_left(text: &mut Vec<u8>, path: &[u8]) -> Result<(), AllocError>
     ensures ok { OnOk result (text.new.items ≡ text.old.items
@@ -285,6 +287,7 @@ fn put_left(text: &mut Vec<u8>, path: &[u8]) -> Result<(), AllocError>
     if path.is_empty() {
         return Ok(());
     }
+    // No run of names is searched for if the first one is long.
     if has_long_front(path, Separators::Slash) {
         return put_each_segment(text, path, true);
     }
