@@ -1,4 +1,5 @@
-//! Prefixes and components of a Windows path, alone, read of bytes, and one after the other.
+//! The prefixes and components of a Windows path: single ones, read from bytes, and the iterator
+//! over all.
 
 ghost use Rattle.std.specs.Prelude.{◌≡◌, min, length, option_map, true};
 ghost use Rattle.typed_path.specs.queries.{share_length, is_verbatim_prefix, prefix_length, is_prefix, prefix_in, prefix_part_in, first_prefix, prefix_among, has_prefix, has_any_verbatim_prefix, has_verbatim_prefix, has_verbatim_unc_prefix, has_verbatim_disk_prefix, has_device_ns_prefix, has_unc_prefix, has_disk_prefix, has_physical_root, has_implicit_root};
@@ -13,8 +14,8 @@ use crate::scan::{Piece, PieceKind, Separators, WindowsPrefix, find_prefix, may_
 use crate::windows::encoding::WindowsEncoding;
 
 impl<'a> WindowsPrefix<'a> {
-    /// How many bytes the prefix has where it is written with one separator between names, or the
-    /// largest number where it has more.
+    /// Returns how many bytes the prefix has when it is written with one separator between names,
+    /// or `usize::MAX` if it has more.
     ///
     /// That of `\\server\share` has 14, and that of `\\server\` has 8.
     pub fn len(self) -> usize
@@ -44,7 +45,8 @@ impl<'a> WindowsPrefix<'a> {
     }
 }
 
-/// How many bytes a share adds to its server, or the largest number where it adds more.
+/// Returns how many bytes a share adds to its server: none if it is empty, and else its own and one
+/// for the separator, or `usize::MAX` if there are more.
 fn share_len(share: &[u8]) -> usize
     ensures { result ≡ min (share_length share.now) usize.MAX }
 {
@@ -59,8 +61,8 @@ fn share_len(share: &[u8]) -> usize
 ///
 /// # Errors
 ///
-/// `not a prefix` where they have none, and `contains more than prefix` where more stands behind it,
-/// as in `C:\`.
+/// `not a prefix` if they have none, and `contains more than prefix` if more comes after it, as in
+/// `C:\`.
 impl<'a> TryFrom<&'a [u8]> for WindowsPrefix<'a> {
     ghost use Rattle.typed_path.specs.views.WindowsViews.{IsPrefixReading};
 
@@ -105,7 +107,7 @@ impl<'a> TryFrom<&'a str> for WindowsPrefix<'a> {
     }
 }
 
-/// The prefix of a Windows path, with the text that it was read from.
+/// The prefix of a Windows path, with its raw bytes.
 ///
 /// Equality, order and hash look at the kind alone: how the prefix is written is no part of it.
 #[derive(Clone, Copy, Debug)]
@@ -120,7 +122,7 @@ pub struct WindowsPrefixComponent<'a> {
 impl<'a> WindowsPrefixComponent<'a> {
     ghost use Rattle.typed_path.specs.views.WindowsViews.{prefix_component_part};
 
-    /// The prefix of this kind and this text.
+    /// Returns the prefix `kind` with its raw bytes.
     #[inline(always)]
     pub(crate) fn new(raw: &'a [u8], kind: WindowsPrefix<'a>) -> WindowsPrefixComponent<'a>
         requires { has_text_names (prefix_part (prefix_view kind) raw.now) ≡ true }
@@ -129,21 +131,21 @@ impl<'a> WindowsPrefixComponent<'a> {
         WindowsPrefixComponent { raw, kind }
     }
 
-    /// Which prefix it is.
+    /// Returns which prefix it is.
     pub fn kind(self) -> WindowsPrefix<'a>
         ensures { prefix (prefix_view result) ≡ (prefix_component_part self.entry).kind }
     {
         self.kind
     }
 
-    /// How many bytes the text has.
+    /// Returns how many bytes the prefix has.
     pub fn len(self) -> usize
         ensures { result ≡ length (prefix_component_part self.entry).text }
     {
         self.raw.len()
     }
 
-    /// The text of the prefix.
+    /// Returns the bytes of the prefix.
     pub fn as_bytes(self) -> &'a [u8]
         ensures { result.now ≡ (prefix_component_part self.entry).text }
     {
@@ -155,7 +157,7 @@ impl<'a> WindowsPrefixComponent<'a> {
 ///
 /// # Errors
 ///
-/// Those of a `WindowsPrefix`.
+/// Those of reading a [`WindowsPrefix`].
 impl<'a> TryFrom<&'a [u8]> for WindowsPrefixComponent<'a> {
     ghost use Rattle.typed_path.specs.views.WindowsViews.{IsPrefixComponentReading};
 
@@ -197,8 +199,8 @@ impl<'a> TryFrom<&'a str> for WindowsPrefixComponent<'a> {
 
 /// A component of a Windows path.
 ///
-/// The order is prefixes by kind, the root, the current directory, the parent directory, and names
-/// by their bytes.
+/// The order is prefixes by kind, the root, the current directory, the parent directory, and then
+/// names by their bytes.
 #[derive(Clone, Copy, Debug, PartialEq, Eq, PartialOrd, Ord, Hash)]
 pub enum WindowsComponent<'a> {
     /// The prefix, as `C:` or `\\server\share`.
@@ -231,7 +233,7 @@ impl<'a> WindowsComponent<'a> {
         matches!(self, WindowsComponent::Prefix(_))
     }
 
-    /// The prefix with its text, where the component is one.
+    /// Returns the prefix with its bytes, or `None` if the component is none.
     pub fn prefix(self) -> Option<WindowsPrefixComponent<'a>>
         ensures { option_map prefix_component_part result
             ≡ prefix_part_in (windows_part self.entry) }
@@ -242,7 +244,7 @@ impl<'a> WindowsComponent<'a> {
         }
     }
 
-    /// Which prefix the component is, where it is one.
+    /// Returns which prefix the component is, or `None` if it is none.
     pub fn prefix_kind(self) -> Option<WindowsPrefix<'a>>
         ensures { option_map prefix_view result ≡ prefix_in (windows_part self.entry).kind }
     {
@@ -334,8 +336,8 @@ impl<'a> Component<'a> for WindowsComponent<'a> {
 ///
 /// # Errors
 ///
-/// `no component found` where they have none, and `found more than one component` where they have two
-/// or more, as `C:\`.
+/// `no component found` if they have none, and `found more than one component` if they have more,
+/// as `C:\` has.
 impl<'a> TryFrom<&'a [u8]> for WindowsComponent<'a> {
     ghost use Rattle.typed_path.specs.views.WindowsViews.{IsWindowsReading};
 
@@ -381,7 +383,7 @@ impl<'a> TryFrom<&'a str> for WindowsComponent<'a> {
     }
 }
 
-/// The components of a Windows path that are left to be read.
+/// The iterator over the components of a Windows path, from either end.
 pub type WindowsComponents<'a> = Reading<'a, WindowsEncoding, Values>;
 
 impl<'a> ReadAs<'a, WindowsEncoding> for Values {
@@ -422,14 +424,14 @@ impl<'a> Reading<'a, WindowsEncoding, Values> {
     ghost use Rattle.typed_path.specs.views.WindowsViews.{prefix_component_part};
     ghost use Rattle.typed_path.specs.views.PathViews.{components_parts};
 
-    /// Whether a prefix is the first component that is left.
+    /// Whether the first component left is a prefix.
     pub fn has_prefix(self) -> bool
         ensures { result ≡ has_prefix (kinds (components_parts self.entry)) }
     {
         self.prefix_kind().is_some()
     }
 
-    /// The prefix with its text, where it is the first component that is left.
+    /// Returns the prefix with its bytes, or `None` if the first component left is none.
     pub fn prefix(self) -> Option<WindowsPrefixComponent<'a>>
         ensures { option_map prefix_component_part result
             ≡ prefix_among (components_parts self.entry) }
@@ -437,7 +439,7 @@ impl<'a> Reading<'a, WindowsEncoding, Values> {
         <Values as ReadAs<'a, WindowsEncoding>>::from_piece(self.cursor().prefix_piece()?).prefix()
     }
 
-    /// Which prefix is the first component that is left, where one is.
+    /// Returns which prefix the first component left is, or `None` if it is none.
     pub fn prefix_kind(self) -> Option<WindowsPrefix<'a>>
         ensures { option_map prefix_view result
             ≡ first_prefix (kinds (components_parts self.entry)) }
@@ -445,8 +447,8 @@ impl<'a> Reading<'a, WindowsEncoding, Values> {
         self.cursor().prefix()
     }
 
-    /// Whether a prefix of one of the three verbatim kinds is first: `\\?\name`,
-    /// `\\?\UNC\server\share` or `\\?\C:`. One is in `//?/C:/a`, and none in `C:\a`.
+    /// Whether the first component left is a verbatim prefix: `\\?\name`, `\\?\UNC\server\share` or
+    /// `\\?\C:`. That of `//?/C:/a` is one, and that of `C:\a` is not.
     pub fn has_any_verbatim_prefix(self) -> bool
         ensures { result ≡ has_any_verbatim_prefix (kinds (components_parts self.entry)) }
     {
@@ -456,57 +458,58 @@ impl<'a> Reading<'a, WindowsEncoding, Values> {
         }
     }
 
-    /// Whether the prefix `\\?\name` is first.
+    /// Whether the first component left is a prefix `\\?\name`.
     pub fn has_verbatim_prefix(self) -> bool
         ensures { result ≡ has_verbatim_prefix (kinds (components_parts self.entry)) }
     {
         matches!(self.prefix_kind(), Some(WindowsPrefix::Verbatim(_)))
     }
 
-    /// Whether the prefix `\\?\UNC\server\share` is first.
+    /// Whether the first component left is a prefix `\\?\UNC\server\share`.
     pub fn has_verbatim_unc_prefix(self) -> bool
         ensures { result ≡ has_verbatim_unc_prefix (kinds (components_parts self.entry)) }
     {
         matches!(self.prefix_kind(), Some(WindowsPrefix::VerbatimUNC(..)))
     }
 
-    /// Whether the prefix `\\?\C:` is first.
+    /// Whether the first component left is a prefix `\\?\C:`.
     pub fn has_verbatim_disk_prefix(self) -> bool
         ensures { result ≡ has_verbatim_disk_prefix (kinds (components_parts self.entry)) }
     {
         matches!(self.prefix_kind(), Some(WindowsPrefix::VerbatimDisk(_)))
     }
 
-    /// Whether the prefix `\\.\name` is first.
+    /// Whether the first component left is a prefix `\\.\name`.
     pub fn has_device_ns_prefix(self) -> bool
         ensures { result ≡ has_device_ns_prefix (kinds (components_parts self.entry)) }
     {
         matches!(self.prefix_kind(), Some(WindowsPrefix::DeviceNS(_)))
     }
 
-    /// Whether the prefix `\\server\share` is first.
+    /// Whether the first component left is a prefix `\\server\share`.
     pub fn has_unc_prefix(self) -> bool
         ensures { result ≡ has_unc_prefix (kinds (components_parts self.entry)) }
     {
         matches!(self.prefix_kind(), Some(WindowsPrefix::UNC(..)))
     }
 
-    /// Whether the prefix `C:` is first.
+    /// Whether the first component left is a prefix `C:`.
     pub fn has_disk_prefix(self) -> bool
         ensures { result ≡ has_disk_prefix (kinds (components_parts self.entry)) }
     {
         matches!(self.prefix_kind(), Some(WindowsPrefix::Disk(_)))
     }
 
-    /// Whether a root is written: it is the first component that is left, or right behind the
-    /// prefix, as in `C:\a`. None is in `C:a` and `\\s\h`.
+    /// Whether a root is written: it is the first component left, or comes right after the prefix,
+    /// as in `C:\a`. `C:a` and `\\s\h` have none.
     pub fn has_physical_root(self) -> bool
         ensures { result ≡ has_physical_root (kinds (components_parts self.entry)) }
     {
         self.cursor().has_physical_root()
     }
 
-    /// Whether a prefix other than `C:` is first, which implies a root, as in `\\s\h`.
+    /// Whether the first component left is a prefix other than `C:`, which implies a root, as in
+    /// `\\s\h`.
     pub fn has_implicit_root(self) -> bool
         ensures { result ≡ has_implicit_root (kinds (components_parts self.entry)) }
     {

@@ -1,4 +1,4 @@
-//! The encoding of Windows paths.
+//! The encoding of Windows paths, with its fast paths over bytes.
 
 ghost use Rattle.std.specs.Prelude.{◌≡◌, ◌≤◌, ◌&&◌, true, false, length, codes, Some, None, IfSome, IsTrue};
 ghost use Rattle.typed_path.specs.components.{windows, separators, is_separator, prefix_of, prefix, comps};
@@ -25,7 +25,7 @@ use std::alloc::AllocError;
 use std::cmp::Ordering;
 use std::fmt;
 
-/// Paths as on Windows: `\` and `/` separate, and a path may begin with a prefix.
+/// The encoding of Windows paths: `\` and `/` separate, and a path may begin with a prefix.
 #[derive(Clone, Copy, Debug, Default, PartialEq, Eq, PartialOrd, Ord, Hash)]
 pub struct WindowsEncoding;
 
@@ -104,7 +104,7 @@ impl Encoding for WindowsEncoding {
                 None
             };
         }
-        // The components tell at once where one alone has a drive.
+        // If one alone has a drive, the components tell at once.
         if has_second_colon(path) != has_second_colon(base) {
             return None;
         }
@@ -121,7 +121,7 @@ impl Encoding for WindowsEncoding {
         if let Some(behind) = base_end(body, wanted, shared, separators) {
             return Some(Some(&body[behind..]));
         }
-        // Bytes tell nothing where the separators in front are others.
+        // Two roots may be written with different separators, so the bytes do not tell then.
         if let ([own, ..], [wanted, ..]) = (body, wanted) {
             if own != wanted && are_separators(*own, *wanted) {
                 return None;
@@ -155,7 +155,7 @@ impl Encoding for WindowsEncoding {
         push_at(path, 0, kept, other, None)
     }
 
-    // Nothing is asked of what stands there then, which a push onto it would want to know.
+    // Not `push_next`, which looks at what it made for the sake of the next push.
     fn push_behind(text: &mut Vec<u8>, start: usize, other: &[u8]) -> Result<(), AllocError> {
         let start = start.min(text.len());
         let len = text.len();
@@ -185,26 +185,28 @@ impl Encoding for WindowsEncoding {
     }
 }
 
-/// Whether the first bytes of two paths tell that their first components are written otherwise. False says
-/// nothing. A component begins with the byte that it stands at, but for a root, which is written `\` for either
-/// separator. A name behind two separators belongs to a prefix.
+/// Whether the first bytes tell that `path` does not begin with the components of `other`. `false`
+/// leaves it open.
 #[inline(always)]
 fn begin_apart(path: &[u8], other: &[u8]) -> bool
     ensures { IsTrue result → path_starts_with windows path.now other.now ≡ false }
 {
+    // A component begins with the byte at its index, but a root is written `\` for either
+    // separator.
     let ([own, ..], [wanted, ..]) = (path, other) else {
         return false;
     };
     if own != wanted && !are_separators(*own, *wanted) {
         return true;
     }
+    // A name after two separators belongs to a prefix.
     match (byte_behind_two(path), byte_behind_two(other)) {
         (Some(own), Some(other)) => other != own,
         _ => false,
     }
 }
 
-/// Whether both bytes separate.
+/// Whether both bytes are separators.
 #[inline(always)]
 fn are_separators(first: u8, second: u8) -> bool
     ensures { result
@@ -213,15 +215,14 @@ fn are_separators(first: u8, second: u8) -> bool
     Separators::Either.contains(first) && Separators::Either.contains(second)
 }
 
-/// What is left of a path behind a base, where the path begins with the bytes of the base, and both have one
-/// prefix. None says nothing.
-///
-/// No prefix is read where the path does not begin with these bytes, and that of the path alone where the base
-/// ends with it. Bases of which `shared_written_prefix` says nothing are few: those of a few bytes, those
-/// behind the verbatim prefix named `UNC`, and those behind a verbatim drive without a root.
+/// Returns what is left of `path` after `base`, if it begins with the bytes of `base`, both have
+/// the same prefix or none, and no segment spans the end of `base`. `None` leaves it open.
 fn behind<'a>(path: &'a [u8], base: &[u8]) -> Option<&'a [u8]>
     ensures { IfSome result (λ rest. stripped windows path.now base.now ≡ Some rest.now) }
 {
+    // No prefix is read if the bytes differ, and that of `path` alone if `base` ends with it. Few
+    // bases come here from `strip_by_bytes`: short ones, those after the verbatim prefix named
+    // `UNC`, and those after a verbatim drive without a root.
     if !path.starts_with(base) {
         return None;
     }
@@ -240,17 +241,17 @@ fn behind<'a>(path: &'a [u8], base: &[u8]) -> Option<&'a [u8]>
     Some(&body[end..])
 }
 
-/// How many bytes the prefix takes that two paths begin with, written alike, as their bytes tell, and the
-/// separators of both. None says nothing. It is told how many bytes the two begin with.
-///
-/// Of two that are no drives the prefix of the first alone is read, where a separator stands behind it, and of neither
-/// where they part in the first bytes, as most do of which the prefixes differ.
+/// Returns the length in bytes of the prefix that two paths begin with, written alike, or 0 if
+/// neither has one, and the separators of both. `None` leaves it open. `shared` is their
+/// [`first_difference`].
 #[inline(always)]
 fn shared_written_prefix(path: &[u8], other: &[u8], shared: usize) -> Option<(usize, Separators)>
     requires { PartAt path.now other.now shared }
     ensures one { IfSome result (λ found. HaveOnePrefix path.now other.now found.0 found.1) }
     ensures begun { IfSome result (λ found. found.0 ≤ shared) }
 {
+    // Of paths without a drive only the prefix of `path` is read, and a separator has to follow it.
+    // None is read if the first bytes differ, as those of most different prefixes do.
     match shared_drive(path, other) {
         Some(end) if end <= shared => return Some((end, Separators::Either)),
         Some(_) => return None,
@@ -266,8 +267,8 @@ fn shared_written_prefix(path: &[u8], other: &[u8], shared: usize) -> Option<(us
     Some((found.length, Separators::of_windows(path)))
 }
 
-/// How many bytes the drive takes that two paths with no other prefix have both, or none where neither has
-/// one. None says nothing.
+/// Returns the length in bytes of the drive that two paths begin with, or 0 if neither has a
+/// prefix. `None` leaves it open: the drives differ, or a path begins with two separators.
 #[inline(always)]
 fn shared_drive(path: &[u8], other: &[u8]) -> Option<usize>
     ensures one { IfSome result (λ end. HaveOnePrefix path.now other.now end Separators.Either) }
@@ -281,12 +282,11 @@ fn shared_drive(path: &[u8], other: &[u8]) -> Option<usize>
     Some(path.len() - body.len())
 }
 
-/// How many bytes two paths with marked prefixes begin with at least before one of these is read to take a base
-/// off.
+/// The least number of bytes that two paths have to share for a prefix other than `C:` to be read.
 const PARTED: usize = 6;
 
-/// The order of two paths of which the prefixes differ, or one at least begins with two separators. None says
-/// nothing.
+/// Compares two paths whose prefixes differ, or of which one begins with two separators. `None`
+/// leaves it open.
 fn order_by_prefixes(path: &[u8], other: &[u8]) -> Option<Ordering>
     ensures { IfSome result (λ order. path_cmp windows path.now other.now ≡ order) }
 {
@@ -295,7 +295,7 @@ fn order_by_prefixes(path: &[u8], other: &[u8]) -> Option<Ordering>
         return order_behind_marked(path, other);
     };
     match (drive, other_drive) {
-        // One drive in both was looked for before.
+        // Equal drives were found before.
         (Some(own), Some(wanted)) if own != wanted => Some(own.cmp(&wanted)),
         (Some(_), None) => Some(order_of_prefixed(whole(other))),
         (None, Some(_)) => Some(order_of_prefixed(whole(path)).reverse()),
@@ -303,9 +303,7 @@ fn order_by_prefixes(path: &[u8], other: &[u8]) -> Option<Ordering>
     }
 }
 
-/// The order of two paths of which one at least begins with two separators. None says nothing.
-///
-/// The prefix of one alone is read where the other begins with it.
+/// Compares two paths of which one begins with two separators. `None` leaves it open.
 fn order_behind_marked(path: &[u8], other: &[u8]) -> Option<Ordering>
     ensures { IfSome result (λ order. path_cmp windows path.now other.now ≡ order) }
 {
@@ -314,6 +312,7 @@ fn order_behind_marked(path: &[u8], other: &[u8]) -> Option<Ordering>
         return Some(order_of_prefixed(whole(path)).reverse());
     };
     let shared = first_difference(path, other);
+    // One prefix is read for both if both begin with it.
     if begins_with_prefix(other, path, shared, found) {
         let end = found.length;
         let separators = Separators::of_windows(path);
@@ -325,7 +324,7 @@ fn order_behind_marked(path: &[u8], other: &[u8]) -> Option<Ordering>
     })
 }
 
-/// A reading of a path without a prefix.
+/// Returns a reading of a path without a prefix.
 #[inline(always)]
 fn whole(path: &[u8]) -> Body<'_>
     ensures { prefix_of windows path.now ≡ None → body_items result ≡ comps windows path.now }
@@ -333,7 +332,7 @@ fn whole(path: &[u8]) -> Body<'_>
     Body::new(path, 0, Separators::of_windows(path))
 }
 
-/// The order of two paths with prefixes that were found.
+/// Compares two paths with the prefixes `found` and `others`: by these, and then by what follows.
 fn order_by_both_prefixes(
     path: &[u8],
     found: Found<'_>,
@@ -360,8 +359,8 @@ fn order_by_both_prefixes(
     )
 }
 
-/// Whether a text begins with the prefix of a path and a separator behind it, which is its own prefix
-/// then. False says nothing. It is told how many bytes the path and the text begin with.
+/// Whether `text` begins with the prefix of `path`, which is `found`, and a separator, so that
+/// `text` has that prefix too. `false` leaves it open. `shared` is their [`first_difference`].
 #[inline(always)]
 fn begins_with_prefix(text: &[u8], path: &[u8], shared: usize, found: Found<'_>) -> bool
     requires place { PartAt path.now text.now shared }
@@ -377,8 +376,8 @@ fn begins_with_prefix(text: &[u8], path: &[u8], shared: usize, found: Found<'_>)
     Separators::of_windows(path).contains(text[end])
 }
 
-/// Whether a prefix stays what it is, whatever is put apart in the place of what stands behind it. False
-/// says nothing.
+/// Whether a path keeps this prefix when what follows the separator after it is replaced. `false`
+/// leaves it open.
 #[inline(always)]
 fn stays_before_parted(prefix: WindowsPrefix<'_>) -> bool
     ensures { IsTrue result → (is_disk (prefix_view prefix.entry) ≡ false)
@@ -390,11 +389,7 @@ fn stays_before_parted(prefix: WindowsPrefix<'_>) -> bool
     )
 }
 
-/// What a path is judged by looks at its bytes. None says nothing.
-///
-/// Where the look finds a byte or a name that offends, that is what the path is refused for, where no two dots stand
-/// side by side up to its end; so no more of a long path is looked at than up to the end of the name in which the block
-/// of its first offence ends. In others two dots are looked for first in the whole path.
+/// Returns what [`Encoding::check`] returns for `path`, if searches tell. `None` leaves it open.
 fn judged_by_looks(path: &[u8]) -> Option<Result<(), CheckedPathError>>
     ensures { IfSome result (λ judged. error_of judged ≡ fault windows path.now) }
 {
@@ -404,6 +399,9 @@ fn judged_by_looks(path: &[u8]) -> Option<Result<(), CheckedPathError>>
     {
         return None;
     }
+    // An offence is the answer unless a `..` comes before it. So two dots are searched for: in a
+    // short path as a whole, and in a long one up to the end of the name in which the block of the
+    // offence ends.
     match look_at_path(path) {
         Look::Clean => Some(Ok(())),
         Look::Dots => None,
@@ -427,11 +425,11 @@ fn judged_by_looks(path: &[u8]) -> Option<Result<(), CheckedPathError>>
     }
 }
 
-/// How many bytes a path has at most that is searched as a whole for two dots, where a look found what offends: to look
-/// at the name that offends once more would cost more.
+/// The length in bytes up to which a path with an offence is searched as a whole for two dots: to
+/// search the name that offends once more would cost more.
 const SEARCHED_WHOLE: usize = 256;
 
-/// Whether the second byte of a text is a `:`, as behind the letter of a drive.
+/// Whether the second byte is `:`, as after the letter of a drive.
 #[inline(always)]
 pub fn has_second_colon(text: &[u8]) -> bool
     ensures { result ≡ has_second_colon text.now }
@@ -439,7 +437,7 @@ pub fn has_second_colon(text: &[u8]) -> bool
     matches!(text, [_, b':', ..])
 }
 
-/// Whether a text begins with a separator.
+/// Whether the first byte is `/` or `\`.
 #[inline(always)]
 pub fn begins_with_separator(text: &[u8]) -> bool
     ensures { result ≡ begins_with_separator text.now }

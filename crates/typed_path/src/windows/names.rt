@@ -1,4 +1,4 @@
-//! Where the names of a prefix stand in the path that begins with it.
+//! Where the names of a prefix are in the path that begins with it.
 
 ghost use Rattle.std.specs.Prelude.{◌≡◌, Some, IfSome, IsSome, IsNone, MatchOption};
 ghost use Rattle.typed_path.specs.components.{windows, prefix_of};
@@ -7,21 +7,21 @@ ghost use Rattle.typed_path.specs.views.PieceViews.{found_of, prefix_view};
 
 use crate::scan::{Found, WindowsPrefix, find_prefix};
 
-/// Where the names of a prefix begin and end in the path: the server and the share; or a name alone, or the letter
-/// of a drive, with an empty second one behind it.
+/// The ranges of bytes in a path that hold the names of its prefix: the server and the share; or a
+/// name alone, or the letter of a drive, and then an empty second range.
 #[derive(Clone, Copy, Debug, PartialEq, Eq)]
 pub struct PrefixNames {
-    /// Where the first one begins.
+    /// The index at which the first one begins.
     pub first: usize,
-    /// Where it ends.
+    /// The index at which it ends.
     pub first_end: usize,
-    /// Where the second one begins.
+    /// The index at which the second one begins.
     pub second: usize,
-    /// Where it ends.
+    /// The index at which it ends.
     pub second_end: usize,
 }
 
-/// Where the names of the prefix of a path stand; none where it has no prefix.
+/// Returns where the names of the prefix of `path` are, or `None` if it has no prefix.
 pub fn prefix_names(path: &[u8]) -> Option<PrefixNames>
     ensures { MatchOption (prefix_of windows path.now) (IsNone result) (λ f. IsSome result
         × IfSome result (λ names. AreNamesOf path.now f.prefix names.first names.first_end
@@ -31,7 +31,7 @@ pub fn prefix_names(path: &[u8]) -> Option<PrefixNames>
     Some(names_of(path, found))
 }
 
-/// Where the names of a prefix stand that a path begins with.
+/// Returns where the names of the prefix of `path` are, which is `found`.
 fn names_of(path: &[u8], found: Found<'_>) -> PrefixNames
     requires { Some (found_of found) ≡ prefix_of windows path.now }
     ensures { AreNamesOf path.now (prefix_view found.entry.kind) result.first result.first_end

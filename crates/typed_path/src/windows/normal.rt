@@ -1,4 +1,4 @@
-//! The normal text of a Windows path, and verbatim paths of drives, lent without their `\\?\`.
+//! The normal path of a Windows path, and verbatim drive paths without their `\\?\`.
 
 ghost use Rattle.std.specs.Prelude.{◌≡◌, ◌<◌, ◌≤◌, ◌+◌, ◌-◌, ◌++◌, ℕ, List, [], false, true, take, drop, fold, length, map, IsTrue, IsSome, IfSome, IsOk, IfOk, OnOk, OnErr, None, ◌&&◌};
 ghost use Rattle.std.specs.List.{list_any, slice_split, list_all};
@@ -24,8 +24,7 @@ use crate::windows::encoding::WindowsEncoding;
 use crate::windows::push::{is_separated, push_at, push_next};
 use std::alloc::AllocError;
 
-/// Puts the normal text of a path behind a text: in rows, or else each component that stays is pushed. Where
-/// memory is refused, all of it goes.
+/// Appends the normal path of `path` to `text`. If allocation fails, `text` is unchanged.
 pub fn put_normal(text: &mut Vec<u8>, path: &[u8]) -> Result<(), AllocError>
     ensures ok { OnOk result (text.new.items ≡ text.old.items ++ normal_text windows path.now) }
     ensures err { OnErr result (text.new.items ≡ text.old.items) }
@@ -38,7 +37,8 @@ pub fn put_normal(text: &mut Vec<u8>, path: &[u8]) -> Result<(), AllocError>
     cut_back(text, len, done)
 }
 
-/// Puts the normal text of a path behind a text, row by row or push by push.
+/// Appends the normal path of `path` to `text`, which has `start` bytes. If allocation fails, a
+/// part of it may stay.
 #[inline(always)]
 fn put_resolved(text: &mut Vec<u8>, start: usize, path: &[u8]) -> Result<(), AllocError>
     requires { length text.old.items ≡ start }
@@ -49,6 +49,8 @@ fn put_resolved(text: &mut Vec<u8>, start: usize, path: &[u8]) -> Result<(), All
     ensures succeeds { HasPlainNames windows path.now
         → vec_len text.old + length path.now < vec_capacity text.old → IsOk result }
 {
+    // Names are appended one after the other, or, if that may be read otherwise, each component is
+    // pushed.
     if let Some(head) = row_head(path) {
         if put_rows(text, head)? {
             return Ok(());
@@ -58,18 +60,19 @@ fn put_resolved(text: &mut Vec<u8>, start: usize, path: &[u8]) -> Result<(), All
     push_resolved(text, start, path)
 }
 
-/// What the normal text of a path begins with, before its names.
+/// What a normal path begins with before its names, and what the names are read from.
 #[derive(Clone, Copy, Debug)]
 struct RowHead<'a> {
-    /// The raw prefix, where there is one.
+    /// The raw bytes of the prefix, or none.
     pub prefix: &'a [u8],
     /// `\`, or nothing.
     pub root: &'static [u8],
-    /// What the names are read from.
+    /// The rest of the path, after its root.
     pub rest: &'a [u8],
 }
 
-/// The head of a path behind which names are put in rows, where it is one.
+/// Returns the head of `path` if the names after it may be appended one after the other, else
+/// `None`.
 #[inline(always)]
 fn row_head(path: &[u8]) -> Option<RowHead<'_>>
     ensures rows { IfSome result (λ head.
@@ -89,10 +92,9 @@ fn row_head(path: &[u8]) -> Option<RowHead<'_>>
     }
 }
 
-/// Whether names are put in rows behind a prefix that is no drive, by what stands behind it.
-///
-/// They are not behind the verbatim prefix named `UNC`, behind a verbatim drive without a root, nor
-/// in a text that is read verbatim where a name may hold a `/`. False says nothing.
+/// Whether names may be appended one after the other after the prefix `found`, which is not `C:`.
+/// It is not the verbatim prefix named `UNC`; a root or nothing follows it; and if `path` is read
+/// verbatim, no name holds a `/`.
 #[inline(always)]
 fn takes_rows(path: &[u8], found: Found<'_>, head: RowHead<'_>) -> bool
     requires { found.length ≤ length path.now }
@@ -107,7 +109,7 @@ fn takes_rows(path: &[u8], found: Found<'_>, head: RowHead<'_>) -> bool
         && !(Separators::of_windows(path).is_verbatim() && is_separated(Separators::Slash, behind))
 }
 
-/// The head of a path by where its prefix ends.
+/// Splits `path` into its first `end` bytes, which are its prefix, its root, and the rest.
 #[inline(always)]
 fn head_behind(path: &[u8], end: usize) -> RowHead<'_>
     requires { end ≤ length path.now }
@@ -129,8 +131,9 @@ fn head_behind(path: &[u8], end: usize) -> RowHead<'_>
     }
 }
 
-/// Puts the names of a path in rows behind its head, and answers whether its normal text stands there
-/// then.
+/// Appends `head` and then the names of its rest, with `\` between. Returns whether that is the
+/// normal path: `false` if a name begins with a drive, which a push would read otherwise, and what
+/// was appended is unspecified.
 #[inline(always)]
 fn put_rows(text: &mut Vec<u8>, head: RowHead<'_>) -> Result<bool, AllocError>
     ensures ok { IfOk result (λ done. IsTrue done → (path : List ℕ)
@@ -153,14 +156,12 @@ fn put_rows(text: &mut Vec<u8>, head: RowHead<'_>) -> Result<bool, AllocError>
     Ok(true)
 }
 
-/// How many bytes a path has at least that is looked at as a whole before its segments are cut.
+/// The length in bytes from which on a path is searched as a whole before its segments are cut.
 const ONE_BLOCK_AND_TWO: usize = 34;
 
-/// Puts the names that are left of a path behind the first bytes of a text, and answers whether
-/// each one that came is put so by a push too: false says nothing of what was put.
-///
-/// Where there is no room for all of the path, its segments are put one by one: they ask for less memory at
-/// once than names that stand side by side.
+/// Appends the names that `path` resolves to, each with `\` after it, to a head of `len` bytes,
+/// which is all of `text`. Returns `false` if a name begins with a drive; what was appended is
+/// unspecified then.
 fn put_segments(text: &mut Vec<u8>, len: usize, path: &[u8]) -> Result<bool, AllocError>
     requires { len ≤ length text.old.items }
     ensures ok { IfOk result (λ plain. IsTrue plain → (head : List ℕ) → length head ≡ len
@@ -173,6 +174,8 @@ fn put_segments(text: &mut Vec<u8>, len: usize, path: &[u8]) -> Result<bool, All
     ensures told { HaveNoDisks (slice_split (is_separator Separators.Either) path.now)
         → IfOk result (λ plain. IsTrue plain) }
 {
+    // Without room for all of `path` its segments are put one by one, which asks for less memory at
+    // once.
     if ONE_BLOCK_AND_TWO <= path.len()
         && !has_long_front(path, Separators::Either)
         && has_room(text, path)
@@ -185,8 +188,8 @@ fn put_segments(text: &mut Vec<u8>, len: usize, path: &[u8]) -> Result<bool, All
     put_one_by_one(text, len, path)
 }
 
-/// The same of a path in which no `:` stands, so that no name begins with a drive. Where some names stand side by side
-/// they are put at once; it is told which do at the front.
+/// Like [`put_segments`], for a path without `:`, in which no name begins with a drive. `names` is
+/// what [`leading_short_names`] returns for `path`; names side by side are appended at once.
 fn put_undriven(
     text: &mut Vec<u8>,
     len: usize,
@@ -221,8 +224,8 @@ fn put_undriven(
     Ok(true)
 }
 
-/// Settles the segments of a path one by one behind the names that stand, and answers whether none
-/// begins with a drive: false says nothing of what was put.
+/// Applies the segments of `path` to the names in `text[len..]`, one by one, as [`put_segment`]
+/// does. Returns `false` if one begins with a drive; what was put is unspecified then.
 #[inline(always)]
 fn put_one_by_one(text: &mut Vec<u8>, len: usize, path: &[u8]) -> Result<bool, AllocError>
     requires { len ≤ length text.old.items }
@@ -249,8 +252,9 @@ fn put_one_by_one(text: &mut Vec<u8>, len: usize, path: &[u8]) -> Result<bool, A
     put_segment(text, len, rest, rest)
 }
 
-/// Settles one more segment, which is what the rest begins with, behind the names that stand, and
-/// answers whether it begins with no drive: one that does is passed over.
+/// Applies `segment`, with which `rest` begins, to the names in `text[len..]`: appends a name with
+/// `\` after it, and takes the last name off for `..`. Returns `false`, and changes nothing, if
+/// `segment` begins with a drive.
 #[inline(always)]
 fn put_segment(
     text: &mut Vec<u8>,
@@ -285,7 +289,8 @@ fn put_segment(
     Ok(true)
 }
 
-/// Pushes what the list of a path resolves to, one by one, onto the empty path at the end of a text.
+/// Appends the normal path of `path` to `text`, which has `start` bytes: pushes the components that
+/// it resolves to, one by one, onto the empty path. If allocation fails, a part of it may stay.
 #[cold]
 fn push_resolved(text: &mut Vec<u8>, start: usize, path: &[u8]) -> Result<(), AllocError>
     requires { length text.old.items ≡ start }
@@ -302,11 +307,11 @@ fn push_resolved(text: &mut Vec<u8>, start: usize, path: &[u8]) -> Result<(), Al
     Ok(())
 }
 
-/// How many names find room before more is asked for.
+/// The number of names for which memory is allocated first.
 const NAMES: usize = 16;
 
-/// Pushes the prefix and the root of a path onto the empty path at the end of a text, and answers the
-/// names that no parent takes away.
+/// Pushes the prefix and the root of `path` onto the empty path at the end of `text`, which has
+/// `start` bytes, and returns the names that no `..` cancels.
 fn push_heads<'a>(
     text: &mut Vec<u8>,
     start: usize,
@@ -337,16 +342,17 @@ fn push_heads<'a>(
     Ok(names)
 }
 
-/// How many bytes a path has at least that Windows takes only behind `\\?\`, with these four.
+/// The length in bytes, counting `\\?\`, from which on Windows takes a path only with that.
 const LONG: usize = 264;
 
 impl<'a> Path<'a, WindowsEncoding> {
-    /// The path of a verbatim drive without its `\\?\`, where that means the same to Windows; else the
-    /// path itself.
+    /// Returns a path of a verbatim drive without its `\\?\`, if that means the same to Windows;
+    /// else the path itself.
     ///
-    /// That of `\\?\C:\a\b` is `C:\a\b`. It means the same where a root and names alone stand behind the
-    /// drive, fewer than 260 bytes are left, and each name is valid, ends in neither a dot nor a space and
-    /// stands for no device, whatever spaces stand before its first dot: `\\?\C:\con .txt` stays as it is.
+    /// That of `\\?\C:\a\b` is `C:\a\b`. It means the same if a root and names alone follow the
+    /// drive, fewer than 260 bytes are left, and each name is valid, ends in neither a dot nor a
+    /// space and stands for no device, whatever spaces are before its first dot: `\\?\C:\con .txt`
+    /// stays as it is.
     #[tactic(auto, using(crate::proofs::lemmas::queries::Simplified::simple_long))]
     pub fn simplified(self) -> WindowsPath<'a>
         ensures { path_bytes result ≡ simplified_text windows (path_bytes self.entry) }
@@ -360,7 +366,7 @@ impl<'a> Path<'a, WindowsEncoding> {
     }
 }
 
-/// Whether the components that are left are a verbatim drive, a root and names that Windows takes as they
+/// Whether the components left are a verbatim drive, a root, and names that Windows takes as they
 /// are written.
 #[tactic(auto, using(crate::proofs::lemmas::queries::Simplified::none_simple, crate::proofs::lemmas::queries::Simplified::one_simple, crate::proofs::lemmas::queries::Simplified::two_simple))]
 fn is_simple(mut rest: Components<'_, WindowsEncoding>) -> bool
@@ -386,7 +392,7 @@ fn are_drive_and_root(first: Piece<'_>, second: Piece<'_>) -> bool
     ) && matches!(second.kind, PieceKind::RootDir)
 }
 
-/// Whether the components that are left are names that Windows takes as they are written.
+/// Whether the components left are names that Windows takes as they are written.
 fn are_exact(mut rest: Components<'_, WindowsEncoding>) -> bool
     ensures { result ≡ list_all is_exact (kinds (components_parts rest.entry)) }
 {
@@ -398,14 +404,14 @@ fn are_exact(mut rest: Components<'_, WindowsEncoding>) -> bool
     true
 }
 
-/// Whether a component is such a name.
+/// Whether a component is a name that Windows takes as it is written.
 fn is_exact(piece: Piece<'_>) -> bool
     ensures { result ≡ is_exact (part_of piece.entry).kind }
 {
     matches!(piece.kind, PieceKind::Normal) && is_exact_name(piece.text)
 }
 
-/// Whether Windows takes a name as it is written, behind a drive too.
+/// Whether Windows takes `name` as it is written, also after a drive without `\\?\`.
 fn is_exact_name(name: &[u8]) -> bool
     ensures { result ≡ is_exact_name name.now }
 {

@@ -1,4 +1,9 @@
-//! A path of Windows pushed onto another.
+//! Pushes of one Windows path onto another.
+//!
+//! Under a verbatim prefix a push merges the components of the other path into those of the base,
+//! and spells the result: the prefix, the root, and the other components with one `\` between. A
+//! path with a verbatim prefix is *spelled* if it is written so already. The components after a
+//! prefix are *parted* from it if they have no root, so that a `\` is put between.
 
 ghost use Rattle.std.specs.Prelude.{◌≡◌, ◌≤◌, ◌+◌, ◌++◌, ℕ, List, IsTrue, true, false, take, drop, slice_range, length, IfOk, IsOk, OnOk, OnErr, Some, ◌<◌, ◌∷◌, [], Bool, IfSome, is_some, not};
 ghost use Rattle.std.specs.Vec.{vec_capacity, vec_len};
@@ -16,8 +21,9 @@ use crate::scan::{
 };
 use std::alloc::{AllocError, Global};
 
-/// Cuts a text to its first bytes, and pushes a path onto the one that stands there from a place
-/// on. Where memory is refused, the text is as it was.
+/// Pushes `other` onto the path `text[start..kept]`, and cuts off what follows `kept`. If
+/// allocation fails, `text` is unchanged. `known` is what [`push_next`] returned for the path, or
+/// `None`; if it is wrong, the result is unspecified.
 pub fn push_at(
     text: &mut Vec<u8>,
     start: usize,
@@ -56,7 +62,9 @@ pub fn push_at(
     put_over(text, kept, separator, other)
 }
 
-/// Where a path goes that is pushed onto a base; none where it is merged into one of a verbatim kind.
+/// Returns where `other` goes when it is pushed onto `base`: how many bytes of `base` stay, and
+/// which separator comes between. `None` if its components are merged into a base with a verbatim
+/// prefix.
 pub fn push_place(base: &[u8], other: &[u8]) -> Option<PushPlace>
     ensures place { IfSome result (λ place. push_windows base.now other.now
         ≡ put_in_place base.now place.kept place.separator.now other.now) }
@@ -95,7 +103,7 @@ pub fn push_place(base: &[u8], other: &[u8]) -> Option<PushPlace>
     })
 }
 
-/// What a base wants behind it before a relative path.
+/// Returns what `base` needs at its end before a relative path: a separator or nothing.
 pub fn separator_behind(base: &[u8]) -> &'static [u8]
     ensures text { ended_windows base.now ≡ base.now ++ result.now }
     ensures short { length result.now ≤ 1 }
@@ -108,14 +116,14 @@ pub fn separator_behind(base: &[u8]) -> &'static [u8]
     }
 }
 
-/// Whether a path is a drive and nothing else.
+/// Whether `path` is a prefix `C:` and nothing else.
 fn is_disk_alone(path: &[u8]) -> bool
     ensures { result ≡ is_disk_alone (kinds (parts_of windows path.now)) }
 {
     path.len() == 2 && drive(path).is_some()
 }
 
-/// How many bytes the prefix of a path takes.
+/// Returns the length in bytes of the prefix of `path`, or 0 if it has none.
 pub fn prefix_len(path: &[u8]) -> usize
     ensures length { result ≡ raw_length (prefix_of windows path.now) }
     ensures within { result ≤ length path.now }
@@ -126,7 +134,7 @@ pub fn prefix_len(path: &[u8]) -> usize
     }
 }
 
-/// Whether a path has one of the three verbatim kinds, which its first bytes tell.
+/// Whether `path` has a verbatim prefix, as its first five bytes tell.
 pub fn has_verbatim_kind(path: &[u8]) -> bool
     ensures { result ≡ has_any_verbatim_prefix (kinds (parts_of windows path.now)) }
 {
@@ -136,9 +144,10 @@ pub fn has_verbatim_kind(path: &[u8]) -> bool
     }
 }
 
-/// What the encoding answers as `push_next`. Most paths that are pushed so are names, and most bases, of which
-/// nothing is known then, neither have a verbatim kind nor get one, as the first bytes of the two tell: such a
-/// path is put behind at once, and neither is read.
+/// Pushes `other` onto the path `text[start..]`, of which `known` is known, and returns what is
+/// known of the result: the length of its prefix if that is verbatim and the path is spelled, or
+/// `None`. If `known` is wrong, the result is unspecified. If allocation fails, `text` is
+/// unchanged.
 #[inline]
 pub fn push_next(
     text: &mut Vec<u8>,
@@ -157,6 +166,9 @@ pub fn push_next(
         → IsKnown windows known (drop start text.old.items)
         → FitsPush windows room (drop start text.old.items) other.now → IsOk result }
 {
+    // Most paths that are pushed so are names, and most bases neither have nor get a verbatim
+    // prefix, as the first bytes of both tell. Such a path is appended at once, and neither is
+    // read.
     if known.is_none() && is_plain(other) && stays_unmarked(&text[start..]) {
         put_behind(text, start, other)?;
         return Ok(None);
@@ -164,8 +176,8 @@ pub fn push_next(
     push_read(text, start, other, known)
 }
 
-/// Whether the first bytes of a path tell that it is not empty and has neither a prefix nor a root.
-/// False says nothing.
+/// Whether the first bytes tell that `path` is not empty, and has neither a prefix nor a root.
+/// `false` leaves it open.
 #[inline(always)]
 fn is_plain(path: &[u8]) -> bool
     ensures { IsTrue result → IsPutBehind path.now }
@@ -176,8 +188,8 @@ fn is_plain(path: &[u8]) -> bool
     }
 }
 
-/// Whether the first bytes of a path tell that it has no verbatim kind, nor gets one from a plain path that is
-/// put behind it, as `/` and two separators do from `?\x`. False says nothing.
+/// Whether the first bytes tell that `path` has no verbatim prefix, and gets none if a path that
+/// [`is_plain`] is appended, as `/` and two separators do from `?\x`. `false` leaves it open.
 #[inline(always)]
 fn stays_unmarked(path: &[u8]) -> bool
     ensures { IsTrue result → has_any_verbatim_prefix (kinds (parts_of windows path.now)) ≡ false }
@@ -189,8 +201,8 @@ fn stays_unmarked(path: &[u8]) -> bool
     }
 }
 
-/// Puts a path behind the one that stands behind the first bytes of a text, and before it what that
-/// one wants behind it. Where memory is refused, the text is as it was.
+/// Appends `other` to the path `text[start..]`, with a separator before it if that path needs one.
+/// If allocation fails, `text` is unchanged.
 #[inline(always)]
 fn put_behind(text: &mut Vec<u8>, start: usize, other: &[u8]) -> Result<(), AllocError>
     requires { start ≤ length text.old.items }
@@ -206,8 +218,7 @@ fn put_behind(text: &mut Vec<u8>, start: usize, other: &[u8]) -> Result<(), Allo
     put_over(text, len, separator, other)
 }
 
-/// The same for every path and every base, where both are read: the prefix of a verbatim base is
-/// looked at again only where nothing but a root stood behind it.
+/// Like [`push_next`], but reads both paths.
 fn push_read(
     text: &mut Vec<u8>,
     start: usize,
@@ -225,6 +236,7 @@ fn push_read(
         → IsKnown windows known (drop start text.old.items)
         → FitsPush windows room (drop start text.old.items) other.now → IsOk result }
 {
+    // The prefix of a verbatim base is searched again only if nothing but a root followed it.
     let stays = stays_known(text.len() - start, other, known);
     let len = text.len();
     push_at(text, start, len, other, known)?;
@@ -237,8 +249,8 @@ fn push_read(
     }
 }
 
-/// Whether a path of so many bytes, of which something may be known, keeps its prefix where another
-/// is pushed onto it, and is spelled as it is read then too.
+/// Whether `known` still holds once `other` is pushed onto a path of `len` bytes. `false` leaves it
+/// open.
 fn stays_known(len: usize, other: &[u8], known: Option<usize>) -> bool
     ensures { IsTrue result → (path : List ℕ) → length path ≡ len → IsKnown windows known path
         → IsKnown windows known (push_windows path other.now) }
@@ -249,8 +261,8 @@ fn stays_known(len: usize, other: &[u8], known: Option<usize>) -> bool
     }
 }
 
-/// How many bytes the prefix takes of a text that a push spells anew as it stands, in one pass over
-/// what stands behind the prefix; none of another text.
+/// Returns the length in bytes of the prefix of `text` if that is verbatim and `text` is spelled,
+/// else `None`.
 pub fn spelled_head(text: &[u8]) -> Option<usize>
     ensures { IsSpelledHead result text.now }
 {
@@ -264,7 +276,7 @@ pub fn spelled_head(text: &[u8]) -> Option<usize>
     Some(found.length)
 }
 
-/// Whether a text with a verbatim prefix is spelled as it stands, by what stands behind that.
+/// Whether `text` is spelled. It has a verbatim prefix, and `behind` is what follows that.
 fn is_spelled_behind(text: &[u8], behind: &[u8]) -> bool
     ensures { (f : Found) → prefix_of windows text.now ≡ Some f → is_verbatim_prefix f.prefix ≡ true
         → drop f.length text.now ≡ behind.now → TellsSpelled result text.now }
@@ -285,7 +297,7 @@ fn is_spelled_behind(text: &[u8], behind: &[u8]) -> bool
     are_components(separators, names)
 }
 
-/// Whether some byte of a text separates.
+/// Whether a byte of `text` is a separator.
 #[inline(always)]
 pub fn is_separated(separators: Separators, text: &[u8]) -> bool
     ensures { result ≡ list_any (is_separator separators) text.now }
@@ -293,12 +305,12 @@ pub fn is_separated(separators: Separators, text: &[u8]) -> bool
     separators.first_in(text) != text.len()
 }
 
-/// Whether each piece between two `\` is a component. Mostly all are names, which looks at the bytes
-/// tell.
+/// Whether each segment between two `\` is a component.
 fn are_components(separators: Separators, text: &[u8]) -> bool
     ensures { result ≡ list_all (is_component separators)
         (slice_split (is_separator Separators.Backslash) text.now) }
 {
+    // Mostly all are names, which one search tells.
     if has_only_names(text, (b'\\', b'\\')) {
         return true;
     }
@@ -312,7 +324,8 @@ fn are_components(separators: Separators, text: &[u8]) -> bool
     is_component(separators, rest)
 }
 
-/// Whether a piece is a component as it stands, where others stand before it.
+/// Whether `piece`, which follows other components, is a component as it is written: it is not
+/// empty, and `.` only if the path is read verbatim.
 fn is_component(separators: Separators, piece: &[u8]) -> bool
     ensures { result ≡ is_component separators piece.now }
 {
@@ -323,9 +336,9 @@ fn is_component(separators: Separators, piece: &[u8]) -> bool
     }
 }
 
-/// Merges a path without a prefix into the base of a verbatim kind that stands in a text from one
-/// place up to another, and cuts off what stands behind that. Where memory is refused, the text is as
-/// it was.
+/// Merges `other`, which has no prefix, into the path `text[start..kept]`, which has a verbatim
+/// one, and cuts off what follows `kept`. If allocation fails, `text` is unchanged. `known` is what
+/// [`push_next`] returned for the path, or `None`; if it is wrong, the result is unspecified.
 pub fn merge_at(
     text: &mut Vec<u8>,
     start: usize,
@@ -356,8 +369,8 @@ pub fn merge_at(
     put_over(text, start, b"", &spelled)
 }
 
-/// How many bytes the prefix takes of a base that is spelled as it stands, which may be known; none of
-/// another base.
+/// Returns the length in bytes of the prefix of `base` if that is verbatim and `base` is spelled,
+/// else `None`. A `known` length that fits is taken for right.
 fn known_head(base: &[u8], known: Option<usize>) -> Option<usize>
     ensures within { IfSome result (λ head. head ≤ length base.now) }
     ensures told { IsKnown windows known base.now → IsSpelledHead result base.now }
@@ -368,9 +381,9 @@ fn known_head(base: &[u8], known: Option<usize>) -> Option<usize>
     }
 }
 
-/// Merges a path without a prefix into the base that stands in a text from one place up to another,
-/// and is spelled as it stands. All the room is found first. Where memory is refused, the text is as it
-/// was.
+/// Merges `other`, which has no prefix, into the path `text[start..kept]`, which is spelled and has
+/// a prefix of `head` bytes, and cuts off what follows `kept`. If allocation fails, `text` is
+/// unchanged.
 fn merge_in_place(
     text: &mut Vec<u8>,
     start: usize,
@@ -389,6 +402,7 @@ fn merge_in_place(
     ensures capacity { vec_capacity text.old ≤ vec_capacity text.new }
     ensures succeeds { kept + length other.now < vec_capacity text.old → IsOk result }
 {
+    // All memory is allocated first.
     let parted = start + head == kept;
     text.reserve((kept + other.len() + 1).saturating_sub(text.len()))?;
     text.truncate(kept);
@@ -396,7 +410,8 @@ fn merge_in_place(
     Ok(())
 }
 
-/// A base with a prefix, written anew with another path merged into it.
+/// Returns the spelled path of `base`, which has a prefix, with `other`, which has none, merged
+/// into it.
 fn spelled_anew(alloc: Global, base: &[u8], other: &[u8]) -> Result<Vec<u8>, AllocError>
     requires own { has_prefix (kinds (parts_of windows base.now)) ≡ true }
     requires no_prefix { has_prefix (kinds (parts_of windows other.now)) ≡ false }
@@ -414,8 +429,8 @@ fn spelled_anew(alloc: Global, base: &[u8], other: &[u8]) -> Result<Vec<u8>, All
     Ok(text)
 }
 
-/// Puts the components that stand behind a prefix behind it, and answers whether they are parted from
-/// it: a root is put there at once.
+/// Appends the components of `path` to a prefix, which is all of `text` and has `head` bytes.
+/// Returns whether they are parted from it.
 fn put_each(text: &mut Vec<u8>, head: usize, path: Cursor<'_>) -> Result<bool, AllocError>
     requires within { length text.old.items ≡ head }
     requires read { AreReadBehind (parts (items_left path)) }
@@ -436,10 +451,9 @@ fn put_each(text: &mut Vec<u8>, head: usize, path: Cursor<'_>) -> Result<bool, A
     Ok(parted)
 }
 
-/// Merges a path without a prefix into the components that stand behind one, and answers whether what
-/// stands then is parted from it. With room for the path and a separator it does not fail.
-///
-/// Most paths that are merged hold names alone, and these are put at once.
+/// Merges `other`, which has no prefix, into the components `text[head..]` after a prefix. `parted`
+/// tells whether these are parted from it; returns whether the result is. With spare capacity for
+/// `other` and one byte more it does not fail.
 fn merge_path(
     text: &mut Vec<u8>,
     head: usize,
@@ -456,6 +470,7 @@ fn merge_path(
     ensures capacity { vec_capacity text.old ≤ vec_capacity text.new }
     ensures succeeds { vec_len text.old + length other.now < vec_capacity text.old → IsOk result }
 {
+    // Most paths that are merged hold names alone, which are appended at once.
     let Some(names) = names_alone(other) else {
         return merge_each(text, head, parted, Cursor::of_windows(other));
     };
@@ -463,9 +478,8 @@ fn merge_path(
     Ok(parted)
 }
 
-/// The names that a path without a prefix comes to as it is merged, where looks at its bytes tell that
-/// it holds names alone: beside these it may have a `.` in front and a separator at its end. None says
-/// nothing.
+/// Returns the part of `path`, which has no prefix, that a merge appends, if that is names alone: a
+/// `.` in front and a separator at the end are not. `None` leaves it open.
 #[inline(always)]
 fn names_alone(path: &[u8]) -> Option<&[u8]>
     requires { has_prefix (kinds (parts_of windows path.now)) ≡ false }
@@ -485,7 +499,8 @@ fn names_alone(path: &[u8]) -> Option<&[u8]>
     Some(names)
 }
 
-/// What stands behind a `.` that a path has in front, or the path.
+/// Returns what follows a `.` and a separator at the front of `path`, or `path` if it begins
+/// otherwise.
 #[inline(always)]
 fn behind_dot(path: &[u8]) -> &[u8]
     ensures same { parts (later_body Separators.Either 0 result.now)
@@ -500,8 +515,8 @@ fn behind_dot(path: &[u8]) -> &[u8]
     }
 }
 
-/// Puts names with separators between them behind the components that stand behind a prefix, with `\`
-/// for each separator.
+/// Appends `names`, which have separators between them, to the components `text[head..]` after a
+/// prefix, with `\` for each separator.
 #[inline(always)]
 fn put_names(text: &mut Vec<u8>, head: usize, names: &[u8]) -> Result<(), AllocError>
     requires within { head ≤ length text.old.items }
@@ -520,8 +535,9 @@ fn put_names(text: &mut Vec<u8>, head: usize, names: &[u8]) -> Result<(), AllocE
     Ok(())
 }
 
-/// Merges the components of a path into those that stand behind a prefix. With room for each of them
-/// and a separator it does not fail.
+/// Merges the components of `path` into those in `text[head..]` after a prefix. `parted` tells
+/// whether these are parted from it; returns whether the result is. With spare capacity for each
+/// component and one byte more for each it does not fail.
 pub fn merge_each(
     text: &mut Vec<u8>,
     head: usize,
@@ -547,9 +563,9 @@ pub fn merge_each(
     Ok(apart)
 }
 
-/// Merges a component into those that stand behind a prefix: a root cuts these away, `.` is passed
-/// over, and `..` takes the last one where it is a name. It answers whether what stands is parted
-/// from the prefix.
+/// Merges one component into those in `text[head..]` after a prefix: a root replaces them, `.` is
+/// skipped, `..` takes the last one off if it is a name, and a name is appended. `parted` tells
+/// whether they are parted from the prefix; returns whether the result is.
 fn merge_piece(
     text: &mut Vec<u8>,
     head: usize,
@@ -585,8 +601,8 @@ fn merge_piece(
     Ok(parted)
 }
 
-/// Puts a component behind those that stand behind a prefix: `\` and the component, or the component
-/// at once where only a root stands there.
+/// Appends a component to those in `text[head..]` after a prefix: after a `\`, or without one if
+/// only a root is there.
 #[inline(always)]
 fn put_component(text: &mut Vec<u8>, head: usize, component: &[u8]) -> Result<(), AllocError>
     requires { head ≤ length text.old.items }
@@ -607,7 +623,8 @@ fn put_component(text: &mut Vec<u8>, head: usize, component: &[u8]) -> Result<()
     text.extend_from_slice(component)
 }
 
-/// How many bytes `..` leaves of what stands behind a prefix.
+/// Returns how many bytes `..` leaves of the components `text` after a prefix. `parted` tells
+/// whether they are parted from it.
 fn len_without_name(text: &[u8], parted: bool) -> usize
     ensures within { result ≤ length text.now }
     ensures left { (ps : List Part) → Stands parted ps text.now
