@@ -1,4 +1,4 @@
-//! Paths in another encoding, with and without checks, and paths made absolute.
+//! Paths converted to another encoding, with and without checks, and paths made absolute.
 
 ghost use Rattle.std.specs.Prelude.{◌<◌, ◌≡◌, ◌≤◌, ◌+◌, ◌++◌, ℕ, [], ◌∷◌, map, take, drop, length, IsTrue, IsOk, IfSome, IfOk, OnOk, OnErr, Result, Ok, Err, Some, None, true, false, if◌then◌else◌};
 ghost use Rattle.std.specs.Vec.{vec_capacity};
@@ -28,9 +28,9 @@ impl<'a, T: Encoding> Path<'a, T> {
     ghost use Rattle.typed_path.specs.declared.errors.AbsolutizeError.TheVariants.{Ambiguous};
     ghost use Rattle.typed_path.specs.changes.Push as push_spec;
 
-    /// The path in another encoding: its components pushed one by one onto the empty path. The root,
-    /// and every prefix but a drive, becomes the root of that encoding; all else is pushed as it
-    /// stands. In an encoding of the same label it is a copy.
+    /// Returns the path in the encoding `U`: its components pushed one by one onto the empty path.
+    /// The root, and every prefix but a drive, becomes the root of `U`; all else is pushed as it
+    /// is. If `U` has the label of this encoding, the result is a copy.
     ///
     /// From Windows to Unix `C:\x` is `/x`, and `C:tmp` is `C:/tmp`.
     pub fn with_encoding<U: Encoding>(self, alloc: Global) -> Result<PathBuf<U>, AllocError>
@@ -43,13 +43,14 @@ impl<'a, T: Encoding> Path<'a, T> {
         Ok(PathBuf::from_vec(text))
     }
 
-    /// The same by checked pushes, also in an encoding of the same label.
+    /// Returns the path in the encoding `U` by checked pushes, also if that has the label of this
+    /// encoding.
     ///
     /// # Errors
     ///
-    /// `Checked` by the first component that is no root, `.` or `..`, and that a checked push refuses:
-    /// from Unix to Windows `/tmp/ab:c` is refused as `InvalidFilename`. `OutOfMemory` where memory is
-    /// refused before such a component is met.
+    /// `Checked` for the first component, other than a root, `.` or `..`, that a checked push
+    /// refuses: from Unix to Windows `/tmp/ab:c` is refused with `InvalidFilename`. `OutOfMemory`
+    /// if allocation fails before such a component is met.
     pub fn with_encoding_checked<U: Encoding>(self, alloc: Global) -> Result<PathBuf<U>, PathError>
         ensures ok { IfOk result (λ p.
             converted_checked T.dialect U.dialect (path_bytes self.entry) ≡ Ok p.bytes) }
@@ -69,14 +70,14 @@ impl<'a, T: Encoding> Path<'a, T> {
         have_one_label::<T, UnixEncoding>()
     }
 
-    /// The path as on Unix, as [`Path::with_encoding`] writes it.
+    /// Returns the path as on Unix, as [`Path::with_encoding`] does.
     pub fn with_unix_encoding(self, alloc: Global) -> Result<UnixPathBuf, AllocError>
         ensures { IfOk result (λ p. p.bytes ≡ converted T.dialect unix (path_bytes self.entry)) }
     {
         self.with_encoding::<UnixEncoding>(alloc)
     }
 
-    /// The path as on Unix, refused as [`Path::with_encoding_checked`] does.
+    /// Returns the path as on Unix by checked pushes, as [`Path::with_encoding_checked`] does.
     pub fn with_unix_encoding_checked(self, alloc: Global) -> Result<UnixPathBuf, PathError>
         ensures ok { IfOk result
             (λ p. converted_checked T.dialect unix (path_bytes self.entry) ≡ Ok p.bytes) }
@@ -93,14 +94,14 @@ impl<'a, T: Encoding> Path<'a, T> {
         have_one_label::<T, WindowsEncoding>()
     }
 
-    /// The path as on Windows, as [`Path::with_encoding`] writes it.
+    /// Returns the path as on Windows, as [`Path::with_encoding`] does.
     pub fn with_windows_encoding(self, alloc: Global) -> Result<WindowsPathBuf, AllocError>
         ensures { IfOk result (λ p. p.bytes ≡ converted T.dialect windows (path_bytes self.entry)) }
     {
         self.with_encoding::<WindowsEncoding>(alloc)
     }
 
-    /// The path as on Windows, refused as [`Path::with_encoding_checked`] does.
+    /// Returns the path as on Windows by checked pushes, as [`Path::with_encoding_checked`] does.
     pub fn with_windows_encoding_checked(self, alloc: Global) -> Result<WindowsPathBuf, PathError>
         ensures ok { IfOk result
             (λ p. converted_checked T.dialect windows (path_bytes self.entry) ≡ Ok p.bytes) }
@@ -110,14 +111,14 @@ impl<'a, T: Encoding> Path<'a, T> {
         self.with_encoding_checked::<WindowsEncoding>(alloc)
     }
 
-    /// Whether the encoding is that of the machine, which [`PlatformEncoding`] alone is.
+    /// Whether the encoding is [`PlatformEncoding`].
     pub fn has_platform_encoding(self) -> bool
         ensures { result ≡ T.IS_PLATFORM }
     {
         T::IS_PLATFORM
     }
 
-    /// The path as on the machine, as [`Path::with_encoding`] writes it.
+    /// Returns the path as on the machine, as [`Path::with_encoding`] does.
     pub fn with_platform_encoding(self, alloc: Global) -> Result<PlatformPathBuf, AllocError>
         ensures { IfOk result (λ p. p.bytes
             ≡ converted T.dialect platform (path_bytes self.entry)) }
@@ -125,7 +126,8 @@ impl<'a, T: Encoding> Path<'a, T> {
         self.with_encoding::<PlatformEncoding>(alloc)
     }
 
-    /// The path as on the machine, refused as [`Path::with_encoding_checked`] does.
+    /// Returns the path as on the machine by checked pushes, as [`Path::with_encoding_checked`]
+    /// does.
     pub fn with_platform_encoding_checked(self, alloc: Global) -> Result<PlatformPathBuf, PathError>
         ensures ok { IfOk result
             (λ p. converted_checked T.dialect platform (path_bytes self.entry) ≡ Ok p.bytes) }
@@ -135,16 +137,16 @@ impl<'a, T: Encoding> Path<'a, T> {
         self.with_encoding_checked::<PlatformEncoding>(alloc)
     }
 
-    /// The normal text of the path where it is absolute, and else of the directory in this path's
-    /// encoding with the path pushed onto it.
+    /// Returns the normal path of this path if it is absolute, else that of `directory`, written in
+    /// this path's encoding, with this path pushed onto it.
     ///
     /// Of the Unix path `a/../b` it is `/home/u/b`, from `/home/u`.
     ///
     /// # Errors
     ///
-    /// `Ambiguous` where the path is absolute neither alone nor behind the directory, as `C:a` on
-    /// Windows behind any, or a path behind a directory that is relative. `OutOfMemory` where memory
-    /// is refused.
+    /// `Ambiguous` if the path is absolute neither alone nor after the directory, as `C:a` on
+    /// Windows after any, or a path after a directory that is relative. `OutOfMemory` if allocation
+    /// fails.
     pub fn absolutize(
         self,
         alloc: Global,
@@ -172,17 +174,15 @@ impl<'a, T: Encoding> Path<'a, T> {
     }
 }
 
-/// Whether two encodings have one label.
+/// Whether two encodings have the same label.
 pub fn have_one_label<T: Encoding, U: Encoding>() -> bool
     ensures { result ≡ same_dialect T.dialect U.dialect }
 {
     T::label() == U::label()
 }
 
-/// Puts a path behind a text, written in another encoding. Where memory is refused, the text is as
-/// it was.
-///
-/// Where there is no room for all of it, its components are pushed one by one: they ask for less memory at once.
+/// Appends `path`, converted from the encoding `T` to `U` as [`Path::with_encoding`] does, to
+/// `text`. If allocation fails, `text` is unchanged.
 pub fn put_converted<T: Encoding, U: Encoding>(
     text: &mut Vec<u8>,
     path: Span<'_>,
@@ -197,6 +197,8 @@ pub fn put_converted<T: Encoding, U: Encoding>(
         return text.extend_from_slice(path.as_bytes());
     }
     if let Some(turned) = turned::<T, U>(path.as_bytes()) {
+        // Without room for all of it, components are pushed one by one, which asks for less memory
+        // at once.
         if has_room(text, turned) {
             return put_turned(text, turned, Separators::Either, separator_of::<U>());
         }
@@ -206,7 +208,7 @@ pub fn put_converted<T: Encoding, U: Encoding>(
     cut_back(text, len, done)
 }
 
-/// What separates where a path is put together.
+/// Returns the separator that a path of the encoding is put together with: `/` or `\`.
 #[inline(always)]
 fn separator_of<U: Encoding>() -> u8
     ensures { result ≡ separator_of U.dialect }
@@ -218,14 +220,13 @@ fn separator_of<U: Encoding>() -> u8
     }
 }
 
-/// The text that a path is written as in another encoding once its separators are turned, where its
-/// bytes tell that no more of it changes. None says nothing.
-///
-/// So most paths are copied at once, and no component is pushed.
+/// Returns the bytes that `path` becomes in the encoding `U` once each `/` and `\` in them is
+/// replaced by the separator of `U`. `None` leaves it open.
 #[inline(always)]
 fn turned<T: Encoding, U: Encoding>(path: &[u8]) -> Option<&[u8]>
     ensures { IfSome result (λ text. CrossesTurned T.dialect U.dialect path.now text.now) }
 {
+    // So most paths are copied at once, and no component is pushed.
     if path.len() < SHORT || begins_with_long_name(path) {
         return None;
     }
@@ -241,18 +242,19 @@ fn turned<T: Encoding, U: Encoding>(path: &[u8]) -> Option<&[u8]>
     None
 }
 
-/// Whether a text begins with a drive of ASCII and no root behind it, so that what stands there is read. It only chooses
-/// between two ways to one answer.
+/// Whether `path` begins with a drive of ASCII that no root follows, so that what follows has to be
+/// read. Only picks the cheaper of two ways to one result.
 #[inline(always)]
 fn stands_behind_drive(path: &[u8]) -> bool {
     matches!(path, [letter, b':', third, ..]
         if letter.is_ascii_alphabetic() && !matches!(*third, b'/' | b'\\'))
 }
 
-/// How many bytes a path has at least that is looked at before it crosses.
+/// The length in bytes from which on a path is searched before it is converted.
 const SHORT: usize = 3;
 
-/// The same of a path of Unix on Windows, in which no byte separates there alone, and none marks a drive.
+/// Returns [`turned`] of a Unix path without `\`, which would separate on Windows, and without `:`,
+/// which may mark a drive. `None` leaves it open.
 fn turned_for_windows(path: &[u8]) -> Option<&[u8]>
     ensures { IfSome result (λ text. CrossesTurned unix windows path.now text.now) }
 {
@@ -263,8 +265,8 @@ fn turned_for_windows(path: &[u8]) -> Option<&[u8]>
     None
 }
 
-/// The same of a path of Windows on Unix, which has no prefix, or a root behind it: pushed onto what the
-/// prefix is written as, that replaces it. A prefix alone, but for a drive, is written as the root.
+/// Returns [`turned`] of a Windows path without a prefix; or with one and a root after it, which
+/// replaces what was pushed for the prefix; or of a prefix alone. `None` leaves it open.
 #[inline(always)]
 fn turned_for_unix(path: &[u8]) -> Option<&[u8]>
     ensures { IfSome result (λ text. CrossesTurned windows unix path.now text.now) }
@@ -287,7 +289,8 @@ fn turned_for_unix(path: &[u8]) -> Option<&[u8]>
     None
 }
 
-/// What a prefix alone is written as on Unix: a drive as it stands, and every other one as the root.
+/// Returns what a prefix alone is written as on Unix: a drive as it is, any other prefix as the
+/// root.
 #[inline(always)]
 fn prefix_alone<'a>(path: &'a [u8], prefix: WindowsPrefix<'a>) -> &'a [u8]
     ensures { result.now ≡ (if is_disk (prefix_view prefix.entry) then path.now else slash ∷ []) }
@@ -298,8 +301,8 @@ fn prefix_alone<'a>(path: &'a [u8], prefix: WindowsPrefix<'a>) -> &'a [u8]
     }
 }
 
-/// Whether a root stands at the front of what is behind the prefix of a path of Windows, and no name
-/// there holds a `/`.
+/// Whether `behind`, which follows the prefix of the Windows path `path`, begins with a root and no
+/// name in it holds a `/`.
 #[inline(always)]
 fn is_rooted(path: &[u8], behind: &[u8]) -> bool
     ensures rooted { IsTrue result → begins_with_separator behind.now ≡ true }
@@ -310,8 +313,8 @@ fn is_rooted(path: &[u8], behind: &[u8]) -> bool
         && (!Separators::of_windows(path).is_verbatim() || is_free_of((b'/', b'/'), behind))
 }
 
-/// Pushes the components of a path, as they are written in another encoding, onto the empty path at
-/// the end of a text.
+/// Pushes the components of `path`, as they are written in the encoding `U`, onto the empty path at
+/// the end of `text`, which has `start` bytes. If allocation fails, some may stay pushed.
 fn push_each<T: Encoding, U: Encoding>(
     text: &mut Vec<u8>,
     start: usize,
@@ -338,10 +341,9 @@ fn push_each<T: Encoding, U: Encoding>(
     Ok(())
 }
 
-/// Pushes the components of a path onto the empty path at the end of a text, as they are written in
-/// another encoding, by checked pushes, and ends at the first that is refused.
-///
-/// Where looks at the bytes of the path tell that none is, it is written as without checks.
+/// Pushes the components of `path`, as they are written in the encoding `U`, onto the empty path at
+/// the end of `text`, which has `start` bytes, by checked pushes. Ends at the first that is
+/// refused; what was pushed before stays then, and if allocation fails.
 pub fn convert_checked<T: Encoding, U: Encoding>(
     text: &mut Vec<u8>,
     start: usize,
@@ -355,27 +357,29 @@ pub fn convert_checked<T: Encoding, U: Encoding>(
     ensures kept { take start text.new.items ≡ take start text.old.items }
     ensures long { start ≤ length text.new.items }
 {
+    // If searches tell that none is refused, the path is converted without checks.
     if is_unrefused::<T, U>(path.as_bytes()) {
         return Ok(put_converted::<T, U>(text, path)?);
     }
     push_each_checked::<T, U>(text, start, path)
 }
 
-/// Whether looks at the bytes of a path tell that it is of the other system, and that none of its components is
-/// refused as it crosses. False says nothing.
+/// Whether searches tell that `path` is of the other dialect, and that none of its components is
+/// refused on `U`. `false` leaves it open.
 #[inline(always)]
 fn is_unrefused<T: Encoding, U: Encoding>(path: &[u8]) -> bool
     ensures { IsTrue result → (same_dialect T.dialect U.dialect ≡ false)
         × IsUnrefused T.dialect U.dialect path.now }
 {
     if have_one_label::<T, UnixEncoding>() && have_one_label::<U, WindowsEncoding>() {
-        // A path of a few bytes is read at once, and so is one whose second byte is `:`.
+        // Short paths are read, and so are those whose second byte is `:`.
         return SHORTEST_LOOKED_AT <= path.len()
             && !has_second_colon(path)
             && !has_forbidden_or_device(path);
     }
     if have_one_label::<T, WindowsEncoding>() && have_one_label::<U, UnixEncoding>() {
-        // A name there may have all bytes but NUL and `/`, which separates where none is read verbatim.
+        // On Unix a name may have all bytes but NUL and `/`, which separates unless the path is
+        // read verbatim.
         return SHORT <= path.len()
             && !Separators::of_windows(path).is_verbatim()
             && is_free_of((b'\0', b'\0'), path);
@@ -383,11 +387,11 @@ fn is_unrefused<T: Encoding, U: Encoding>(path: &[u8]) -> bool
     false
 }
 
-/// How many bytes a path of Unix has at least that is looked at as a whole before it crosses to Windows by checked
-/// pushes.
+/// The length in bytes from which on a Unix path is searched as a whole before it is converted to
+/// Windows by checked pushes.
 const SHORTEST_LOOKED_AT: usize = 8;
 
-/// The same as without looks, component by component.
+/// Like [`convert_checked`], component by component.
 fn push_each_checked<T: Encoding, U: Encoding>(
     text: &mut Vec<u8>,
     start: usize,
@@ -413,9 +417,9 @@ fn push_each_checked<T: Encoding, U: Encoding>(
     Ok(())
 }
 
-/// Pushes a component onto the path at the end of a text, which is one of another encoding, and of
-/// which something may be known, by a checked push, and answers what is known of what stands there
-/// then.
+/// Pushes `piece` by a checked push, as it is written in the encoding `U`, onto the path
+/// `text[start..]`, of which `known` is known, and returns what is known of the result, as
+/// [`Encoding::push_next`] does.
 #[inline(always)]
 fn push_piece_checked<U: Encoding>(
     text: &mut Vec<u8>,
@@ -441,12 +445,13 @@ fn push_piece_checked<U: Encoding>(
     Ok(U::push_next(text, start, piece.crossed(U::root_text()), known)?)
 }
 
-/// Judges a component that is to be pushed onto a path of another encoding. A root, `.` or `..` is
-/// never refused, and most others are names that the encoding allows, which need no reading.
+/// Checks a component that is to be pushed onto a path of the encoding `U`. A root, `.` and `..`
+/// are never refused.
 #[inline(always)]
 fn check_component<U: Encoding>(piece: Piece<'_>) -> Result<(), CheckedPathError>
     ensures { error_of result ≡ crossing_fault U.dialect (part_of piece.entry) }
 {
+    // Most others are names that the encoding allows, which need no reading.
     if matches!(piece.kind, PieceKind::CurDir | PieceKind::ParentDir)
         || piece.is_root()
         || is_name::<U>(piece.text)
@@ -457,7 +462,7 @@ fn check_component<U: Encoding>(piece: Piece<'_>) -> Result<(), CheckedPathError
     }
 }
 
-/// Whether a text is a name that an encoding allows, and neither empty, `.` nor `..`.
+/// Whether `text` is a name that the encoding allows, and not empty, `.` or `..`.
 #[inline(always)]
 fn is_name<U: Encoding>(text: &[u8]) -> bool
     ensures { IsTrue result → fault U.dialect text.now ≡ None }
