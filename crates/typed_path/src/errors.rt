@@ -5,26 +5,26 @@ ghost use Rattle.std.specs.Prelude.{◌≡◌};
 use std::alloc::{AllocError, AllocFailed};
 use thiserror::Error;
 
-/// The base is no beginning of the path.
+/// The path does not begin with the base.
 #[derive(Clone, Copy, Debug, PartialEq, Eq, Hash, Error)]
 #[error("prefix not found")]
 pub struct StripPrefixError;
 
-/// No reading of the path may stand where three numbers say.
+/// The three numbers cannot be those of a reading of the path.
 #[derive(Clone, Copy, Debug, PartialEq, Eq, Hash, Error)]
 #[error("no reading of the path stands there")]
 pub struct ReadingError;
 
-/// Why a component or a prefix could not be read: one of four texts.
+/// Why bytes are not one component or one prefix: one of four messages.
 pub type ParseError = &'static str;
 
-/// Why a checked push or a checked conversion was refused.
+/// Why a checked push or a checked conversion is refused.
 #[derive(Clone, Copy, Debug, PartialEq, Eq, Hash, Error)]
 pub enum CheckedPathError {
     /// A name that the target does not allow.
     #[error("path contains invalid filename")]
     InvalidFilename,
-    /// A parent that no earlier name of the argument makes up for.
+    /// A `..` that no earlier name of the argument makes up for.
     #[error("path attempts to escape original path")]
     PathTraversalAttack,
     /// A prefix in the argument.
@@ -35,13 +35,13 @@ pub enum CheckedPathError {
     UnexpectedRoot,
 }
 
-/// Why a checked push, or a checked conversion, was not done.
+/// Why a checked push or a checked conversion failed.
 #[derive(Clone, Copy, Debug, PartialEq, Eq, Hash, Error)]
 pub enum PathError {
     /// The path that was to be pushed is refused.
     #[error(transparent)]
     Checked(CheckedPathError),
-    /// Memory was refused.
+    /// An allocation failed.
     #[error("out of memory")]
     OutOfMemory,
 }
@@ -76,7 +76,7 @@ impl<T: Drop> From<AllocFailed<T>> for PathError {
     }
 }
 
-/// Why a path is no portable one: why some system does not take a component of it as it is written.
+/// Why a path is not portable: some system does not take a component of it as it is written.
 #[derive(Clone, Copy, Debug, PartialEq, Eq, Hash, Error)]
 pub enum PortableError {
     /// A prefix.
@@ -99,16 +99,16 @@ pub enum PortableError {
     NotText,
 }
 
-/// Why a portable join was not done.
+/// Why a portable join failed.
 #[derive(Clone, Copy, Debug, PartialEq, Eq, Hash, Error)]
 pub enum JoinError {
     /// The path that was to be joined is not portable.
     #[error(transparent)]
     Portable(PortableError),
-    /// It is, and is refused as a checked join refuses it.
+    /// The path is portable, and is refused as a checked join refuses it.
     #[error(transparent)]
     Checked(CheckedPathError),
-    /// Memory was refused.
+    /// An allocation failed.
     #[error("out of memory")]
     OutOfMemory,
 }
@@ -156,13 +156,13 @@ impl<T: Drop> From<AllocFailed<T>> for JoinError {
     }
 }
 
-/// Why a path was not made absolute.
+/// Why a path could not be made absolute.
 #[derive(Clone, Copy, Debug, PartialEq, Eq, Hash, Error)]
 pub enum AbsolutizeError {
-    /// The path is not absolute behind the directory either, so it says no one place.
+    /// The path is not absolute after the directory either, so it says no one place.
     #[error("path is ambiguous")]
     Ambiguous,
-    /// Memory was refused.
+    /// An allocation failed.
     #[error("out of memory")]
     OutOfMemory,
 }
@@ -187,7 +187,7 @@ impl<T: Drop> From<AllocFailed<T>> for AbsolutizeError {
     }
 }
 
-/// Why lines were not answered to the end of the input.
+/// Why not all lines of the input were answered.
 #[derive(Clone, Copy, Debug, PartialEq, Eq, Hash, Error)]
 pub enum LineError {
     /// The reader failed.
@@ -196,7 +196,7 @@ pub enum LineError {
     /// The writer failed, or took no byte.
     #[error("writing failed")]
     Write,
-    /// Memory was refused.
+    /// An allocation failed.
     #[error("out of memory")]
     OutOfMemory,
 }
@@ -221,16 +221,16 @@ impl<T: Drop> From<AllocFailed<T>> for LineError {
     }
 }
 
-/// Why a path was not made a JSON value, or not made of one.
+/// Why a path could not be made into a JSON value, or be made of one.
 #[derive(Clone, Copy, Debug, PartialEq, Eq, Hash, Error)]
 pub enum ValueError {
-    /// The bytes of the path are no text.
+    /// The bytes of the path are not UTF-8.
     #[error("path is not UTF-8")]
     NotUtf8,
-    /// The value is no JSON text.
+    /// The value is not a JSON string.
     #[error("value is not a text")]
     NotText,
-    /// Memory was refused.
+    /// An allocation failed.
     #[error("out of memory")]
     OutOfMemory,
 }

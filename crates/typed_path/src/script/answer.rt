@@ -1,5 +1,5 @@
-//! A dialogue of lines between a source and a sink: the streams, the run, and what it keeps between
-//! reads.
+//! A dialogue of lines between a source and a sink: the two streams, the loop over reads, and what
+//! is kept between them.
 
 ghost use Rattle.std.specs.Prelude.{◌≡◌, ◌<◌, [], length, true, OnOk, OnErr, IfErr, IsErrOf, ◌∷◌, ◌≤◌, ℕ, List, Bool, Option, take, IfOk, ◌-◌, ◌^◌, false, None, if◌then◌else◌, ◌++◌};
 ghost use Rattle.std.specs.Io.KnownBytes.{Appends, Consumes, IsAtEnd};
@@ -12,15 +12,15 @@ use std::alloc::{AllocError, Global};
 use std::io::{Read, Write};
 use thiserror::Error;
 
-/// A reader or a writer failed.
+/// A source or a sink failed.
 #[derive(Clone, Copy, Debug, PartialEq, Eq, Error)]
 #[error("a stream failed")]
 pub struct Failed;
 
-/// Where bytes come from.
+/// A stream that bytes are read from.
 ///
-/// It tells the bytes that are left where it can, whether it has failed, and a bound on how many
-/// reads may still give bytes.
+/// Its ghost members tell the bytes that are left, if they are known; whether it has failed; and a
+/// bound on how many reads may still give bytes.
 pub trait Source {
     ghost remaining: { Self → Option (List ℕ) };
 
@@ -28,8 +28,8 @@ pub trait Source {
 
     ghost bound: { Self → ℕ };
 
-    /// Reads into the buffer, and answers how many bytes came. Into a buffer that is not empty, none
-    /// come only at the end. A failure moves no byte.
+    /// Reads into the front of `buffer`, and returns how many bytes came. 0 means the end, unless
+    /// `buffer` is empty. A failure moves no byte.
     fn read(&mut self, buffer: &mut [u8]) -> Result<usize, Failed>
         ensures count { IfOk result (λ n. n ≤ length buffer.new) }
         ensures bytes { IfOk result
@@ -42,16 +42,17 @@ pub trait Source {
         ensures kept { OnErr result (KeepsIfTold (remaining self.old) (remaining self.new)) };
 }
 
-/// Where bytes go to.
+/// A stream that bytes are written to.
 ///
-/// It tells the bytes that were written where it can, and whether it has failed.
+/// Its ghost members tell the bytes that were written, if they are known, and whether it has
+/// failed.
 pub trait Sink {
     ghost contents: { Self → Option (List ℕ) };
 
     ghost has_failed: { Self → Bool };
 
-    /// Writes bytes from the front of the slice, and answers how many: at least one of a slice that
-    /// is not empty. A failure moves no byte.
+    /// Writes bytes from the front of `bytes`, and returns how many: at least one, unless `bytes`
+    /// is empty. A failure moves no byte.
     fn write(&mut self, bytes: &[u8]) -> Result<usize, Failed>
         ensures count { IfOk result (λ n. n ≤ length bytes.now) }
         ensures some { IfOk result (λ n. 0 < length bytes.now → 0 < n) }
@@ -65,13 +66,14 @@ pub trait Sink {
 /// Reads lines of commands to the end of the input, and writes a reply to each.
 ///
 /// A line is complete once its line feed, or the end of the input, was read; every complete line is
-/// answered before the next read. The line `join<TAB>unix<TAB>/a<TAB>b` is answered `ok<TAB>/a/b`.
-/// Nothing is flushed.
+/// answered before the next read. The reply to the line `join<TAB>unix<TAB>/a<TAB>b` is
+/// `ok<TAB>/a/b`. Nothing is flushed.
 ///
 /// # Errors
 ///
-/// `Read` or `Write` where the reader or the writer failed. `OutOfMemory` before a byte of the reply
-/// to the line at which memory was refused; replies that were not written yet are given up then.
+/// `Read` or `Write` if the reader or the writer failed. `OutOfMemory` if allocation fails: no byte
+/// of the reply to the line at hand is written then, and replies that were not written yet are
+/// dropped.
 pub fn answer_lines<R: Source, W: Sink>(
     alloc: Global,
     reader: &mut R,
@@ -102,10 +104,10 @@ pub fn answer_lines<R: Source, W: Sink>(
     converse(&mut dialogue, reader, writer, chunk.as_mut_slice())
 }
 
-/// How many bytes are asked for in one read.
+/// How many bytes one read asks for at most.
 const CHUNK: usize = 65_536;
 
-/// Reads into a buffer again and again, and answers the lines that come.
+/// Reads into `buffer` until a read gives nothing, and answers the lines that come.
 fn converse<R: Source, W: Sink>(
     dialogue: &mut Dialogue,
     reader: &mut R,
@@ -134,7 +136,7 @@ fn converse<R: Source, W: Sink>(
     send(dialogue, writer)
 }
 
-/// Writes the replies of a dialogue, and takes them away.
+/// Writes the replies of a dialogue, and removes them from it.
 fn send<W: Sink>(dialogue: &mut Dialogue, writer: &mut W) -> Result<(), LineError>
     ensures written { OnOk result
         (Appends (W.contents writer.old) (W.contents writer.new) dialogue.old.replies.items) }
@@ -151,7 +153,7 @@ fn send<W: Sink>(dialogue: &mut Dialogue, writer: &mut W) -> Result<(), LineErro
     Ok(())
 }
 
-/// Writes all the bytes.
+/// Writes all bytes, by as many writes as it takes.
 fn write_all<W: Sink>(writer: &mut W, bytes: &[u8]) -> Result<(), Failed>
     ensures written { OnOk result
         (Appends (W.contents writer.old) (W.contents writer.new) bytes.now) }
@@ -168,18 +170,18 @@ fn write_all<W: Sink>(writer: &mut W, bytes: &[u8]) -> Result<(), Failed>
     Ok(())
 }
 
-/// The replies to the lines that were completed, and the line that was begun.
+/// The replies that were not written yet, and the line that is not complete yet.
 #[derive(Drop)]
 pub struct Dialogue {
-    /// What came behind the last line feed.
+    /// What came after the last line feed.
     pub line: Vec<u8>,
-    /// The replies that were not taken away yet.
+    /// The replies that were not written yet.
     pub replies: Vec<u8>,
     ghost is_open: { split_lines line.items ≡ line.items ∷ [] },
 }
 
 impl Dialogue {
-    /// A dialogue with no open line and no replies.
+    /// Returns a dialogue with no open line and no replies.
     pub fn new(alloc: Global) -> Dialogue
         ensures line { result.line.items ≡ [] }
         ensures replies { result.replies.items ≡ [] }
@@ -190,7 +192,8 @@ impl Dialogue {
         }
     }
 
-    /// Takes in more input, and answers the lines that it completes.
+    /// Takes in more input, and answers each line that it completes. If allocation fails, the state
+    /// of the dialogue is unspecified.
     pub fn take_in(&mut self, input: &[u8]) -> Result<(), AllocError>
         ensures replies { OnOk result (self.new.replies.items ≡ self.old.replies.items
             ++ replies_to (complete_lines (self.old.line.items ++ input.now))) }
@@ -211,7 +214,8 @@ impl Dialogue {
         self.line.extend_from_slice(rest)
     }
 
-    /// Answers the line that a piece with no line feed completes.
+    /// Answers the line that `piece`, which has no line feed, completes. If allocation fails, the
+    /// state of the dialogue is unspecified.
     fn complete(&mut self, piece: &[u8]) -> Result<(), AllocError>
         requires { split_lines piece.now ≡ piece.now ∷ [] }
         ensures replies { OnOk result (self.new.replies.items
@@ -225,7 +229,8 @@ impl Dialogue {
         if answered { Ok(()) } else { Err(AllocError) }
     }
 
-    /// Answers the line that the end of the input completes, where there is one.
+    /// Answers the open line, if it is not empty, once the input is at its end. If allocation
+    /// fails, the state of the dialogue is unspecified.
     pub fn finish(&mut self) -> Result<(), AllocError>
         ensures { OnOk result (self.new.replies.items
             ≡ self.old.replies.items ++ replies_to (all_lines (self.old.line.items ∷ []))) }
@@ -237,9 +242,9 @@ impl Dialogue {
     }
 }
 
-/// A source over a reader of std. It tells no bytes once it has failed.
+/// A source over a reader of std. Once it has failed, the bytes that are left are not known.
 ///
-/// It grants 2^64 - 1 reads; one past them is a failure.
+/// It grants 2^64 - 1 reads; one more is a failure.
 #[derive(Drop)]
 pub struct StdSource<R> {
     reader: R,
@@ -248,7 +253,7 @@ pub struct StdSource<R> {
 }
 
 impl<R: Read> StdSource<R> {
-    /// A source over the reader, which has not failed.
+    /// Returns a source over the reader, which has not failed.
     pub fn new(reader: R) -> StdSource<R>
         ensures remaining { ⟦<StdSource<R> as Source>⟧.remaining result ≡ R.remaining reader }
         ensures unfailed { ⟦<StdSource<R> as Source>⟧.has_failed result ≡ false }
@@ -269,7 +274,7 @@ impl<R: Read> Source for StdSource<R> {
 
     ghost bound = { λ s. s.granted };
 
-    /// Takes one of the reads that are granted, where one is left.
+    /// Uses up one of the granted reads. Fails if none is left, or if the reader fails.
     fn read(&mut self, buffer: &mut [u8]) -> Result<usize, Failed>
         ensures count { IfOk result (λ n. n ≤ length buffer.new) }
         ensures bytes { IfOk result (λ n. Consumes (⟦<StdSource<R> as Source>⟧.remaining self.old)
@@ -301,9 +306,9 @@ impl<R: Read> Source for StdSource<R> {
     }
 }
 
-/// A sink over a writer of std. It tells no bytes once it has failed.
+/// A sink over a writer of std. Once it has failed, the bytes that were written are not known.
 ///
-/// A write of no bytes is a failure where there are some to write.
+/// A write that takes no byte is a failure, unless there is none to write.
 #[derive(Drop)]
 pub struct StdSink<W> {
     writer: W,
@@ -311,7 +316,7 @@ pub struct StdSink<W> {
 }
 
 impl<W: Write> StdSink<W> {
-    /// A sink over the writer, which has not failed.
+    /// Returns a sink over the writer, which has not failed.
     pub fn new(writer: W) -> StdSink<W>
         ensures contents { ⟦<StdSink<W> as Sink>⟧.contents result ≡ W.contents writer }
         ensures unfailed { ⟦<StdSink<W> as Sink>⟧.has_failed result ≡ false }
@@ -339,8 +344,8 @@ impl<W: Write> Sink for StdSink<W> {
     }
 }
 
-/// The exit status of a run: 0 where all was answered, 1 where the reader or the writer failed, 2
-/// where memory was refused.
+/// Returns the exit status of a run: 0 if all was answered, 1 if the reader or the writer failed, 2
+/// if allocation failed.
 pub fn exit_status(outcome: &Result<(), LineError>) -> u8
     ensures { result ≡ status_of outcome.now }
 {

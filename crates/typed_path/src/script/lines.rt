@@ -1,4 +1,4 @@
-//! A line of commands, taken off the front of an input, and its reply.
+//! One line of commands at the front of an input, and its reply.
 
 ghost use Rattle.std.specs.Prelude.{◌≡◌, [], ◌∷◌, ◌++◌, Some, take, length, OnOk, option_map, ◌≢◌, ℕ, List, codes, MatchOption, IfOk, IfSome, IfNone};
 ghost use Rattle.typed_path.specs.components.{parts_of};
@@ -19,8 +19,8 @@ use crate::unix::UnixEncoding;
 use crate::windows::WindowsEncoding;
 use std::alloc::AllocError;
 
-/// Puts the reply to the first line of an input behind others, and tells what stands behind the
-/// line. Where the input has no line feed, nothing is put.
+/// Appends the reply to the first line of `input` to `replies`, and returns what follows the line.
+/// `None`, and no reply, if `input` has no line feed.
 pub fn answer_line<'a>(
     input: &'a [u8],
     replies: &mut Vec<u8>,
@@ -43,7 +43,8 @@ pub fn answer_line<'a>(
     answer_bad_line(rest, replies)
 }
 
-/// Answers which encoding a path looks like.
+/// Answers the command `derive`: which encoding the path at the front of `input` looks like.
+/// Returns as [`answer_line`] does.
 fn answer_derive<'a>(input: &'a [u8], replies: &mut Vec<u8>) -> Result<Option<&'a [u8]>, AllocError>
     ensures { IfOk result (λ left.
         AnswersFirst (λ texts. reply_line (bare_reply (codes "derive" ∷ fields_of texts)))
@@ -59,9 +60,8 @@ fn answer_derive<'a>(input: &'a [u8], replies: &mut Vec<u8>) -> Result<Option<&'
     }
 }
 
-/// Answers a command by the texts of its line, with a tab between.
-///
-/// It is built into its caller, which would hand an answer on through memory.
+/// Answers a command by the paths at the front of `input`, with a tab between. Returns as
+/// [`answer_line`] does.
 #[inline(always)]
 fn answer_texts<'a, T: Encoding>(
     command: Command,
@@ -72,6 +72,7 @@ fn answer_texts<'a, T: Encoding>(
         (texts_reply T.dialect (command_name command) (fields_of texts)))
         input.now (option_map (λ t. t.now) left) replies.old.items replies.new.items) }
 {
+    // Inlined: a call would hand the result on through memory.
     match cut_field(input) {
         None => Ok(None),
         Some((path, FieldEnd::LineFeed, left)) => {
@@ -87,7 +88,8 @@ fn answer_texts<'a, T: Encoding>(
     }
 }
 
-/// Answers a command by the first of its texts, and by what stands behind the tab.
+/// Answers a command by `first` and by the path at the front of `input`. Returns as [`answer_line`]
+/// does.
 fn answer_pair<'a, T: Encoding>(
     command: Command,
     first: &[u8],
@@ -108,7 +110,8 @@ fn answer_pair<'a, T: Encoding>(
     }
 }
 
-/// Answers a line that is no command.
+/// Answers a line that is no command, of which `input` holds the rest. Returns as [`answer_line`]
+/// does.
 fn answer_bad_line<'a>(
     input: &'a [u8],
     replies: &mut Vec<u8>,
@@ -123,7 +126,7 @@ fn answer_bad_line<'a>(
     Ok(Some(left))
 }
 
-/// What a line that names an encoding asks for.
+/// A command whose line names an encoding.
 #[derive(Clone, Copy)]
 pub enum Command {
     Normalize,
@@ -134,7 +137,8 @@ pub enum Command {
     ConvertChecked,
 }
 
-/// The command that an input begins with, and what stands behind its tab.
+/// Returns the command at the front of `input`, and what follows its tab; `None` if `input` begins
+/// otherwise.
 fn command_of(input: &[u8]) -> Option<(Command, &[u8])>
     ensures { MatchOption result
         ((c : Command) (rest : List ℕ) → input.now ≢ command_name c ++ tab ∷ rest)
@@ -161,7 +165,7 @@ fn command_of(input: &[u8]) -> Option<(Command, &[u8])>
     None
 }
 
-/// What stands behind a field.
+/// The byte that ends a field.
 #[derive(Clone, Copy)]
 pub enum FieldEnd {
     /// A tab: another field follows.
@@ -170,7 +174,8 @@ pub enum FieldEnd {
     LineFeed,
 }
 
-/// The field at the front of an input, what it ends with, and what stands behind that.
+/// Returns the field at the front of `input`, which byte ends it, and what follows that byte;
+/// `None` if `input` has neither a tab nor a line feed.
 #[inline(always)]
 fn cut_field(input: &[u8]) -> Option<(Span<'_>, FieldEnd, &[u8])>
     ensures none { IfNone result (split_lines input.now ≡ input.now ∷ []) }
@@ -195,7 +200,7 @@ fn cut_field(input: &[u8]) -> Option<(Span<'_>, FieldEnd, &[u8])>
     Some((field, end, &input[at + 1..]))
 }
 
-/// Puts the reply that names the encoding that a path looks like behind others.
+/// Appends to `replies` the reply that names the encoding that `path` looks like.
 pub fn put_derived(path: &[u8], replies: &mut Vec<u8>) -> Result<(), AllocError>
     ensures { OnOk result
         (replies.new.items ≡ replies.old.items ++ reply_line (derived_reply path.now)) }
@@ -206,7 +211,7 @@ pub fn put_derived(path: &[u8], replies: &mut Vec<u8>) -> Result<(), AllocError>
     }
 }
 
-/// Puts the reply to a command on a path behind others.
+/// Appends to `replies` the reply to a command with one path.
 pub fn put_path_reply<T: Encoding>(
     command: Command,
     path: Span<'_>,
@@ -229,8 +234,8 @@ pub fn put_path_reply<T: Encoding>(
     }
 }
 
-/// Puts the reply to a command on two texts behind others: a base and a path, or the name of an
-/// encoding and a path.
+/// Appends to `replies` the reply to a command with two fields: a base and a path, or the name of
+/// an encoding and a path.
 pub fn put_pair_reply<T: Encoding>(
     command: Command,
     first: &[u8],
@@ -256,7 +261,7 @@ pub fn put_pair_reply<T: Encoding>(
     }
 }
 
-/// Puts the reply to a conversion into an encoding behind others.
+/// Appends to `replies` the reply to a command that converts `path` to the encoding `U`.
 fn put_conversion<T: Encoding, U: Encoding>(
     command: Command,
     path: Span<'_>,
@@ -279,7 +284,7 @@ fn put_conversion<T: Encoding, U: Encoding>(
     }
 }
 
-/// Puts the reply that is a path in another encoding, or the name of its refusal, behind others.
+/// Appends to `replies` the path in the encoding `U` by checked pushes, or the name of its refusal.
 fn put_converted_checked<T: Encoding, U: Encoding>(
     path: Span<'_>,
     replies: &mut Vec<u8>,
@@ -303,7 +308,7 @@ fn put_converted_checked<T: Encoding, U: Encoding>(
     }
 }
 
-/// Puts the reply that is a path pushed onto a base behind others.
+/// Appends to `replies` the reply that is `base` with `path` pushed onto it.
 fn put_joined<T: Encoding>(
     base: &[u8],
     path: &[u8],
@@ -320,7 +325,7 @@ fn put_joined<T: Encoding>(
     Ok(())
 }
 
-/// Puts the reply that is the name of a refusal behind others.
+/// Appends to `replies` the reply that is the name of a refusal.
 fn put_refusal(refusal: CheckedPathError, replies: &mut Vec<u8>) -> Result<(), AllocError>
     ensures { OnOk result
         (replies.new.items ≡ replies.old.items ++ reply_line (joined_reply [] (Some refusal))) }
@@ -337,21 +342,21 @@ fn put_refusal(refusal: CheckedPathError, replies: &mut Vec<u8>) -> Result<(), A
     }
 }
 
-/// Puts the reply to a line that is no command behind others.
+/// Appends to `replies` the reply to a line that is no command.
 pub fn put_bad_line(replies: &mut Vec<u8>) -> Result<(), AllocError>
     ensures { OnOk result (replies.new.items ≡ replies.old.items ++ reply_line bad_line) }
 {
     replies.extend_from_slice(b"err\tBadLine\n")
 }
 
-/// Puts the reply that shows the components of a path behind others: the prefix first, so that the
-/// loop over the other components holds none.
+/// Appends to `replies` the reply that lists the components of `path`.
 fn put_components<T: Encoding>(path: Span<'_>, replies: &mut Vec<u8>) -> Result<(), AllocError>
     ensures { OnOk result (replies.new.items ≡ replies.old.items
         ++ reply_line (components_reply (parts_of T.dialect (span_bytes path.entry)))) }
 {
     let cursor = T::cursor(path.as_bytes()).within(path);
     replies.extend_from_slice(b"ok")?;
+    // The prefix comes first, so that the loop over the other components has no room for one.
     match cursor.prefix_piece() {
         Some(piece) => put_component(piece, replies)?,
         None => {}
@@ -366,8 +371,8 @@ fn put_components<T: Encoding>(path: Span<'_>, replies: &mut Vec<u8>) -> Result<
     Ok(())
 }
 
-/// Puts a tab, and the field that shows a component behind the prefix, by what stood there before it
-/// was taken: a name is what that begins with.
+/// Appends to `replies` a tab and the field of a component after the prefix. `left` begins with the
+/// component if that is a name, and may go on after it.
 #[inline(always)]
 fn put_step(step: Step<'_>, left: &[u8], replies: &mut Vec<u8>) -> Result<(), AllocError>
     requires { step.kind ≡ StepKind.Normal → take (length step.text.now) left.now ≡ step.text.now }
@@ -381,7 +386,7 @@ fn put_step(step: Step<'_>, left: &[u8], replies: &mut Vec<u8>) -> Result<(), Al
     }
 }
 
-/// Puts a tab, and the field that shows a component.
+/// Appends to `replies` a tab and the field of a component.
 #[inline(always)]
 fn put_component(piece: Piece<'_>, replies: &mut Vec<u8>) -> Result<(), AllocError>
     ensures { OnOk result
@@ -391,13 +396,14 @@ fn put_component(piece: Piece<'_>, replies: &mut Vec<u8>) -> Result<(), AllocErr
     replies.extend_from_slice(piece.text)
 }
 
-/// Puts a tab, what a field calls a component, and an equals sign. Each is put as a constant, which
-/// is a store where a slice that is chosen first would be a call.
+/// Appends to `replies` a tab, the word for the kind of a component, and `=`.
 #[inline(always)]
 fn put_label(piece: Piece<'_>, replies: &mut Vec<u8>) -> Result<(), AllocError>
     ensures { OnOk result (replies.new.items ≡ replies.old.items
         ++ tab ∷ kind_name (part_of piece.entry).kind ++ equals_sign ∷ []) }
 {
+    // Each label is a constant, which is copied by a store; a slice that is chosen first would be a
+    // call.
     match piece.kind {
         PieceKind::Prefix(prefix) => match prefix {
             WindowsPrefix::Verbatim(_) => replies.extend_from_slice(b"\tVerbatim="),

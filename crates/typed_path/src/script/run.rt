@@ -1,4 +1,4 @@
-//! Lists of operations on an owned path, and lists of requests to a reading.
+//! Lists of operations on an owned path, and lists of requests to an iterator over components.
 
 ghost use Rattle.std.specs.Prelude.{◌≡◌, ◌≤◌, ◌+◌, ◌++◌, map, length, OnOk, OnErr, IfOk, IsOk, option_map};
 ghost use Rattle.std.specs.Vec.{vec_len, vec_capacity};
@@ -34,14 +34,14 @@ pub enum PathOp<'a> {
     Extend(&'a [&'a [u8]]),
 }
 
-/// What an operation answers.
+/// What an operation returns.
 #[derive(Clone, Copy, Debug, PartialEq, Eq, Hash)]
 pub enum Reply {
-    /// The operation has no other answer.
+    /// The operation returns nothing else.
     Done,
-    /// What `pop` and `set_extension` answer.
+    /// What `pop` and `set_extension` return.
     Flag(bool),
-    /// What a checked push was refused for.
+    /// Why a checked push is refused.
     Refused(CheckedPathError),
 }
 
@@ -52,9 +52,9 @@ pub enum Reply {
 ///
 /// # Errors
 ///
-/// `AllocError` where memory is refused. Room for a reply is found before its operation, so the
-/// replies are then those of the operations done, and the path is the one behind them, with the
-/// pushes that an `Extend` had done.
+/// `AllocError` if allocation fails. Memory for a reply is allocated before its operation, so the
+/// replies are then those of the operations done, and the path is as these left it, with the pushes
+/// that an `Extend` had done.
 pub fn run_ops<T: Encoding>(
     path: &mut PathBuf<T>,
     operations: &[PathOp<'_>],
@@ -79,7 +79,8 @@ pub fn run_ops<T: Encoding>(
     Ok(())
 }
 
-/// Does one operation on a path. Where memory is refused, only an `Extend` may have pushed some.
+/// Does one operation on a path, and returns its reply. If allocation fails, nothing was done but
+/// for some pushes of an `Extend`.
 fn apply<T: Encoding>(path: &mut PathBuf<T>, operation: PathOp<'_>) -> Result<Reply, AllocError>
     ensures path { OnOk result
         (path.new.bytes ≡ (step T.dialect path.old.bytes (operation_of operation.entry)).0) }
@@ -109,7 +110,7 @@ fn apply<T: Encoding>(path: &mut PathBuf<T>, operation: PathOp<'_>) -> Result<Re
     Ok(Reply::Done)
 }
 
-/// Pushes paths of these bytes one by one. Where memory is refused, those before it stay pushed.
+/// Pushes the paths of these bytes one by one. If allocation fails, those before stay pushed.
 fn push_each<T: Encoding>(path: &mut PathBuf<T>, others: &[&[u8]]) -> Result<(), AllocError>
     ensures ok { OnOk result (path.new.bytes
         ≡ push_spec.push_all T.dialect path.old.bytes (map (λ b. b.now) others.now)) }
@@ -126,7 +127,7 @@ fn push_each<T: Encoding>(path: &mut PathBuf<T>, others: &[&[u8]]) -> Result<(),
     Ok(())
 }
 
-/// From which end of a path a component is asked for.
+/// The end of a path at which a component is asked for.
 #[derive(Clone, Copy, Debug, PartialEq, Eq, PartialOrd, Ord, Hash)]
 pub enum End {
     /// The first component that is left.
@@ -135,13 +136,13 @@ pub enum End {
     Back,
 }
 
-/// Takes one component for each end that is named, and appends the answers: none once all are taken.
+/// Takes one component for each of `ends`, and appends it to `answers`: `None` once all are taken.
 ///
 /// Of the Unix path `/a/b` the ends `Back` and `Front` give `b` and the root.
 ///
 /// # Errors
 ///
-/// `AllocError` where memory is refused. All room is found first, so nothing has changed then.
+/// `AllocError` if allocation fails. All memory is allocated first, so nothing has changed then.
 pub fn read_ends<'a, T: Encoding>(
     components: &mut Components<'a, T>,
     ends: &[End],
