@@ -197,8 +197,7 @@ pub fn put_converted<T: Encoding, U: Encoding>(
         return text.extend_from_slice(path.as_bytes());
     }
     if let Some(turned) = turned::<T, U>(path.as_bytes()) {
-        // Without room for all of it, components are pushed one by one, which asks for less memory
-        // at once.
+        // Without room for all of it components are pushed, which asks for less memory at once.
         if has_room(text, turned) {
             return put_turned(text, turned, Separators::Either, separator_of::<U>());
         }
@@ -378,8 +377,7 @@ fn is_unrefused<T: Encoding, U: Encoding>(path: &[u8]) -> bool
             && !has_forbidden_or_device(path);
     }
     if have_one_label::<T, WindowsEncoding>() && have_one_label::<U, UnixEncoding>() {
-        // On Unix a name may have all bytes but NUL and `/`, which separates unless the path is
-        // read verbatim.
+        // Unix forbids NUL and `/` alone in names; `/` separates unless the path is read verbatim.
         return SHORT <= path.len()
             && !Separators::of_windows(path).is_verbatim()
             && is_free_of((b'\0', b'\0'), path);

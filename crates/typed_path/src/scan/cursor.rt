@@ -11,7 +11,8 @@ use crate::scan::separators::Separators;
 use crate::scan::step::{Piece, PieceKind, Step, back_step, depth_behind, front_step, trim_blanks};
 use crate::scan::unread::{PlacedPiece, Unread, begins_clean};
 
-/// What is left of a path: a range of its body, and the prefix until that is taken.
+/// What is left of a path: a range of its body, which follows the prefix, and the prefix until that
+/// is taken.
 #[derive(Clone, Copy, Debug)]
 pub struct Cursor<'a> {
     text: &'a [u8],

@@ -1,5 +1,8 @@
 //! Bytes split at a byte or a separator, stripped of a beginning or a base, and compared from their
 //! first difference on.
+//!
+//! A body is what a path has after its prefix. Two bodies share the bytes before their first
+//! difference, and the separators among these.
 
 ghost use Rattle.std.specs.Prelude.{◌≡◌, ◌≢◌, ◌≤◌, ◌<◌, ◌+◌, ◌==◌, ◌⊎◌, List, ℕ, [], ◌∷◌, ◌++◌, take, length, MatchOption, IfSome, true, false, drop, IsTrue};
 ghost use Rattle.std.specs.List.{slice_split, before_first, starts_with, IsAfterLastMatch};
@@ -178,8 +181,8 @@ fn bodies_behind<'a>(
 }
 
 /// Returns the rests of two bodies from the first component after their last shared separator. The
-/// rests compare as the bodies do, and one begins with the components of the other if its body
-/// does. `None` if no separator is shared. `shared` is their [`first_difference`].
+/// rests compare as the bodies do, and one begins with the components of the other exactly if its
+/// body does. `None` if no separator is shared. `shared` is their [`first_difference`].
 #[inline(always)]
 pub fn texts_behind<'a>(
     text: &'a [u8],
@@ -358,8 +361,9 @@ fn order_of_longer(text: &[u8], beginning: &[u8], separators: Separators) -> Opt
     Some(Ordering::Greater)
 }
 
-/// Compares two bodies of which one begins with the bytes of the other, unless a segment spans the
-/// end of that. `None` leaves it open. `shared` is their [`first_difference`].
+/// Compares two bodies of which one begins with the bytes of the other. `None` leaves it open:
+/// neither does, the shorter is empty, or a segment spans its end. `shared` is their
+/// [`first_difference`].
 #[inline(always)]
 pub fn order_of_beginning(
     text: &[u8],
@@ -408,7 +412,7 @@ pub fn rests_behind_shared<'a>(
     Some((&text[start..], &other[start..]))
 }
 
-/// Returns the length in bytes of the front of `text` that holds the components that both begin
+/// Returns the length in bytes of the front of `text` with the components that both bodies begin
 /// with, if one begins with the bytes of the other or they first differ within names. `None` leaves
 /// it open.
 #[inline(always)]
@@ -483,7 +487,7 @@ fn part_at_detours(text: &[u8], other: &[u8], shared: usize, separators: Separat
     ensures { IsTrue result → starts_with bytes_eq (texts (parts (body separators 0 text.now)))
         (texts (parts (body separators 0 other.now))) ≡ false }
 {
-    // The last shared separator is searched for only if a dot or one more separator is at the
+    // No search for the last shared separator unless a dot or one more separator is at the
     // difference.
     let is_worth_a_look = matches!(&text[..shared], [.., b'.'])
         || match (&text[shared..], &other[shared..]) {

@@ -98,8 +98,8 @@ fn last_by_one(text: &[u8], from: usize, to: usize, pair: (u8, u8)) -> usize
     at
 }
 
-/// Returns `at` plus the index of the lowest set bit of `marks`, or `at + N` if none is set.
-/// `marks` is the mask of the block at `at`.
+/// Returns `at` plus the index of the lowest set bit of `marks`, the mask of the block at `at`, or
+/// `at + N` if no bit is set.
 #[inline(always)]
 pub fn first_marked<const N: usize>(marks: u64, at: usize) -> usize
     requires in_range { at + N < 2 ^ 64 }
@@ -480,8 +480,7 @@ fn forbidden_at<const N: usize>(text: &[u8], at: usize, pair: (u8, u8)) -> u64
 }
 
 /// The forbidden bytes, each at the index of its low four bits. The 16 entries stand twice, once
-/// for each half of a block. An entry with no forbidden byte has other low bits, so that it equals
-/// no byte.
+/// for each half of a block. Other entries hold a byte with other low bits, which matches nothing.
 const FORBIDDEN: [u8; 32] = [
     b'\0', 0, b'"', 0, 0, 0, 0, 0, 0, 0, b':', 0, b'<', 0, b'>', b'?', b'\0', 0, b'"', 0, 0, 0, 0,
     0, 0, 0, b':', 0, b'<', 0, b'>', b'?',
@@ -592,7 +591,8 @@ fn is_forbidden(byte: u8) -> bool
         | (byte == 0)
 }
 
-/// Whether a byte of `text` is forbidden, which is NUL or one of `:?*"><|`, or in `pair`.
+/// Whether a byte of `text` is in `pair` or forbidden, which means that it is NUL or one of
+/// `:?*"><|`.
 #[inline(always)]
 pub fn has_forbidden(text: &[u8], pair: (u8, u8)) -> bool
     ensures { result ≡ list_any (is_forbidden_or pair) text.now }

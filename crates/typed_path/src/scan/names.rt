@@ -13,7 +13,7 @@ use crate::scan::lanes::{first_marked, is_one_of, lowest, marks_at, marks_of};
 use crate::scan::separators::Separators;
 
 /// Whether each segment of `text` is a name: not empty, `.` or `..`. `pair` holds the separators.
-/// `false` leaves it open: a name that begins with `..` is not told from `..`.
+/// `false` leaves it open: a segment that begins with `..` is not taken for a name.
 #[inline(always)]
 pub fn has_only_names(text: &[u8], pair: (u8, u8)) -> bool
     ensures { IsTrue result
@@ -23,8 +23,8 @@ pub fn has_only_names(text: &[u8], pair: (u8, u8)) -> bool
 }
 
 /// Returns how many bytes at the front are names, each with a separator after it; `None` if every
-/// segment of `text` is a name. `pair` holds the separators. Stops at a segment that begins with
-/// `..`, even if it is a name, as `..a` is.
+/// segment of `text` is a name. `pair` holds the separators. A segment that begins with `..` is not
+/// taken for a name, even if it is one, as `..a` is.
 #[inline(always)]
 pub fn leading_names(text: &[u8], pair: (u8, u8)) -> Option<usize>
     ensures { TellsNames pair text.now result }
@@ -60,7 +60,7 @@ pub fn leading_short_names(text: &[u8], pair: (u8, u8)) -> Option<usize>
     if begins_no_name(pair, *first, *second) {
         return Some(0);
     }
-    // Few or long names are put one by one, which costs less than a look for those that follow.
+    // Few or long names cost less one by one than a search for those that follow.
     let ends = marks_at::<32>(text, 0, pair);
     let seconds = ends & ends.wrapping_sub(1);
     let thirds = seconds & seconds.wrapping_sub(1);
@@ -79,7 +79,7 @@ pub fn leading_short_names(text: &[u8], pair: (u8, u8)) -> Option<usize>
 }
 
 /// Like [`leading_names`], for two bytes or more that begin with a name. No separator in
-/// `text[..from]` comes before a segment that [`begins_no_name`] tells of.
+/// `text[..from]` comes before a segment that may not be a name.
 #[inline(always)]
 fn names_behind(text: &[u8], from: usize, pair: (u8, u8)) -> Option<usize>
     requires size { from + 2 ≤ length text.now }
@@ -102,9 +102,9 @@ fn names_behind(text: &[u8], from: usize, pair: (u8, u8)) -> Option<usize>
     None
 }
 
-/// Returns the index in `text[..to]` of the first separator before a segment that may be no name:
-/// it is empty, `.`, or begins with `..`. Returns `to` if there is none; in `text[..from]` there is
-/// none.
+/// Returns the index in `text[..to]` of the first separator before a segment that may not be a
+/// name: it is empty, `.`, or begins with `..`. Returns `to` if there is none; in `text[..from]`
+/// there is none.
 #[inline(always)]
 fn first_no_name(text: &[u8], from: usize, to: usize, pair: (u8, u8)) -> usize
     requires room { to + 2 ≤ length text.now }
@@ -132,8 +132,8 @@ fn first_no_name(text: &[u8], from: usize, to: usize, pair: (u8, u8)) -> usize
     first_no_name_by_one(text, to, pair)
 }
 
-/// Returns the index in `text[at..at + N]` of the first separator before a segment that may be no
-/// name, or `at + N`. Reads two bytes past the block.
+/// Returns the index in `text[at..at + N]` of the first separator before a segment that may not be
+/// a name, or `at + N`. Reads two bytes past the block.
 #[inline(always)]
 fn first_no_name_in_block<const N: usize>(text: &[u8], at: usize, pair: (u8, u8)) -> usize
     requires lanes { (0 < N) × (N ≤ 64) }
@@ -143,8 +143,8 @@ fn first_no_name_in_block<const N: usize>(text: &[u8], at: usize, pair: (u8, u8)
     first_marked::<N>(no_names_at::<N>(text, at, pair), at)
 }
 
-/// Returns the index in `text[..to]` of the first separator before a segment that may be no name,
-/// or `to`, by two blocks of N bytes. `to` is in `N..=2 * N`.
+/// Returns the index in `text[..to]` of the first separator before a segment that may not be a
+/// name, or `to`, by two blocks of N bytes. `to` is in `N..=2 * N`.
 #[inline(always)]
 fn first_no_name_in_two<const N: usize>(text: &[u8], to: usize, pair: (u8, u8)) -> usize
     requires lanes { (0 < N) × (N ≤ 64) }
@@ -165,8 +165,8 @@ fn first_no_name_in_two<const N: usize>(text: &[u8], to: usize, pair: (u8, u8)) 
     first_marked::<N>(last, to - N)
 }
 
-/// Returns the index in `text[..to]` of the first separator before a segment that may be no name,
-/// or `to`, byte by byte.
+/// Returns the index in `text[..to]` of the first separator before a segment that may not be a
+/// name, or `to`, byte by byte.
 #[inline(always)]
 fn first_no_name_by_one(text: &[u8], to: usize, pair: (u8, u8)) -> usize
     requires { to + 2 ≤ length text.now }
@@ -181,7 +181,7 @@ fn first_no_name_by_one(text: &[u8], to: usize, pair: (u8, u8)) -> usize
     at
 }
 
-/// Returns the mask of the separators in `text[at..at + N]` before segments that may be no names.
+/// Returns the mask of the separators in `text[at..at + N]` before segments that may not be names.
 /// Reads two bytes past the block.
 #[inline(always)]
 fn no_names_at<const N: usize>(text: &[u8], at: usize, pair: (u8, u8)) -> u64
@@ -194,7 +194,7 @@ fn no_names_at<const N: usize>(text: &[u8], at: usize, pair: (u8, u8)) -> u64
     marks_at::<N>(text, at, pair) & (marks_at::<N>(text, at + 1, pair) | dots)
 }
 
-/// Returns the mask of the separators in `text[at..at + 32]` before segments that may be no names,
+/// Returns the mask of the separators in `text[at..at + 32]` before segments that may not be names,
 /// without reading past the block: bit 30 may be missing, and bit 31 is. `ends` is the mask of all
 /// separators in the block.
 #[inline(always)]
@@ -210,7 +210,7 @@ fn no_names_among(text: &[u8], at: usize, ends: u64, pair: (u8, u8)) -> u64
     ends & ((ends >> 1) | ((dots >> 1) & ((ends | dots) >> 2)))
 }
 
-/// Whether a segment that begins with `first` and `second` may be no name: it is empty, `.`, or
+/// Whether a segment that begins with `first` and `second` may not be a name: it is empty, `.`, or
 /// begins with `..`.
 #[inline(always)]
 fn begins_no_name(pair: (u8, u8), first: u8, second: u8) -> bool

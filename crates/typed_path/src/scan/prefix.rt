@@ -8,10 +8,10 @@ ghost use Rattle.typed_path.specs.views.PieceViews.{found_of};
 
 use crate::scan::separators::Separators;
 
-/// The prefix of a Windows path, which comes before its root.
+/// The prefix of a Windows path, which may precede its root.
 ///
-/// Names are slices of the path; a drive letter is in ASCII upper case. Kinds are ordered as they
-/// are listed here, and prefixes of one kind by their names or letters.
+/// Names are slices of the path; a drive letter is in ASCII upper case. Prefixes are ordered by
+/// their kinds, as these are listed, and then by their names or letters.
 #[derive(Clone, Copy, Debug, PartialEq, Eq, PartialOrd, Ord, Hash)]
 pub enum WindowsPrefix<'a> {
     /// `\\?\name`
@@ -291,8 +291,8 @@ pub fn parted_drive(text: &[u8]) -> Option<(Option<u8>, &[u8])>
     }
 }
 
-/// Whether each checked join onto `base`, a Windows path, has the prefix of `base`, or none if it
-/// has none. `false` leaves it open: `//a/` keeps its prefix too.
+/// Whether `base`, a Windows path, is known to keep its prefix: if `true`, each checked join onto
+/// it returns a path with the same prefix, or with none if it has none. `false` leaves it open.
 pub fn keeps_prefix(base: &[u8]) -> bool
     ensures { result ≡ keeps_prefix windows base.now }
 {

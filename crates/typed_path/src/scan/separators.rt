@@ -42,7 +42,7 @@ impl Separators {
         }
     }
 
-    /// Returns the separators as a pair, in which a single one is both bytes. So all sets are
+    /// Returns the separators as a pair of bytes. A single one is both, so that all sets are
     /// searched for alike.
     #[inline(always)]
     pub fn pair(self) -> (u8, u8)
@@ -96,7 +96,7 @@ impl Separators {
     }
 
     /// Whether `name` is valid in a path with these separators: all its bytes are allowed in names,
-    /// and it is no Windows device.
+    /// and on Windows it stands for no device.
     #[inline]
     pub fn is_valid_name(self, name: &[u8]) -> bool
         ensures { result ≡ is_valid_name (dialect_of self) name.now }
@@ -135,7 +135,7 @@ impl Separators {
         !self.has_stray(bytes)
     }
 
-    /// Whether one of `bytes` is not allowed in names and is no separator.
+    /// Whether one of `bytes` is not allowed in names and not a separator.
     pub fn has_stray(self, bytes: &[u8]) -> bool
         ensures { result ≡ list_any (is_stray self) bytes.now }
     {
@@ -148,7 +148,7 @@ impl Separators {
         }
     }
 
-    /// Whether one of `bytes` is not allowed in Windows names and is no separator of this path.
+    /// Whether one of `bytes` is not allowed in Windows names and not a separator of this path.
     pub fn strays_on_windows(self, bytes: &[u8]) -> bool
         ensures { result ≡ list_any (strays_on_windows self) bytes.now }
     {
@@ -350,8 +350,8 @@ fn look_for(dots: bool, strays: Option<(u8, u8)>, text: &[u8]) -> Look
     ensures whole { IsTrue dots → result ≡ Look.Offence (length text.now)
         → has_dot_pair text.now ≡ false }
 {
-    // The masks of a block tell after which separators a device may begin, and only the few
-    // segments there are read.
+    // Masks tell after which separators of a block a device may begin; only these segments are
+    // read.
     let len = text.len();
     if len < ONE_BLOCK {
         return look_by_segments(dots, strays, text);
@@ -455,7 +455,7 @@ const FIRSTS: [u8; 32] = [
     0, 0, 0, 0, b'L', 0, b'N', 0,
 ];
 
-/// The second letters of device names, in the order of [`FIRSTS`].
+/// The second letters of device names, laid out like [`FIRSTS`].
 const SECONDS: [u8; 32] = [
     b'P', 0, b'R', 0, 0, b'U', 0, 0, 0, 0, 0, 0, 0, 0, 0, b'O', b'P', 0, b'R', 0, 0, b'U', 0, 0, 0,
     0, 0, 0, 0, 0, 0, b'O',

@@ -18,7 +18,8 @@ pub struct Unread {
     pub from: usize,
     /// The index at which it ends.
     pub to: usize,
-    /// What was taken from the front: nothing (0), at most the prefix (1), or a component behind it (2).
+    /// What was taken from the front: nothing (0), at most the prefix (1), or a component after the
+    /// prefix (2).
     pub stage: u32,
 }
 

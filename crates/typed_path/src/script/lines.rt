@@ -402,8 +402,7 @@ fn put_label(piece: Piece<'_>, replies: &mut Vec<u8>) -> Result<(), AllocError>
     ensures { OnOk result (replies.new.items ≡ replies.old.items
         ++ tab ∷ kind_name (part_of piece.entry).kind ++ equals_sign ∷ []) }
 {
-    // Each label is a constant, which is copied by a store; a slice that is chosen first would be a
-    // call.
+    // A constant label is copied by a store, where a slice that is chosen first would be a call.
     match piece.kind {
         PieceKind::Prefix(prefix) => match prefix {
             WindowsPrefix::Verbatim(_) => replies.extend_from_slice(b"\tVerbatim="),

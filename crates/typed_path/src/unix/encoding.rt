@@ -236,8 +236,8 @@ fn put_rows(text: &mut Vec<u8>, path: &[u8]) -> Result<(), AllocError>
     ensures capacity { vec_capacity text.old ≤ vec_capacity text.new }
     ensures succeeds { vec_len text.old + length path.now < vec_capacity text.old → IsOk result }
 {
-    // One pass: a name is appended with a `/`, `..` takes the last one off again, and at the end
-    // the last `/` goes.
+    // One pass: names are appended with a `/`, `..` takes the last one off, and at the end the `/`
+    // goes.
     let (root, rest) = split_root(path);
     text.extend_from_slice(root)?;
     let left = behind_parents(rest);
@@ -257,8 +257,8 @@ fn split_root(path: &[u8]) -> (&[u8], &[u8])
     }
 }
 
-/// Returns the rest of a path after its root without the `..` at its front, which have no name to
-/// cancel.
+/// Returns `text`, the rest of a path after its root, without the `..` at its front: these have no
+/// name to cancel.
 #[inline(always)]
 fn behind_parents(text: &[u8]) -> &[u8]
     ensures same { names_left text.now ≡ names_left result.now }

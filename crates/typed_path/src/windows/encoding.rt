@@ -191,8 +191,7 @@ impl Encoding for WindowsEncoding {
 fn begin_apart(path: &[u8], other: &[u8]) -> bool
     ensures { IsTrue result → path_starts_with windows path.now other.now ≡ false }
 {
-    // A component begins with the byte at its index, but a root is written `\` for either
-    // separator.
+    // A component begins with the byte at its index, but a root is `\` for either separator.
     let ([own, ..], [wanted, ..]) = (path, other) else {
         return false;
     };
@@ -312,7 +311,7 @@ fn order_behind_marked(path: &[u8], other: &[u8]) -> Option<Ordering>
         return Some(order_of_prefixed(whole(path)).reverse());
     };
     let shared = first_difference(path, other);
-    // One prefix is read for both if both begin with it.
+    // If both begin with one prefix, only that of `path` is read.
     if begins_with_prefix(other, path, shared, found) {
         let end = found.length;
         let separators = Separators::of_windows(path);
@@ -399,8 +398,8 @@ fn judged_by_looks(path: &[u8]) -> Option<Result<(), CheckedPathError>>
     {
         return None;
     }
-    // An offence is the answer unless a `..` comes before it. So two dots are searched for: in a
-    // short path as a whole, and in a long one up to the end of the name in which the block of the
+    // An offence is the answer unless a `..` comes before it. Two dots are searched for in a short
+    // path as a whole, and in a long one up to the end of the name in which the block of the
     // offence ends.
     match look_at_path(path) {
         Look::Clean => Some(Ok(())),

@@ -13,11 +13,11 @@ use crate::scan::{Found, WindowsPrefix, find_prefix};
 pub struct PrefixNames {
     /// The index at which the first one begins.
     pub first: usize,
-    /// The index at which it ends.
+    /// The index at which the first one ends.
     pub first_end: usize,
     /// The index at which the second one begins.
     pub second: usize,
-    /// The index at which it ends.
+    /// The index at which the second one ends.
     pub second_end: usize,
 }
 

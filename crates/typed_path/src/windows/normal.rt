@@ -49,8 +49,7 @@ fn put_resolved(text: &mut Vec<u8>, start: usize, path: &[u8]) -> Result<(), All
     ensures succeeds { HasPlainNames windows path.now
         → vec_len text.old + length path.now < vec_capacity text.old → IsOk result }
 {
-    // Names are appended one after the other, or, if that may be read otherwise, each component is
-    // pushed.
+    // Names are appended as they are, or each component is pushed if that may read otherwise.
     if let Some(head) = row_head(path) {
         if put_rows(text, head)? {
             return Ok(());
@@ -71,8 +70,8 @@ struct RowHead<'a> {
     pub rest: &'a [u8],
 }
 
-/// Returns the head of `path` if the names after it may be appended one after the other, else
-/// `None`.
+/// Returns the head of `path` if the names after it may be appended as they are. `None` if they
+/// have to be pushed.
 #[inline(always)]
 fn row_head(path: &[u8]) -> Option<RowHead<'_>>
     ensures rows { IfSome result (λ head.
@@ -92,8 +91,8 @@ fn row_head(path: &[u8]) -> Option<RowHead<'_>>
     }
 }
 
-/// Whether names may be appended one after the other after the prefix `found`, which is not `C:`.
-/// It is not the verbatim prefix named `UNC`; a root or nothing follows it; and if `path` is read
+/// Whether the names after the prefix `found`, which is not `C:`, may be appended as they are: it
+/// is not the verbatim prefix named `UNC`; a root or nothing follows it; and if `path` is read
 /// verbatim, no name holds a `/`.
 #[inline(always)]
 fn takes_rows(path: &[u8], found: Found<'_>, head: RowHead<'_>) -> bool
@@ -132,8 +131,8 @@ fn head_behind(path: &[u8], end: usize) -> RowHead<'_>
 }
 
 /// Appends `head` and then the names of its rest, with `\` between. Returns whether that is the
-/// normal path: `false` if a name begins with a drive, which a push would read otherwise, and what
-/// was appended is unspecified.
+/// normal path: `false` if a name begins with a drive, which a push would read otherwise; what was
+/// appended is unspecified then.
 #[inline(always)]
 fn put_rows(text: &mut Vec<u8>, head: RowHead<'_>) -> Result<bool, AllocError>
     ensures ok { IfOk result (λ done. IsTrue done → (path : List ℕ)
@@ -174,7 +173,7 @@ fn put_segments(text: &mut Vec<u8>, len: usize, path: &[u8]) -> Result<bool, All
     ensures told { HaveNoDisks (slice_split (is_separator Separators.Either) path.now)
         → IfOk result (λ plain. IsTrue plain) }
 {
-    // Without room for all of `path` its segments are put one by one, which asks for less memory at
+    // Without room for all of `path` segments are put one by one, which asks for less memory at
     // once.
     if ONE_BLOCK_AND_TWO <= path.len()
         && !has_long_front(path, Separators::Either)

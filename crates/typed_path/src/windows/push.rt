@@ -166,9 +166,8 @@ pub fn push_next(
         → IsKnown windows known (drop start text.old.items)
         → FitsPush windows room (drop start text.old.items) other.now → IsOk result }
 {
-    // Most paths that are pushed so are names, and most bases neither have nor get a verbatim
-    // prefix, as the first bytes of both tell. Such a path is appended at once, and neither is
-    // read.
+    // Most pushed paths are names, and most bases neither have nor get a verbatim prefix, as the
+    // first bytes tell: then the path is appended at once, and neither is read.
     if known.is_none() && is_plain(other) && stays_unmarked(&text[start..]) {
         put_behind(text, start, other)?;
         return Ok(None);
@@ -189,7 +188,7 @@ fn is_plain(path: &[u8]) -> bool
 }
 
 /// Whether the first bytes tell that `path` has no verbatim prefix, and gets none if a path that
-/// [`is_plain`] is appended, as `/` and two separators do from `?\x`. `false` leaves it open.
+/// [`is_plain`] is appended, as `/` and `\\` would from `?\x`. `false` leaves it open.
 #[inline(always)]
 fn stays_unmarked(path: &[u8]) -> bool
     ensures { IsTrue result → has_any_verbatim_prefix (kinds (parts_of windows path.now)) ≡ false }
@@ -478,8 +477,8 @@ fn merge_path(
     Ok(parted)
 }
 
-/// Returns the part of `path`, which has no prefix, that a merge appends, if that is names alone: a
-/// `.` in front and a separator at the end are not. `None` leaves it open.
+/// Returns the names that a merge of `path`, which has no prefix, appends, if `path` holds names
+/// alone but for a `.` in front and a separator at its end. `None` leaves it open.
 #[inline(always)]
 fn names_alone(path: &[u8]) -> Option<&[u8]>
     requires { has_prefix (kinds (parts_of windows path.now)) ≡ false }
