@@ -487,8 +487,7 @@ fn part_at_detours(text: &[u8], other: &[u8], shared: usize, separators: Separat
     ensures { IsTrue result → starts_with bytes_eq (texts (parts (body separators 0 text.now)))
         (texts (parts (body separators 0 other.now))) ≡ false }
 {
-    // No search for the last shared separator unless a dot or one more separator is at the
-    // difference.
+    // Only a dot or one more separator at the difference is worth a search for the last shared one.
     let is_worth_a_look = matches!(&text[..shared], [.., b'.'])
         || match (&text[shared..], &other[shared..]) {
             ([b'.', b'.', ..], _) | (_, [b'.', ..]) => true,

@@ -350,8 +350,7 @@ fn look_for(dots: bool, strays: Option<(u8, u8)>, text: &[u8]) -> Look
     ensures whole { IsTrue dots → result ≡ Look.Offence (length text.now)
         → has_dot_pair text.now ≡ false }
 {
-    // Masks tell after which separators of a block a device may begin; only these segments are
-    // read.
+    // Masks tell after which separators a device may begin; only these segments are read.
     let len = text.len();
     if len < ONE_BLOCK {
         return look_by_segments(dots, strays, text);

@@ -236,8 +236,7 @@ fn put_rows(text: &mut Vec<u8>, path: &[u8]) -> Result<(), AllocError>
     ensures capacity { vec_capacity text.old ≤ vec_capacity text.new }
     ensures succeeds { vec_len text.old + length path.now < vec_capacity text.old → IsOk result }
 {
-    // One pass: names are appended with a `/`, `..` takes the last one off, and at the end the `/`
-    // goes.
+    // One pass: names are appended with a `/`, `..` takes the last one off, and the last `/` goes.
     let (root, rest) = split_root(path);
     text.extend_from_slice(root)?;
     let left = behind_parents(rest);

@@ -173,8 +173,7 @@ fn put_segments(text: &mut Vec<u8>, len: usize, path: &[u8]) -> Result<bool, All
     ensures told { HaveNoDisks (slice_split (is_separator Separators.Either) path.now)
         → IfOk result (λ plain. IsTrue plain) }
 {
-    // Without room for all of `path` segments are put one by one, which asks for less memory at
-    // once.
+    // Without room for all of `path`, segments are put one by one: that asks for less at once.
     if ONE_BLOCK_AND_TWO <= path.len()
         && !has_long_front(path, Separators::Either)
         && has_room(text, path)
