@@ -136,7 +136,8 @@ fn converse<R: Source, W: Sink>(
     send(dialogue, writer)
 }
 
-/// Writes the replies of a dialogue, and removes them from it.
+/// Writes the replies of a dialogue, and removes them from it. If the writer fails, some of their
+/// first bytes may have been written.
 fn send<W: Sink>(dialogue: &mut Dialogue, writer: &mut W) -> Result<(), LineError>
     ensures written { OnOk result
         (Appends (W.contents writer.old) (W.contents writer.new) dialogue.old.replies.items) }
@@ -153,7 +154,8 @@ fn send<W: Sink>(dialogue: &mut Dialogue, writer: &mut W) -> Result<(), LineErro
     Ok(())
 }
 
-/// Writes all bytes, by as many writes as it takes.
+/// Writes all bytes, by as many writes as it takes. If one fails, some of the first bytes may have
+/// been written.
 fn write_all<W: Sink>(writer: &mut W, bytes: &[u8]) -> Result<(), Failed>
     ensures written { OnOk result
         (Appends (W.contents writer.old) (W.contents writer.new) bytes.now) }

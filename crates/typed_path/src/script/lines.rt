@@ -284,7 +284,8 @@ fn put_conversion<T: Encoding, U: Encoding>(
     }
 }
 
-/// Appends to `replies` the path in the encoding `U` by checked pushes, or the name of its refusal.
+/// Appends to `replies` the reply that is `path` in the encoding `U` by checked pushes, or the name
+/// of the refusal.
 fn put_converted_checked<T: Encoding, U: Encoding>(
     path: Span<'_>,
     replies: &mut Vec<u8>,
@@ -356,7 +357,7 @@ fn put_components<T: Encoding>(path: Span<'_>, replies: &mut Vec<u8>) -> Result<
 {
     let cursor = T::cursor(path.as_bytes()).within(path);
     replies.extend_from_slice(b"ok")?;
-    // The prefix comes first, so that the loop over the other components has no room for one.
+    // The prefix comes first, so that the loop is over steps, which have no room for one.
     match cursor.prefix_piece() {
         Some(piece) => put_component(piece, replies)?,
         None => {}

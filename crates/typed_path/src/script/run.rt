@@ -37,7 +37,7 @@ pub enum PathOp<'a> {
 /// What an operation returns.
 #[derive(Clone, Copy, Debug, PartialEq, Eq, Hash)]
 pub enum Reply {
-    /// The operation returns nothing else.
+    /// The operation was done, and returns nothing.
     Done,
     /// What `pop` and `set_extension` return.
     Flag(bool),
