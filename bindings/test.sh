@@ -1,7 +1,7 @@
 #!/usr/bin/env bash
 # Tests the calls for C at their boundary, how they are installed and found, and the package of Python, over what
 # bindings/c/build.sh lays out. It says what it leaves out where a compiler, valgrind, pkg-config, cmake, man, mandoc,
-# qemu-x86_64, musl-gcc, libarchive, python3 or a package of it is missing, and ends in `N passed, M failed`, where each
+# abidiff, qemu-x86_64, musl-gcc, libarchive, python3 or a package of it is missing, and ends in `N passed, M failed`, where each
 # part counts once.
 #
 # bindings/test.sh [DIR]: DIR has what build.sh laid out; without it, it is built.
@@ -113,8 +113,13 @@ agree() {
         part "the ABI is the one that is listed" "$tests/abi.py" check "$header" "$list"
         part "a change of the ABI takes another number" is_told_of_changes
         part "header, crate, package and pages have one number" "$tests/abi.py" one "$header" "$here/.."
-        if earlier_list > "$room/earlier.txt" 2> "$room/said"; then
+        if earlier_of abi.txt > "$room/earlier.txt" 2> "$room/said"; then
             part "the list has the number that its last change takes" "$tests/abi.py" since "$room/earlier.txt" "$list"
+            if is_there abidiff; then
+                part "no call is gone, by abidiff" none_is_gone
+            else
+                left_out "whether a call is gone" abidiff
+            fi
         else
             left_out "whether the number was raised with the list" "earlier state of the list in git"
         fi
@@ -147,14 +152,32 @@ is_set() {
 is_there_man() {
     man --version 2> "$room/said" | grep -q '^man [0-9]' && is_there groff
 }
-# The last state of the list that was another one.
-earlier_list() {
+# A file as it stood with the last list that was another one.
+earlier_of() {
     local commit
     for commit in $(git -C "$here" log --format=%H -- c/abi.txt); do
         git -C "$here" show "$commit:./c/abi.txt" | cmp -s - "$here/c/abi.txt" ||
-            { git -C "$here" show "$commit:./c/abi.txt" && return; }
+            { git -C "$here" show "$commit:./c/$1" && return; }
     done
     return 1
+}
+# By abidiff no call is gone while the shared object keeps its name; one that is left out is told of.
+none_is_gone() {
+    local state
+    mkdir -p "$room"/{was,is,lacks} || return 1
+    earlier_of include/typed_path.h > "$room/was/typed_path.h" && cp "$include/typed_path.h" "$room/is" &&
+        sed '/typed_path_version(void);/d' "$room/is/typed_path.h" > "$room/lacks/typed_path.h" || return 1
+    for state in was is lacks; do
+        "$tests/stubbed.sh" "$room/$state/typed_path.h" > "$room/$state/stub.c" &&
+            cc -g -shared -fPIC "-I$room/$state" "$room/$state/stub.c" -o "$room/$state/stub.so" || return 1
+    done
+    ! goes_on is lacks && { ! earlier_of abi.txt | grep -qxF "$(grep '^shared object ' "$here/c/abi.txt")" || goes_on was is; }
+}
+# Whether a program that was built with one state goes on with another: else abidiff's status has the bit of 8.
+goes_on() {
+    local status=0
+    abidiff "$room/$1/stub.so" "$room/$2/stub.so" || status=$?
+    ((!(status & 8)))
 }
 # Each edit of a header that has a number is refused, and the least number that it takes is told and then taken.
 is_told_of_changes() {

@@ -12,7 +12,7 @@ import pathlib
 import zipfile
 
 HERE = pathlib.Path(__file__).parent
-NAME, VERSION, BUILD, TAG = "typed_path", "0.2.0", "1_x86_64_v2", "py3-none-linux_x86_64"
+NAME, VERSION, BUILD, TAG = "typed_path", "0.2.1", "1_x86_64_v2", "py3-none-linux_x86_64"
 METADATA = f"""Metadata-Version: 2.1
 Name: typed-path
 Version: {VERSION}

@@ -41,7 +41,7 @@ extern "C" {
 /* The version of this header: a part of two digits each for major, minor and patch. */
 #define TYPED_PATH_VERSION_MAJOR 0
 #define TYPED_PATH_VERSION_MINOR 2
-#define TYPED_PATH_VERSION_PATCH 0
+#define TYPED_PATH_VERSION_PATCH 1
 #define TYPED_PATH_VERSION \
     (UINT32_C(10000) * TYPED_PATH_VERSION_MAJOR + UINT32_C(100) * TYPED_PATH_VERSION_MINOR + TYPED_PATH_VERSION_PATCH)
 
@@ -205,6 +205,11 @@ TYPED_PATH_MUST_USE uint32_t typed_path_with_added_extension(
 TYPED_PATH_MUST_USE uint32_t typed_path_normalize(
     uint32_t dialect, const char *path, size_t path_len, char *out, size_t out_size, size_t *len);
 
+/* The path in lower case: each letter of ASCII, but for the `UNC` of a prefix `\\?\UNC\`, which is read so in
+   capitals alone. TYPED_PATH_NORMALIZE_BOUND. */
+TYPED_PATH_MUST_USE uint32_t typed_path_to_ascii_lowercase(
+    uint32_t dialect, const char *path, size_t path_len, char *out, size_t out_size, size_t *len);
+
 /* The path without `.`, doubled separators, and names that a `..` takes away. A relative path keeps the `..`
    that it needs, and nothing is `.`. On Windows the drive stays. TYPED_PATH_CLEAN_BOUND. */
 TYPED_PATH_MUST_USE uint32_t typed_path_clean(
@@ -235,6 +240,12 @@ TYPED_PATH_MUST_USE uint32_t typed_path_convert_checked(
    what is put may be on another drive, and not absolute: of `C:\a\D:` it is `D:`. TYPED_PATH_JOIN_BOUND. */
 TYPED_PATH_MUST_USE uint32_t typed_path_absolutize(
     uint32_t dialect, const char *path, size_t path_len, const char *directory, size_t directory_len,
+    char *out, size_t out_size, size_t *len);
+
+/* The same from a directory of the dialect `other`, which is read as it is written in the path's: of `a\..\b` and
+   `C:\work`, both of Windows, it puts `C:\work\b`, and `D:a` is ambiguous there. TYPED_PATH_JOIN_BOUND. */
+TYPED_PATH_MUST_USE uint32_t typed_path_absolutize_from(
+    uint32_t dialect, const char *path, size_t path_len, uint32_t other, const char *directory, size_t directory_len,
     char *out, size_t out_size, size_t *len);
 
 /* Checked joins of many names onto one base. The names stand behind each other in `names`: each begins
@@ -407,6 +418,16 @@ TYPED_PATH_MUST_USE uint32_t typed_path_equal(
 
 /* The order of two paths by their components: -1, 0 or 1. Of a bad dialect `*order` is as it was. */
 TYPED_PATH_MUST_USE uint32_t typed_path_compare(
+    uint32_t dialect, const char *path, size_t path_len, const char *other, size_t other_len,
+    int32_t *order);
+
+/* What typed_path_starts_with, typed_path_equal and typed_path_compare tell of the paths in lower case (typed_path_to_ascii_lowercase). A volume of Windows folds more letters
+   than those of ASCII. */
+TYPED_PATH_MUST_USE uint32_t typed_path_starts_with_ignore_ascii_case(
+    uint32_t dialect, const char *path, size_t path_len, const char *base, size_t base_len, bool *answer);
+TYPED_PATH_MUST_USE uint32_t typed_path_equal_ignore_ascii_case(
+    uint32_t dialect, const char *path, size_t path_len, const char *other, size_t other_len, bool *answer);
+TYPED_PATH_MUST_USE uint32_t typed_path_compare_ignore_ascii_case(
     uint32_t dialect, const char *path, size_t path_len, const char *other, size_t other_len,
     int32_t *order);
 

@@ -390,6 +390,16 @@ public:
         return asked<typed_path_absolutize>(TYPED_PATH_JOIN_BOUND(text_.size(), directory.text().size()),
                                             directory.text());
     }
+    /// The same from a directory of either dialect.
+    template <dialect E>
+    result<std::string> absolutize_from(basic_path_view<E> directory) const {
+        return asked<typed_path_absolutize_from>(TYPED_PATH_JOIN_BOUND(text_.size(), directory.text().size()), E,
+                                                 directory.text());
+    }
+    /// It in lower case, in letters of ASCII; the `UNC` of a verbatim share stays.
+    [[nodiscard]] std::string to_ascii_lowercase() const {
+        return made<typed_path_to_ascii_lowercase>(TYPED_PATH_NORMALIZE_BOUND(text_.size()));
+    }
     /// The words of its key, for a hasher of one's own: one text for equal paths, and for no others.
     [[nodiscard]] std::string key_words() const {
         return made<typed_path_key_words>(TYPED_PATH_KEY_BOUND(text_.size()));
@@ -469,6 +479,10 @@ public:
     [[nodiscard]] bool keeps_prefix() const noexcept { return is<typed_path_keeps_prefix>(); }
     /// Whether it begins with the components of a base, as they are written: no check of containment.
     [[nodiscard]] bool starts_with(basic_path_view base) const noexcept { return is<typed_path_starts_with>(base); }
+    /// The same if both are in lower case, in letters of ASCII.
+    [[nodiscard]] bool starts_with_ignore_ascii_case(basic_path_view base) const noexcept {
+        return is<typed_path_starts_with_ignore_ascii_case>(base);
+    }
     /// Whether it ends with the components of another, as they are written.
     [[nodiscard]] bool ends_with(basic_path_view end) const noexcept { return is<typed_path_ends_with>(end); }
     /// Whether it lies at a base or below it, from whatever directory both are read.
@@ -478,10 +492,20 @@ public:
 
     /// Whether both have one list of components.
     [[nodiscard]] bool equals(basic_path_view other) const noexcept { return is<typed_path_equal>(other); }
+    /// The same if both are in lower case, in letters of ASCII.
+    [[nodiscard]] bool equals_ignore_ascii_case(basic_path_view other) const noexcept {
+        return is<typed_path_equal_ignore_ascii_case>(other);
+    }
     /// -1, 0 or 1.
     [[nodiscard]] int compare(basic_path_view other) const noexcept {
         std::int32_t order = 0;
         (void)call<typed_path_compare>(other, &order);
+        return order;
+    }
+    /// The same of both in lower case.
+    [[nodiscard]] int compare_ignore_ascii_case(basic_path_view other) const noexcept {
+        std::int32_t order = 0;
+        (void)call<typed_path_compare_ignore_ascii_case>(other, &order);
         return order;
     }
     /// A hash under a key of 128 bits: SipHash 1-3.

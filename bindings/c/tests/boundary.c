@@ -125,6 +125,8 @@ static bool is_kept(const Row *bad, Text one, Text two) {
             && typed_path_hash(bad->dialect, one.bytes, one.length, &hash) == TYPED_PATH_STATUS_BAD_DIALECT
             && typed_path_hash_keyed(bad->dialect, 1, 2, one.bytes, one.length, &hash) == TYPED_PATH_STATUS_BAD_DIALECT
             && hash == 4;
+    if (strcmp(call->name, "compare_ignore_ascii_case") == 0)
+        return told_by(bad, one, two, &order, list, out, &len) == TYPED_PATH_STATUS_BAD_DIALECT && order == 3;
     if (strcmp(call->name, "components") == 0)
         return typed_path_components(bad->dialect, one.bytes, one.length, &component, 1, &count) == TYPED_PATH_STATUS_BAD_DIALECT
             && typed_path_component_at(bad->dialect, one.bytes, one.length, 0, &component) == TYPED_PATH_STATUS_BAD_DIALECT

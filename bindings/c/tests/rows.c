@@ -5,6 +5,21 @@
 #include <stdlib.h>
 #include <string.h>
 
+/* From a directory of a dialect, each by a name of its own. */
+static uint32_t absolutize_from_unix(
+    uint32_t dialect, const char *path, size_t path_len, const char *directory, size_t directory_len,
+    char *out, size_t out_size, size_t *len) {
+    return typed_path_absolutize_from(
+        dialect, path, path_len, TYPED_PATH_UNIX, directory, directory_len, out, out_size, len);
+}
+
+static uint32_t absolutize_from_windows(
+    uint32_t dialect, const char *path, size_t path_len, const char *directory, size_t directory_len,
+    char *out, size_t out_size, size_t *len) {
+    return typed_path_absolutize_from(
+        dialect, path, path_len, TYPED_PATH_WINDOWS, directory, directory_len, out, out_size, len);
+}
+
 const Call CALLS[] = {
     {.name = "join", .put_of = typed_path_join},
     {.name = "join_checked", .put_of = typed_path_join_checked, .batch = typed_path_join_checked_batch},
@@ -20,6 +35,9 @@ const Call CALLS[] = {
     {.name = "convert", .put_in = typed_path_convert},
     {.name = "convert_checked", .put_in = typed_path_convert_checked},
     {.name = "absolutize", .put_of = typed_path_absolutize},
+    {.name = "absolutize_from_unix", .put_of = absolutize_from_unix},
+    {.name = "absolutize_from_windows", .put_of = absolutize_from_windows},
+    {.name = "to_ascii_lowercase", .put = typed_path_to_ascii_lowercase},
     {.name = "parent", .part = typed_path_parent},
     {.name = "file_name", .part = typed_path_file_name},
     {.name = "file_stem", .part = typed_path_file_stem},
@@ -41,8 +59,11 @@ const Call CALLS[] = {
     {.name = "ends_with", .ask_of = typed_path_ends_with},
     {.name = "is_within", .ask_of = typed_path_is_within},
     {.name = "equal", .ask_of = typed_path_equal},
+    {.name = "starts_with_ignore_ascii_case", .ask_of = typed_path_starts_with_ignore_ascii_case},
+    {.name = "equal_ignore_ascii_case", .ask_of = typed_path_equal_ignore_ascii_case},
     {.name = "derive"},
     {.name = "compare"},
+    {.name = "compare_ignore_ascii_case"},
     {.name = "components"},
     {.name = "prefix_names"},
     {.name = "push_place"},
@@ -298,6 +319,11 @@ uint32_t told_by(
         *len = (size_t)sprintf(out, "%s", typed_path_derive(path.bytes, path.length) ? "windows" : "unix");
     } else if (strcmp(call->name, "compare") == 0) {
         status = compared(row, path, other, told, out, len);
+    } else if (strcmp(call->name, "compare_ignore_ascii_case") == 0) {
+        int32_t *order = told;
+        status = typed_path_compare_ignore_ascii_case(
+            row->dialect, path.bytes, path.length, other.bytes, other.length, order);
+        *len = (size_t)sprintf(out, "%d", (int)*order);
     } else if (strcmp(call->name, "prefix_names") == 0) {
         status = named(row, path, told, out, len);
     } else if (strcmp(call->name, "push_place") == 0) {

@@ -128,6 +128,9 @@ static Answer asked(const std::string &call, const std::string &text, const std:
     if (call == "convert") return answer(path.convert(to));
     if (call == "convert_checked") return answer(path.convert_checked(to));
     if (call == "absolutize") return answer(path.absolutize(beside.text()));
+    if (call == "absolutize_from_unix") return answer(path.absolutize_from(unix_path(other)));
+    if (call == "absolutize_from_windows") return answer(path.absolutize_from(windows_path(other)));
+    if (call == "to_ascii_lowercase") return answer(path.to_ascii_lowercase());
     if (call == "parent") return answer(path.parent());
     if (call == "file_name") return answer(path.file_name());
     if (call == "file_stem") return answer(path.file_stem());
@@ -149,6 +152,9 @@ static Answer asked(const std::string &call, const std::string &text, const std:
     if (call == "ends_with") return answer(path.ends_with(beside));
     if (call == "is_within") return answer(path.is_within(beside));
     if (call == "equal") return answer(path.equals(beside));
+    if (call == "starts_with_ignore_ascii_case") return answer(path.starts_with_ignore_ascii_case(beside));
+    if (call == "equal_ignore_ascii_case") return answer(path.equals_ignore_ascii_case(beside));
+    if (call == "compare_ignore_ascii_case") return std::to_string(path.compare_ignore_ascii_case(beside));
     if (call == "derive") return answer(derive(text) == dialect::Windows ? "windows"s : "unix"s);
     if (call == "compare") return ordered(path, beside);
     if (call == "components") return listed(path);

@@ -4,7 +4,7 @@ ghost use Rattle.std.specs.Prelude.{◌<◌, ◌≡◌, ◌≤◌, ◌+◌, ◌+
 ghost use Rattle.std.specs.Vec.{vec_capacity};
 ghost use Rattle.typed_path.specs.components.{parts_of, unix, windows, is_separator, is_verbatim, separators, slash};
 ghost use Rattle.std.specs.List.{list_any};
-ghost use Rattle.typed_path.specs.conversions.{CrossesTurned, IsUnrefused, separator_of, same_dialect, converted, converted_checked, FitsConverted, crossed, crossed_all, crossing_fault, push_checked_each, platform, absolute_from};
+ghost use Rattle.typed_path.specs.conversions.{CrossesTurned, IsUnrefused, separator_of, same_dialect, converted, converted_checked, FitsConverted, crossed, crossed_all, crossing_fault, push_checked_each, platform, absolute_from, absolute_under};
 ghost use Rattle.typed_path.specs.changes.{refusal, error_of, fault, FitsEach, IsKnown, begins_with_separator};
 ghost use Rattle.typed_path.specs.queries.{is_disk};
 ghost use Rattle.typed_path.specs.scan.{turned};
@@ -158,13 +158,36 @@ impl<'a, T: Encoding> Path<'a, T> {
         ensures ambiguous { result ≡ Err Ambiguous
             → absolute_from T.dialect (path_bytes directory.entry) (path_bytes self.entry) ≡ None }
     {
+        self.absolutize_from(alloc, directory)
+    }
+
+    /// As [`Path::absolutize`], from a directory of any encoding.
+    ///
+    /// Of the Windows path `a\..\b` it is `C:\work\b`, from `C:\work`.
+    ///
+    /// # Errors
+    ///
+    /// `Ambiguous` where the path is absolute neither alone nor behind the directory, as `D:a` behind
+    /// `C:\work`. `OutOfMemory` where memory is refused.
+    pub fn absolutize_from<U: Encoding>(
+        self,
+        alloc: Global,
+        directory: Path<'_, U>,
+    ) -> Result<PathBuf<T>, AbsolutizeError>
+        ensures ok { IfOk result (λ p.
+            absolute_under T.dialect U.dialect (path_bytes directory.entry) (path_bytes self.entry)
+            ≡ Some p.bytes) }
+        ensures ambiguous { result ≡ Err Ambiguous
+            → absolute_under T.dialect U.dialect (path_bytes directory.entry) (path_bytes self.entry)
+            ≡ None }
+    {
         if self.is_absolute() {
             return Ok(self.normalize(alloc)?);
         }
         let base = directory.as_bytes();
         let path = self.as_bytes();
         let mut joined = Vec::with_capacity(alloc, base.len() + path.len() + 1)?;
-        put_converted::<PlatformEncoding, T>(&mut joined, Span::whole(base))?;
+        put_converted::<U, T>(&mut joined, Span::whole(base))?;
         T::push(&mut joined, path)?;
         let joined = PathBuf::from_vec(joined);
         if !joined.as_path().is_absolute() {

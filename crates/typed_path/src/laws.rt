@@ -11,7 +11,7 @@ ghost use Rattle.typed_path.specs.components.{Dialect, unix, dot, slash, Kind, P
 ghost use Rattle.typed_path.specs.scan.{Side, reads, left, items_between, but_last, answers_after, items_after, slice_after, fronts, backs, IsWhole, IsLaidOut};
 ghost use Rattle.typed_path.specs.queries.{is_child_of, IsOneBelow, parent_of, prefix_in, is_a_dot, stem_of, extension_of, ancestors_of, common_ancestor_of};
 ghost use Rattle.typed_path.specs.changes.{fault, push, with_extension, with_file_name};
-ghost use Rattle.typed_path.specs.conversions.{converted, converted_checked, absolute_from};
+ghost use Rattle.typed_path.specs.conversions.{converted, converted_checked, absolute_from, absolute_under};
 ghost use Rattle.typed_path.specs.places.{clean_text, is_within, normal_text, relative_text};
 ghost use Rattle.typed_path.specs.promises.{AreCleanAlike, HasCleanForm, LeadAlike, IsWithinExactly, JoinsWithin, KeepsAgain, StaysWithin, LeadsBelow, JoinAppends, StripJoins, ReadsAsResolved, StaysNormal, IsCanonical, HashAlike, CrossesWhereAllowed, CrossesAsItIs, CrossesBack, CrossesToUnix, IsLongest, ShareNothing, ExtendsName, CleanLeadsAlike, HasNone, HasNoneAtAll, HasNoneOnUnix, IsDotAlike, LeadsBack, StaysRelative};
 ghost use Rattle.typed_path.specs.order.{key_words, IsKeyed, IsToldApart, IsSame, is_same, path_cmp, kind_cmp, bytes_cmp, text_unix_words, text_prefix_words, text_kind_words, text_windows_words, text_piece_words};
@@ -327,6 +327,13 @@ pub fn converted_is_short(path: &[u8])
 pub fn absolutized_is_short(directory: &[u8], path: &[u8])
     ghost d: { Dialect }
     ensures { IfSome (absolute_from d directory.now path.now)
+        (λ text. length text ≤ length directory.now + length path.now + 3) }
+{}
+
+/// So has one made absolute from a directory of either dialect.
+pub fn absolutized_from_is_short(directory: &[u8], path: &[u8])
+    ghost d: { Dialect }
+    ensures { (e : Dialect) → IfSome (absolute_under d e directory.now path.now)
         (λ text. length text ≤ length directory.now + length path.now + 3) }
 {}
 

@@ -10,7 +10,7 @@ use Rattle.typed_path.specs.declared.errors.PathError.TheVariants.{Checked, OutO
 use Rattle.typed_path.specs.changes.{push, refusal, with_added_extension}
 use Rattle.typed_path_c.specs.Answers.{too_small, path_status, absolute_status, IsPut, IsRefused, IsMade, IsCrossed, IsFound}
 use Rattle.typed_path.specs.components.{Dialect}
-use Rattle.typed_path.specs.conversions.{absolute_from}
+use Rattle.typed_path.specs.conversions.{absolute_under}
 use Rattle.typed_path.specs.places.{clean_text, relative_text}
 use Rattle.typed_path.proofs.lemmas.changes.Lengths.{push_length}
 use Rattle.typed_path.proofs.lemmas.changes.PushLengths.{absolute_known}
@@ -55,9 +55,9 @@ leads_fit d path base old new told len status found room small = by (relative_te
     by (Some answer) fits made = never_small answer old new len status _ (made.1 (λ e. omega (arith, e, small))) fits room small
 
 -- nor is one made absolute
-pub absolute_fits : {P : Type 0} (bytes : P → List ℕ) (made : Result P AbsolutizeError) (d : Dialect) (directory path old new : List ℕ) (told len status : ℕ)
-    → IfOk made (λ p. absolute_from d directory path ≡ Some (bytes p)) → MatchResult made (λ p. IsPut (bytes p) old new len status) (λ e. IsRefused (absolute_status e) old told new len status)
+pub absolute_fits : {P : Type 0} (bytes : P → List ℕ) (made : Result P AbsolutizeError) (d e : Dialect) (directory path old new : List ℕ) (told len status : ℕ)
+    → IfOk made (λ p. absolute_under d e directory path ≡ Some (bytes p)) → MatchResult made (λ p. IsPut (bytes p) old new len status) (λ e. IsRefused (absolute_status e) old told new len status)
     → length directory + length path + 3 ≤ length old → status ≡ too_small → ⊥
-absolute_fits bytes (Ok p) d directory path old new told len status is put room small = never_small (bytes p) old new len status _ put (absolute_known d directory path (bytes p) is) room small
-absolute_fits bytes (Err absolute.Ambiguous) d directory path old new told len status is (st, kept) room small = omega (arith, st, small)
-absolute_fits bytes (Err absolute.OutOfMemory) d directory path old new told len status is (st, kept) room small = omega (arith, st, small)
+absolute_fits bytes (Ok p) d e directory path old new told len status is put room small = never_small (bytes p) old new len status _ put (absolute_known d e directory path (bytes p) is) room small
+absolute_fits bytes (Err absolute.Ambiguous) d e directory path old new told len status is (st, kept) room small = omega (arith, st, small)
+absolute_fits bytes (Err absolute.OutOfMemory) d e directory path old new told len status is (st, kept) room small = omega (arith, st, small)

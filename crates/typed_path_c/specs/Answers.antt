@@ -19,7 +19,7 @@ use Rattle.typed_path.specs.declared.errors.AbsolutizeError.{AbsolutizeError}
 use Rattle.typed_path.specs.declared.errors.AbsolutizeError.TheVariants as absolute
 use Rattle.typed_path.specs.declared.errors.AbsolutizeError.TheVariants.{Ambiguous}
 use Rattle.typed_path.specs.changes.{push}
-use Rattle.typed_path.specs.conversions.Convert.{converted, converted_checked, absolute_from}
+use Rattle.typed_path.specs.conversions.Convert.{converted, converted_checked, absolute_from, absolute_under}
 use Rattle.typed_path.specs.places.{relative_text}
 use Rattle.typed_path.specs.promises.{HasPrefixOf, LiesWithin, LiesBelow, StaysWithin, keeps_prefix}
 
@@ -151,12 +151,23 @@ Crosses number other path old told new len status =
     (λ d. MatchOption (dialect_named other) ((status ≡ bad_dialect) × IsKept old told new len)
     (λ e. IsCrossed (converted_checked d e path) old told new len status))
 
--- a path made absolute from a directory, or told to be ambiguous
+-- an absolute path is put, or told to be ambiguous
+abbrev pub IsAbsolutized : Option (List ℕ) → List ℕ → ℕ → List ℕ → ℕ → ℕ → Type 0
+IsAbsolutized None old told new len status = IsKept old told new len × ((status ≡ out_of_memory → ⊥) → status ≡ ambiguous)
+IsAbsolutized (Some answer) old told new len status = IsMade answer old told new len status
+
+-- a path made absolute from a directory on this machine
 abbrev pub Absolutizes : ℕ → List ℕ → List ℕ → List ℕ → ℕ → List ℕ → ℕ → ℕ → Type 0
 Absolutizes number directory path old told new len status =
     MatchOption (dialect_named number) ((status ≡ bad_dialect) × IsKept old told new len)
-    (λ d. MatchOption (absolute_from d directory path) (IsKept old told new len × ((status ≡ out_of_memory → ⊥) → status ≡ ambiguous))
-    (λ answer. IsMade answer old told new len status))
+    (λ d. IsAbsolutized (absolute_from d directory path) old told new len status)
+
+-- or from one of a dialect
+abbrev pub AbsolutizesFrom : ℕ → ℕ → List ℕ → List ℕ → List ℕ → ℕ → List ℕ → ℕ → ℕ → Type 0
+AbsolutizesFrom number other directory path old told new len status =
+    MatchOption (dialect_named number) ((status ≡ bad_dialect) × IsKept old told new len)
+    (λ d. MatchOption (dialect_named other) ((status ≡ bad_dialect) × IsKept old told new len)
+    (λ e. IsAbsolutized (absolute_under d e directory path) old told new len status))
 
 -- the statuses of errors
 abbrev pub path_status : PathError → ℕ

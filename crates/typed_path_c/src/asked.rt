@@ -2,7 +2,7 @@
 
 ghost use Rattle.std.specs.Prelude.{◌≡◌, false};
 ghost use Rattle.typed_path.specs.components.{kinds, parts_of};
-ghost use Rattle.typed_path.specs.order.{is_same, path_cmp};
+ghost use Rattle.typed_path.specs.order.{is_same, lowered, path_cmp};
 ghost use Rattle.typed_path.specs.places.{is_within};
 ghost use Rattle.typed_path.specs.promises.{keeps_prefix};
 ghost use Rattle.typed_path.specs.changes.{fault};
@@ -152,6 +152,19 @@ pub extern "C" fn typed_path_starts_with(
     of_path!(dialect, path => tell(path.starts_with(base), answer), tell_none(answer))
 }
 
+/// Whether it begins with them where both are in lower case, in letters of ASCII.
+#[unsafe(no_mangle)]
+pub extern "C" fn typed_path_starts_with_ignore_ascii_case(
+    dialect: u32,
+    path: &[u8],
+    base: &[u8],
+    answer: &mut bool,
+) -> u32
+    ensures { Tells dialect (λ d. path_starts_with d (lowered d path.now) (lowered d base.now)) answer.new result }
+{
+    of_path!(dialect, path => tell(path.starts_with_ignore_ascii_case(base), answer), tell_none(answer))
+}
+
 /// Whether it ends with the components of another.
 #[unsafe(no_mangle)]
 pub extern "C" fn typed_path_ends_with(
@@ -199,6 +212,27 @@ fn are_same<T: Encoding>(path: &[u8], other: &[u8]) -> bool
     Path::<T>::new(path) == Path::new(other)
 }
 
+/// Whether two paths in lower case have the same components.
+#[unsafe(no_mangle)]
+pub extern "C" fn typed_path_equal_ignore_ascii_case(
+    dialect: u32,
+    path: &[u8],
+    other: &[u8],
+    answer: &mut bool,
+) -> u32
+    ensures { Tells dialect (λ d. is_same d (lowered d path.now) (lowered d other.now)) answer.new result }
+{
+    let asked = of_encoding!(dialect, are_alike(path, other), return tell_none(answer));
+    tell(asked, answer)
+}
+
+/// The same of paths of one encoding.
+fn are_alike<T: Encoding>(path: &[u8], other: &[u8]) -> bool
+    ensures { result ≡ is_same T.dialect (lowered T.dialect path.now) (lowered T.dialect other.now) }
+{
+    Path::<T>::new(path).eq_ignore_ascii_case(Path::new(other))
+}
+
 /// The order of two paths by their components.
 #[unsafe(no_mangle)]
 pub extern "C" fn typed_path_compare(
@@ -217,7 +251,35 @@ pub extern "C" fn typed_path_compare(
 fn compared<T: Encoding>(path: &[u8], other: &[u8]) -> i32
     ensures { result ≡ order_number (path_cmp T.dialect path.now other.now) }
 {
-    match Path::<T>::new(path).cmp(&Path::new(other)) {
+    number_of(Path::<T>::new(path).cmp(&Path::new(other)))
+}
+
+/// The order of two paths by their components in lower case.
+#[unsafe(no_mangle)]
+pub extern "C" fn typed_path_compare_ignore_ascii_case(
+    dialect: u32,
+    path: &[u8],
+    other: &[u8],
+    order: &mut i32,
+) -> u32
+    ensures { Orders dialect (λ d. path_cmp d (lowered d path.now) (lowered d other.now)) order.old order.new result }
+{
+    *order = of_encoding!(dialect, lowered_compared(path, other), return BAD_DIALECT);
+    DONE
+}
+
+/// The same of paths of one encoding.
+fn lowered_compared<T: Encoding>(path: &[u8], other: &[u8]) -> i32
+    ensures { result ≡ order_number (path_cmp T.dialect (lowered T.dialect path.now) (lowered T.dialect other.now)) }
+{
+    number_of(Path::<T>::new(path).cmp_ignore_ascii_case(Path::new(other)))
+}
+
+/// An order as a number.
+fn number_of(order: Ordering) -> i32
+    ensures { result ≡ order_number order }
+{
+    match order {
         Ordering::Less => -1,
         Ordering::Equal => 0,
         Ordering::Greater => 1,

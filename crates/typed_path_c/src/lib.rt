@@ -20,7 +20,7 @@ mod texts;
 /// The version of the library: a part of two digits each for major, minor and patch.
 #[unsafe(no_mangle)]
 pub extern "C" fn typed_path_version() -> u32
-    ensures { result ≡ 200 }
+    ensures { result ≡ 201 }
 {
-    200
+    201
 }

@@ -1,14 +1,15 @@
 //! Paths that are made of others, and put into a buffer of the caller.
-#![tactic(auto, using(typed_path::proofs::lemmas::texts::TextChanges::text_laws, typed_path::proofs::lemmas::texts::TextClean::clean_laws, typed_path::proofs::lemmas::texts::TextClean::relative_laws, crate::proofs::Crossed::never_small, typed_path::proofs::lemmas::changes::Lengths::push_length, typed_path::proofs::lemmas::changes::Lengths::with_extension_length, crate::proofs::Crossed::with_added_extension_length, crate::proofs::Crossed::resolved_length, typed_path::proofs::lemmas::changes::Lengths::with_file_name_length, typed_path::proofs::lemmas::changes::PushLengths::normal_text_length, typed_path::proofs::lemmas::changes::PushLengths::converted_length, typed_path::proofs::lemmas::changes::PushLengths::checked_known, typed_path::proofs::lemmas::places::CleanLengths::clean_text_length))]
+#![tactic(auto, using(typed_path::proofs::lemmas::texts::TextChanges::text_laws, typed_path::proofs::lemmas::texts::TextClean::clean_laws, typed_path::proofs::lemmas::texts::TextClean::relative_laws, typed_path::proofs::lemmas::texts::TextLowered::lowered_laws, typed_path::proofs::lemmas::promises::LoweredPaths::lowered_length, crate::proofs::Crossed::never_small, typed_path::proofs::lemmas::changes::Lengths::push_length, typed_path::proofs::lemmas::changes::Lengths::with_extension_length, crate::proofs::Crossed::with_added_extension_length, crate::proofs::Crossed::resolved_length, typed_path::proofs::lemmas::changes::Lengths::with_file_name_length, typed_path::proofs::lemmas::changes::PushLengths::normal_text_length, typed_path::proofs::lemmas::changes::PushLengths::converted_length, typed_path::proofs::lemmas::changes::PushLengths::checked_known, typed_path::proofs::lemmas::places::CleanLengths::clean_text_length))]
 
 ghost use Rattle.std.specs.Prelude.{◌≡◌, ◌+◌, ◌*◌, IfOk, true, take, length};
 ghost use Rattle.std.specs.Str.{is_utf8};
 ghost use Rattle.typed_path.specs.changes.Push as push_spec;
 ghost use Rattle.typed_path.specs.changes.{fault, join_fault, refusal, with_added_extension, with_extension, with_file_name};
+ghost use Rattle.typed_path.specs.order.{lowered};
 ghost use Rattle.typed_path.specs.places.{clean_text, normal_text};
 ghost use Rattle.typed_path.specs.typed.{typed_dialect};
 ghost use Rattle.typed_path.specs.views.TypedViews.{owned_bytes, typed_bytes};
-ghost use Rattle.typed_path_c.specs.Answers.{done, fault_status, join_status, Makes, Joins, LiesIn, LiesInKept, Leads, Converts, Crosses, Absolutizes, Suffices};
+ghost use Rattle.typed_path_c.specs.Answers.{done, fault_status, join_status, Makes, Joins, LiesIn, LiesInKept, Leads, Converts, Crosses, Absolutizes, AbsolutizesFrom, Suffices};
 
 use crate::status::{BAD_DIALECT, of_path, path_in, put_crossed, put_found, put_made};
 use std::alloc::Global;
@@ -154,6 +155,22 @@ pub extern "C" fn typed_path_with_added_extension(
     of_path!(dialect, path => put_made(path.with_added_extension(alloc, extension), out, len), BAD_DIALECT)
 }
 
+/// Puts a path in lower case, in letters of ASCII.
+#[unsafe(no_mangle)]
+pub extern "C" fn typed_path_to_ascii_lowercase(
+    alloc: Global,
+    dialect: u32,
+    path: &[u8],
+    out: &mut [u8],
+    len: &mut usize,
+) -> u32
+    ensures lowered { Makes dialect (λ d. lowered d path.now) out.old len.old out.new len.new result }
+    ensures fits { Suffices (length path.now + 1) out.old result }
+    ensures text { is_utf8 path.now ≡ true → result ≡ done → is_utf8 (take len.new out.new) ≡ true }
+{
+    of_path!(dialect, path => put_made(path.to_ascii_lowercase(alloc), out, len), BAD_DIALECT)
+}
+
 /// Puts a path without `.`, and without `..` and the names that these take away.
 #[unsafe(no_mangle)]
 pub extern "C" fn typed_path_normalize(
@@ -262,4 +279,25 @@ pub extern "C" fn typed_path_absolutize(
 {
     let directory = PlatformPath::new(directory);
     of_path!(dialect, path => put_made(path.absolutize(alloc, directory), out, len), BAD_DIALECT)
+}
+
+/// The same from a directory of a dialect.
+#[unsafe(no_mangle)]
+pub extern "C" fn typed_path_absolutize_from(
+    alloc: Global,
+    dialect: u32,
+    path: &[u8],
+    other: u32,
+    directory: &[u8],
+    out: &mut [u8],
+    len: &mut usize,
+) -> u32
+    ensures absolute { AbsolutizesFrom dialect other directory.now path.now out.old len.old out.new len.new result }
+    ensures fits { Suffices (length directory.now + length path.now + 3) out.old result }
+    ensures text { is_utf8 path.now ≡ true → is_utf8 directory.now ≡ true → result ≡ done → is_utf8 (take len.new out.new) ≡ true }
+{
+    match (path_in(dialect, path), path_in(other, directory)) {
+        (Some(path), Some(directory)) => put_made(path.absolutize_from(alloc, directory), out, len),
+        _ => BAD_DIALECT,
+    }
 }

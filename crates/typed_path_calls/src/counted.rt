@@ -270,6 +270,12 @@ pub fn absolutize<T: Encoding>(alloc: Global, path: &[u8], directory: &[u8]) -> 
     length_of(Path::<T>::new(path).absolutize(alloc, PlatformPath::new(directory)))
 }
 
+/// The path made absolute from a directory of its own dialect.
+#[inline(never)]
+pub fn absolutize_from<T: Encoding>(alloc: Global, path: &[u8], directory: &[u8]) -> usize {
+    length_of(Path::<T>::new(path).absolutize_from(alloc, Path::<T>::new(directory)))
+}
+
 /// The path with another pushed onto it.
 #[inline(never)]
 pub fn join<T: Encoding>(alloc: Global, path: &[u8], other: &[u8]) -> usize {

@@ -45,6 +45,7 @@ fn answer<T: Encoding, U: Encoding>(
         b"convert" => counted::convert::<T, U>(alloc, path),
         b"convert_checked" => counted::convert_checked::<T, U>(alloc, path),
         b"absolutize" => counted::absolutize::<T>(alloc, path, other),
+        b"absolutize_from" => counted::absolutize_from::<T>(alloc, path, other),
         b"join" => counted::join::<T>(alloc, path, other),
         b"join_checked" => counted::join_checked::<T>(alloc, path, other),
         b"join_portable" => counted::join_portable::<T>(alloc, path, other),

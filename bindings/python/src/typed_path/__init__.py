@@ -42,7 +42,7 @@ __all__ = [
     "NoName", "NoRelativePath", "NotAName", "NotAnExtension", "PathTraversalAttack", "StripPrefixError", "TypedPath",
     "TypedPathError", "UnexpectedPrefix", "UnexpectedRoot", "UnixPath", "WindowsPath", "derive", "extract_names",
 ]
-__version__ = "0.2.0"
+__version__ = "0.2.1"
 
 Text = Union[str, bytes, "os.PathLike[str]", "os.PathLike[bytes]"]
 P = TypeVar("P", bound="TypedPath")

@@ -12,7 +12,7 @@ from typing import Any, Callable, NamedTuple, Optional, Sequence, TypeVar, Union
 
 Text = TypeVar("Text", str, bytes)
 NAME = "libtyped_path.so.0.2"
-VERSION = 200
+VERSION = 201
 UNIX, WINDOWS = 0, 1
 
 # What os.fsencode and os.fsdecode take.

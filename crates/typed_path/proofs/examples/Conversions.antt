@@ -2,7 +2,7 @@
 use Rattle.std.proofs.Common.{◌≡◌, codes, [], ◌∷◌, refl, Some, None, Ok, Err}
 use Rattle.typed_path.specs.declared.errors.CheckedPathError.TheVariants.{InvalidFilename, UnexpectedPrefix, UnexpectedRoot}
 use Rattle.typed_path.specs.components.{unix, windows, parts_of}
-use Rattle.typed_path.specs.conversions.{converted, converted_checked, absolute_from}
+use Rattle.typed_path.specs.conversions.{converted, converted_checked, absolute_from, absolute_under}
 use Rattle.typed_path.specs.typed.{derived_dialect}
 use Rattle.typed_path.proofs.examples.Words.{named}
 
@@ -121,3 +121,18 @@ drive_without_a_root_is_ambiguous = refl
 
 server_without_a_share_is_ambiguous : absolute_from windows (codes "/home/u") (codes "\\\\server") ≡ None
 server_without_a_share_is_ambiguous = refl
+
+relative_to_a_drive : absolute_under windows windows (codes "C:\\work") (codes "a\\..\\b") ≡ Some (codes "C:\\work\\b")
+relative_to_a_drive = refl
+
+root_keeps_the_drive_of_the_directory : absolute_under windows windows (codes "C:\\work") (codes "\\a") ≡ Some (codes "C:\\a")
+root_keeps_the_drive_of_the_directory = refl
+
+other_drive_is_ambiguous : absolute_under windows windows (codes "C:\\work") (codes "D:a") ≡ None
+other_drive_is_ambiguous = refl
+
+relative_to_a_verbatim_drive : absolute_under windows windows (codes "\\\\?\\C:\\work") (codes "../a") ≡ Some (codes "\\\\?\\C:\\a")
+relative_to_a_verbatim_drive = refl
+
+relative_to_a_drive_on_unix : absolute_under unix windows (codes "C:\\work") (codes "a") ≡ Some (codes "/work/a")
+relative_to_a_drive_on_unix = refl

@@ -83,9 +83,13 @@ AllowsCrossing e ks = AllByRecursion (λ k. kind_has_allowed_bytes e k ≡ true)
 abbrev pub platform : Dialect
 platform = unix
 
--- the absolute text of a path from a directory on this machine; none where the two joined are not absolute
-abbrev pub absolute_from : Dialect → List ℕ → List ℕ → Option (List ℕ)
-absolute_from d directory t =
-    let joined = push d (converted platform d directory) t in
+-- the absolute text of a path of one dialect from a directory of another; none where the two joined are not absolute
+abbrev pub absolute_under : Dialect → Dialect → List ℕ → List ℕ → Option (List ℕ)
+absolute_under d e directory t =
+    let joined = push d (converted e d directory) t in
     if is_absolute d (kinds (parts_of d t)) then Some (normal_text d t)
     else (if is_absolute d (kinds (parts_of d joined)) then Some (normal_text d joined) else None)
+
+-- the same from a directory on this machine
+abbrev pub absolute_from : Dialect → List ℕ → List ℕ → Option (List ℕ)
+absolute_from d directory t = absolute_under d platform directory t

@@ -14,7 +14,7 @@ use Rattle.typed_path.specs.changes.Checked.{refusal}
 use Rattle.typed_path.specs.changes.Joined.{join_fault, join_refusal}
 use Rattle.typed_path.specs.places.Places.{normal_text}
 use Rattle.typed_path.specs.places.Relative.{relative_text}
-use Rattle.typed_path.specs.conversions.Convert.{converted_checked, absolute_from}
+use Rattle.typed_path.specs.conversions.Convert.{converted_checked, absolute_under, platform}
 use Rattle.typed_path.specs.promises.Promises.{HasPrefixOf, LiesWithin, HasNormalForm}
 use Rattle.typed_path.specs.promises.Below.{LiesBelow, StaysWithin}
 use Rattle.typed_path.specs.views.OwnedViews.{Owned}
@@ -135,7 +135,11 @@ ConvertsChecked d e bytes path done =
     × ((why : CheckedPathError) → refusal done ≡ Some why → converted_checked d e path ≡ Err why)
 
 -- a path made absolute from a directory, or refused where it is absolute neither alone nor there
+abbrev pub AbsolutizesFrom : {P : Type 0} → Dialect → Dialect → (P → List ℕ) → List ℕ → List ℕ → Result P AbsolutizeError → Type 0
+AbsolutizesFrom d e bytes directory path done =
+    IfOk done (λ p. absolute_under d e directory path ≡ Some (bytes p))
+    × (done ≡ Err Ambiguous → absolute_under d e directory path ≡ None)
+
+-- the same from a directory on this machine
 abbrev pub Absolutizes : {P : Type 0} → Dialect → (P → List ℕ) → List ℕ → List ℕ → Result P AbsolutizeError → Type 0
-Absolutizes d bytes directory path done =
-    IfOk done (λ p. absolute_from d directory path ≡ Some (bytes p))
-    × (done ≡ Err Ambiguous → absolute_from d directory path ≡ None)
+Absolutizes d bytes directory path done = AbsolutizesFrom d platform bytes directory path done

@@ -2,7 +2,7 @@
 
 ghost use Rattle.std.specs.Prelude.{◌≡◌, [], IfOk, IsOk, Ok, not, IfSome, option_map, option_copied};
 ghost use Rattle.typed_path.specs.typed.{kind_dialect, derived_dialect, typed_dialect};
-ghost use Rattle.typed_path.specs.typed.Outcomes.{JoinsChecked, JoinsPortable, LeadsFrom, Normalizes, ConvertsChecked, Absolutizes};
+ghost use Rattle.typed_path.specs.typed.Outcomes.{JoinsChecked, JoinsPortable, LeadsFrom, Normalizes, ConvertsChecked, Absolutizes, AbsolutizesFrom};
 ghost use Rattle.typed_path.specs.views.TypedViews.{typed_bytes, owned_bytes, typed_items, typed_slice, typed_iter_items, typed_iter_slice, typed_ancestors_left, typed_displayed, reading_dialect};
 ghost use Rattle.typed_path.specs.components.{unix, windows, kinds, comps, parts_of};
 ghost use Rattle.typed_path.specs.views.OffenceViews.{offence_of};
@@ -504,6 +504,29 @@ impl<'a> TypedPath<'a> {
             (path_bytes directory.entry) (typed_bytes self.entry) result }
     {
         typed_result!(self, path => path.absolutize(alloc, directory))
+    }
+
+    /// As [`TypedPath::absolutize`], from a directory of either kind.
+    ///
+    /// # Errors
+    ///
+    /// `Ambiguous` where the path is absolute neither alone nor behind the directory. `OutOfMemory`
+    /// where memory is refused.
+    pub fn absolutize_from(
+        self,
+        alloc: Global,
+        directory: TypedPath<'_>,
+    ) -> Result<TypedPathBuf, AbsolutizeError>
+        ensures dialect { IfOk result (λ p. typed_dialect p ≡ typed_dialect self.entry) }
+        ensures absolute { AbsolutizesFrom (typed_dialect self.entry) (typed_dialect directory.entry)
+            owned_bytes (typed_bytes directory.entry) (typed_bytes self.entry) result }
+    {
+        match directory {
+            Typed::Unix(unix) => typed_result!(self, path => path.absolutize_from(alloc, unix)),
+            Typed::Windows(windows) => {
+                typed_result!(self, path => path.absolutize_from(alloc, windows))
+            }
+        }
     }
 
     /// Returns the path as on Unix: a copy if it is a Unix path, else as [`Path::with_encoding`]

@@ -7,7 +7,7 @@ ghost use Rattle.std.specs.Str.Lossy.{utf8_lossy};
 ghost use Rattle.std.specs.Cow.{cow_str_bytes, IsBorrowedStr};
 ghost use Rattle.typed_path.specs.components.{unix, windows, kinds, comps, parts_of};
 ghost use Rattle.typed_path.specs.typed.{kind_dialect, derived_dialect, typed_dialect, KeepsDialect, held_unix, held_windows};
-ghost use Rattle.typed_path.specs.typed.Outcomes.{Pushes, PushesChecked, Pops, SetsFileName, SetsExtension, Clears, Reserves, ReservesExactly, ShrinksTo, JoinsChecked, JoinsPortable, Normalizes, ConvertsChecked, Absolutizes, AddsExtension, LeadsFrom};
+ghost use Rattle.typed_path.specs.typed.Outcomes.{Pushes, PushesChecked, Pops, SetsFileName, SetsExtension, Clears, Reserves, ReservesExactly, ShrinksTo, JoinsChecked, JoinsPortable, Normalizes, ConvertsChecked, Absolutizes, AbsolutizesFrom, AddsExtension, LeadsFrom};
 ghost use Rattle.typed_path.specs.views.TypedViews.{typed_bytes, typed_owned, owned_bytes, typed_items, typed_slice, typed_iter_items, typed_iter_slice, typed_ancestors_left, reading_dialect};
 ghost use Rattle.typed_path.specs.queries.{is_absolute, has_root, is_portable, may_be_device, portable_fault, unportable, parent_of, file_name_of, file_stem_of, extension, stripped, path_starts_with, path_ends_with, ancestors_of, stripped_to, text_of_bytes, file_prefix_of, has_trailing_separator, simplified_text, common_ancestor_of};
 ghost use Rattle.typed_path.specs.views.OffenceViews.{offence_of};
@@ -578,6 +578,19 @@ impl TypedPathBuf {
             (path_bytes directory.entry) (owned_bytes self.now) result }
     {
         self.to_path().absolutize(alloc, directory)
+    }
+
+    /// As [`TypedPath::absolutize_from`].
+    pub fn absolutize_from(
+        &self,
+        alloc: Global,
+        directory: TypedPath<'_>,
+    ) -> Result<TypedPathBuf, AbsolutizeError>
+        ensures dialect { IfOk result (λ p. typed_dialect p ≡ typed_dialect self.now) }
+        ensures absolute { AbsolutizesFrom (typed_dialect self.now) (typed_dialect directory.entry)
+            owned_bytes (typed_bytes directory.entry) (owned_bytes self.now) result }
+    {
+        self.to_path().absolutize_from(alloc, directory)
     }
 
     /// As [`TypedPath::with_unix_encoding`].

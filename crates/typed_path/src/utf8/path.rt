@@ -5,7 +5,7 @@ ghost use Rattle.std.specs.Prelude.{◌≡◌, true, ⊤, not, option_map, is_ok
 ghost use Rattle.std.specs.Str.{is_utf8};
 ghost use Rattle.typed_path.specs.views.PathViews.{path_bytes, ancestors_left};
 ghost use Rattle.typed_path.specs.views.OffenceViews.{offence_of};
-ghost use Rattle.typed_path.specs.typed.Outcomes.{JoinsChecked, JoinsPortable, LeadsFrom, Normalizes, ConvertsChecked, Absolutizes};
+ghost use Rattle.typed_path.specs.typed.Outcomes.{JoinsChecked, JoinsPortable, LeadsFrom, Normalizes, ConvertsChecked, Absolutizes, AbsolutizesFrom};
 ghost use Rattle.typed_path.specs.texts.{is_text_option, IsTextError, are_texts};
 ghost use Rattle.typed_path.specs.components.{kinds, comps, parts_of, unix, windows};
 ghost use Rattle.typed_path.specs.queries.{is_absolute, has_root, is_portable, is_valid, may_be_device, parent_of, portable_fault, unportable, file_name_of, file_stem_of, stripped, path_starts_with, path_ends_with, ancestors_of, stripped_to, extension, file_prefix_of, has_trailing_separator, common_ancestor_of};
@@ -673,6 +673,26 @@ impl<'a, T: Utf8Encoding> Utf8Path<'a, T> {
             .as_bytes_path()
             .absolutize(alloc, directory.as_bytes_path());
         owned!(absolute)
+    }
+
+    /// As [`Utf8Path::absolutize`], from a directory of any encoding.
+    ///
+    /// # Errors
+    ///
+    /// `Ambiguous` where the path is absolute neither alone nor behind the directory. `OutOfMemory`
+    /// where memory is refused.
+    pub fn absolutize_from<U: Utf8Encoding>(
+        self,
+        alloc: Global,
+        directory: Utf8Path<'_, U>,
+    ) -> Result<Utf8PathBuf<T>, AbsolutizeError>
+        ensures { AbsolutizesFrom T.Bytes.dialect U.Bytes.dialect (λ p. p.bytes)
+            (utf8_bytes directory.entry) (utf8_bytes self.entry) result }
+    {
+        let made = self
+            .as_bytes_path()
+            .absolutize_from(alloc, directory.as_bytes_path());
+        owned!(made)
     }
 }
 

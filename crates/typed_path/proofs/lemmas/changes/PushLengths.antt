@@ -11,7 +11,7 @@ use Rattle.typed_path.specs.components.{Dialect, unix, windows, slash, backslash
 use Rattle.typed_path.specs.queries.{begins_with_root, has_prefix, has_any_verbatim_prefix, is_disk, is_absolute}
 use Rattle.typed_path.specs.changes.{push, push_unix, push_windows, push_all, ended_windows, raw_prefix, spelled, merged, room_of}
 use Rattle.typed_path.specs.places.{resolve, normal_text}
-use Rattle.typed_path.specs.conversions.{same_dialect, crossed, crossed_all, converted, crossing_fault, push_unless, push_checked_each, converted_checked, platform, absolute_from}
+use Rattle.typed_path.specs.conversions.{same_dialect, crossed, crossed_all, converted, crossing_fault, push_unless, push_checked_each, converted_checked, absolute_under}
 use Rattle.typed_path.proofs.lemmas.lists.Lists.{AllByRecursion-weaker}
 use Rattle.typed_path.proofs.lemmas.components.Prefixes.{separators-windows, root_text-windows, prefix-fits}
 use Rattle.typed_path.proofs.lemmas.components.PrefixCuts.{IsSize, prefix-size, parts_of-none, parts_of-some}
@@ -288,24 +288,29 @@ converted_checked_length d e t = grind (arith, common_steps, checked-all, takes-
 
 -- Paths made absolute.
 
-directory-taken : (d : Dialect) (directory : List ℕ) → Takes d (converted platform d directory) (length directory + 1)
-directory-taken unix directory = omega arith
-directory-taken windows directory = crossed-taken unix windows directory
+copied-taken : (d : Dialect) (t : List ℕ) → Takes d t (length t + 1)
+copied-taken unix t = omega arith
+copied-taken windows t = record { fits = omega arith; again = λ m. omega (arith, anew-most t m); spare = λ e. omega (arith, ap length e) }
 
-pub absolute_length : (d : Dialect) (directory t : List ℕ) → IfSome (absolute_from d directory t) (λ u. length u ≤ length directory + length t + 3)
-absolute_length d directory t =
-    let base = converted platform d directory in
+directory-taken : (d e : Dialect) (directory : List ℕ) → Takes d (converted e d directory) (length directory + 1)
+directory-taken d e directory =
+    cond_both (same_dialect e d) directory (crossed_all d (parts_of e directory)) (λ u. Takes d u (length directory + 1))
+    (λ same. copied-taken d directory) (λ other. crossed-taken e d directory)
+
+pub absolute_length : (d e : Dialect) (directory t : List ℕ) → IfSome (absolute_under d e directory t) (λ u. length u ≤ length directory + length t + 3)
+absolute_length d e directory t =
+    let base = converted e d directory in
     let joined = push d base t in
     let Fits : Option (List ℕ) → Type 0 = λ o. IfSome o (λ u. length u ≤ length directory + length t + 3) in
-    let room = takes-fits d joined (length directory + 1 + (length t + 1)) (step d base t (length directory + 1) (length t + 1) (directory-taken d directory) (inl (omega arith))) in
+    let room = takes-fits d joined (length directory + 1 + (length t + 1)) (step d base t (length directory + 1) (length t + 1) (directory-taken d e directory) (inl (omega arith))) in
     cond_both (is_absolute d (kinds (parts_of d t))) (Some (normal_text d t)) (if is_absolute d (kinds (parts_of d joined)) then Some (normal_text d joined) else None) Fits
-    (λ e. omega (arith, normal_text_length d t))
-    (λ e. cond_both (is_absolute d (kinds (parts_of d joined))) (Some (normal_text d joined)) None Fits (λ f. omega (arith, normal_text_length d joined, room)) (λ f. tt))
+    (λ own. omega (arith, normal_text_length d t))
+    (λ relative. cond_both (is_absolute d (kinds (parts_of d joined))) (Some (normal_text d joined)) None Fits (λ f. omega (arith, normal_text_length d joined, room)) (λ f. tt))
 
 -- the same of an answer that is known
 
 pub checked_known : (d e : Dialect) (t u : List ℕ) → converted_checked d e t ≡ Ok u → length u ≤ length t + 1
 checked_known d e t u is = subst (λ r. IfOk r (λ u. length u ≤ length t + 1)) is (converted_checked_length d e t)
 
-pub absolute_known : (d : Dialect) (directory t u : List ℕ) → absolute_from d directory t ≡ Some u → length u ≤ length directory + length t + 3
-absolute_known d directory t u is = subst (λ o. IfSome o (λ u. length u ≤ length directory + length t + 3)) is (absolute_length d directory t)
+pub absolute_known : (d e : Dialect) (directory t u : List ℕ) → absolute_under d e directory t ≡ Some u → length u ≤ length directory + length t + 3
+absolute_known d e directory t u is = subst (λ o. IfSome o (λ u. length u ≤ length directory + length t + 3)) is (absolute_length d e directory t)

@@ -4,7 +4,7 @@ ghost use Rattle.std.specs.Prelude.{◌≡◌, [], IfOk, IsOk, not, bytes_eq, Ok
 ghost use Rattle.std.specs.String.{string_bytes, string_capacity};
 ghost use Rattle.typed_path.specs.components.{unix, windows, kinds, comps, parts_of};
 ghost use Rattle.typed_path.specs.typed.{kind_dialect, derived_dialect, typed_dialect, KeepsDialect, held_unix, held_windows};
-ghost use Rattle.typed_path.specs.typed.Outcomes.{Pushes, PushesChecked, Pops, SetsFileName, SetsExtension, Clears, Reserves, ReservesExactly, ShrinksTo, JoinsChecked, JoinsPortable, Normalizes, ConvertsChecked, Absolutizes, AddsExtension, LeadsFrom};
+ghost use Rattle.typed_path.specs.typed.Outcomes.{Pushes, PushesChecked, Pops, SetsFileName, SetsExtension, Clears, Reserves, ReservesExactly, ShrinksTo, JoinsChecked, JoinsPortable, Normalizes, ConvertsChecked, Absolutizes, AbsolutizesFrom, AddsExtension, LeadsFrom};
 ghost use Rattle.typed_path.specs.views.TypedViews.{typed_owned, owned_bytes, reading_dialect};
 ghost use Rattle.typed_path.specs.views.TypedTextViews.{typed_text, typed_text_items, typed_text_slice, typed_text_iter_items, typed_text_iter_slice, typed_text_ancestors_left};
 ghost use Rattle.typed_path.specs.queries.{is_absolute, has_root, is_portable, may_be_device, portable_fault, unportable, parent_of, file_name_of, file_stem_of, extension, stripped, path_starts_with, path_ends_with, ancestors_of, stripped_to, file_prefix_of, has_trailing_separator, simplified_text, common_ancestor_of};
@@ -558,6 +558,19 @@ impl Utf8TypedPathBuf {
             (utf8_bytes directory.entry) (owned_bytes self.now) result }
     {
         self.to_path().absolutize(alloc, directory)
+    }
+
+    /// As [`Utf8TypedPath::absolutize_from`].
+    pub fn absolutize_from(
+        &self,
+        alloc: Global,
+        directory: Utf8TypedPath<'_>,
+    ) -> Result<Utf8TypedPathBuf, AbsolutizeError>
+        ensures dialect { IfOk result (λ p. typed_dialect p ≡ typed_dialect self.now) }
+        ensures absolute { AbsolutizesFrom (typed_dialect self.now) (typed_dialect directory.entry)
+            owned_bytes (typed_text directory.entry) (owned_bytes self.now) result }
+    {
+        self.to_path().absolutize_from(alloc, directory)
     }
 
     /// As [`Utf8TypedPath::with_unix_encoding`].
