@@ -2,8 +2,8 @@
 
 use std::alloc::AllocError;
 use typed_path::{
-    AbsolutizeError, Encoding, PathBuf, PathError, TypedPathBuf, Utf8Encoding, Utf8PathBuf,
-    Utf8TypedPathBuf, ValueError,
+    AbsolutizeError, Encoding, JoinError, PathBuf, PathError, TypedPathBuf, Utf8Encoding,
+    Utf8PathBuf, Utf8TypedPathBuf, ValueError,
 };
 
 /// How a call, or several of one name, ended.
@@ -60,6 +60,12 @@ impl Refusal for AllocError {
 impl Refusal for PathError {
     fn is_want(&self) -> bool {
         *self == PathError::OutOfMemory
+    }
+}
+
+impl Refusal for JoinError {
+    fn is_want(&self) -> bool {
+        *self == JoinError::OutOfMemory
     }
 }
 

@@ -7,13 +7,16 @@ use std::alloc::Global;
 use std::borrow::CowStr;
 use std::io;
 use typed_path::{
-    CheckedPathError, Encoding, Path, PathBuf, PathError, PathType, TypedPath, TypedPathBuf,
-    UnixPathBuf, Utf8Encoding, Utf8Path, Utf8PathBuf, Utf8TypedPath, Utf8TypedPathBuf,
-    Utf8UnixPathBuf, Utf8WindowsPathBuf, ValueError, WindowsPathBuf,
+    CheckedPathError, Encoding, JoinError, Path, PathBuf, PathError, PathType, TypedPath,
+    TypedPathBuf, UnixPathBuf, Utf8Encoding, Utf8Path, Utf8PathBuf, Utf8TypedPath,
+    Utf8TypedPathBuf, Utf8UnixPathBuf, Utf8WindowsPathBuf, ValueError, WindowsPathBuf,
 };
 
 /// What a checked call answers to a parent.
 const ESCAPES: PathError = PathError::Checked(CheckedPathError::PathTraversalAttack);
+
+/// And what a portable join answers to it.
+const JOIN_ESCAPES: JoinError = JoinError::Checked(CheckedPathError::PathTraversalAttack);
 
 /// A base, its parent, how many components it has and how many ancestors, and the kind that it looks
 /// like.
@@ -89,12 +92,14 @@ macro_rules! asked {
         let shared = $lent.common_ancestor($whole) == Some($lent);
         let apart = matches!($lent.relative_to($alloc, $parent), Ok(None));
         let escaped = $lent.join_checked($alloc, $parent).err() == Some(ESCAPES);
+        let refused = $lent.join_portable($alloc, $parent).err() == Some(JOIN_ESCAPES);
         [
             ("keeps_prefix", Ended::done(kept, base)),
             ("is_within", Ended::done(within, base)),
             ("common_ancestor", Ended::done(shared, base)),
             ("relative_to what is apart", Ended::done(apart, base)),
             ("join_checked of a parent", Ended::done(escaped, base)),
+            ("join_portable of a parent", Ended::done(refused, base)),
         ]
     }};
 }

@@ -105,6 +105,15 @@ const CLEAN: [Row; 4] = [
     ),
 ];
 
+const LOWER: [Row; 2] = [
+    ("", "", ""),
+    (
+        "/Tmp/É/A name that asks for room",
+        "",
+        "/tmp/É/a name that asks for room",
+    ),
+];
+
 const RELATIVE: [Row; 4] = [
     ("/a/b/c", "/a/d", "../b/c"),
     ("a", "a/.", "."),
@@ -150,11 +159,13 @@ pub const UNIX: Table = Table {
         ("join", Make::Join, &PUSHES),
         ("join in its place", Make::Join, &REPLACED),
         ("join_checked", Make::JoinChecked, &PUSHES),
+        ("join_portable", Make::JoinPortable, &PUSHES),
         ("with_file_name", Make::WithFileName, &NAMES),
         ("with_extension", Make::WithExtension, &EXTENSIONS),
         ("with_added_extension", Make::WithAddedExtension, &ADDED),
         ("normalize", Make::Normalize, &NORMAL),
         ("clean", Make::Clean, &CLEAN),
+        ("to_ascii_lowercase", Make::ToLowercase, &LOWER),
         ("relative_to", Make::RelativeTo, &RELATIVE),
         ("absolutize", Make::Absolutize, &ABSOLUTE),
         ("with_unix_encoding", Make::WithUnix, &COPIED),
@@ -267,6 +278,11 @@ const WINDOWS_NORMAL: [Row; 4] = [
     ("//?/x/a/../b", "", r"//?/x\b"),
 ];
 
+const WINDOWS_LOWER: [Row; 2] = [
+    (r"C:\A/B", "", r"c:\a/b"),
+    (r"\\?\UNC\S\H\A", "", r"\\?\UNC\s\h\a"),
+];
+
 const WINDOWS_RELATIVE: [Row; 3] = [
     ("C:/a/b", r"c:\a\d", r"..\b"),
     (r"a\C:", "a", r".\C:"),
@@ -315,6 +331,7 @@ pub const WINDOWS: Table = Table {
         ("join", Make::Join, &WINDOWS_PUSHES),
         ("join in its place", Make::Join, &WINDOWS_REPLACED),
         ("join_checked", Make::JoinChecked, &WINDOWS_PUSHES),
+        ("join_portable", Make::JoinPortable, &WINDOWS_PUSHES),
         ("with_file_name", Make::WithFileName, &WINDOWS_NAMES),
         ("with_extension", Make::WithExtension, &WINDOWS_EXTENSIONS),
         (
@@ -324,6 +341,7 @@ pub const WINDOWS: Table = Table {
         ),
         ("normalize", Make::Normalize, &WINDOWS_NORMAL),
         ("clean", Make::Clean, &WINDOWS_CLEAN),
+        ("to_ascii_lowercase", Make::ToLowercase, &WINDOWS_LOWER),
         ("relative_to", Make::RelativeTo, &WINDOWS_RELATIVE),
         ("absolutize", Make::Absolutize, &WINDOWS_ABSOLUTE),
         ("with_unix_encoding", Make::WithUnix, &TO_UNIX),
