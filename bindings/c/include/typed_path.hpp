@@ -32,6 +32,7 @@
 #include <string_view>
 #include <type_traits>
 #include <utility>
+#include <vector>
 #if __has_include(<filesystem>)
 #include <filesystem>
 #endif
@@ -302,6 +303,31 @@ private:
     std::string_view text_;
 };
 
+/// Many names joined onto one base, in their order: of each its path, or what it was refused for.
+class joined_names {
+public:
+    /// How many names there were.
+    [[nodiscard]] std::size_t size() const noexcept { return statuses_.size(); }
+    [[nodiscard]] bool empty() const noexcept { return statuses_.empty(); }
+    /// What the name at an index, which is less than `size`, was refused for; or `done`.
+    [[nodiscard]] typed_path::status status(std::size_t index) const noexcept {
+        return static_cast<typed_path::status>(statuses_[index]);
+    }
+    /// The path that was made of it, in the text of this value; empty if it was refused.
+    [[nodiscard]] std::string_view operator[](std::size_t index) const noexcept {
+        const std::size_t start = index ? ends_[index - 1] : 0;
+        return std::string_view(text_).substr(start, ends_[index] - start);
+    }
+
+private:
+    template <dialect D>
+    friend class basic_path_view;
+    // The paths one after the other, where each ends, and the statuses.
+    std::string text_;
+    std::vector<std::size_t> ends_;
+    std::vector<std::uint32_t> statuses_;
+};
+
 /// A path of a dialect: a view of a text, which has to outlive it. It takes no memory, and is passed by value.
 template <dialect D>
 class basic_path_view {
@@ -349,6 +375,17 @@ public:
     result<std::string> join_portable(basic_path_view other) const {
         return asked<typed_path_join_portable>(join_bound(other), other);
     }
+    /// Joins each of a range of names as `join_checked` does, in one call; a name is what a std::string_view can be made
+    /// of.
+    template <class Names>
+    [[nodiscard]] joined_names join_checked_each(const Names &names) const {
+        return joined_each<typed_path_join_checked_batch>(names);
+    }
+    /// The same as `join_portable` does.
+    template <class Names>
+    [[nodiscard]] joined_names join_portable_each(const Names &names) const {
+        return joined_each<typed_path_join_portable_batch>(names);
+    }
     /// The clean path of a checked join.
     result<std::string> resolve_checked(basic_path_view other) const {
         return asked<typed_path_resolve_checked>(TYPED_PATH_RESOLVE_BOUND(text_.size(), other.text_.size()), other);
@@ -393,8 +430,9 @@ public:
     /// The same from a directory of either dialect.
     template <dialect E>
     result<std::string> absolutize_from(basic_path_view<E> directory) const {
-        return asked<typed_path_absolutize_from>(TYPED_PATH_JOIN_BOUND(text_.size(), directory.text().size()), E,
-                                                 directory.text());
+        const std::string_view from = directory.text();
+        return asked<typed_path_absolutize_from>(TYPED_PATH_JOIN_BOUND(text_.size(), from.size()), E, from.data(),
+                                                 from.size());
     }
     /// It in lower case, in letters of ASCII; the `UNC` of a verbatim share stays.
     [[nodiscard]] std::string to_ascii_lowercase() const {
@@ -575,6 +613,29 @@ private:
         const status told = put<Call>(out, bound, other...);
         if (told != status::done)
             return told;
+        return out;
+    }
+    template <auto Batch, class Names>
+    joined_names joined_each(const Names &names) const {
+        std::string all;
+        std::vector<std::size_t> ends;
+        for (const auto &name : names) {
+            all += std::string_view(name);
+            ends.push_back(all.size());
+        }
+        joined_names out;
+        out.ends_.resize(ends.size());
+        out.statuses_.resize(ends.size());
+        std::size_t done = 0;
+        (void)detail::put_in(
+            out.text_, TYPED_PATH_BATCH_BOUND(text_.size(), all.size(), ends.size()),
+            [&](char *at, std::size_t size, std::size_t *len) {
+                const std::uint32_t told =
+                    Batch(number(), text_.data(), text_.size(), all.data(), all.size(), ends.data(), ends.size(), at,
+                          size, out.ends_.data(), out.ends_.size(), out.statuses_.data(), out.statuses_.size(), &done);
+                *len = out.ends_.empty() ? 0 : out.ends_.back();
+                return told;
+            });
         return out;
     }
     template <auto Call, class... Other>

@@ -110,13 +110,25 @@ static Answer ordered(basic_path_view<D> path, basic_path_view<D> other) {
     return std::to_string(order);
 }
 
+// What a batch of one name twice, with one between that is accepted, tells of it both times.
+static Answer twice(const joined_names &joined, const Answer &alone) {
+    for (const std::size_t index : {std::size_t{0}, std::size_t{2}}) {
+        const Answer one = joined.status(index) == status::done ? Answer(std::string(joined[index]))
+                                                                : Answer(joined.status(index));
+        if (one != alone)
+            return "another answer in a batch"s;
+    }
+    return joined.size() == 3 && joined.status(1) == status::done ? alone : "another batch"s;
+}
+
 template <dialect D>
 static Answer asked(const std::string &call, const std::string &text, const std::string &other) {
     const basic_path_view<D> path(text), beside(other);
     const dialect to = other == "windows" ? dialect::Windows : dialect::Unix;
     if (call == "join") return answer(path.join(other));
-    if (call == "join_checked") return answer(path.join_checked(beside));
-    if (call == "join_portable") return answer(path.join_portable(beside));
+    const std::string_view batch[] = {other, "a", other};
+    if (call == "join_checked") return twice(path.join_checked_each(batch), answer(path.join_checked(beside)));
+    if (call == "join_portable") return twice(path.join_portable_each(batch), answer(path.join_portable(beside)));
     if (call == "resolve_checked") return answer(path.resolve_checked(beside));
     if (call == "with_file_name") return answer(path.with_file_name(other));
     if (call == "with_extension") return answer(path.with_extension(other));
