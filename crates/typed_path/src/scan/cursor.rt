@@ -168,7 +168,8 @@ impl<'a> Cursor<'a> {
         self.prefix.is_none() && self.has_physical_root()
     }
 
-    /// Returns the index in the path just after the last component left.
+    /// Returns the index in the path just after the last component left; unspecified if none is
+    /// left.
     #[inline(always)]
     pub(crate) fn last_end(&self) -> usize
         ensures { (last : Placed) → last_of (items_left self.now) ≡ Some last → result
@@ -378,7 +379,8 @@ impl<'a> Cursor<'a> {
         }
     }
 
-    /// Returns the index in the path at which the first component left begins.
+    /// Returns the index in the path at which the first component left begins; unspecified if none
+    /// is left.
     #[inline(always)]
     pub(crate) fn first_start(&self) -> usize
         ensures { (first : Placed) → first_of (items_left self.now) ≡ Some first → result ≡ first.start }

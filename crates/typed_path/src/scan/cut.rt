@@ -180,9 +180,11 @@ fn bodies_behind<'a>(
     )
 }
 
-/// Returns the rests of two bodies from the first component after their last shared separator. The
-/// rests compare as the bodies do, and one begins with the components of the other exactly if its
-/// body does. `None` if no separator is shared. `shared` is their [`first_difference`].
+/// Returns the rests of two bodies from the first component after their last shared separator. Read
+/// as whole bodies, the rests compare as the two do, and the first begins with the components of
+/// the second exactly if `text` does with those of `other`. `None` if no separator is shared.
+/// `shared` is their
+/// [`first_difference`].
 #[inline(always)]
 pub fn texts_behind<'a>(
     text: &'a [u8],
@@ -211,7 +213,8 @@ pub fn texts_behind<'a>(
     ))
 }
 
-/// Returns `text`, which follows a component, from its next component on.
+/// Returns `text`, which comes after a separator, from its first component on; empty if it has
+/// none. Read as a whole body, the result has the components that `text` has there.
 #[inline(always)]
 fn behind_blanks(text: &[u8], separators: Separators) -> &[u8]
     ensures same { (at : ℕ) → parts (body separators 0 result.now)
@@ -385,8 +388,9 @@ pub fn order_of_beginning(
 }
 
 /// Returns the rests of two bodies after components that both begin with: after all of one, if the
-/// other begins with its bytes, or after their last shared separator. If the rests are names alone,
-/// their first names differ. `None` leaves it open.
+/// other begins with its bytes, or after their last shared separator. If both rests hold nothing
+/// but names with one separator between, their first names differ, or one has none. `None` leaves
+/// it open.
 #[inline(always)]
 pub fn rests_behind_shared<'a>(
     text: &'a [u8],

@@ -9,8 +9,8 @@ ghost use Rattle.typed_path.specs.queries.{is_further_device, is_taken_for_devic
 use crate::scan::lanes::first_between;
 use crate::scan::separators::{Separators, is_in};
 
-/// Whether some version of Windows may take `name` for a device. Only the bytes before the first
-/// `:` count.
+/// Whether some version of Windows may take `name` for a device, as `nul .txt` or `con:a`. Only the
+/// bytes before the first `:` count.
 pub fn may_be_device(name: &[u8]) -> bool
     ensures { result ≡ name_may_be_device name.now }
 {
@@ -18,8 +18,8 @@ pub fn may_be_device(name: &[u8]) -> bool
     begins_as_device(name) && is_taken_for_device(&name[..first_of(name, b':')])
 }
 
-/// Whether Windows takes `name` for a device if it has no `:`. Only the bytes before the first dot
-/// count, without the spaces at their end.
+/// Whether Windows takes `name` for a device if it has no `:`, as it does `con .txt`. Only the
+/// bytes before the first dot count, without the spaces at their end.
 pub fn is_taken_for_device(name: &[u8]) -> bool
     ensures { result ≡ is_taken_for_device name.now }
 {
@@ -61,7 +61,7 @@ fn without_last_spaces(text: &[u8]) -> &[u8]
 }
 
 /// Whether `text` is, ASCII case aside, a device that [`Separators::is_valid_name`] does not
-/// refuse.
+/// refuse: `CONIN$`, `CONOUT$`, or `COM` or `LPT` with `¹`, `²` or `³`.
 fn is_further_device(text: &[u8]) -> bool
     ensures { result ≡ is_further_device text.now }
 {

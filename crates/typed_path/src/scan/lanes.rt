@@ -16,7 +16,8 @@ ghost use Rattle.typed_path.specs.scan.{IsMask, TellsWhether, is_one_of, stands_
 
 use std::simd::prelude::*;
 
-/// Returns the mask of the bytes in `text[at..at + N]` that equal `byte`.
+/// Returns the mask of the bytes in `text[at..at + N]` that equal `byte`: bit `i` is that of
+/// `text[at + i]`.
 #[inline(always)]
 pub fn marks_of<const N: usize>(text: &[u8], at: usize, byte: u8) -> u64
     requires lanes { (0 < N) × (N ≤ 64) }
@@ -28,7 +29,8 @@ pub fn marks_of<const N: usize>(text: &[u8], at: usize, byte: u8) -> u64
         .to_bitmask()
 }
 
-/// Returns the mask of the bytes in `text[at..at + N]` that are in `pair`.
+/// Returns the mask of the bytes in `text[at..at + N]` that are in `pair`: bit `i` is that of
+/// `text[at + i]`.
 #[inline(always)]
 pub fn marks_at<const N: usize>(text: &[u8], at: usize, pair: (u8, u8)) -> u64
     requires lanes { (0 < N) × (N ≤ 64) }
@@ -69,7 +71,8 @@ fn highest(mask: u64) -> usize
     mask.ilog2() as usize
 }
 
-/// Returns the index of the first byte of `pair` in `text[from..to]`, or `to`, byte by byte.
+/// Returns the index of the first byte in `text[from..to]` that is in `pair`, or `to` if none is,
+/// byte by byte.
 #[inline(always)]
 fn first_by_one(text: &[u8], from: usize, to: usize, pair: (u8, u8)) -> usize
     requires ordered { from ≤ to }
@@ -83,8 +86,8 @@ fn first_by_one(text: &[u8], from: usize, to: usize, pair: (u8, u8)) -> usize
     at
 }
 
-/// Returns the index just after the last byte of `pair` in `text[from..to]`, or `from`, byte by
-/// byte.
+/// Returns the index just after the last byte in `text[from..to]` that is in `pair`, or `from` if
+/// none is, byte by byte.
 #[inline(always)]
 fn last_by_one(text: &[u8], from: usize, to: usize, pair: (u8, u8)) -> usize
     requires ordered { from ≤ to }
@@ -113,7 +116,8 @@ pub fn first_marked<const N: usize>(marks: u64, at: usize) -> usize
     at + lowest(marks)
 }
 
-/// Returns the index of the first byte of `pair` in `text[at..at + N]`, or `at + N`.
+/// Returns the index of the first byte in `text[at..at + N]` that is in `pair`, or `at + N` if none
+/// is.
 #[inline(always)]
 fn first_in_block<const N: usize>(text: &[u8], at: usize, pair: (u8, u8)) -> usize
     requires lanes { (0 < N) × (N ≤ 64) }
@@ -123,7 +127,8 @@ fn first_in_block<const N: usize>(text: &[u8], at: usize, pair: (u8, u8)) -> usi
     first_marked::<N>(marks_at::<N>(text, at, pair), at)
 }
 
-/// Returns the index just after the last byte of `pair` in `text[at..at + N]`, or `at`.
+/// Returns the index just after the last byte in `text[at..at + N]` that is in `pair`, or `at` if
+/// none is.
 #[inline(always)]
 fn last_in_block<const N: usize>(text: &[u8], at: usize, pair: (u8, u8)) -> usize
     requires lanes { (0 < N) × (N ≤ 64) }
@@ -137,8 +142,8 @@ fn last_in_block<const N: usize>(text: &[u8], at: usize, pair: (u8, u8)) -> usiz
     at + highest(marks) + 1
 }
 
-/// Returns the index of the first byte of `pair` in `text[from..to]`, or `to`. The range has at
-/// most N bytes, and `to` is at least N.
+/// Returns the index of the first byte in `text[from..to]` that is in `pair`, or `to` if none is.
+/// The range has at most N bytes, and `to` is at least N.
 #[inline(always)]
 fn first_in_last_block<const N: usize>(text: &[u8], from: usize, to: usize, pair: (u8, u8)) -> usize
     requires lanes { (0 < N) × (N < 64) }
@@ -158,8 +163,8 @@ fn first_in_last_block<const N: usize>(text: &[u8], from: usize, to: usize, pair
     from + lowest(marks)
 }
 
-/// Returns the index of the first byte of `pair` in `text[from..to]`, or `to`, by at most two
-/// blocks of N bytes. `to` is in `N..=2 * N`.
+/// Returns the index of the first byte in `text[from..to]` that is in `pair`, or `to` if none is,
+/// by at most two blocks of N bytes. `to` is in `N..=2 * N`.
 #[inline(always)]
 fn first_by_blocks<const N: usize>(text: &[u8], from: usize, to: usize, pair: (u8, u8)) -> usize
     requires lanes { (0 < N) × (N < 64) }
@@ -178,7 +183,7 @@ fn first_by_blocks<const N: usize>(text: &[u8], from: usize, to: usize, pair: (u
     first_in_last_block::<N>(text, found, to, pair)
 }
 
-/// Returns the index of the first byte of `pair` in `text[from..to]`, or `to`.
+/// Returns the index of the first byte in `text[from..to]` that is in `pair`, or `to` if none is.
 #[inline(always)]
 pub fn first_between(text: &[u8], from: usize, to: usize, pair: (u8, u8)) -> usize
     requires ordered { from ≤ to }
@@ -212,8 +217,8 @@ pub fn first_between(text: &[u8], from: usize, to: usize, pair: (u8, u8)) -> usi
     first_by_one(text, at, to, pair)
 }
 
-/// Returns the index just after the last byte of `pair` in `text[from..to]`, or `from`, by one
-/// block of N bytes and then byte by byte.
+/// Returns the index just after the last byte in `text[from..to]` that is in `pair`, or `from` if
+/// none is, by one block of N bytes and then byte by byte.
 #[inline(always)]
 fn last_by_block<const N: usize>(text: &[u8], from: usize, to: usize, pair: (u8, u8)) -> usize
     requires lanes { (0 < N) × (N ≤ 64) }
@@ -231,7 +236,8 @@ fn last_by_block<const N: usize>(text: &[u8], from: usize, to: usize, pair: (u8,
     last_by_one(text, from, found, pair)
 }
 
-/// Returns the index just after the last byte of `pair` in `text[from..to]`, or `from`.
+/// Returns the index just after the last byte in `text[from..to]` that is in `pair`, or `from` if
+/// none is.
 #[inline(always)]
 pub fn last_between(text: &[u8], from: usize, to: usize, pair: (u8, u8)) -> usize
     requires ordered { from ≤ to }
@@ -265,8 +271,8 @@ fn in_lower_case<const N: usize>(block: Simd<u8, N>) -> Simd<u8, N>
     capitals.select(block + Simd::splat(32), block)
 }
 
-/// Returns the mask of the bytes in `text[at..at + N]` that differ from those of `other`, both in
-/// ASCII lower case.
+/// Returns the mask of the bytes in `text[at..at + N]` that differ from those of `other` at the
+/// same indices, both in ASCII lower case.
 #[inline]
 fn lowered_differences_at<const N: usize>(text: &[u8], other: &[u8], at: usize) -> u64
     requires lanes { (0 < N) × (N ≤ 64) }
@@ -282,8 +288,8 @@ fn lowered_differences_at<const N: usize>(text: &[u8], other: &[u8], at: usize) 
     own.simd_ne(others).to_bitmask()
 }
 
-/// Returns the mask of the bytes in `text[at..at + N]` that differ from those of `other`; in ASCII
-/// lower case if `LOWER`.
+/// Returns the mask of the bytes in `text[at..at + N]` that differ from those of `other` at the
+/// same indices; in ASCII lower case if `LOWER`.
 #[inline(always)]
 fn differences_at<const N: usize, const LOWER: bool>(text: &[u8], other: &[u8], at: usize) -> u64
     requires lanes { (0 < N) × (N ≤ 64) }
@@ -300,7 +306,8 @@ fn differences_at<const N: usize, const LOWER: bool>(text: &[u8], other: &[u8], 
         .to_bitmask()
 }
 
-/// Whether `text[at..at + N]` differs from those bytes of `other`; in ASCII lower case if `LOWER`.
+/// Whether a byte in `text[at..at + N]` differs from that of `other` at the same index; in ASCII
+/// lower case if `LOWER`.
 #[inline(always)]
 fn differs_in_block<const N: usize, const LOWER: bool>(text: &[u8], other: &[u8], at: usize) -> bool
     requires lanes { (0 < N) × (N ≤ 64) }
@@ -311,8 +318,8 @@ fn differs_in_block<const N: usize, const LOWER: bool>(text: &[u8], other: &[u8]
     differences_at::<N, LOWER>(text, other, at) != 0
 }
 
-/// Returns the index of the first difference in `at..at + N`, or `at + N`; in ASCII lower case if
-/// `LOWER`.
+/// Returns the index of the first difference in `at..at + N`, or `at + N` if there is none; in
+/// ASCII lower case if `LOWER`.
 #[inline(always)]
 fn first_difference_in_block<const N: usize, const LOWER: bool>(
     text: &[u8],
@@ -327,8 +334,9 @@ fn first_difference_in_block<const N: usize, const LOWER: bool>(
     first_marked::<N>(differences_at::<N, LOWER>(text, other, at), at)
 }
 
-/// Returns the index of the first difference in `..to`, or `to`; in ASCII lower case if `LOWER`.
-/// `..from` is known to be equal, and only the last N bytes before `to` are compared.
+/// Returns the index of the first difference in `..to`, or `to` if there is none; in ASCII lower
+/// case if `LOWER`. `..from` is known to be equal, and only the last N bytes before `to` are
+/// compared.
 #[inline(always)]
 fn first_difference_in_last_block<const N: usize, const LOWER: bool>(
     text: &[u8],
@@ -346,8 +354,8 @@ fn first_difference_in_last_block<const N: usize, const LOWER: bool>(
     first_difference_in_block::<N, LOWER>(text, other, to - N)
 }
 
-/// Returns the index of the first difference in `..to`, or `to`, by two blocks of N bytes; in ASCII
-/// lower case if `LOWER`. `to` is in `N..=2 * N`.
+/// Returns the index of the first difference in `..to`, or `to` if there is none, by two blocks of
+/// N bytes; in ASCII lower case if `LOWER`. `to` is in `N..=2 * N`.
 #[inline(always)]
 fn first_difference_in_two<const N: usize, const LOWER: bool>(
     text: &[u8],
@@ -459,8 +467,8 @@ pub fn begins_otherwise<const N: usize>(beginning: &[u8], text: &[u8]) -> bool
         | differs_in_block::<N, false>(beginning, text, last)
 }
 
-/// Returns the mask of the bytes in `text[at..at + N]` that are forbidden, as [`is_forbidden`]
-/// tells, or in `pair`.
+/// Returns the mask of the bytes in `text[at..at + N]` that are NUL, one of `:?*"><|`, or in
+/// `pair`.
 #[inline(always)]
 fn forbidden_at<const N: usize>(text: &[u8], at: usize, pair: (u8, u8)) -> u64
     requires lanes { (0 < N) × (N ≤ 64) }
@@ -479,8 +487,9 @@ fn forbidden_at<const N: usize>(text: &[u8], at: usize, pair: (u8, u8)) -> u64
         | (block.simd_eq(Simd::splat(pair.0)) | block.simd_eq(Simd::splat(pair.1)))).to_bitmask()
 }
 
-/// The forbidden bytes, each at the index of its low four bits. The 16 entries stand twice, once
-/// for each half of a block. Other entries hold a byte with other low bits, which matches nothing.
+/// The forbidden bytes, as [`is_forbidden`] tells, each at the index of its low four bits. The 16
+/// entries stand twice, once for each half of a block. Other entries hold a byte with other low
+/// bits, which matches nothing.
 const FORBIDDEN: [u8; 32] = [
     b'\0', 0, b'"', 0, 0, 0, 0, 0, 0, 0, b':', 0, b'<', 0, b'>', b'?', b'\0', 0, b'"', 0, 0, 0, 0,
     0, 0, 0, b':', 0, b'<', 0, b'>', b'?',
@@ -502,7 +511,8 @@ fn at_low_bits(table: u8x32, block: u8x32) -> u8x32
     table.swizzle_dyn_within::<16>(block & u8x32::splat(15))
 }
 
-/// Returns the mask of the bytes in `text[at..at + 32]` that are forbidden or in `pair`.
+/// Returns the mask of the bytes in `text[at..at + 32]` that are NUL, one of `:?*"><|`, or in
+/// `pair`.
 #[inline(always)]
 fn forbidden_in_32_at(text: &[u8], at: usize, pair: (u8, u8)) -> u64
     requires { at + 32 ≤ length text.now }
@@ -532,7 +542,7 @@ pub fn letters_at(text: &[u8], at: usize, table: u8x32) -> u64
 /// All bits of a byte but the one in which a lower-case letter differs from its capital.
 const CAPITAL: u8 = 0xDF;
 
-/// Whether a byte in `text[at..at + 32]` is forbidden or in `pair`.
+/// Whether a byte in `text[at..at + 32]` is NUL, one of `:?*"><|`, or in `pair`.
 #[inline(always)]
 pub fn is_forbidden_in_32(text: &[u8], at: usize, pair: (u8, u8)) -> bool
     requires { at + 32 ≤ length text.now }
@@ -541,7 +551,7 @@ pub fn is_forbidden_in_32(text: &[u8], at: usize, pair: (u8, u8)) -> bool
     forbidden_in_32_at(text, at, pair) != 0
 }
 
-/// Whether a byte in `text[at..at + N]` is forbidden or in `pair`.
+/// Whether a byte in `text[at..at + N]` is NUL, one of `:?*"><|`, or in `pair`.
 #[inline(always)]
 fn is_forbidden_in_block<const N: usize>(text: &[u8], at: usize, pair: (u8, u8)) -> bool
     requires lanes { (0 < N) × (N ≤ 64) }
@@ -551,8 +561,8 @@ fn is_forbidden_in_block<const N: usize>(text: &[u8], at: usize, pair: (u8, u8))
     first_marked::<N>(forbidden_at::<N>(text, at, pair), at) < at + N
 }
 
-/// Whether a byte of `text` is forbidden or in `pair`, by its first and its last N bytes. Its
-/// length is in `N..=2 * N`.
+/// Whether a byte of `text` is NUL, one of `:?*"><|`, or in `pair`, by its first and its last N
+/// bytes. Its length is in `N..=2 * N`.
 #[inline(always)]
 fn has_forbidden_in_two<const N: usize>(text: &[u8], pair: (u8, u8)) -> bool
     requires lanes { (0 < N) × (N ≤ 64) }
@@ -563,7 +573,7 @@ fn has_forbidden_in_two<const N: usize>(text: &[u8], pair: (u8, u8)) -> bool
         || is_forbidden_in_block::<N>(text, text.len() - N, pair)
 }
 
-/// Whether a byte of `text` is forbidden or in `pair`, byte by byte.
+/// Whether a byte of `text` is NUL, one of `:?*"><|`, or in `pair`, byte by byte.
 #[inline(always)]
 fn has_forbidden_by_one(text: &[u8], pair: (u8, u8)) -> bool
     ensures { result ≡ list_any (is_forbidden_or pair) text.now }
@@ -591,8 +601,7 @@ fn is_forbidden(byte: u8) -> bool
         | (byte == 0)
 }
 
-/// Whether a byte of `text` is in `pair` or forbidden, which means that it is NUL or one of
-/// `:?*"><|`.
+/// Whether a byte of `text` is NUL, one of `:?*"><|`, or in `pair`.
 #[inline(always)]
 pub fn has_forbidden(text: &[u8], pair: (u8, u8)) -> bool
     ensures { result ≡ list_any (is_forbidden_or pair) text.now }
@@ -632,7 +641,7 @@ fn marks_below<const N: usize>(text: &[u8], at: usize, byte: u8) -> u64
         .to_bitmask()
 }
 
-/// Returns the mask of the control bytes in `text[at..at + N]`.
+/// Returns the mask of the control bytes in `text[at..at + N]`: those in `0..32`, and 127.
 #[inline(always)]
 fn controls_at<const N: usize>(text: &[u8], at: usize) -> u64
     requires lanes { (0 < N) × (N ≤ 64) }
@@ -645,7 +654,7 @@ fn controls_at<const N: usize>(text: &[u8], at: usize) -> u64
 /// The last control byte of ASCII, which comes after all other bytes of ASCII.
 const DELETE: u8 = 127;
 
-/// Whether `text[at..at + N]` has a control byte.
+/// Whether `text[at..at + N]` has a control byte, in `0..32` or 127.
 #[inline(always)]
 fn has_control_in_block<const N: usize>(text: &[u8], at: usize) -> bool
     requires lanes { (0 < N) × (N ≤ 64) }
@@ -655,8 +664,8 @@ fn has_control_in_block<const N: usize>(text: &[u8], at: usize) -> bool
     controls_at::<N>(text, at) != 0
 }
 
-/// Whether `text` has a control byte, by its first and its last N bytes. Its length is in
-/// `N..=2 * N`.
+/// Whether `text` has a control byte, in `0..32` or 127, by its first and its last N bytes. Its
+/// length is in `N..=2 * N`.
 #[inline(always)]
 fn has_control_in_two<const N: usize>(text: &[u8]) -> bool
     requires lanes { (0 < N) × (N ≤ 64) }
@@ -666,7 +675,7 @@ fn has_control_in_two<const N: usize>(text: &[u8]) -> bool
     has_control_in_block::<N>(text, 0) || has_control_in_block::<N>(text, text.len() - N)
 }
 
-/// Whether `text` has a control byte, byte by byte.
+/// Whether `text` has a control byte, in `0..32` or 127, byte by byte.
 #[inline(always)]
 fn has_control_by_one(text: &[u8]) -> bool
     ensures { result ≡ list_any is_control text.now }
@@ -678,7 +687,7 @@ fn has_control_by_one(text: &[u8]) -> bool
     found
 }
 
-/// Whether `byte` is a control byte of ASCII.
+/// Whether `byte` is a control byte of ASCII: in `0..32` or 127.
 #[inline(always)]
 fn is_control(byte: u8) -> bool
     ensures { result ≡ is_control byte }
@@ -686,7 +695,7 @@ fn is_control(byte: u8) -> bool
     (byte < b' ') | (byte == DELETE)
 }
 
-/// Whether `text` has a control byte of ASCII.
+/// Whether `text` has a control byte of ASCII: in `0..32` or 127.
 #[inline(always)]
 pub fn has_control(text: &[u8]) -> bool
     ensures { result ≡ list_any is_control text.now }
@@ -714,7 +723,7 @@ pub fn has_control(text: &[u8]) -> bool
     has_control_by_one(text)
 }
 
-/// Returns the mask of the bytes in `text[at..at + N]` that are NUL, or a dot followed by another.
+/// Returns the mask of the bytes in `text[at..at + N]` that are NUL, or a dot right before another.
 /// Reads one byte past the block.
 #[inline(always)]
 fn nul_or_dot_pair_at<const N: usize>(text: &[u8], at: usize) -> u64
@@ -726,7 +735,7 @@ fn nul_or_dot_pair_at<const N: usize>(text: &[u8], at: usize) -> u64
         | (marks_of::<N>(text, at, b'.') & marks_of::<N>(text, at + 1, b'.'))
 }
 
-/// Whether a byte in `text[at..at + N]` is NUL, or a dot followed by another. Reads one byte past
+/// Whether a byte in `text[at..at + N]` is NUL, or a dot right before another. Reads one byte past
 /// the block.
 #[inline(always)]
 fn has_nul_or_dot_pair_in_block<const N: usize>(text: &[u8], at: usize) -> bool
@@ -737,7 +746,7 @@ fn has_nul_or_dot_pair_in_block<const N: usize>(text: &[u8], at: usize) -> bool
     nul_or_dot_pair_at::<N>(text, at) != 0
 }
 
-/// Whether a byte of `text[..to]` is NUL, or a dot followed by another, by two blocks of N bytes.
+/// Whether a byte of `text[..to]` is NUL, or a dot right before another, by two blocks of N bytes.
 /// `to` is in `N..=2 * N`.
 #[inline(always)]
 fn has_nul_or_dot_pair_in_two<const N: usize>(text: &[u8], to: usize) -> bool
@@ -749,7 +758,7 @@ fn has_nul_or_dot_pair_in_two<const N: usize>(text: &[u8], to: usize) -> bool
     has_nul_or_dot_pair_in_block::<N>(text, 0) | has_nul_or_dot_pair_in_block::<N>(text, to - N)
 }
 
-/// Whether a byte of `text[..to]` is NUL, or a dot followed by another, byte by byte.
+/// Whether a byte of `text[..to]` is NUL, or a dot right before another, byte by byte.
 #[inline(always)]
 fn has_nul_or_dot_pair_by_one(text: &[u8], to: usize) -> bool
     requires { to < length text.now }
@@ -770,7 +779,7 @@ fn is_nul_or_dot_pair(first: u8, second: u8) -> bool
     first == b'\0' || (first == b'.' && second == b'.')
 }
 
-/// Whether a byte of `text[..to]` is NUL, or a dot followed by another. `text` goes on after `to`.
+/// Whether a byte of `text[..to]` is NUL, or a dot right before another. `text` goes on after `to`.
 #[inline(always)]
 fn has_nul_or_dot_pair_before(text: &[u8], to: usize) -> bool
     requires { to < length text.now }
@@ -798,8 +807,8 @@ fn has_nul_or_dot_pair_before(text: &[u8], to: usize) -> bool
     has_nul_or_dot_pair_by_one(text, to)
 }
 
-/// Whether `text` has neither NUL nor two dots side by side. A Unix path that has neither, and no
-/// root, has no component that a checked push refuses.
+/// Whether `text` has neither NUL nor two dots side by side. Every component of a Unix path that
+/// has neither, and no root, is accepted by a checked push.
 pub fn has_no_nul_or_dot_pair(text: &[u8]) -> bool
     ensures { result ≡ has_no_nul_or_dot_pair text.now }
 {

@@ -103,8 +103,8 @@ fn names_behind(text: &[u8], from: usize, pair: (u8, u8)) -> Option<usize>
 }
 
 /// Returns the index in `text[..to]` of the first separator before a segment that may not be a
-/// name: it is empty, `.`, or begins with `..`. Returns `to` if there is none; in `text[..from]`
-/// there is none.
+/// name: it is empty, `.`, or begins with `..`. Returns `to` if there is none; it is known that
+/// `text[..from]` has none.
 #[inline(always)]
 fn first_no_name(text: &[u8], from: usize, to: usize, pair: (u8, u8)) -> usize
     requires room { to + 2 ≤ length text.now }

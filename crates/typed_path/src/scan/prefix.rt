@@ -276,8 +276,9 @@ pub fn find_prefix(text: &[u8]) -> Option<Found<'_>>
     }
 }
 
-/// Returns the letter of the drive that `text` begins with, if any, and what follows it. `None` if
-/// `text` begins with two separators, so that it may have another prefix.
+/// Returns the letter, in ASCII upper case, of the drive `C:` that `text` begins with, and what
+/// follows it; `Some((None, text))` without a drive. `None` if `text` begins with two separators,
+/// so that it may have another prefix.
 #[inline(always)]
 pub fn parted_drive(text: &[u8]) -> Option<(Option<u8>, &[u8])>
     ensures { IfSome result (λ parted. IsPartedDrive text.now parted.0 parted.1.now) }

@@ -95,8 +95,8 @@ impl Separators {
         }
     }
 
-    /// Whether `name` is valid in a path with these separators: all its bytes are allowed in names,
-    /// and on Windows it stands for no device.
+    /// Whether `name` is valid in a path with these separators: it has no byte that no name may
+    /// have and, on Windows, does not stand for a device, as `con.txt` does.
     #[inline]
     pub fn is_valid_name(self, name: &[u8]) -> bool
         ensures { result ≡ is_valid_name (dialect_of self) name.now }
@@ -104,7 +104,8 @@ impl Separators {
         self.has_allowed_bytes(name) && !self.is_reserved(name)
     }
 
-    /// Whether all bytes of `name` are allowed in names of a path with these separators.
+    /// Whether names of a path with these separators may have all bytes of `name`: on Unix all but
+    /// `/` and NUL, on Windows all but `/`, `\`, NUL and `:?*"><|`.
     #[inline(always)]
     pub fn has_allowed_bytes(self, name: &[u8]) -> bool
         ensures { result ≡ has_allowed_bytes (dialect_of self) name.now }
@@ -115,7 +116,7 @@ impl Separators {
         }
     }
 
-    /// Whether `name` stands for a Windows device; never on Unix.
+    /// Whether `name` stands for a device of Windows, as `con.txt` does; `false` on Unix.
     #[inline(always)]
     #[tactic(auto, using(crate::proofs::lemmas::queries::ValidNames::devices_told))]
     pub fn is_reserved(self, name: &[u8]) -> bool
@@ -127,15 +128,16 @@ impl Separators {
         }
     }
 
-    /// Whether one search tells that all names in `bytes` have allowed bytes. `false` leaves it
-    /// open.
+    /// Whether one search tells that no name in `bytes` has a byte that no name may have. `false`
+    /// leaves it open.
     pub fn allows_names_of(self, bytes: &[u8]) -> bool
         ensures { IsTrue result → SeparatesDisallowed self bytes.now }
     {
         !self.has_stray(bytes)
     }
 
-    /// Whether one of `bytes` is not allowed in names and not a separator.
+    /// Whether one of `bytes` is no separator, and a byte that no name may have: NUL; on Windows
+    /// also one of `:?*"><|` and, if the path is read verbatim, `/`.
     pub fn has_stray(self, bytes: &[u8]) -> bool
         ensures { result ≡ list_any (is_stray self) bytes.now }
     {
@@ -148,7 +150,8 @@ impl Separators {
         }
     }
 
-    /// Whether one of `bytes` is not allowed in Windows names and not a separator of this path.
+    /// Whether one of `bytes` is no separator of this path, and a byte that no Windows name may
+    /// have, as `:`, or `\` in a Unix path.
     pub fn strays_on_windows(self, bytes: &[u8]) -> bool
         ensures { result ≡ list_any (strays_on_windows self) bytes.now }
     {
@@ -168,7 +171,7 @@ impl Separators {
     }
 
     /// Returns how many bytes of `text[from..to]` precede its first separator, or all if there is
-    /// none. Reads at most 32 bytes before the range.
+    /// none. May read up to 32 bytes before the range, and as many after it.
     #[inline(always)]
     pub fn first_within(self, text: &[u8], from: usize, to: usize) -> usize
         requires ordered { from ≤ to }
@@ -199,8 +202,8 @@ pub fn is_free_of(pair: (u8, u8), text: &[u8]) -> bool
     first_between(text, 0, text.len(), pair) == text.len()
 }
 
-/// Whether `name` stands for a device: it begins with the name of one, ASCII case aside, and a dot
-/// or the end follows.
+/// Whether `name` stands for a device, as `con` and `Con.txt` do: it begins with the name of one,
+/// ASCII case aside, and ends there or goes on with a dot.
 #[inline(always)]
 fn is_device(name: &[u8]) -> bool
     ensures { result ≡ is_device name.now }
@@ -261,7 +264,7 @@ fn is_numbered_device(first: u8, second: u8, third: u8, last: u8) -> bool
 /// The length in bytes from which on devices are searched for by blocks.
 const ONE_BLOCK: usize = 32;
 
-/// Whether a segment of `text` stands for a device.
+/// Whether a segment of `text` stands for a device, as `con.txt` does; `false` on Unix.
 #[inline(always)]
 pub fn has_reserved(text: &[u8], separators: Separators) -> bool
     ensures { result ≡ list_any (is_reserved (dialect_of separators))
@@ -281,7 +284,8 @@ pub fn has_reserved(text: &[u8], separators: Separators) -> bool
     separators.is_reserved(rest)
 }
 
-/// Whether each name of a path is valid. `text` is the path without its prefix.
+/// Whether each name of a path is valid, as [`Separators::is_valid_name`] tells. `text` is the path
+/// without its prefix.
 pub fn has_valid_names(text: &[u8], separators: Separators) -> bool
     ensures { (at : ℕ) → result
         ≡ is_valid (dialect_of separators) (kinds (parts (body separators at text.now))) }
@@ -462,7 +466,7 @@ const SECONDS: [u8; 32] = [
 
 /// Returns the mask of the separators in `text[at..at + 32]` after which a device may begin: its
 /// first two letters follow, and the end of a stem of three or four bytes. `behind` marks ends
-/// after the block.
+/// after the block: [`ENDED`] if it ends the text, else 0, and bits from 27 on may be missing then.
 #[inline(always)]
 fn may_begins_at(text: &[u8], at: usize, behind: u64) -> u64
     requires in_range { at + 32 ≤ length text.now }
@@ -480,7 +484,7 @@ fn may_begins_at(text: &[u8], at: usize, behind: u64) -> u64
 }
 
 /// Returns the mask of the separators after which a device may begin, given the masks of
-/// separators, of first and second letters, and of the ends of stems.
+/// separators, of first letters, of second letters, and of the bytes that end a stem.
 #[inline(always)]
 fn may_begins(separators: u64, firsts: u64, seconds: u64, ends: u64) -> u64
     ensures { AreMayBegins separators firsts seconds ends result }
@@ -565,7 +569,8 @@ pub fn is_in(set: u32, byte: u8) -> bool
     (set >> (byte % 32)) % 2 == 1
 }
 
-/// Whether a stem ends after three or four bytes, or the text is too short to tell.
+/// Whether a dot, `/` or `\` ends a stem after three or four bytes, or the text has fewer than five
+/// bytes.
 #[inline(always)]
 fn may_end_stem(text: &[u8]) -> bool
     ensures { result ≡ may_end_stem text.now }

@@ -47,7 +47,8 @@ impl<'a> Piece<'a> {
         self.text
     }
 
-    /// Whether nothing is above the component: the root, and every prefix but a drive.
+    /// Whether nothing is above the component: the root, and every prefix but a drive `C:`. It is
+    /// true of a verbatim drive, `\\?\C:`.
     #[inline(always)]
     pub fn is_root(self) -> bool
         ensures { result ≡ is_root (part_of self.entry).kind }
@@ -154,8 +155,8 @@ pub fn step_of(segment: &[u8], separators: Separators) -> Step<'_>
     Step { kind, text }
 }
 
-/// Returns the first component of `text`, which is not empty, and the index of the next one, or the
-/// length if there is none. `end` is the index of the first separator, or the length.
+/// Returns the first component of `text`, which begins with it, and the index of the next one, or
+/// the length if there is none. `end` is the index of the first separator, or the length.
 #[inline(always)]
 pub fn front_step(text: &[u8], end: usize, separators: Separators) -> (Step<'_>, usize)
     requires some { 0 < length text.now }
@@ -173,9 +174,9 @@ pub fn front_step(text: &[u8], end: usize, separators: Separators) -> (Step<'_>,
     (step_of(&text[..end], separators), end + behind)
 }
 
-/// Returns the index of the first component in `text`, which follows another component, or the
-/// length if there is none. Skips separators and, unless the path is read verbatim, segments that
-/// are `.`.
+/// Returns the index of the first component in `text`, or the length if there is none. `text` comes
+/// after a component or a separator, so separators are skipped and, unless the path is read
+/// verbatim, segments that are `.`.
 #[inline(always)]
 pub fn skip_blanks(text: &[u8], separators: Separators) -> usize
     ensures within { result ≤ length text.now }
@@ -190,8 +191,9 @@ pub fn skip_blanks(text: &[u8], separators: Separators) -> usize
     start
 }
 
-/// Returns the length of what is skipped first in `text`, which follows a component: a separator,
-/// or a `.` with its separator. `None` if `text` is empty or begins with a component.
+/// Returns the length of what is skipped first in `text`, which comes after a component or a
+/// separator: a separator, or a `.` and the separator after it, if any. `None` if `text` is empty
+/// or begins with a component.
 #[inline(always)]
 fn blank(text: &[u8], separators: Separators) -> Option<usize>
     ensures within { IfSome result (λ n. (0 < n) × (n ≤ length text.now)) }
@@ -213,8 +215,8 @@ fn blank(text: &[u8], separators: Separators) -> Option<usize>
     }
 }
 
-/// Returns the last component of `text`, which is not empty, and the index just after the component
-/// before it, or 0 if there is none.
+/// Returns the last component of `text`, which begins with a component, and the index just after
+/// the component before it, or 0 if there is none.
 #[inline(always)]
 pub fn back_step(text: &[u8], separators: Separators) -> (Step<'_>, usize)
     requires { 0 < length text.now }
@@ -272,8 +274,9 @@ fn ends_blank(text: &[u8], separators: Separators) -> bool
         || (*last == b'.' && !separators.is_verbatim() && separators.contains(*before))
 }
 
-/// Returns the depth after `step`, or the error for which it is refused. The depth counts the names
-/// that no `..` has cancelled yet. With `allowed`, the bytes of a name are known to be allowed.
+/// Returns the depth after `step`, whose depth before is `depth`, or the error for which it is
+/// refused. The depth counts the names that no `..` has cancelled yet. With `allowed`, the bytes of
+/// a name are known to be allowed.
 #[inline(always)]
 pub fn depth_behind(
     step: Step<'_>,

@@ -32,7 +32,8 @@ pub struct PlacedPiece<'a> {
     pub piece: Piece<'a>,
 }
 
-/// Whether `text`, which follows a component, is empty or begins with a component.
+/// Whether `text`, which comes after a component or a separator, is empty or begins with a
+/// component.
 #[inline(always)]
 pub fn begins_clean(text: &[u8], separators: Separators) -> bool
     ensures { result ≡ is_clean Begin.Inside separators text.now }
