@@ -65,8 +65,8 @@ impl<'a, T: Encoding> Path<'a, T> {
         true
     }
 
-    /// Returns the path in lower case: with each ASCII letter in lower case, except the `UNC` of a
-    /// prefix `\\?\UNC\`, which is read so in capitals alone.
+    /// Returns the path in lower case: with each ASCII letter in lower case, except the `UNC` of
+    /// `\\?\UNC\` before a server, which is read so only in capitals.
     ///
     /// That of `Src/É` is `src/É`, and on Windows that of `\\?\UNC\S\H` is `\\?\UNC\s\h`.
     ///
@@ -96,8 +96,8 @@ fn kept_before<T: Encoding>(path: &[u8]) -> usize
     }
 }
 
-/// Returns how many bytes at the front of a prefix stay as they are in lower case: those of
-/// `\\?\UNC\`, else 0.
+/// Returns how many bytes at the front of a prefix stay as they are in lower case: the 8 of
+/// `\\?\UNC\` before a server, else 0.
 #[inline(always)]
 fn mark_len(prefix: WindowsPrefix<'_>) -> usize
     ensures { result ≡ mark_length (prefix_view prefix.entry) }

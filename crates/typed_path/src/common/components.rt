@@ -121,7 +121,8 @@ impl<'a, T: Encoding, I> Reading<'a, T, I> {
         T::absolute(&self.cursor)
     }
 
-    /// Whether the components that are left begin with a root, written or implied by a prefix.
+    /// Whether the components that are left begin with a root, written or implied by a prefix other
+    /// than `C:` and `\\?\C:`.
     pub fn has_root(self) -> bool
         ensures { result ≡ has_root T.dialect (kinds (components_parts self.entry)) }
     {
@@ -324,7 +325,7 @@ impl<'a, T: Encoding> Ancestors<'a, T> {
         }
     }
 
-    /// Returns the path that comes next, `None` if none does.
+    /// Returns the path that comes next, `None` if all were given.
     pub(crate) fn path(self) -> Option<Path<'a, T>>
         ensures { option_map path_bytes result ≡ slice_get (ancestors_left self.entry) 0 }
     {
@@ -430,7 +431,8 @@ pub trait Component<'a>: Copy + fmt::Debug + Ord + Hash {
     fn as_bytes(&self) -> &'a [u8]
         ensures { result.now ≡ (part self.now).text };
 
-    /// Whether nothing is above the component: the root, and every prefix but a drive.
+    /// Whether nothing is above the component: the root, and every prefix but a drive `C:`. It is
+    /// true of a verbatim drive, `\\?\C:`.
     fn is_root(&self) -> bool
         ensures { result ≡ is_root_kind (part self.now).kind };
 
@@ -446,17 +448,18 @@ pub trait Component<'a>: Copy + fmt::Debug + Ord + Hash {
     fn is_current(&self) -> bool
         ensures { result ≡ is_current (part self.now).kind };
 
-    /// Whether the component is not a name, or is one that the encoding allows: `ab:c` is allowed
-    /// on Unix, and not on Windows.
+    /// Whether the component is not a name, or is one that the encoding allows: `ab:c` and
+    /// `con.txt` are allowed on Unix, and not on Windows.
     fn is_valid(&self) -> bool
         ensures { result ≡ is_valid_kind dialect (part self.now).kind };
 
-    /// Whether the component is a name that some version of Windows may take for a device.
+    /// Whether the component is a name that some version of Windows may take for a device, as
+    /// `nul .txt`.
     fn may_be_device(&self) -> bool
         ensures { result ≡ kind_may_be_device (part self.now).kind };
 
-    /// Checks that every system takes the component as it is written, as `check_portable` of a path
-    /// does.
+    /// Checks that the component is no prefix and, if it is a name, that every system takes it as
+    /// it is written, as `check_portable` of a path does.
     fn check_portable(&self) -> Result<(), PortableError>
         ensures { error_of result ≡ kind_fault (part self.now).kind };
 
@@ -488,7 +491,7 @@ impl<'a> Piece<'a> {
     ghost use Rattle.typed_path.specs.views.PieceViews.{part_of};
 
     /// Returns how the component is written in an encoding whose root is written `root`: the root,
-    /// and every prefix but a drive, as `root`; all else as it is.
+    /// and every prefix but a drive `C:`, as `root`; all else as it is.
     #[inline(always)]
     pub(crate) fn crossed(self, root: &'static [u8]) -> &'a [u8]
         ensures { (e : Dialect) → root.now ≡ root_of e
@@ -497,7 +500,8 @@ impl<'a> Piece<'a> {
         if self.is_root() { root } else { self.text }
     }
 
-    /// Whether the component is not a name, or is one that the encoding allows.
+    /// Whether the component is not a name, or is one that the encoding allows: `ab:c` and
+    /// `con.txt` are allowed on Unix, and not on Windows.
     pub fn is_valid<T: Encoding>(self) -> bool
         ensures { result ≡ is_valid_kind T.dialect (part_of self.entry).kind }
     {
@@ -507,15 +511,16 @@ impl<'a> Piece<'a> {
         }
     }
 
-    /// Whether the component is a name that some version of Windows may take for a device.
+    /// Whether the component is a name that some version of Windows may take for a device, as
+    /// `nul .txt`.
     pub fn may_be_device(self) -> bool
         ensures { result ≡ kind_may_be_device (part_of self.entry).kind }
     {
         piece_may_be_device(self)
     }
 
-    /// Checks that every system takes the component as it is written, as `check_portable` of a path
-    /// does.
+    /// Checks that the component is no prefix and, if it is a name, that every system takes it as
+    /// it is written, as `check_portable` of a path does.
     pub fn check_portable(self) -> Result<(), PortableError>
         ensures { error_of result ≡ kind_fault (part_of self.entry).kind }
     {

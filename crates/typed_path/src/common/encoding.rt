@@ -41,11 +41,12 @@ pub trait Encoding: Sized {
     fn root_text() -> &'static [u8]
         ensures { result.now ≡ root_of dialect };
 
-    /// Whether the encoding allows a name.
+    /// Whether the encoding allows `name`: it has no byte that no name may have and, on Windows,
+    /// does not stand for a device, as `con.txt` does. The empty name, `.` and `..` are allowed.
     fn valid(name: &[u8]) -> bool
         ensures { result ≡ is_valid_name dialect name.now };
 
-    /// Whether the encoding allows every name of a path.
+    /// Whether the encoding allows every name of a path, as `valid` does.
     fn valid_names(path: &[u8]) -> bool
         ensures { result ≡ is_valid dialect (kinds (parts_of dialect path.now)) };
 
@@ -80,7 +81,8 @@ pub trait Encoding: Sized {
         ensures contained { OnOk result ((base : List ℕ)
             → LiesWithin dialect base path.now (push_spec.push dialect base path.now)) };
 
-    /// Pushes `other` onto `path`. If allocation fails, `path` keeps its bytes.
+    /// Pushes `other` onto `path`: one with a prefix replaces it, one with a root all of it but its
+    /// prefix, and an empty one changes nothing. If allocation fails, `path` keeps its bytes.
     fn push(path: &mut Vec<u8>, other: &[u8]) -> Result<(), AllocError>
         ensures ok { OnOk result
             (path.new.items ≡ push_spec.push dialect path.old.items other.now) }
@@ -92,8 +94,8 @@ pub trait Encoding: Sized {
         Self::push_over(path, path.len(), other)
     }
 
-    /// Pushes `other` onto `path`, unless a component of `other` offends. If one does, or
-    /// allocation fails, `path` keeps its bytes.
+    /// Pushes `other` onto `path`, unless `check` refuses `other`. If it does, or allocation fails,
+    /// `path` keeps its bytes.
     fn push_checked(path: &mut Vec<u8>, other: &[u8]) -> Result<(), PathError>
         ensures refused { refusal result ≡ fault dialect other.now }
         ensures ok { OnOk result
@@ -137,7 +139,7 @@ pub trait Encoding: Sized {
         ensures { result ≡ is_absolute dialect (kinds (parts (items_left cursor.now))) };
 
     /// For encodings alone. Whether the components that are left begin with a root, written or
-    /// implied by a prefix.
+    /// implied by a prefix other than `C:` and `\\?\C:`.
     fn rooted(cursor: &Cursor<'_>) -> bool
         ensures { result ≡ has_root dialect (kinds (parts (items_left cursor.now))) };
 
@@ -222,7 +224,7 @@ pub trait Encoding: Sized {
     ///
     /// It never fails if `text` has spare capacity for `path` and one byte more, and each of these
     /// pushes only appends: on Windows, if the prefix is not verbatim and no segment after it
-    /// begins with a drive.
+    /// begins with a drive `C:`.
     fn put_normal(text: &mut Vec<u8>, path: &[u8]) -> Result<(), AllocError>
         ensures ok { OnOk result (text.new.items ≡ text.old.items ++ normal_text dialect path.now) }
         ensures err { OnErr result (text.new.items ≡ text.old.items) }

@@ -104,8 +104,8 @@ fn put_named(out: &mut [u8], at: usize, kind: u8, name: &[u8]) -> usize
     put_name(out, behind, name)
 }
 
-/// Writes the length of a name and its bytes to `out[at..]`. Returns the index after them, whether
-/// they fit or not.
+/// Writes the length of a name, as [`put_count`] does, and its bytes to `out[at..]`. Returns the
+/// index after them, whether they fit or not.
 fn put_name(out: &mut [u8], at: usize, name: &[u8]) -> usize
     requires { at + length (concat (length_prefixed name.now)) < 2 ^ 64 }
     ensures { IsPutFrom at (concat (length_prefixed name.now)) out.old out.new result }
@@ -114,9 +114,9 @@ fn put_name(out: &mut [u8], at: usize, name: &[u8]) -> usize
     put_bytes(out, behind, name)
 }
 
-/// Writes a length to `out[at..]`: up to 244 in one byte, which is not the number of a kind; a
-/// greater one after the byte 255, lowest byte first. Returns the index after it, whether it fits
-/// or not.
+/// Writes a length to `out[at..]`: up to 244 as one byte that is 10 more, which is not the number
+/// of a kind; a greater one after the byte 255, lowest byte first. Returns the index after it,
+/// whether it fits or not.
 fn put_count(out: &mut [u8], at: usize, count: usize) -> usize
     requires { at + length (concat (length_words count)) < 2 ^ 64 }
     ensures { IsPutFrom at (concat (length_words count)) out.old out.new result }

@@ -153,7 +153,7 @@ fn feed_step<H: Hasher>(step: Step<'_>, state: &mut H)
     }
 }
 
-/// Feeds the length of a name, and its bytes.
+/// Feeds the length of a name, as [`feed_length`] does, and its bytes.
 #[inline(always)]
 fn feed_name<H: Hasher>(name: &[u8], state: &mut H)
     ensures { state.new ≡ fold H.write state.old (length_prefixed name.now) }
@@ -162,8 +162,8 @@ fn feed_name<H: Hasher>(name: &[u8], state: &mut H)
     state.write(name);
 }
 
-/// Feeds a length: up to 244 in one byte, which is not the number of a kind; a greater one after
-/// the byte 255.
+/// Feeds a length: up to 244 as one byte that is 10 more, which is not the number of a kind; a
+/// greater one after the byte 255.
 #[inline(always)]
 fn feed_length<H: Hasher>(length: usize, state: &mut H)
     ensures { state.new ≡ fold H.write state.old (length_words length) }

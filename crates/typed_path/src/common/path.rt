@@ -55,9 +55,10 @@ impl<'a, T> Path<'a, T> {
 impl<'a, T: Encoding> Path<'a, T> {
     ghost use Rattle.typed_path.specs.changes.Push as push_spec;
 
-    /// Whether the path leads to one place, whatever the current directory is.
+    /// Whether the path is absolute: on Unix it begins with a root; on Windows with a server and a
+    /// share, as `\\s\h`, or with a prefix of another kind and a root right after that, as `C:\`.
     ///
-    /// On Windows `C:\a` does, and neither `C:a` nor `\a`.
+    /// On Windows `C:\a` is absolute, and `C:a`, `\a`, `\\s` and `\\.\COM1` are not.
     pub fn is_absolute(self) -> bool
         ensures { result ≡ is_absolute T.dialect
             (kinds (parts_of T.dialect (path_bytes self.entry))) }
@@ -73,7 +74,8 @@ impl<'a, T: Encoding> Path<'a, T> {
         !self.is_absolute()
     }
 
-    /// Whether the path begins with a root, written or implied by a prefix.
+    /// Whether the path begins with a root, written or implied by a prefix other than `C:` and
+    /// `\\?\C:`.
     ///
     /// On Windows `\a` and `\\s\h` do, and `C:a` does not.
     pub fn has_root(self) -> bool
@@ -82,16 +84,15 @@ impl<'a, T: Encoding> Path<'a, T> {
         self.components().has_root()
     }
 
-    /// Whether the encoding allows every name of the path.
-    ///
-    /// `ab:c` is allowed on Unix, and not on Windows.
+    /// Whether the encoding allows every name of the path: `ab:c` and `con.txt` are allowed on
+    /// Unix, and not on Windows.
     pub fn is_valid(self) -> bool
         ensures { result ≡ is_valid T.dialect (kinds (parts_of T.dialect (path_bytes self.entry))) }
     {
         T::valid_names(self.bytes)
     }
 
-    /// Whether some version of Windows may take a name of the path for a device.
+    /// Whether some version of Windows may take a name of the path for a device, as `nul .txt`.
     ///
     /// `nul .txt`, `con:a` and `COM¹` may be taken for one, `nul_` and `a.con` not. Only what
     /// precedes the first `:` of a name counts, of that only what precedes the first dot, without
@@ -105,8 +106,8 @@ impl<'a, T: Encoding> Path<'a, T> {
         have_device(self.components())
     }
 
-    /// Whether every system takes each component of the path as it is written, as
-    /// [`Path::check_portable`] finds.
+    /// Whether the path has no prefix and every system takes each of its names as it is written, as
+    /// [`Path::check_portable`] finds. Roots, `.` and `..` are accepted.
     ///
     /// `a/b.txt` is portable, and `nul`, `a:b` and `a/b.` are not.
     pub fn is_portable(self) -> bool
@@ -115,10 +116,11 @@ impl<'a, T: Encoding> Path<'a, T> {
         self.check_portable().is_ok()
     }
 
-    /// Checks that every system takes each component of the path as it is written. Roots, `.` and
-    /// `..` are accepted. A name has to be UTF-8 of at most 255 bytes, without control bytes and
-    /// without bytes that Windows forbids in names; it may not be a device, nor end in a dot or a
-    /// space.
+    /// Checks that the path has no prefix, and that every system takes each of its names as it is
+    /// written: none refuses it, changes it, or takes it for a device. Roots, `.` and `..` are
+    /// accepted. A name has to be UTF-8 of at most 255 bytes, without NUL and `/\:?*"><|`, which
+    /// Windows forbids in names, and without control bytes, in `0..32` or 127. It ends in neither a
+    /// dot nor a space, and no version of Windows may take it for a device, as `nul .txt`.
     ///
     /// # Errors
     ///
@@ -194,7 +196,7 @@ impl<'a, T: Encoding> Path<'a, T> {
     }
 
     /// Returns the path without its last component. `None` if it has no component, or if nothing is
-    /// above the last one: a root or, on Windows, a prefix other than a drive.
+    /// above the last one: a root or, on Windows, a prefix other than a drive `C:`.
     ///
     /// On Unix that of `/a/./b//` is `/a`, that of `a` is the empty path, and `/` has none.
     pub fn parent(self) -> Option<Path<'a, T>>
@@ -401,9 +403,9 @@ impl<'a, T: Encoding> Path<'a, T> {
         is_within::<T>(self.as_bytes(), base.as_bytes())
     }
 
-    /// Returns the path that leads from `base` to this one, from whatever directory both are read:
-    /// a `..` for each name of `base` that this path does not begin with, and for each `..` by
-    /// which this path leads higher, and then the names of this path that are left.
+    /// Returns the path from `base` to this one, from whatever directory both are read: a `..` for
+    /// each name of `base` that this path does not begin with, and for each `..` by which this path
+    /// leads higher, and then the names of this path that are left.
     ///
     /// From `/a/b` to `/a/c/d` it is `../c/d`, from `a` to `a/.` it is `.`, and from `a` to `../b`
     /// it is `../../b`. It has neither a prefix nor a root. If nothing is left to write, it is `.`;
@@ -470,8 +472,8 @@ impl<'a, T: Encoding> Path<'a, T> {
         PathBuf::from_bytes(alloc, self.as_bytes())
     }
 
-    /// Returns this path with `path` pushed onto it: an absolute one replaces it, an empty one
-    /// makes a copy.
+    /// Returns this path with `path` pushed onto it: one with a prefix replaces it, one with a root
+    /// all of it but its prefix, and an empty one makes a copy.
     ///
     /// On Unix `/etc` with `a` is `/etc/a`; on Windows `C:\a\b` with `\c` is `C:\c`.
     pub fn join(self, alloc: Global, path: Path<'_, T>) -> Result<PathBuf<T>, AllocError>
@@ -541,8 +543,9 @@ impl<'a, T: Encoding> Path<'a, T> {
         Ok(self.join_checked(alloc, path)?)
     }
 
-    /// Returns a copy with another file name. If the path has no file name, the name is pushed onto
-    /// it.
+    /// Returns a copy without its file name, if it has one, and with `name` pushed onto that, as
+    /// [`Path::join`] pushes: one with a root or a prefix replaces what is there, and an empty one
+    /// adds nothing.
     ///
     /// On Unix `a//b/` with `c` is `a/c`, and `a/..` with `c` is `a/../c`.
     pub fn with_file_name(self, alloc: Global, name: &[u8]) -> Result<PathBuf<T>, AllocError>
@@ -612,7 +615,7 @@ impl<'a, T: Encoding> Path<'a, T> {
     /// normal path, and is the same, byte for byte, for all paths that lead to the same place. On
     /// Windows, if no name has a byte that no name may have and the prefix is not the verbatim one
     /// named `UNC`, the result is read as these components with a root put in after a verbatim
-    /// drive, leads where the path does, and is its own normal path.
+    /// drive `\\?\C:`, leads where the path does, and is its own normal path.
     pub fn normalize(self, alloc: Global) -> Result<PathBuf<T>, AllocError>
         ensures text { IfOk result (λ p. p.bytes ≡ normal_text T.dialect (path_bytes self.entry)) }
         ensures form { IfOk result (λ p. HasNormalForm T.dialect (path_bytes self.entry) p.bytes) }
@@ -623,15 +626,16 @@ impl<'a, T: Encoding> Path<'a, T> {
         Ok(PathBuf::from_vec(text))
     }
 
-    /// Returns the path without `.`, doubled separators, and the names that a `..` cancels. A
+    /// Returns the path without `.`, doubled separators, a last separator that is no root, and
+    /// names that a `..` cancels; on Windows with `\` for each separator after the prefix. A
     /// relative path keeps the `..` that it needs. If nothing is left, the result is `.`.
     ///
     /// That of the Unix path `a/../../b//./c` is `../b/c`, and that of `a/..` is `.`.
     ///
     /// The prefix is kept as it is written, and on Windows none is gained: that of `a\..\C:\b` is
-    /// `.\C:\b`. From every absolute directory that keeps its prefix, the result leads where the
-    /// path does, and it is its own clean path; of the verbatim prefix named `UNC` neither is
-    /// promised.
+    /// `.\C:\b`. A root is put between `\\?\C:` and a name. From every absolute directory that
+    /// keeps its prefix, the result leads where the path does, and it is its own clean path; of a
+    /// path with the verbatim prefix named `UNC` neither of the two is promised.
     pub fn clean(self, alloc: Global) -> Result<PathBuf<T>, AllocError>
         ensures { IfOk result (λ p. p.bytes ≡ clean_text T.dialect (path_bytes self.entry)) }
     {

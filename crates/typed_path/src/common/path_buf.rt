@@ -94,7 +94,8 @@ impl<T: Encoding> PathBuf<T> {
         self.inner.capacity()
     }
 
-    /// Pushes `path` onto this one: an absolute one replaces it, an empty one changes nothing.
+    /// Pushes `path` onto this one: one with a prefix replaces it, one with a root all of it but
+    /// its prefix, and an empty one changes nothing.
     ///
     /// On Unix `b` makes `a` into `a/b`; on Windows `..` makes `\\?\C:\a` into `\\?\C:\`.
     ///
@@ -178,7 +179,9 @@ impl<T: Encoding> PathBuf<T> {
         true
     }
 
-    /// Replaces the file name by `name`, or pushes `name` if the path has no file name.
+    /// Removes the file name, if there is one, and pushes `name` onto what is left, as
+    /// [`PathBuf::push`] does: one with a root or a prefix replaces that, and an empty one adds
+    /// nothing.
     ///
     /// On Unix `c` makes `a//b/` into `a/c`, and `a/..` into `a/../c`.
     ///

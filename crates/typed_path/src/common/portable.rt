@@ -1,4 +1,5 @@
-//! Whether every system takes a path as it is written, and whether a name of it may be a device.
+//! Whether every system takes a path as it is written, and whether some version of Windows may take
+//! a name of it for a device.
 
 ghost use Rattle.std.specs.Prelude.{◌≡◌, ℕ, false, None, IsTrue, option_map};
 ghost use Rattle.std.specs.List.{list_any, slice_split};
@@ -23,7 +24,8 @@ use std::str;
 /// The greatest length of a name, in bytes, that every system takes.
 const LONGEST_NAME: usize = 255;
 
-/// Whether one of the components that are left may be a device.
+/// Whether one of the components that are left is a name that some version of Windows may take for
+/// a device, as `nul .txt`.
 #[tactic(auto, using(crate::proofs::lemmas::queries::Portable::none_device, crate::proofs::lemmas::queries::Portable::step_device, crate::proofs::lemmas::queries::Simplified::one_less))]
 pub fn have_device<T: Encoding>(mut rest: Components<'_, T>) -> bool
     ensures { result ≡ list_any kind_may_be_device (kinds (components_parts rest.entry)) }
@@ -36,7 +38,7 @@ pub fn have_device<T: Encoding>(mut rest: Components<'_, T>) -> bool
     false
 }
 
-/// Whether a component may be a device.
+/// Whether a component is a name that some version of Windows may take for a device, as `nul .txt`.
 pub fn piece_may_be_device(piece: Piece<'_>) -> bool
     ensures { result ≡ kind_may_be_device (part_of piece.entry).kind }
 {
@@ -89,7 +91,7 @@ pub fn piece_fault(piece: Piece<'_>) -> Option<PortableError>
     }
 }
 
-/// Checks that every system takes a name as it is written.
+/// Checks that every system takes a name as it is written: `Err` is its first fault.
 pub fn check_name(name: &[u8]) -> Result<(), PortableError>
     ensures { error_of result ≡ name_fault name.now }
 {
@@ -115,7 +117,8 @@ fn name_fault(name: &[u8]) -> Option<PortableError>
     }
 }
 
-/// Whether a name has neither a byte that Windows forbids in names nor a control byte.
+/// Whether a name has neither a byte that Windows forbids in names, NUL and `/\:?*"><|`, nor a
+/// control byte, in `0..32` or 127.
 fn has_portable_bytes(name: &[u8]) -> bool
     ensures { result ≡ has_portable_bytes name.now }
 {
@@ -176,8 +179,8 @@ fn has_offending_segment(text: &[u8], separators: Separators) -> bool
     may_offend(rest)
 }
 
-/// Whether a segment is too long for a name, ends in a dot or a space without being `.` or `..`, or
-/// may be a device.
+/// Whether a segment has more than 255 bytes, ends in a dot or a space without being `.` or `..`,
+/// or may be taken for a device: it offends then. Forbidden bytes and UTF-8 are not looked at.
 #[inline(always)]
 fn may_offend(segment: &[u8]) -> bool
     ensures { result ≡ may_offend segment.now }

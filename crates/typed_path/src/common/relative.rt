@@ -1,6 +1,7 @@
 //! The path that leads from a base to another path: as a look at the bytes of both tells, or else
 //! name by name from the back. What is read from the back is written backwards, and reversed at the
-//! end. Which names are kept, and which `..` unmatched, is said in `within`.
+//! end. Which names are kept, and which `..` unmatched, is said in `within`. If allocation fails, a
+//! call that appends may leave a part of it.
 
 ghost use Rattle.std.specs.Prelude.{◌≡◌, ◌+◌, ◌*◌, ◌-◌, ◌++◌, ◌∷◌, ◌<◌, ◌≤◌, ◌^◌, ◌==◌, ◌&&◌, not, false, nat_le, [], length, take, drop, reverse, option_map, if◌then◌else◌, None, IfOk, IsOk, OnOk, MatchOption, Bool, List, ℕ, Some, IfSome};
 ghost use Rattle.std.specs.Vec.{vec_len, vec_capacity};
@@ -19,7 +20,9 @@ use crate::common::writing::drop_separator;
 use crate::scan::{Body, Cursor, Separators, cut_at_separator, leading_names, rests_behind_shared};
 use std::alloc::{AllocError, Global};
 
-/// Returns the path that leads from `base` to `path`, `None` if there is none.
+/// Returns the path from `base` to `path`: `..` and then names. `Ok(None)` if their prefixes
+/// differ, or one alone has a prefix or is anchored; if `base` leads higher; or if a name that is
+/// left holds a `/`, as one after `\\?\` may.
 pub(crate) fn relative_to<T: Encoding>(
     alloc: Global,
     path: &[u8],
@@ -52,7 +55,7 @@ pub(crate) struct Near<'a> {
 }
 
 /// Returns the steps from the base `other` to the path `own`, if a look at the bytes of both tells.
-/// `None` leaves it open.
+/// `None` leaves it open. `separators` are those of a path without a prefix.
 #[inline(always)]
 pub(crate) fn near_steps<'a>(
     own: Cursor<'a>,
@@ -119,7 +122,7 @@ fn near_texts<'a>(text: &'a [u8], other: &'a [u8], separators: Separators) -> Op
 }
 
 /// Returns how many names a text has, if a look at its bytes finds nothing but names, with one
-/// separator after each or after each but the last. `None` leaves it open.
+/// separator after each or after each but the last. `None` leaves it open. The empty text has 0.
 #[inline(always)]
 fn names_alone(text: &[u8], separators: Separators) -> Option<usize>
     ensures { IfSome result (λ count. (ended : Bool) × (names : List (List ℕ))
@@ -130,8 +133,9 @@ fn names_alone(text: &[u8], separators: Separators) -> Option<usize>
     Some(if ended { ends } else { ends + 1 })
 }
 
-/// Returns whether a separator follows the last name too, if a look at the bytes of a text finds
-/// nothing but names, with one separator between two. `None` leaves it open.
+/// Returns whether a separator comes after the last name too, if a look at the bytes of a text
+/// finds nothing but names, with one separator between two. `None` leaves it open. Of the empty
+/// text it is `Some(true)`.
 #[inline(always)]
 fn ends_alone(text: &[u8], separators: Separators) -> Option<bool>
     ensures { IfSome result
@@ -203,7 +207,9 @@ fn put_ups(text: &mut Vec<u8>, count: usize, separators: Separators) -> Result<(
     Ok(())
 }
 
-/// Appends the names of `near`, each with a separator after it.
+/// Appends the names in `near.rest`, without the `..` before them, each with a separator after it:
+/// `/` if `separators` is `Slash`, else `\`. With spare capacity for `near.rest` and one byte more
+/// it does not fail.
 #[inline(always)]
 fn put_alone(text: &mut Vec<u8>, near: Near<'_>, separators: Separators) -> Result<(), AllocError>
     ensures ok { (names : List (List ℕ))
@@ -252,7 +258,8 @@ struct Steps {
     down: usize,
 }
 
-/// Returns the steps from the base `other` to the path `own`, `None` if no path leads there.
+/// Returns the steps from the base `other` to the path `own`; `None` where [`relative_to`] returns
+/// `Ok(None)`.
 #[tactic(auto, using(crate::proofs::lemmas::places::KeptFromBack::few_behind_prefix, crate::proofs::lemmas::places::KeptFromBack::kept_behind_prefix))]
 fn steps_between(own: Cursor<'_>, other: Cursor<'_>) -> Option<Steps>
     requires { length (items_left own) + length (items_left other) < 2 ^ 64 }
@@ -334,7 +341,8 @@ fn shared_count(mut rest: Body<'_>, mut base: Body<'_>, names: usize, base_names
     met
 }
 
-/// Takes the last kept name, and returns whether there is one and it is `name`.
+/// Takes the last kept name, as [`last_name`] does, and returns whether there is one and it is
+/// `name`.
 fn is_last(rest: &mut Body<'_>, owed: &mut usize, name: &[u8]) -> bool
     requires { owed.old + length (body_items rest.old) < 2 ^ 64 }
     ensures is { IsLast (names_under owed.old (body_items rest.old))
@@ -348,7 +356,7 @@ fn is_last(rest: &mut Body<'_>, owed: &mut usize, name: &[u8]) -> bool
     }
 }
 
-/// Takes the last `count` kept names.
+/// Takes the last `count` kept names, as [`last_name`] does.
 fn skip(rest: &mut Body<'_>, owed: &mut usize, count: usize)
     requires fits { owed.old + length (body_items rest.old) < 2 ^ 64 }
     requires count { count ≤ length (names_under owed.old (body_items rest.old)) }

@@ -1,5 +1,6 @@
 //! `..` and names written in rows, each with a separator after it; and the clean path, which is
-//! made of such rows.
+//! made of such rows. If allocation fails, a call may leave a part of what it appends, unless its
+//! comment says otherwise.
 
 ghost use Rattle.std.specs.Prelude.{◌≡◌, ◌<◌, ◌≤◌, ◌+◌, ◌++◌, ◌∷◌, List, ℕ, [], take, length, IfOk, IsOk, OnOk, OnErr, MatchOption, ◌||◌, false, drop, is_some, if◌then◌else◌, Some};
 ghost use Rattle.std.specs.List.{slice_split};
@@ -93,7 +94,7 @@ fn put_prefixed(text: &mut Vec<u8>, path: &[u8], found: Found<'_>) -> Result<(),
 
 /// Appends `path[..end]`, the prefix, then a root, and then the `..` and names that the clean path
 /// has of the rest. The root is appended if the path has one, or if the prefix implies one, as
-/// `implied` says, and something follows. Returns whether the path has one.
+/// `implied` says, and something follows. Returns whether the path has one that is written.
 #[inline(always)]
 fn put_headed(
     text: &mut Vec<u8>,
@@ -128,8 +129,8 @@ fn put_headed(
     Ok(rooted)
 }
 
-/// Puts `.` and a separator before `text[start..]` if that would be read as a prefix. Appends `.`
-/// if it is empty.
+/// Puts `.` and a separator before `text[start..]` if that begins with what would be read as a
+/// prefix. Appends `.` if it is empty.
 #[inline(always)]
 pub(crate) fn put_apart(
     text: &mut Vec<u8>,
@@ -208,8 +209,9 @@ macro_rules! settle_each {
     }};
 }
 
-/// Appends the `..` of a path that have no name to cancel, or none of them if it is anchored, and
-/// then the names that no `..` cancels, each with a separator after it.
+/// Appends the `..` of a path that have no name to cancel, or none of them if `anchored`, and then
+/// the names that no `..` cancels, each with a separator after it. `path` is what comes after the
+/// prefix; a root in front adds nothing.
 #[inline(always)]
 pub fn put_kept(
     text: &mut Vec<u8>,
@@ -330,7 +332,7 @@ pub fn put_each_segment(text: &mut Vec<u8>, path: &[u8], anchored: bool) -> Resu
 }
 
 /// Appends the names at the front of `path`, each with a separator after it, and returns what is
-/// left of `path`; `None` if each of its segments was a name. `names` is what [`leading_names`]
+/// left of `path`; `Ok(None)` if each of its segments was a name. `names` is what [`leading_names`]
 /// returns of `path`.
 #[inline(always)]
 pub fn put_names<'a>(
@@ -384,8 +386,8 @@ pub(crate) fn put_turned_where(
 
 /// Applies `segment`, with which `rest` begins, to the names in `text[floor..]`, and returns the
 /// index at which the names begin then. A name is appended. A `..` removes the last name; if there
-/// is none, it is appended, and the names begin after it, or it vanishes if the path is anchored.
-/// An empty segment and `.` do nothing.
+/// is none, it is appended, and the names begin after it, or it vanishes if `anchored`. An empty
+/// segment and `.` do nothing.
 #[inline(always)]
 fn put_segment(
     text: &mut Vec<u8>,

@@ -114,9 +114,10 @@ fn depth_of(mut rest: Body<'_>) -> Depth
     Depth { unmet: owed, names }
 }
 
-/// Whether a base has no kept names, and contains `own` since that leads no higher. A root without
-/// a prefix contains every path without one; a base that is not anchored contains those that are
-/// not either, and have no more unmatched `..`.
+/// Whether `base`, whose prefix is that of `own`, if any, has no kept names, and contains `own`
+/// since that leads no higher. A root without a prefix contains every path without one; a base that
+/// is not anchored contains those that are not either, and have no more unmatched `..`.
+/// `is_prefixed` says whether they have one.
 fn holds_all(own: Lead, base: Lead, is_prefixed: bool) -> bool
     ensures { result ≡ ((base.names == 0) && (if base.is_anchored then not is_prefixed
         else not own.is_anchored && nat_le own.unmet base.unmet)) }
@@ -166,7 +167,7 @@ pub(crate) fn last_name<'a>(rest: &mut Body<'a>, owed: &mut usize) -> Option<&'a
     None
 }
 
-/// Whether the kept names of a path begin with those of a base; they are `deeper` more.
+/// Whether the kept names of a path begin with those of a base; the path has `deeper` more.
 #[inline(always)]
 fn begin_alike(mut rest: Body<'_>, mut base: Body<'_>, deeper: usize) -> bool
     requires fits { length (body_items rest) < 2 ^ 64 }

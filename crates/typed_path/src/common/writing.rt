@@ -71,7 +71,8 @@ pub fn dotted_len(extension: &[u8]) -> usize
     }
 }
 
-/// Appends a dot and an extension to a stem, or nothing if the extension is empty.
+/// Appends a dot and an extension to a stem, or nothing if the extension is empty. If allocation
+/// fails, the dot may stay.
 pub fn put_extension(stem: &mut Vec<u8>, extension: &[u8]) -> Result<(), AllocError>
     ensures ok { OnOk result (stem.new.items ≡ stem.old.items ++ dotted extension.now) }
     ensures capacity { vec_capacity stem.old ≤ vec_capacity stem.new }
@@ -238,8 +239,9 @@ pub fn cut_back(
     done
 }
 
-/// Returns `rest`, which follows `segment`. If `segment` is empty or `.`, it leaves out the empty
-/// and `.` segments at the front of `rest` too.
+/// Returns `rest`, which comes after `segment` and a separator. If `segment` is empty or `.`, it
+/// leaves out the empty and `.` segments at the front of `rest` too, each with the separator after
+/// it; a `.` that ends `rest` stays.
 #[inline(always)]
 pub fn behind_segment<'a>(segment: &[u8], rest: &'a [u8], separators: Separators) -> &'a [u8]
     ensures same { (names : List (List ℕ))
@@ -259,8 +261,8 @@ pub fn behind_segment<'a>(segment: &[u8], rest: &'a [u8], separators: Separators
     left
 }
 
-/// Returns what follows an empty or `.` segment at the front, and its separator; `None` if the text
-/// does not begin so.
+/// Returns what comes after an empty or `.` segment at the front and the separator after it; `None`
+/// if the text does not begin with such a segment and a separator.
 #[inline(always)]
 fn behind_blank(text: &[u8], separators: Separators) -> Option<&[u8]>
     ensures same { IfSome result (λ rest. (names : List (List ℕ))

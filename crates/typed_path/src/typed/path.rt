@@ -116,7 +116,8 @@ impl<'a> TypedPath<'a> {
         typed!(self, path => path.display())
     }
 
-    /// Whether the path leads to one place, whatever the current directory is.
+    /// Whether the path is absolute: on Unix it begins with a root; on Windows with a server and a
+    /// share, as `\\s\h`, or with a prefix of another kind and a root right after that, as `C:\`.
     pub fn is_absolute(self) -> bool
         ensures { result ≡ is_absolute (typed_dialect self.entry)
             (kinds (parts_of (typed_dialect self.entry) (typed_bytes self.entry))) }
@@ -132,7 +133,8 @@ impl<'a> TypedPath<'a> {
         each!(self, path => path.is_relative())
     }
 
-    /// Whether the path begins with a root, written or implied by a prefix.
+    /// Whether the path begins with a root, written or implied by a prefix other than `C:` and
+    /// `\\?\C:`.
     pub fn has_root(self) -> bool
         ensures { result ≡ has_root (typed_dialect self.entry)
             (kinds (parts_of (typed_dialect self.entry) (typed_bytes self.entry))) }
@@ -140,22 +142,23 @@ impl<'a> TypedPath<'a> {
         each!(self, path => path.has_root())
     }
 
-    /// Whether some version of Windows may take a name of the path for a device.
+    /// Whether some version of Windows may take a name of the path for a device, as `nul .txt`.
     pub fn may_be_device(self) -> bool
         ensures { result ≡ may_be_device (typed_dialect self.entry) (typed_bytes self.entry) }
     {
         each!(self, path => path.may_be_device())
     }
 
-    /// Whether every system takes each component of the path as it is written.
+    /// Whether the path has no prefix and every system takes each of its names as it is written, as
+    /// [`TypedPath::check_portable`] finds. Roots, `.` and `..` are accepted.
     pub fn is_portable(self) -> bool
         ensures { result ≡ is_portable (typed_dialect self.entry) (typed_bytes self.entry) }
     {
         each!(self, path => path.is_portable())
     }
 
-    /// Checks that every system takes each component of the path as it is written, as
-    /// [`Path::check_portable`] does.
+    /// Checks that the path has no prefix, and that every system takes each of its names as it is
+    /// written, as [`Path::check_portable`] does.
     ///
     /// # Errors
     ///
@@ -183,8 +186,8 @@ impl<'a> TypedPath<'a> {
         each!(self, path => path.keeps_prefix())
     }
 
-    /// Returns a path of a verbatim drive of Windows without its `\\?\`, if that means the same to
-    /// Windows; else, as of every Unix path, the path itself.
+    /// Returns a path of a verbatim drive of Windows, `\\?\C:`, without its `\\?\`, if that means
+    /// the same to Windows; else, as of every Unix path, the path itself.
     pub fn simplified(self) -> TypedPath<'a>
         ensures dialect { typed_dialect result ≡ typed_dialect self.entry }
         ensures bytes { typed_bytes result
@@ -197,7 +200,7 @@ impl<'a> TypedPath<'a> {
     }
 
     /// Returns the path without its last component. `None` if it has no component, or if nothing is
-    /// above the last one: a root or, on Windows, a prefix other than a drive.
+    /// above the last one: a root or, on Windows, a prefix other than a drive `C:`.
     pub fn parent(self) -> Option<TypedPath<'a>>
         ensures dialect { IfSome result (λ p. typed_dialect p ≡ typed_dialect self.entry) }
         ensures bytes { option_map typed_bytes result
@@ -332,8 +335,9 @@ impl<'a> TypedPath<'a> {
         each!(self, path => path.is_within(Path::new(base)))
     }
 
-    /// Returns the path that leads from `base` to this one, `None` if there is none, as
-    /// [`Path::relative_to`] does. `base` is read in the same dialect.
+    /// Returns the path from `base`, read in the same dialect, to this one: `..` and then names, or
+    /// `Ok(None)` if [`Path::relative_to`] finds none. On Windows it leads here, joined to `base`,
+    /// under the conditions that stand there.
     pub fn relative_to(self, alloc: Global, base: &[u8]) -> Result<Option<TypedPathBuf>, AllocError>
         ensures dialect { IfOk result (λ found. IfSome found
             (λ p. typed_dialect p ≡ typed_dialect self.entry)) }
@@ -383,8 +387,8 @@ impl<'a> TypedPath<'a> {
         typed_result!(self, path => path.to_path_buf(alloc))
     }
 
-    /// Returns this path with `path`, read in the same dialect, pushed onto it: an absolute one
-    /// replaces it, an empty one makes a copy.
+    /// Returns this path with `path`, read in the same dialect, pushed onto it: one with a prefix
+    /// replaces it, one with a root all of it but its prefix, and an empty one makes a copy.
     pub fn join(self, alloc: Global, path: &[u8]) -> Result<TypedPathBuf, AllocError>
         ensures dialect { IfOk result (λ p. typed_dialect p ≡ typed_dialect self.entry) }
         ensures joined { IfOk result (λ p. owned_bytes p
@@ -424,8 +428,9 @@ impl<'a> TypedPath<'a> {
         typed_result!(self, base => base.join_portable(alloc, Path::new(path)))
     }
 
-    /// Returns a copy with another file name. If the path has no file name, the name is pushed onto
-    /// it.
+    /// Returns a copy without its file name, if it has one, and with `name` pushed onto that, as
+    /// [`TypedPath::join`] pushes: one with a root or a prefix replaces what is there, and an empty
+    /// one adds nothing.
     pub fn with_file_name(self, alloc: Global, name: &[u8]) -> Result<TypedPathBuf, AllocError>
         ensures dialect { IfOk result (λ p. typed_dialect p ≡ typed_dialect self.entry) }
         ensures bytes { IfOk result (λ p. owned_bytes p
@@ -468,7 +473,8 @@ impl<'a> TypedPath<'a> {
         typed_result!(self, path => path.normalize(alloc))
     }
 
-    /// Returns the path without `.`, doubled separators, and the names that a `..` cancels, as
+    /// Returns the path without `.`, doubled separators, a last separator that is no root, and
+    /// names that a `..` cancels; on Windows with `\` for each separator after the prefix, as
     /// [`Path::clean`] does.
     pub fn clean(self, alloc: Global) -> Result<TypedPathBuf, AllocError>
         ensures dialect { IfOk result (λ p. typed_dialect p ≡ typed_dialect self.entry) }
@@ -506,12 +512,12 @@ impl<'a> TypedPath<'a> {
         typed_result!(self, path => path.absolutize(alloc, directory))
     }
 
-    /// As [`TypedPath::absolutize`], from a directory of either kind.
+    /// As [`TypedPath::absolutize`], from a directory of either dialect.
     ///
     /// # Errors
     ///
-    /// `Ambiguous` where the path is absolute neither alone nor behind the directory. `OutOfMemory`
-    /// where memory is refused.
+    /// `Ambiguous` if the path is absolute neither alone nor after the directory. `OutOfMemory` if
+    /// allocation fails.
     pub fn absolutize_from(
         self,
         alloc: Global,
@@ -539,8 +545,8 @@ impl<'a> TypedPath<'a> {
         Ok(Typed::Unix(each!(self, path => path.with_unix_encoding(alloc))?))
     }
 
-    /// Returns the path as on Unix by checked pushes, also if it is a Unix path, as
-    /// [`Path::with_encoding_checked`] does.
+    /// Returns the path as on Unix, also if it is a Unix path: each name and each drive `C:` by a
+    /// checked push, all else by a plain one, as [`Path::with_encoding_checked`] does.
     pub fn with_unix_encoding_checked(self, alloc: Global) -> Result<TypedPathBuf, PathError>
         ensures dialect { IfOk result (λ p. typed_dialect p ≡ unix) }
         ensures converted { ConvertsChecked (typed_dialect self.entry) unix owned_bytes
@@ -559,8 +565,9 @@ impl<'a> TypedPath<'a> {
         Ok(Typed::Windows(each!(self, path => path.with_windows_encoding(alloc))?))
     }
 
-    /// Returns the path as on Windows by checked pushes, also if it is a Windows path, as
-    /// [`Path::with_encoding_checked`] does.
+    /// Returns the path as on Windows, also if it is a Windows path: each name and each drive `C:`
+    /// by a checked push, all else by a plain one, as [`Path::with_encoding_checked`] does. So the
+    /// Windows path `C:\a` is refused, and no component `..` is.
     pub fn with_windows_encoding_checked(self, alloc: Global) -> Result<TypedPathBuf, PathError>
         ensures dialect { IfOk result (λ p. typed_dialect p ≡ windows) }
         ensures converted { ConvertsChecked (typed_dialect self.entry) windows owned_bytes

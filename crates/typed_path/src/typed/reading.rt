@@ -93,7 +93,8 @@ impl<'a> TypedComponents<'a> {
         each!(self, reading => reading.is_absolute())
     }
 
-    /// Whether the components that are left begin with a root, written or implied by a prefix.
+    /// Whether the components that are left begin with a root, written or implied by a prefix other
+    /// than `C:` and `\\?\C:`.
     pub fn has_root(self) -> bool
         ensures { result ≡ has_root (reading_dialect self.entry) (kinds (typed_parts self.entry)) }
     {
@@ -266,7 +267,8 @@ impl<'a> TypedComponent<'a> {
         each!(self, component => component.as_bytes())
     }
 
-    /// Whether nothing is above the component: the root, and every prefix but a drive.
+    /// Whether nothing is above the component: the root, and every prefix but a drive `C:`. It is
+    /// true of a verbatim drive, `\\?\C:`.
     pub fn is_root(self) -> bool
         ensures { result ≡ is_root (typed_part self.entry).kind }
     {

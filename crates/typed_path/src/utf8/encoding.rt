@@ -46,7 +46,8 @@ pub trait Utf8Encoding: Sized {
         Self::Bytes::hash(path.as_bytes(), state);
     }
 
-    /// Pushes `other` onto `path`. If allocation fails, `path` keeps its bytes.
+    /// Pushes `other` onto `path`: one with a prefix replaces it, one with a root all of it but its
+    /// prefix, and an empty one changes nothing. If allocation fails, `path` keeps its bytes.
     fn push(path: &mut String, other: &str) -> Result<(), AllocError>
         ensures ok { OnOk result (string_bytes path.new
             ≡ push_spec.push Self.Bytes.dialect (string_bytes path.old) other.now) }
@@ -61,7 +62,7 @@ pub trait Utf8Encoding: Sized {
         done
     }
 
-    /// Pushes `other` onto `path`, unless a component of `other` offends. If one does, or
+    /// Pushes `other` onto `path`, unless `Encoding::check` refuses `other`. If it does, or
     /// allocation fails, `path` keeps its bytes.
     fn push_checked(path: &mut String, other: &str) -> Result<(), PathError>
         ensures refused { refusal result ≡ fault Self.Bytes.dialect other.now }
@@ -93,7 +94,8 @@ pub trait Utf8Component<'a>: Copy + fmt::Debug + Ord + Hash {
     fn as_str(&self) -> &'a str
         ensures { result.now ≡ (part self.now).text };
 
-    /// Whether nothing is above the component: the root, and every prefix but a drive.
+    /// Whether nothing is above the component: the root, and every prefix but a drive `C:`. It is
+    /// true of a verbatim drive, `\\?\C:`.
     fn is_root(&self) -> bool
         ensures { result ≡ is_root_kind (part self.now).kind };
 
@@ -109,17 +111,18 @@ pub trait Utf8Component<'a>: Copy + fmt::Debug + Ord + Hash {
     fn is_current(&self) -> bool
         ensures { result ≡ is_current (part self.now).kind };
 
-    /// Whether the component is not a name, or is one that the encoding allows: `ab:c` is allowed
-    /// on Unix, and not on Windows.
+    /// Whether the component is not a name, or is one that the encoding allows: `ab:c` and
+    /// `con.txt` are allowed on Unix, and not on Windows.
     fn is_valid(&self) -> bool
         ensures { result ≡ is_valid_kind dialect (part self.now).kind };
 
-    /// Whether the component is a name that some version of Windows may take for a device.
+    /// Whether the component is a name that some version of Windows may take for a device, as
+    /// `nul .txt`.
     fn may_be_device(&self) -> bool
         ensures { result ≡ kind_may_be_device (part self.now).kind };
 
-    /// Checks that every system takes the component as it is written, as `check_portable` of a path
-    /// does.
+    /// Checks that the component is no prefix and, if it is a name, that every system takes it as
+    /// it is written, as `check_portable` of a path does.
     fn check_portable(&self) -> Result<(), PortableError>
         ensures { error_of result ≡ kind_fault (part self.now).kind };
 

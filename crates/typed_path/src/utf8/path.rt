@@ -149,7 +149,8 @@ impl<'a, T: Utf8Encoding> Utf8Path<'a, T> {
         self.path
     }
 
-    /// Whether the path leads to one place, whatever the current directory is.
+    /// Whether the path is absolute: on Unix it begins with a root; on Windows with a server and a
+    /// share, as `\\s\h`, or with a prefix of another kind and a root right after that, as `C:\`.
     pub fn is_absolute(self) -> bool
         ensures { result ≡ is_absolute T.Bytes.dialect
             (kinds (parts_of T.Bytes.dialect (utf8_bytes self.entry))) }
@@ -165,7 +166,8 @@ impl<'a, T: Utf8Encoding> Utf8Path<'a, T> {
         self.path.is_relative()
     }
 
-    /// Whether the path begins with a root, written or implied by a prefix.
+    /// Whether the path begins with a root, written or implied by a prefix other than `C:` and
+    /// `\\?\C:`.
     pub fn has_root(self) -> bool
         ensures { result ≡ has_root T.Bytes.dialect
             (kinds (parts_of T.Bytes.dialect (utf8_bytes self.entry))) }
@@ -173,7 +175,8 @@ impl<'a, T: Utf8Encoding> Utf8Path<'a, T> {
         self.path.has_root()
     }
 
-    /// Whether the encoding allows every name of the path.
+    /// Whether the encoding allows every name of the path: `ab:c` and `con.txt` are allowed on
+    /// Unix, and not on Windows.
     pub fn is_valid(self) -> bool
         ensures { result ≡ is_valid T.Bytes.dialect
             (kinds (parts_of T.Bytes.dialect (utf8_bytes self.entry))) }
@@ -181,22 +184,23 @@ impl<'a, T: Utf8Encoding> Utf8Path<'a, T> {
         self.path.is_valid()
     }
 
-    /// Whether some version of Windows may take a name of the path for a device.
+    /// Whether some version of Windows may take a name of the path for a device, as `nul .txt`.
     pub fn may_be_device(self) -> bool
         ensures { result ≡ may_be_device T.Bytes.dialect (utf8_bytes self.entry) }
     {
         self.path.may_be_device()
     }
 
-    /// Whether every system takes each component of the path as it is written.
+    /// Whether the path has no prefix and every system takes each of its names as it is written, as
+    /// [`Utf8Path::check_portable`] finds. Roots, `.` and `..` are accepted.
     pub fn is_portable(self) -> bool
         ensures { result ≡ is_portable T.Bytes.dialect (utf8_bytes self.entry) }
     {
         self.path.is_portable()
     }
 
-    /// Checks that every system takes each component of the path as it is written, as
-    /// [`Path::check_portable`] does.
+    /// Checks that the path has no prefix, and that every system takes each of its names as it is
+    /// written, as [`Path::check_portable`] does.
     ///
     /// # Errors
     ///
@@ -255,7 +259,7 @@ impl<'a, T: Utf8Encoding> Utf8Path<'a, T> {
     }
 
     /// Returns the path without its last component. `None` if it has no component, or if nothing is
-    /// above the last one: a root or, on Windows, a prefix other than a drive.
+    /// above the last one: a root or, on Windows, a prefix other than a drive `C:`.
     ///
     /// Of the Unix path `日/本//語/` it is `日/本`.
     pub fn parent(self) -> Option<Utf8Path<'a, T>>
@@ -374,8 +378,9 @@ impl<'a, T: Utf8Encoding> Utf8Path<'a, T> {
         self.as_bytes_path().is_within(base.as_bytes_path())
     }
 
-    /// Returns the path that leads from `base` to this one, `None` if there is none, as
-    /// [`Path::relative_to`](crate::Path::relative_to) does.
+    /// Returns the path from `base` to this one: `..` and then names, or `Ok(None)` if
+    /// [`Path::relative_to`](crate::Path::relative_to) finds none. On Windows it leads here, joined
+    /// to `base`, under the conditions that stand there.
     #[tactic(auto, using(crate::proofs::lemmas::texts::TextChanges::text_laws, crate::proofs::lemmas::texts::TextClean::relative_laws))]
     pub fn relative_to(
         self,
@@ -427,8 +432,8 @@ impl<'a, T: Utf8Encoding> Utf8Path<'a, T> {
         owned!(self.as_bytes_path().to_path_buf(alloc))
     }
 
-    /// Returns this path with `path` pushed onto it: an absolute one replaces it, an empty one
-    /// makes a copy.
+    /// Returns this path with `path` pushed onto it: one with a prefix replaces it, one with a root
+    /// all of it but its prefix, and an empty one makes a copy.
     pub fn join(self, alloc: Global, path: Utf8Path<'_, T>) -> Result<Utf8PathBuf<T>, AllocError>
         ensures { IfOk result (λ p. p.bytes
             ≡ push_spec.push T.Bytes.dialect (utf8_bytes self.entry) (utf8_bytes path.entry)) }
@@ -478,8 +483,9 @@ impl<'a, T: Utf8Encoding> Utf8Path<'a, T> {
         )
     }
 
-    /// Returns a copy with another file name. If the path has no file name, the name is pushed onto
-    /// it.
+    /// Returns a copy without its file name, if it has one, and with `name` pushed onto that, as
+    /// [`Utf8Path::join`] pushes: one with a root or a prefix replaces what is there, and an empty
+    /// one adds nothing.
     pub fn with_file_name(self, alloc: Global, name: &str) -> Result<Utf8PathBuf<T>, AllocError>
         ensures { IfOk result
             (λ p. p.bytes ≡ with_file_name T.Bytes.dialect (utf8_bytes self.entry) name.now) }
@@ -531,7 +537,8 @@ impl<'a, T: Utf8Encoding> Utf8Path<'a, T> {
         owned!(self.as_bytes_path().normalize(alloc))
     }
 
-    /// Returns the path without `.`, doubled separators, and the names that a `..` cancels, as
+    /// Returns the path without `.`, doubled separators, a last separator that is no root, and
+    /// names that a `..` cancels; on Windows with `\` for each separator after the prefix, as
     /// [`Path::clean`](crate::Path::clean) does.
     #[tactic(auto, using(crate::proofs::lemmas::texts::TextChanges::text_laws, crate::proofs::lemmas::texts::TextClean::clean_laws))]
     pub fn clean(self, alloc: Global) -> Result<Utf8PathBuf<T>, AllocError>
@@ -558,8 +565,9 @@ impl<'a, T: Utf8Encoding> Utf8Path<'a, T> {
         owned!(self.as_bytes_path().with_encoding::<U::Bytes>(alloc))
     }
 
-    /// Returns the path in the encoding `U` by checked pushes, also if that has the label of this
-    /// encoding.
+    /// Returns the path in the encoding `U`, also if that has the label of this encoding: its
+    /// components pushed one by one onto the empty path, each name and each drive `C:` by a checked
+    /// push, all else by a plain one.
     ///
     /// # Errors
     ///
@@ -592,7 +600,8 @@ impl<'a, T: Utf8Encoding> Utf8Path<'a, T> {
         self.with_encoding::<Utf8UnixEncoding>(alloc)
     }
 
-    /// Returns the path as on Unix by checked pushes, as [`Utf8Path::with_encoding_checked`] does.
+    /// Returns the path as on Unix, each name and each drive `C:` by a checked push, as
+    /// [`Utf8Path::with_encoding_checked`] does.
     pub fn with_unix_encoding_checked(self, alloc: Global) -> Result<Utf8UnixPathBuf, PathError>
         ensures { ConvertsChecked T.Bytes.dialect unix
             (λ p. p.bytes) (utf8_bytes self.entry) result }
@@ -615,8 +624,8 @@ impl<'a, T: Utf8Encoding> Utf8Path<'a, T> {
         self.with_encoding::<Utf8WindowsEncoding>(alloc)
     }
 
-    /// Returns the path as on Windows by checked pushes, as [`Utf8Path::with_encoding_checked`]
-    /// does.
+    /// Returns the path as on Windows, each name and each drive `C:` by a checked push, as
+    /// [`Utf8Path::with_encoding_checked`] does.
     pub fn with_windows_encoding_checked(
         self,
         alloc: Global,
@@ -642,8 +651,8 @@ impl<'a, T: Utf8Encoding> Utf8Path<'a, T> {
         self.with_encoding::<Utf8PlatformEncoding>(alloc)
     }
 
-    /// Returns the path as on the machine by checked pushes, as [`Utf8Path::with_encoding_checked`]
-    /// does.
+    /// Returns the path as on the machine, each name and each drive `C:` by a checked push, as
+    /// [`Utf8Path::with_encoding_checked`] does.
     pub fn with_platform_encoding_checked(
         self,
         alloc: Global,
@@ -679,8 +688,8 @@ impl<'a, T: Utf8Encoding> Utf8Path<'a, T> {
     ///
     /// # Errors
     ///
-    /// `Ambiguous` where the path is absolute neither alone nor behind the directory. `OutOfMemory`
-    /// where memory is refused.
+    /// `Ambiguous` if the path is absolute neither alone nor after the directory. `OutOfMemory` if
+    /// allocation fails.
     pub fn absolutize_from<U: Utf8Encoding>(
         self,
         alloc: Global,

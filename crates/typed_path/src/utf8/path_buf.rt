@@ -131,7 +131,8 @@ impl<T: Utf8Encoding> Utf8PathBuf<T> {
         self.inner.capacity()
     }
 
-    /// Pushes `path` onto this one: an absolute one replaces it, an empty one changes nothing.
+    /// Pushes `path` onto this one: one with a prefix replaces it, one with a root all of it but
+    /// its prefix, and an empty one changes nothing.
     ///
     /// If allocation fails, the path is unchanged, and its capacity is no less.
     pub fn push(&mut self, path: Utf8Path<'_, T>) -> Result<(), AllocError>
@@ -194,7 +195,9 @@ impl<T: Utf8Encoding> Utf8PathBuf<T> {
         self.inner.pop()
     }
 
-    /// Replaces the file name by `name`, or pushes `name` if the path has no file name.
+    /// Removes the file name, if there is one, and pushes `name` onto what is left, as
+    /// [`Utf8PathBuf::push`] does: one with a root or a prefix replaces that, and an empty one adds
+    /// nothing.
     ///
     /// If allocation fails, the path is unchanged, and its capacity is no less.
     pub fn set_file_name(&mut self, name: &str) -> Result<(), AllocError>

@@ -124,7 +124,8 @@ impl<'a, T: Utf8Encoding, I> Utf8Reading<'a, T, I> {
         self.components.is_absolute()
     }
 
-    /// Whether the components that are left begin with a root, written or implied by a prefix.
+    /// Whether the components that are left begin with a root, written or implied by a prefix other
+    /// than `C:` and `\\?\C:`.
     pub fn has_root(self) -> bool
         ensures { result ≡ has_root T.Bytes.dialect (kinds (reading_parts self.entry)) }
     {
@@ -260,7 +261,8 @@ impl<'a> Utf8Piece<'a> {
         self.text
     }
 
-    /// Whether nothing is above the component: the root, and every prefix but a drive.
+    /// Whether nothing is above the component: the root, and every prefix but a drive `C:`. It is
+    /// true of a verbatim drive, `\\?\C:`.
     pub fn is_root(self) -> bool
         ensures { result ≡ is_root (text_part self.entry).kind }
     {
@@ -293,7 +295,8 @@ impl<'a> Utf8Piece<'a> {
         matches!(self.kind, Utf8PieceKind::CurDir)
     }
 
-    /// Whether the component is not a name, or is one that the encoding allows.
+    /// Whether the component is not a name, or is one that the encoding allows: `ab:c` and
+    /// `con.txt` are allowed on Unix, and not on Windows.
     pub fn is_valid<T: Utf8Encoding>(self) -> bool
         ensures { result ≡ is_valid_kind T.Bytes.dialect (text_part self.entry).kind }
     {
@@ -303,7 +306,8 @@ impl<'a> Utf8Piece<'a> {
         }
     }
 
-    /// Whether the component is a name that some version of Windows may take for a device.
+    /// Whether the component is a name that some version of Windows may take for a device, as
+    /// `nul .txt`.
     pub fn may_be_device(self) -> bool
         ensures { result ≡ kind_may_be_device (text_part self.entry).kind }
     {
@@ -313,8 +317,8 @@ impl<'a> Utf8Piece<'a> {
         }
     }
 
-    /// Checks that every system takes the component as it is written, as `check_portable` of a path
-    /// does.
+    /// Checks that the component is no prefix and, if it is a name, that every system takes it as
+    /// it is written, as `check_portable` of a path does.
     pub fn check_portable(self) -> Result<(), PortableError>
         ensures { error_of result ≡ kind_fault (text_part self.entry).kind }
     {

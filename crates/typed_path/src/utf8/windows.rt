@@ -44,8 +44,8 @@ impl Utf8Encoding for Utf8WindowsEncoding {
 }
 
 impl<'a> Utf8Path<'a, Utf8WindowsEncoding> {
-    /// Returns a path of a verbatim drive without its `\\?\`, if that means the same to Windows;
-    /// else the path itself. [`Path::simplified`] says when it does.
+    /// Returns a path of a verbatim drive, `\\?\C:`, without its `\\?\`, if that means the same to
+    /// Windows; else the path itself. [`Path::simplified`] says when it does.
     ///
     /// [`Path::simplified`]: crate::Path::simplified
     pub fn simplified(self) -> Utf8WindowsPath<'a>
