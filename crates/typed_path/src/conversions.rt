@@ -29,8 +29,8 @@ impl<'a, T: Encoding> Path<'a, T> {
     ghost use Rattle.typed_path.specs.changes.Push as push_spec;
 
     /// Returns the path in the encoding `U`: its components pushed one by one onto the empty path.
-    /// The root, and every prefix but a drive, becomes the root of `U`; all else is pushed as it
-    /// is. If `U` has the label of this encoding, the result is a copy.
+    /// The root, and every prefix but a drive `C:`, becomes the root of `U`; all else is pushed as
+    /// it is. If `U` has the label of this encoding, the result is a copy.
     ///
     /// From Windows to Unix `C:\x` is `/x`, and `C:tmp` is `C:/tmp`.
     pub fn with_encoding<U: Encoding>(self, alloc: Global) -> Result<PathBuf<U>, AllocError>
@@ -43,14 +43,16 @@ impl<'a, T: Encoding> Path<'a, T> {
         Ok(PathBuf::from_vec(text))
     }
 
-    /// Returns the path in the encoding `U` by checked pushes, also if that has the label of this
-    /// encoding.
+    /// Returns the path in the encoding `U`, also if that has the label of this encoding: its
+    /// components pushed one by one onto the empty path, each name and each drive `C:` by a checked
+    /// push, all else by a plain one.
     ///
     /// # Errors
     ///
-    /// `Checked` for the first component, other than a root, `.` or `..`, that a checked push
-    /// refuses: from Unix to Windows `/tmp/ab:c` is refused with `InvalidFilename`. `OutOfMemory`
-    /// if allocation fails before such a component is met.
+    /// `Checked` for the first name or drive that a checked push refuses: from Unix to Windows
+    /// `/tmp/ab:c` is refused with `InvalidFilename`, and from Windows to Windows `C:\a` with
+    /// `UnexpectedPrefix`. Roots, `.`, `..` and other prefixes are never refused. `OutOfMemory` if
+    /// allocation fails before such a component is met.
     pub fn with_encoding_checked<U: Encoding>(self, alloc: Global) -> Result<PathBuf<U>, PathError>
         ensures ok { IfOk result (λ p.
             converted_checked T.dialect U.dialect (path_bytes self.entry) ≡ Ok p.bytes) }
@@ -77,7 +79,8 @@ impl<'a, T: Encoding> Path<'a, T> {
         self.with_encoding::<UnixEncoding>(alloc)
     }
 
-    /// Returns the path as on Unix by checked pushes, as [`Path::with_encoding_checked`] does.
+    /// Returns the path as on Unix, each name and each drive `C:` by a checked push, as
+    /// [`Path::with_encoding_checked`] does.
     pub fn with_unix_encoding_checked(self, alloc: Global) -> Result<UnixPathBuf, PathError>
         ensures ok { IfOk result
             (λ p. converted_checked T.dialect unix (path_bytes self.entry) ≡ Ok p.bytes) }
@@ -101,7 +104,8 @@ impl<'a, T: Encoding> Path<'a, T> {
         self.with_encoding::<WindowsEncoding>(alloc)
     }
 
-    /// Returns the path as on Windows by checked pushes, as [`Path::with_encoding_checked`] does.
+    /// Returns the path as on Windows, each name and each drive `C:` by a checked push, as
+    /// [`Path::with_encoding_checked`] does.
     pub fn with_windows_encoding_checked(self, alloc: Global) -> Result<WindowsPathBuf, PathError>
         ensures ok { IfOk result
             (λ p. converted_checked T.dialect windows (path_bytes self.entry) ≡ Ok p.bytes) }
@@ -126,8 +130,8 @@ impl<'a, T: Encoding> Path<'a, T> {
         self.with_encoding::<PlatformEncoding>(alloc)
     }
 
-    /// Returns the path as on the machine by checked pushes, as [`Path::with_encoding_checked`]
-    /// does.
+    /// Returns the path as on the machine, each name and each drive `C:` by a checked push, as
+    /// [`Path::with_encoding_checked`] does.
     pub fn with_platform_encoding_checked(self, alloc: Global) -> Result<PlatformPathBuf, PathError>
         ensures ok { IfOk result
             (λ p. converted_checked T.dialect platform (path_bytes self.entry) ≡ Ok p.bytes) }
@@ -167,8 +171,8 @@ impl<'a, T: Encoding> Path<'a, T> {
     ///
     /// # Errors
     ///
-    /// `Ambiguous` where the path is absolute neither alone nor behind the directory, as `D:a` behind
-    /// `C:\work`. `OutOfMemory` where memory is refused.
+    /// `Ambiguous` if the path is absolute neither alone nor after the directory, as `D:a` after
+    /// `C:\work`. `OutOfMemory` if allocation fails.
     pub fn absolutize_from<U: Encoding>(
         self,
         alloc: Global,
@@ -264,8 +268,8 @@ fn turned<T: Encoding, U: Encoding>(path: &[u8]) -> Option<&[u8]>
     None
 }
 
-/// Whether `path` begins with a drive of ASCII that no root follows, so that what follows has to be
-/// read. Only picks the cheaper of two ways to one result.
+/// Whether `path` begins with an ASCII letter, `:`, and a byte other than `/` and `\`: what comes
+/// after the drive has to be read then. Only picks the cheaper of two ways to one result.
 #[inline(always)]
 fn stands_behind_drive(path: &[u8]) -> bool {
     matches!(path, [letter, b':', third, ..]
@@ -288,7 +292,7 @@ fn turned_for_windows(path: &[u8]) -> Option<&[u8]>
 }
 
 /// Returns [`turned`] of a Windows path without a prefix; or with one and a root after it, which
-/// replaces what was pushed for the prefix; or of a prefix alone. `None` leaves it open.
+/// replaces what was pushed for the prefix; or of one that is only a prefix. `None` leaves it open.
 #[inline(always)]
 fn turned_for_unix(path: &[u8]) -> Option<&[u8]>
     ensures { IfSome result (λ text. CrossesTurned windows unix path.now text.now) }
@@ -311,8 +315,8 @@ fn turned_for_unix(path: &[u8]) -> Option<&[u8]>
     None
 }
 
-/// Returns what a prefix alone is written as on Unix: a drive as it is, any other prefix as the
-/// root.
+/// Returns what a path that is only a prefix is written as on Unix: a drive `C:` as it is, any
+/// other prefix as `/`.
 #[inline(always)]
 fn prefix_alone<'a>(path: &'a [u8], prefix: WindowsPrefix<'a>) -> &'a [u8]
     ensures { result.now ≡ (if is_disk (prefix_view prefix.entry) then path.now else slash ∷ []) }
@@ -323,8 +327,8 @@ fn prefix_alone<'a>(path: &'a [u8], prefix: WindowsPrefix<'a>) -> &'a [u8]
     }
 }
 
-/// Whether `behind`, which follows the prefix of the Windows path `path`, begins with a root and no
-/// name in it holds a `/`.
+/// Whether `behind`, which comes after the prefix of the Windows path `path`, begins with a root
+/// and no name in it holds a `/`.
 #[inline(always)]
 fn is_rooted(path: &[u8], behind: &[u8]) -> bool
     ensures rooted { IsTrue result → begins_with_separator behind.now ≡ true }
@@ -364,8 +368,8 @@ fn push_each<T: Encoding, U: Encoding>(
 }
 
 /// Pushes the components of `path`, as they are written in the encoding `U`, onto the empty path at
-/// the end of `text`, which has `start` bytes, by checked pushes. Ends at the first that is
-/// refused; what was pushed before stays then, and if allocation fails.
+/// the end of `text`, which has `start` bytes; names and drives `C:` by checked pushes. Ends at the
+/// first that is refused; what was pushed before stays then, and if allocation fails.
 pub fn convert_checked<T: Encoding, U: Encoding>(
     text: &mut Vec<u8>,
     start: usize,
@@ -409,7 +413,7 @@ fn is_unrefused<T: Encoding, U: Encoding>(path: &[u8]) -> bool
 }
 
 /// The length in bytes from which on a Unix path is searched as a whole before it is converted to
-/// Windows by checked pushes.
+/// Windows with checks.
 const SHORTEST_LOOKED_AT: usize = 8;
 
 /// Like [`convert_checked`], component by component.
@@ -438,9 +442,9 @@ fn push_each_checked<T: Encoding, U: Encoding>(
     Ok(())
 }
 
-/// Pushes `piece` by a checked push, as it is written in the encoding `U`, onto the path
-/// `text[start..]`, of which `known` is known, and returns what is known of the result, as
-/// [`Encoding::push_next`] does.
+/// Checks `piece` as [`check_component`] does, and pushes it, as it is written in the encoding `U`,
+/// onto the path `text[start..]`, of which `known` is known. Returns what is known of the result,
+/// as [`Encoding::push_next`] does.
 #[inline(always)]
 fn push_piece_checked<U: Encoding>(
     text: &mut Vec<u8>,
@@ -466,8 +470,8 @@ fn push_piece_checked<U: Encoding>(
     Ok(U::push_next(text, start, piece.crossed(U::root_text()), known)?)
 }
 
-/// Checks a component that is to be pushed onto a path of the encoding `U`. A root, `.` and `..`
-/// are never refused.
+/// Checks a component that is to be pushed onto a path of the encoding `U`. A root, `.`, `..` and
+/// every prefix but a drive `C:` are never refused.
 #[inline(always)]
 fn check_component<U: Encoding>(piece: Piece<'_>) -> Result<(), CheckedPathError>
     ensures { error_of result ≡ crossing_fault U.dialect (part_of piece.entry) }
