@@ -273,7 +273,8 @@ fn behind_parents(text: &[u8]) -> &[u8]
     }
 }
 
-/// Appends the names that `path`, the rest after a root, resolves to, each with a `/` after it.
+/// Appends the names that `path`, the rest after a root, resolves to, each with a `/` after it. If
+/// allocation fails, a part of them may stay.
 #[inline(always)]
 fn put_left(text: &mut Vec<u8>, path: &[u8]) -> Result<(), AllocError>
     ensures ok { OnOk result (text.new.items ≡ text.old.items

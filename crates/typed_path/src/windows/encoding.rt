@@ -266,8 +266,9 @@ fn shared_written_prefix(path: &[u8], other: &[u8], shared: usize) -> Option<(us
     Some((found.length, Separators::of_windows(path)))
 }
 
-/// Returns the length in bytes of the drive that two paths begin with, or 0 if neither has a
-/// prefix. `None` leaves it open: the drives differ, or a path begins with two separators.
+/// Returns the length in bytes of the drive `C:` that two paths begin with, or 0 if neither has a
+/// prefix. `None` leaves it open: the drives differ, one alone has one, or a path begins with two
+/// separators.
 #[inline(always)]
 fn shared_drive(path: &[u8], other: &[u8]) -> Option<usize>
     ensures one { IfSome result (λ end. HaveOnePrefix path.now other.now end Separators.Either) }
@@ -284,8 +285,8 @@ fn shared_drive(path: &[u8], other: &[u8]) -> Option<usize>
 /// The least number of bytes that two paths have to share for a prefix other than `C:` to be read.
 const PARTED: usize = 6;
 
-/// Compares two paths whose prefixes differ, or of which one begins with two separators. `None`
-/// leaves it open.
+/// Compares two paths of which one begins with two separators, or has another drive `C:` than the
+/// other, or alone has one. `None` leaves it open.
 fn order_by_prefixes(path: &[u8], other: &[u8]) -> Option<Ordering>
     ensures { IfSome result (λ order. path_cmp windows path.now other.now ≡ order) }
 {

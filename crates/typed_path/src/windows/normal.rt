@@ -1,4 +1,5 @@
-//! The normal path of a Windows path, and verbatim drive paths without their `\\?\`.
+//! The normal path of a Windows path, and verbatim drive paths without their `\\?\`. If allocation
+//! fails, a call may leave a part of what it appends, unless its comment says otherwise.
 
 ghost use Rattle.std.specs.Prelude.{◌≡◌, ◌<◌, ◌≤◌, ◌+◌, ◌-◌, ◌++◌, ℕ, List, [], false, true, take, drop, fold, length, map, IsTrue, IsSome, IfSome, IsOk, IfOk, OnOk, OnErr, None, ◌&&◌};
 ghost use Rattle.std.specs.List.{list_any, slice_split, list_all};
@@ -70,8 +71,8 @@ struct RowHead<'a> {
     pub rest: &'a [u8],
 }
 
-/// Returns the head of `path` if the names after it may be appended as they are. `None` if they
-/// have to be pushed.
+/// Returns the head of `path`, its prefix and root, if the names after it may be appended as they
+/// are. `None` if they have to be pushed.
 #[inline(always)]
 fn row_head(path: &[u8]) -> Option<RowHead<'_>>
     ensures rows { IfSome result (λ head.
@@ -131,8 +132,8 @@ fn head_behind(path: &[u8], end: usize) -> RowHead<'_>
 }
 
 /// Appends `head` and then the names of its rest, with `\` between. Returns whether that is the
-/// normal path: `false` if a name begins with a drive, which a push would read otherwise; what was
-/// appended is unspecified then.
+/// normal path: `false` if a name begins with a drive `C:`, which a push would read as a prefix;
+/// what was appended is unspecified then.
 #[inline(always)]
 fn put_rows(text: &mut Vec<u8>, head: RowHead<'_>) -> Result<bool, AllocError>
     ensures ok { IfOk result (λ done. IsTrue done → (path : List ℕ)
@@ -159,7 +160,7 @@ fn put_rows(text: &mut Vec<u8>, head: RowHead<'_>) -> Result<bool, AllocError>
 const ONE_BLOCK_AND_TWO: usize = 34;
 
 /// Appends the names that `path` resolves to, each with `\` after it, to a head of `len` bytes,
-/// which is all of `text`. Returns `false` if a name begins with a drive; what was appended is
+/// which is all of `text`. Returns `false` if a name begins with a drive `C:`; what was appended is
 /// unspecified then.
 fn put_segments(text: &mut Vec<u8>, len: usize, path: &[u8]) -> Result<bool, AllocError>
     requires { len ≤ length text.old.items }
@@ -186,8 +187,9 @@ fn put_segments(text: &mut Vec<u8>, len: usize, path: &[u8]) -> Result<bool, All
     put_one_by_one(text, len, path)
 }
 
-/// Like [`put_segments`], for a path without `:`, in which no name begins with a drive. `names` is
-/// what [`leading_short_names`] returns for `path`; names side by side are appended at once.
+/// Like [`put_segments`], for a path without `:`, in which no name begins with a drive `C:`, so it
+/// returns `true`. `names` is what [`leading_short_names`] returns for `path`; names side by side
+/// are appended at once.
 fn put_undriven(
     text: &mut Vec<u8>,
     len: usize,
@@ -223,7 +225,7 @@ fn put_undriven(
 }
 
 /// Applies the segments of `path` to the names in `text[len..]`, one by one, as [`put_segment`]
-/// does. Returns `false` if one begins with a drive; what was put is unspecified then.
+/// does. Returns `false` if one begins with a drive `C:`; what was put is unspecified then.
 #[inline(always)]
 fn put_one_by_one(text: &mut Vec<u8>, len: usize, path: &[u8]) -> Result<bool, AllocError>
     requires { len ≤ length text.old.items }
@@ -252,7 +254,7 @@ fn put_one_by_one(text: &mut Vec<u8>, len: usize, path: &[u8]) -> Result<bool, A
 
 /// Applies `segment`, with which `rest` begins, to the names in `text[len..]`: appends a name with
 /// `\` after it, and takes the last name off for `..`. Returns `false`, and changes nothing, if
-/// `segment` begins with a drive.
+/// `segment` begins with a drive `C:`.
 #[inline(always)]
 fn put_segment(
     text: &mut Vec<u8>,
@@ -344,13 +346,13 @@ fn push_heads<'a>(
 const LONG: usize = 264;
 
 impl<'a> Path<'a, WindowsEncoding> {
-    /// Returns a path of a verbatim drive without its `\\?\`, if that means the same to Windows;
-    /// else the path itself.
+    /// Returns a path of a verbatim drive, `\\?\C:`, without its `\\?\`, if that means the same to
+    /// Windows; else the path itself.
     ///
-    /// That of `\\?\C:\a\b` is `C:\a\b`. It means the same if a root and names alone follow the
-    /// drive, fewer than 260 bytes are left, and each name is valid, ends in neither a dot nor a
-    /// space and stands for no device, whatever spaces are before its first dot: `\\?\C:\con .txt`
-    /// stays as it is.
+    /// That of `\\?\C:\a\b` is `C:\a\b`. It means the same if after the drive come a root and then
+    /// nothing but names, fewer than 260 bytes are left, and each name is valid, ends in neither a
+    /// dot nor a space and stands for no device, whatever spaces are before its first dot:
+    /// `\\?\C:\con .txt` stays as it is.
     #[tactic(auto, using(crate::proofs::lemmas::queries::Simplified::simple_long))]
     pub fn simplified(self) -> WindowsPath<'a>
         ensures { path_bytes result ≡ simplified_text windows (path_bytes self.entry) }
@@ -364,8 +366,8 @@ impl<'a> Path<'a, WindowsEncoding> {
     }
 }
 
-/// Whether the components left are a verbatim drive, a root, and names that Windows takes as they
-/// are written.
+/// Whether the components left are a verbatim drive, `\\?\C:`, a root, and names that Windows takes
+/// as they are written.
 #[tactic(auto, using(crate::proofs::lemmas::queries::Simplified::none_simple, crate::proofs::lemmas::queries::Simplified::one_simple, crate::proofs::lemmas::queries::Simplified::two_simple))]
 fn is_simple(mut rest: Components<'_, WindowsEncoding>) -> bool
     ensures { result ≡ is_simple (kinds (components_parts rest.entry)) }
@@ -379,7 +381,7 @@ fn is_simple(mut rest: Components<'_, WindowsEncoding>) -> bool
     are_drive_and_root(first, second) && are_exact(rest)
 }
 
-/// Whether two components are a verbatim drive and a root.
+/// Whether two components are a verbatim drive, `\\?\C:`, and a root.
 fn are_drive_and_root(first: Piece<'_>, second: Piece<'_>) -> bool
     ensures { result ≡ (is_verbatim_drive (part_of first.entry).kind
         && is_written_root (part_of second.entry).kind) }
@@ -409,7 +411,8 @@ fn is_exact(piece: Piece<'_>) -> bool
     matches!(piece.kind, PieceKind::Normal) && is_exact_name(piece.text)
 }
 
-/// Whether Windows takes `name` as it is written, also after a drive without `\\?\`.
+/// Whether Windows takes `name` as it is written, also after a drive without `\\?\`: it is valid,
+/// ends in neither a dot nor a space, and is not taken for a device.
 fn is_exact_name(name: &[u8]) -> bool
     ensures { result ≡ is_exact_name name.now }
 {

@@ -3,7 +3,8 @@
 //! Under a verbatim prefix a push merges the components of the other path into those of the base,
 //! and spells the result: the prefix, the root, and the other components with one `\` between. A
 //! path with a verbatim prefix is *spelled* if it is written so already. The components after a
-//! prefix are *parted* from it if they have no root, so that a `\` is put between.
+//! prefix are *parted* from it if they have no root, so that a `\` is put between. If allocation
+//! fails, a call may leave a part of what it appends, unless its comment says otherwise.
 
 ghost use Rattle.std.specs.Prelude.{◌≡◌, ◌≤◌, ◌+◌, ◌++◌, ℕ, List, IsTrue, true, false, take, drop, slice_range, length, IfOk, IsOk, OnOk, OnErr, Some, ◌<◌, ◌∷◌, [], Bool, IfSome, is_some, not};
 ghost use Rattle.std.specs.Vec.{vec_capacity, vec_len};
@@ -116,7 +117,7 @@ pub fn separator_behind(base: &[u8]) -> &'static [u8]
     }
 }
 
-/// Whether `path` is a prefix `C:` and nothing else.
+/// Whether `path` is a drive `C:` and nothing else.
 fn is_disk_alone(path: &[u8]) -> bool
     ensures { result ≡ is_disk_alone (kinds (parts_of windows path.now)) }
 {
@@ -134,7 +135,7 @@ pub fn prefix_len(path: &[u8]) -> usize
     }
 }
 
-/// Whether `path` has a verbatim prefix, as its first five bytes tell.
+/// Whether `path` has a verbatim prefix, as `\\?\C:` or `//?/a`, which its first five bytes tell.
 pub fn has_verbatim_kind(path: &[u8]) -> bool
     ensures { result ≡ has_any_verbatim_prefix (kinds (parts_of windows path.now)) }
 {
@@ -217,7 +218,7 @@ fn put_behind(text: &mut Vec<u8>, start: usize, other: &[u8]) -> Result<(), Allo
     put_over(text, len, separator, other)
 }
 
-/// Like [`push_next`], but reads both paths.
+/// Does what [`push_next`] does, without its look at the first bytes.
 fn push_read(
     text: &mut Vec<u8>,
     start: usize,
@@ -304,7 +305,7 @@ pub fn is_separated(separators: Separators, text: &[u8]) -> bool
     separators.first_in(text) != text.len()
 }
 
-/// Whether each segment between two `\` is a component.
+/// Whether each segment of `text`, split at `\`, is a component, as [`is_component`] tells.
 fn are_components(separators: Separators, text: &[u8]) -> bool
     ensures { result ≡ list_all (is_component separators)
         (slice_split (is_separator Separators.Backslash) text.now) }
@@ -477,8 +478,8 @@ fn merge_path(
     Ok(parted)
 }
 
-/// Returns the names that a merge of `path`, which has no prefix, appends, if `path` holds names
-/// alone but for a `.` in front and a separator at its end. `None` leaves it open.
+/// Returns the names that a merge of `path`, which has no prefix, appends, if `path` holds nothing
+/// but names, a `.` in front and a separator at its end. `None` leaves it open.
 #[inline(always)]
 fn names_alone(path: &[u8]) -> Option<&[u8]>
     requires { has_prefix (kinds (parts_of windows path.now)) ≡ false }
