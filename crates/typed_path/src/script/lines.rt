@@ -1,4 +1,5 @@
-//! One line of commands at the front of an input, and its reply.
+//! One line of commands at the front of an input, and its reply: fields with a tab between, and a
+//! line feed. If allocation fails, `replies` may keep a part of the reply.
 
 ghost use Rattle.std.specs.Prelude.{◌≡◌, [], ◌∷◌, ◌++◌, Some, take, length, OnOk, option_map, ◌≢◌, ℕ, List, codes, MatchOption, IfOk, IfSome, IfNone};
 ghost use Rattle.typed_path.specs.components.{parts_of};
@@ -200,7 +201,8 @@ fn cut_field(input: &[u8]) -> Option<(Span<'_>, FieldEnd, &[u8])>
     Some((field, end, &input[at + 1..]))
 }
 
-/// Appends to `replies` the reply that names the encoding that `path` looks like.
+/// Appends to `replies` the line `ok`, a tab, and the name of the encoding that `path` looks like:
+/// `unix` or `windows`.
 pub fn put_derived(path: &[u8], replies: &mut Vec<u8>) -> Result<(), AllocError>
     ensures { OnOk result
         (replies.new.items ≡ replies.old.items ++ reply_line (derived_reply path.now)) }
@@ -211,7 +213,8 @@ pub fn put_derived(path: &[u8], replies: &mut Vec<u8>) -> Result<(), AllocError>
     }
 }
 
-/// Appends to `replies` the reply to a command with one path.
+/// Appends to `replies` the reply to a command with one path: that of [`put_bad_line`] if the
+/// command needs two fields.
 pub fn put_path_reply<T: Encoding>(
     command: Command,
     path: Span<'_>,
@@ -235,7 +238,8 @@ pub fn put_path_reply<T: Encoding>(
 }
 
 /// Appends to `replies` the reply to a command with two fields: a base and a path, or the name of
-/// an encoding and a path.
+/// an encoding and a path. It is that of [`put_bad_line`] if the command takes one path, or no
+/// encoding has that name.
 pub fn put_pair_reply<T: Encoding>(
     command: Command,
     first: &[u8],
@@ -261,7 +265,8 @@ pub fn put_pair_reply<T: Encoding>(
     }
 }
 
-/// Appends to `replies` the reply to a command that converts `path` to the encoding `U`.
+/// Appends to `replies` the reply to a command that converts `path` to the encoding `U`; to any
+/// other command that of [`put_bad_line`].
 fn put_conversion<T: Encoding, U: Encoding>(
     command: Command,
     path: Span<'_>,
@@ -284,8 +289,8 @@ fn put_conversion<T: Encoding, U: Encoding>(
     }
 }
 
-/// Appends to `replies` the reply that is `path` in the encoding `U` by checked pushes, or the name
-/// of the refusal.
+/// Appends to `replies` the line `ok`, a tab, and `path` in the encoding `U`, as
+/// [`convert_checked`] makes it; or that of [`put_refusal`] if a component is refused.
 fn put_converted_checked<T: Encoding, U: Encoding>(
     path: Span<'_>,
     replies: &mut Vec<u8>,
@@ -309,7 +314,8 @@ fn put_converted_checked<T: Encoding, U: Encoding>(
     }
 }
 
-/// Appends to `replies` the reply that is `base` with `path` pushed onto it.
+/// Appends to `replies` the line `ok`, a tab, and `base` with `path` pushed onto it. If allocation
+/// fails, `replies` may keep a part of the line.
 fn put_joined<T: Encoding>(
     base: &[u8],
     path: &[u8],
@@ -326,7 +332,7 @@ fn put_joined<T: Encoding>(
     Ok(())
 }
 
-/// Appends to `replies` the reply that is the name of a refusal.
+/// Appends to `replies` the line `err`, a tab, and the name of a refusal.
 fn put_refusal(refusal: CheckedPathError, replies: &mut Vec<u8>) -> Result<(), AllocError>
     ensures { OnOk result
         (replies.new.items ≡ replies.old.items ++ reply_line (joined_reply [] (Some refusal))) }
@@ -343,14 +349,16 @@ fn put_refusal(refusal: CheckedPathError, replies: &mut Vec<u8>) -> Result<(), A
     }
 }
 
-/// Appends to `replies` the reply to a line that is no command.
+/// Appends to `replies` the line `err`, a tab, and `BadLine`, which is the reply to a line that is
+/// no command.
 pub fn put_bad_line(replies: &mut Vec<u8>) -> Result<(), AllocError>
     ensures { OnOk result (replies.new.items ≡ replies.old.items ++ reply_line bad_line) }
 {
     replies.extend_from_slice(b"err\tBadLine\n")
 }
 
-/// Appends to `replies` the reply that lists the components of `path`.
+/// Appends to `replies` the line `ok`, with a tab and a field, as `normal=a`, for each component of
+/// `path`.
 fn put_components<T: Encoding>(path: Span<'_>, replies: &mut Vec<u8>) -> Result<(), AllocError>
     ensures { OnOk result (replies.new.items ≡ replies.old.items
         ++ reply_line (components_reply (parts_of T.dialect (span_bytes path.entry)))) }
@@ -372,8 +380,8 @@ fn put_components<T: Encoding>(path: Span<'_>, replies: &mut Vec<u8>) -> Result<
     Ok(())
 }
 
-/// Appends to `replies` a tab and the field of a component after the prefix. `left` begins with the
-/// component if that is a name, and may go on after it.
+/// Appends to `replies` a tab and the field of a component after the prefix, as `normal=a`. `left`
+/// begins with the component if that is a name, and may go on after it.
 #[inline(always)]
 fn put_step(step: Step<'_>, left: &[u8], replies: &mut Vec<u8>) -> Result<(), AllocError>
     requires { step.kind ≡ StepKind.Normal → take (length step.text.now) left.now ≡ step.text.now }
@@ -387,7 +395,7 @@ fn put_step(step: Step<'_>, left: &[u8], replies: &mut Vec<u8>) -> Result<(), Al
     }
 }
 
-/// Appends to `replies` a tab and the field of a component.
+/// Appends to `replies` a tab and the field of a component, as `root=/` or `normal=a`.
 #[inline(always)]
 fn put_component(piece: Piece<'_>, replies: &mut Vec<u8>) -> Result<(), AllocError>
     ensures { OnOk result
@@ -397,7 +405,8 @@ fn put_component(piece: Piece<'_>, replies: &mut Vec<u8>) -> Result<(), AllocErr
     replies.extend_from_slice(piece.text)
 }
 
-/// Appends to `replies` a tab, the word for the kind of a component, and `=`.
+/// Appends to `replies` a tab, the word for the kind of a component, as `root` or `normal`, and
+/// `=`.
 #[inline(always)]
 fn put_label(piece: Piece<'_>, replies: &mut Vec<u8>) -> Result<(), AllocError>
     ensures { OnOk result (replies.new.items ≡ replies.old.items
