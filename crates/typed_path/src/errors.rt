@@ -21,7 +21,7 @@ pub type ParseError = &'static str;
 /// Why a checked push or a checked conversion is refused.
 #[derive(Clone, Copy, Debug, PartialEq, Eq, Hash, Error)]
 pub enum CheckedPathError {
-    /// A name that the target does not allow.
+    /// A name that the target does not allow, as `ab:c` or `con.txt` on Windows.
     #[error("path contains invalid filename")]
     InvalidFilename,
     /// A `..` that no earlier name of the argument makes up for.
@@ -82,10 +82,11 @@ pub enum PortableError {
     /// A prefix.
     #[error("path contains a prefix")]
     Prefix,
-    /// A name with a byte that no name of Windows may have, or with a control byte.
+    /// A name with a byte that no name of Windows may have, as `:`, or with a control byte, in
+    /// `0..32` or 127.
     #[error("path contains a forbidden byte")]
     Forbidden,
-    /// A name that some version of Windows may take for a device.
+    /// A name that some version of Windows may take for a device, as `nul .txt`.
     #[error("path contains a name that may be a device")]
     Device,
     /// A name that ends in a dot or a space.
@@ -159,7 +160,7 @@ impl<T: Drop> From<AllocFailed<T>> for JoinError {
 /// Why a path could not be made absolute.
 #[derive(Clone, Copy, Debug, PartialEq, Eq, Hash, Error)]
 pub enum AbsolutizeError {
-    /// The path is not absolute after the directory either, so it says no one place.
+    /// The path is absolute neither alone nor after the directory.
     #[error("path is ambiguous")]
     Ambiguous,
     /// An allocation failed.

@@ -535,8 +535,8 @@ pub fn unix_paths_cross_to_windows(path: &[u8])
 {}
 
 /// A Windows path whose names have no forbidden byte becomes on Unix: a root, if it has one or a
-/// prefix other than a drive; else its drive as a name, or a `.` that is its first component; and
-/// then its `..` and names, in order.
+/// prefix other than a drive `C:`; else its drive as a name, or a `.` that is its first component;
+/// and then its `..` and names, in order.
 #[tactic(auto, using(crate::proofs::lemmas::conversions::CrossedPaths::crosses_to_unix))]
 pub fn windows_paths_cross_to_unix(path: &[u8])
     ensures { CrossesToUnix path.now }

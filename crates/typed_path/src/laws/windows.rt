@@ -21,9 +21,9 @@ use crate::windows::{WindowsComponent, WindowsPrefix, WindowsPrefixComponent};
 use std::hash::Hash;
 
 /// The normal path of a Windows path is read as the components that the path resolves to, with a
-/// root put in after a verbatim drive. It leads where the path does, and is its own normal path.
-/// This holds if no name has a byte that no name may have, and the prefix is not the verbatim one
-/// named `UNC`.
+/// root put in after a verbatim drive, `\\?\C:`. It leads where the path does, and is its own
+/// normal path. This holds if no name has a byte that no name may have, and the prefix is not the
+/// verbatim one named `UNC`.
 #[tactic(auto, using(crate::proofs::lemmas::promises::WindowsStable::stays_stable))]
 pub fn normal_stays_stable(path: &[u8])
     ensures { StaysStable path.now }
@@ -59,9 +59,9 @@ pub fn kept_prefix_is_not_named_unc(base: &[u8])
         → is_verbatim_unc_name (prefix_kind windows base.now) ≡ false }
 {}
 
-/// A simplified path has the components of the path, except that a verbatim drive may have become a
-/// drive. It is absolute, has a root and has a file name as the path does, and resolves to the same
-/// names.
+/// A simplified path has the components of the path, except that a verbatim drive, `\\?\C:`, may
+/// have become a drive `C:`. It is absolute, has a root and has a file name as the path does, and
+/// resolves to the same names.
 #[tactic(auto, using(crate::proofs::lemmas::queries::Simplified::alike_behind))]
 pub fn simplified_is_alike_behind(path: &[u8])
     ensures { IsAlikeBehind path.now (simplified_text windows path.now) }

@@ -183,8 +183,7 @@ fn bodies_behind<'a>(
 /// Returns the rests of two bodies from the first component after their last shared separator. Read
 /// as whole bodies, the rests compare as the two do, and the first begins with the components of
 /// the second exactly if `text` does with those of `other`. `None` if no separator is shared.
-/// `shared` is their
-/// [`first_difference`].
+/// `shared` is their [`first_difference`].
 #[inline(always)]
 pub fn texts_behind<'a>(
     text: &'a [u8],
