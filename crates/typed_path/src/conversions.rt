@@ -148,7 +148,7 @@ impl<'a, T: Encoding> Path<'a, T> {
     ///
     /// # Errors
     ///
-    /// `Ambiguous` if the path is absolute neither alone nor after the directory, as `C:a` on
+    /// `Ambiguous` if the path is absolute neither by itself nor after the directory, as `C:a` on
     /// Windows after any, or a path after a directory that is relative. `OutOfMemory` if allocation
     /// fails.
     pub fn absolutize(
@@ -171,8 +171,8 @@ impl<'a, T: Encoding> Path<'a, T> {
     ///
     /// # Errors
     ///
-    /// `Ambiguous` if the path is absolute neither alone nor after the directory, as `D:a` after
-    /// `C:\work`. `OutOfMemory` if allocation fails.
+    /// `Ambiguous` if the path is absolute neither by itself nor after the directory, as `D:a`
+    /// after `C:\work`. `OutOfMemory` if allocation fails.
     pub fn absolutize_from<U: Encoding>(
         self,
         alloc: Global,
@@ -404,7 +404,7 @@ fn is_unrefused<T: Encoding, U: Encoding>(path: &[u8]) -> bool
             && !has_forbidden_or_device(path);
     }
     if have_one_label::<T, WindowsEncoding>() && have_one_label::<U, UnixEncoding>() {
-        // Unix forbids NUL and `/` alone in names; `/` separates unless the path is read verbatim.
+        // Unix forbids only NUL and `/` in names; `/` separates unless the path is read verbatim.
         return SHORT <= path.len()
             && !Separators::of_windows(path).is_verbatim()
             && is_free_of((b'\0', b'\0'), path);
@@ -487,7 +487,8 @@ fn check_component<U: Encoding>(piece: Piece<'_>) -> Result<(), CheckedPathError
     }
 }
 
-/// Whether `text` is a name that the encoding allows, and not empty, `.` or `..`.
+/// Whether `text` is a name that the encoding allows, as [`Encoding::valid`] tells, and not empty,
+/// `.` or `..`.
 #[inline(always)]
 fn is_name<U: Encoding>(text: &[u8]) -> bool
     ensures { IsTrue result → fault U.dialect text.now ≡ None }

@@ -76,7 +76,8 @@ impl<T: Drop> From<AllocFailed<T>> for PathError {
     }
 }
 
-/// Why a path is not portable: some system does not take a component of it as it is written.
+/// Why a path is not portable: some system does not take a component of it as it is written, but
+/// refuses it, changes it, or takes it for something else.
 #[derive(Clone, Copy, Debug, PartialEq, Eq, Hash, Error)]
 pub enum PortableError {
     /// A prefix.
@@ -160,7 +161,7 @@ impl<T: Drop> From<AllocFailed<T>> for JoinError {
 /// Why a path could not be made absolute.
 #[derive(Clone, Copy, Debug, PartialEq, Eq, Hash, Error)]
 pub enum AbsolutizeError {
-    /// The path is absolute neither alone nor after the directory.
+    /// The path is absolute neither by itself nor after the directory.
     #[error("path is ambiguous")]
     Ambiguous,
     /// An allocation failed.

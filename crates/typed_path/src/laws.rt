@@ -448,7 +448,7 @@ pub fn relative_has_none(path: &[u8], base: &[u8])
     ensures { HasNone d path.now base.now }
 {}
 
-/// On Unix, `relative_to` finds no path exactly if one of the two alone has a root, or more `..` of
+/// On Unix, `relative_to` finds no path exactly if only one of the two has a root, or more `..` of
 /// the base lead above where it begins.
 pub fn relative_has_none_on_unix(path: &[u8], base: &[u8])
     ensures { HasNoneOnUnix path.now base.now }
@@ -605,7 +605,7 @@ pub fn text_prefixes_compare_by_kind<'a>(one: Utf8WindowsPrefix<'a>, other: Utf8
         ≡ text_prefix_words (text_prefix one.entry) }
 {}
 
-/// Prefix components of text are equal, compare and hash by their kinds alone, however they are
+/// Prefix components of text are equal, compare and hash only by their kinds, however they are
 /// written.
 pub fn text_prefix_components_compare_by_kind<'a>(
     one: Utf8WindowsPrefixComponent<'a>,

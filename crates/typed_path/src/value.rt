@@ -19,7 +19,7 @@ use crate::utf8::{Utf8Encoding, Utf8Path, Utf8PathBuf};
 use serde_json::Value;
 use std::alloc::Global;
 
-/// Returns a JSON string with a copy of `text`. Fails with `OutOfMemory` alone.
+/// Returns a JSON string with a copy of `text`. Its only error is `OutOfMemory`.
 fn value_of(alloc: Global, text: &str) -> Result<Value, ValueError>
     ensures ok { IfOk result (λ v. IsValueOf text.now (view v)) }
     ensures err { IfErr result (λ e. e ≡ OutOfMemory) }

@@ -114,7 +114,7 @@ impl<'a, T: Encoding, I> Reading<'a, T, I> {
         self.cursor.last_end()
     }
 
-    /// Whether the components that are left begin an absolute path.
+    /// Whether the components that are left are those of an absolute path.
     pub fn is_absolute(self) -> bool
         ensures { result ≡ is_absolute T.dialect (kinds (components_parts self.entry)) }
     {

@@ -23,7 +23,7 @@ use std::hash::Hasher;
 
 /// An encoding: how paths are read and written, as on Unix or as on Windows.
 ///
-/// Code that is generic over the encoding relies on these contracts alone.
+/// Code that is generic over the encoding relies on nothing but these contracts.
 pub trait Encoding: Sized {
     ghost dialect: { Dialect };
 
@@ -113,12 +113,12 @@ pub trait Encoding: Sized {
         Ok(Self::push(path, other)?)
     }
 
-    /// For encodings alone. Returns a cursor over the components of a path.
+    /// Not for callers. Returns a cursor over the components of a path.
     fn cursor(path: &[u8]) -> Cursor<'_>
         ensures items { items_left result ≡ comps dialect path.now }
         ensures slice { slice_left result ≡ path.now };
 
-    /// For encodings alone. Takes the first component that is left, with the separators after it;
+    /// Not for callers. Takes the first component that is left, with the separators after it;
     /// `None` if no component is left.
     fn front<'a>(cursor: &mut Cursor<'a>) -> Option<Piece<'a>>
         ensures taken { option_map part_of result ≡ first_part (items_left cursor.old) }
@@ -126,7 +126,7 @@ pub trait Encoding: Sized {
         ensures slice { slice_left cursor.new
             ≡ slice_after_front (items_left cursor.old) (slice_left cursor.old) };
 
-    /// For encodings alone. Takes the last component that is left, with the separators before it;
+    /// Not for callers. Takes the last component that is left, with the separators before it;
     /// `None` if no component is left.
     fn back<'a>(cursor: &mut Cursor<'a>) -> Option<Piece<'a>>
         ensures taken { option_map part_of result ≡ last_part (items_left cursor.old) }
@@ -134,43 +134,42 @@ pub trait Encoding: Sized {
         ensures slice { slice_left cursor.new
             ≡ slice_after_back (items_left cursor.old) (slice_left cursor.old) };
 
-    /// For encodings alone. Whether the components that are left begin an absolute path.
+    /// Not for callers. Whether the components that are left are those of an absolute path.
     fn absolute(cursor: &Cursor<'_>) -> bool
         ensures { result ≡ is_absolute dialect (kinds (parts (items_left cursor.now))) };
 
-    /// For encodings alone. Whether the components that are left begin with a root, written or
-    /// implied by a prefix other than `C:` and `\\?\C:`.
+    /// Not for callers. Whether the components that are left begin with a root, written or implied
+    /// by a prefix other than `C:` and `\\?\C:`.
     fn rooted(cursor: &Cursor<'_>) -> bool
         ensures { result ≡ has_root dialect (kinds (parts (items_left cursor.now))) };
 
-    /// For encodings alone. Returns what is left of `path` after `base`, if a look at their bytes
-    /// finds it. `None` leaves it open, as the default does.
+    /// Not for callers. Returns what is left of `path` after `base`, if a look at their bytes finds
+    /// it. `None` leaves it open, as the default does.
     fn behind<'a>(path: &'a [u8], base: &[u8]) -> Option<&'a [u8]>
         ensures { IfSome result (λ rest. stripped dialect path.now base.now ≡ Some rest.now) }
     {
         None
     }
 
-    /// For encodings alone. Returns whether `path` begins with the components of `base`, and if so
-    /// what is left of it after them, if a look at their bytes tells: `Some(Some(rest))` or
-    /// `Some(None)`. `None` leaves it open. The default finds the first of these alone, by
-    /// `behind`.
+    /// Not for callers. Returns whether `path` begins with the components of `base`, and if so what
+    /// is left of it after them, if a look at their bytes tells: `Some(Some(rest))` or
+    /// `Some(None)`. `None` leaves it open. The default finds only the first of these, by `behind`.
     fn strip_by_bytes<'a>(path: &'a [u8], base: &[u8]) -> Option<Option<&'a [u8]>>
         ensures { IfSome result (λ told. stripped dialect path.now base.now ≡ option_copied told) }
     {
         Self::behind(path, base).map(Some)
     }
 
-    /// For encodings alone. Returns the order of two paths if their prefixes differ, or one alone
-    /// has one, or if the bytes after the prefixes decide it. `None` leaves it open.
+    /// Not for callers. Returns the order of two paths if their prefixes differ, or only one has
+    /// one, or if the bytes after the prefixes decide it. `None` leaves it open.
     fn order_behind_prefix(path: &[u8], other: &[u8]) -> Option<Ordering>
         ensures { IfSome result (λ order. path_cmp dialect path.now other.now ≡ order) }
     {
         None
     }
 
-    /// For encodings alone. Cuts `path` to its first `kept` bytes, and pushes `other` onto these.
-    /// If allocation fails, `path` keeps all its bytes.
+    /// Not for callers. Cuts `path` to its first `kept` bytes, and pushes `other` onto these. If
+    /// allocation fails, `path` keeps all its bytes.
     fn push_over(path: &mut Vec<u8>, kept: usize, other: &[u8]) -> Result<(), AllocError>
         ensures ok { OnOk result
             (path.new.items ≡ push_spec.push dialect (take kept path.old.items) other.now) }
@@ -179,8 +178,8 @@ pub trait Encoding: Sized {
         ensures succeeds { FitsPush dialect (vec_capacity path.old)
             (take kept path.old.items) other.now → IsOk result };
 
-    /// For encodings alone. Pushes `other` onto the path `text[start..]`. If allocation fails,
-    /// `text` keeps its bytes.
+    /// Not for callers. Pushes `other` onto the path `text[start..]`. If allocation fails, `text`
+    /// keeps its bytes.
     fn push_behind(text: &mut Vec<u8>, start: usize, other: &[u8]) -> Result<(), AllocError>
         ensures ok { OnOk result (text.new.items ≡ take start text.old.items
             ++ push_spec.push dialect (drop start text.old.items) other.now) }
@@ -193,8 +192,8 @@ pub trait Encoding: Sized {
         Ok(())
     }
 
-    /// For encodings alone. Pushes `other` onto the path `text[start..]`, and returns what is known
-    /// of the result. If allocation fails, `text` keeps its bytes.
+    /// Not for callers. Pushes `other` onto the path `text[start..]`, and returns what is known of
+    /// the result. If allocation fails, `text` keeps its bytes.
     ///
     /// What is known is the length of the prefix of a Windows path that is spelled as a push under
     /// a verbatim prefix would spell it; `None` if that is not known. A row of pushes hands it on,
@@ -218,9 +217,9 @@ pub trait Encoding: Sized {
             → IsKnown dialect known (drop start text.old.items)
             → FitsPush dialect room (drop start text.old.items) other.now → IsOk result };
 
-    /// For encodings alone. Appends the normal path of `path` to `text`: the components that its
-    /// list resolves to, pushed one by one onto the empty path. If allocation fails, `text` keeps
-    /// its bytes.
+    /// Not for callers. Appends the normal path of `path` to `text`: the components that its list
+    /// resolves to, pushed one by one onto the empty path. If allocation fails, `text` keeps its
+    /// bytes.
     ///
     /// It never fails if `text` has spare capacity for `path` and one byte more, and each of these
     /// pushes only appends: on Windows, if the prefix is not verbatim and no segment after it

@@ -27,8 +27,8 @@ use crate::scan::{
 use std::cmp::Ordering;
 use std::hash::{Hash, Hasher};
 
-/// Makes the function around it return the order of two paths, if their prefixes differ or one
-/// alone has a prefix.
+/// Makes the function around it return the order of two paths, if their prefixes differ or only one
+/// has a prefix.
 macro_rules! return_order_of_prefixes {
     ($own:expr, $others:expr, $compare:path) => {
         match ($own.prefix(), $others.prefix()) {
@@ -265,7 +265,7 @@ fn seem_alike<T: Encoding>(path: &[u8], other: &[u8]) -> bool {
     let ([.., last], [.., others]) = (path, other) else {
         return false;
     };
-    // Where `/` alone separates, the last components tell as soon, unless the paths end alike.
+    // Where only `/` separates, the last components tell as soon, unless the paths end alike.
     (last == others || T::root_text() != b"/".as_slice())
         && !matches!(*last, b'/' | b'\\' | b'.')
         && !matches!(*others, b'/' | b'\\' | b'.')

@@ -117,10 +117,11 @@ impl<'a, T: Encoding> Path<'a, T> {
     }
 
     /// Checks that the path has no prefix, and that every system takes each of its names as it is
-    /// written: none refuses it, changes it, or takes it for a device. Roots, `.` and `..` are
-    /// accepted. A name has to be UTF-8 of at most 255 bytes, without NUL and `/\:?*"><|`, which
-    /// Windows forbids in names, and without control bytes, in `0..32` or 127. It ends in neither a
-    /// dot nor a space, and no version of Windows may take it for a device, as `nul .txt`.
+    /// written: none refuses it, changes it, or takes it for something else. Roots, `.` and `..`
+    /// are accepted. A name has to be UTF-8 of at most 255 bytes, without NUL and `/\:?*"><|`,
+    /// which Windows forbids in names, and without control bytes, in `0..32` or 127. It ends in
+    /// neither a dot nor a space, and no version of Windows may take it for a device, as
+    /// `nul .txt`.
     ///
     /// # Errors
     ///
@@ -412,10 +413,10 @@ impl<'a, T: Encoding> Path<'a, T> {
     /// on Windows `.\` precedes a name that would be read as a prefix, as in `.\C:`. Names are
     /// compared byte by byte. Links are not followed.
     ///
-    /// It is `Ok(None)`, and never an error, if the two have different prefixes, or one alone has a
-    /// prefix or begins with a root, written or implied; if more `..` of `base` than of this path
-    /// lead above where it begins, as from `..` to `a`; or if a name that is left holds a `/`, as
-    /// one of a verbatim Windows path may.
+    /// It is `Ok(None)`, and never an error, if the two have different prefixes, or only one of the
+    /// two has a prefix or begins with a root, written or implied; if more `..` of `base` than of
+    /// this path lead above where it begins, as from `..` to `a`; or if a name that is left holds a
+    /// `/`, as one of a verbatim Windows path may.
     ///
     /// On Unix the result, joined to `base`, leads where this path leads, and it is `None` exactly
     /// if no relative path does. On Windows it leads there if `base` keeps its prefix and, if that
@@ -499,8 +500,8 @@ impl<'a, T: Encoding> Path<'a, T> {
     /// # Errors
     ///
     /// `Checked` if `path` has a prefix, a root, a `..` that no earlier name of it makes up for, or
-    /// a name that the encoding does not allow: the first of these says which. `OutOfMemory` if it
-    /// has none of them, and allocation fails.
+    /// a name that the encoding does not allow, as `con.txt` on Windows: the first of these says
+    /// which. `OutOfMemory` if it has none of them, and allocation fails.
     pub fn join_checked(self, alloc: Global, path: Path<'_, T>) -> Result<PathBuf<T>, PathError>
         ensures refused { refusal result ≡ fault T.dialect (path_bytes path.entry) }
         ensures joined { IfOk result (λ p. p.bytes

@@ -122,9 +122,9 @@ impl<T: Encoding> PathBuf<T> {
     /// # Errors
     ///
     /// `Checked` if `path` has a prefix, a root, a `..` that no earlier name of it makes up for, or
-    /// a name that the encoding does not allow: the first of these says which. Then nothing
-    /// changes, and nothing is allocated. `OutOfMemory` if it has none of them, and allocation
-    /// fails: the path is unchanged, and its capacity is no less.
+    /// a name that the encoding does not allow, as `con.txt` on Windows: the first of these says
+    /// which. Then nothing changes, and nothing is allocated. `OutOfMemory` if it has none of them,
+    /// and allocation fails: the path is unchanged, and its capacity is no less.
     pub fn push_checked(&mut self, path: Path<'_, T>) -> Result<(), PathError>
         ensures refused { refusal result ≡ fault T.dialect (path_bytes path.entry) }
         ensures ok { OnOk result

@@ -21,7 +21,7 @@ use crate::scan::{
 };
 use std::str;
 
-/// The greatest length of a name, in bytes, that every system takes.
+/// The greatest length of a name, in bytes, that every system accepts.
 const LONGEST_NAME: usize = 255;
 
 /// Whether one of the components that are left is a name that some version of Windows may take for
@@ -180,7 +180,8 @@ fn has_offending_segment(text: &[u8], separators: Separators) -> bool
 }
 
 /// Whether a segment has more than 255 bytes, ends in a dot or a space without being `.` or `..`,
-/// or may be taken for a device: it offends then. Forbidden bytes and UTF-8 are not looked at.
+/// or may be taken for a device, as `nul .txt`: it offends then. Forbidden bytes and UTF-8 are not
+/// looked at.
 #[inline(always)]
 fn may_offend(segment: &[u8]) -> bool
     ensures { result ≡ may_offend segment.now }

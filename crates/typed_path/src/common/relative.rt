@@ -21,8 +21,8 @@ use crate::scan::{Body, Cursor, Separators, cut_at_separator, leading_names, res
 use std::alloc::{AllocError, Global};
 
 /// Returns the path from `base` to `path`: `..` and then names. `Ok(None)` if their prefixes
-/// differ, or one alone has a prefix or is anchored; if `base` leads higher; or if a name that is
-/// left holds a `/`, as one after `\\?\` may.
+/// differ, or only one of the two has a prefix or is anchored; if `base` leads higher; or if a name
+/// that is left holds a `/`, as one after `\\?\` may.
 pub(crate) fn relative_to<T: Encoding>(
     alloc: Global,
     path: &[u8],
@@ -46,7 +46,7 @@ pub(crate) fn relative_to<T: Encoding>(
 }
 
 /// The steps from a base to a path: `up` times `..`, and then the names in `rest`. `ended` says
-/// whether a separator follows the last of these names too.
+/// whether a separator comes after the last of these names too.
 #[derive(Clone, Copy)]
 pub(crate) struct Near<'a> {
     pub up: usize,

@@ -170,7 +170,7 @@ fn has_prefix(text: &[u8], separators: Separators) -> bool
 /// at once, and applies the segment after them. If no names are found at the front, or what is left
 /// may not fit the capacity, it goes on segment by segment.
 ///
-/// It is a macro so that the compiler knows the separators if `/` alone separates. That saves a
+/// It is a macro so that the compiler knows the separators if only `/` separates. That saves a
 /// tenth of the time, and more where few names stand side by side.
 macro_rules! settle {
     ($text:ident, $path:ident, $anchored:ident, $separators:expr, $each:ident $(, $own:ident)?) => {{
@@ -249,7 +249,7 @@ fn put_kept_by(
     settle!(text, path, anchored, separators, put_one_by_one, separators)
 }
 
-/// Does what [`put_kept`] does, if `/` alone separates.
+/// Does what [`put_kept`] does, if only `/` separates.
 pub fn put_kept_by_slashes(
     text: &mut Vec<u8>,
     path: &[u8],
@@ -296,7 +296,7 @@ fn put_one_by_one(
     settle_each!(text, floor, path, separators, anchored)
 }
 
-/// Does what [`put_one_by_one`] does, if `/` alone separates.
+/// Does what [`put_one_by_one`] does, if only `/` separates.
 #[inline(always)]
 fn put_each_by_slashes(
     text: &mut Vec<u8>,
@@ -446,7 +446,7 @@ pub(crate) fn put_row(
     Ok(())
 }
 
-/// Returns the separator that is written after a segment: `/` if that alone separates, else `\`.
+/// Returns the separator that is written after a segment: `/` if only that separates, else `\`.
 #[inline(always)]
 pub fn row_end(separators: Separators) -> u8
     ensures { result ≡ row_end separators }

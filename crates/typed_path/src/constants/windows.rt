@@ -34,14 +34,14 @@ pub const DISALLOWED_FILENAME_CHARS: &[char] = &[
     '\\', '/', ':', '?', '*', '"', '>', '<', '|', '\0',
 ];
 
-/// The names that stand for devices.
+/// The names that stand for devices, in either case and with any extension, as `con.txt` does.
 pub const RESERVED_DEVICE_NAMES: &[&[u8]] = &[
     b"CON", b"PRN", b"AUX", b"NUL", b"COM1", b"COM2", b"COM3", b"COM4", b"COM5", b"COM6", b"COM7",
     b"COM8", b"COM9", b"COM0", b"LPT1", b"LPT2", b"LPT3", b"LPT4", b"LPT5", b"LPT6", b"LPT7",
     b"LPT8", b"LPT9", b"LPT0",
 ];
 
-/// The names that stand for devices, as texts.
+/// The names that stand for devices, in either case and with any extension, as texts.
 pub const RESERVED_DEVICE_NAMES_STR: &[&str] = &[
     "CON", "PRN", "AUX", "NUL", "COM1", "COM2", "COM3", "COM4", "COM5", "COM6", "COM7", "COM8",
     "COM9", "COM0", "LPT1", "LPT2", "LPT3", "LPT4", "LPT5", "LPT6", "LPT7", "LPT8", "LPT9", "LPT0",

@@ -1,4 +1,4 @@
-//! The laws of portable paths, and of names that may be devices.
+//! The laws of portable paths, and of names that some version of Windows may take for devices.
 
 ghost use Rattle.std.specs.Prelude.{◌≡◌, ◌↔◌, ℕ, List, [], true, false, None, Ok, IsOk, option_map};
 ghost use Rattle.std.specs.List.{list_any};
@@ -8,15 +8,16 @@ ghost use Rattle.typed_path.specs.changes.{fault, fault_behind};
 ghost use Rattle.typed_path.specs.conversions.{converted, converted_checked};
 ghost use Rattle.typed_path.specs.order.{IsSame};
 
-/// A name that stands for a device by the rule of valid names, or by that of simplified paths, may
-/// be one by the widest rule.
+/// A name that stands for a device by the rule of valid names, as `con.txt`, or by that of
+/// simplified paths, as `con .txt`, may be taken for one by the widest rule.
 pub fn reserved_names_may_be_devices(name: &[u8])
     ensures reserved { is_reserved windows name.now ≡ true → name_may_be_device name.now ≡ true }
     ensures taken { is_taken_for_device name.now ≡ true → name_may_be_device name.now ≡ true }
 {}
 
-/// A portable name is one that is not empty, is valid in both dialects, has no control byte, may be
-/// no device, ends in neither a dot nor a space, has at most 255 bytes and is UTF-8.
+/// A portable name is one that is not empty, is valid in both dialects, has no control byte, in
+/// `0..32` or 127, may be taken for a device by no version of Windows, ends in neither a dot nor a
+/// space, has at most 255 bytes and is UTF-8.
 pub fn portable_names_are_these(name: &[u8])
     ensures { (is_portable_name name.now ≡ true) ↔ IsPortableName name.now }
 {}
@@ -27,8 +28,9 @@ pub fn unportable_tells_why(path: &[u8])
     ensures { option_map (λ found. found.1) (unportable d path.now) ≡ portable_fault d path.now }
 {}
 
-/// A portable path is valid in both dialects, and none of its names may be a device. If it has
-/// neither a root nor a `..`, a checked call of either dialect refuses none of its components.
+/// A portable path is valid in both dialects, and no version of Windows may take one of its names
+/// for a device. If it has neither a root nor a `..`, a checked call of either dialect refuses none
+/// of its components.
 pub fn portable_is_valid_in_both(path: &[u8])
     ghost d: { Dialect }
     ensures valid { portable_fault d path.now ≡ None

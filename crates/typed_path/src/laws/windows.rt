@@ -100,7 +100,7 @@ pub fn windows_prefixes_compare_by_kind<'a>(one: WindowsPrefix<'a>, other: Windo
         ≡ prefix_words (prefix_view one.entry) }
 {}
 
-/// Prefix components are equal, compare and hash by their kinds alone, however they are written.
+/// Prefix components are equal, compare and hash only by their kinds, however they are written.
 pub fn windows_prefix_components_compare_by_kind<'a>(
     one: WindowsPrefixComponent<'a>,
     other: WindowsPrefixComponent<'a>,

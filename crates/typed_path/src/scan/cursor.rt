@@ -178,8 +178,8 @@ impl<'a> Cursor<'a> {
         rest!(self).last_end()
     }
 
-    /// Checks the components left as those of a path to be pushed. `Err` is the error of the first
-    /// one that is refused.
+    /// Checks the components left as a checked push does those of the pushed path. `Err` is the
+    /// error of the first one that is refused.
     #[inline(always)]
     pub(crate) fn check(self) -> Result<(), CheckedPathError>
         ensures { error_of result ≡ fault_behind (dialect_of (cursor_separators self.entry)) []
@@ -570,8 +570,8 @@ impl<'a> Body<'a> {
         self.from + trim_blanks(self.as_bytes(), self.separators)
     }
 
-    /// Checks the components left as those of a path to be pushed. `Err` is the error of the first
-    /// one that is refused.
+    /// Checks the components left as a checked push does those of the pushed path. `Err` is the
+    /// error of the first one that is refused.
     #[inline(always)]
     pub fn check(mut self) -> Result<(), CheckedPathError>
         ensures { error_of result ≡ fault_behind (dialect_of self.entry.separators) []

@@ -248,7 +248,7 @@ pub fn order_behind(
     order_of_ends(&text[shared..], &other[shared..], separators)
 }
 
-/// Compares two bodies by their first bytes: one alone is empty, one alone begins with a root, or
+/// Compares two bodies by their first bytes: only one is empty, only one begins with a root, or
 /// [`order_of_dots`] tells. `None` leaves it open.
 #[inline(always)]
 pub fn order_of_fronts(text: &[u8], other: &[u8], separators: Separators) -> Option<Ordering>
@@ -328,7 +328,7 @@ fn begins_with_dot(text: &[u8], separators: Separators) -> bool
 }
 
 /// Whether the first bytes tell that `text` does not begin with the components of `other`: they
-/// differ and are not both separators, or `text` alone is empty. `false` leaves it open.
+/// differ and are not both separators, or only `text` is empty. `false` leaves it open.
 #[inline(always)]
 pub fn have_other_fronts(text: &[u8], other: &[u8], separators: Separators) -> bool
     ensures { IsTrue result → starts_with bytes_eq (texts (parts (body separators 0 text.now)))

@@ -46,7 +46,7 @@ pub fn leading_names(text: &[u8], pair: (u8, u8)) -> Option<usize>
 }
 
 /// Like [`leading_names`], but for 34 bytes or more returns `Some(0)` unless the first 32 show
-/// three separators that names follow.
+/// three separators with a name after each.
 #[inline(always)]
 pub fn leading_short_names(text: &[u8], pair: (u8, u8)) -> Option<usize>
     ensures { TellsNames pair text.now result }

@@ -21,9 +21,9 @@ use std::simd::prelude::*;
 /// The separators of a path, which also decide how it is read.
 #[derive(Clone, Copy, Debug)]
 pub enum Separators {
-    /// `/` alone: a Unix path.
+    /// Only `/`: a Unix path.
     Slash,
-    /// `\` alone: a Windows path that begins with exactly `\\?\`, which is read verbatim.
+    /// Only `\`: a Windows path that begins with exactly `\\?\`, which is read verbatim.
     Backslash,
     /// `/` and `\`: every other Windows path.
     Either,
@@ -316,9 +316,9 @@ pub fn has_forbidden_or_device(text: &[u8]) -> bool
     !matches!(look_for(false, Some((b'\\', b'\\')), text), Look::Clean)
 }
 
-/// Searches a Windows path that is not read verbatim for a byte that is not allowed in names and
-/// does not separate, for two dots side by side, and for a segment that stands for a device. Stops
-/// at the first block that has one.
+/// Searches a Windows path that is not read verbatim for NUL or one of `:?*"><|`, which no name may
+/// have, for two dots side by side, and for a segment that stands for a device. Stops at the first
+/// block that has one.
 pub fn look_at_path(path: &[u8]) -> Look
     ensures clean { result ≡ Look.Clean → (list_any (is_stray Separators.Either) path.now ≡ false)
         × (has_device path.now ≡ false) × (has_dot_pair path.now ≡ false) }
@@ -465,8 +465,8 @@ const SECONDS: [u8; 32] = [
 ];
 
 /// Returns the mask of the separators in `text[at..at + 32]` after which a device may begin: its
-/// first two letters follow, and the end of a stem of three or four bytes. `behind` marks ends
-/// after the block: [`ENDED`] if it ends the text, else 0, and bits from 27 on may be missing then.
+/// first two letters come next, in a stem of three or four bytes. `behind` marks ends after the
+/// block: [`ENDED`] if it ends the text, else 0, and bits from 27 on may be missing then.
 #[inline(always)]
 fn may_begins_at(text: &[u8], at: usize, behind: u64) -> u64
     requires in_range { at + 32 ≤ length text.now }

@@ -276,7 +276,7 @@ fn ends_blank(text: &[u8], separators: Separators) -> bool
 
 /// Returns the depth after `step`, whose depth before is `depth`, or the error for which it is
 /// refused. The depth counts the names that no `..` has cancelled yet. With `allowed`, the bytes of
-/// a name are known to be allowed.
+/// a name are known to be allowed in names.
 #[inline(always)]
 pub fn depth_behind(
     step: Step<'_>,

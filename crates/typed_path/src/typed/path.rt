@@ -498,8 +498,8 @@ impl<'a> TypedPath<'a> {
     ///
     /// # Errors
     ///
-    /// `Ambiguous` if the path is absolute neither alone nor after the directory, as every Windows
-    /// path without a prefix is after `/home/u`. `OutOfMemory` if allocation fails.
+    /// `Ambiguous` if the path is absolute neither by itself nor after the directory, as every
+    /// Windows path without a prefix is after `/home/u`. `OutOfMemory` if allocation fails.
     pub fn absolutize(
         self,
         alloc: Global,
@@ -516,8 +516,8 @@ impl<'a> TypedPath<'a> {
     ///
     /// # Errors
     ///
-    /// `Ambiguous` if the path is absolute neither alone nor after the directory. `OutOfMemory` if
-    /// allocation fails.
+    /// `Ambiguous` if the path is absolute neither by itself nor after the directory. `OutOfMemory`
+    /// if allocation fails.
     pub fn absolutize_from(
         self,
         alloc: Global,

@@ -85,7 +85,7 @@ impl<'a> TypedComponents<'a> {
         each!(self, reading => reading.as_bytes())
     }
 
-    /// Whether the components that are left begin an absolute path.
+    /// Whether the components that are left are those of an absolute path.
     pub fn is_absolute(self) -> bool
         ensures { result ≡ is_absolute (reading_dialect self.entry)
             (kinds (typed_parts self.entry)) }

@@ -115,7 +115,7 @@ impl Encoding for UnixEncoding {
         push_at(path, 0, kept, other)
     }
 
-    // Nothing needs to be known of the path, as a push depends on its last byte alone.
+    // Nothing needs to be known of the path, as a push depends only on its last byte.
     #[inline(always)]
     fn push_next(
         text: &mut Vec<u8>,

@@ -668,8 +668,8 @@ impl<'a, T: Utf8Encoding> Utf8Path<'a, T> {
     ///
     /// # Errors
     ///
-    /// `Ambiguous` if the path is absolute neither alone nor after the directory. `OutOfMemory` if
-    /// allocation fails.
+    /// `Ambiguous` if the path is absolute neither by itself nor after the directory. `OutOfMemory`
+    /// if allocation fails.
     pub fn absolutize(
         self,
         alloc: Global,
@@ -688,8 +688,8 @@ impl<'a, T: Utf8Encoding> Utf8Path<'a, T> {
     ///
     /// # Errors
     ///
-    /// `Ambiguous` if the path is absolute neither alone nor after the directory. `OutOfMemory` if
-    /// allocation fails.
+    /// `Ambiguous` if the path is absolute neither by itself nor after the directory. `OutOfMemory`
+    /// if allocation fails.
     pub fn absolutize_from<U: Utf8Encoding>(
         self,
         alloc: Global,

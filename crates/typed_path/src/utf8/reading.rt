@@ -117,7 +117,7 @@ impl<'a, T: Utf8Encoding, I> Utf8Reading<'a, T, I> {
         text_of(self.components.as_bytes())
     }
 
-    /// Whether the components that are left begin an absolute path.
+    /// Whether the components that are left are those of an absolute path.
     pub fn is_absolute(self) -> bool
         ensures { result ≡ is_absolute T.Bytes.dialect (kinds (reading_parts self.entry)) }
     {

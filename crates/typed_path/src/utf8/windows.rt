@@ -184,7 +184,7 @@ impl<'a> TryFrom<&'a str> for Utf8WindowsPrefix<'a> {
 
 /// The prefix of a Windows path of text, with its raw text.
 ///
-/// Equality, order and hash look at the kind alone: how the prefix is written is no part of it.
+/// Equality, order and hash look only at the kind: how the prefix is written is no part of it.
 #[derive(Clone, Copy, Debug)]
 #[derive_where(PartialEq, Eq, PartialOrd, Ord, Hash)]
 pub struct Utf8WindowsPrefixComponent<'a> {

@@ -109,7 +109,7 @@ impl<'a> TryFrom<&'a str> for WindowsPrefix<'a> {
 
 /// The prefix of a Windows path, with its raw bytes.
 ///
-/// Equality, order and hash look at the kind alone: how the prefix is written is no part of it.
+/// Equality, order and hash look only at the kind: how the prefix is written is no part of it.
 #[derive(Clone, Copy, Debug)]
 #[derive_where(PartialEq, Eq, PartialOrd, Ord, Hash)]
 pub struct WindowsPrefixComponent<'a> {

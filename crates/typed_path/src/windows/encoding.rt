@@ -104,7 +104,7 @@ impl Encoding for WindowsEncoding {
                 None
             };
         }
-        // If one alone has a drive, the components tell at once.
+        // If only one has a drive, the components tell at once.
         if has_second_colon(path) != has_second_colon(base) {
             return None;
         }
@@ -267,7 +267,7 @@ fn shared_written_prefix(path: &[u8], other: &[u8], shared: usize) -> Option<(us
 }
 
 /// Returns the length in bytes of the drive `C:` that two paths begin with, or 0 if neither has a
-/// prefix. `None` leaves it open: the drives differ, one alone has one, or a path begins with two
+/// prefix. `None` leaves it open: the drives differ, only one has one, or a path begins with two
 /// separators.
 #[inline(always)]
 fn shared_drive(path: &[u8], other: &[u8]) -> Option<usize>
@@ -285,8 +285,8 @@ fn shared_drive(path: &[u8], other: &[u8]) -> Option<usize>
 /// The least number of bytes that two paths have to share for a prefix other than `C:` to be read.
 const PARTED: usize = 6;
 
-/// Compares two paths of which one begins with two separators, or has another drive `C:` than the
-/// other, or alone has one. `None` leaves it open.
+/// Compares two paths if one begins with two separators, only one has a drive `C:`, or both have
+/// different ones. `None` leaves it open.
 fn order_by_prefixes(path: &[u8], other: &[u8]) -> Option<Ordering>
     ensures { IfSome result (λ order. path_cmp windows path.now other.now ≡ order) }
 {

@@ -7,8 +7,8 @@ ghost use Rattle.typed_path.specs.views.PieceViews.{found_of, prefix_view};
 
 use crate::scan::{Found, WindowsPrefix, find_prefix};
 
-/// The ranges of bytes in a path that hold the names of its prefix: the server and the share; or a
-/// name alone, or the letter of a drive, and then an empty second range.
+/// The ranges of bytes in a path that hold the names of its prefix: the server and the share; or
+/// its one name, or the letter of its drive, and then an empty second range.
 #[derive(Clone, Copy, Debug, PartialEq, Eq)]
 pub struct PrefixNames {
     /// The index at which the first one begins.

@@ -342,7 +342,7 @@ fn push_heads<'a>(
     Ok(names)
 }
 
-/// The length in bytes, counting `\\?\`, from which on Windows takes a path only with that.
+/// The length in bytes, counting `\\?\`, from which on Windows accepts a path only with that.
 const LONG: usize = 264;
 
 impl<'a> Path<'a, WindowsEncoding> {

@@ -470,7 +470,7 @@ fn merge_path(
     ensures capacity { vec_capacity text.old ≤ vec_capacity text.new }
     ensures succeeds { vec_len text.old + length other.now < vec_capacity text.old → IsOk result }
 {
-    // Most paths that are merged hold names alone, which are appended at once.
+    // Most paths that are merged hold nothing but names, which are appended at once.
     let Some(names) = names_alone(other) else {
         return merge_each(text, head, parted, Cursor::of_windows(other));
     };
