@@ -205,20 +205,22 @@ TYPED_PATH_MUST_USE uint32_t typed_path_with_added_extension(
 TYPED_PATH_MUST_USE uint32_t typed_path_normalize(
     uint32_t dialect, const char *path, size_t path_len, char *out, size_t out_size, size_t *len);
 
-/* The path in lower case: each letter of ASCII, but for the `UNC` of a prefix `\\?\UNC\`, which is read so in
-   capitals alone. TYPED_PATH_NORMALIZE_BOUND. */
+/* The path in lower case: each letter of ASCII, but for the `UNC` of `\\?\UNC\` before a server, which is read so
+   only in capitals. TYPED_PATH_NORMALIZE_BOUND. */
 TYPED_PATH_MUST_USE uint32_t typed_path_to_ascii_lowercase(
     uint32_t dialect, const char *path, size_t path_len, char *out, size_t out_size, size_t *len);
 
-/* The path without `.`, doubled separators, and names that a `..` takes away. A relative path keeps the `..`
-   that it needs, and nothing is `.`. On Windows the drive stays. TYPED_PATH_CLEAN_BOUND. */
+/* The path without `.`, doubled separators, a last separator that is no root, and names that a `..` takes away; on
+   Windows with `\` for each separator after the prefix. A relative path keeps the `..` that it needs, and nothing is
+   `.`. On Windows the drive stays. TYPED_PATH_CLEAN_BOUND. */
 TYPED_PATH_MUST_USE uint32_t typed_path_clean(
     uint32_t dialect, const char *path, size_t path_len, char *out, size_t out_size, size_t *len);
 
-/* The path that leads from the base to a path, by `..` and names; `.` where both lead alike. TYPED_PATH_STATUS_NONE
-   where there is none: one begins with another prefix, or alone with a root; the base leads higher; or a name
-   that is to be written holds a `/`, as one behind `\\?\` on Windows may. None is told even where memory is
-   refused. TYPED_PATH_RELATIVE_BOUND. */
+/* The path from the base to a path, by `..` and names; `.` where both lead alike. TYPED_PATH_STATUS_NONE where none is
+   found: one begins with another prefix, or alone with a root; the base leads higher; or a name that is to be written
+   holds a `/`, as one behind `\\?\` on Windows may. None is told even where memory is refused. Joined to the base it
+   leads to the path; on Windows if the base keeps its prefix and, if that is of a verbatim kind, ends with at least
+   as many names as there are `..`. TYPED_PATH_RELATIVE_BOUND. */
 TYPED_PATH_MUST_USE uint32_t typed_path_relative_to(
     uint32_t dialect, const char *path, size_t path_len, const char *base, size_t base_len,
     char *out, size_t out_size, size_t *len);
@@ -229,8 +231,9 @@ TYPED_PATH_MUST_USE uint32_t typed_path_convert(
     uint32_t dialect, const char *path, size_t path_len, uint32_t other,
     char *out, size_t out_size, size_t *len);
 
-/* The same by checked pushes, its own dialect too. The status, from 1 to 4, names what the first component
-   that offends there is refused for. TYPED_PATH_CONVERT_BOUND. */
+/* The same where each name and each drive `C:` is pushed as typed_path_join_checked does, in its own dialect too: from
+   Windows to Windows `C:\a` is refused. The status, from 1 to 4, names what the first that offends there is refused
+   for. TYPED_PATH_CONVERT_BOUND. */
 TYPED_PATH_MUST_USE uint32_t typed_path_convert_checked(
     uint32_t dialect, const char *path, size_t path_len, uint32_t other,
     char *out, size_t out_size, size_t *len);
@@ -273,7 +276,7 @@ TYPED_PATH_MUST_USE uint32_t typed_path_join_portable_batch(
 /* Parts of a path, told by their places. TYPED_PATH_STATUS_NONE where there is no such part; then, and for a bad
    dialect, `*span` is as it was. */
 
-/* The path without its last component. None of an empty path, a root, or a prefix but a drive. */
+/* The path without its last component. None of an empty path, a root, or a prefix but a drive `C:`. */
 TYPED_PATH_MUST_USE uint32_t typed_path_parent(
     uint32_t dialect, const char *path, size_t path_len, typed_path_span *span);
 
@@ -360,11 +363,12 @@ TYPED_PATH_MUST_USE uint32_t typed_path_check_portable(uint32_t dialect, const c
 
 /* Questions. The status is TYPED_PATH_STATUS_DONE, or TYPED_PATH_STATUS_BAD_DIALECT, and then the answer is false. */
 
-/* Whether a path leads to one place from every directory; on Windows `C:\a` does, `C:a` and `\a` do not. */
+/* Whether a path is absolute: on Unix it begins with a root; on Windows with a server and a share, as `\\s\h`, or with
+   a prefix of another kind and a root right after that, as `C:\`. So `C:a`, `\a`, `\\s` and `\\.\COM1` are not. */
 TYPED_PATH_MUST_USE uint32_t typed_path_is_absolute(
     uint32_t dialect, const char *path, size_t path_len, bool *answer);
 
-/* Whether it begins with a root, written or implied by a prefix. */
+/* Whether it begins with a root, written or implied by a prefix other than `C:` and `\\?\C:`. */
 TYPED_PATH_MUST_USE uint32_t typed_path_has_root(
     uint32_t dialect, const char *path, size_t path_len, bool *answer);
 
@@ -380,7 +384,8 @@ TYPED_PATH_MUST_USE uint32_t typed_path_is_valid(
 TYPED_PATH_MUST_USE uint32_t typed_path_is_valid_name(
     uint32_t dialect, const char *name, size_t name_len, bool *answer);
 
-/* Whether every system takes each component of a path as it is written (typed_path_check_portable). */
+/* Whether a path has no prefix and every system takes each of its names as it is written
+   (typed_path_check_portable). */
 TYPED_PATH_MUST_USE uint32_t typed_path_is_portable(
     uint32_t dialect, const char *path, size_t path_len, bool *answer);
 

@@ -408,7 +408,7 @@ public:
     }
     /// It as short as it can be written with no look at a disk; a relative path keeps the `..` that it needs.
     [[nodiscard]] std::string clean() const { return made<typed_path_clean>(TYPED_PATH_CLEAN_BOUND(text_.size())); }
-    /// The path that leads from a base to this one, if any does.
+    /// The path from a base to this one, by `..` and names, if one is found.
     [[nodiscard]] std::optional<std::string> relative_to(basic_path_view base) const {
         auto led = asked<typed_path_relative_to>(TYPED_PATH_RELATIVE_BOUND(text_.size(), base.text_.size()), base);
         return led ? std::optional<std::string>(*std::move(led)) : std::nullopt;
@@ -499,9 +499,9 @@ public:
     [[nodiscard]] status check_portable() const noexcept {
         return static_cast<status>(call<typed_path_check_portable>());
     }
-    /// Whether it leads to one place from every directory.
+    /// Whether it is absolute; on Windows `C:\a` and `\\s\h` are, and `C:a`, `\a`, `\\s` and `\\.\COM1` are not.
     [[nodiscard]] bool is_absolute() const noexcept { return is<typed_path_is_absolute>(); }
-    /// Whether it begins with a root, written or implied by a prefix.
+    /// Whether it begins with a root, written or implied by a prefix other than `C:` and `\\?\C:`.
     [[nodiscard]] bool has_root() const noexcept { return is<typed_path_has_root>(); }
     /// Whether each name of it is allowed.
     [[nodiscard]] bool is_valid() const noexcept { return is<typed_path_is_valid>(); }
@@ -509,7 +509,7 @@ public:
     [[nodiscard]] static bool is_valid_name(std::string_view name) noexcept {
         return basic_path_view(name).template is<typed_path_is_valid_name>();
     }
-    /// Whether every system takes each component as it is written.
+    /// Whether it has no prefix and every system takes each name as it is written.
     [[nodiscard]] bool is_portable() const noexcept { return is<typed_path_is_portable>(); }
     /// Whether some version of Windows may take a name of it for a device.
     [[nodiscard]] bool may_be_device() const noexcept { return is<typed_path_may_be_device>(); }

@@ -347,7 +347,8 @@ class TypedPath:
 
     @property
     def parent(self: P) -> P:
-        r"""The path without its last component. A root, a prefix but a drive, and an empty path are their own.
+        r"""The path without its last component. A root, a prefix but a drive `C:`, and an empty path are
+        their own.
 
         >>> UnixPath("/a/b//").parent, UnixPath("/").parent, UnixPath("a").parent
         (UnixPath('/a'), UnixPath('/'), UnixPath(''))
@@ -446,7 +447,8 @@ class TypedPath:
         return len(names) in met
 
     def is_absolute(self) -> bool:
-        r"""Whether it leads to one place from every directory.
+        r"""Whether it begins with a root; on Windows with a server and a share, or with a prefix of another kind and a
+        root right after that.
 
         >>> UnixPath("/a").is_absolute(), WindowsPath(r"C:\a").is_absolute(), WindowsPath(r"\a").is_absolute()
         (True, True, False)
@@ -454,7 +456,7 @@ class TypedPath:
         return self._asked("is_absolute")
 
     def has_root(self) -> bool:
-        """Whether it begins with a root, written or implied by a prefix."""
+        r"""Whether it begins with a root, written or implied by a prefix other than `C:` and `\\?\C:`."""
         return self._asked("has_root")
 
     def is_valid(self) -> bool:
@@ -682,8 +684,8 @@ class TypedPath:
         return self._made("normalize")
 
     def clean(self: P) -> P:
-        """The path without `.`, doubled separators, and names that a `..` takes away. A relative path keeps the `..`
-        that it needs, and nothing is `.`.
+        """The path without `.`, doubled separators, a last separator that is no root, and names that a `..` takes away.
+        A relative path keeps the `..` that it needs, and nothing is `.`.
 
         >>> UnixPath("a/../../b//./c").clean(), UnixPath("a/..").clean()
         (UnixPath('../b/c'), UnixPath('.'))
