@@ -301,8 +301,7 @@ pub fn cleaned_is_short(path: &[u8])
     ensures { length (clean_text d path.now) ≤ length path.now + 1 }
 {}
 
-/// The path that leads from a base to a path is at most three bytes longer than the path and twice
-/// the base.
+/// The path from a base to a path is at most three bytes longer than the path and twice the base.
 pub fn led_is_short(path: &[u8], base: &[u8])
     ghost d: { Dialect }
     ensures { IfSome (relative_text d path.now base.now)
@@ -428,14 +427,14 @@ pub fn clean_stays_a_text(path: &[u8])
     ensures { is_utf8 path.now ≡ true → is_utf8 (clean_text d path.now) ≡ true }
 {}
 
-/// A path that leads from a base to another has neither a prefix nor a root.
+/// The path from a base to another has neither a prefix nor a root.
 #[tactic(auto, using(crate::proofs::lemmas::promises::StepsBack::stays_relative))]
 pub fn relative_stays_relative(path: &[u8], base: &[u8])
     ghost d: { Dialect }
     ensures { StaysRelative d path.now base.now }
 {}
 
-/// On Unix, the path that leads from a base to a path leads there if it is joined to the base.
+/// On Unix, the path from a base to a path leads there if it is joined to the base.
 #[tactic(auto, using(crate::proofs::lemmas::promises::UnixRelative::leads_unix))]
 pub fn relative_leads_back(path: &[u8], base: &[u8])
     ensures { LeadsBack unix path.now base.now }

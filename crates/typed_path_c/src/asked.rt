@@ -43,7 +43,8 @@ pub extern "C" fn typed_path_derive(path: &[u8]) -> u32
     }
 }
 
-/// Whether a path leads to one place from every directory.
+/// Whether a path is absolute: on Unix it begins with a root; on Windows with a server and a share,
+/// or with a prefix of another kind and a root right after that.
 #[unsafe(no_mangle)]
 pub extern "C" fn typed_path_is_absolute(dialect: u32, path: &[u8], answer: &mut bool) -> u32
     ensures { Tells dialect (λ d. is_absolute d (kinds (parts_of d path.now))) answer.new result }
@@ -51,7 +52,7 @@ pub extern "C" fn typed_path_is_absolute(dialect: u32, path: &[u8], answer: &mut
     of_path!(dialect, path => tell(path.is_absolute(), answer), tell_none(answer))
 }
 
-/// Whether it begins with a root, written or implied by a prefix.
+/// Whether it begins with a root, written or implied by a prefix other than `C:` and `\\?\C:`.
 #[unsafe(no_mangle)]
 pub extern "C" fn typed_path_has_root(dialect: u32, path: &[u8], answer: &mut bool) -> u32
     ensures { Tells dialect (λ d. has_root d (kinds (parts_of d path.now))) answer.new result }
@@ -115,7 +116,7 @@ pub extern "C" fn typed_path_check_portable(dialect: u32, path: &[u8]) -> u32
     of_path!(dialect, path => ended(path.check_portable()), BAD_DIALECT)
 }
 
-/// Whether every system takes each component of a path as it is written.
+/// Whether a path has no prefix and every system takes each of its names as it is written.
 #[unsafe(no_mangle)]
 pub extern "C" fn typed_path_is_portable(dialect: u32, path: &[u8], answer: &mut bool) -> u32
     ensures { Tells dialect (λ d. is_portable d path.now) answer.new result }

@@ -101,7 +101,7 @@ fn resolve(alloc: Global, path: TypedPath<'_>, other: &[u8]) -> Result<TypedPath
     Ok(joined.clean(alloc)?)
 }
 
-/// Puts a path with another file name, or with the name pushed where it has none.
+/// Puts a path without its file name, if it has one, and with another pushed onto that.
 #[unsafe(no_mangle)]
 pub extern "C" fn typed_path_with_file_name(
     alloc: Global,
@@ -187,8 +187,8 @@ pub extern "C" fn typed_path_normalize(
     of_path!(dialect, path => put_made(path.normalize(alloc), out, len), BAD_DIALECT)
 }
 
-/// Puts a path without `.`, doubled separators and the names that a `..` takes away; one that finds no name
-/// stays where the path is relative.
+/// Puts a path without `.`, doubled separators, a last separator that is no root, and names that a
+/// `..` takes away; one that finds no name stays where the path is relative.
 #[unsafe(no_mangle)]
 pub extern "C" fn typed_path_clean(
     alloc: Global,
@@ -204,7 +204,7 @@ pub extern "C" fn typed_path_clean(
     of_path!(dialect, path => put_made(path.clean(alloc), out, len), BAD_DIALECT)
 }
 
-/// Puts the relative path that leads from a base to a path.
+/// Puts the relative path from a base to a path.
 #[unsafe(no_mangle)]
 pub extern "C" fn typed_path_relative_to(
     alloc: Global,

@@ -1,7 +1,7 @@
-//! The path that leads from a base to another path: as a look at the bytes of both tells, or else
-//! name by name from the back. What is read from the back is written backwards, and reversed at the
-//! end. Which names are kept, and which `..` unmatched, is said in `within`. If allocation fails, a
-//! call that appends may leave a part of it.
+//! The path from a base to another path: as a look at the bytes of both tells, or else name by name
+//! from the back. What is read from the back is written backwards, and reversed at the end. Which
+//! names are kept, and which `..` unmatched, is said in `within`. If allocation fails, a call that
+//! appends may leave a part of it.
 
 ghost use Rattle.std.specs.Prelude.{◌≡◌, ◌+◌, ◌*◌, ◌-◌, ◌++◌, ◌∷◌, ◌<◌, ◌≤◌, ◌^◌, ◌==◌, ◌&&◌, not, false, nat_le, [], length, take, drop, reverse, option_map, if◌then◌else◌, None, IfOk, IsOk, OnOk, MatchOption, Bool, List, ℕ, Some, IfSome};
 ghost use Rattle.std.specs.Vec.{vec_len, vec_capacity};

@@ -39,15 +39,15 @@ pub fn prefixed_within_leads_below(directory: &[u8], path: &[u8], base: &[u8])
         (push windows directory.now path.now) }
 {}
 
-/// On Windows, the path that leads from a base to a path leads there if it is joined to the base,
-/// provided that the base keeps its prefix and, if that is verbatim, ends with at least as many
-/// names as `..` lead up.
+/// On Windows, the path from a base to a path leads there if it is joined to the base, provided
+/// that the base keeps its prefix and, if that is verbatim, ends with at least as many names as
+/// `..` lead up.
 pub fn relative_leads_back_on_windows(path: &[u8], base: &[u8])
     ensures { LeadsBackOnWindows path.now base.now }
 {}
 
-/// On Windows, the path that leads from a base to a path leads there if it is joined to the base,
-/// provided that the base is clean and keeps its prefix, be that verbatim or not.
+/// On Windows, the path from a base to a path leads there if it is joined to the base, provided
+/// that the base is clean and keeps its prefix, be that verbatim or not.
 pub fn relative_leads_back_behind_clean(path: &[u8], base: &[u8])
     ensures { LeadsBackBehindClean path.now base.now }
 {}
