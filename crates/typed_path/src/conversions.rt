@@ -44,7 +44,7 @@ impl<'a, T: Encoding> Path<'a, T> {
     }
 
     /// Returns the path in the encoding `U`, also if that has the label of this encoding: its
-    /// components pushed one by one onto the empty path, each name and each drive `C:` by a checked
+    /// components put one by one onto the empty path, each name and each drive `C:` by a checked
     /// push, all else by a plain one.
     ///
     /// # Errors
@@ -79,7 +79,7 @@ impl<'a, T: Encoding> Path<'a, T> {
         self.with_encoding::<UnixEncoding>(alloc)
     }
 
-    /// Returns the path as on Unix, each name and each drive `C:` by a checked push, as
+    /// Returns the path as on Unix, with each name and each drive `C:` put by a checked push, as
     /// [`Path::with_encoding_checked`] does.
     pub fn with_unix_encoding_checked(self, alloc: Global) -> Result<UnixPathBuf, PathError>
         ensures ok { IfOk result
@@ -104,7 +104,7 @@ impl<'a, T: Encoding> Path<'a, T> {
         self.with_encoding::<WindowsEncoding>(alloc)
     }
 
-    /// Returns the path as on Windows, each name and each drive `C:` by a checked push, as
+    /// Returns the path as on Windows, with each name and each drive `C:` put by a checked push, as
     /// [`Path::with_encoding_checked`] does.
     pub fn with_windows_encoding_checked(self, alloc: Global) -> Result<WindowsPathBuf, PathError>
         ensures ok { IfOk result
@@ -130,8 +130,8 @@ impl<'a, T: Encoding> Path<'a, T> {
         self.with_encoding::<PlatformEncoding>(alloc)
     }
 
-    /// Returns the path as on the machine, each name and each drive `C:` by a checked push, as
-    /// [`Path::with_encoding_checked`] does.
+    /// Returns the path as on the machine, with each name and each drive `C:` put by a checked
+    /// push, as [`Path::with_encoding_checked`] does.
     pub fn with_platform_encoding_checked(self, alloc: Global) -> Result<PlatformPathBuf, PathError>
         ensures ok { IfOk result
             (λ p. converted_checked T.dialect platform (path_bytes self.entry) ≡ Ok p.bytes) }

@@ -23,10 +23,11 @@ use std::alloc::{AllocError, Global};
 use std::cmp::Ordering;
 
 impl<'a, T: Encoding> Path<'a, T> {
-    /// Whether the path has the same components as `other` in lower case: whether the two are equal
-    /// but for the case of ASCII letters.
+    /// Whether the path has the same components as `other` in lower case, as
+    /// [`Path::to_ascii_lowercase`] makes it.
     ///
-    /// So `a/B` equals `A//b`, and on Windows `\\Server\a` equals `\\server\A`.
+    /// So `a/B` equals `A//b`, and on Windows `\\Server\a` equals `\\server\A`. But `\\?\UNC\s\h`
+    /// does not equal `\\?\unc\s\h`, which has another prefix.
     pub fn eq_ignore_ascii_case(self, other: Path<'_, T>) -> bool
         ensures { result ≡ is_same T.dialect (lowered T.dialect (path_bytes self.entry))
             (lowered T.dialect (path_bytes other.entry)) }
@@ -45,7 +46,7 @@ impl<'a, T: Encoding> Path<'a, T> {
     }
 
     /// Whether the path begins with the components of `base` in lower case, compared as they are
-    /// written: whether it begins with them but for the case of ASCII letters.
+    /// written.
     ///
     /// So `Src/Lib` begins with `src`, and on Windows `c:\a` with `C:`.
     pub fn starts_with_ignore_ascii_case(self, base: Path<'_, T>) -> bool
@@ -207,7 +208,8 @@ fn is_same_in_lower_case(text: &[u8], other: &[u8]) -> bool
     text.len() == other.len() && first_difference_in_lower_case(text, other) == text.len()
 }
 
-/// Returns how many bytes at the front of a component stay as they are in lower case.
+/// Returns how many bytes at the front of a component stay as they are in lower case: the 8 of
+/// `\\?\UNC\` before a server, else 0.
 #[inline(always)]
 fn kept_len(kind: PieceKind<'_>) -> usize
     ensures { (text : List ℕ) → result ≡ mark_in (kind_view kind.entry text) }

@@ -82,7 +82,8 @@ fn have_same_heads(own: Cursor<'_>, other: Cursor<'_>) -> bool
     have_same_prefixes(own.prefix(), other.prefix()) && begins_rooted(own) == begins_rooted(other)
 }
 
-/// Whether a path is anchored: it begins with a root, written or implied by a prefix.
+/// Whether a path is anchored: it begins with a root, written or implied by a prefix other than a
+/// drive `C:`.
 #[inline(always)]
 fn begins_rooted(cursor: Cursor<'_>) -> bool
     ensures { result ≡ is_anchored (kinds (parts (items_left cursor.entry))) }

@@ -55,7 +55,8 @@ fn within_by_components<T: Encoding>(path: &[u8], base: &[u8]) -> bool
 /// Where a path leads, without its prefix and the names themselves.
 #[derive(Clone, Copy)]
 pub(crate) struct Lead {
-    /// Whether it is anchored: it begins with a root, written or implied by a prefix.
+    /// Whether it is anchored: it begins with a root, written or implied by a prefix other than a
+    /// drive `C:`.
     pub is_anchored: bool,
     /// How many `..` are unmatched: they have no name to cancel.
     pub unmet: usize,

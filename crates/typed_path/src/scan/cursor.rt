@@ -264,7 +264,8 @@ impl<'a> Cursor<'a> {
     ghost use Rattle.typed_path.specs.queries.{has_implicit_root};
     ghost use Rattle.typed_path.specs.views.CursorViews.{items_left};
 
-    /// Whether the prefix was not taken yet and implies a root, as each kind but `C:` does.
+    /// Whether the prefix was not taken yet and implies a root, as each kind but `C:` does, that of
+    /// `\\?\C:` too.
     #[inline(always)]
     pub(crate) fn has_implicit_root(&self) -> bool
         ensures { result ≡ has_implicit_root (kinds (parts (items_left self.now))) }

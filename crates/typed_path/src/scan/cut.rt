@@ -343,9 +343,8 @@ pub fn have_other_fronts(text: &[u8], other: &[u8], separators: Separators) -> b
     own != wanted && !(separators.contains(*own) && separators.contains(*wanted))
 }
 
-/// Compares `text` with the bytes that it begins with, as a path in a directory with that
-/// directory: equal if no component follows, else greater. `None` leaves it open: `beginning` is
-/// empty, or a segment spans its end.
+/// Compares `text` with `beginning`, with whose bytes it begins: equal if no component comes after
+/// these, else greater. `None` leaves it open: `beginning` is empty, or a segment spans its end.
 #[inline(always)]
 fn order_of_longer(text: &[u8], beginning: &[u8], separators: Separators) -> Option<Ordering>
     requires begins { take (length beginning.now) text.now ≡ beginning.now }

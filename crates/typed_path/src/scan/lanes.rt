@@ -387,8 +387,8 @@ fn is_same_byte<const LOWER: bool>(byte: u8, other: u8) -> bool
     }
 }
 
-/// Returns the index of the first difference in `..to`, or `to`, byte by byte; in ASCII lower case
-/// if `LOWER`.
+/// Returns the index of the first difference in `..to`, or `to` if there is none, byte by byte; in
+/// ASCII lower case if `LOWER`.
 #[inline(always)]
 fn first_difference_by_one<const LOWER: bool>(text: &[u8], other: &[u8], to: usize) -> usize
     requires in_text { to ≤ length text.now }

@@ -79,7 +79,7 @@ pub fn leading_short_names(text: &[u8], pair: (u8, u8)) -> Option<usize>
 }
 
 /// Like [`leading_names`], for two bytes or more that begin with a name. No separator in
-/// `text[..from]` comes before a segment that may not be a name.
+/// `text[..from]` comes before a segment that may be no name.
 #[inline(always)]
 fn names_behind(text: &[u8], from: usize, pair: (u8, u8)) -> Option<usize>
     requires size { from + 2 ≤ length text.now }
@@ -102,8 +102,8 @@ fn names_behind(text: &[u8], from: usize, pair: (u8, u8)) -> Option<usize>
     None
 }
 
-/// Returns the index in `text[..to]` of the first separator before a segment that may not be a
-/// name: it is empty, `.`, or begins with `..`. Returns `to` if there is none; it is known that
+/// Returns the index in `text[..to]` of the first separator before a segment that may be no name:
+/// it is empty, `.`, or begins with `..`. Returns `to` if there is none; it is known that
 /// `text[..from]` has none.
 #[inline(always)]
 fn first_no_name(text: &[u8], from: usize, to: usize, pair: (u8, u8)) -> usize
@@ -132,8 +132,8 @@ fn first_no_name(text: &[u8], from: usize, to: usize, pair: (u8, u8)) -> usize
     first_no_name_by_one(text, to, pair)
 }
 
-/// Returns the index in `text[at..at + N]` of the first separator before a segment that may not be
-/// a name, or `at + N`. Reads two bytes past the block.
+/// Returns the index in `text[at..at + N]` of the first separator before a segment that may be no
+/// name, or `at + N` if there is none. Reads two bytes past the block.
 #[inline(always)]
 fn first_no_name_in_block<const N: usize>(text: &[u8], at: usize, pair: (u8, u8)) -> usize
     requires lanes { (0 < N) × (N ≤ 64) }
@@ -143,8 +143,8 @@ fn first_no_name_in_block<const N: usize>(text: &[u8], at: usize, pair: (u8, u8)
     first_marked::<N>(no_names_at::<N>(text, at, pair), at)
 }
 
-/// Returns the index in `text[..to]` of the first separator before a segment that may not be a
-/// name, or `to`, by two blocks of N bytes. `to` is in `N..=2 * N`.
+/// Returns the index in `text[..to]` of the first separator before a segment that may be no name,
+/// or `to` if there is none, by two blocks of N bytes. `to` is in `N..=2 * N`.
 #[inline(always)]
 fn first_no_name_in_two<const N: usize>(text: &[u8], to: usize, pair: (u8, u8)) -> usize
     requires lanes { (0 < N) × (N ≤ 64) }
@@ -165,8 +165,8 @@ fn first_no_name_in_two<const N: usize>(text: &[u8], to: usize, pair: (u8, u8)) 
     first_marked::<N>(last, to - N)
 }
 
-/// Returns the index in `text[..to]` of the first separator before a segment that may not be a
-/// name, or `to`, byte by byte.
+/// Returns the index in `text[..to]` of the first separator before a segment that may be no name,
+/// or `to` if there is none, byte by byte.
 #[inline(always)]
 fn first_no_name_by_one(text: &[u8], to: usize, pair: (u8, u8)) -> usize
     requires { to + 2 ≤ length text.now }
@@ -181,7 +181,7 @@ fn first_no_name_by_one(text: &[u8], to: usize, pair: (u8, u8)) -> usize
     at
 }
 
-/// Returns the mask of the separators in `text[at..at + N]` before segments that may not be names.
+/// Returns the mask of the separators in `text[at..at + N]` before segments that may be no names.
 /// Reads two bytes past the block.
 #[inline(always)]
 fn no_names_at<const N: usize>(text: &[u8], at: usize, pair: (u8, u8)) -> u64
@@ -194,7 +194,7 @@ fn no_names_at<const N: usize>(text: &[u8], at: usize, pair: (u8, u8)) -> u64
     marks_at::<N>(text, at, pair) & (marks_at::<N>(text, at + 1, pair) | dots)
 }
 
-/// Returns the mask of the separators in `text[at..at + 32]` before segments that may not be names,
+/// Returns the mask of the separators in `text[at..at + 32]` before segments that may be no names,
 /// without reading past the block: bit 30 may be missing, and bit 31 is. `ends` is the mask of all
 /// separators in the block.
 #[inline(always)]
@@ -210,7 +210,7 @@ fn no_names_among(text: &[u8], at: usize, ends: u64, pair: (u8, u8)) -> u64
     ends & ((ends >> 1) | ((dots >> 1) & ((ends | dots) >> 2)))
 }
 
-/// Whether a segment that begins with `first` and `second` may not be a name: it is empty, `.`, or
+/// Whether a segment that begins with `first` and `second` may be no name: it is empty, `.`, or
 /// begins with `..`.
 #[inline(always)]
 fn begins_no_name(pair: (u8, u8), first: u8, second: u8) -> bool
@@ -321,8 +321,9 @@ pub fn begins_with_long_name(text: &[u8]) -> bool {
     64 < text.len() && marks_at::<64>(text, 0, (b'/', b'\\')) == 0
 }
 
-/// Whether no separator is in the first 32 bytes, or in all of 16 to 31 bytes, so that no names are
-/// side by side there. Only picks the cheaper of two ways to one result.
+/// Whether no separator is in the first 32 bytes of `text`, or in all of it if it has 16 to 31
+/// bytes, so that no two names are side by side there. Only picks the cheaper of two ways to one
+/// result.
 #[inline(always)]
 pub fn has_long_front(text: &[u8], separators: Separators) -> bool {
     let pair = separators.pair();

@@ -244,8 +244,9 @@ pub fn begins_with_two(text: &[u8]) -> bool
     matches!(text, [a, b, ..] if separates(*a) && separates(*b))
 }
 
-/// Returns the prefix of a Windows path that begins with two separators: the first of the five
-/// cases that matches, or `None`.
+/// Returns the prefix of a Windows path that begins with two separators, the first of these that
+/// matches: `\\?\UNC\server\share`, `\\?\C:`, `\\?\name`, `\\.\name`, `\\server\share`; `None` if
+/// none does.
 fn find_marked(text: &[u8]) -> Option<Found<'_>>
     requires { is_some (after_two text.now) ≡ true }
     ensures { option_map found_of result ≡ prefix_of windows text.now }
@@ -264,7 +265,8 @@ fn find_marked(text: &[u8]) -> Option<Found<'_>>
     }
 }
 
-/// Returns the prefix of a Windows path: the first of the six cases that matches, or `None`.
+/// Returns the prefix of a Windows path, the first of these that matches: `\\?\UNC\server\share`,
+/// `\\?\C:`, `\\?\name`, `\\.\name`, `\\server\share`, `C:`; `None` if none does.
 #[inline(always)]
 pub fn find_prefix(text: &[u8]) -> Option<Found<'_>>
     ensures { option_map found_of result ≡ prefix_of windows text.now }

@@ -566,7 +566,7 @@ impl<'a, T: Utf8Encoding> Utf8Path<'a, T> {
     }
 
     /// Returns the path in the encoding `U`, also if that has the label of this encoding: its
-    /// components pushed one by one onto the empty path, each name and each drive `C:` by a checked
+    /// components put one by one onto the empty path, each name and each drive `C:` by a checked
     /// push, all else by a plain one.
     ///
     /// # Errors
@@ -600,7 +600,7 @@ impl<'a, T: Utf8Encoding> Utf8Path<'a, T> {
         self.with_encoding::<Utf8UnixEncoding>(alloc)
     }
 
-    /// Returns the path as on Unix, each name and each drive `C:` by a checked push, as
+    /// Returns the path as on Unix, with each name and each drive `C:` put by a checked push, as
     /// [`Utf8Path::with_encoding_checked`] does.
     pub fn with_unix_encoding_checked(self, alloc: Global) -> Result<Utf8UnixPathBuf, PathError>
         ensures { ConvertsChecked T.Bytes.dialect unix
@@ -624,7 +624,7 @@ impl<'a, T: Utf8Encoding> Utf8Path<'a, T> {
         self.with_encoding::<Utf8WindowsEncoding>(alloc)
     }
 
-    /// Returns the path as on Windows, each name and each drive `C:` by a checked push, as
+    /// Returns the path as on Windows, with each name and each drive `C:` put by a checked push, as
     /// [`Utf8Path::with_encoding_checked`] does.
     pub fn with_windows_encoding_checked(
         self,
@@ -651,8 +651,8 @@ impl<'a, T: Utf8Encoding> Utf8Path<'a, T> {
         self.with_encoding::<Utf8PlatformEncoding>(alloc)
     }
 
-    /// Returns the path as on the machine, each name and each drive `C:` by a checked push, as
-    /// [`Utf8Path::with_encoding_checked`] does.
+    /// Returns the path as on the machine, with each name and each drive `C:` put by a checked
+    /// push, as [`Utf8Path::with_encoding_checked`] does.
     pub fn with_platform_encoding_checked(
         self,
         alloc: Global,

@@ -581,7 +581,7 @@ impl<'a> Utf8Reading<'a, Utf8WindowsEncoding, Utf8WindowsComponent<'a>> {
     }
 
     /// Whether the first component left is a prefix other than `C:`, which implies a root, as in
-    /// `\\s\h`.
+    /// `\\s\h`. It is true of `\\?\C:` too, after which `has_root` asks for a written one.
     pub fn has_implicit_root(self) -> bool
         ensures { result ≡ has_implicit_root (kinds (reading_parts self.entry)) }
     {

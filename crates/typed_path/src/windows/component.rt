@@ -509,7 +509,7 @@ impl<'a> Reading<'a, WindowsEncoding, Values> {
     }
 
     /// Whether the first component left is a prefix other than `C:`, which implies a root, as in
-    /// `\\s\h`.
+    /// `\\s\h`. It is true of `\\?\C:` too, after which `has_root` asks for a written one.
     pub fn has_implicit_root(self) -> bool
         ensures { result ≡ has_implicit_root (kinds (components_parts self.entry)) }
     {

@@ -253,8 +253,8 @@ fn put_one_by_one(text: &mut Vec<u8>, len: usize, path: &[u8]) -> Result<bool, A
 }
 
 /// Applies `segment`, with which `rest` begins, to the names in `text[len..]`: appends a name with
-/// `\` after it, and takes the last name off for `..`. Returns `false`, and changes nothing, if
-/// `segment` begins with a drive `C:`.
+/// `\` after it, removes the last name for `..`, and skips an empty segment and `.`. Returns
+/// `false`, and changes nothing, if `segment` begins with a drive `C:`.
 #[inline(always)]
 fn put_segment(
     text: &mut Vec<u8>,

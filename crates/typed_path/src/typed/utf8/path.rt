@@ -536,8 +536,8 @@ impl<'a> Utf8TypedPath<'a> {
         Ok(Typed::Unix(each!(self, path => path.with_unix_encoding(alloc))?))
     }
 
-    /// Returns the path as on Unix, also if it is a Unix path: each name and each drive `C:` by a
-    /// checked push, all else by a plain one, as [`Utf8Path::with_encoding_checked`] does.
+    /// Returns the path as on Unix, also if it is a Unix path: with each name and each drive `C:`
+    /// put by a checked push, all else by a plain one, as [`Utf8Path::with_encoding_checked`] does.
     pub fn with_unix_encoding_checked(self, alloc: Global) -> Result<Utf8TypedPathBuf, PathError>
         ensures dialect { IfOk result (λ p. typed_dialect p ≡ unix) }
         ensures converted { ConvertsChecked (typed_dialect self.entry) unix owned_bytes
@@ -556,9 +556,9 @@ impl<'a> Utf8TypedPath<'a> {
         Ok(Typed::Windows(each!(self, path => path.with_windows_encoding(alloc))?))
     }
 
-    /// Returns the path as on Windows, also if it is a Windows path: each name and each drive `C:`
-    /// by a checked push, all else by a plain one, as [`Utf8Path::with_encoding_checked`] does. So
-    /// the Windows path `C:\a` is refused, and no component `..` is.
+    /// Returns the path as on Windows, also if it is a Windows path: with each name and each drive
+    /// `C:` put by a checked push, all else by a plain one, as [`Utf8Path::with_encoding_checked`]
+    /// does. So the Windows path `C:\a` is refused, and no component `..` is.
     pub fn with_windows_encoding_checked(self, alloc: Global) -> Result<Utf8TypedPathBuf, PathError>
         ensures dialect { IfOk result (λ p. typed_dialect p ≡ windows) }
         ensures converted { ConvertsChecked (typed_dialect self.entry) windows owned_bytes
