@@ -389,7 +389,7 @@ pub fn within_leads_below(directory: &[u8], path: &[u8], base: &[u8])
 {}
 
 /// A clean path has the prefix of its path, or none if that has none, leads where the path leads,
-/// and is its own clean path. The verbatim prefix that is named `UNC` is excepted.
+/// and is its own clean path. The verbatim prefix that is named `UNC`, as `\\?\UNC`, is excepted.
 #[tactic(auto, using(crate::proofs::lemmas::promises::WindowsClean::clean_form))]
 pub fn clean_has_its_form(path: &[u8])
     ghost d: { Dialect }
@@ -413,7 +413,7 @@ pub fn routes_tell_places(directory: &[u8], path: &[u8], other: &[u8])
 {}
 
 /// In each dialect, from every absolute directory that keeps its prefix, a clean path lies where
-/// its path does. The verbatim prefix that is named `UNC` is excepted.
+/// its path does. The verbatim prefix that is named `UNC`, as `\\?\UNC`, is excepted.
 #[tactic(auto, using(crate::proofs::lemmas::promises::RouteBehind::clean_leads_alike))]
 pub fn clean_leads_where_its_path_does(directory: &[u8], path: &[u8])
     ghost d: { Dialect }
@@ -743,7 +743,7 @@ pub fn common_ancestor_is_longest(path: &[u8], other: &[u8])
 
 /// If a path with a file name gets one more extension, in which no byte separates its components,
 /// its parent stays, and its file name becomes the old one, a dot and the extension. The verbatim
-/// prefix that is named `UNC` is excepted.
+/// prefix that is named `UNC`, as `\\?\UNC`, is excepted.
 pub fn added_extension_keeps_the_parent(path: &[u8], extension: &[u8])
     ghost d: { Dialect }
     ensures { ExtendsName d path.now extension.now }

@@ -693,7 +693,7 @@ class TypedPath:
         return self._made("clean")
 
     def relative_to(self: P, base: Text, *, walk_up: bool = False) -> P:
-        """The names that lead from the base to this path; `.` where both lead alike. Raises `NoRelativePath`, a
+        """The names from the base to this path; `.` where both lead alike. Raises `NoRelativePath`, a
         `ValueError`, where it does not lie at the base or below it, or no relative path leads there. With `walk_up`
         the path may begin with `..`, as `os.path.relpath` has it, and it is raised for the latter alone.
 

@@ -195,10 +195,10 @@ pub trait Encoding: Sized {
     /// Not for callers. Pushes `other` onto the path `text[start..]`, and returns what is known of
     /// the result. If allocation fails, `text` keeps its bytes.
     ///
-    /// What is known is the length of the prefix of a Windows path that is spelled as a push under
-    /// a verbatim prefix would spell it; `None` if that is not known. A row of pushes hands it on,
-    /// so that none has to read anew what stands there. If `known` is wrong, all that holds is that
-    /// `text` keeps its bytes if allocation fails.
+    /// What is known is the length of the prefix of a Windows path that has a verbatim one, as
+    /// `\\?\C:`, and one `\` between its components, as a push spells them there; `None` if that is
+    /// not known. A row of pushes hands it on, so that none has to read anew what stands there. If
+    /// `known` is wrong, all that holds is that `text` keeps its bytes if allocation fails.
     fn push_next(
         text: &mut Vec<u8>,
         start: usize,
@@ -222,8 +222,8 @@ pub trait Encoding: Sized {
     /// bytes.
     ///
     /// It never fails if `text` has spare capacity for `path` and one byte more, and each of these
-    /// pushes only appends: on Windows, if the prefix is not verbatim and no segment after it
-    /// begins with a drive `C:`.
+    /// pushes only appends: on Windows, if the prefix is not verbatim, as `\\?\C:` is, and no
+    /// segment after it begins with a drive `C:`.
     fn put_normal(text: &mut Vec<u8>, path: &[u8]) -> Result<(), AllocError>
         ensures ok { OnOk result (text.new.items ≡ text.old.items ++ normal_text dialect path.now) }
         ensures err { OnErr result (text.new.items ≡ text.old.items) }

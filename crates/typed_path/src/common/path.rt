@@ -615,8 +615,8 @@ impl<'a, T: Encoding> Path<'a, T> {
     /// name to cancel vanishes. On Unix the result is read as just these components, is its own
     /// normal path, and is the same, byte for byte, for all paths that lead to the same place. On
     /// Windows, if no name has a byte that no name may have and the prefix is not the verbatim one
-    /// named `UNC`, the result is read as these components with a root put in after a verbatim
-    /// drive `\\?\C:`, leads where the path does, and is its own normal path.
+    /// named `UNC`, as `\\?\UNC`, the result is read as these components with a root put in after a
+    /// verbatim drive `\\?\C:`, leads where the path does, and is its own normal path.
     pub fn normalize(self, alloc: Global) -> Result<PathBuf<T>, AllocError>
         ensures text { IfOk result (λ p. p.bytes ≡ normal_text T.dialect (path_bytes self.entry)) }
         ensures form { IfOk result (λ p. HasNormalForm T.dialect (path_bytes self.entry) p.bytes) }
@@ -636,7 +636,7 @@ impl<'a, T: Encoding> Path<'a, T> {
     /// The prefix is kept as it is written, and on Windows none is gained: that of `a\..\C:\b` is
     /// `.\C:\b`. A root is put between `\\?\C:` and a name. From every absolute directory that
     /// keeps its prefix, the result leads where the path does, and it is its own clean path; of a
-    /// path with the verbatim prefix named `UNC` neither of the two is promised.
+    /// path with the verbatim prefix named `UNC`, as `\\?\UNC`, neither of the two is promised.
     pub fn clean(self, alloc: Global) -> Result<PathBuf<T>, AllocError>
         ensures { IfOk result (λ p. p.bytes ≡ clean_text T.dialect (path_bytes self.entry)) }
     {

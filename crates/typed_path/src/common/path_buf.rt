@@ -100,9 +100,9 @@ impl<T: Encoding> PathBuf<T> {
     /// On Unix `b` makes `a` into `a/b`; on Windows `..` makes `\\?\C:\a` into `\\?\C:\`.
     ///
     /// If the result fits the capacity, nothing is allocated. If this path has a verbatim prefix of
-    /// Windows, that is promised only if it is spelled as a push would spell it, and has spare
-    /// capacity for `path` and one byte more. If allocation fails, the path is unchanged, and its
-    /// capacity is no less.
+    /// Windows, as `\\?\C:`, that is promised only if it has one `\` between its components, as a
+    /// push would spell them, and spare capacity for `path` and one byte more. If allocation fails,
+    /// the path is unchanged, and its capacity is no less.
     pub fn push(&mut self, path: Path<'_, T>) -> Result<(), AllocError>
         ensures ok { OnOk result
             (self.new.bytes ≡ push_spec.push T.dialect self.old.bytes (path_bytes path.entry)) }

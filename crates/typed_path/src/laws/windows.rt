@@ -23,7 +23,7 @@ use std::hash::Hash;
 /// The normal path of a Windows path is read as the components that the path resolves to, with a
 /// root put in after a verbatim drive, `\\?\C:`. It leads where the path does, and is its own
 /// normal path. This holds if no name has a byte that no name may have, and the prefix is not the
-/// verbatim one named `UNC`.
+/// verbatim one named `UNC`, as `\\?\UNC`.
 #[tactic(auto, using(crate::proofs::lemmas::promises::WindowsStable::stays_stable))]
 pub fn normal_stays_stable(path: &[u8])
     ensures { StaysStable path.now }
@@ -52,7 +52,8 @@ pub fn relative_leads_back_behind_clean(path: &[u8], base: &[u8])
     ensures { LeadsBackBehindClean path.now base.now }
 {}
 
-/// A base that keeps its prefix is not the verbatim one named `UNC`, of which other laws speak.
+/// The prefix of a base that keeps it is not the verbatim one named `UNC`, as `\\?\UNC`, which
+/// other laws except.
 #[tactic(auto, using(crate::proofs::lemmas::promises::WindowsContained::kept_no_unc))]
 pub fn kept_prefix_is_not_named_unc(base: &[u8])
     ensures { keeps_prefix windows base.now ≡ true

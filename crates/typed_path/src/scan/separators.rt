@@ -483,8 +483,9 @@ fn may_begins_at(text: &[u8], at: usize, behind: u64) -> u64
     may_begins(separators, firsts, seconds, separators | dots | behind)
 }
 
-/// Returns the mask of the separators after which a device may begin, given the masks of
-/// separators, of first letters, of second letters, and of the bytes that end a stem.
+/// Returns the mask of the separators after which a device may begin: the next byte is one of the
+/// first letters, the one after it one of the second, and the fourth or fifth ends a stem. Given
+/// are the masks of these four.
 #[inline(always)]
 fn may_begins(separators: u64, firsts: u64, seconds: u64, ends: u64) -> u64
     ensures { AreMayBegins separators firsts seconds ends result }

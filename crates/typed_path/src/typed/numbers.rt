@@ -101,7 +101,7 @@ impl<'a> TypedPath<'a> {
 
     /// Returns where `other`, read in the same dialect, goes if it is pushed onto this path: how
     /// many bytes of this one are kept, and what stands between. `None` if the push merges it into
-    /// a base with a verbatim prefix.
+    /// a base with a verbatim prefix, as `\\?\C:\a`.
     ///
     /// Of `a` and `b` on Unix all of `a` is kept, with `/` after it.
     #[inline]

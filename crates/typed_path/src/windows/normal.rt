@@ -93,8 +93,8 @@ fn row_head(path: &[u8]) -> Option<RowHead<'_>>
 }
 
 /// Whether the names after the prefix `found`, which is not `C:`, may be appended as they are: it
-/// is not the verbatim prefix named `UNC`; a root or nothing follows it; and if `path` is read
-/// verbatim, no name holds a `/`.
+/// is not the verbatim prefix named `UNC`, as `\\?\UNC`; a root or nothing follows it; and if
+/// `path` is read verbatim, no name holds a `/`.
 #[inline(always)]
 fn takes_rows(path: &[u8], found: Found<'_>, head: RowHead<'_>) -> bool
     requires { found.length ≤ length path.now }

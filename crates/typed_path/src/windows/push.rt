@@ -1,10 +1,10 @@
 //! Pushes of one Windows path onto another.
 //!
-//! Under a verbatim prefix a push merges the components of the other path into those of the base,
-//! and spells the result: the prefix, the root, and the other components with one `\` between. A
-//! path with a verbatim prefix is *spelled* if it is written so already. The components after a
-//! prefix are *parted* from it if they have no root, so that a `\` is put between. If allocation
-//! fails, a call may leave a part of what it appends, unless its comment says otherwise.
+//! Under a verbatim prefix, as `\\?\C:`, a push merges the components of the other path into those
+//! of the base, and spells the result: the prefix, the root, and the other components with one `\`
+//! between. A path with a verbatim prefix is *spelled* if it is written so already. The components
+//! after a prefix are *parted* from it if they have no root, so that a `\` is put between. If
+//! allocation fails, a call may leave a part of what it appends, unless its comment says otherwise.
 
 ghost use Rattle.std.specs.Prelude.{◌≡◌, ◌≤◌, ◌+◌, ◌++◌, ℕ, List, IsTrue, true, false, take, drop, slice_range, length, IfOk, IsOk, OnOk, OnErr, Some, ◌<◌, ◌∷◌, [], Bool, IfSome, is_some, not};
 ghost use Rattle.std.specs.Vec.{vec_capacity, vec_len};
@@ -65,7 +65,7 @@ pub fn push_at(
 
 /// Returns where `other` goes when it is pushed onto `base`: how many bytes of `base` stay, and
 /// which separator comes between. `None` if its components are merged into a base with a verbatim
-/// prefix.
+/// prefix, as `\\?\C:\a`.
 pub fn push_place(base: &[u8], other: &[u8]) -> Option<PushPlace>
     ensures place { IfSome result (λ place. push_windows base.now other.now
         ≡ put_in_place base.now place.kept place.separator.now other.now) }
