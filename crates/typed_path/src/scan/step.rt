@@ -274,7 +274,7 @@ fn ends_blank(text: &[u8], separators: Separators) -> bool
         || (*last == b'.' && !separators.is_verbatim() && separators.contains(*before))
 }
 
-/// Returns the depth after `step`, whose depth before is `depth`, or the error for which it is
+/// Returns the depth after `step`, given the `depth` before it, or the error for which it is
 /// refused. The depth counts the names that no `..` has cancelled yet. With `allowed`, the bytes of
 /// a name are known to be allowed in names.
 #[inline(always)]
