@@ -1,4 +1,5 @@
-//! What a path is asked, alone and beside another.
+//! What a path is asked, alone and beside another. With a number that names no dialect, `answer` is
+//! `false`.
 
 ghost use Rattle.std.specs.Prelude.{◌≡◌, false};
 ghost use Rattle.typed_path.specs.components.{kinds, parts_of};
@@ -14,7 +15,7 @@ use crate::status::{BAD_DIALECT, DONE, ended, of_encoding, of_path, path_in};
 use std::cmp::Ordering;
 use typed_path::{Encoding, Path, PathType};
 
-/// Tells an answer.
+/// Sets `answer`, and returns [`DONE`].
 fn tell(asked: bool, answer: &mut bool) -> u32
     ensures status { result ≡ done }
     ensures answer { answer.new ≡ asked }
@@ -23,7 +24,7 @@ fn tell(asked: bool, answer: &mut bool) -> u32
     DONE
 }
 
-/// Tells that a number names no dialect, and answers no.
+/// Sets `answer` to `false`, and returns [`BAD_DIALECT`].
 fn tell_none(answer: &mut bool) -> u32
     ensures status { result ≡ bad_dialect }
     ensures answer { answer.new ≡ false }
@@ -32,7 +33,8 @@ fn tell_none(answer: &mut bool) -> u32
     BAD_DIALECT
 }
 
-/// The dialect that a path looks like.
+/// Returns the number of the dialect that a path looks like: Windows if it begins with `\` or with
+/// a prefix of Windows, else Unix.
 #[unsafe(no_mangle)]
 pub extern "C" fn typed_path_derive(path: &[u8]) -> u32
     ensures { dialect_named result ≡ Some (derived_dialect path.now) }
@@ -60,7 +62,7 @@ pub extern "C" fn typed_path_has_root(dialect: u32, path: &[u8], answer: &mut bo
     of_path!(dialect, path => tell(path.has_root(), answer), tell_none(answer))
 }
 
-/// Whether each name of it is allowed.
+/// Whether the dialect allows every name of the path.
 #[unsafe(no_mangle)]
 pub extern "C" fn typed_path_is_valid(dialect: u32, path: &[u8], answer: &mut bool) -> u32
     ensures { Tells dialect (λ d. is_valid d (kinds (parts_of d path.now))) answer.new result }
@@ -69,14 +71,14 @@ pub extern "C" fn typed_path_is_valid(dialect: u32, path: &[u8], answer: &mut bo
     tell(asked, answer)
 }
 
-/// The same of a path of one encoding.
+/// Whether the encoding allows every name of the path.
 fn is_valid<T: Encoding>(path: &[u8]) -> bool
     ensures { result ≡ is_valid T.dialect (kinds (parts_of T.dialect path.now)) }
 {
     Path::<T>::new(path).is_valid()
 }
 
-/// Whether the dialect allows a name.
+/// Whether the dialect allows the name.
 #[unsafe(no_mangle)]
 pub extern "C" fn typed_path_is_valid_name(dialect: u32, name: &[u8], answer: &mut bool) -> u32
     ensures { Tells dialect (λ d. is_valid_name d name.now) answer.new result }
@@ -85,14 +87,15 @@ pub extern "C" fn typed_path_is_valid_name(dialect: u32, name: &[u8], answer: &m
     tell(asked, answer)
 }
 
-/// The same of one encoding.
+/// Whether the encoding allows the name.
 fn is_valid_name<T: Encoding>(name: &[u8]) -> bool
     ensures { result ≡ is_valid_name T.dialect name.now }
 {
     T::valid(name)
 }
 
-/// What a checked join refuses a path for, whatever it is joined to.
+/// Returns the status of the first component for which a checked join refuses the path, whatever it
+/// is joined to, or [`DONE`] if there is none.
 #[unsafe(no_mangle)]
 pub extern "C" fn typed_path_check(dialect: u32, path: &[u8]) -> u32
     ensures judged { Judges dialect (λ d. status_by fault_status (fault d path.now)) result }
@@ -101,14 +104,15 @@ pub extern "C" fn typed_path_check(dialect: u32, path: &[u8]) -> u32
     of_encoding!(dialect, check(path), BAD_DIALECT)
 }
 
-/// The same of a path of one encoding.
+/// Returns what [`typed_path_check`] does, for a path of one encoding.
 fn check<T: Encoding>(path: &[u8]) -> u32
     ensures { result ≡ status_by fault_status (fault T.dialect path.now) }
 {
     ended(T::check(path))
 }
 
-/// Why some system does not take each component of a path as it is written.
+/// Returns the status of the first component that some system does not take as it is written, or
+/// [`DONE`] if there is none.
 #[unsafe(no_mangle)]
 pub extern "C" fn typed_path_check_portable(dialect: u32, path: &[u8]) -> u32
     ensures { Judges dialect (λ d. status_by portable_status (portable_fault d path.now)) result }
@@ -124,7 +128,7 @@ pub extern "C" fn typed_path_is_portable(dialect: u32, path: &[u8], answer: &mut
     of_path!(dialect, path => tell(path.is_portable(), answer), tell_none(answer))
 }
 
-/// Whether some version of Windows may take a name of it for a device.
+/// Whether some version of Windows may take a name of the path for a device.
 #[unsafe(no_mangle)]
 pub extern "C" fn typed_path_may_be_device(dialect: u32, path: &[u8], answer: &mut bool) -> u32
     ensures { Tells dialect (λ d. may_be_device d path.now) answer.new result }
@@ -132,7 +136,8 @@ pub extern "C" fn typed_path_may_be_device(dialect: u32, path: &[u8], answer: &m
     of_path!(dialect, path => tell(path.may_be_device(), answer), tell_none(answer))
 }
 
-/// True only if every checked join onto it has its prefix.
+/// Whether each path that a checked join makes of this one is known to have the prefix of this one,
+/// or none if this one has none. `false` leaves it open.
 #[unsafe(no_mangle)]
 pub extern "C" fn typed_path_keeps_prefix(dialect: u32, path: &[u8], answer: &mut bool) -> u32
     ensures { Tells dialect (λ d. keeps_prefix d path.now) answer.new result }
@@ -140,7 +145,7 @@ pub extern "C" fn typed_path_keeps_prefix(dialect: u32, path: &[u8], answer: &mu
     of_path!(dialect, path => tell(path.keeps_prefix(), answer), tell_none(answer))
 }
 
-/// Whether it begins with the components of a base.
+/// Whether the path begins with the components of `base`, compared as they are written.
 #[unsafe(no_mangle)]
 pub extern "C" fn typed_path_starts_with(
     dialect: u32,
@@ -153,7 +158,8 @@ pub extern "C" fn typed_path_starts_with(
     of_path!(dialect, path => tell(path.starts_with(base), answer), tell_none(answer))
 }
 
-/// Whether it begins with them where both are in lower case, in letters of ASCII.
+/// Whether the path in lower case begins with the components of `base` in lower case, compared as
+/// they are written. Only ASCII letters have a lower case here.
 #[unsafe(no_mangle)]
 pub extern "C" fn typed_path_starts_with_ignore_ascii_case(
     dialect: u32,
@@ -166,7 +172,7 @@ pub extern "C" fn typed_path_starts_with_ignore_ascii_case(
     of_path!(dialect, path => tell(path.starts_with_ignore_ascii_case(base), answer), tell_none(answer))
 }
 
-/// Whether it ends with the components of another.
+/// Whether the path ends with the components of `end`, compared as they are written.
 #[unsafe(no_mangle)]
 pub extern "C" fn typed_path_ends_with(
     dialect: u32,
@@ -179,7 +185,7 @@ pub extern "C" fn typed_path_ends_with(
     of_path!(dialect, path => tell(path.ends_with(end), answer), tell_none(answer))
 }
 
-/// Whether it lies at a base or below it.
+/// Whether the path lies at `base` or below it, from whatever directory both are read.
 #[unsafe(no_mangle)]
 pub extern "C" fn typed_path_is_within(
     dialect: u32,
@@ -192,7 +198,7 @@ pub extern "C" fn typed_path_is_within(
     of_path!(dialect, path => tell(path.is_within(base), answer), tell_none(answer))
 }
 
-/// Whether two paths have the same components.
+/// Whether the path has the same components as `other`.
 #[unsafe(no_mangle)]
 pub extern "C" fn typed_path_equal(
     dialect: u32,
@@ -206,14 +212,14 @@ pub extern "C" fn typed_path_equal(
     tell(asked, answer)
 }
 
-/// The same of paths of one encoding.
+/// Whether two paths of one encoding have the same components.
 fn are_same<T: Encoding>(path: &[u8], other: &[u8]) -> bool
     ensures { result ≡ is_same T.dialect path.now other.now }
 {
     Path::<T>::new(path) == Path::new(other)
 }
 
-/// Whether two paths in lower case have the same components.
+/// Whether the path has the same components as `other` in lower case.
 #[unsafe(no_mangle)]
 pub extern "C" fn typed_path_equal_ignore_ascii_case(
     dialect: u32,
@@ -227,14 +233,14 @@ pub extern "C" fn typed_path_equal_ignore_ascii_case(
     tell(asked, answer)
 }
 
-/// The same of paths of one encoding.
+/// Whether two paths of one encoding have the same components in lower case.
 fn are_alike<T: Encoding>(path: &[u8], other: &[u8]) -> bool
     ensures { result ≡ is_same T.dialect (lowered T.dialect path.now) (lowered T.dialect other.now) }
 {
     Path::<T>::new(path).eq_ignore_ascii_case(Path::new(other))
 }
 
-/// The order of two paths by their components.
+/// Sets `order` to the order of the path and `other` by components: -1, 0 or 1.
 #[unsafe(no_mangle)]
 pub extern "C" fn typed_path_compare(
     dialect: u32,
@@ -248,14 +254,14 @@ pub extern "C" fn typed_path_compare(
     DONE
 }
 
-/// The order of two paths of one encoding, as a number.
+/// Returns the order of two paths of one encoding by components: -1, 0 or 1.
 fn compared<T: Encoding>(path: &[u8], other: &[u8]) -> i32
     ensures { result ≡ order_number (path_cmp T.dialect path.now other.now) }
 {
     number_of(Path::<T>::new(path).cmp(&Path::new(other)))
 }
 
-/// The order of two paths by their components in lower case.
+/// Sets `order` to the order of the path and `other` in lower case, by components: -1, 0 or 1.
 #[unsafe(no_mangle)]
 pub extern "C" fn typed_path_compare_ignore_ascii_case(
     dialect: u32,
@@ -269,14 +275,14 @@ pub extern "C" fn typed_path_compare_ignore_ascii_case(
     DONE
 }
 
-/// The same of paths of one encoding.
+/// Returns the order of two paths of one encoding in lower case, by components: -1, 0 or 1.
 fn lowered_compared<T: Encoding>(path: &[u8], other: &[u8]) -> i32
     ensures { result ≡ order_number (path_cmp T.dialect (lowered T.dialect path.now) (lowered T.dialect other.now)) }
 {
     number_of(Path::<T>::new(path).cmp_ignore_ascii_case(Path::new(other)))
 }
 
-/// An order as a number.
+/// Returns an order as a number: -1, 0 or 1.
 fn number_of(order: Ordering) -> i32
     ensures { result ≡ order_number order }
 {

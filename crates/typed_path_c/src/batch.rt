@@ -13,21 +13,24 @@ use crate::status::{BAD_DIALECT, BAD_ENDS, DONE, OUT_OF_MEMORY, Refusal, TOO_SMA
 use std::alloc::Global;
 use typed_path::{JoinError, TypedPath, TypedPathBuf};
 
-/// What refuses a name: the checked join alone, or the portable one.
+/// What refuses a name: a checked join, or a portable one.
 #[derive(Clone, Copy)]
 enum Rule {
     Checked,
     Portable,
 }
 
-/// Where the answer to a name ends, and its status.
+/// The index at which the answer to a name ends, and the status of the name.
 #[derive(Clone, Copy)]
 struct Joined {
     end: usize,
     status: u32,
 }
 
-/// Joins names onto a base, as many as there is room for, and puts the answers behind each other.
+/// Puts the checked joins of names onto `base` one after the other, and sets `done` to how many
+/// names were answered; the status says why no more were. `ends` has the indices at which the names
+/// end, and `out_ends` takes those of the answers. A name that is refused has an empty answer, and
+/// its status.
 #[unsafe(no_mangle)]
 pub extern "C" fn typed_path_join_checked_batch(
     alloc: Global,
@@ -57,7 +60,7 @@ pub extern "C" fn typed_path_join_checked_batch(
     )
 }
 
-/// The same for portable names alone.
+/// Does what [`typed_path_join_checked_batch`] does, by portable joins.
 #[unsafe(no_mangle)]
 pub extern "C" fn typed_path_join_portable_batch(
     alloc: Global,
@@ -87,7 +90,7 @@ pub extern "C" fn typed_path_join_portable_batch(
     )
 }
 
-/// The same by a rule.
+/// Does what [`typed_path_join_checked_batch`] does, by the joins of `rule`.
 fn join_batch(
     alloc: Global,
     rule: Rule,
@@ -112,7 +115,7 @@ fn join_batch(
     )
 }
 
-/// The same onto a path.
+/// Does what [`join_batch`] does, onto a path. `done` is 0 at first.
 fn join_each(
     alloc: Global,
     rule: Rule,
@@ -152,7 +155,8 @@ fn join_each(
     DONE
 }
 
-/// Joins one name onto a path, and puts the answer behind the first bytes of a buffer.
+/// Puts the join of one name onto `base` at `out[at..]`, or nothing if `rule` refuses the name.
+/// `Err` has the status if allocation fails or the join does not fit; then `out` is unchanged.
 fn join_one(
     alloc: Global,
     rule: Rule,
@@ -193,7 +197,7 @@ fn join_one(
     }
 }
 
-/// The path with a name pushed onto it, unless the rule refuses that.
+/// Returns `base` with `name` pushed onto it, unless `rule` refuses the name.
 fn join_by(
     alloc: Global,
     rule: Rule,

@@ -1,5 +1,5 @@
-//! The words of a path's key, and the hash of a path: SipHash 1-3 over these, under keys of zero or of the caller.
-//! std has a hasher of this kind whose keys are zero, and one whose keys are random.
+//! The words of a path's key, and the hash of a path: SipHash 1-3 over these, with keys of zero or
+//! of the caller. The hashers of std that are of this kind have keys of zero or random ones.
 
 ghost use Rattle.std.specs.Prelude.{◌≡◌, ◌+◌, ◌*◌, length};
 ghost use Rattle.std.specs.Hash.DefaultHasher as sip;
@@ -11,7 +11,7 @@ use crate::status::{BAD_DIALECT, DONE, TOO_SMALL, of_encoding};
 use std::hash::{Hash, Hasher};
 use typed_path::{Encoding, Key, Path};
 
-/// Puts the words of a path's key behind each other.
+/// Puts the words of the path's key: the bytes that it feeds a hasher, one word after the other.
 #[tactic(auto, using(crate::proofs::Crossed::never_small, typed_path::proofs::lemmas::order::KeyBytes::key_bytes_size))]
 #[unsafe(no_mangle)]
 pub extern "C" fn typed_path_key_words(
@@ -26,7 +26,7 @@ pub extern "C" fn typed_path_key_words(
     of_encoding!(dialect, put_key(path, out, len), BAD_DIALECT)
 }
 
-/// The same of a path of one encoding.
+/// Puts what [`typed_path_key_words`] does, for a path of one encoding.
 #[tactic(auto, using(crate::proofs::Crossed::never_small, typed_path::proofs::lemmas::order::KeyBytes::key_bytes_size))]
 fn put_key<T: Encoding>(path: &[u8], out: &mut [u8], len: &mut usize) -> u32
     ensures put { IsPut (key_bytes T.dialect path.now) out.old out.new len.new result }
@@ -44,7 +44,7 @@ fn put_key<T: Encoding>(path: &[u8], out: &mut [u8], len: &mut usize) -> u32
     DONE
 }
 
-/// The hash of a path, which is one for equal paths.
+/// Sets `hash` to the hash of the path with keys of zero. Equal paths have the same hash.
 #[unsafe(no_mangle)]
 pub extern "C" fn typed_path_hash(dialect: u32, path: &[u8], hash: &mut u64) -> u32
     ensures { Hashes dialect 0 0 path.now hash.old hash.new result }
@@ -52,7 +52,7 @@ pub extern "C" fn typed_path_hash(dialect: u32, path: &[u8], hash: &mut u64) -> 
     typed_path_hash_keyed(dialect, 0, 0, path, hash)
 }
 
-/// The same under two keys of the caller.
+/// Sets `hash` to the hash of the path with two keys of the caller. Equal paths have the same hash.
 #[unsafe(no_mangle)]
 pub extern "C" fn typed_path_hash_keyed(
     dialect: u32,
@@ -67,7 +67,7 @@ pub extern "C" fn typed_path_hash_keyed(
     DONE
 }
 
-/// The same of a path of one encoding.
+/// Returns the hash of a path of one encoding with two keys.
 fn hash_of<T: Encoding>(key0: u64, key1: u64, path: &[u8]) -> u64
     ensures { result ≡ hash_of T.dialect key0 key1 path.now }
 {
@@ -76,21 +76,21 @@ fn hash_of<T: Encoding>(key0: u64, key1: u64, path: &[u8]) -> u64
     state.finish()
 }
 
-/// A state of SipHash 1-3.
+/// The state of a hash by SipHash 1-3.
 #[derive(Clone, Copy)]
 struct SipHasher {
     v0: u64,
     v1: u64,
     v2: u64,
     v3: u64,
-    /// The bytes behind the last whole word, the first of them lowest.
+    /// The bytes after the last whole word, the first of them lowest.
     tail: u64,
     /// How many bytes were written, modulo 2^64.
     length: u64,
 }
 
 impl SipHasher {
-    /// The state under two keys, with nothing written.
+    /// Returns the state with two keys and nothing written.
     fn new(key0: u64, key1: u64) -> SipHasher
         ensures { result ≡ sip_hasher_of (sip.with_keys key0 key1) }
     {
@@ -104,7 +104,7 @@ impl SipHasher {
         }
     }
 
-    /// One round.
+    /// Does one round.
     #[inline(always)]
     fn round(&mut self)
         ensures { self.new ≡ sip_hasher_of (sip.round (std_hasher_of self.old)) }
@@ -121,7 +121,7 @@ impl SipHasher {
         self.v2 = self.v2.rotate_left(32);
     }
 
-    /// Takes in a word of eight bytes.
+    /// Feeds a word of eight bytes.
     #[inline(always)]
     fn write_word(&mut self, word: u64)
         ensures { self.new ≡ sip_hasher_of (sip.write_word (std_hasher_of self.old) word) }
@@ -131,7 +131,7 @@ impl SipHasher {
         self.v0 ^= word;
     }
 
-    /// Takes in a byte.
+    /// Feeds a byte, and with it the word that it completes.
     #[inline(always)]
     fn write_byte(&mut self, byte: u8)
         ensures { self.new ≡ sip_hasher_of (sip.write_byte (std_hasher_of self.old) byte) }

@@ -15,7 +15,8 @@ use crate::status::{BAD_DIALECT, of_path, path_in, put_crossed, put_found, put_m
 use std::alloc::Global;
 use typed_path::{PathError, PlatformPath, TypedPath, TypedPathBuf};
 
-/// Puts a path with another pushed onto it.
+/// Puts the path with `other` pushed onto it: an absolute one replaces it, an empty one makes a
+/// copy.
 #[unsafe(no_mangle)]
 pub extern "C" fn typed_path_join(
     alloc: Global,
@@ -34,7 +35,8 @@ pub extern "C" fn typed_path_join(
     of_path!(dialect, path => put_made(path.join(alloc, other), out, len), BAD_DIALECT)
 }
 
-/// Puts a path with another pushed onto it, unless that has a component that offends.
+/// Puts the path with `other` pushed onto it, unless a component of `other` offends: then returns
+/// the status of the first that does.
 #[unsafe(no_mangle)]
 pub extern "C" fn typed_path_join_checked(
     alloc: Global,
@@ -53,7 +55,8 @@ pub extern "C" fn typed_path_join_checked(
     of_path!(dialect, path => put_made(path.join_checked(alloc, other), out, len), BAD_DIALECT)
 }
 
-/// Puts a path with a portable one pushed onto it, unless that has a component that offends.
+/// Puts the path with `other` pushed onto it, unless `other` is not portable or a component of it
+/// offends: then returns the status of the refusal.
 #[unsafe(no_mangle)]
 pub extern "C" fn typed_path_join_portable(
     alloc: Global,
@@ -72,7 +75,7 @@ pub extern "C" fn typed_path_join_portable(
     of_path!(dialect, path => put_made(path.join_portable(alloc, other), out, len), BAD_DIALECT)
 }
 
-/// Puts the clean path of a checked join, unless that is refused.
+/// Puts the clean path of a checked join, unless the join is refused.
 #[unsafe(no_mangle)]
 pub extern "C" fn typed_path_resolve_checked(
     alloc: Global,
@@ -91,7 +94,8 @@ pub extern "C" fn typed_path_resolve_checked(
     of_path!(dialect, path => put_made(resolve(alloc, path, other), out, len), BAD_DIALECT)
 }
 
-/// The clean path of a checked join.
+/// Returns the clean path of a checked join. If `other` offends, it is refused for that, however
+/// little memory there is.
 fn resolve(alloc: Global, path: TypedPath<'_>, other: &[u8]) -> Result<TypedPathBuf, PathError>
     ensures refused { refusal result ≡ fault (typed_dialect path.entry) other.now }
     ensures resolved { IfOk result (λ p. owned_bytes p ≡ clean_text (typed_dialect path.entry)
@@ -119,7 +123,8 @@ pub extern "C" fn typed_path_with_file_name(
     of_path!(dialect, path => put_made(path.with_file_name(alloc, name), out, len), BAD_DIALECT)
 }
 
-/// Puts a path whose file name has another extension, or none where that is empty.
+/// Puts a copy of the path whose file name has another extension, or none if `extension` is empty.
+/// Without a file name it is an unchanged copy.
 #[unsafe(no_mangle)]
 pub extern "C" fn typed_path_with_extension(
     alloc: Global,
@@ -137,7 +142,8 @@ pub extern "C" fn typed_path_with_extension(
     of_path!(dialect, path => put_made(path.with_extension(alloc, extension), out, len), BAD_DIALECT)
 }
 
-/// Puts a path with one extension more behind its file name.
+/// Puts a copy of the path with `extension` appended to its file name, after a dot. Without a file
+/// name, or with an empty extension, it is an unchanged copy.
 #[unsafe(no_mangle)]
 pub extern "C" fn typed_path_with_added_extension(
     alloc: Global,
@@ -155,7 +161,8 @@ pub extern "C" fn typed_path_with_added_extension(
     of_path!(dialect, path => put_made(path.with_added_extension(alloc, extension), out, len), BAD_DIALECT)
 }
 
-/// Puts a path in lower case, in letters of ASCII.
+/// Puts the path in lower case: with each ASCII letter in lower case, except the `UNC` of a prefix
+/// `\\?\UNC\`.
 #[unsafe(no_mangle)]
 pub extern "C" fn typed_path_to_ascii_lowercase(
     alloc: Global,
@@ -171,7 +178,7 @@ pub extern "C" fn typed_path_to_ascii_lowercase(
     of_path!(dialect, path => put_made(path.to_ascii_lowercase(alloc), out, len), BAD_DIALECT)
 }
 
-/// Puts a path without `.`, and without `..` and the names that these take away.
+/// Puts the path without `.`, and without `..` and the names that these cancel.
 #[unsafe(no_mangle)]
 pub extern "C" fn typed_path_normalize(
     alloc: Global,
@@ -188,7 +195,7 @@ pub extern "C" fn typed_path_normalize(
 }
 
 /// Puts a path without `.`, doubled separators, a last separator that is no root, and names that a
-/// `..` takes away; one that finds no name stays where the path is relative.
+/// `..` cancels; a relative path keeps the `..` that it needs.
 #[unsafe(no_mangle)]
 pub extern "C" fn typed_path_clean(
     alloc: Global,
@@ -221,7 +228,7 @@ pub extern "C" fn typed_path_relative_to(
     of_path!(dialect, path => put_found(path.relative_to(alloc, base), out, len), BAD_DIALECT)
 }
 
-/// Puts a path as it is written in another dialect.
+/// Puts the path as it is written in the dialect `other`: a copy if that is its own.
 #[unsafe(no_mangle)]
 pub extern "C" fn typed_path_convert(
     alloc: Global,
@@ -242,7 +249,8 @@ pub extern "C" fn typed_path_convert(
     }
 }
 
-/// The same, unless a component is refused there.
+/// Puts the path as it is written in the dialect `other` by checked pushes, also if that is its
+/// own, or returns the status of the first component that is refused there.
 #[unsafe(no_mangle)]
 pub extern "C" fn typed_path_convert_checked(
     alloc: Global,
@@ -263,7 +271,9 @@ pub extern "C" fn typed_path_convert_checked(
     }
 }
 
-/// Puts the normal text of a path, from a directory of Unix where it is not absolute.
+/// Puts the normal path of the path if it is absolute, else that of the Unix path `directory`,
+/// written in the dialect of the path, with the path pushed onto it. Returns the status `AMBIGUOUS`
+/// if the path is absolute neither alone nor after the directory.
 #[unsafe(no_mangle)]
 pub extern "C" fn typed_path_absolutize(
     alloc: Global,
@@ -281,7 +291,7 @@ pub extern "C" fn typed_path_absolutize(
     of_path!(dialect, path => put_made(path.absolutize(alloc, directory), out, len), BAD_DIALECT)
 }
 
-/// The same from a directory of a dialect.
+/// Puts what [`typed_path_absolutize`] does, with a directory of the dialect `other`.
 #[unsafe(no_mangle)]
 pub extern "C" fn typed_path_absolutize_from(
     alloc: Global,

@@ -1,4 +1,4 @@
-//! Parts of a path, lent by their places.
+//! Parts of a path, given by their places, and its components.
 
 ghost use Rattle.std.specs.Prelude.{◌≡◌, ◌<◌, ◌^◌, ℕ, length, ◌++◌, ◌∷◌, [], List, Some, drop, option_copied, option_map, MatchOption};
 ghost use Rattle.typed_path.specs.components.{Placed, comps};
@@ -15,7 +15,7 @@ ghost use Rattle.typed_path_c.specs.Places.{Names};
 use crate::status::{BAD_DIALECT, DONE, NONE, TOO_SMALL, of_encoding, path_in};
 use typed_path::{Components, Encoding, Path, Piece, PieceKind, TypedPath, WindowsPrefix};
 
-/// A part of the caller's path: its first byte, counted from 0, and how many bytes it has.
+/// A part of the caller's path: the index of its first byte, and its length in bytes.
 #[repr(C)]
 #[derive(Clone, Copy)]
 pub struct Span {
@@ -23,7 +23,7 @@ pub struct Span {
     pub length: usize,
 }
 
-/// Tells a part, or that there is no such one.
+/// Sets `part` to what was found, and returns [`DONE`]; returns [`NONE`] if nothing was.
 fn lend<T: Copy>(found: Option<T>, part: &mut T) -> u32
     ensures { MatchOption found ((result ≡ none_there) × (part.new ≡ part.old))
         (λ f. (result ≡ done) × (part.new ≡ f)) }
@@ -37,17 +37,17 @@ fn lend<T: Copy>(found: Option<T>, part: &mut T) -> u32
     }
 }
 
-/// A component, and where it begins.
+/// A component, and its index in the path.
 #[derive(Clone, Copy)]
 struct Last<'a> {
     start: usize,
     piece: Piece<'a>,
 }
 
-/// The last component.
+/// Returns the last component, `None` if there is none.
 ///
-/// It stands in place: handed back, what has room for a prefix is copied piece by piece, and each copy waits for the one
-/// before it, which takes longer than the reading.
+/// Always inlined: a value with room for a prefix is returned by copies that wait for each other,
+/// which takes longer than the reading.
 #[inline(always)]
 #[tactic(auto, using(crate::proofs::Spans::last_none, crate::proofs::Spans::last_some))]
 fn last_of<T: Encoding>(path: &[u8]) -> Option<Last<'_>>
@@ -64,7 +64,8 @@ fn last_of<T: Encoding>(path: &[u8]) -> Option<Last<'_>>
     }
 }
 
-/// The path without its last component.
+/// Sets `span` to the path without its last component. [`NONE`] if it has no component, or if
+/// nothing is above the last one: a root or, on Windows, a prefix other than a drive.
 #[unsafe(no_mangle)]
 pub extern "C" fn typed_path_parent(dialect: u32, path: &[u8], span: &mut Span) -> u32
     ensures { Lends dialect (λ d. parent_place d path.now) span.old span.new result }
@@ -75,7 +76,7 @@ pub extern "C" fn typed_path_parent(dialect: u32, path: &[u8], span: &mut Span) 
     lend(whole_front(path.parent()), span)
 }
 
-/// Where a path stands that is the front of another.
+/// Returns where a front of a path is, which begins at 0; `None` if there is none.
 fn whole_front(found: Option<TypedPath<'_>>) -> Option<Span>
     ensures { option_map (λ s. (s.start, s.length)) result
         ≡ option_map front_place (option_map typed_bytes found.entry) }
@@ -89,7 +90,7 @@ fn whole_front(found: Option<TypedPath<'_>>) -> Option<Span>
     }
 }
 
-/// The last component, if it is a name.
+/// Sets `span` to the last component if it is a name; else returns [`NONE`].
 #[unsafe(no_mangle)]
 pub extern "C" fn typed_path_file_name(dialect: u32, path: &[u8], span: &mut Span) -> u32
     ensures { Lends dialect (λ d. file_name_place d path.now) span.old span.new result }
@@ -110,7 +111,8 @@ fn file_name<T: Encoding>(path: &[u8]) -> Option<Span>
     }
 }
 
-/// The file name up to its last dot, or the whole of it where no dot but a first one is there.
+/// Sets `span` to the file name up to its last dot, or to the whole file name if it has no dot but
+/// one at its start. [`NONE`] if the path has no file name.
 #[unsafe(no_mangle)]
 pub extern "C" fn typed_path_file_stem(dialect: u32, path: &[u8], span: &mut Span) -> u32
     ensures { Lends dialect (λ d. file_stem_place d path.now) span.old span.new result }
@@ -125,7 +127,8 @@ fn file_stem<T: Encoding>(path: &[u8]) -> Option<Span>
     front::<T>(path, Path::<T>::new(path).file_stem())
 }
 
-/// The file name up to its first dot that is not its first byte.
+/// Sets `span` to the file name up to its first dot that is not at its start, or to the whole file
+/// name if it has none. [`NONE`] if the path has no file name.
 #[unsafe(no_mangle)]
 pub extern "C" fn typed_path_file_prefix(dialect: u32, path: &[u8], span: &mut Span) -> u32
     ensures { Lends dialect (λ d. file_prefix_place d path.now) span.old span.new result }
@@ -140,7 +143,7 @@ fn file_prefix<T: Encoding>(path: &[u8]) -> Option<Span>
     front::<T>(path, Path::<T>::new(path).file_prefix())
 }
 
-/// Where the front of the file name stands, by its text.
+/// Returns where a front of the file name is, given its bytes; `None` if there is none.
 #[inline(always)]
 fn front<T: Encoding>(path: &[u8], text: Option<&[u8]>) -> Option<Span>
     ensures { (part : List ℕ → List ℕ)
@@ -159,7 +162,8 @@ fn front<T: Encoding>(path: &[u8], text: Option<&[u8]>) -> Option<Span>
     }
 }
 
-/// What stands in the file name behind its last dot, where that is not its first byte.
+/// Sets `span` to what follows the last dot of the file name. [`NONE`] if the path has no file
+/// name, or that has no dot but one at its start.
 #[unsafe(no_mangle)]
 pub extern "C" fn typed_path_extension(dialect: u32, path: &[u8], span: &mut Span) -> u32
     ensures { Lends dialect (λ d. extension_place d path.now) span.old span.new result }
@@ -181,7 +185,8 @@ fn extension<T: Encoding>(path: &[u8]) -> Option<Span>
     })
 }
 
-/// What a path has in common with another: its front up to where both begin alike.
+/// Sets `span` to the leading components that both paths share, compared as they are written, as
+/// the front of the path up to the end of the last one. [`NONE`] if they share none.
 #[unsafe(no_mangle)]
 pub extern "C" fn typed_path_common_ancestor(
     dialect: u32,
@@ -197,7 +202,8 @@ pub extern "C" fn typed_path_common_ancestor(
     lend(whole_front(path.common_ancestor(other)), span)
 }
 
-/// A path without the `\\?\` in front of its drive, where that means the same; else the path itself.
+/// Sets `span` to a path of a verbatim drive of Windows without its `\\?\`, if that means the same
+/// to Windows; else to the path itself.
 #[unsafe(no_mangle)]
 pub extern "C" fn typed_path_simplified(dialect: u32, path: &[u8], span: &mut Span) -> u32
     ensures { Lends dialect (λ d. simplified_place d path.now) span.old span.new result }
@@ -213,7 +219,8 @@ pub extern "C" fn typed_path_simplified(dialect: u32, path: &[u8], span: &mut Sp
     DONE
 }
 
-/// What is left of a path behind a base.
+/// Sets `span` to what is left of the path after `base`. [`NONE`] if the path does not begin with
+/// the components of `base`, compared as they are written.
 #[unsafe(no_mangle)]
 pub extern "C" fn typed_path_strip_prefix(
     dialect: u32,
@@ -239,8 +246,8 @@ pub extern "C" fn typed_path_strip_prefix(
     }
 }
 
-/// Tells where the names of the prefix of a path stand: the server and the share, or a name or the letter of a drive
-/// alone.
+/// Sets `first` and `second` to the names of the prefix: the server and the share, or a name or the
+/// letter of a drive alone, and then an empty span. [`NONE`] without a prefix, as on Unix.
 #[unsafe(no_mangle)]
 pub extern "C" fn typed_path_prefix_names(
     dialect: u32,
@@ -269,7 +276,8 @@ pub extern "C" fn typed_path_prefix_names(
     }
 }
 
-/// A component of the caller's path: its place, and the number of its kind.
+/// A component of the caller's path: the index of its first byte, its length in bytes, and the
+/// number of its kind.
 #[repr(C)]
 #[derive(Clone, Copy)]
 pub struct Component {
@@ -278,7 +286,7 @@ pub struct Component {
     pub kind: u32,
 }
 
-/// The number of a kind of component.
+/// Returns the number of the kind of a component.
 pub fn kind_number(piece: Piece<'_>) -> u32
     ensures { result ≡ kind_number (part_of piece.entry).kind }
 {
@@ -296,7 +304,7 @@ pub fn kind_number(piece: Piece<'_>) -> u32
     }
 }
 
-/// Takes the first component that is left of a path.
+/// Takes the first component of `rest`, which is left of `path`; `None` if none is left.
 #[tactic(auto, using(crate::proofs::Spans::behind_front))]
 fn next<T: Encoding>(path: &[u8], rest: &mut Components<'_, T>) -> Option<Component>
     ensures told { (seen : List Placed)
@@ -319,7 +327,8 @@ fn next<T: Encoding>(path: &[u8], rest: &mut Components<'_, T>) -> Option<Compon
     }
 }
 
-/// Puts the components of a path into an array, as many as fit, and tells how many there are.
+/// Puts the components of the path into `out`, as many as fit, and sets `count` to how many there
+/// are. [`TOO_SMALL`] if `out` is shorter than that.
 #[unsafe(no_mangle)]
 pub extern "C" fn typed_path_components(
     dialect: u32,
@@ -332,7 +341,7 @@ pub extern "C" fn typed_path_components(
     of_encoding!(dialect, list(path, out, count), BAD_DIALECT)
 }
 
-/// The same of a path of one encoding.
+/// Puts what [`typed_path_components`] does, for a path of one encoding.
 fn list<T: Encoding>(path: &[u8], out: &mut [Component], count: &mut usize) -> u32
     ensures { ListsIn (comps T.dialect path.now) out.old out.new count.new result }
 {
@@ -346,7 +355,7 @@ fn list<T: Encoding>(path: &[u8], out: &mut [Component], count: &mut usize) -> u
     if at <= out.len() { DONE } else { TOO_SMALL }
 }
 
-/// Puts an item into an array, where that is long enough.
+/// Puts an item at index `at` of an array, if that is long enough.
 #[tactic(auto, using(crate::proofs::Spans::over_item, crate::proofs::Spans::over_full, crate::proofs::Spans::over_length))]
 fn put_item(out: &mut [Component], at: usize, item: Component)
     ensures { (items old : List Component) → length items ≡ at → out.old ≡ over items old
@@ -357,7 +366,8 @@ fn put_item(out: &mut [Component], at: usize, item: Component)
     }
 }
 
-/// One component of a path, counted from 0.
+/// Sets `component` to the one at `index`, counted from 0. [`NONE`] if the path has no more than
+/// `index` components.
 #[unsafe(no_mangle)]
 pub extern "C" fn typed_path_component_at(
     dialect: u32,
@@ -371,7 +381,8 @@ pub extern "C" fn typed_path_component_at(
     lend(found, component)
 }
 
-/// The same of a path of one encoding.
+/// Returns the component at `index` of a path of one encoding, `None` if it has no more than
+/// `index`.
 fn component_at<T: Encoding>(path: &[u8], index: usize) -> Option<Component>
     ensures { result ≡ option_map told (first_of (drop index (comps T.dialect path.now))) }
 {

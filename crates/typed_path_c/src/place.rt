@@ -1,11 +1,12 @@
-//! Where a path goes that is pushed onto another in place.
+//! Where a path goes that is pushed onto another without merging.
 
 ghost use Rattle.std.specs.Prelude.{◌≡◌};
 ghost use Rattle.typed_path_c.specs.Places.{Places, separator_number};
 
 use crate::status::{BAD_DIALECT, DONE, NONE, path_in};
 
-/// How many bytes of a path are kept as another is pushed onto it, and the byte between the two, 0 for none.
+/// How many bytes of the base a push keeps, and the byte between these and the pushed path, 0 for
+/// none.
 #[repr(C)]
 #[derive(Clone, Copy)]
 pub struct Place {
@@ -13,7 +14,9 @@ pub struct Place {
     pub separator: u32,
 }
 
-/// Tells where a path goes that is pushed onto another.
+/// Sets `place` to where `other` goes if it is pushed onto the path: how many bytes of the path are
+/// kept, and what stands between. [`NONE`] if the push merges it into a base with a verbatim
+/// prefix.
 #[unsafe(no_mangle)]
 pub extern "C" fn typed_path_push_place(
     dialect: u32,
@@ -38,7 +41,7 @@ pub extern "C" fn typed_path_push_place(
     }
 }
 
-/// The number of a separator, 0 for none.
+/// Returns the first byte of a separator, or 0 if it is empty.
 fn separator_number(separator: &[u8]) -> u32
     ensures { result ≡ separator_number separator.now }
 {

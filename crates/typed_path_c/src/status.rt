@@ -13,28 +13,28 @@ use typed_path::{
     AbsolutizeError, CheckedPathError, JoinError, PathError, PortableError, TypedPath, TypedPathBuf,
 };
 
-/// The call did what it is for.
+/// The call succeeded.
 pub const DONE: u32 = 0;
-/// Memory was refused.
+/// An allocation failed.
 pub const OUT_OF_MEMORY: u32 = 5;
-/// The answer does not fit into the buffer.
+/// The answer does not fit into the buffer or array.
 pub const TOO_SMALL: u32 = 6;
 /// The number names no dialect.
 pub const BAD_DIALECT: u32 = 7;
-/// The path has no such part.
+/// There is no such part, path or text.
 pub const NONE: u32 = 8;
-/// The path is absolute neither alone nor behind the directory.
+/// The path is absolute neither alone nor after the directory.
 pub const AMBIGUOUS: u32 = 9;
-/// An end lies before the one before it, or behind the names.
+/// An end lies before the one before it, or beyond the names.
 pub const BAD_ENDS: u32 = 10;
 /// No reading of the path may stand at the numbers.
 pub const BAD_READING: u32 = 11;
 
-/// Why a call did not do what it is for.
+/// An error that has a status: why a call failed, or refused a path.
 pub trait Refusal: Sized {
     ghost status: { Self → ℕ };
 
-    /// The status that names it.
+    /// Returns the status of the error, which is never [`DONE`].
     fn status(self) -> u32
         ensures { result ≡ status self };
 
@@ -123,7 +123,7 @@ impl Refusal for AbsolutizeError {
     }
 }
 
-/// How a call ended that tells nothing else.
+/// Returns the status of a check: [`DONE`] for `Ok`, else that of the error.
 pub fn ended<E: Refusal>(judged: Result<(), E>) -> u32
     ensures { result ≡ status_by E.status (error_of judged) }
 {
@@ -133,7 +133,7 @@ pub fn ended<E: Refusal>(judged: Result<(), E>) -> u32
     }
 }
 
-/// The path of these bytes in the dialect that a number names.
+/// Returns the path of these bytes in the dialect that a number names, `None` if it names none.
 pub fn path_in(dialect: u32, bytes: &[u8]) -> Option<TypedPath<'_>>
     ensures none { IsNone result → dialect_named dialect ≡ None }
     ensures dialect { IfSome result (λ p. dialect_named dialect ≡ Some (typed_dialect p)) }
@@ -146,7 +146,8 @@ pub fn path_in(dialect: u32, bytes: &[u8]) -> Option<TypedPath<'_>>
     }
 }
 
-/// What is done with the path in the dialect that a number names, and what where it names none.
+/// Evaluates to `$some`, in which `$path` is the path in the dialect that `$dialect` names, or to
+/// `$none` if that names none.
 macro_rules! of_path {
     ($dialect:expr, $path:ident => $some:expr, $none:expr) => {
         match path_in($dialect, $path) {
@@ -156,7 +157,8 @@ macro_rules! of_path {
     };
 }
 
-/// What a function gives at the encoding that a number names, and what where it names none.
+/// Evaluates to the call of `$asked` for the encoding that `$dialect` names, or to `$none` if that
+/// names none.
 macro_rules! of_encoding {
     ($dialect:expr, $asked:ident($($argument:expr),*), $none:expr) => {
         match $dialect {
@@ -170,7 +172,8 @@ macro_rules! of_encoding {
 pub(super) use of_encoding;
 pub(super) use of_path;
 
-/// Puts an answer at the beginning of a buffer if it fits, with a NUL behind it where there is room.
+/// Puts `answer` at the front of `out` if it fits, with a NUL after it if there is room for one;
+/// else `out` is unchanged. Sets `len` to the length of `answer` either way.
 pub fn put(answer: &[u8], out: &mut [u8], len: &mut usize) -> u32
     ensures put { IsPut answer.now out.old out.new len.new result }
     ensures stands { result ≡ done → take len.new out.new ≡ answer.now }
@@ -187,7 +190,8 @@ pub fn put(answer: &[u8], out: &mut [u8], len: &mut usize) -> u32
     DONE
 }
 
-/// Puts a path that was made, or tells why none was.
+/// Puts a path as [`put`] does. If there is an error, returns its status, and `out` and `len` are
+/// unchanged.
 pub fn put_made<E: Refusal>(made: Result<TypedPathBuf, E>, out: &mut [u8], len: &mut usize) -> u32
     ensures put { MatchResult made (λ p. IsPut (owned_bytes p) out.old out.new len.new result)
         (λ e. IsRefused (E.status e) out.old len.old out.new len.new result) }
@@ -199,7 +203,8 @@ pub fn put_made<E: Refusal>(made: Result<TypedPathBuf, E>, out: &mut [u8], len: 
     }
 }
 
-/// The same of a path that may not be there.
+/// Puts a path as [`put`] does. If there is none, returns [`NONE`], and if allocation failed,
+/// [`OUT_OF_MEMORY`]; then `out` and `len` are unchanged.
 pub fn put_found(
     found: Result<Option<TypedPathBuf>, AllocError>,
     out: &mut [u8],
@@ -216,7 +221,8 @@ pub fn put_found(
     }
 }
 
-/// The same of a path that was converted, whatever its conversion is.
+/// Does what [`put_made`] does, for a path that was converted by checked pushes. The clause `put`
+/// speaks of the defined outcome, which a failed allocation leaves open.
 pub fn put_crossed(made: Result<TypedPathBuf, PathError>, out: &mut [u8], len: &mut usize) -> u32
     ensures put { (answer : Result (List ℕ) CheckedPathError)
         → IfOk made (λ p. answer ≡ Ok (owned_bytes p))

@@ -12,7 +12,9 @@ use crate::parts::{Component, kind_number};
 use crate::status::{BAD_DIALECT, BAD_READING, DONE, NONE, of_path, path_in};
 use typed_path::{PlacedPiece, ReadingError, TypedPath, Unread};
 
-/// Takes the first component that is left of a path.
+/// Takes the first component that is left of the reading of the path at `reading`, and moves
+/// `reading` past it. [`NONE`] if none is left. [`BAD_READING`] if no reading of the path may stand
+/// at these numbers; then they and `component` are unchanged.
 #[unsafe(no_mangle)]
 pub extern "C" fn typed_path_next(
     dialect: u32,
@@ -30,7 +32,7 @@ pub extern "C" fn typed_path_next(
     next(dialect, path, reading, component)
 }
 
-/// The same, by what one step does.
+/// Does what [`typed_path_next`] does, with the clauses of one step alone.
 #[inline(always)]
 fn next(dialect: u32, path: &[u8], reading: &mut Unread, component: &mut Component) -> u32
     ensures step { Steps first_of (drop 1) dialect path.now reading.old reading.new component.old
@@ -40,7 +42,7 @@ fn next(dialect: u32, path: &[u8], reading: &mut Unread, component: &mut Compone
     of_path!(dialect, path => take_first(path, reading, component), BAD_DIALECT)
 }
 
-/// The same of a path in its dialect.
+/// Does what [`typed_path_next`] does, for a path in its dialect.
 #[inline(always)]
 fn take_first(path: TypedPath<'_>, reading: &mut Unread, component: &mut Component) -> u32
     ensures step { StepsIn first_of (drop 1) (typed_dialect path.entry) (typed_bytes path.entry)
@@ -51,7 +53,9 @@ fn take_first(path: TypedPath<'_>, reading: &mut Unread, component: &mut Compone
     tell(path.step_front(reading), component)
 }
 
-/// Takes the last component that is left of a path.
+/// Takes the last component that is left of the reading of the path at `reading`, and moves
+/// `reading` before it. [`NONE`] if none is left. [`BAD_READING`] if no reading of the path may
+/// stand at these numbers; then they and `component` are unchanged.
 #[unsafe(no_mangle)]
 pub extern "C" fn typed_path_next_back(
     dialect: u32,
@@ -68,7 +72,7 @@ pub extern "C" fn typed_path_next_back(
     next_back(dialect, path, reading, component)
 }
 
-/// The same, by what one step does.
+/// Does what [`typed_path_next_back`] does, with the clauses of one step alone.
 #[inline(always)]
 fn next_back(dialect: u32, path: &[u8], reading: &mut Unread, component: &mut Component) -> u32
     ensures step { Steps last_of but_last dialect path.now reading.old reading.new component.old
@@ -78,7 +82,7 @@ fn next_back(dialect: u32, path: &[u8], reading: &mut Unread, component: &mut Co
     of_path!(dialect, path => take_last(path, reading, component), BAD_DIALECT)
 }
 
-/// The same of a path in its dialect.
+/// Does what [`typed_path_next_back`] does, for a path in its dialect.
 #[inline(always)]
 fn take_last(path: TypedPath<'_>, reading: &mut Unread, component: &mut Component) -> u32
     ensures step { StepsIn last_of but_last (typed_dialect path.entry) (typed_bytes path.entry)
@@ -89,7 +93,8 @@ fn take_last(path: TypedPath<'_>, reading: &mut Unread, component: &mut Componen
     tell(path.step_back(reading), component)
 }
 
-/// Tells a component that was taken, or that none was left, or that no reading stands at the numbers.
+/// Sets `component` to what a step took, and returns [`DONE`]. If nothing was left, or the step was
+/// refused, returns [`NONE`] or [`BAD_READING`], and `component` is unchanged.
 #[inline(always)]
 fn tell(step: Result<Option<PlacedPiece<'_>>, ReadingError>, component: &mut Component) -> u32
     ensures { MatchResult step.entry (λ taken. Told (option_map placed_of taken) component.old component.new result)

@@ -6,7 +6,7 @@ ghost use Rattle.typed_path_c.specs.Texts.{kind_text, status_text, Says};
 
 use crate::status::{NONE, put};
 
-/// Puts what a status says.
+/// Puts the text of a status, or returns [`NONE`] if there is no such status.
 #[unsafe(no_mangle)]
 pub extern "C" fn typed_path_status_text(status: u32, out: &mut [u8], len: &mut usize) -> u32
     ensures said { Says (status_text status) out.old len.old out.new len.new result }
@@ -15,7 +15,7 @@ pub extern "C" fn typed_path_status_text(status: u32, out: &mut [u8], len: &mut 
     say(status_text(status), out, len)
 }
 
-/// Puts what a kind of component is called.
+/// Puts the text of a kind of component, or returns [`NONE`] if there is no such kind.
 #[unsafe(no_mangle)]
 pub extern "C" fn typed_path_kind_text(kind: u32, out: &mut [u8], len: &mut usize) -> u32
     ensures said { Says (kind_text kind) out.old len.old out.new len.new result }
@@ -24,7 +24,7 @@ pub extern "C" fn typed_path_kind_text(kind: u32, out: &mut [u8], len: &mut usiz
     say(kind_text(kind), out, len)
 }
 
-/// Puts a text, or tells that there is none.
+/// Puts `text`, or returns [`NONE`] if it is empty.
 fn say(text: &str, out: &mut [u8], len: &mut usize) -> u32
     ensures said { Says text.now out.old len.old out.new len.new result }
     ensures fits { length text.now ≤ 63 → Suffices 63 out.old result }
@@ -35,7 +35,8 @@ fn say(text: &str, out: &mut [u8], len: &mut usize) -> u32
     put(text.as_bytes(), out, len)
 }
 
-/// The text of a status: of a refusal that the library prints, what it prints.
+/// Returns the text of a status, empty if there is no such status. For a refusal that the library
+/// prints, it is what the library prints.
 fn status_text(status: u32) -> &'static str
     ensures text { result.now ≡ status_text status }
     ensures short { length result.now ≤ 63 }
@@ -63,7 +64,7 @@ fn status_text(status: u32) -> &'static str
     }
 }
 
-/// The text of a kind.
+/// Returns the text of a kind of component, empty if there is no such kind.
 fn kind_text(kind: u32) -> &'static str
     ensures text { result.now ≡ kind_text kind }
     ensures short { length result.now ≤ 63 }
