@@ -1,5 +1,5 @@
-//! Names beside others, what two files share, whether a path lies in a folder, paths as they are shown, and how
-//! long they grow.
+//! Names beside others, what two files share, whether a path lies in a folder, paths as they are
+//! shown, and how long they grow.
 
 ghost use Rattle.std.specs.Prelude.{◌≡◌, ◌++◌, ◌+◌, ◌↔◌, ◌≤◌, ◌&&◌, ℕ, List, true, codes, length, Some, None, IfOk, IfSome, option_map};
 ghost use Rattle.typed_path.specs.changes.Push as push_spec;
@@ -18,8 +18,8 @@ use typed_path::laws::{
 };
 use typed_path::{Encoding, Path, UnixPath, UnixPathBuf, WindowsComponents, WindowsPath};
 
-/// Where the copy of a file goes that is made before a change: beside it, with `.bak` behind its name. A path
-/// without a file name stays as it is.
+/// Returns where the copy of a file goes that is made before a change: beside it, with `.bak` after
+/// its name. A path without a file name is copied as it is.
 pub fn backup(alloc: Global, file: UnixPath<'_>) -> Result<UnixPathBuf, AllocError>
     ensures beside { (name : List ℕ) → file_name_of unix (path_bytes file.entry) ≡ Some name
         → IfOk result
@@ -29,7 +29,7 @@ pub fn backup(alloc: Global, file: UnixPath<'_>) -> Result<UnixPathBuf, AllocErr
     file.with_added_extension(alloc, b"bak")
 }
 
-/// The longest path that two files begin with, if they share a component.
+/// Returns the longest path that two files begin with, `None` if they share no component.
 pub fn shared_folder<'a, T: Encoding>(one: Path<'a, T>, other: Path<'_, T>) -> Option<Path<'a, T>>
     ensures longest { IfSome result (λ p.
         IsLongest T.dialect (path_bytes one.entry) (path_bytes other.entry) (path_bytes p)) }
@@ -40,7 +40,7 @@ pub fn shared_folder<'a, T: Encoding>(one: Path<'a, T>, other: Path<'_, T>) -> O
     one.common_ancestor(other)
 }
 
-/// A path of Windows as it is shown to a user: without its `\\?\` where that adds nothing.
+/// Returns a Windows path as it is shown to a user: without its `\\?\` if that adds nothing.
 pub fn shown(path: WindowsPath<'_>) -> WindowsPath<'_>
     ensures alike { IsAlikeBehind (path_bytes path.entry) (path_bytes result) }
     ensures again { simplified_text windows (path_bytes result) ≡ path_bytes result }
@@ -50,7 +50,8 @@ pub fn shown(path: WindowsPath<'_>) -> WindowsPath<'_>
     path.simplified()
 }
 
-/// Whether a path of Windows with a prefix lies at a folder or below it, whatever directory both are read from.
+/// Whether a Windows path has a prefix and lies at `folder` or below it, from whatever directory
+/// both are read.
 pub fn is_mounted_in(
     directory: WindowsPath<'_>,
     folder: WindowsPath<'_>,
@@ -66,7 +67,7 @@ pub fn is_mounted_in(
     WindowsComponents::new(path).has_prefix() && path.is_within(folder)
 }
 
-/// Whether a path of Unix lies at a folder or below it, from every absolute directory.
+/// Whether a Unix path lies at `folder` or below it, from every absolute directory.
 pub fn always_lies_in(path: UnixPath<'_>, folder: UnixPath<'_>) -> bool
     ensures { (result ≡ true) ↔ ((directory : List ℕ)
         → is_absolute unix (kinds (parts_of unix directory)) ≡ true
@@ -77,8 +78,8 @@ pub fn always_lies_in(path: UnixPath<'_>, folder: UnixPath<'_>) -> bool
     path.is_within(folder)
 }
 
-/// Whether a path joined with a name, named by it, and made normal has at most so many bytes, as far as their
-/// lengths tell.
+/// Whether the lengths tell that the path has at most `limit` bytes once `name` is joined to it,
+/// once `name` becomes its file name, and once it is normalized. `false` leaves it open.
 pub fn surely_fits<T: Encoding>(path: Path<'_, T>, name: &[u8], limit: usize) -> bool
     ensures asked { (result ≡ true)
         ↔ (length (path_bytes path.entry) + length name.now + 3 ≤ limit) }

@@ -1,4 +1,4 @@
-//! Where the entries of an archive are unpacked whose manifest is to hold on Unix and on Windows.
+//! Where entries are unpacked if the manifest of their archive is to hold on Unix and on Windows.
 
 ghost use Rattle.std.specs.Prelude.{◌≡◌, map, IfOk, OnOk};
 ghost use Rattle.std.specs.List.{All, AllByRecursion};
@@ -11,8 +11,9 @@ use std::alloc::Global;
 use typed_path::laws::portable_reads_alike;
 use typed_path::{CheckedPathError, Encoding, JoinError, Path, PathBuf, UnixPath};
 
-/// Where an entry is unpacked whose name is written with `/`, and is read as the same components on both systems. What
-/// either system does not take as it is written is refused, and so is a root, or a name that would lead out of the base.
+/// Returns where an entry is unpacked whose name is written with `/`, and is read as the same
+/// components on both systems. Refuses a root, a name that would lead out of `base`, and what
+/// either system does not take as it is written.
 ///
 /// If the base keeps its prefix, the target lies below it.
 pub fn target_on_both<T: Encoding>(
@@ -35,8 +36,8 @@ pub fn target_on_both<T: Encoding>(
     base.join_portable(alloc, Path::new(name))
 }
 
-/// Where all entries of a manifest are unpacked, in their order, each as [`target_on_both`] has it; or a refusal. So a
-/// manifest that is not refused names the same files on both systems.
+/// Returns where all entries of a manifest are unpacked, in their order, each as [`target_on_both`]
+/// does; or a refusal. So a manifest that is accepted names the same files on both systems.
 pub fn targets_on_both<T: Encoding>(
     alloc: Global,
     base: Path<'_, T>,

@@ -1,5 +1,5 @@
-//! Paths of a configuration: each is read from a directory, and stays within a folder that is read from
-//! there too.
+//! Paths of a configuration: each is read from a directory, and stays within a folder that is read
+//! from there too.
 
 ghost use Rattle.std.specs.Prelude.{◌≡◌, ◌&&◌, true, false, IfOk, IfErr, Err};
 ghost use Rattle.typed_path.specs.changes.Push as push_spec;
@@ -16,7 +16,7 @@ use thiserror::Error;
 use typed_path::laws::within_leads_below;
 use typed_path::{Encoding, Path, PathBuf};
 
-/// Why a path of a configuration is not taken.
+/// Why a path of a configuration is not accepted.
 #[derive(Clone, Copy, Debug, PartialEq, Eq, Error)]
 pub enum Unconfigured {
     /// The directory is not absolute, or does not keep its prefix.
@@ -28,7 +28,7 @@ pub enum Unconfigured {
     /// A name of the path is not allowed.
     #[error("a name of the path is not allowed")]
     Name,
-    /// Memory was refused.
+    /// An allocation failed.
     #[error("out of memory")]
     OutOfMemory,
 }
@@ -41,9 +41,9 @@ impl From<AllocError> for Unconfigured {
     }
 }
 
-/// Where a path of a configuration leads from a directory. It lies at the folder or below it, which is
-/// read from there too, whatever both hold. Each name of it is allowed: a NUL, at which a call of the system
-/// would end the path, is in none.
+/// Returns where a path of a configuration leads from `directory`: at `folder` or below it, which
+/// is read from there too. Each name of the path is allowed, so none has a NUL, at which a call of
+/// the system would end it.
 pub fn configured<T: Encoding>(
     alloc: Global,
     directory: Path<'_, T>,

@@ -1,4 +1,5 @@
-//! How often each path comes among the names of an archive, by a map by hash whose keys no one can choose to collide.
+//! How often each path occurs among the names of an archive, by a hash map whose keys no one can
+//! choose to collide.
 
 ghost use Rattle.std.specs.Prelude.{◌≡◌, List, IfOk};
 ghost use Rattle.typed_path.specs.components.{Kind};
@@ -9,12 +10,12 @@ use std::collections::HashMap;
 use std::hash::BuildHasher;
 use typed_path::{Encoding, Key, PathBuf};
 
-/// How often each path comes among some names, be it written in whatever way. The hasher is to have a key of its own,
-/// as `RandomState` has, since strangers chose the names.
+/// Returns how often each path occurs among `names`, in whatever way it is written. The hasher
+/// should have a key of its own, as `RandomState` has, since strangers chose the names.
 ///
 /// # Errors
 ///
-/// Where memory is refused.
+/// If allocation fails.
 pub fn counted<T: Encoding, S: BuildHasher + Drop>(
     alloc: Global,
     hasher: S,

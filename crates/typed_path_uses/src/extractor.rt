@@ -23,7 +23,7 @@ pub enum Untargeted {
     /// The name is refused.
     #[error(transparent)]
     Checked(CheckedPathError),
-    /// Memory was refused.
+    /// An allocation failed.
     #[error("out of memory")]
     OutOfMemory,
 }
@@ -51,12 +51,12 @@ impl From<AllocError> for Untargeted {
     }
 }
 
-/// Where an entry is unpacked. Where the base keeps its prefix, that is at the place of the base, and
-/// then at the names that the entry's own name leads to. A name that would lead out of the base is
-/// refused.
+/// Returns where an entry is unpacked. If the base keeps its prefix, that is at the place of the
+/// base, and then at the names that the entry's own name leads to. A name that would lead out of
+/// the base is refused.
 ///
-/// Every base of Unix keeps its prefix, and so do `C:\out` and `\\server\share\out` on Windows. Of a
-/// base that may lose it, as `\\server`, no place is promised.
+/// Every Unix base keeps its prefix, and so do `C:\out` and `\\server\share\out` on Windows. For a
+/// base that may lose it, such as `\\server`, no place is promised.
 pub fn target<T: Encoding>(
     alloc: Global,
     base: Path<'_, T>,
@@ -73,8 +73,8 @@ pub fn target<T: Encoding>(
     base.join_checked(alloc, Path::new(name))
 }
 
-/// The same below a base that is known only when the program runs, which is refused where it does not
-/// keep its prefix.
+/// Does what [`target`] does, for a base that is known only at run time, which is refused if it
+/// does not keep its prefix.
 pub fn target_below<T: Encoding>(
     alloc: Global,
     base: Path<'_, T>,
@@ -94,8 +94,8 @@ pub fn target_below<T: Encoding>(
     Ok(target(alloc, base, name)?)
 }
 
-/// Where all entries are unpacked, in their order, each as `target` has it; or the refusal of the
-/// first that is refused.
+/// Returns where all entries are unpacked, in their order, each as [`target`] does; or the refusal
+/// of the first that is refused.
 pub fn targets<T: Encoding>(
     alloc: Global,
     base: Path<'_, T>,
@@ -129,14 +129,14 @@ pub struct Refused<'a> {
 /// Where the entries of an archive are unpacked, and which of them are refused.
 #[derive(Drop)]
 pub struct Unpacking<'a, T: Encoding> {
-    /// Where those that are not refused go, in their order.
+    /// Where the entries that are not refused go, in their order.
     pub targets: Vec<PathBuf<T>>,
-    /// Those that are refused, in their order.
+    /// The entries that are refused, in their order.
     pub refused: Vec<Refused<'a>>,
 }
 
 impl<'a, T: Encoding> Unpacking<'a, T> {
-    /// Puts an entry to the targets, or to the refused.
+    /// Appends an entry to the targets, or to the refused ones.
     fn unpack(&mut self, alloc: Global, base: Path<'_, T>, name: &'a [u8]) -> Result<(), AllocError>
         ensures below { keeps_prefix T.dialect (path_bytes base.entry) ≡ true
             → All (λ p. IsBelow T.dialect (path_bytes base.entry) p.bytes) self.old.targets.items
@@ -161,11 +161,11 @@ impl<'a, T: Encoding> Unpacking<'a, T> {
     }
 }
 
-/// Where the entries of an archive are unpacked, with the refusals of those that are not. The whole is
-/// refused for want of memory alone.
+/// Returns where the entries of an archive are unpacked, and the refusals of those that are not.
+/// Fails only if allocation does.
 ///
-/// Each entry without a fault has its target, as `target` has it, and each other one is among the
-/// refused with its fault, both in the order of the entries. Where the base keeps its prefix, each
+/// Each entry without a fault has the target that [`target`] gives it, and each other one is among
+/// the refused with its fault, both in the order of the entries. If the base keeps its prefix, each
 /// target lies below it.
 pub fn unpacked<'a, T: Encoding>(
     alloc: Global,
@@ -192,8 +192,8 @@ pub fn unpacked<'a, T: Encoding>(
     Ok(unpacking)
 }
 
-/// The same below a base that is known only when the program runs, which is refused where it does not
-/// keep its prefix.
+/// Does what [`unpacked`] does, for a base that is known only at run time, which is refused if it
+/// does not keep its prefix.
 pub fn unpacked_below<'a, T: Encoding>(
     alloc: Global,
     base: Path<'_, T>,

@@ -8,12 +8,12 @@ use std::alloc::Global;
 use typed_path::laws::{joined_is_within, joined_twice_is_within};
 use typed_path::{Encoding, Path, PathBuf, PathError};
 
-/// A folder within a base, and a file within the folder, both named by strangers. The file lies within the
-/// base, if that keeps its prefix.
+/// Returns the path of a file in a folder in `base`, where strangers named the folder and the file.
+/// It lies within the base, if that keeps its prefix.
 ///
 /// # Errors
 ///
-/// `Checked` for the first name with a fault, `OutOfMemory` where memory is refused.
+/// `Checked` for the first name with a fault, `OutOfMemory` if allocation fails.
 pub fn filed_in<T: Encoding>(
     alloc: Global,
     base: Path<'_, T>,
@@ -28,12 +28,12 @@ pub fn filed_in<T: Encoding>(
     Ok(path)
 }
 
-/// A path within a base, onto which names are pushed one by one: each is kept from leading out of what those
-/// before it made, so the whole lies within the base, if that keeps its prefix.
+/// Returns `base` with the names pushed onto it one by one. None may lead out of what those before
+/// it made, so the result lies within the base, if that keeps its prefix.
 ///
 /// # Errors
 ///
-/// `Checked` for the first name with a fault, `OutOfMemory` where memory is refused.
+/// `Checked` for the first name with a fault, `OutOfMemory` if allocation fails.
 pub fn nested<T: Encoding>(
     alloc: Global,
     base: Path<'_, T>,

@@ -10,19 +10,20 @@ ghost use Rattle.typed_path_uses.specs.Ignore.{begins_with_mark, behind_mark, en
 
 use typed_path::{Components, Encoding, Path, Piece, PieceKind};
 
-/// A rule: the paths that it fits, and whether it takes them back.
+/// A rule: which paths it fits, and whether it ignores them or takes that back.
 #[derive(Clone, Copy, Debug)]
 pub struct Rule<'a> {
     /// A path, in which the name `*` stands for any one name.
     pub pattern: &'a [u8],
-    /// Whether the paths that it fits are not ignored.
+    /// Whether the paths that the rule fits are not ignored.
     pub is_back: bool,
-    /// Whether it fits folders alone.
+    /// Whether the rule fits folders alone.
     pub is_folder: bool,
 }
 
 impl<'a> Rule<'a> {
-    /// The rule of a line: a `!` at its front takes back, and a `/` at its end is for folders alone.
+    /// Returns the rule of a line. A `!` at its front takes back, and a `/` at its end is for
+    /// folders alone.
     pub fn new(line: &'a [u8]) -> Rule<'a>
         ensures pattern { result.pattern.now ≡ behind_mark line.now }
         ensures back { result.is_back ≡ begins_with_mark line.now }
@@ -36,7 +37,7 @@ impl<'a> Rule<'a> {
     }
 }
 
-/// A line without a `!` at its front.
+/// Returns a line without a `!` at its front.
 fn without_mark(line: &[u8]) -> &[u8]
     ensures { result.now ≡ behind_mark line.now }
 {
@@ -46,14 +47,14 @@ fn without_mark(line: &[u8]) -> &[u8]
     }
 }
 
-/// Whether a name stands for any one.
+/// Whether a name of a rule is `*`, which fits any one name.
 fn is_star(name: &[u8]) -> bool
     ensures { result ≡ ignore_spec.is_star (normal name.now) }
 {
     matches!(name, [b'*'])
 }
 
-/// Whether a component of a rule fits one of a path.
+/// Whether the component `wanted` of a rule fits `piece` of a path.
 fn fits_piece(wanted: Piece<'_>, piece: Piece<'_>) -> bool
     ensures { result ≡ fits_kind (part_of wanted.entry).kind (part_of piece.entry).kind }
 {
@@ -69,7 +70,8 @@ fn fits_piece(wanted: Piece<'_>, piece: Piece<'_>) -> bool
     }
 }
 
-/// Takes the next component of a path, and tells whether one of a rule fits it.
+/// Takes the next component of a path, and returns whether `wanted` of a rule fits it; `false` if
+/// none is left.
 fn fits_next<T: Encoding>(wanted: Piece<'_>, rest: &mut Components<'_, T>) -> bool
     ensures { (others : List Kind)
         → ignore_spec.fits ((part_of wanted.entry).kind ∷ others)
@@ -82,7 +84,7 @@ fn fits_next<T: Encoding>(wanted: Piece<'_>, rest: &mut Components<'_, T>) -> bo
     }
 }
 
-/// Whether the components of a pattern fit those of a path, each the one in its place.
+/// Whether a path has as many components as a pattern, and each fits the one in its place.
 fn fits_path<T: Encoding>(pattern: Path<'_, T>, path: Path<'_, T>) -> bool
     ensures { result ≡ ignore_spec.fits (kinds (parts_of T.dialect (path_bytes pattern.entry)))
         (kinds (parts_of T.dialect (path_bytes path.entry))) }
@@ -104,7 +106,7 @@ pub fn fits<T: Encoding>(rule: Rule<'_>, path: Path<'_, T>, is_folder: bool) -> 
     (!rule.is_folder || is_folder) && fits_path(Path::new(rule.pattern), path)
 }
 
-/// Whether a path is ignored: the last rule that fits it decides, and where none does it is not.
+/// Whether a path is ignored: the last rule that fits it decides, and if none does it is not.
 pub fn is_ignored<T: Encoding>(rules: &[Rule<'_>], path: Path<'_, T>, is_folder: bool) -> bool
     ensures answer { result
         ≡ ignore_spec.is_ignored T.dialect (kinds (parts_of T.dialect (path_bytes path.entry)))

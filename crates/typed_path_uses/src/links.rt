@@ -1,4 +1,5 @@
-//! Links between the pages of a site, written relative to the folder of a page, so that the site may move.
+//! Links between the pages of a site, written relative to the folder of a page, so that the site
+//! may be moved.
 
 ghost use Rattle.std.specs.Prelude.{◌≡◌, ◌≢◌, ◌↔◌, ◌+◌, ◌*◌, ◌≤◌, ℕ, List, [], ◌∷◌, true, false, length, Some, None, IfOk, IfSome, option_map};
 ghost use Rattle.typed_path.specs.changes.Push as push_spec;
@@ -16,8 +17,9 @@ use typed_path::laws::{
 };
 use typed_path::{UnixPath, UnixPathBuf, WindowsPath, WindowsPathBuf};
 
-/// The link from a folder to a page, if there is one: behind the folder it leads to the page, wherever both
-/// lie. It is `.` exactly if both lead to the same, and there is none exactly if no relative path leads there.
+/// Returns the link from `folder` to `page`: joined to the folder it leads to the page, wherever
+/// both lie. It is `.` exactly if both lead to the same place, and `None` exactly if no relative
+/// path leads there.
 pub fn link(
     alloc: Global,
     folder: UnixPath<'_>,
@@ -45,7 +47,7 @@ pub fn link(
     page.relative_to(alloc, folder)
 }
 
-/// Whether a folder has no link to a page. It has none where one of both alone begins at the root.
+/// Whether `folder` has no link to `page`. It has none if only one of the two begins at the root.
 pub fn has_no_link(
     alloc: Global,
     folder: UnixPath<'_>,
@@ -60,8 +62,9 @@ pub fn has_no_link(
     Ok(page.relative_to(alloc, folder)?.is_none())
 }
 
-/// The link from a folder of Windows to a page, if there is one. Behind a folder that keeps its prefix and is
-/// not verbatim, or is its own clean path, it leads to the page.
+/// Returns the link from a folder of Windows to a page, `None` if there is none. Joined to the
+/// folder it leads to the page, if the folder keeps its prefix and either is not verbatim or is its
+/// own clean path.
 pub fn link_on_windows(
     alloc: Global,
     folder: WindowsPath<'_>,

@@ -16,8 +16,8 @@ use typed_path::{
     WindowsPathBuf,
 };
 
-/// The paths of a manifest as they are written in another encoding, in their order; or the refusal of
-/// the first that cannot be written so.
+/// Returns the paths of a manifest as they are written in another encoding, in their order; or the
+/// refusal of the first that cannot be written so.
 pub fn rewritten<T: Encoding, U: Encoding>(
     alloc: Global,
     entries: &[&[u8]],
@@ -34,7 +34,7 @@ pub fn rewritten<T: Encoding, U: Encoding>(
     Ok(paths)
 }
 
-/// The same of a manifest of texts, whose paths are texts: what [`rewritten`] promises of bytes.
+/// Does what [`rewritten`] does, for a manifest of text.
 pub fn rewritten_texts<T: Utf8Encoding, U: Utf8Encoding>(
     alloc: Global,
     entries: &[&str],
@@ -51,8 +51,8 @@ pub fn rewritten_texts<T: Utf8Encoding, U: Utf8Encoding>(
     Ok(paths)
 }
 
-/// A path of Unix for a manifest of Windows. Where no name of it holds a `\`, it is read there as
-/// the same components.
+/// Returns a Unix path as it is written in a manifest of Windows, or its refusal. If no name of it
+/// holds a `\`, it is read there as the same components.
 pub fn entry_on_windows(alloc: Global, entry: UnixPath<'_>) -> Result<WindowsPathBuf, PathError>
     ensures alike { lack_backslash (kinds (parts_of unix (path_bytes entry.entry))) ≡ true
         → IfOk result

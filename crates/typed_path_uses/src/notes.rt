@@ -12,12 +12,12 @@ use std::collections::BTreeMap;
 use typed_path::laws::order_agrees_with_equality;
 use typed_path::{Encoding, Path, PathBuf};
 
-/// Notes a number at a path, and gives back the one that was there. Each path with the same components
-/// finds it from then on, and every other one finds what it found.
+/// Notes a number at a path, and returns the one that was there. Each path with the same components
+/// finds it from then on, and every other one finds what it found before.
 ///
 /// # Errors
 ///
-/// Where memory is refused, and then the numbers are as they were.
+/// If allocation fails. Then the numbers are unchanged.
 pub fn note<T: Encoding>(
     notes: &mut BTreeMap<PathBuf<T>, u32>,
     path: PathBuf<T>,
@@ -36,7 +36,7 @@ pub fn note<T: Encoding>(
     Ok(before)
 }
 
-/// The number that is noted at a path.
+/// Returns the number that is noted at a path, `None` if there is none.
 pub fn noted<T: Encoding>(notes: &BTreeMap<PathBuf<T>, u32>, path: &PathBuf<T>) -> Option<u32>
     ensures { result ≡ value_at T.dialect (kinds (parts_of T.dialect path.now.bytes)) notes.now }
 {

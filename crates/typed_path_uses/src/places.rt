@@ -16,8 +16,9 @@ use typed_path::laws::{
 };
 use typed_path::{Encoding, Path, PathBuf, UnixPath, WindowsPath, WindowsPathBuf};
 
-/// A path without detours: it leads where the path does and is its own clean path, but behind the verbatim prefix
-/// named `UNC`, and has at most one byte more. Of text it is text.
+/// Returns a path without detours: it leads where the path does, is its own clean path, and has at
+/// most one byte more; of text it is text. The first two are not promised of the verbatim prefix
+/// named `UNC`.
 pub fn without_detours<T: Encoding>(
     alloc: Global,
     path: Path<'_, T>,
@@ -35,8 +36,8 @@ pub fn without_detours<T: Encoding>(
     path.clean(alloc)
 }
 
-/// A path of a directory without detours: read from an absolute directory that keeps its prefix, it lies where
-/// the path lies, but behind the verbatim prefix named `UNC`.
+/// Returns a path without detours: read from an absolute directory that keeps its prefix, it lies
+/// where the path lies. This is not promised of the verbatim prefix named `UNC`.
 pub fn read_from<T: Encoding>(
     alloc: Global,
     directory: Path<'_, T>,
@@ -53,7 +54,8 @@ pub fn read_from<T: Encoding>(
     path.clean(alloc)
 }
 
-/// Whether two paths lead alike. If so, they lie at one place, read from an absolute directory.
+/// Whether two paths lead alike. If so, they lie at the same place when read from one absolute
+/// directory.
 pub fn lead_alike(
     alloc: Global,
     directory: UnixPath<'_>,
@@ -74,7 +76,7 @@ pub fn lead_alike(
     Ok(one.as_path().as_bytes() == other.as_path().as_bytes())
 }
 
-/// A folder of Windows without detours; none exactly if it does not keep its prefix.
+/// Returns a folder of Windows without detours, `None` exactly if it does not keep its prefix.
 pub fn tidy_folder(
     alloc: Global,
     folder: WindowsPath<'_>,

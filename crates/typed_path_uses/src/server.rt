@@ -1,4 +1,4 @@
-//! The files that a server of files answers with, on Unix and on Windows.
+//! The files with which a server of files answers, on Unix and on Windows.
 
 ghost use Rattle.std.specs.Prelude.{◌≡◌, true, false, IfOk, IfErr, Err, None};
 ghost use Rattle.std.specs.List.{list_any};
@@ -23,25 +23,25 @@ use typed_path::{
 /// Why the path of a URL names no file.
 #[derive(Clone, Copy, Debug, PartialEq, Eq, Error)]
 pub enum Unserved {
-    /// It leads out of the root.
+    /// The path leads out of the root.
     #[error("the path leads out of the root")]
     Traversal,
-    /// It begins with a root, a drive, a share or another prefix.
+    /// The path begins with a root, a drive, a share or another prefix.
     #[error("the path is absolute")]
     Absolute,
-    /// A name of it holds the byte 00.
+    /// A name of the path holds the byte 00.
     #[error("a name holds the byte 00")]
     ZeroByte,
-    /// A name of it holds another byte that no name may have.
+    /// A name of the path holds another byte that no name may have.
     #[error("a name holds a byte that no name may have")]
     BadName,
-    /// A name of it stands for a device.
+    /// A name of the path stands for a device.
     #[error("a name stands for a device")]
     Device,
     /// The root does not keep its prefix: what is pushed onto it may become a part of that.
     #[error("the root does not keep its prefix")]
     Root,
-    /// Memory was refused.
+    /// An allocation failed.
     #[error("out of memory")]
     OutOfMemory,
 }
@@ -56,9 +56,10 @@ impl From<AllocError> for Unserved {
     }
 }
 
-/// The file that the path of a URL names, below a root that keeps its prefix; or why it names none.
+/// Returns the file that the path of a URL names, below a root that keeps its prefix; or why it
+/// names none.
 ///
-/// The path begins with a `/`, and its escapes are read before it is judged.
+/// The path begins with a `/`, and its escapes are decoded before it is checked.
 pub fn served<T: Encoding>(
     alloc: Global,
     root: Path<'_, T>,
@@ -79,8 +80,8 @@ pub fn served<T: Encoding>(
     }
 }
 
-/// The same below a root that is known only when the program runs, which is refused where it does not
-/// keep its prefix.
+/// Does what [`served`] does, for a root that is known only at run time, which is refused if it
+/// does not keep its prefix.
 pub fn served_below<T: Encoding>(
     alloc: Global,
     root: Path<'_, T>,
@@ -106,7 +107,7 @@ pub const UNIX_ROOT: &[u8] = b"/srv/www";
 /// The root of the files on Windows.
 pub const WINDOWS_ROOT: &[u8] = br"C:\www";
 
-/// The file of a URL on Unix, below `/srv/www`.
+/// Returns the file of a URL on Unix, below `/srv/www`.
 pub fn served_on_unix(alloc: Global, url: &[u8]) -> Result<UnixPathBuf, Unserved>
     ensures below { IfOk result (λ file. IsBelow unix UNIX_ROOT.now file.bytes) }
     ensures joined { IfOk result
@@ -117,7 +118,7 @@ pub fn served_on_unix(alloc: Global, url: &[u8]) -> Result<UnixPathBuf, Unserved
     served(alloc, UnixPath::new(UNIX_ROOT), url)
 }
 
-/// The file of a URL on Windows, below `C:\www`.
+/// Returns the file of a URL on Windows, below `C:\www`.
 pub fn served_on_windows(alloc: Global, url: &[u8]) -> Result<WindowsPathBuf, Unserved>
     ensures below { IfOk result (λ file. IsBelow windows WINDOWS_ROOT.now file.bytes) }
     ensures joined { IfOk result
@@ -128,7 +129,7 @@ pub fn served_on_windows(alloc: Global, url: &[u8]) -> Result<WindowsPathBuf, Un
     served(alloc, WindowsPath::new(WINDOWS_ROOT), url)
 }
 
-/// The path of a URL behind its first `/`, with its escapes read.
+/// Returns the path of a URL without its first `/`, with its escapes decoded.
 fn decode(alloc: Global, url: &[u8]) -> Result<Vec<u8>, AllocError>
     ensures { IfOk result (λ path. path.items ≡ decoded url.now) }
 {
@@ -141,7 +142,7 @@ fn decode(alloc: Global, url: &[u8]) -> Result<Vec<u8>, AllocError>
     Ok(path)
 }
 
-/// What a fault of a path is called.
+/// Returns the error of a server for a fault of the path.
 fn reason(fault: CheckedPathError, path: &[u8]) -> Unserved
     ensures { result ≡ reason_of path.now fault }
 {
@@ -154,14 +155,14 @@ fn reason(fault: CheckedPathError, path: &[u8]) -> Unserved
     }
 }
 
-/// Whether a path has a byte that no name of Windows may have, and that is no separator.
+/// Whether a path has a byte that no Windows name may have and that is no separator.
 fn has_stray(path: &[u8]) -> bool
     ensures { result ≡ list_any named.is_stray path.now }
 {
     path.iter().any(|byte| is_stray(*byte))
 }
 
-/// Whether a byte is one that no name of Windows may have, and no separator.
+/// Whether a byte is one that no Windows name may have, and no separator.
 fn is_stray(byte: u8) -> bool
     ensures { result ≡ named.is_stray byte }
 {

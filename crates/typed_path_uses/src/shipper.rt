@@ -1,4 +1,5 @@
-//! A shipper of logs: each event names a file on Windows, and its log goes below the folder of its day on Unix.
+//! A shipper of logs: each event names a file on Windows, and its log goes below the folder of its
+//! day on Unix.
 
 ghost use Rattle.std.specs.Prelude.{◌≡◌, true, IfOk, Some, Ok, Err};
 ghost use Rattle.typed_path.specs.changes.Push as push_spec;
@@ -15,7 +16,7 @@ use std::alloc::Global;
 use typed_path::laws::within_is_a_preorder;
 use typed_path::{PathError, UnixPath, UnixPathBuf, WindowsPath};
 
-/// The folder of a day, below the root of all logs.
+/// Returns the folder of a day, below the root of all logs.
 pub fn day_folder(alloc: Global, root: UnixPath<'_>, day: &[u8]) -> Result<UnixPathBuf, PathError>
     ensures below { IfOk result (λ folder. IsBelow unix (path_bytes root.entry) folder.bytes) }
     ensures within { IfOk result
@@ -27,15 +28,17 @@ pub fn day_folder(alloc: Global, root: UnixPath<'_>, day: &[u8]) -> Result<UnixP
     root.join_checked(alloc, UnixPath::new(day))
 }
 
-/// Where the log of an event goes, below the folder of its day, with the names of its path on Windows.
+/// Returns where the log of an event goes: below the folder of its day, at the names of its path on
+/// Windows.
 ///
-/// A drive with a root behind it is left out, and so is a prefix of another kind; a drive without a root
-/// becomes a folder. So a root of logs serves one drive of one machine. Of `/logs/2026-11-28` and `C:\inetpub\u.log` this is `/logs/2026-11-28/inetpub/u.log`.
+/// A drive with a root after it is left out, and so is any other prefix; a drive without a root
+/// becomes a folder. So a root of logs serves one drive of one machine. For `/logs/2026-11-28` and
+/// `C:\inetpub\u.log` it is `/logs/2026-11-28/inetpub/u.log`.
 ///
 /// # Errors
 ///
-/// `Checked` where a name cannot be one on Unix, and where the path leads out, as `C:\..\u.log` does;
-/// `OutOfMemory`.
+/// `Checked` if a name cannot be one on Unix, or if the path leads out, as `C:\..\u.log` does.
+/// `OutOfMemory` if allocation fails.
 pub fn shipped(
     alloc: Global,
     folder: UnixPath<'_>,
@@ -55,7 +58,7 @@ pub fn shipped(
     }
 }
 
-/// Where the log of an event of a day goes: within the root of all logs.
+/// Returns where the log of an event of a day goes: within the root of all logs.
 pub fn day_log(
     alloc: Global,
     root: UnixPath<'_>,
@@ -75,7 +78,7 @@ pub fn day_log(
     Ok(file)
 }
 
-/// A path of Unix, put below a folder without its root.
+/// Returns a Unix path without its root, below `folder`.
 fn logged(alloc: Global, folder: UnixPath<'_>, path: UnixPath<'_>) -> Result<UnixPathBuf, PathError>
     ensures below { IfOk result (λ file. IsBelow unix (path_bytes folder.entry) file.bytes) }
     ensures within { IfOk result
@@ -88,7 +91,7 @@ fn logged(alloc: Global, folder: UnixPath<'_>, path: UnixPath<'_>) -> Result<Uni
     folder.join_checked(alloc, UnixPath::new(without_slash(path.as_bytes())))
 }
 
-/// A path without a `/` at its front.
+/// Returns a path without a `/` at its front.
 fn without_slash(path: &[u8]) -> &[u8]
     ensures { result.now ≡ behind_slash path.now }
 {

@@ -1,4 +1,4 @@
-//! Each caller at work: rows of known answers.
+//! Rows of known answers for the callers.
 
 use crate::{
     Rule, Tree, Unconfigured, Unserved, Untargeted, always_lies_in, are_alike, backup, configured,
@@ -71,7 +71,8 @@ fn served_files(rt: HostRuntime) -> Result<(), Fail> {
     Ok(())
 }
 
-/// How many of three entries are unpacked below a base, and the fault for which one is refused.
+/// Returns how many of three entries are unpacked below a base, and the fault for which one is
+/// refused.
 fn unpacked_with<T: Encoding>(
     alloc: Global,
     base: &[u8],
@@ -84,7 +85,8 @@ fn unpacked_with<T: Encoding>(
     ))
 }
 
-/// What is unpacked beside two plain entries, by the fault of the third.
+/// Returns what [`unpacked_with`] should return for a name with `fault`: the other two entries are
+/// plain.
 fn wanted(fault: Option<CheckedPathError>) -> (usize, Option<CheckedPathError>) {
     (if fault.is_none() { 3 } else { 2 }, fault)
 }
@@ -125,7 +127,7 @@ fn traps_of_archives(rt: HostRuntime) -> Result<(), Fail> {
     Ok(())
 }
 
-/// Bases of Windows, and where `a` goes below each that keeps its prefix.
+/// Windows bases, and the target of `a` below each that keeps its prefix.
 const BASES: &[(&str, Option<&str>)] = &[
     (r"C:\out", Some(r"C:\out\a")),
     (r"\\s\h", Some(r"\\s\h\a")),
@@ -220,7 +222,7 @@ fn ignored_paths(rt: HostRuntime) -> Result<(), Fail> {
     Ok(())
 }
 
-/// The files of a tree on Unix, in no order, and what paths find in it.
+/// The files of a tree on Unix, in no order.
 const ON_UNIX: &[(&[u8], &[u8])] = &[
     (b"/a/./c.txt", b"two"),
     (b"/a/d/e", b"three"),
@@ -239,7 +241,7 @@ const FOUND_ON_UNIX: &[(&[u8], Option<&[u8]>)] = &[
     (b"/a/d/../d/e", Some(b"three")),
 ];
 
-/// The same on Windows.
+/// The files of a tree on Windows.
 const ON_WINDOWS: &[(&[u8], &[u8])] = &[(br"C:\a/b", b"one"), (br"\\server\share\b", b"two")];
 
 const FOUND_ON_WINDOWS: &[(&[u8], Option<&[u8]>)] = &[
@@ -250,7 +252,7 @@ const FOUND_ON_WINDOWS: &[(&[u8], Option<&[u8]>)] = &[
     (b"//server/share/b", Some(b"two")),
 ];
 
-/// A tree of files, or refused memory.
+/// Returns a tree with these files.
 fn tree_of<T: Encoding>(alloc: Global, files: &[(&[u8], &[u8])]) -> Result<Tree<T>, AllocError> {
     let mut tree = Tree::new(alloc);
     for (path, bytes) in files {
@@ -259,7 +261,7 @@ fn tree_of<T: Encoding>(alloc: Global, files: &[(&[u8], &[u8])]) -> Result<Tree<
     Ok(tree)
 }
 
-/// Whether each path finds what stands beside it.
+/// Whether each path finds the bytes in its row.
 fn finds_all<T: Encoding>(
     tree: &Tree<T>,
     rows: &[(&[u8], Option<&[u8]>)],
@@ -324,7 +326,7 @@ fn notes_at_paths(rt: HostRuntime) -> Result<(), Fail> {
     Ok(())
 }
 
-/// Whether a manifest with this entry behind another one is rewritten, and the entry as this.
+/// Whether a manifest whose last entry is `entry` is rewritten, and that entry as `wanted`.
 fn is_rewritten<T: Encoding, U: Encoding>(alloc: Global, entry: &[u8], wanted: &[u8]) -> bool {
     let made = rewritten::<T, U>(alloc, &[b"first", entry]).ok();
     made.is_some_and(|paths| {
@@ -369,7 +371,7 @@ fn manifests(rt: HostRuntime) {
     }
 }
 
-/// A directory, a folder and a path, and where the path leads or why it is not taken.
+/// A directory, a folder and a path, and where the path leads or why it is not accepted.
 type Configured = (
     &'static [u8],
     &'static [u8],

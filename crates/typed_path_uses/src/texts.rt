@@ -1,4 +1,4 @@
-//! The entries of an archive whose names are texts.
+//! The entries of an archive whose names are text.
 
 ghost use Rattle.std.specs.Prelude.{◌≡◌, true, IfOk};
 ghost use Rattle.std.specs.String.{string_bytes};
@@ -13,8 +13,8 @@ use crate::extractor::Untargeted;
 use std::alloc::{AllocError, Global};
 use typed_path::{PathError, Utf8Encoding, Utf8Path, Utf8PathBuf};
 
-/// Where an entry whose name is a text is unpacked: at the place that [`target`](crate::target)
-/// promises of bytes.
+/// Returns where an entry whose name is text is unpacked, as [`target`](crate::target) does for
+/// bytes.
 pub fn text_target<T: Utf8Encoding>(
     alloc: Global,
     base: Utf8Path<'_, T>,
@@ -31,8 +31,8 @@ pub fn text_target<T: Utf8Encoding>(
     base.join_checked(alloc, Utf8Path::new(name))
 }
 
-/// The same below a base that is known only when the program runs, as
-/// [`target_below`](crate::target_below) promises of bytes.
+/// Does what [`text_target`] does, for a base that is known only at run time, which is refused if
+/// it does not keep its prefix.
 pub fn text_target_below<T: Utf8Encoding>(
     alloc: Global,
     base: Utf8Path<'_, T>,
@@ -50,7 +50,7 @@ pub fn text_target_below<T: Utf8Encoding>(
     Ok(text_target(alloc, base, name)?)
 }
 
-/// The key of an entry, to be shown: the normal text of its name.
+/// Returns the key of an entry, to be shown: the normal path of its name.
 pub fn text_key<T: Utf8Encoding>(alloc: Global, name: Utf8Path<'_, T>) -> Result<String, AllocError>
     ensures { IfOk result
         (λ key. string_bytes key ≡ normal_text T.Bytes.dialect (utf8_bytes name.entry)) }

@@ -20,8 +20,8 @@ use typed_path::{Encoding, Path, PathBuf};
 /// Files in memory. Each has one key, a normal path, and each path whose normal path has the same
 /// components finds it.
 ///
-/// On Unix `/a/./b` and `/x/../a//b` find the file at `/a/b`, and `a/b` and `/a/B` do not. On Windows
-/// `C:/a\.\b` finds the one at `C:\a\b`. A folder is there where the path of a file names it.
+/// On Unix `/a/./b` and `/x/../a//b` find the file at `/a/b`, and `a/b` and `/a/B` do not. On
+/// Windows `C:/a\.\b` finds the one at `C:\a\b`. A folder exists if the path of a file names it.
 #[derive(Drop)]
 pub struct Tree<T: Encoding> {
     alloc: Global,
@@ -29,7 +29,7 @@ pub struct Tree<T: Encoding> {
 }
 
 impl<T: Encoding> Tree<T> {
-    /// A tree of no files.
+    /// Returns a tree without files.
     pub fn new(alloc: Global) -> Tree<T>
         ensures { (path : List ℕ) → found T.dialect result.files path ≡ None }
     {
@@ -37,7 +37,7 @@ impl<T: Encoding> Tree<T> {
         Tree { alloc, files }
     }
 
-    /// How many files there are. No two keys are of one file.
+    /// Returns how many files there are. No two keys are of one file.
     pub fn len(&self) -> usize
         ensures number { result ≡ btree_map_len self.now.files }
         ensures alone { IsDistinct (λ k l. is_same T.dialect k.bytes l.bytes)
@@ -46,11 +46,11 @@ impl<T: Encoding> Tree<T> {
         self.files.len()
     }
 
-    /// The bytes of the file at a path, or none where no file is there.
+    /// Returns the bytes of the file at a path, `None` if there is no file.
     ///
     /// # Errors
     ///
-    /// Where memory for the normal path is refused.
+    /// If allocation of the normal path fails.
     pub fn read(&self, path: Path<'_, T>) -> Result<Option<&[u8]>, AllocError>
         ensures { IfOk result (λ file. option_copied file
             ≡ found T.dialect self.now.files (path_bytes path.entry)) }
@@ -59,11 +59,12 @@ impl<T: Encoding> Tree<T> {
         Ok(file.map(Vec::as_slice))
     }
 
-    /// Writes a file at a path, in the place of the one that is there. What other paths find stays.
+    /// Writes a file at a path, in place of the one that is there. What other paths find is
+    /// unchanged.
     ///
     /// # Errors
     ///
-    /// Where memory is refused, and then the files are as they were.
+    /// If allocation fails. Then the files are unchanged.
     pub fn write(&mut self, path: Path<'_, T>, bytes: &[u8]) -> Result<(), AllocError>
         ensures written { OnOk result
             (Puts T.dialect (path_bytes path.entry) (Some bytes.now) self.old.files
@@ -75,11 +76,11 @@ impl<T: Encoding> Tree<T> {
         Ok(())
     }
 
-    /// Takes the file at a path away, and gives its bytes back, or none where no file is there.
+    /// Removes the file at a path, and returns its bytes, `None` if there is no file.
     ///
     /// # Errors
     ///
-    /// Where memory for the normal path is refused, and then the files are as they were.
+    /// If allocation of the normal path fails. Then the files are unchanged.
     pub fn remove(&mut self, path: Path<'_, T>) -> Result<Option<Vec<u8>>, AllocError>
         ensures removed { OnOk result
             (Puts T.dialect (path_bytes path.entry) None self.old.files self.new.files) }
@@ -91,13 +92,13 @@ impl<T: Encoding> Tree<T> {
         Ok(self.files.remove(&key))
     }
 
-    /// Takes the file at one path to another, in the place of the one that is there, and tells whether
-    /// there was one to take. The bytes are copied before the file is taken away. Where both paths are
-    /// of one file, nothing is changed.
+    /// Moves the file at `from` to `to`, in place of the one that is there, and returns whether
+    /// there was one to move. The bytes are copied before the file is removed. If both paths are of
+    /// one file, nothing is changed.
     ///
     /// # Errors
     ///
-    /// Where memory is refused, and then the files are as they were.
+    /// If allocation fails. Then the files are unchanged.
     pub fn rename(&mut self, from: Path<'_, T>, to: Path<'_, T>) -> Result<bool, AllocError>
         ensures told { IfOk result (λ moved. moved
             ≡ is_some (found T.dialect self.old.files (path_bytes from.entry))) }
@@ -121,12 +122,12 @@ impl<T: Encoding> Tree<T> {
         Ok(true)
     }
 
-    /// The paths of the files one name below a folder, in the order of paths. The folders below it are
-    /// not listed, and where there is no such folder the list is empty.
+    /// Returns the paths of the files one name below a folder, in the order of paths. Folders in it
+    /// are not listed, and for a folder that does not exist the list is empty.
     ///
     /// # Errors
     ///
-    /// Where memory for the normal path of the folder or for the list is refused.
+    /// If allocation of the folder's normal path or of the list fails.
     pub fn children(&self, folder: Path<'_, T>) -> Result<Vec<Path<'_, T>>, AllocError>
         ensures { IfOk result (λ paths. map path_bytes paths.items
             ≡ children_of T.dialect (path_bytes folder.entry) self.now.files) }
@@ -140,7 +141,7 @@ impl<T: Encoding> Tree<T> {
     }
 }
 
-/// Puts a path to the children of a folder, where it is one.
+/// Appends a path to the children of a folder, if it is one.
 fn list_child<'a, T: Encoding>(
     children: &mut Vec<Path<'a, T>>,
     path: Path<'a, T>,
@@ -156,20 +157,21 @@ fn list_child<'a, T: Encoding>(
     Ok(())
 }
 
-/// The key of the file that a path leads to.
+/// Returns the key of the file that a path leads to.
 fn key_of<T: Encoding>(alloc: Global, path: Path<'_, T>) -> Result<PathBuf<T>, AllocError>
     ensures { IfOk result (λ key. IsKeyOf T.dialect (path_bytes path.entry) key.bytes) }
 {
     Ok(path.normalize(alloc)?)
 }
 
-/// On Unix, two paths are of one file exactly where they lead to the same root and names.
+/// On Unix, two paths are of one file exactly if they lead to the same root and names.
 pub fn unix_paths_are_one(path: &[u8], other: &[u8])
     ensures { AreOne unix path.now other.now ↔ LeadAlike path.now other.now }
 {}
 
-/// On Windows, a path is filed under what it resolves to, with a root put in behind a verbatim drive,
-/// where no name has a byte that no name may have and the prefix is not the verbatim one named `UNC`.
+/// On Windows, a path is filed under what it resolves to, with a root put in after a verbatim
+/// drive, if no name has a byte that no name may have and the prefix is not the verbatim one named
+/// `UNC`.
 pub fn windows_path_is_filed(path: &[u8])
     ensures { have_allowed_bytes windows (kinds (parts_of windows path.now)) ≡ true
         → is_verbatim_unc_name (prefix_kind windows path.now) ≡ false

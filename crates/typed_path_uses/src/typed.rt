@@ -1,4 +1,4 @@
-//! Names from archives and manifests of either dialect, which is known when the program runs.
+//! Names from archives and manifests of either dialect, which is known only at run time.
 
 ghost use Rattle.std.specs.Prelude.{◌≡◌, true, IfOk};
 ghost use Rattle.typed_path.specs.components.{unix};
@@ -15,8 +15,8 @@ use crate::extractor::Untargeted;
 use std::alloc::{AllocError, Global};
 use typed_path::{PathError, TypedPath, TypedPathBuf, Utf8TypedPath, Utf8TypedPathBuf};
 
-/// Where an entry of an archive is unpacked under a base whose dialect the program was told: within
-/// the base, where that keeps its prefix.
+/// Returns where an entry of an archive is unpacked under a base whose dialect is known only at run
+/// time: within the base, if that keeps its prefix.
 pub fn typed_target(
     alloc: Global,
     base: TypedPath<'_>,
@@ -35,8 +35,7 @@ pub fn typed_target(
     base.join_checked(alloc, name)
 }
 
-/// The same below a base that is known only when the program runs, as
-/// [`target_below`](crate::target_below) promises of one dialect.
+/// Does what [`typed_target`] does, for a base that is refused if it does not keep its prefix.
 pub fn typed_target_below(
     alloc: Global,
     base: TypedPath<'_>,
@@ -56,7 +55,7 @@ pub fn typed_target_below(
     Ok(typed_target(alloc, base, name)?)
 }
 
-/// A name from a manifest of either dialect, as on Unix.
+/// Returns a name from a manifest of either dialect as on Unix.
 pub fn listed_as_on_unix(alloc: Global, name: &str) -> Result<Utf8TypedPathBuf, AllocError>
     ensures dialect { IfOk result (λ p. typed_dialect p ≡ unix) }
     ensures bytes { IfOk result

@@ -8,7 +8,7 @@ ghost use Rattle.typed_path_uses.specs.Uses.{lines_of};
 use std::alloc::{AllocError, Global};
 use typed_path::UnixPath;
 
-/// The components of a path, each on a line of its own.
+/// Returns the components of a path, each on a line of its own.
 pub fn listing(alloc: Global, path: UnixPath<'_>) -> Result<Vec<u8>, AllocError>
     ensures { IfOk result (λ text. text.items ≡ lines_of (parts_of unix (path_bytes path.entry))) }
 {
